@@ -1,0 +1,52 @@
+-- EDN values, as contracts see them (EDN's format description, "Built-in elements").
+-- A text is the list of its UTF-8 bytes. A new kind of element is a new case of `Edn`.
+use Rattle.std.specs.Prelude.{ℕ, suc, ◌+◌, ℤ, List, [], ◌∷◌}
+
+mutual
+  pub data Edn : Type 0 where
+    int : ℤ → Edn
+    str : List ℕ → Edn
+    keyword : List ℕ → Edn
+    vector : Items → Edn
+    mapping : Members → Edn
+
+  -- a list of values
+  pub data Items : Type 0 where
+    no_items : Items
+    item : Edn → Items → Items
+
+  -- a list of keys with their values, in the order written
+  pub data Members : Type 0 where
+    no_members : Members
+    member : Edn → Edn → Members → Members
+
+abbrev pub items_of : List Edn → Items
+items_of [] = no_items
+items_of (x ∷ xs) = item x (items_of xs)
+
+abbrev pub members_of : List (Edn × Edn) → Members
+members_of [] = no_members
+members_of (m ∷ ms) = member m.0 m.1 (members_of ms)
+
+-- how large a value is, by which a proof goes down it: one for each collection and each thing in one
+abbrev mutual
+  pub size_of : Edn → ℕ
+  size_of (int z) = 0
+  size_of (str s) = 0
+  size_of (keyword s) = 0
+  size_of (vector xs) = suc (size_items xs)
+  size_of (mapping ms) = suc (size_members ms)
+
+  pub size_items : Items → ℕ
+  size_items no_items = 0
+  size_items (item x xs) = suc (size_of x + size_items xs)
+
+  pub size_members : Members → ℕ
+  size_members no_members = 0
+  size_members (member k v ms) = suc (size_of k + size_of v + size_members ms)
+
+abbrev pub size_list : List Edn → ℕ
+size_list xs = size_items (items_of xs)
+
+abbrev pub size_pairs : List (Edn × Edn) → ℕ
+size_pairs xs = size_members (members_of xs)

@@ -1,0 +1,4 @@
+pub mod Edn
+pub mod Code
+pub mod View
+pub mod Falls

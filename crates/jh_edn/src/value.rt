@@ -1,0 +1,187 @@
+//! EDN values, as programs hold them.
+//!
+//! `specs/Edn.antt` says what a contract sees of a value and `specs/View.antt` how it sees it. A kind
+//! of element is added here, there and in `specs/Code.antt`.
+
+ghost use Rattle.std.specs.Prelude.{◌≡◌, ◌↔◌, [], length, IsTrue};
+ghost use Rattle.std.specs.String.{string_bytes};
+ghost use Rattle.jh_edn.specs.View.{view, views, view_pairs};
+
+use std::marker::Model;
+
+/// A text that a value holds. A contract sees its bytes, which are UTF-8.
+#[derive(Debug, Drop)]
+pub struct Text {
+    text: String,
+}
+
+impl Model for Text {
+    ghost use Rattle.std.specs.Prelude.{List, ℕ};
+    ghost use Rattle.std.specs.String.{string_bytes};
+
+    ghost Value = { List ℕ };
+
+    ghost view = { λ a. string_bytes a.text };
+}
+
+impl Text {
+    /// The text of a string. Takes no memory.
+    pub fn of(text: String) -> Text
+        ensures { result ≡ string_bytes text }
+    {
+        Text { text }
+    }
+
+    pub fn as_str(&self) -> &str
+        ensures { result.now ≡ self.now }
+    {
+        self.text.as_str()
+    }
+
+    /// The string, given back without memory.
+    pub fn into_string(self) -> String
+        ensures { string_bytes result ≡ self }
+    {
+        self.text
+    }
+}
+
+/// An EDN element: one of the kinds that EDN's format description lists under "Built-in elements".
+#[cycle(value)]
+#[derive(Debug, Drop)]
+pub enum Value {
+    /// An integer of 64 bits, whether or not an `N` stood behind it.
+    Int(i64),
+    /// A string, without its quotes and with its escapes resolved.
+    Str(Text),
+    /// A keyword, without its colon.
+    Keyword(Text),
+    Vector(Values),
+    /// A map, its pairs in the order in which they were written.
+    Map(Pairs),
+}
+
+/// Values in order. A contract sees a list.
+#[cycle(value)]
+#[derive(Debug, Drop)]
+pub struct Values {
+    pub(crate) items: Vec<Value>,
+}
+
+impl Model for Values {
+    ghost use Rattle.std.specs.Prelude.{List};
+    ghost use Rattle.std.specs.Coded.{coded_list};
+    ghost use Rattle.jh_edn.specs.Edn.{Edn, size_list};
+    ghost use Rattle.jh_edn.specs.Code.{edn_coded};
+
+    ghost Value = { List Edn };
+
+    ghost coded = { coded_list edn_coded };
+
+    ghost use Rattle.jh_edn.specs.View.{views};
+
+    ghost view = { λ a. views a.items.items };
+
+    ghost size = { size_list };
+
+    ghost use Rattle.std.proofs.Common.{arith};
+    ghost use Rattle.jh_edn.specs.Falls.{values_fall};
+
+    ghost size_decreases = { λ a h. Prim.omega (arith, values_fall a.items.items) };
+}
+
+/// The pairs of a map, each a key with its value, in order. A contract sees a list of pairs.
+#[cycle(value)]
+#[derive(Debug, Drop)]
+pub struct Pairs {
+    pub(crate) items: Vec<(Value, Value)>,
+}
+
+impl Model for Pairs {
+    ghost use Rattle.std.specs.Prelude.{List};
+    ghost use Rattle.std.specs.Coded.{coded_list, coded×};
+    ghost use Rattle.jh_edn.specs.Edn.{Edn, size_pairs};
+    ghost use Rattle.jh_edn.specs.Code.{edn_coded};
+
+    ghost Value = { List (Edn × Edn) };
+
+    ghost coded = { coded_list (coded× edn_coded edn_coded) };
+
+    ghost use Rattle.jh_edn.specs.View.{view_pairs};
+
+    ghost view = { λ a. view_pairs a.items.items };
+
+    ghost size = { size_pairs };
+
+    ghost use Rattle.jh_edn.specs.Falls.{pairs_fall};
+
+    ghost size_decreases = { λ a h. pairs_fall a };
+}
+
+impl Values {
+    /// The values of a vector. Takes no memory.
+    pub fn of(items: Vec<Value>) -> Values
+        ensures { result ≡ views items.items }
+    {
+        Values { items }
+    }
+
+    pub fn len(&self) -> usize
+        ensures { result ≡ length self.now }
+    {
+        self.items.len()
+    }
+
+    pub fn is_empty(&self) -> bool
+        ensures { IsTrue result ↔ (self.now ≡ []) }
+    {
+        self.items.is_empty()
+    }
+
+    pub fn as_slice(&self) -> &[Value]
+        ensures { views result.now ≡ self.now }
+    {
+        self.items.as_slice()
+    }
+
+    /// The vector, given back without memory.
+    pub fn into_vec(self) -> Vec<Value>
+        ensures { views result.items ≡ self }
+    {
+        self.items
+    }
+}
+
+impl Pairs {
+    /// The pairs of a vector. Takes no memory, and does not look for equal keys.
+    pub fn of(items: Vec<(Value, Value)>) -> Pairs
+        ensures { result ≡ view_pairs items.items }
+    {
+        Pairs { items }
+    }
+
+    pub fn len(&self) -> usize
+        ensures { result ≡ length self.now }
+    {
+        self.items.len()
+    }
+
+    pub fn is_empty(&self) -> bool
+        ensures { IsTrue result ↔ (self.now ≡ []) }
+    {
+        self.items.is_empty()
+    }
+
+    pub fn as_slice(&self) -> &[(Value, Value)]
+        ensures { view_pairs result.now ≡ self.now }
+    {
+        self.items.as_slice()
+    }
+
+    /// The vector, given back without memory.
+    pub fn into_vec(self) -> Vec<(Value, Value)>
+        ensures { view_pairs result.items ≡ self }
+    {
+        self.items
+    }
+}
