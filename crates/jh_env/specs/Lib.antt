@@ -1,0 +1,7 @@
+pub mod Cells
+pub mod Names
+pub mod Faults
+pub mod Overlay
+pub mod Starting
+pub mod StartInside
+pub mod EnvInside

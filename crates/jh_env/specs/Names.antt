@@ -1,0 +1,50 @@
+-- Names of nodes (this project's own): 1 to 32 different names, each of 1 to 64 letters, digits, dots, dashes and underscores.
+use Rattle.std.specs.Prelude.{◌≡◌, ℕ, ◌==◌, ◌&&◌, ◌||◌, ◌<◌, ◌≤◌, Bool, true, false, List, [], ◌∷◌, ◌++◌, length, nat_le, not}
+use Rattle.std.specs.Char.{is_ascii_alphanumeric}
+use Rattle.std.specs.List.{All, list_all, list_any}
+use Rattle.std.specs.Str.{bytes_eq}
+use Rattle.jh_env.specs.declared.names.NodesError.{NodesError}
+use Rattle.jh_env.specs.declared.names.NodesError.TheVariants.{NoNodes, TooManyNodes, BadName, DuplicateName, OutOfMemory}
+
+abbrev pub dot : ℕ
+dot = 46
+
+abbrev pub dash : ℕ
+dash = 45
+
+abbrev pub underscore : ℕ
+underscore = 95
+
+-- a byte of a name
+abbrev pub is_name_byte : ℕ → Bool
+is_name_byte b = (is_ascii_alphanumeric b || (b == dot)) || ((b == dash) || (b == underscore))
+
+-- a text that may name a node
+abbrev pub is_node_name : List ℕ → Bool
+is_node_name name = not (length name == 0) && (nat_le (length name) 64 && list_all is_name_byte name)
+
+-- the name is one of these
+abbrev pub is_among : List (List ℕ) → List ℕ → Bool
+is_among names name = list_any (bytes_eq name) names
+
+-- each may name a node, and none stands twice
+abbrev pub AreNodeNames : List (List ℕ) → Type 0
+AreNodeNames names =
+    (before after : List (List ℕ)) (name : List ℕ) → names ≡ before ++ (name ∷ after)
+    → (is_node_name name ≡ true) × (is_among before name ≡ false)
+
+-- as many names as an environment may have
+abbrev pub AreFew : List (List ℕ) → Type 0
+AreFew names = (0 < length names) × (length names ≤ 32)
+
+-- Why names are refused: their number, else the first name that is bad or stands before it already.
+abbrev pub RefusesNames : List (List ℕ) → NodesError → Type 0
+RefusesNames names NoNodes = names ≡ []
+RefusesNames names TooManyNodes = 32 < length names
+RefusesNames names BadName =
+    AreFew names × ((before after : List (List ℕ)) × (name : List ℕ) × (names ≡ before ++ (name ∷ after)) × AreNodeNames before × (is_node_name name ≡ false))
+RefusesNames names DuplicateName =
+    AreFew names
+    × ((before after : List (List ℕ)) × (name : List ℕ) × (names ≡ before ++ (name ∷ after)) × AreNodeNames before × (is_node_name name ≡ true) × (is_among before name ≡ true))
+RefusesNames names OutOfMemory =
+    AreFew names × ((before after : List (List ℕ)) × (names ≡ before ++ after) × AreNodeNames before)

@@ -1,0 +1,54 @@
+-- A starting environment while it is set up (this project's own).
+use Rattle.std.specs.Prelude.{◌≡◌, ℕ, ◌-◌, ◌^◌, ◌≤◌, ◌<◌, ◌==◌, ◌&&◌, pos, negsuc, ◌≤ℤ◌, List, length, if◌then◌else◌, not, nat_lt, Some, None}
+use Rattle.jh_env.specs.declared.cells.Link.{Link}
+use Rattle.jh_env.specs.declared.cells.NodeCell.{NodeCell}
+use Rattle.jh_env.specs.declared.starting.StartError.{StartError}
+use Rattle.jh_env.specs.declared.starting.StartError.TheVariants.{UnknownNode, SelfLink, BadAmount}
+use Rattle.jh_env.specs.Cells.{Table, calm, running, link_at, node_at}
+use Rattle.jh_env.specs.Faults.{same_link}
+
+-- what callers see of it: the names and the cells set so far
+pub record StartValue : Type 0 where
+  pub names : List (List ℕ)
+  pub cells : Table
+
+-- a link may start like this: a delay of at most a minute, a level of loss of at most twenty
+abbrev pub IsStartingLink : Link → Type 0
+IsStartingLink l = (l.delay ≤ 60000) × (l.loss ≤ 20)
+
+-- a node may start like this: its clock is off by at most 10^12 milliseconds either way
+abbrev pub IsStartingNode : NodeCell → Type 0
+IsStartingNode n = (negsuc (10 ^ 12 - 1) ≤ℤ n.clock) × (n.clock ≤ℤ pos (10 ^ 12))
+
+-- nothing is set: each link is calm and each node runs
+pub record IsCalm (s : StartValue) : Type 0 where
+  pub links : (a b : ℕ) → link_at s.cells a b ≡ (if nat_lt a (length s.names) && (nat_lt b (length s.names) && not (a == b)) then Some calm else None)
+  pub nodes : (a : ℕ) → node_at s.cells a ≡ (if nat_lt a (length s.names) then Some running else None)
+
+-- the link from a to b is set, and nothing else changes
+pub record SetsLink (old : StartValue) (a b : ℕ) (l : Link) (new : StartValue) : Type 0 where
+  pub names : new.names ≡ old.names
+  pub links : (c d : ℕ) → link_at new.cells c d ≡ (if same_link (c, d) (a, b) then Some l else link_at old.cells c d)
+  pub nodes : (c : ℕ) → node_at new.cells c ≡ node_at old.cells c
+
+-- the node's cell is set, and nothing else changes
+pub record SetsNode (old : StartValue) (a : ℕ) (n : NodeCell) (new : StartValue) : Type 0 where
+  pub names : new.names ≡ old.names
+  pub links : (c d : ℕ) → link_at new.cells c d ≡ link_at old.cells c d
+  pub nodes : (c : ℕ) → node_at new.cells c ≡ (if c == a then Some n else node_at old.cells c)
+
+-- both ends are nodes of the environment
+abbrev pub AreEnds : StartValue → ℕ → ℕ → Type 0
+AreEnds s a b = (a < length s.names) × (b < length s.names)
+
+-- why a link is not set: an unknown node, a node linked with itself, an amount out of range, in this order
+abbrev pub RefusesLink : StartValue → ℕ → ℕ → Link → StartError → Type 0
+RefusesLink s a b l UnknownNode = AreEnds s a b → ⊥
+RefusesLink s a b l SelfLink = AreEnds s a b × (a ≡ b)
+RefusesLink s a b l BadAmount = AreEnds s a b × (a ≡ b → ⊥) × (IsStartingLink l → ⊥)
+
+-- why a node is not set: it is unknown, else its clock is out of range
+abbrev pub RefusesNode : StartValue → ℕ → NodeCell → StartError → Type 0
+RefusesNode s a n UnknownNode = length s.names ≤ a
+RefusesNode s a n SelfLink = ⊥
+RefusesNode s a n BadAmount = (a < length s.names) × (IsStartingNode n → ⊥)

@@ -1,0 +1,14 @@
+//! The simulated environment of a test: cells of links and nodes, faults, and what faults make of the cells.
+#![tactic(auto)]
+
+mod cells;
+mod environment;
+mod faults;
+mod names;
+mod starting;
+
+pub use cells::{Life, Link, NodeCell};
+pub use environment::Env;
+pub use faults::{Fault, FaultError};
+pub use names::{Node, Nodes, NodesError};
+pub use starting::{Start, StartError};

@@ -1,0 +1,164 @@
+//! Nodes and their names. `specs/Names.antt` says which lists of names an environment may have.
+
+ghost use Rattle.std.specs.Prelude.{◌≡◌, ◌<◌, ◌≤◌, ◌↔◌, map, length, slice_get, position, option_map, MatchResult, MatchOption, IsTrue};
+ghost use Rattle.std.specs.List.{list_all};
+ghost use Rattle.std.specs.Str.{bytes_eq};
+ghost use Rattle.jh_env.specs.Names as rule;
+ghost use Rattle.jh_env.specs.Names.{AreNodeNames, AreFew, RefusesNames, is_name_byte};
+
+use indexmap::IndexSet;
+use std::alloc::Global;
+use std::marker::Model;
+use thiserror::Error;
+
+/// A node of an environment, by its place among the names. A contract sees the place.
+#[derive(Clone, Copy, Debug, PartialEq, Eq)]
+pub struct Node {
+    place: u8,
+}
+
+impl Model for Node {
+    ghost use Rattle.std.specs.Prelude.{ℕ};
+
+    ghost Value = { ℕ };
+
+    ghost view = { λ n. n.place };
+
+    ghost inverse = { λ n. record { place = n } };
+}
+
+impl Node {
+    /// Its place among the names, from 0.
+    pub fn place(self) -> u8
+        ensures { result ≡ self }
+    {
+        self.place
+    }
+}
+
+/// The names of an environment's nodes, in the order given. A contract sees the list of names.
+#[derive(Debug, Drop)]
+pub struct Nodes {
+    names: IndexSet<String>,
+}
+
+impl Model for Nodes {
+    ghost use Rattle.std.specs.Prelude.{ℕ, List, length, ◌<◌, ◌≤◌, map};
+    ghost use Rattle.std.specs.String.{string_bytes};
+
+    ghost Value = { List (List ℕ) };
+
+    ghost view = { λ a. map string_bytes a.names.keys };
+
+    ghost invariant = { λ a. (0 < length a.names.keys) × (length a.names.keys ≤ 32) };
+}
+
+/// Why names are refused.
+#[derive(Clone, Copy, Debug, PartialEq, Eq, Error)]
+pub enum NodesError {
+    #[error("no nodes")]
+    NoNodes,
+    #[error("too many nodes")]
+    TooManyNodes,
+    #[error("bad name")]
+    BadName,
+    #[error("duplicate name")]
+    DuplicateName,
+    #[error("out of memory")]
+    OutOfMemory,
+}
+
+/// Whether a text may name a node.
+fn is_node_name(name: &str) -> bool
+    ensures { result ≡ rule.is_node_name name.now }
+{
+    let bytes = name.as_bytes();
+    if bytes.is_empty() || bytes.len() > 64 {
+        return false;
+    }
+    are_name_bytes(bytes)
+}
+
+fn are_name_bytes(bytes: &[u8]) -> bool
+    ensures { result ≡ list_all is_name_byte bytes.now }
+{
+    bytes.iter().all(|byte| is_name_byte(*byte))
+}
+
+fn is_name_byte(byte: u8) -> bool
+    ensures { result ≡ rule.is_name_byte byte }
+{
+    byte.is_ascii_alphanumeric() || byte == b'.' || byte == b'-' || byte == b'_'
+}
+
+impl Nodes {
+    /// The nodes of these names, 1 to 32, each 1 to 64 ASCII letters, digits, `.`, `-` or `_`.
+    ///
+    /// Errors: `NoNodes`, `TooManyNodes`, then for the first name at fault `BadName` or
+    /// `DuplicateName`; `OutOfMemory` where memory was refused before such a name.
+    pub fn of(alloc: Global, names: &[&str]) -> Result<Nodes, NodesError>
+        ensures { MatchResult result
+            (λ nodes. (nodes ≡ map (λ s. s.now) names.now) × AreNodeNames nodes × AreFew nodes)
+            (RefusesNames (map (λ s. s.now) names.now)) }
+    {
+        if names.is_empty() {
+            return Err(NodesError::NoNodes);
+        }
+        if names.len() > 32 {
+            return Err(NodesError::TooManyNodes);
+        }
+        let mut set = IndexSet::new(alloc);
+        for name in names {
+            if !is_node_name(name) {
+                return Err(NodesError::BadName);
+            }
+            if set.contains(*name) {
+                return Err(NodesError::DuplicateName);
+            }
+            let Ok(text) = name.to_string(alloc) else {
+                return Err(NodesError::OutOfMemory);
+            };
+            match set.insert(text) {
+                Ok(true) => {}
+                Ok(false) => return Err(NodesError::DuplicateName),
+                Err(_) => return Err(NodesError::OutOfMemory),
+            }
+        }
+        Ok(Nodes { names: set })
+    }
+
+    /// How many nodes there are, 1 to 32.
+    pub fn len(&self) -> usize
+        ensures len { result ≡ length self.now }
+        ensures bounded { (0 < result) × (result ≤ 32) }
+    {
+        self.names.len()
+    }
+
+    /// The node of this name.
+    pub fn find(&self, name: &str) -> Option<Node>
+        ensures { result ≡ position (bytes_eq name.now) self.now }
+    {
+        let place = self.names.get_index_of(name)?;
+        Some(Node { place: place as u8 })
+    }
+
+    /// The node at this place, from 0.
+    pub fn at(&self, place: u8) -> Option<Node>
+        ensures { MatchOption result (length self.now ≤ place) (λ node. (node ≡ place) × (node < length self.now)) }
+    {
+        if (place as usize) < self.names.len() {
+            Some(Node { place })
+        } else {
+            None
+        }
+    }
+
+    /// The name of a node, where the node is one of these.
+    pub fn name(&self, node: Node) -> Option<&str>
+        ensures { option_map (λ s. s.now) result ≡ slice_get self.now node }
+    {
+        let name = self.names.get_index(node.place as usize)?;
+        Some(name.as_str())
+    }
+}

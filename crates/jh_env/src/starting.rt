@@ -1,0 +1,126 @@
+//! A starting environment while it is set up. `specs/Starting.antt` says what each call changes and refuses.
+
+ghost use Rattle.std.specs.Prelude.{◌≡◌, ℕ, length, Some, IfOk, MatchResult};
+ghost use Rattle.jh_env.specs.Cells.{calm, running, link_at, node_at};
+ghost use Rattle.jh_env.specs.Starting.{SetsLink, SetsNode, RefusesLink, RefusesNode, IsCalm};
+
+use crate::cells::{Link, NodeCell};
+use crate::names::{Node, Nodes};
+use std::alloc::{AllocError, Global};
+use std::marker::Model;
+use thiserror::Error;
+
+/// A starting environment: its nodes, and the cell of each link and node.
+#[derive(Debug, Drop)]
+pub struct Start {
+    pub(crate) names: Nodes,
+    pub(crate) links: Vec<Link>,
+    pub(crate) cells: Vec<NodeCell>,
+}
+
+impl Model for Start {
+    ghost use Rattle.jh_env.specs.Starting.{StartValue};
+
+    ghost Value = { StartValue };
+
+    ghost use Rattle.jh_env.specs.StartInside.{start_value, IsSetUp};
+
+    ghost view = { start_value };
+
+    ghost invariant = { IsSetUp };
+}
+
+/// Why a cell is not set.
+#[derive(Clone, Copy, Debug, PartialEq, Eq, Error)]
+pub enum StartError {
+    #[error("unknown node")]
+    UnknownNode,
+    #[error("self link")]
+    SelfLink,
+    #[error("bad amount")]
+    BadAmount,
+}
+
+impl Start {
+    /// An environment where nothing is cut, slow, lossy or down and each clock is right.
+    pub fn new(alloc: Global, nodes: Nodes) -> Result<Start, AllocError>
+        ensures { IfOk result (λ start. (start.names ≡ nodes) × IsCalm start) }
+    {
+        let count = nodes.len();
+        Ok(Start {
+            links: vec![in alloc; Link::calm(); count * count]?,
+            cells: vec![in alloc; NodeCell::running(); count]?,
+            names: nodes,
+        })
+    }
+
+    pub fn nodes(&self) -> &Nodes
+        ensures { result.now ≡ self.now.names }
+    {
+        &self.names
+    }
+
+    /// The link from one node to another as it is set, where there is one.
+    pub fn link(&self, from: Node, to: Node) -> Option<Link>
+        ensures { result ≡ link_at self.now.cells from to }
+    {
+        let count = self.cells.len();
+        let (from, to) = (from.place() as usize, to.place() as usize);
+        if from < count && to < count && from != to {
+            Some(self.links[from * count + to])
+        } else {
+            None
+        }
+    }
+
+    /// A node's cell as it is set, where the node is one of the environment.
+    pub fn node(&self, node: Node) -> Option<NodeCell>
+        ensures { result ≡ node_at self.now.cells node }
+    {
+        self.cells.get(node.place() as usize).copied()
+    }
+
+    /// Sets the link from one node to another.
+    ///
+    /// Errors, which change nothing: `UnknownNode`; `SelfLink`; `BadAmount` where the delay is above 60,000
+    /// or the level of loss above 20.
+    pub fn set_link(&mut self, from: Node, to: Node, link: Link) -> Result<(), StartError>
+        ensures { MatchResult result
+            (λ _. SetsLink self.old from to link self.new)
+            (λ e. (self.new ≡ self.old) × RefusesLink self.old from to link e) }
+    {
+        let count = self.cells.len();
+        let (source, destination) = (from.place() as usize, to.place() as usize);
+        if source >= count || destination >= count {
+            return Err(StartError::UnknownNode);
+        }
+        if source == destination {
+            return Err(StartError::SelfLink);
+        }
+        if link.delay > 60_000 || link.loss > 20 {
+            return Err(StartError::BadAmount);
+        }
+        self.links[source * count + destination] = link;
+        Ok(())
+    }
+
+    /// Sets a node's cell.
+    ///
+    /// Errors, which change nothing: `UnknownNode`; `BadAmount` where the clock is off by more than 10^12
+    /// milliseconds either way.
+    pub fn set_node(&mut self, node: Node, cell: NodeCell) -> Result<(), StartError>
+        ensures { MatchResult result
+            (λ _. SetsNode self.old node cell self.new)
+            (λ e. (self.new ≡ self.old) × RefusesNode self.old node cell e) }
+    {
+        let place = node.place() as usize;
+        if place >= self.cells.len() {
+            return Err(StartError::UnknownNode);
+        }
+        if cell.clock < -1_000_000_000_000 || cell.clock > 1_000_000_000_000 {
+            return Err(StartError::BadAmount);
+        }
+        self.cells[place] = cell;
+        Ok(())
+    }
+}
