@@ -1,0 +1,5 @@
+pub mod NameLemmas
+pub mod FaultLemmas
+pub mod LayingLemmas
+pub mod OverlayLemmas
+pub mod StartLemmas

@@ -62,9 +62,9 @@ link_over faults a b l = record {
 abbrev pub node_over : List FaultValue → ℕ → NodeCell → NodeCell
 node_over faults a n = record {
   process =
-    if is_killed n.process || list_any (kills a) faults then Killed
-    else if is_paused n.process || list_any (pauses a) faults then Paused
-    else Running;
+      if is_killed n.process || list_any (kills a) faults then Killed
+      else if is_paused n.process || list_any (pauses a) faults then Paused
+      else Running;
   clock = fold (λ z f. z +ℤ bump_by a f) n.clock faults;
 }
 

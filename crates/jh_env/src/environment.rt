@@ -1,7 +1,9 @@
 //! An environment: what the faults that are laid make of its starting cells, cell by cell.
 //! `specs/Overlay.antt` has the rule.
 
-ghost use Rattle.std.specs.Prelude.{◌≡◌, ◌<◌, ◌++◌, ◌∷◌, [], List, length, IfOk};
+ghost use Rattle.std.specs.Prelude.{◌≡◌, ◌*◌, ◌<◌, ◌≤◌, ◌++◌, ◌∷◌, [], List, length, IfOk};
+ghost use Rattle.std.specs.List.{All};
+ghost use Rattle.jh_env.specs.Laying.{CutsLinks};
 ghost use Rattle.jh_env.specs.Overlay.{StandsFor, SamePlace, link_of, node_of};
 ghost use Rattle.jh_env.specs.Faults.{FaultValue, FitsCount};
 
@@ -118,6 +120,11 @@ impl Env {
 
 // Cuts each of these links in the table of count nodes.
 fn cut_links(cells: &mut [Link], count: usize, links: &[(Node, Node)])
+    requires few { count ≤ 32 }
+    requires square { length cells.old ≡ count * count }
+    requires known { All (λ l. (l.0 < count) × (l.1 < count)) links.now }
+    ensures size { length cells.new ≡ length cells.old }
+    ensures cut { CutsLinks links.now count cells.old cells.new }
 {
     for (from, to) in links {
         let place = from.place() as usize * count + to.place() as usize;

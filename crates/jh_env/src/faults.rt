@@ -91,8 +91,7 @@ impl Fault {
         ensures { IsTrue result ↔ FitsCount (length env.now.names) self.now }
     {
         let count = env.nodes().len();
-        self.links
-            .iter()
-            .all(|link| (link.0.place() as usize) < count && (link.1.place() as usize) < count)
+        self.links.iter().all(|link| (link.0.place() as usize) < count
+            && (link.1.place() as usize) < count)
     }
 }
