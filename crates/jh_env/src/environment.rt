@@ -62,6 +62,7 @@ impl Env {
         })
     }
 
+    /// The nodes, with their names.
     pub fn nodes(&self) -> &Nodes
         ensures { result.now ≡ self.now.names }
     {
@@ -105,10 +106,10 @@ impl Env {
         self.laid = 0;
     }
 
-    /// Lays one more fault over the cells.
+    /// Lays one more fault over the cells. It takes time for each link that the fault names, and no memory.
     pub fn lay(&mut self, fault: &Fault)
         requires fits { FitsCount (length self.old.names) fault.now }
-        requires room { self.old.laid < 256 }
+        requires room { self.old.laid < MOST_LAID }
         ensures stands { (faults : List FaultValue) → StandsFor self.old faults → StandsFor self.new (faults ++ fault.now ∷ []) }
         ensures kept { SamePlace self.old self.new }
     {

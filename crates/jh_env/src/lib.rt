@@ -8,7 +8,7 @@ mod names;
 mod starting;
 
 pub use cells::{Life, Link, NodeCell};
-pub use environment::Env;
+pub use environment::{Env, MOST_LAID};
 pub use faults::{Fault, FaultError};
 pub use names::{Node, Nodes, NodesError};
 pub use starting::{Start, StartError};
