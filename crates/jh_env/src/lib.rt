@@ -12,3 +12,6 @@ pub use environment::{Env, MOST_LAID};
 pub use faults::{Fault, FaultError};
 pub use names::{Node, Nodes, NodesError};
 pub use starting::{Start, StartError};
+
+#[cfg(test)]
+mod tests;
