@@ -3,8 +3,9 @@
 //! `specs/Edn.antt` says what a contract sees of a value and `specs/View.antt` how it sees it. A kind
 //! of element is added here, there and in `specs/Code.antt`.
 
-ghost use Rattle.std.specs.Prelude.{◌≡◌, ◌↔◌, [], length, IsTrue};
+ghost use Rattle.std.specs.Prelude.{◌≡◌, ◌↔◌, [], length, IsTrue, option_map};
 ghost use Rattle.std.specs.String.{string_bytes};
+ghost use Rattle.jh_edn.specs.Edn.{elements_of};
 ghost use Rattle.jh_edn.specs.View.{view, views, view_pairs};
 
 use std::marker::Model;
@@ -42,7 +43,8 @@ impl Text {
     pub fn into_string(self) -> String
         ensures { string_bytes result ≡ self }
     {
-        self.text
+        let Text { text } = self;
+        text
     }
 }
 
@@ -118,6 +120,18 @@ impl Model for Pairs {
     ghost size_decreases = { λ a h. pairs_fall a };
 }
 
+impl Value {
+    /// The elements of a sequence, where the value is one.
+    pub fn elements(&self) -> Option<&[Value]>
+        ensures { option_map (λ xs. views xs.now) result ≡ elements_of (view self.now) }
+    {
+        match self {
+            Value::Vector(items) => Some(items.as_slice()),
+            _ => None,
+        }
+    }
+}
+
 impl Values {
     /// The values of a vector. Takes no memory.
     pub fn of(items: Vec<Value>) -> Values
@@ -148,7 +162,8 @@ impl Values {
     pub fn into_vec(self) -> Vec<Value>
         ensures { views result.items ≡ self }
     {
-        self.items
+        let Values { items } = self;
+        items
     }
 }
 
@@ -163,25 +178,26 @@ impl Pairs {
     pub fn len(&self) -> usize
         ensures { result ≡ length self.now }
     {
-        self.items.len()
+        self.as_slice().len()
     }
 
     pub fn is_empty(&self) -> bool
         ensures { IsTrue result ↔ (self.now ≡ []) }
     {
-        self.items.is_empty()
+        self.as_slice().is_empty()
     }
 
     pub fn as_slice(&self) -> &[(Value, Value)]
         ensures { view_pairs result.now ≡ self.now }
     {
-        self.items.as_slice()
+        &self.items
     }
 
     /// The vector, given back without memory.
     pub fn into_vec(self) -> Vec<(Value, Value)>
         ensures { view_pairs result.items ≡ self }
     {
-        self.items
+        let Pairs { items } = self;
+        items
     }
 }
