@@ -6,12 +6,14 @@ mod environment;
 mod faults;
 mod names;
 mod starting;
+mod texts;
 
 pub use cells::{Life, Link, NodeCell};
 pub use environment::{Env, MOST_LAID};
 pub use faults::{Fault, FaultError};
 pub use names::{Node, Nodes, NodesError};
 pub use starting::{Start, StartError};
+pub use texts::{EnvTextError, env_of_value, value_of_env};
 
 #[cfg(test)]
 mod tests;
