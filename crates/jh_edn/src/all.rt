@@ -33,9 +33,11 @@ fn values_of(alloc: Global, text: &str) -> Result<Vec<Value>, EdnError>
 ///
 /// Those of `read_bytes`, then `Utf8`, then the text's first fault, with its line.
 pub fn read_all<R: Read>(alloc: Global, reader: &mut R, turns: u32) -> Result<Vec<Value>, EdnError>
-    ensures values { IfOk result (λ v. IfSome (R.remaining reader.old) (λ bytes. SpellsAll (views v.items) bytes)) }
+    ensures values { IfOk result
+        (λ v. IfSome (R.remaining reader.old) (λ bytes. SpellsAll (views v.items) bytes)) }
     ensures refused { IfErr result (λ e. IfSome (R.remaining reader.old) (λ bytes. RefusesText bytes e)) }
-    ensures first_fault { IfErr result (λ e. IfSome (R.remaining reader.old) (λ bytes. IsFirstFault bytes e)) }
+    ensures first_fault { IfErr result
+        (λ e. IfSome (R.remaining reader.old) (λ bytes. IsFirstFault bytes e)) }
     ensures error { IfErr result (λ e. e ≢ EdnError.Write) }
 {
     let bytes = read_bytes(alloc, reader, turns)?;

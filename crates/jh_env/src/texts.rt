@@ -12,6 +12,7 @@ ghost use Rattle.jh_env.specs.TextFaults.{RefusesText};
 ghost use Rattle.jh_env.specs.TextWritten.{text_of};
 
 mod entries;
+mod laws;
 mod reading;
 mod setting;
 mod writing;
@@ -20,6 +21,7 @@ use crate::environment::Env;
 use crate::names::{Nodes, NodesError};
 use crate::starting::{Start, StartError};
 use jh_edn::{Pairs, Value};
+pub use laws::environments_read_back;
 use std::alloc::{AllocError, AllocFailed, Global};
 use thiserror::Error;
 
