@@ -1,6 +1,6 @@
 -- Lists that are made by a function of each element.
-use Rattle.std.proofs.Common.{◌≡◌, List, [], ◌∷◌, refl, ap}
-use Rattle.std.specs.Prelude.{Option, Some, None, map}
+use Rattle.std.proofs.Common.{◌≡◌, List, [], ◌∷◌, refl}
+use Rattle.std.specs.Prelude.{Option, map}
 use Rattle.std.specs.List.{filter_map}
 
 -- what is kept of the images

@@ -1,6 +1,6 @@
 -- What the values of a step's text tell, by the tests that the code makes.
-use Rattle.std.proofs.Common.{rules, ◌≡◌, ℕ, ◌<◌, ◌≤◌, Bool, true, false, List, [], ◌∷◌, ◌++◌, length, refl, arith, sym, ◌∙◌, inl, inr}
-use Rattle.std.specs.Prelude.{is_none, Option, Some, None, Result, Ok, Err, ◌||◌, ◌⊎◌, ⊤, IsOk, map, nat_le, position, option_and_then, if◌then◌else◌}
+use Rattle.std.proofs.Common.{rules, ◌≡◌, ℕ, ◌<◌, true, false, List, [], ◌∷◌, ◌++◌, length, refl, arith, sym, ◌∙◌, inr}
+use Rattle.std.specs.Prelude.{is_none, Option, Some, None, Ok, Err, ◌⊎◌, ⊤, IsOk, nat_le, option_and_then, if◌then◌else◌}
 use Rattle.std.specs.List.{cons_option}
 use Rattle.std.specs.List.{All, filter_map, list_any}
 use Rattle.std.specs.Str.{bytes_eq}

@@ -1,6 +1,6 @@
 -- Steps as EDN values (this project's own): `[:begin ID [:cut [[src dst] ..]]]` and `[:withdraw ID]`, where an ID is an
 -- integer of 32 bits and src and dst are names of nodes. A new step or fault is a new case here.
-use Rattle.std.specs.Prelude.{◌≡◌, ℕ, ◌^◌, ◌⊎◌, Bool, true, false, ℤ, pos, negsuc, List, [], ◌∷◌, codes, nat_lt, if◌then◌else◌, is_none, is_some, option_and_then, position, Option, Some, None, Result, Ok, Err, MatchResult, IsOk}
+use Rattle.std.specs.Prelude.{◌≡◌, ℕ, ◌^◌, ◌⊎◌, ℤ, pos, negsuc, List, [], ◌∷◌, codes, nat_lt, if◌then◌else◌, is_none, is_some, option_and_then, position, Option, Some, None, Result, Ok, Err, MatchResult, IsOk}
 use Rattle.std.specs.List.{filter_map, list_all, list_any}
 use Rattle.std.specs.Str.{bytes_eq}
 use Rattle.jh_edn.specs.Edn.{Edn, int, str, keyword, elements_of}

@@ -1,0 +1,33 @@
+-- Why values are refused, from why the first of them is.
+use Rattle.std.proofs.Common.{◌≡◌, ◌<◌, List, [], ◌∷◌, length, get_or, refl, arith}
+use Rattle.jh_edn.specs.Edn.{Edn}
+use Rattle.jh_edn.specs.View.{view, views}
+use Rattle.jh_edn.specs.declared.value.Value.{Value}
+use Rattle.jh_env.specs.TextFaults as env
+use Rattle.jh_env.specs.declared.texts.EnvTextError.TheVariants as EnvTextError
+use Rattle.jh_cli.specs.Status.{environment_fault}
+use Rattle.jh_cli.specs.Refusals.{RefusesValues}
+use Rattle.jh_cli.specs.declared.error.CliError.{CliError}
+
+-- a first value that is no environment
+refuses_environment : (first : Edn) (others : List Edn) (fault : EnvTextError.the_data) → env.RefusesText first fault
+    → RefusesValues (first ∷ others) (environment_fault fault)
+refuses_environment first others EnvTextError.NotMap refused = (first, others, refl, refused)
+refuses_environment first others EnvTextError.UnknownKey refused = (first, others, refl, refused)
+refuses_environment first others EnvTextError.MissingNodes refused = (first, others, refl, refused)
+refuses_environment first others EnvTextError.BadEntry refused = (first, others, refl, refused)
+refuses_environment first others EnvTextError.NoNodes refused = (first, others, refl, refused)
+refuses_environment first others EnvTextError.TooManyNodes refused = (first, others, refl, refused)
+refuses_environment first others EnvTextError.BadName refused = (first, others, refl, refused)
+refuses_environment first others EnvTextError.DuplicateName refused = (first, others, refl, refused)
+refuses_environment first others EnvTextError.UnknownNode refused = (first, others, refl, refused)
+refuses_environment first others EnvTextError.SelfLink refused = (first, others, refl, refused)
+refuses_environment first others EnvTextError.BadAmount refused = (first, others, refl, refused)
+refuses_environment first others EnvTextError.RepeatedEntry refused = (first, others, refl, refused)
+refuses_environment first others EnvTextError.OutOfMemory refused = tt
+
+-- values of which the first is no environment
+pub first_refused : (values : List Value) (first : Value) (fault : EnvTextError.the_data) (e : CliError) → 0 < length values → first ≡ get_or values 0 first
+    → env.RefusesText (view first) fault → e ≡ environment_fault fault → RefusesValues (views values) e
+first_refused [] first fault e some is refused named = absurd (omega arith)
+first_refused (v ∷ vs) first fault e some is refused named = rw (named, ← is) (refuses_environment (view first) (views vs) fault refused)

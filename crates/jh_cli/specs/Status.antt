@@ -1,0 +1,33 @@
+-- How a command ends early (this project's own): refusals of the input have status 3, faults of the machine 4.
+use Rattle.std.specs.Prelude.{ℕ}
+use Rattle.jh_edn.specs.declared.error.EdnError.TheVariants as EdnError
+use Rattle.jh_env.specs.declared.texts.EnvTextError.TheVariants as EnvTextError
+use Rattle.jh_nemesis.specs.declared.texts.StepTextError.TheVariants as StepTextError
+use Rattle.jh_cli.specs.declared.error.CliError.{CliError}
+use Rattle.jh_cli.specs.declared.error.CliError.TheVariants.{Input, EnvironmentMissing, Environment, Element, Read, Write, OutOfMemory}
+
+abbrev pub status_of : CliError → ℕ
+status_of (Input fault) = 3
+status_of EnvironmentMissing = 3
+status_of (Environment fault) = 3
+status_of (Element place fault) = 3
+status_of Read = 4
+status_of Write = 4
+status_of OutOfMemory = 4
+
+-- what a fault of the reader of EDN means to a command
+abbrev pub edn_fault : EdnError.the_data → CliError
+edn_fault EdnError.Read = Read
+edn_fault EdnError.Write = Write
+edn_fault EdnError.OutOfMemory = OutOfMemory
+edn_fault fault = Input fault
+
+-- what a refusal of the environment means to a command
+abbrev pub environment_fault : EnvTextError.the_data → CliError
+environment_fault EnvTextError.OutOfMemory = OutOfMemory
+environment_fault fault = Environment fault
+
+-- what a refusal of the element at a place means to a command
+abbrev pub element_fault : ℕ → StepTextError.the_data → CliError
+element_fault place StepTextError.OutOfMemory = OutOfMemory
+element_fault place fault = Element place fault

@@ -1,0 +1,189 @@
+//! The command `env`: reads a starting environment and steps, and writes the answers and the environment that is left.
+
+ghost use Rattle.std.specs.Prelude.{◌≡◌, ◌≢◌, ◌++◌, ℕ, List, length, map, pos, Ok, OnOk, IfOk, IfErr, IfSome, MatchResult};
+ghost use Rattle.std.specs.List.{All};
+ghost use Rattle.std.specs.Io.KnownBytes.{Appends};
+ghost use Rattle.jh_edn.specs.Edn.{int};
+ghost use Rattle.jh_edn.specs.Print.{print};
+ghost use Rattle.jh_edn.specs.View.{view, views};
+ghost use Rattle.jh_nemesis.specs.StepText.{step_told};
+ghost use Rattle.jh_nemesis.specs.Steps.{FitsNodes, StepFits, answers_of, state_after_all};
+ghost use Rattle.jh_cli.specs.EnvText as text;
+ghost use Rattle.jh_cli.specs.EnvText.{IsEnvText, IsEnvTextOf, IsReport, answer_lines, line};
+ghost use Rattle.jh_cli.specs.Refusals.{RefusesInput, RefusesSteps, RefusesValues};
+ghost use Rattle.jh_cli.specs.Status.{element_fault};
+
+use crate::error::CliError;
+use jh_edn::{Value, Values, read_all, write};
+use jh_env::{Env, Nodes, env_of_value, value_of_env};
+use jh_nemesis::{Nemesis, Step, StepAnswer, StepTextError, step_of_value};
+use std::alloc::{AllocError, Global};
+use std::io::{Read, Write};
+
+/// The most reads that an input may take.
+const MOST_READS: u32 = 16_777_216;
+
+/// Exit status of a command that did its work.
+const DONE: u8 = 0;
+
+/// The place of the first step among the elements of the input, which count from 1.
+const FIRST_STEP: u64 = 2;
+
+/// Reads a starting environment and steps, and writes one line with the answer to each step, one with the ids of the
+/// active faults in order, and one with the environment. The answer is the exit status, 0. All is read and judged
+/// before the first byte is written.
+///
+/// Errors: a fault of reading, then of the text (`Input`), `EnvironmentMissing`, `Environment`, `Element` for the
+/// first step that is none; `OutOfMemory`; `Write`. Nothing is written before any of them but `Write`.
+pub fn env_run<R: Read, W: Write>(
+    alloc: Global,
+    reader: &mut R,
+    writer: &mut W,
+) -> Result<u8, CliError>
+    ensures status { IfOk result (λ status. status ≡ 0) }
+    ensures written { OnOk result (IfSome (R.remaining reader.old) (λ input.
+        (output : List ℕ) × IsEnvTextOf input output × Appends (W.contents writer.old) (W.contents writer.new) output)) }
+    ensures refused { IfErr result (λ e. IfSome (R.remaining reader.old) (λ input. RefusesInput input e)) }
+    ensures unwritten { IfErr result (λ e. e ≢ CliError.Write → writer.new ≡ writer.old) }
+{
+    let values = read_all(alloc, reader, MOST_READS)?;
+    let output = env_text(alloc, values.as_slice())?;
+    match writer.write_all(&output) {
+        Ok(()) => Ok(DONE),
+        Err(_) => Err(CliError::Write),
+    }
+}
+
+// What is written for these values.
+fn env_text(alloc: Global, values: &[Value]) -> Result<Vec<u8>, CliError>
+    ensures { MatchResult result
+        (λ output. IsEnvText (views values.now) output.items)
+        (RefusesValues (views values.now)) }
+{
+    let [first, others @ ..] = values else {
+        return Err(CliError::EnvironmentMissing);
+    };
+    let env = env_of_value(alloc, first)?;
+    let steps = steps_of(alloc, env.nodes(), others)?;
+    let nemesis = Nemesis::new(alloc, env);
+    Ok(report(alloc, nemesis, steps)?)
+}
+
+// The steps that these values tell.
+fn steps_of(alloc: Global, nodes: &Nodes, values: &[Value]) -> Result<Vec<Step>, CliError>
+    ensures told { MatchResult result
+        (λ steps. map (step_told nodes.now) (views values.now) ≡ map Ok steps.items)
+        (RefusesSteps nodes.now (views values.now)) }
+    ensures fit { IfOk result (λ steps. All (FitsNodes (length nodes.now)) steps.items) }
+{
+    let mut steps = Vec::new(alloc);
+    for (place, value) in values.iter().enumerate() {
+        match step_of_value(alloc, nodes, value) {
+            Ok(step) => steps.push(step)?,
+            Err(fault) => return Err(element_error(place as u64 + FIRST_STEP, fault)),
+        }
+    }
+    Ok(steps)
+}
+
+// What a refusal of the element at a place means.
+fn element_error(place: u64, fault: StepTextError) -> CliError
+    ensures { result ≡ element_fault place fault }
+{
+    match fault {
+        StepTextError::OutOfMemory => CliError::OutOfMemory,
+        _ => CliError::Element { place, fault },
+    }
+}
+
+// What is written for these steps.
+fn report(alloc: Global, mut nemesis: Nemesis, steps: Vec<Step>) -> Result<Vec<u8>, AllocError>
+    requires { All (StepFits nemesis) steps.items }
+    ensures { IfOk result (λ output. IsReport nemesis steps.items output.items) }
+{
+    let mut output = Vec::new(alloc);
+    answer_steps(&mut nemesis, steps, &mut output)?;
+    write_active(alloc, &nemesis, &mut output)?;
+    write_environment(alloc, nemesis.env(), &mut output)?;
+    Ok(output)
+}
+
+// Makes the steps, and writes a line with the answer to each.
+fn answer_steps(
+    nemesis: &mut Nemesis,
+    steps: Vec<Step>,
+    output: &mut Vec<u8>,
+) -> Result<(), AllocError>
+    requires { All (StepFits nemesis.old) steps.items }
+    ensures state { OnOk result (nemesis.new ≡ state_after_all nemesis.old steps.items) }
+    ensures lines { OnOk result (output.new.items ≡ output.old.items ++ answer_lines (answers_of nemesis.old steps.items)) }
+{
+    for step in steps {
+        let answer = nemesis.apply(step)?;
+        write_answer(answer, output)?;
+    }
+    Ok(())
+}
+
+fn write_answer(answer: StepAnswer, output: &mut Vec<u8>) -> Result<(), AllocError>
+    ensures { OnOk result (output.new.items ≡ output.old.items ++ line (text.answer_word answer)) }
+{
+    output.extend_from_slice(answer_line(answer).as_bytes())
+}
+
+fn answer_line(answer: StepAnswer) -> &'static str
+    ensures { result.now ≡ line (text.answer_word answer) }
+{
+    match answer {
+        StepAnswer::Ok => ":ok\n",
+        StepAnswer::IdTaken => ":id-taken\n",
+        StepAnswer::TooManyActive => ":too-many-active\n",
+        StepAnswer::TooManySteps => ":too-many-steps\n",
+        StepAnswer::NotActive => ":not-active\n",
+    }
+}
+
+// Writes the ids of the active faults, in order.
+fn write_active(alloc: Global, nemesis: &Nemesis, output: &mut Vec<u8>) -> Result<(), AllocError>
+    ensures { OnOk result (output.new.items ≡ output.old.items ++ text.active_line nemesis.now.now) }
+{
+    let ids = active_ids(alloc, nemesis)?;
+    output.extend_from_slice(b":active ")?;
+    write_line(&ids, output)
+}
+
+fn id_value(id: u32) -> Value
+    ensures { view result ≡ int (pos id) }
+{
+    Value::Int(i64::from(id))
+}
+
+// The ids of the active faults, in order, as a vector.
+fn active_ids(alloc: Global, nemesis: &Nemesis) -> Result<Value, AllocError>
+    ensures { IfOk result (λ ids. view ids ≡ text.ids_of nemesis.now.now) }
+{
+    let mut ids = Vec::new(alloc);
+    for place in 0..nemesis.active_len() {
+        if let Some((id, _)) = nemesis.active_at(place) {
+            ids.push(id_value(id))?;
+        }
+    }
+    Ok(Value::Vector(Values::of(ids)))
+}
+
+fn write_environment(alloc: Global, env: &Env, output: &mut Vec<u8>) -> Result<(), AllocError>
+    ensures { OnOk result (output.new.items ≡ output.old.items ++ text.environment_line env.now) }
+{
+    write_line(&value_of_env(alloc, env)?, output)
+}
+
+// Writes a value and a line feed.
+fn write_line(value: &Value, output: &mut Vec<u8>) -> Result<(), AllocError>
+    ensures { OnOk result (output.new.items ≡ output.old.items ++ line (print (view value.now))) }
+{
+    if write(value, output).is_err() {
+        return Err(AllocError);
+    }
+    output.push(b'\n')?;
+    Ok(())
+}

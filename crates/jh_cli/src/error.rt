@@ -1,0 +1,103 @@
+//! Why a command ended before its work was done. The texts stand here, and docs/formats.md lists them.
+
+ghost use Rattle.std.specs.Prelude.{◌≡◌};
+ghost use Rattle.jh_cli.specs.Status.{status_of};
+
+use jh_edn::EdnError;
+use jh_env::EnvTextError;
+use jh_nemesis::StepTextError;
+use std::alloc::{AllocError, AllocFailed};
+use std::io::{self, Write};
+use thiserror::Error;
+
+/// Why a command ended early. `Input`, `EnvironmentMissing`, `Environment` and `Element` refuse what was read;
+/// `Read`, `Write` and `OutOfMemory` are faults of the machine.
+#[derive(Clone, Copy, Debug, PartialEq, Eq, Error)]
+pub enum CliError {
+    /// The input is no text of EDN values.
+    #[error("{0}")]
+    Input(EdnError),
+    /// The input holds no element.
+    #[error("environment missing")]
+    EnvironmentMissing,
+    /// The first element is no environment.
+    #[error("environment: {0}")]
+    Environment(EnvTextError),
+    /// The element at this place, the environment's being 1, is no step.
+    #[error("element {place}: {fault}")]
+    Element { place: u64, fault: StepTextError },
+    #[error("read failed")]
+    Read,
+    #[error("write failed")]
+    Write,
+    #[error("out of memory")]
+    OutOfMemory,
+}
+
+impl CliError {
+    /// The exit status: 3 where the input is refused, 4 where the machine failed.
+    pub fn status(&self) -> u8
+        ensures { result ≡ status_of self.now }
+    {
+        match self {
+            CliError::Input(_)
+            | CliError::EnvironmentMissing
+            | CliError::Environment(_)
+            | CliError::Element { .. } => 3,
+            CliError::Read | CliError::Write | CliError::OutOfMemory => 4,
+        }
+    }
+
+    /// Writes the text of the error, without `jeprun: ` before it or a line feed behind it.
+    pub fn text<W: Write>(&self, writer: &mut W) -> io::Result<()> {
+        write!(writer, "{self}")
+    }
+}
+
+impl From<EdnError> for CliError {
+    ghost use Rattle.jh_cli.specs.Status.{edn_fault};
+
+    ghost from_gives = { λ fault e. e ≡ edn_fault fault };
+
+    fn from(fault: EdnError) -> CliError {
+        match fault {
+            EdnError::Read => CliError::Read,
+            EdnError::Write => CliError::Write,
+            EdnError::OutOfMemory => CliError::OutOfMemory,
+            _ => CliError::Input(fault),
+        }
+    }
+}
+
+impl From<EnvTextError> for CliError {
+    ghost use Rattle.jh_cli.specs.Status.{environment_fault};
+
+    ghost from_gives = { λ fault e. e ≡ environment_fault fault };
+
+    fn from(fault: EnvTextError) -> CliError {
+        match fault {
+            EnvTextError::OutOfMemory => CliError::OutOfMemory,
+            _ => CliError::Environment(fault),
+        }
+    }
+}
+
+impl From<AllocError> for CliError {
+    ghost use Rattle.jh_cli.specs.declared.error.CliError.TheVariants.{OutOfMemory};
+
+    ghost from_gives = { λ _ e. e ≡ OutOfMemory };
+
+    fn from(_error: AllocError) -> CliError {
+        CliError::OutOfMemory
+    }
+}
+
+impl<T: Drop> From<AllocFailed<T>> for CliError {
+    ghost use Rattle.jh_cli.specs.declared.error.CliError.TheVariants.{OutOfMemory};
+
+    ghost from_gives = { λ _ e. e ≡ OutOfMemory };
+
+    fn from(_error: AllocFailed<T>) -> CliError {
+        CliError::OutOfMemory
+    }
+}
