@@ -5,3 +5,8 @@ pub mod Overlay
 pub mod Starting
 pub mod StartInside
 pub mod EnvInside
+pub mod Text
+pub mod TextFaults
+pub mod TextCells
+pub mod TextWritten
+pub mod TextInside

@@ -6,6 +6,7 @@ mod environment;
 mod faults;
 mod names;
 mod starting;
+mod texts;
 
 pub use cells::{Life, Link, NodeCell};
 pub use environment::Env;

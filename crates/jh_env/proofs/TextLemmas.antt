@@ -1,0 +1,87 @@
+-- Facts about the values of a text.
+use Rattle.std.proofs.Common.{◌≡◌, ℕ, ◌+◌, ◌<◌, ◌≤◌, Bool, true, false, if◌then◌else◌, List, [], ◌∷◌, ◌++◌, length, get_or, drop, map, find, Option, Some, None, option_map, option_and_then, option_copied, ok_or, Ok, Err, ap, refl, sym, ◌∙◌, subst, append_assoc, append-nil, flat_map}
+use Rattle.std.proofs.lemmas.List.{at_drop_more, at_drop_all}
+use Rattle.std.proofs.lemmas.List.Folds.{list_all-map}
+use Rattle.std.specs.List.{list_all}
+use Rattle.jh_edn.specs.Edn.{Edn, mapping, items_of, members_of}
+use Rattle.jh_edn.specs.View.{view, views, view_pair, view_pairs}
+use Rattle.jh_edn.specs.declared.value.Value.{Value}
+use Rattle.jh_env.specs.Text.{items_in, pairs_in, elements_of, is_keyword, has_known_key, nodes_keyword, value_under, keys_of, Keys, each_of}
+use Rattle.jh_env.specs.TextInside.{with_front, RefusesShape}
+use Rattle.jh_env.specs.declared.texts.EnvTextError.TheVariants.{UnknownKey, MissingNodes, BadEntry, OutOfMemory}
+use Rattle.jh_env.specs.declared.texts.EnvTextError.{EnvTextError}
+
+-- the values of a vector are those that it was made of
+pub items_in-items_of : (xs : List Edn) → items_in (items_of xs) ≡ xs
+items_in-items_of [] = refl
+items_in-items_of (x ∷ xs) = ap (λ ys. x ∷ ys) (items_in-items_of xs)
+
+-- the pairs of a map are those that it was made of
+pub pairs_in-members_of : (ms : List (Edn × Edn)) → pairs_in (members_of ms) ≡ ms
+pairs_in-members_of [] = refl
+pairs_in-members_of (m ∷ ms) = ap (λ ns. m ∷ ns) (pairs_in-members_of ms)
+
+-- the value under a keyword is that of the first pair that a program finds
+pub value_under-found : (name : List ℕ) (pairs : List (Value × Value))
+    → option_map (λ pair. view pair.1) (find (λ pair. is_keyword name (view pair.0)) pairs) ≡ value_under name (view_pairs pairs)
+value_under-found name [] = refl
+value_under-found name (p ∷ ps) =
+    elim (is_keyword name (view p.0))
+      as (λ b. option_map (λ pair. view pair.1) (if b then Some p else find (λ pair. is_keyword name (view pair.0)) ps)
+            ≡ option_map (λ pair. pair.1) (if b then Some (view_pair p) else find (λ pair. is_keyword name pair.0) (view_pairs ps)))
+      [ true ↦ refl | false ↦ value_under-found name ps ]
+
+-- the keys of a map that a program holds
+pub keys_of-map : (ps : List (Value × Value)) → keys_of (mapping (members_of (view_pairs ps)))
+    ≡ (if list_all (λ pair. has_known_key (view_pair pair)) ps
+       then ok_or (option_map (λ nodes. let k : Keys = record { nodes = nodes; pairs = view_pairs ps } in k) (value_under nodes_keyword (view_pairs ps))) MissingNodes
+       else Err UnknownKey)
+keys_of-map ps = simp (pairs_in-members_of, list_all-map has_known_key view_pair ps)
+
+-- What is told of a list of values is told one after another: a walk over it that has told `front` so far.
+pub each_of-map : {A B C : Type 0} (f : B → Option C) (v : A → B) (xs : List A) → each_of f (map v xs) ≡ each_of (λ x. f (v x)) xs
+each_of-map f v [] = refl
+each_of-map f v (x ∷ xs) = ap (λ o. option_and_then (λ y. option_map (λ ys. y ∷ ys) o) (f (v x))) (each_of-map f v xs)
+
+with_front-nothing : {B : Type 0} (o : Option (List B)) → with_front [] o ≡ o
+with_front-nothing None = refl
+with_front-nothing (Some ys) = refl
+
+-- at its start nothing is told
+pub each_none : {A B : Type 0} (f : A → Option B) (xs : List A) → with_front [] (each_of f xs) ≡ each_of f xs
+each_none f xs = with_front-nothing (each_of f xs)
+
+-- where the next value tells nothing, nothing is told at all
+pub each_stops : {A B : Type 0} (f : A → Option B) (xs : List A) (i : ℕ) (d : A)
+    → i < length xs → f (get_or xs i d) ≡ None → each_of f (drop i xs) ≡ None
+each_stops f xs i d below told =
+    at_drop_more (λ rest. each_of f rest) xs i d below
+    ∙ ap (λ o. option_and_then (λ y. option_map (λ ys. y ∷ ys) (each_of f (drop (i + 1) xs))) o) told
+
+-- lists that are told, joined
+abbrev pub joined : {B : Type 0} → Option (List (List B)) → Option (List B)
+joined o = option_map (flat_map (λ ys. ys)) o
+
+joined-cons : {B : Type 0} (front new : List B) (told : Option (List B)) (rest : Option (List (List B)))
+    → with_front front told ≡ Some new
+    → with_front front (joined (option_and_then (λ y. option_map (λ ys. y ∷ ys) rest) told)) ≡ with_front new (joined rest)
+joined-cons front new None rest is = cc
+joined-cons front new (Some ys) None is = refl
+joined-cons front new (Some ys) (Some yss) is =
+    let whole : front ++ ys ≡ new = cc in
+    ap Some (sym (append_assoc front ys (flat_map (λ zs. zs) yss)) ∙ ap (λ zs. zs ++ flat_map (λ zs. zs) yss) whole)
+
+-- where the next value tells a list, its elements follow
+pub joined_more : {A B : Type 0} (f : A → Option (List B)) (xs : List A) (i : ℕ) (d : A) (front new : List B)
+    → i < length xs → with_front front (f (get_or xs i d)) ≡ Some new
+    → with_front front (joined (each_of f (drop i xs))) ≡ with_front new (joined (each_of f (drop (i + 1) xs)))
+joined_more f xs i d front new below told =
+    at_drop_more (λ rest. with_front front (joined (each_of f rest))) xs i d below
+    ∙ joined-cons front new (f (get_or xs i d)) (each_of f (drop (i + 1) xs)) told
+
+-- what is refused for its shape makes the whole refused
+pub refuses_whole : {A B : Type 0} (part : Option A) (whole : Option B) (e : EnvTextError)
+    → (part ≡ None → whole ≡ None) → RefusesShape part e → RefusesShape whole e
+refuses_whole part whole BadEntry carries refused = carries refused
+refuses_whole part whole OutOfMemory carries refused = tt
+refuses_whole part whole _ carries refused = absurd refused

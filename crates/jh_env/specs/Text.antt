@@ -1,0 +1,128 @@
+-- The text of an environment, as an EDN value (this project's own; the kinds of element are those of EDN's format
+-- description): a map of `:nodes`, the names, and of the entries under `:cut`, `:slow`, `:loss`, `:down` and `:clock`.
+use Rattle.std.specs.Prelude.{ℕ, ℤ, Bool, true, false, List, [], ◌∷◌, ◌++◌, map, if◌then◌else◌, codes, bytes_eq, find, Option, Some, None, option_map, option_and_then, ok_or, Result, Ok, Err}
+use Rattle.std.specs.List.{list_all, list_any, flat_map}
+use Rattle.std.specs.Option.{option_map_or}
+use Rattle.jh_edn.specs.Edn.{Edn, int, str, keyword, vector, mapping, Items, no_items, item, Members, no_members, member}
+use Rattle.jh_env.specs.declared.texts.EnvTextError.{EnvTextError}
+use Rattle.jh_env.specs.declared.texts.EnvTextError.TheVariants.{NotMap, UnknownKey, MissingNodes}
+use Rattle.jh_env.specs.declared.texts.entries.Section.{Section}
+use Rattle.jh_env.specs.declared.texts.entries.Section.TheVariants as Section
+use Rattle.jh_env.specs.declared.texts.entries.LinkChange.{LinkChange}
+use Rattle.jh_env.specs.declared.texts.entries.LinkChange.TheVariants as LinkChange
+use Rattle.jh_env.specs.declared.texts.entries.NodeChange.{NodeChange}
+use Rattle.jh_env.specs.declared.texts.entries.NodeChange.TheVariants as NodeChange
+
+-- An entry: the names of a link's ends, or of a node, and what is said of it.
+pub data Entry : Type 0 where
+  OfLink : List ℕ → List ℕ → LinkChange → Entry
+  OfNode : List ℕ → NodeChange → Entry
+
+-- the values of a vector, as a list
+abbrev pub items_in : Items → List Edn
+items_in no_items = []
+items_in (item x xs) = x ∷ items_in xs
+
+-- the pairs of a map, as a list
+abbrev pub pairs_in : Members → List (Edn × Edn)
+pairs_in no_members = []
+pairs_in (member key value ms) = (key, value) ∷ pairs_in ms
+
+-- the values of a sequence: for now of a vector
+abbrev pub elements_of : Edn → Option (List Edn)
+elements_of (vector xs) = Some (items_in xs)
+elements_of _ = None
+
+-- the text of a string
+abbrev pub text_of_string : Edn → Option (List ℕ)
+text_of_string (str text) = Some text
+text_of_string _ = None
+
+-- the entry that these values spell under a key
+abbrev pub entry_of : Section → List Edn → Option Entry
+entry_of Section.Cut (str from ∷ str to ∷ []) = Some (OfLink from to LinkChange.Cut)
+entry_of Section.Slow (str from ∷ str to ∷ int ms ∷ []) = Some (OfLink from to (LinkChange.Delay ms))
+entry_of Section.Loss (str from ∷ str to ∷ int level ∷ []) = Some (OfLink from to (LinkChange.Loss level))
+entry_of Section.Down (str node ∷ keyword life ∷ []) =
+    if bytes_eq life (codes "paused") then Some (OfNode node NodeChange.Pause)
+    else if bytes_eq life (codes "killed") then Some (OfNode node NodeChange.Kill)
+    else None
+entry_of Section.Clock (str node ∷ int ms ∷ []) = Some (OfNode node (NodeChange.Clock ms))
+entry_of _ _ = None
+
+-- what f gives of each, where it gives something of all
+abbrev pub each_of : {A B : Type 0} → (A → Option B) → List A → Option (List B)
+each_of f [] = Some []
+each_of f (x ∷ xs) = option_and_then (λ y. option_map (λ ys. y ∷ ys) (each_of f xs)) (f x)
+
+-- the keyword under which a section's entries stand, without its colon
+abbrev pub keyword_of : Section → List ℕ
+keyword_of Section.Cut = codes "cut"
+keyword_of Section.Slow = codes "slow"
+keyword_of Section.Loss = codes "loss"
+keyword_of Section.Down = codes "down"
+keyword_of Section.Clock = codes "clock"
+
+-- the sections, in their order
+abbrev pub sections : List Section
+sections = Section.Cut ∷ Section.Slow ∷ Section.Loss ∷ Section.Down ∷ Section.Clock ∷ []
+
+-- the keyword of the names, without its colon
+abbrev pub nodes_keyword : List ℕ
+nodes_keyword = codes "nodes"
+
+abbrev pub is_keyword : List ℕ → Edn → Bool
+is_keyword name (keyword text) = bytes_eq text name
+is_keyword name _ = false
+
+-- a pair whose key is one of the six
+abbrev pub has_known_key : (Edn × Edn) → Bool
+has_known_key pair = list_any (λ name. is_keyword name pair.0) (nodes_keyword ∷ map keyword_of sections)
+
+-- the value under a keyword: that of the first pair with it
+abbrev pub value_under : List ℕ → List (Edn × Edn) → Option Edn
+value_under name pairs = option_map (λ pair. pair.1) (find (λ pair. is_keyword name pair.0) pairs)
+
+-- the names: strings
+abbrev pub names_of : Edn → Option (List (List ℕ))
+names_of value = option_and_then (each_of text_of_string) (elements_of value)
+
+-- the entry that one value spells under a key: a sequence
+abbrev pub entry_in : Section → Edn → Option Entry
+entry_in section value = option_and_then (entry_of section) (elements_of value)
+
+-- the entries of the value under a key: a sequence of them
+abbrev pub entries_of : Section → Edn → Option (List Entry)
+entries_of section value = option_and_then (each_of (entry_in section)) (elements_of value)
+
+-- the entries of a section: a missing key means none
+abbrev pub entries_under : List (Edn × Edn) → Section → Option (List Entry)
+entries_under pairs section = option_map_or (entries_of section) (value_under (keyword_of section) pairs) (Some [])
+
+-- the names and entries of a text
+pub record Shape : Type 0 where
+  pub names : List (List ℕ)
+  pub entries : List Entry
+
+-- the value under `:nodes`, and all pairs
+pub record Keys : Type 0 where
+  pub nodes : Edn
+  pub pairs : List (Edn × Edn)
+
+-- The keys of a text: it is a map, each key is known, and the names are there.
+abbrev pub keys_of : Edn → Result Keys EnvTextError
+keys_of (mapping ms) =
+    if list_all has_known_key (pairs_in ms)
+    then ok_or (option_map (λ nodes. record { nodes = nodes; pairs = pairs_in ms }) (value_under nodes_keyword (pairs_in ms))) MissingNodes
+    else Err UnknownKey
+keys_of _ = Err NotMap
+
+-- all entries, section by section
+abbrev pub all_entries : List (Edn × Edn) → Option (List Entry)
+all_entries pairs = option_map (flat_map (λ entries. entries)) (each_of (entries_under pairs) sections)
+
+-- the names and entries, where each value is of its shape
+abbrev pub shape_of : Keys → Option Shape
+shape_of keys =
+    option_and_then (λ names. option_map (λ entries. record { names = names; entries = entries }) (all_entries keys.pairs))
+      (names_of keys.nodes)

@@ -1,0 +1,125 @@
+-- Why the text of an environment is refused (this project's own): its keys, the shape of its values, its names,
+-- then the first entry at fault.
+use Rattle.std.specs.Prelude.{◌≡◌, ℕ, ◌-◌, ◌^◌, ◌<◌, ◌&&◌, Bool, true, false, not, ℤ, pos, negsuc, int_le, List, [], ◌∷◌, take, if◌then◌else◌, slice_get, position, bytes_eq, Option, Some, None, is_some, option_and_then, Ok, Err}
+use Rattle.std.specs.List.{list_all, list_any}
+use Rattle.std.specs.Option.{option_or}
+use Rattle.jh_edn.specs.Edn.{Edn}
+use Rattle.jh_env.specs.declared.names.NodesError.TheVariants as NodesError
+use Rattle.jh_env.specs.declared.names.NodesError.{NodesError}
+use Rattle.jh_env.specs.declared.texts.EnvTextError.{EnvTextError}
+use Rattle.jh_env.specs.declared.texts.EnvTextError.TheVariants.{NotMap, UnknownKey, MissingNodes, BadEntry, NoNodes, TooManyNodes, BadName, DuplicateName, UnknownNode, SelfLink, BadAmount, RepeatedEntry, OutOfMemory}
+use Rattle.jh_env.specs.declared.texts.entries.LinkChange.{LinkChange}
+use Rattle.jh_env.specs.declared.texts.entries.LinkChange.TheVariants as LinkChange
+use Rattle.jh_env.specs.declared.texts.entries.NodeChange.{NodeChange}
+use Rattle.jh_env.specs.declared.texts.entries.NodeChange.TheVariants as NodeChange
+use Rattle.jh_env.specs.Names.{AreNodeNames, AreFew, RefusesNames}
+use Rattle.jh_env.specs.Text.{Entry, OfLink, OfNode, Keys, keys_of, Shape, shape_of}
+
+-- the place of a name among the names
+abbrev pub place_of : List (List ℕ) → List ℕ → Option ℕ
+place_of names name = position (bytes_eq name) names
+
+-- the names that an entry mentions
+abbrev pub names_used : Entry → List (List ℕ)
+names_used (OfLink from to says) = from ∷ to ∷ []
+names_used (OfNode node says) = node ∷ []
+
+-- each name that it mentions is a node's
+abbrev pub names_nodes : List (List ℕ) → Entry → Bool
+names_nodes names entry = list_all (λ name. is_some (place_of names name)) (names_used entry)
+
+-- a link from a node to itself
+abbrev pub links_itself : Entry → Bool
+links_itself (OfLink from to says) = bytes_eq from to
+links_itself (OfNode node says) = false
+
+abbrev pub is_within : ℤ → ℤ → ℤ → Bool
+is_within least most z = int_le least z && int_le z most
+
+-- what is said of a link is in its range: a delay of 0 to 60,000 milliseconds, a level of loss of 0 to 20
+abbrev pub is_link_amount : LinkChange → Bool
+is_link_amount LinkChange.Cut = true
+is_link_amount (LinkChange.Delay ms) = is_within (pos 0) (pos 60000) ms
+is_link_amount (LinkChange.Loss level) = is_within (pos 0) (pos 20) level
+
+-- what is said of a node is in its range: a clock that is off by at most 10^12 milliseconds either way
+abbrev pub is_node_amount : NodeChange → Bool
+is_node_amount (NodeChange.Clock ms) = is_within (negsuc (10 ^ 12 - 1)) (pos (10 ^ 12)) ms
+is_node_amount _ = true
+
+abbrev pub is_amount : Entry → Bool
+is_amount (OfLink from to says) = is_link_amount says
+is_amount (OfNode node says) = is_node_amount says
+
+-- the fault of an entry by itself
+abbrev pub own_fault : List (List ℕ) → Entry → Option EnvTextError
+own_fault names entry =
+    if not (names_nodes names entry) then Some UnknownNode
+    else if links_itself entry then Some SelfLink
+    else if not (is_amount entry) then Some BadAmount
+    else None
+
+-- both stand under one key
+abbrev pub same_link_key : LinkChange → LinkChange → Bool
+same_link_key LinkChange.Cut LinkChange.Cut = true
+same_link_key (LinkChange.Delay x) (LinkChange.Delay y) = true
+same_link_key (LinkChange.Loss x) (LinkChange.Loss y) = true
+same_link_key _ _ = false
+
+-- both stand under one key: `:clock`, or `:down`
+abbrev pub same_node_key : NodeChange → NodeChange → Bool
+same_node_key (NodeChange.Clock x) (NodeChange.Clock y) = true
+same_node_key (NodeChange.Clock x) _ = false
+same_node_key _ (NodeChange.Clock y) = false
+same_node_key _ _ = true
+
+-- both name the same link or the same node, under one key
+abbrev pub repeats : Entry → Entry → Bool
+repeats (OfLink a b x) (OfLink c d y) = bytes_eq a c && (bytes_eq b d && same_link_key x y)
+repeats (OfNode a x) (OfNode b y) = bytes_eq a b && same_node_key x y
+repeats _ _ = false
+
+-- the fault of an entry, judged against those before it
+abbrev pub fault_after : List (List ℕ) → List Entry → Entry → Option EnvTextError
+fault_after names before entry = option_or (own_fault names entry) (if list_any (repeats entry) before then Some RepeatedEntry else None)
+
+-- the fault of the entry at a place
+abbrev pub fault_at : List (List ℕ) → List Entry → ℕ → Option EnvTextError
+fault_at names entries place = option_and_then (fault_after names (take place entries)) (slice_get entries place)
+
+-- no entry is at fault
+abbrev pub AreSound : List (List ℕ) → List Entry → Type 0
+AreSound names entries = (place : ℕ) → fault_at names entries place ≡ None
+
+-- the first entry at fault has this fault
+abbrev pub HasFault : List (List ℕ) → List Entry → EnvTextError → Type 0
+HasFault names entries fault =
+    (place : ℕ) × (fault_at names entries place ≡ Some fault) × ((earlier : ℕ) → earlier < place → fault_at names entries earlier ≡ None)
+
+-- these are the names and entries of the text
+abbrev pub HasShape : Edn → Shape → Type 0
+HasShape value shape = (keys : Keys) × (keys_of value ≡ Ok keys) × (shape_of keys ≡ Some shape)
+
+-- its names are refused
+abbrev pub RefusesNodes : Edn → NodesError → Type 0
+RefusesNodes value error = (shape : Shape) × HasShape value shape × RefusesNames shape.names error
+
+-- its first entry at fault has this fault
+abbrev pub RefusesEntry : Edn → EnvTextError → Type 0
+RefusesEntry value fault = (shape : Shape) × HasShape value shape × AreFew shape.names × AreNodeNames shape.names × HasFault shape.names shape.entries fault
+
+-- Why a text is refused. Memory is needed only once its keys are good.
+abbrev pub RefusesText : Edn → EnvTextError → Type 0
+RefusesText value NotMap = keys_of value ≡ Err NotMap
+RefusesText value UnknownKey = keys_of value ≡ Err UnknownKey
+RefusesText value MissingNodes = keys_of value ≡ Err MissingNodes
+RefusesText value BadEntry = (keys : Keys) × (keys_of value ≡ Ok keys) × (shape_of keys ≡ None)
+RefusesText value NoNodes = RefusesNodes value NodesError.NoNodes
+RefusesText value TooManyNodes = RefusesNodes value NodesError.TooManyNodes
+RefusesText value BadName = RefusesNodes value NodesError.BadName
+RefusesText value DuplicateName = RefusesNodes value NodesError.DuplicateName
+RefusesText value UnknownNode = RefusesEntry value UnknownNode
+RefusesText value SelfLink = RefusesEntry value SelfLink
+RefusesText value BadAmount = RefusesEntry value BadAmount
+RefusesText value RepeatedEntry = RefusesEntry value RepeatedEntry
+RefusesText value OutOfMemory = (keys : Keys) × (keys_of value ≡ Ok keys)

@@ -1,0 +1,60 @@
+-- What a contract sees of what a program reads of a text.
+use Rattle.std.specs.Prelude.{◌≡◌, ℕ, List, ◌++◌, map, Option, Some, None, option_map, ⊤}
+use Rattle.jh_env.specs.declared.cells.Link.{Link}
+use Rattle.jh_env.specs.declared.cells.NodeCell.{NodeCell}
+use Rattle.jh_env.specs.declared.names.NodesError.{NodesError}
+use Rattle.jh_env.specs.declared.names.NodesError.TheVariants as NodesError
+use Rattle.jh_env.specs.declared.texts.EnvTextError.{EnvTextError}
+use Rattle.jh_env.specs.declared.texts.EnvTextError.TheVariants.{NoNodes, TooManyNodes, BadName, DuplicateName, BadEntry, UnknownNode, SelfLink, BadAmount, OutOfMemory}
+use Rattle.jh_env.specs.declared.texts.entries.Entry.{Entry}
+use Rattle.jh_env.specs.declared.texts.entries.Entry.TheVariants as Entry
+use Rattle.jh_env.specs.declared.starting.StartError.{StartError}
+use Rattle.jh_env.specs.declared.starting.StartError.TheVariants as StartError
+use Rattle.jh_env.specs.Cells.{link_at, node_at}
+use Rattle.jh_env.specs.Starting.{StartValue, IsStartingLink, IsStartingNode}
+use Rattle.jh_env.specs.Text as text
+use Rattle.jh_env.specs.TextCells.{link_after, node_after}
+
+-- an entry, by the names that it borrows
+abbrev pub entry_said : Entry → text.Entry
+entry_said (Entry.Link from to says) = text.OfLink from.now to.now says
+entry_said (Entry.Node node says) = text.OfNode node.now says
+
+abbrev pub entries_said : List Entry → List text.Entry
+entries_said entries = map entry_said entries
+
+-- what is told, after what was told before
+abbrev pub with_front : {A : Type 0} → List A → Option (List A) → Option (List A)
+with_front front told = option_map (λ more. front ++ more) told
+
+-- the fault of names that are refused
+abbrev pub nodes_fault : NodesError → EnvTextError
+nodes_fault NodesError.NoNodes = NoNodes
+nodes_fault NodesError.TooManyNodes = TooManyNodes
+nodes_fault NodesError.BadName = BadName
+nodes_fault NodesError.DuplicateName = DuplicateName
+nodes_fault NodesError.OutOfMemory = OutOfMemory
+
+-- why values are refused by their shape: there is nothing that they tell, or memory is refused
+abbrev pub RefusesShape : {A : Type 0} → Option A → EnvTextError → Type 0
+RefusesShape told BadEntry = told ≡ None
+RefusesShape told OutOfMemory = ⊤
+RefusesShape told _ = ⊥
+
+-- the fault of a cell that is not set
+abbrev pub cell_fault : StartError → EnvTextError
+cell_fault StartError.UnknownNode = UnknownNode
+cell_fault StartError.SelfLink = SelfLink
+cell_fault StartError.BadAmount = BadAmount
+
+-- each cell may be one at the start
+pub record AreStarting (start : StartValue) : Type 0 where
+  pub links : (a b : ℕ) (link : Link) → link_at start.cells a b ≡ Some link → IsStartingLink link
+  pub nodes : (a : ℕ) (node : NodeCell) → node_at start.cells a ≡ Some node → IsStartingNode node
+
+-- each cell becomes what the entry makes of it
+pub record SetsEntry (old : StartValue) (entry : text.Entry) (new : StartValue) : Type 0 where
+  pub names : new.names ≡ old.names
+  pub links : (a b : ℕ) → link_at new.cells a b ≡ option_map (λ link. link_after old.names a b link entry) (link_at old.cells a b)
+  pub nodes : (a : ℕ) → node_at new.cells a ≡ option_map (λ cell. node_after old.names a cell entry) (node_at old.cells a)
+  pub starting : AreStarting new

@@ -1,0 +1,88 @@
+-- The text that is written of an environment (this project's own): all six keys in order, and under them what is
+-- not calm or not running, links by the place of their source and then of their destination, nodes by place.
+use Rattle.std.specs.Prelude.{ℕ, ◌==◌, Bool, true, false, ℤ, pos, nat_lt, List, [], ◌∷◌, map, length, filter_map, flat_map, if◌then◌else◌, codes, slice_index_or, Option, Some, None, option_map, option_and_then}
+use Rattle.std.specs.List.{range_with_len}
+use Rattle.jh_edn.specs.Edn.{Edn, int, str, keyword, vector, mapping, items_of, members_of}
+use Rattle.jh_env.specs.declared.cells.Life.{Life}
+use Rattle.jh_env.specs.declared.cells.Life.TheVariants.{Running, Paused, Killed}
+use Rattle.jh_env.specs.declared.cells.Link.{Link}
+use Rattle.jh_env.specs.declared.cells.NodeCell.{NodeCell}
+use Rattle.jh_env.specs.declared.texts.entries.Section.{Section}
+use Rattle.jh_env.specs.declared.texts.entries.Section.TheVariants as Section
+use Rattle.jh_env.specs.declared.texts.entries.LinkChange.{LinkChange}
+use Rattle.jh_env.specs.declared.texts.entries.LinkChange.TheVariants as LinkChange
+use Rattle.jh_env.specs.declared.texts.entries.NodeChange.{NodeChange}
+use Rattle.jh_env.specs.declared.texts.entries.NodeChange.TheVariants as NodeChange
+use Rattle.jh_env.specs.Overlay.{EnvValue, link_of, node_of}
+use Rattle.jh_env.specs.Text.{Entry, OfLink, OfNode, keyword_of, nodes_keyword, sections}
+
+-- what a link is said to be under a key, if anything
+abbrev pub link_part : Section → Link → Option LinkChange
+link_part Section.Cut link = if link.cut then Some LinkChange.Cut else None
+link_part Section.Slow link = if nat_lt 0 link.delay then Some (LinkChange.Delay (pos link.delay)) else None
+link_part Section.Loss link = if nat_lt 0 link.loss then Some (LinkChange.Loss (pos link.loss)) else None
+link_part _ link = None
+
+abbrev pub life_part : Life → Option NodeChange
+life_part Running = None
+life_part Paused = Some NodeChange.Pause
+life_part Killed = Some NodeChange.Kill
+
+abbrev pub is_zero : ℤ → Bool
+is_zero (pos n) = n == 0
+is_zero _ = false
+
+-- what a node is said to be under a key, if anything
+abbrev pub node_part : Section → NodeCell → Option NodeChange
+node_part Section.Down node = life_part node.process
+node_part Section.Clock node = if is_zero node.clock then None else Some (NodeChange.Clock node.clock)
+node_part _ node = None
+
+-- the name at a place
+abbrev pub name_at : EnvValue → ℕ → List ℕ
+name_at env a = slice_index_or env.names a []
+
+-- the entry of the link from a to b under a key, if there is one
+abbrev pub link_entry : EnvValue → Section → ℕ → ℕ → Option Entry
+link_entry env section a b =
+    option_map (OfLink (name_at env a) (name_at env b)) (option_and_then (link_part section) (link_of env a b))
+
+-- the entry of the node a under a key, if there is one
+abbrev pub node_entry : EnvValue → Section → ℕ → Option Entry
+node_entry env section a = option_map (OfNode (name_at env a)) (option_and_then (node_part section) (node_of env a))
+
+-- the places of the nodes
+abbrev pub places : EnvValue → List ℕ
+places env = range_with_len 0 (length env.names)
+
+-- the entries under a key: by source and then by destination, or by node
+abbrev pub entries_written : EnvValue → Section → List Entry
+entries_written env Section.Down = filter_map (node_entry env Section.Down) (places env)
+entries_written env Section.Clock = filter_map (node_entry env Section.Clock) (places env)
+entries_written env section = flat_map (λ a. filter_map (link_entry env section a) (places env)) (places env)
+
+-- the values that spell what is said of a link, after its ends
+abbrev pub link_amounts : LinkChange → List Edn
+link_amounts LinkChange.Cut = []
+link_amounts (LinkChange.Delay ms) = int ms ∷ []
+link_amounts (LinkChange.Loss level) = int level ∷ []
+
+-- the value that spells what is said of a node
+abbrev pub node_amount : NodeChange → Edn
+node_amount NodeChange.Pause = keyword (codes "paused")
+node_amount NodeChange.Kill = keyword (codes "killed")
+node_amount (NodeChange.Clock ms) = int ms
+
+-- the value that spells an entry
+abbrev pub edn_of_entry : Entry → Edn
+edn_of_entry (OfLink from to says) = vector (items_of (str from ∷ str to ∷ link_amounts says))
+edn_of_entry (OfNode node says) = vector (items_of (str node ∷ node_amount says ∷ []))
+
+-- a key with its entries
+abbrev pub section_pair : EnvValue → Section → Edn × Edn
+section_pair env section = (keyword (keyword_of section), vector (items_of (map edn_of_entry (entries_written env section))))
+
+-- the text of an environment as it is now
+abbrev pub text_of : EnvValue → Edn
+text_of env =
+    mapping (members_of ((keyword nodes_keyword, vector (items_of (map str env.names))) ∷ map (section_pair env) sections))

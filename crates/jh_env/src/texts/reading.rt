@@ -1,0 +1,137 @@
+//! The shape of an environment's text: its keys, its names and its entries. `specs/Text.antt` says what they are.
+
+ghost use Rattle.std.specs.Prelude.{◌≡◌, ◌∷◌, map, find, bytes_eq, option_map, option_copied, MatchResult, string_bytes};
+ghost use Rattle.std.specs.List.{list_any, list_all};
+ghost use Rattle.jh_edn.specs.View.{view, views, view_pair, view_pairs};
+ghost use Rattle.jh_env.specs.Text as text;
+ghost use Rattle.jh_env.specs.Text.{nodes_keyword, sections};
+ghost use Rattle.jh_env.specs.TextInside.{entries_said, with_front, RefusesShape};
+
+use super::entries::{Entry, Section, elements_of};
+use super::EnvTextError;
+use jh_edn::Value;
+use std::alloc::Global;
+
+const SECTIONS: [Section; 5] = [
+    Section::Cut,
+    Section::Slow,
+    Section::Loss,
+    Section::Down,
+    Section::Clock,
+];
+
+fn is_keyword(value: &Value, name: &str) -> bool
+    ensures { result ≡ text.is_keyword name.now (view value.now) }
+{
+    match value {
+        Value::Keyword(text) => text.as_str() == name,
+        _ => false,
+    }
+}
+
+fn is_known_keyword(name: &str) -> bool
+    ensures { result ≡ list_any (bytes_eq name.now) (nodes_keyword ∷ map text.keyword_of sections) }
+{
+    matches!(name, "nodes" | "cut" | "slow" | "loss" | "down" | "clock")
+}
+
+fn has_known_key(pair: &(Value, Value)) -> bool
+    ensures { result ≡ text.has_known_key (view_pair pair.now) }
+{
+    match &pair.0 {
+        Value::Keyword(text) => is_known_keyword(text.as_str()),
+        _ => false,
+    }
+}
+
+fn have_known_keys(pairs: &[(Value, Value)]) -> bool
+    ensures { result ≡ list_all (λ pair. text.has_known_key (view_pair pair)) pairs.now }
+{
+    pairs.iter().all(|pair| has_known_key(pair))
+}
+
+fn find_pair<'a>(name: &str, pairs: &'a [(Value, Value)]) -> Option<&'a (Value, Value)>
+    ensures { option_copied result ≡ find (λ pair. text.is_keyword name.now (view pair.0)) pairs.now }
+{
+    pairs.iter().find(|pair| is_keyword(&pair.0, name))
+}
+
+/// The value under a keyword: that of the first pair with it.
+fn value_under<'a>(name: &str, pairs: &'a [(Value, Value)]) -> Option<&'a Value>
+    ensures { option_map (λ v. view v.now) result ≡ text.value_under name.now (view_pairs pairs.now) }
+{
+    let pair = find_pair(name, pairs)?;
+    Some(&pair.1)
+}
+
+/// The value of `:nodes` and all pairs of a map that has no unknown key.
+pub fn keys_of(value: &Value) -> Result<(&Value, &[(Value, Value)]), EnvTextError>
+    ensures { MatchResult result
+        (λ keys. text.keys_of (view value.now) ≡ Ok (record { nodes = view keys.0.now; pairs = view_pairs keys.1.now }))
+        (λ e. text.keys_of (view value.now) ≡ Err e) }
+{
+    let Value::Map(pairs) = value else {
+        return Err(EnvTextError::NotMap);
+    };
+    let pairs = pairs.as_slice();
+    if !have_known_keys(pairs) {
+        return Err(EnvTextError::UnknownKey);
+    }
+    match value_under("nodes", pairs) {
+        Some(nodes) => Ok((nodes, pairs)),
+        None => Err(EnvTextError::MissingNodes),
+    }
+}
+
+/// The names under `:nodes`.
+pub fn names_of(alloc: Global, value: &Value) -> Result<Vec<&str>, EnvTextError>
+    ensures { MatchResult result
+        (λ names. text.names_of (view value.now) ≡ Some (map (λ s. s.now) names.items))
+        (RefusesShape (text.names_of (view value.now))) }
+{
+    let elements = elements_of(value).ok_or(EnvTextError::BadEntry)?;
+    let mut names = Vec::new(alloc);
+    for element in elements {
+        let Value::Str(name) = element else {
+            return Err(EnvTextError::BadEntry);
+        };
+        names.push(name.as_str())?;
+    }
+    Ok(names)
+}
+
+/// All entries, section by section.
+pub fn all_entries(alloc: Global, pairs: &[(Value, Value)]) -> Result<Vec<Entry<'_>>, EnvTextError>
+    ensures { MatchResult result
+        (λ entries. text.all_entries (view_pairs pairs.now) ≡ Some (entries_said entries.items))
+        (RefusesShape (text.all_entries (view_pairs pairs.now))) }
+{
+    let mut entries = Vec::new(alloc);
+    for section in SECTIONS {
+        push_section(section, pairs, &mut entries)?;
+    }
+    Ok(entries)
+}
+
+fn push_section<'a>(section: Section, pairs: &'a [(Value, Value)], entries: &mut Vec<Entry<'a>>) -> Result<(), EnvTextError>
+    ensures { MatchResult result
+        (λ _. with_front (entries_said entries.old.items) (text.entries_under (view_pairs pairs.now) section) ≡ Some (entries_said entries.new.items))
+        (RefusesShape (text.entries_under (view_pairs pairs.now) section)) }
+{
+    match value_under(section.keyword(), pairs) {
+        Some(value) => push_entries(section, value, entries),
+        None => Ok(()),
+    }
+}
+
+fn push_entries<'a>(section: Section, value: &'a Value, entries: &mut Vec<Entry<'a>>) -> Result<(), EnvTextError>
+    ensures { MatchResult result
+        (λ _. with_front (entries_said entries.old.items) (text.entries_of section (view value.now)) ≡ Some (entries_said entries.new.items))
+        (RefusesShape (text.entries_of section (view value.now))) }
+{
+    let elements = elements_of(value).ok_or(EnvTextError::BadEntry)?;
+    for element in elements {
+        entries.push(section.entry_in(element).ok_or(EnvTextError::BadEntry)?)?;
+    }
+    Ok(())
+}

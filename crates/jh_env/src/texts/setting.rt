@@ -1,0 +1,165 @@
+//! The cells that entries tell, set one entry after another. `specs/TextCells.antt` says what they tell, and
+//! `specs/TextFaults.antt` which entry is at fault.
+
+ghost use Rattle.std.specs.Prelude.{◌≡◌, Some, None, MatchResult, if◌then◌else◌};
+ghost use Rattle.std.specs.List.{list_any};
+ghost use Rattle.jh_env.specs.Starting.{IsCalm};
+ghost use Rattle.jh_env.specs.Text.{OfLink, OfNode};
+ghost use Rattle.jh_env.specs.TextCells.{AreTold, link_with, node_with};
+ghost use Rattle.jh_env.specs.TextFaults as fault;
+ghost use Rattle.jh_env.specs.TextFaults.{place_of, own_fault, is_link_amount, is_node_amount, AreSound, HasFault};
+ghost use Rattle.jh_env.specs.TextInside.{entry_said, entries_said, AreStarting, SetsEntry};
+
+use super::entries::{Entry, LinkChange, NodeChange};
+use super::EnvTextError;
+use crate::cells::{Life, Link, NodeCell};
+use crate::names::{Node, Nodes};
+use crate::starting::Start;
+
+fn find(nodes: &Nodes, name: &str) -> Result<Node, EnvTextError>
+    ensures { MatchResult result
+        (λ node. place_of nodes.now name.now ≡ Some node)
+        (λ e. (e ≡ EnvTextError.UnknownNode) × (place_of nodes.now name.now ≡ None)) }
+{
+    nodes.find(name).ok_or(EnvTextError::UnknownNode)
+}
+
+impl LinkChange {
+    /// The link with what is said of it, where that is in its range.
+    fn applied(self, link: Link) -> Option<Link>
+        ensures { result ≡ (if is_link_amount self then Some (link_with self link) else None) }
+    {
+        match self {
+            LinkChange::Cut => Some(Link { cut: true, ..link }),
+            LinkChange::Delay(ms) if 0 <= ms && ms <= 60_000 => Some(Link {
+                delay: ms.unsigned_abs(),
+                ..link
+            }),
+            LinkChange::Loss(level) if 0 <= level && level <= 20 => Some(Link {
+                loss: level.unsigned_abs() as u8,
+                ..link
+            }),
+            _ => None,
+        }
+    }
+
+    fn has_key_of(self, other: LinkChange) -> bool
+        ensures { result ≡ fault.same_link_key self other }
+    {
+        matches!(
+            (self, other),
+            (LinkChange::Cut, LinkChange::Cut)
+                | (LinkChange::Delay(_), LinkChange::Delay(_))
+                | (LinkChange::Loss(_), LinkChange::Loss(_))
+        )
+    }
+}
+
+impl NodeChange {
+    /// The node with what is said of it, where that is in its range.
+    fn applied(self, cell: NodeCell) -> Option<NodeCell>
+        ensures { result ≡ (if is_node_amount self then Some (node_with self cell) else None) }
+    {
+        match self {
+            NodeChange::Pause => Some(NodeCell {
+                process: Life::Paused,
+                ..cell
+            }),
+            NodeChange::Kill => Some(NodeCell {
+                process: Life::Killed,
+                ..cell
+            }),
+            NodeChange::Clock(ms) if -1_000_000_000_000 <= ms && ms <= 1_000_000_000_000 => {
+                Some(NodeCell { clock: ms, ..cell })
+            }
+            NodeChange::Clock(_) => None,
+        }
+    }
+
+    fn has_key_of(self, other: NodeChange) -> bool
+        ensures { result ≡ fault.same_node_key self other }
+    {
+        match (self, other) {
+            (NodeChange::Clock(_), NodeChange::Clock(_)) => true,
+            (NodeChange::Clock(_), _) | (_, NodeChange::Clock(_)) => false,
+            _ => true,
+        }
+    }
+}
+
+/// Whether both name the same link or node under one key.
+fn repeats(entry: &Entry, other: &Entry) -> bool
+    ensures { result ≡ fault.repeats (entry_said entry.now) (entry_said other.now) }
+{
+    match (*entry, *other) {
+        (Entry::Link(a, b, change), Entry::Link(c, d, other)) => a == c && b == d && change.has_key_of(other),
+        (Entry::Node(a, change), Entry::Node(b, other)) => a == b && change.has_key_of(other),
+        _ => false,
+    }
+}
+
+fn is_repeated(before: &[Entry], entry: &Entry) -> bool
+    ensures { result ≡ list_any (λ other. fault.repeats (entry_said entry.now) (entry_said other)) before.now }
+{
+    before.iter().any(|other| repeats(entry, other))
+}
+
+fn set_link(start: &mut Start, from: &str, to: &str, change: LinkChange) -> Result<(), EnvTextError>
+    requires { AreStarting start.old }
+    ensures { MatchResult result
+        (λ _. (own_fault start.old.names (OfLink from.now to.now change) ≡ None)
+            × SetsEntry start.old (OfLink from.now to.now change) start.new)
+        (λ e. own_fault start.old.names (OfLink from.now to.now change) ≡ Some e) }
+{
+    let source = find(start.nodes(), from)?;
+    let destination = find(start.nodes(), to)?;
+    let link = start.link(source, destination).ok_or(EnvTextError::SelfLink)?;
+    let link = change.applied(link).ok_or(EnvTextError::BadAmount)?;
+    start.set_link(source, destination, link)?;
+    Ok(())
+}
+
+fn set_node(start: &mut Start, name: &str, change: NodeChange) -> Result<(), EnvTextError>
+    requires { AreStarting start.old }
+    ensures { MatchResult result
+        (λ _. (own_fault start.old.names (OfNode name.now change) ≡ None)
+            × SetsEntry start.old (OfNode name.now change) start.new)
+        (λ e. own_fault start.old.names (OfNode name.now change) ≡ Some e) }
+{
+    let node = find(start.nodes(), name)?;
+    let cell = start.node(node).ok_or(EnvTextError::UnknownNode)?;
+    let cell = change.applied(cell).ok_or(EnvTextError::BadAmount)?;
+    start.set_node(node, cell)?;
+    Ok(())
+}
+
+fn set_entry(start: &mut Start, entry: &Entry) -> Result<(), EnvTextError>
+    requires { AreStarting start.old }
+    ensures { MatchResult result
+        (λ _. (own_fault start.old.names (entry_said entry.now) ≡ None)
+            × SetsEntry start.old (entry_said entry.now) start.new)
+        (λ e. own_fault start.old.names (entry_said entry.now) ≡ Some e) }
+{
+    match *entry {
+        Entry::Link(from, to, change) => set_link(start, from, to, change),
+        Entry::Node(name, change) => set_node(start, name, change),
+    }
+}
+
+/// Sets what the entries tell, or finds the first at fault, where nothing was set before.
+pub fn set_all(start: &mut Start, entries: &[Entry]) -> Result<(), EnvTextError>
+    requires { IsCalm start.old }
+    ensures { MatchResult result
+        (λ _. (start.new.names ≡ start.old.names)
+            × AreSound start.old.names (entries_said entries.now)
+            × AreTold start.old.names (entries_said entries.now) start.new.cells)
+        (HasFault start.old.names (entries_said entries.now)) }
+{
+    for (place, entry) in entries.iter().enumerate() {
+        set_entry(start, entry)?;
+        if is_repeated(&entries[..place], entry) {
+            return Err(EnvTextError::RepeatedEntry);
+        }
+    }
+    Ok(())
+}
