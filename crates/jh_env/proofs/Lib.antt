@@ -1,1 +1,6 @@
 pub mod TextLemmas
+pub mod NameLemmas
+pub mod FaultLemmas
+pub mod LayingLemmas
+pub mod OverlayLemmas
+pub mod StartLemmas

@@ -24,5 +24,6 @@ link_at t a b =
     then Some (slice_index_or t.links (a * length t.nodes + b) calm)
     else None
 
+-- the cell of the node at this place, where there is one
 abbrev pub node_at : Table → ℕ → Option NodeCell
 node_at t a = slice_get t.nodes a

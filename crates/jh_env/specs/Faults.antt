@@ -15,6 +15,7 @@ pub data FaultValue : Type 0 where
   Kill : List ℕ → FaultValue
   Bump : List (ℕ × ℤ) → FaultValue
 
+-- the two are one link
 abbrev pub same_link : (ℕ × ℕ) → (ℕ × ℕ) → Bool
 same_link k l = (k.0 == l.0) && (k.1 == l.1)
 
@@ -31,6 +32,7 @@ kept_links kept (l ∷ ls) = kept_links (if list_any (λ k. same_link k l) kept 
 abbrev pub is_unknown_link : ℕ → (ℕ × ℕ) → Bool
 is_unknown_link count l = nat_le count l.0 || nat_le count l.1
 
+-- a link from a node to itself
 abbrev pub is_self_link : (ℕ × ℕ) → Bool
 is_self_link l = l.0 == l.1
 

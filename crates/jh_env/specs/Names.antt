@@ -1,7 +1,7 @@
 -- Names of nodes (this project's own): 1 to 32 different names, each of 1 to 64 letters, digits, dots, dashes and underscores.
 use Rattle.std.specs.Prelude.{◌≡◌, ℕ, ◌==◌, ◌&&◌, ◌||◌, ◌<◌, ◌≤◌, Bool, true, false, List, [], ◌∷◌, ◌++◌, length, nat_le, not}
 use Rattle.std.specs.Char.{is_ascii_alphanumeric}
-use Rattle.std.specs.List.{All, list_all, list_any}
+use Rattle.std.specs.List.{list_all, list_any}
 use Rattle.std.specs.Str.{bytes_eq}
 use Rattle.jh_env.specs.declared.names.NodesError.{NodesError}
 use Rattle.jh_env.specs.declared.names.NodesError.TheVariants.{NoNodes, TooManyNodes, BadName, DuplicateName, OutOfMemory}
@@ -27,24 +27,35 @@ is_node_name name = not (length name == 0) && (nat_le (length name) 64 && list_a
 abbrev pub is_among : List (List ℕ) → List ℕ → Bool
 is_among names name = list_any (bytes_eq name) names
 
+-- the name may stand after these: it may name a node and is none of them
+abbrev pub MayFollow : List (List ℕ) → List ℕ → Type 0
+MayFollow names name = (is_node_name name ≡ true) × (is_among names name ≡ false)
+
 -- each may name a node, and none stands twice
 abbrev pub AreNodeNames : List (List ℕ) → Type 0
-AreNodeNames names =
-    (before after : List (List ℕ)) (name : List ℕ) → names ≡ before ++ (name ∷ after)
-    → (is_node_name name ≡ true) × (is_among before name ≡ false)
+AreNodeNames names = (before after : List (List ℕ)) (name : List ℕ) → names ≡ before ++ (name ∷ after) → MayFollow before name
 
 -- as many names as an environment may have
 abbrev pub AreFew : List (List ℕ) → Type 0
 AreFew names = (0 < length names) × (length names ≤ 32)
 
--- Why names are refused: their number, else the first name that is bad or stands before it already.
+-- why a name is refused after these, in this order: it is bad, it stands there already, memory was refused
+abbrev pub RefusesName : List (List ℕ) → List ℕ → NodesError → Type 0
+RefusesName names name BadName = is_node_name name ≡ false
+RefusesName names name DuplicateName = (is_node_name name ≡ true) × (is_among names name ≡ true)
+RefusesName names name OutOfMemory = MayFollow names name
+RefusesName names name NoNodes = ⊥
+RefusesName names name TooManyNodes = ⊥
+
+-- the first name that is refused, and why
+abbrev pub RefusesSomeName : List (List ℕ) → NodesError → Type 0
+RefusesSomeName names error =
+    (before after : List (List ℕ)) × (name : List ℕ) × (names ≡ before ++ (name ∷ after)) × AreNodeNames before × RefusesName before name error
+
+-- why names are refused: their number, else the first name that is refused
 abbrev pub RefusesNames : List (List ℕ) → NodesError → Type 0
 RefusesNames names NoNodes = names ≡ []
 RefusesNames names TooManyNodes = 32 < length names
-RefusesNames names BadName =
-    AreFew names × ((before after : List (List ℕ)) × (name : List ℕ) × (names ≡ before ++ (name ∷ after)) × AreNodeNames before × (is_node_name name ≡ false))
-RefusesNames names DuplicateName =
-    AreFew names
-    × ((before after : List (List ℕ)) × (name : List ℕ) × (names ≡ before ++ (name ∷ after)) × AreNodeNames before × (is_node_name name ≡ true) × (is_among before name ≡ true))
-RefusesNames names OutOfMemory =
-    AreFew names × ((before after : List (List ℕ)) × (names ≡ before ++ after) × AreNodeNames before)
+RefusesNames names BadName = AreFew names × RefusesSomeName names BadName
+RefusesNames names DuplicateName = AreFew names × RefusesSomeName names DuplicateName
+RefusesNames names OutOfMemory = AreFew names × RefusesSomeName names OutOfMemory

@@ -40,11 +40,13 @@ abbrev pub bump_by : ℕ → FaultValue → ℤ
 bump_by a (Bump nodes) = fold (λ z n. z +ℤ (if n.0 == a then n.1 else pos 0)) (pos 0) nodes
 bump_by a _ = pos 0
 
+-- the process is paused
 abbrev pub is_paused : Life → Bool
 is_paused Running = false
 is_paused Paused = true
 is_paused Killed = false
 
+-- the process is killed
 abbrev pub is_killed : Life → Bool
 is_killed Running = false
 is_killed Paused = false
@@ -62,9 +64,9 @@ link_over faults a b l = record {
 abbrev pub node_over : List FaultValue → ℕ → NodeCell → NodeCell
 node_over faults a n = record {
   process =
-    if is_killed n.process || list_any (kills a) faults then Killed
-    else if is_paused n.process || list_any (pauses a) faults then Paused
-    else Running;
+      if is_killed n.process || list_any (kills a) faults then Killed
+      else if is_paused n.process || list_any (pauses a) faults then Paused
+      else Running;
   clock = fold (λ z f. z +ℤ bump_by a f) n.clock faults;
 }
 
@@ -84,9 +86,11 @@ pub record EnvValue : Type 0 where
 abbrev pub cells_of : EnvValue → Table
 cells_of env = env.now
 
+-- the environment's link from a to b now, where there is one
 abbrev pub link_of : EnvValue → ℕ → ℕ → Option Link
 link_of env a b = link_at (cells_of env) a b
 
+-- the environment's node at this place now, where there is one
 abbrev pub node_of : EnvValue → ℕ → Option NodeCell
 node_of env a = node_at (cells_of env) a
 

@@ -4,6 +4,7 @@ use Rattle.std.specs.List.{All}
 use Rattle.jh_env.specs.Starting.{StartValue, IsStartingLink, IsStartingNode}
 use Rattle.jh_env.specs.declared.starting.Start.TheInside.{Inside}
 
+-- the names and the cells
 abbrev pub start_value : Inside → StartValue
 start_value a = record { names = a.names; cells = record { links = a.links.items; nodes = a.cells.items } }
 

@@ -25,15 +25,17 @@ pub record IsCalm (s : StartValue) : Type 0 where
   pub links : (a b : ℕ) → link_at s.cells a b ≡ (if nat_lt a (length s.names) && (nat_lt b (length s.names) && not (a == b)) then Some calm else None)
   pub nodes : (a : ℕ) → node_at s.cells a ≡ (if nat_lt a (length s.names) then Some running else None)
 
--- the link from a to b is set, and nothing else changes
+-- the link from a to b is set, within the ranges, and nothing else changes
 pub record SetsLink (old : StartValue) (a b : ℕ) (l : Link) (new : StartValue) : Type 0 where
   pub names : new.names ≡ old.names
+  pub amounts : IsStartingLink l
   pub links : (c d : ℕ) → link_at new.cells c d ≡ (if same_link (c, d) (a, b) then Some l else link_at old.cells c d)
   pub nodes : (c : ℕ) → node_at new.cells c ≡ node_at old.cells c
 
--- the node's cell is set, and nothing else changes
+-- the node's cell is set, within the range, and nothing else changes
 pub record SetsNode (old : StartValue) (a : ℕ) (n : NodeCell) (new : StartValue) : Type 0 where
   pub names : new.names ≡ old.names
+  pub amount : IsStartingNode n
   pub links : (c d : ℕ) → link_at new.cells c d ≡ link_at old.cells c d
   pub nodes : (c : ℕ) → node_at new.cells c ≡ (if c == a then Some n else node_at old.cells c)
 

@@ -25,6 +25,7 @@ pub struct Link {
 /// The state of a node.
 #[derive(Clone, Copy, Debug, PartialEq, Eq)]
 pub struct NodeCell {
+    /// What its process does.
     pub process: Life,
     /// Milliseconds by which the node's clock is ahead.
     pub clock: i64,

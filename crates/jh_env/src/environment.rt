@@ -1,7 +1,9 @@
 //! An environment: what the faults that are laid make of its starting cells, cell by cell.
 //! `specs/Overlay.antt` has the rule.
 
-ghost use Rattle.std.specs.Prelude.{◌≡◌, ◌<◌, ◌++◌, ◌∷◌, [], List, length, IfOk};
+ghost use Rattle.std.specs.Prelude.{◌≡◌, ◌*◌, ◌<◌, ◌≤◌, ◌++◌, ◌∷◌, [], List, length, IfOk};
+ghost use Rattle.std.specs.List.{All};
+ghost use Rattle.jh_env.specs.Laying.{CutsLinks};
 ghost use Rattle.jh_env.specs.Overlay.{StandsFor, SamePlace, link_of, node_of};
 ghost use Rattle.jh_env.specs.Faults.{FaultValue, FitsCount};
 
@@ -60,6 +62,7 @@ impl Env {
         })
     }
 
+    /// The nodes, with their names.
     pub fn nodes(&self) -> &Nodes
         ensures { result.now ≡ self.now.names }
     {
@@ -103,10 +106,10 @@ impl Env {
         self.laid = 0;
     }
 
-    /// Lays one more fault over the cells.
+    /// Lays one more fault over the cells. It takes time for each link that the fault names, and no memory.
     pub fn lay(&mut self, fault: &Fault)
         requires fits { FitsCount (length self.old.names) fault.now }
-        requires room { self.old.laid < 256 }
+        requires room { self.old.laid < MOST_LAID }
         ensures stands { (faults : List FaultValue) → StandsFor self.old faults → StandsFor self.new (faults ++ fault.now ∷ []) }
         ensures kept { SamePlace self.old self.new }
     {
@@ -118,6 +121,11 @@ impl Env {
 
 // Cuts each of these links in the table of count nodes.
 fn cut_links(cells: &mut [Link], count: usize, links: &[(Node, Node)])
+    requires few { count ≤ 32 }
+    requires square { length cells.old ≡ count * count }
+    requires known { All (λ l. (l.0 < count) × (l.1 < count)) links.now }
+    ensures size { length cells.new ≡ length cells.old }
+    ensures cut { CutsLinks links.now count cells.old cells.new }
 {
     for (from, to) in links {
         let place = from.place() as usize * count + to.place() as usize;

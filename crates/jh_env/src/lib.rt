@@ -9,7 +9,7 @@ mod starting;
 mod texts;
 
 pub use cells::{Life, Link, NodeCell};
-pub use environment::Env;
+pub use environment::{Env, MOST_LAID};
 pub use faults::{Fault, FaultError};
 pub use names::{Node, Nodes, NodesError};
 pub use starting::{Start, StartError};

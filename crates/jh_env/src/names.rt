@@ -1,10 +1,11 @@
 //! Nodes and their names. `specs/Names.antt` says which lists of names an environment may have.
 
-ghost use Rattle.std.specs.Prelude.{◌≡◌, ◌<◌, ◌≤◌, ◌↔◌, map, length, slice_get, position, option_map, MatchResult, MatchOption, IsTrue};
+ghost use Rattle.std.specs.Prelude.{◌≡◌, ◌<◌, ◌≤◌, ◌++◌, ◌∷◌, [], map, length, slice_get, position, option_map, MatchResult, MatchOption};
 ghost use Rattle.std.specs.List.{list_all};
 ghost use Rattle.std.specs.Str.{bytes_eq};
+ghost use Rattle.std.specs.String.{string_bytes};
 ghost use Rattle.jh_env.specs.Names as rule;
-ghost use Rattle.jh_env.specs.Names.{AreNodeNames, AreFew, RefusesNames, is_name_byte};
+ghost use Rattle.jh_env.specs.Names.{AreNodeNames, AreFew, MayFollow, RefusesName, RefusesNames, is_name_byte};
 
 use indexmap::IndexSet;
 use std::alloc::Global;
@@ -91,6 +92,26 @@ fn is_name_byte(byte: u8) -> bool
     byte.is_ascii_alphanumeric() || byte == b'.' || byte == b'-' || byte == b'_'
 }
 
+fn add_name(alloc: Global, set: &mut IndexSet<String>, name: &str) -> Result<(), NodesError>
+    ensures { MatchResult result
+        (λ _. (map string_bytes set.new.keys ≡ map string_bytes set.old.keys ++ name.now ∷ []) × MayFollow (map string_bytes set.old.keys) name.now)
+        (RefusesName (map string_bytes set.old.keys) name.now) }
+{
+    if !is_node_name(name) {
+        return Err(NodesError::BadName);
+    }
+    if set.contains(name) {
+        return Err(NodesError::DuplicateName);
+    }
+    let Ok(text) = name.to_string(alloc) else {
+        return Err(NodesError::OutOfMemory);
+    };
+    match set.insert(text) {
+        Ok(_) => Ok(()),
+        Err(_) => Err(NodesError::OutOfMemory),
+    }
+}
+
 impl Nodes {
     /// The nodes of these names, 1 to 32, each 1 to 64 ASCII letters, digits, `.`, `-` or `_`.
     ///
@@ -109,20 +130,7 @@ impl Nodes {
         }
         let mut set = IndexSet::new(alloc);
         for name in names {
-            if !is_node_name(name) {
-                return Err(NodesError::BadName);
-            }
-            if set.contains(*name) {
-                return Err(NodesError::DuplicateName);
-            }
-            let Ok(text) = name.to_string(alloc) else {
-                return Err(NodesError::OutOfMemory);
-            };
-            match set.insert(text) {
-                Ok(true) => {}
-                Ok(false) => return Err(NodesError::DuplicateName),
-                Err(_) => return Err(NodesError::OutOfMemory),
-            }
+            add_name(alloc, &mut set, name)?;
         }
         Ok(Nodes { names: set })
     }

@@ -54,6 +54,7 @@ impl Start {
         })
     }
 
+    /// The nodes, with their names.
     pub fn nodes(&self) -> &Nodes
         ensures { result.now ≡ self.now.names }
     {

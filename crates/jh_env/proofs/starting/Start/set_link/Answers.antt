@@ -1,0 +1,16 @@
+use Rattle.std.proofs.Common.{◌≡◌, ◌<◌, refl, length}
+use Rattle.jh_env.proofs.StartLemmas.{link_at_set}
+use Rattle.jh_env.proofs.starting.Start.set_link.Goals as goal
+
+pub returns : goal.returns
+returns c =
+    let count : c.self.inside.cells.len ≡ length c.self.inside.cells.items = c.self.inside.cells.ok.0 in
+    let from_below : c.args.from < length c.self.inside.cells.items = rw (c.place.ensures, c.len-count.ensures, count) at c.if-source-count.false in
+    let to_below : c.args.to < length c.self.inside.cells.items = rw (c.place-2.ensures, c.len-count.ensures, count) at c.if-destination-count.false in
+    let apart = rw (c.place.ensures, c.place-2.ensures) at c.if-source-destination.false in
+    rw (← c.self.view_is, c.place.ensures, c.place-2.ensures, c.len-count.ensures, count) (record {
+      names = refl;
+      amounts = (c.if-link-gt60000.false, c.if-link-gt20.false);
+      links = link_at_set c.self.inside.links.items c.self.inside.cells.items c.args.from c.args.to c.args.link from_below to_below apart c.self.invariant.square;
+      nodes = λ _. refl;
+    })
