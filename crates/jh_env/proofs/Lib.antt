@@ -1,4 +1,6 @@
 pub mod TextLemmas
+pub mod TextCellLemmas
+pub mod TextTellingLemmas
 pub mod NameLemmas
 pub mod FaultLemmas
 pub mod LayingLemmas

@@ -1,5 +1,5 @@
 -- What a contract sees of what a program reads of a text.
-use Rattle.std.specs.Prelude.{◌≡◌, ℕ, List, ◌++◌, map, Option, Some, None, option_map, ⊤}
+use Rattle.std.specs.Prelude.{◌≡◌, ◌<◌, ℕ, List, length, ◌++◌, map, Option, Some, None, option_map, ⊤}
 use Rattle.jh_env.specs.declared.cells.Link.{Link}
 use Rattle.jh_env.specs.declared.cells.NodeCell.{NodeCell}
 use Rattle.jh_env.specs.declared.names.NodesError.{NodesError}
@@ -47,10 +47,12 @@ cell_fault StartError.UnknownNode = UnknownNode
 cell_fault StartError.SelfLink = SelfLink
 cell_fault StartError.BadAmount = BadAmount
 
--- each cell may be one at the start
+-- each cell may be one at the start, and there is one for each node and for each link between two of them
 pub record AreStarting (start : StartValue) : Type 0 where
   pub links : (a b : ℕ) (link : Link) → link_at start.cells a b ≡ Some link → IsStartingLink link
-  pub nodes : (a : ℕ) (node : NodeCell) → node_at start.cells a ≡ Some node → IsStartingNode node
+  pub nodes : (a : ℕ) (cell : NodeCell) → node_at start.cells a ≡ Some cell → IsStartingNode cell
+  pub no_link : (a b : ℕ) → a < length start.names → b < length start.names → link_at start.cells a b ≡ None → a ≡ b
+  pub no_node : (a : ℕ) → a < length start.names → node_at start.cells a ≡ None → ⊥
 
 -- each cell becomes what the entry makes of it
 pub record SetsEntry (old : StartValue) (entry : text.Entry) (new : StartValue) : Type 0 where

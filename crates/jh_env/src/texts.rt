@@ -122,6 +122,5 @@ pub fn env_of_value(alloc: Global, value: &Value) -> Result<Env, EnvTextError>
     let nodes = Nodes::of(alloc, &names)?;
     let mut start = Start::new(alloc, nodes)?;
     setting::set_all(&mut start, &entries)?;
-
     Ok(Env::start(alloc, start)?)
 }

@@ -113,9 +113,13 @@ fn set_link(start: &mut Start, from: &str, to: &str, change: LinkChange) -> Resu
 {
     let source = find(start.nodes(), from)?;
     let destination = find(start.nodes(), to)?;
-    let link = start.link(source, destination).ok_or(EnvTextError::SelfLink)?;
-    let link = change.applied(link).ok_or(EnvTextError::BadAmount)?;
-    start.set_link(source, destination, link)?;
+    let Some(link) = start.link(source, destination) else {
+        return Err(EnvTextError::SelfLink);
+    };
+    let Some(changed) = change.applied(link) else {
+        return Err(EnvTextError::BadAmount);
+    };
+    start.set_link(source, destination, changed)?;
     Ok(())
 }
 
@@ -127,9 +131,13 @@ fn set_node(start: &mut Start, name: &str, change: NodeChange) -> Result<(), Env
         (λ e. own_fault start.old.names (OfNode name.now change) ≡ Some e) }
 {
     let node = find(start.nodes(), name)?;
-    let cell = start.node(node).ok_or(EnvTextError::UnknownNode)?;
-    let cell = change.applied(cell).ok_or(EnvTextError::BadAmount)?;
-    start.set_node(node, cell)?;
+    let Some(cell) = start.node(node) else {
+        return Err(EnvTextError::UnknownNode);
+    };
+    let Some(changed) = change.applied(cell) else {
+        return Err(EnvTextError::BadAmount);
+    };
+    start.set_node(node, changed)?;
     Ok(())
 }
 

@@ -1,0 +1,165 @@
+-- Facts about the cells that entries tell.
+use Rattle.std.proofs.Common.{◌≡◌, ℕ, ◌<◌, Bool, true, false, List, [], length, get_or, position, bytes_eq, Option, Some, None, option_map, sym, ◌∙◌, ap, refl, subst, pos, negsuc, arith}
+use Rattle.std.specs.Prelude.{nat_lt, slice_index_or, ◌+◌, ◌*◌, int_le, ◌-◌, ◌^◌, if◌then◌else◌, ◌&&◌, ◌==◌, not}
+use Rattle.std.proofs.lemmas.Bool.{and_parts, eqb-true, eq-eqb, false≢true}
+use Rattle.std.proofs.lemmas.Bool.Decides.{nat_tests}
+use Rattle.std.specs.Int.Signed.{le_z_yes}
+use Rattle.std.proofs.lemmas.Float.{T_from_true}
+use Rattle.std.proofs.lemmas.List.Quantifiers.{position-Some}
+use Rattle.std.proofs.lemmas.Slice.Eq.{bytes_eq-Decides}
+use Rattle.jh_env.specs.declared.cells.Link.{Link}
+use Rattle.jh_env.specs.declared.cells.NodeCell.{NodeCell}
+use Rattle.jh_env.specs.declared.texts.EnvTextError.TheVariants.{UnknownNode, SelfLink, BadAmount}
+use Rattle.jh_env.specs.declared.texts.entries.LinkChange.{LinkChange}
+use Rattle.jh_env.specs.declared.texts.entries.NodeChange.{NodeChange}
+use Rattle.jh_env.specs.declared.texts.entries.LinkChange.TheVariants as LinkChange
+use Rattle.jh_env.specs.declared.texts.entries.NodeChange.TheVariants as NodeChange
+use Rattle.jh_env.specs.declared.starting.StartError.{StartError}
+use Rattle.jh_env.specs.declared.starting.StartError.TheVariants as StartError
+use Rattle.jh_env.specs.Cells.{Table, calm, link_at, node_at}
+use Rattle.jh_env.specs.Faults.{same_link}
+use Rattle.jh_env.specs.Starting.{StartValue, SetsLink, SetsNode, IsStartingLink, IsStartingNode, RefusesLink, RefusesNode}
+use Rattle.jh_env.specs.Text.{Entry, OfLink, OfNode}
+use Rattle.jh_env.specs.TextCells.{link_after, node_after, link_with, node_with}
+use Rattle.jh_env.specs.TextFaults.{place_of, own_fault, is_link_amount, is_node_amount}
+use Rattle.jh_env.specs.TextInside.{AreStarting, SetsEntry}
+
+-- a place is one of the names'
+pub place_below : (names : List (List ℕ)) (name : List ℕ) (a : ℕ) → place_of names name ≡ Some a → a < length names
+place_below names name a at = (position-Some (bytes_eq name) names a [] at).0
+
+-- the name at its place is the one that was looked for
+name_there : (names : List (List ℕ)) (name : List ℕ) (a : ℕ) → place_of names name ≡ Some a → name ≡ get_or names a []
+name_there names name a at = (bytes_eq-Decides name (get_or names a [])).0 (position-Some (bytes_eq name) names a [] at).1
+
+-- names at one place are one name
+pub same_name : (names : List (List ℕ)) (from to : List ℕ) (a b : ℕ) → place_of names from ≡ Some a → place_of names to ≡ Some b → a ≡ b → bytes_eq from to ≡ true
+same_name names from to a b from_at to_at same =
+    (bytes_eq-Decides from to).1 (name_there names from a from_at ∙ ap (λ p. get_or names p []) same ∙ sym (name_there names to b to_at))
+
+-- names at two places are two names
+pub other_name : (names : List (List ℕ)) (from to : List ℕ) (a b : ℕ) → place_of names from ≡ Some a → place_of names to ≡ Some b → (a ≡ b → ⊥) → bytes_eq from to ≡ false
+other_name names from to a b from_at to_at apart =
+    elim (bytes_eq from to) as (λ t. bytes_eq from to ≡ t → t ≡ false) [
+      | true ↦ λ is.
+          let same : from ≡ to = (bytes_eq-Decides from to).0 is in
+          let e : Some a ≡ Some b = sym from_at ∙ ap (place_of names) same ∙ to_at in
+          let eq : a ≡ b = cc in
+          absurd (apart eq)
+      | false ↦ λ is. refl
+    ] refl
+
+-- the fault of an entry of a link whose ends are nodes
+pub own_fault-link : (names : List (List ℕ)) (from to : List ℕ) (says : LinkChange) (a b : ℕ) → place_of names from ≡ Some a → place_of names to ≡ Some b
+    → own_fault names (OfLink from to says) ≡ (if bytes_eq from to then Some SelfLink else if not (is_link_amount says) then Some BadAmount else None)
+own_fault-link names from to says a b from_at to_at = rw (from_at, to_at) refl
+
+-- the fault of an entry of a node that is one
+pub own_fault-node : (names : List (List ℕ)) (name : List ℕ) (says : NodeChange) (a : ℕ) → place_of names name ≡ Some a
+    → own_fault names (OfNode name says) ≡ (if not (is_node_amount says) then Some BadAmount else None)
+own_fault-node names name says a at = rw at refl
+
+-- a link that is set is what its entry makes of it
+pub sets_link : (old new : StartValue) (from to : List ℕ) (says : LinkChange) (a b : ℕ) (link : Link)
+    → place_of old.names from ≡ Some a → place_of old.names to ≡ Some b → link_at old.cells a b ≡ Some link
+    → AreStarting old → SetsLink old a b (link_with says link) new → SetsEntry old (OfLink from to says) new
+sets_link old new from to says a b link from_at to_at was starting sets = record {
+  names = sets.names;
+  links = λ c d. rw (sets.links c d, from_at, to_at)
+    (elim (same_link (c, d) (a, b))
+      as (λ t. same_link (c, d) (a, b) ≡ t → (if t then Some (link_with says link) else link_at old.cells c d)
+            ≡ option_map (λ l. if t then link_with says l else l) (link_at old.cells c d)) [
+        | true ↦ λ is.
+            let parts = and_parts (c == a) (d == b) is in
+            rw (eqb-true c a parts.0, eqb-true d b parts.1, was) refl
+        | false ↦ λ is. elim (link_at old.cells c d) as (λ o. o ≡ option_map (λ l. l) o) [ Some l ↦ refl | None ↦ refl ]
+      ] refl);
+  nodes = λ c. rw (sets.nodes c) (elim (node_at old.cells c) as (λ o. o ≡ option_map (λ l. l) o) [ Some l ↦ refl | None ↦ refl ]);
+  starting = record {
+    links = λ c d l at. elim (same_link (c, d) (a, b))
+      as (λ t. (if t then Some (link_with says link) else link_at old.cells c d) ≡ Some l → IsStartingLink l) [
+        | true ↦ λ e. let same : link_with says link ≡ l = cc in subst IsStartingLink same sets.amounts
+        | false ↦ λ e. starting.links c d l e
+      ] (sym (sets.links c d) ∙ at);
+    nodes = λ c n at. starting.nodes c n (sym (sets.nodes c) ∙ at);
+    no_link = λ c d p q none. elim (same_link (c, d) (a, b))
+      as (λ t. (if t then Some (link_with says link) else link_at old.cells c d) ≡ None → c ≡ d) [
+        | true ↦ λ e. absurd cc
+        | false ↦ λ e. starting.no_link c d (rw (← sets.names) p) (rw (← sets.names) q) e
+      ] (sym (sets.links c d) ∙ none);
+    no_node = λ c p none. starting.no_node c (rw (← sets.names) p) (sym (sets.nodes c) ∙ none);
+  };
+}
+
+-- a node that is set is what its entry makes of it
+pub sets_node : (old new : StartValue) (name : List ℕ) (says : NodeChange) (a : ℕ) (cell : NodeCell)
+    → place_of old.names name ≡ Some a → node_at old.cells a ≡ Some cell
+    → AreStarting old → SetsNode old a (node_with says cell) new → SetsEntry old (OfNode name says) new
+sets_node old new name says a cell at was starting sets = record {
+  names = sets.names;
+  links = λ c d. rw (sets.links c d) (elim (link_at old.cells c d) as (λ o. o ≡ option_map (λ l. l) o) [ Some l ↦ refl | None ↦ refl ]);
+  nodes = λ c. rw (sets.nodes c, at)
+    (elim (c == a)
+      as (λ t. (c == a) ≡ t → (if t then Some (node_with says cell) else node_at old.cells c)
+            ≡ option_map (λ n. if t then node_with says n else n) (node_at old.cells c)) [
+        | true ↦ λ is. rw (eqb-true c a is, was) refl
+        | false ↦ λ is. elim (node_at old.cells c) as (λ o. o ≡ option_map (λ n. n) o) [ Some n ↦ refl | None ↦ refl ]
+      ] refl);
+  starting = record {
+    links = λ c d l at_link. starting.links c d l (sym (sets.links c d) ∙ at_link);
+    nodes = λ c n at_node. elim (c == a)
+      as (λ t. (if t then Some (node_with says cell) else node_at old.cells c) ≡ Some n → IsStartingNode n) [
+        | true ↦ λ e. let same : node_with says cell ≡ n = cc in subst IsStartingNode same sets.amount
+        | false ↦ λ e. starting.nodes c n e
+      ] (sym (sets.nodes c) ∙ at_node);
+    no_link = λ c d p q none. starting.no_link c d (rw (← sets.names) p) (rw (← sets.names) q) (sym (sets.links c d) ∙ none);
+    no_node = λ c p none. elim (c == a)
+      as (λ t. (if t then Some (node_with says cell) else node_at old.cells c) ≡ None → ⊥) [
+        | true ↦ λ e. absurd cc
+        | false ↦ λ e. starting.no_node c (rw (← sets.names) p) e
+      ] (sym (sets.nodes c) ∙ none);
+  };
+}
+
+-- a link between two nodes that is in its ranges is not refused
+pub link_not_refused : (s : StartValue) (a b : ℕ) (l : Link) (e : StartError) → a < length s.names → b < length s.names → (a ≡ b → ⊥) → IsStartingLink l
+    → RefusesLink s a b l e → ⊥
+link_not_refused s a b l StartError.UnknownNode p q apart good refused = refused (p, q)
+link_not_refused s a b l StartError.SelfLink p q apart good refused = apart refused.1
+link_not_refused s a b l StartError.BadAmount p q apart good refused = refused.2 good
+
+-- nor is a node
+pub node_not_refused : (s : StartValue) (a : ℕ) (n : NodeCell) (e : StartError) → a < length s.names → IsStartingNode n → RefusesNode s a n e → ⊥
+node_not_refused s a n StartError.UnknownNode p good refused = omega arith
+node_not_refused s a n StartError.SelfLink p good refused = refused
+node_not_refused s a n StartError.BadAmount p good refused = refused.1 good
+
+-- what is said within its range keeps a link within its ranges
+pub link_with-starts : (says : LinkChange) (link : Link) → is_link_amount says ≡ true → IsStartingLink link → IsStartingLink (link_with says link)
+link_with-starts LinkChange.Cut link good starts = starts
+link_with-starts (LinkChange.Delay (pos n)) link good starts = (grind (arith, nat_tests), starts.1)
+link_with-starts (LinkChange.Delay (negsuc n)) link good starts = absurd cc
+link_with-starts (LinkChange.Loss (pos n)) link good starts = (starts.0, grind (arith, nat_tests))
+link_with-starts (LinkChange.Loss (negsuc n)) link good starts = absurd cc
+
+-- and so of a node
+pub node_with-starts : (says : NodeChange) (cell : NodeCell) → is_node_amount says ≡ true → IsStartingNode cell → IsStartingNode (node_with says cell)
+node_with-starts NodeChange.Pause cell good starts = starts
+node_with-starts NodeChange.Kill cell good starts = starts
+node_with-starts (NodeChange.Clock ms) cell good starts =
+    let parts = and_parts (int_le (negsuc (10 ^ 12 - 1)) ms) (int_le ms (pos (10 ^ 12))) good in
+    (le_z_yes (T_from_true _ parts.0), le_z_yes (T_from_true _ parts.1))
+
+-- what a test chose
+pub chosen : {A : Type 0} (test : Bool) (x y : A) → (if test then Some x else None) ≡ Some y → (test ≡ true) × (y ≡ x)
+chosen true x y is = (refl, cc)
+chosen false x y is = absurd cc
+
+-- there is no link from a node to itself
+pub link_apart : (cells : Table) (a b : ℕ) (link : Link) → link_at cells a b ≡ Some link → a ≡ b → ⊥
+link_apart cells a b link there same =
+    let count = length cells.nodes in
+    let test = (chosen (nat_lt a count && (nat_lt b count && not (a == b))) (slice_index_or cells.links (a * count + b) calm) link there).0 in
+    let differ = (and_parts (nat_lt b count) (not (a == b)) (and_parts (nat_lt a count) (nat_lt b count && not (a == b)) test).1).1 in
+    let bad : not true ≡ true = rw (eq-eqb a b same) at differ in
+    false≢true bad

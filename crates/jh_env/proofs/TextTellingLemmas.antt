@@ -1,0 +1,132 @@
+-- A walk over the entries of a text that sets what they tell.
+use Rattle.std.proofs.Common.{◌≡◌, ℕ, zero, suc, ◌+◌, ◌<◌, ◌≤◌, Bool, true, false, List, [], length, get_or, take, fold, Option, Some, None, option_map, option_and_then, sym, ◌∙◌, ap, refl, subst, arith, inl, inr}
+use Rattle.std.specs.Prelude.{if◌then◌else◌, ◌&&◌, ◌==◌, not, nat_lt, slice_get, pos}
+use Rattle.std.specs.List.{list_any}
+use Rattle.std.specs.Option.{option_or}
+use Rattle.std.specs.Int.Signed.{le_z_yes}
+use Rattle.std.proofs.lemmas.Bool.{eqb-true, lt-ltb, cases_lt}
+use Rattle.std.proofs.lemmas.List.{take_all, take-map, length-map}
+use Rattle.std.proofs.lemmas.List.Sums.{fold_more}
+use Rattle.std.proofs.lemmas.Option.{slice_get-get_or, slice_get_past, slice_get-map}
+use borrow.Author.Count.{below_more}
+use Rattle.jh_env.specs.declared.cells.Link.{Link}
+use Rattle.jh_env.specs.declared.cells.NodeCell.{NodeCell}
+use Rattle.jh_env.specs.declared.texts.EnvTextError.{EnvTextError}
+use Rattle.jh_env.specs.declared.texts.EnvTextError.TheVariants.{RepeatedEntry}
+use Rattle.jh_env.specs.Cells.{calm, running, link_at, node_at}
+use Rattle.jh_env.specs.Starting.{StartValue, IsCalm, IsStartingLink, IsStartingNode}
+use Rattle.jh_env.specs.Text.{Entry}
+use Rattle.jh_env.specs.TextCells.{link_after, node_after, AreTold}
+use Rattle.jh_env.specs.TextFaults.{own_fault, fault_after, fault_at, repeats, AreSound, HasFault}
+use Rattle.jh_env.specs.TextInside.{AreStarting, SetsEntry, entry_said, entries_said}
+use Rattle.jh_env.specs.declared.texts.entries.Entry.TheVariants as said
+use Rattle.jh_env.proofs.NameLemmas.{list_any-map}
+
+-- the first i entries are set, and none of them is at fault
+pub record AreSet (names : List (List ℕ)) (entries : List Entry) (i : ℕ) (start : StartValue) : Type 0 where
+  pub named : start.names ≡ names
+  pub told : AreTold names (take i entries) start.cells
+  pub sound : (k : ℕ) → k < i → fault_at names entries k ≡ None
+  pub starting : AreStarting start
+
+if-Some : {A : Type 0} (test : Bool) (x y : A) → (if test then Some x else None) ≡ Some y → y ≡ x
+if-Some true x y is = cc
+if-Some false x y is = absurd cc
+
+calm_starts : (link : Link) → link ≡ calm → IsStartingLink link
+calm_starts link is = rw is (omega arith, omega arith)
+
+running_starts : (cell : NodeCell) → cell ≡ running → IsStartingNode cell
+running_starts cell is = rw is (le_z_yes tt, le_z_yes tt)
+
+-- where nothing is set yet
+pub none_set : (entries : List Entry) (start : StartValue) → IsCalm start → AreSet start.names entries 0 start
+none_set entries start quiet = record {
+  named = refl;
+  told = record { links = quiet.links; nodes = quiet.nodes };
+  sound = λ k below. absurd (omega arith);
+  starting = record {
+    links = λ a b link at. calm_starts link (if-Some _ calm link (sym (quiet.links a b) ∙ at));
+    nodes = λ a cell at. running_starts cell (if-Some _ running cell (sym (quiet.nodes a) ∙ at));
+    no_link = λ a b p q none.
+      elim (a == b) as (λ t. (a == b) ≡ t → a ≡ b) [
+        | true ↦ λ is. eqb-true a b is
+        | false ↦ λ is.
+            let there : link_at start.cells a b ≡ Some calm = quiet.links a b ∙ rw (lt-ltb a (length start.names) p, lt-ltb b (length start.names) q, is) refl in
+            absurd cc
+      ] refl;
+    no_node = λ a p none.
+      let there : node_at start.cells a ≡ Some running = quiet.nodes a ∙ rw (lt-ltb a (length start.names) p) refl in
+      absurd cc;
+  };
+}
+
+option_map-if : {A : Type 0} (test : Bool) (f : A → A) (x : A) → option_map f (if test then Some x else None) ≡ (if test then Some (f x) else None)
+option_map-if true f x = refl
+option_map-if false f x = refl
+
+-- the entry at a place
+at_place : (entries : List Entry) (i : ℕ) (entry : Entry) → i < length entries → slice_get entries i ≡ Some entry → get_or entries i entry ≡ entry
+at_place entries i entry below at = let e = slice_get-get_or entries i entry below in cc
+
+-- the fault of the entry at a place, where it is known
+fault_at-own : (names : List (List ℕ)) (entries : List Entry) (i : ℕ) (entry : Entry) (fault : EnvTextError) → slice_get entries i ≡ Some entry
+    → own_fault names entry ≡ Some fault → fault_at names entries i ≡ Some fault
+fault_at-own names entries i entry fault at own = rw (at, own) refl
+
+fault_at-others : (names : List (List ℕ)) (entries : List Entry) (i : ℕ) (entry : Entry) (repeated : Bool) → slice_get entries i ≡ Some entry
+    → own_fault names entry ≡ None → list_any (repeats entry) (take i entries) ≡ repeated
+    → fault_at names entries i ≡ (if repeated then Some RepeatedEntry else None)
+fault_at-others names entries i entry repeated at own among = rw (at, own, among) refl
+
+-- one more entry is set
+pub more_set : (names : List (List ℕ)) (entries : List Entry) (i : ℕ) (entry : Entry) (start new : StartValue)
+    → i < length entries → slice_get entries i ≡ Some entry → own_fault start.names entry ≡ None → list_any (repeats entry) (take i entries) ≡ false
+    → AreSet names entries i start → SetsEntry start entry new → AreSet names entries (i + 1) new
+more_set names entries i entry start new below at own once set sets =
+    let here = at_place entries i entry below at in
+    let own_here : own_fault names entry ≡ None = rw (← set.named) own in
+    record {
+      named = sets.names ∙ set.named;
+      told = record {
+        links = λ a b. sets.links a b ∙ rw (set.told.links a b, set.named)
+          (option_map-if _ (λ link. link_after names a b link entry) _
+            ∙ rw (fold_more (link_after names a b) calm entries i entry below, here) refl);
+        nodes = λ a. sets.nodes a ∙ rw (set.told.nodes a, set.named)
+          (option_map-if _ (λ cell. node_after names a cell entry) _
+            ∙ rw (fold_more (node_after names a) running entries i entry below, here) refl);
+      };
+      sound = below_more (λ k. fault_at names entries k ≡ None) i set.sound (fault_at-others names entries i entry false at own_here once);
+      starting = sets.starting;
+    }
+
+-- all are set
+pub all_set : (names : List (List ℕ)) (entries : List Entry) (i : ℕ) (start : StartValue) → length entries ≤ i → AreSet names entries i start
+    → (start.names ≡ names) × AreSound names entries × AreTold names entries start.cells
+all_set names entries i start past set =
+    (set.named,
+      λ k. elim (cases_lt k i) [ inl below ↦ set.sound k below | inr beyond ↦ let past_it : length entries ≤ k = omega arith in rw (slice_get_past entries k past_it) refl ],
+      subst (λ first. AreTold names first start.cells) (take_all i entries past) set.told)
+
+-- the next entry is at fault by itself
+pub own_first : (names : List (List ℕ)) (entries : List Entry) (i : ℕ) (entry : Entry) (start : StartValue) (fault : EnvTextError)
+    → slice_get entries i ≡ Some entry → AreSet names entries i start → own_fault start.names entry ≡ Some fault → HasFault names entries fault
+own_first names entries i entry start fault at set own = (i, fault_at-own names entries i entry fault at (rw (← set.named) own), set.sound)
+
+-- the next entry repeats one before it
+pub repeated_first : (names : List (List ℕ)) (entries : List Entry) (i : ℕ) (entry : Entry) (start : StartValue)
+    → slice_get entries i ≡ Some entry → AreSet names entries i start → own_fault start.names entry ≡ None → list_any (repeats entry) (take i entries) ≡ true
+    → HasFault names entries RepeatedEntry
+repeated_first names entries i entry start at set own twice = (i, fault_at-others names entries i entry true at (rw (← set.named) own) twice, set.sound)
+
+-- an entry that a program reads, as it is told
+pub said_at : (entries : List said.the_data) (i : ℕ) (d : said.the_data) → i < length entries → slice_get (entries_said entries) i ≡ Some (entry_said (get_or entries i d))
+said_at entries i d below = slice_get-map entry_said entries i ∙ ap (option_map entry_said) (slice_get-get_or entries i d below)
+
+-- a test of those before it
+pub among_said : (test : Entry → Bool) (entries : List said.the_data) (i : ℕ) → list_any test (take i (entries_said entries)) ≡ list_any (λ entry. test (entry_said entry)) (take i entries)
+among_said test entries i = ap (list_any test) (take-map entry_said i entries) ∙ list_any-map test entry_said (take i entries)
+
+-- as many are told
+pub length-entries_said : (entries : List said.the_data) → length (entries_said entries) ≡ length entries
+length-entries_said entries = length-map entries entry_said
