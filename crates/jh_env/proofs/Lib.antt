@@ -2,6 +2,7 @@ pub mod TextLemmas
 pub mod TextCellLemmas
 pub mod TextTellingLemmas
 pub mod TextRefusalLemmas
+pub mod TextWritingLemmas
 pub mod NameLemmas
 pub mod FaultLemmas
 pub mod LayingLemmas

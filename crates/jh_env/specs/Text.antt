@@ -13,6 +13,11 @@ use Rattle.jh_env.specs.declared.texts.entries.LinkChange.TheVariants as LinkCha
 use Rattle.jh_env.specs.declared.texts.entries.NodeChange.{NodeChange}
 use Rattle.jh_env.specs.declared.texts.entries.NodeChange.TheVariants as NodeChange
 
+infixl 10 ◌>>=◌
+-- what f gives of a value, where there is one
+abbrev pub ◌>>=◌ : {A B : Type 0} → Option A → (A → Option B) → Option B
+o >>= f = option_and_then f o
+
 -- An entry: the names of a link's ends, or of a node, and what is said of it.
 pub data Entry : Type 0 where
   OfLink : List ℕ → List ℕ → LinkChange → Entry
@@ -53,7 +58,10 @@ entry_of _ _ = None
 -- what f gives of each, where it gives something of all
 abbrev pub each_of : {A B : Type 0} → (A → Option B) → List A → Option (List B)
 each_of f [] = Some []
-each_of f (x ∷ xs) = option_and_then (λ y. option_map (λ ys. y ∷ ys) (each_of f xs)) (f x)
+each_of f (x ∷ xs) = do
+  y ← f x
+  ys ← each_of f xs
+  Some (y ∷ ys)
 
 -- the keyword under which a section's entries stand, without its colon
 abbrev pub keyword_of : Section → List ℕ
@@ -85,15 +93,15 @@ value_under name pairs = option_map (λ pair. pair.1) (find (λ pair. is_keyword
 
 -- the names: strings
 abbrev pub names_of : Edn → Option (List (List ℕ))
-names_of value = option_and_then (each_of text_of_string) (elements_of value)
+names_of value = elements_of value >>= each_of text_of_string
 
 -- the entry that one value spells under a key: a sequence
 abbrev pub entry_in : Section → Edn → Option Entry
-entry_in section value = option_and_then (entry_of section) (elements_of value)
+entry_in section value = elements_of value >>= entry_of section
 
 -- the entries of the value under a key: a sequence of them
 abbrev pub entries_of : Section → Edn → Option (List Entry)
-entries_of section value = option_and_then (each_of (entry_in section)) (elements_of value)
+entries_of section value = elements_of value >>= each_of (entry_in section)
 
 -- the entries of a section: a missing key means none
 abbrev pub entries_under : List (Edn × Edn) → Section → Option (List Entry)
@@ -123,6 +131,7 @@ all_entries pairs = option_map (flat_map (λ entries. entries)) (each_of (entrie
 
 -- the names and entries, where each value is of its shape
 abbrev pub shape_of : Keys → Option Shape
-shape_of keys =
-    option_and_then (λ names. option_map (λ entries. record { names = names; entries = entries }) (all_entries keys.pairs))
-      (names_of keys.nodes)
+shape_of keys = do
+  names ← names_of keys.nodes
+  entries ← all_entries keys.pairs
+  Some (record { names = names; entries = entries })

@@ -1,6 +1,6 @@
 -- The text that is written of an environment (this project's own): all six keys in order, and under them what is
 -- not calm or not running, links by the place of their source and then of their destination, nodes by place.
-use Rattle.std.specs.Prelude.{ℕ, ◌==◌, Bool, true, false, ℤ, pos, nat_lt, List, [], ◌∷◌, map, length, filter_map, flat_map, if◌then◌else◌, codes, slice_index_or, Option, Some, None, option_map, option_and_then}
+use Rattle.std.specs.Prelude.{ℕ, ◌-◌, ◌^◌, ◌==◌, min, Bool, true, false, ℤ, pos, nat_lt, List, [], ◌∷◌, map, length, filter_map, flat_map, if◌then◌else◌, codes, slice_get, Option, Some, None}
 use Rattle.std.specs.List.{range_with_len}
 use Rattle.jh_edn.specs.Edn.{Edn, int, str, keyword, vector, mapping, items_of, members_of}
 use Rattle.jh_env.specs.declared.cells.Life.{Life}
@@ -14,12 +14,16 @@ use Rattle.jh_env.specs.declared.texts.entries.LinkChange.TheVariants as LinkCha
 use Rattle.jh_env.specs.declared.texts.entries.NodeChange.{NodeChange}
 use Rattle.jh_env.specs.declared.texts.entries.NodeChange.TheVariants as NodeChange
 use Rattle.jh_env.specs.Overlay.{EnvValue, link_of, node_of}
-use Rattle.jh_env.specs.Text.{Entry, OfLink, OfNode, keyword_of, nodes_keyword, sections}
+use Rattle.jh_env.specs.Text.{◌>>=◌, Entry, OfLink, OfNode, keyword_of, nodes_keyword, sections}
+
+-- the greatest integer that an element can hold, as which a longer delay would be written
+abbrev pub most_written : ℕ
+most_written = 2 ^ 63 - 1
 
 -- what a link is said to be under a key, if anything
 abbrev pub link_part : Section → Link → Option LinkChange
 link_part Section.Cut link = if link.cut then Some LinkChange.Cut else None
-link_part Section.Slow link = if nat_lt 0 link.delay then Some (LinkChange.Delay (pos link.delay)) else None
+link_part Section.Slow link = if nat_lt 0 link.delay then Some (LinkChange.Delay (pos (min link.delay most_written))) else None
 link_part Section.Loss link = if nat_lt 0 link.loss then Some (LinkChange.Loss (pos link.loss)) else None
 link_part _ link = None
 
@@ -38,18 +42,22 @@ node_part Section.Down node = life_part node.process
 node_part Section.Clock node = if is_zero node.clock then None else Some (NodeChange.Clock node.clock)
 node_part _ node = None
 
--- the name at a place
-abbrev pub name_at : EnvValue → ℕ → List ℕ
-name_at env a = slice_index_or env.names a []
-
 -- the entry of the link from a to b under a key, if there is one
 abbrev pub link_entry : EnvValue → Section → ℕ → ℕ → Option Entry
-link_entry env section a b =
-    option_map (OfLink (name_at env a) (name_at env b)) (option_and_then (link_part section) (link_of env a b))
+link_entry env section a b = do
+  from ← slice_get env.names a
+  to ← slice_get env.names b
+  link ← link_of env a b
+  says ← link_part section link
+  Some (OfLink from to says)
 
 -- the entry of the node a under a key, if there is one
 abbrev pub node_entry : EnvValue → Section → ℕ → Option Entry
-node_entry env section a = option_map (OfNode (name_at env a)) (option_and_then (node_part section) (node_of env a))
+node_entry env section a = do
+  name ← slice_get env.names a
+  cell ← node_of env a
+  says ← node_part section cell
+  Some (OfNode name says)
 
 -- the places of the nodes
 abbrev pub places : EnvValue → List ℕ

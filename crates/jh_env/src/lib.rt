@@ -13,3 +13,4 @@ pub use environment::{Env, MOST_LAID};
 pub use faults::{Fault, FaultError};
 pub use names::{Node, Nodes, NodesError};
 pub use starting::{Start, StartError};
+pub use texts::{EnvTextError, env_of_value, value_of_env};

@@ -9,15 +9,17 @@ ghost use Rattle.jh_edn.specs.View.{view};
 ghost use Rattle.jh_env.specs.Overlay.{StandsFor};
 ghost use Rattle.jh_env.specs.TextCells.{IsTextOf};
 ghost use Rattle.jh_env.specs.TextFaults.{RefusesText};
+ghost use Rattle.jh_env.specs.TextWritten.{text_of};
 
 mod entries;
 mod reading;
 mod setting;
+mod writing;
 
 use crate::environment::Env;
 use crate::names::{Nodes, NodesError};
 use crate::starting::{Start, StartError};
-use jh_edn::Value;
+use jh_edn::{Pairs, Value};
 use std::alloc::{AllocError, AllocFailed, Global};
 use thiserror::Error;
 
@@ -123,4 +125,13 @@ pub fn env_of_value(alloc: Global, value: &Value) -> Result<Env, EnvTextError>
     let mut start = Start::new(alloc, nodes)?;
     setting::set_all(&mut start, &entries)?;
     Ok(Env::start(alloc, start)?)
+}
+
+/// The text of an environment as it is now: all six keys in the order `:nodes :cut :slow :loss :down :clock`, and
+/// under them only what is not calm or not running, links by the place of their source and then of their
+/// destination, nodes by place.
+pub fn value_of_env(alloc: Global, env: &Env) -> Result<Value, AllocError>
+    ensures { IfOk result (λ value. view value ≡ text_of env.now) }
+{
+    Ok(Value::Map(Pairs::of(writing::pairs_of(alloc, env)?)))
 }

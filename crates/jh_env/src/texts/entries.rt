@@ -17,6 +17,15 @@ pub enum Section {
     Clock,
 }
 
+/// The sections, in their order.
+pub const SECTIONS: [Section; 5] = [
+    Section::Cut,
+    Section::Slow,
+    Section::Loss,
+    Section::Down,
+    Section::Clock,
+];
+
 /// What an entry says of a link.
 #[derive(Clone, Copy, Debug)]
 pub enum LinkChange {

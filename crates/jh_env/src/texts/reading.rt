@@ -7,18 +7,10 @@ ghost use Rattle.jh_env.specs.Text as text;
 ghost use Rattle.jh_env.specs.Text.{nodes_keyword, sections};
 ghost use Rattle.jh_env.specs.TextInside.{entries_said, with_front, RefusesShape};
 
-use super::entries::{Entry, Section, elements_of};
+use super::entries::{Entry, SECTIONS, Section, elements_of};
 use super::EnvTextError;
 use jh_edn::Value;
 use std::alloc::Global;
-
-const SECTIONS: [Section; 5] = [
-    Section::Cut,
-    Section::Slow,
-    Section::Loss,
-    Section::Down,
-    Section::Clock,
-];
 
 fn is_keyword(value: &Value, name: &str) -> bool
     ensures { result ≡ text.is_keyword name.now (view value.now) }

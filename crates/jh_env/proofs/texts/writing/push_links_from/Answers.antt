@@ -1,0 +1,7 @@
+use Rattle.std.proofs.Common.{arith}
+use Rattle.std.proofs.lemmas.Grind.{common_steps}
+use Rattle.std.proofs.lemmas.List.Elements.{filter_map-append}
+use Rattle.jh_env.proofs.texts.writing.push_links_from.Goals as goal
+
+pub loop-to-preserved : goal.loop-to-preserved
+loop-to-preserved c = grind (arith, common_steps, filter_map-append)
