@@ -10,3 +10,6 @@ mod timeline;
 pub use laws::{refused_stays, withdrawal_ends_begin, withdrawal_leaves_others};
 pub use nemesis::Nemesis;
 pub use steps::{BeginError, MOST_ACTIVE, MOST_STEPS, Step, StepAnswer, WithdrawError};
+
+#[cfg(test)]
+mod tests;

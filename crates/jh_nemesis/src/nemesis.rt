@@ -143,7 +143,7 @@ impl Nemesis {
         if active.len() >= MOST_ACTIVE {
             return StepAnswer::TooManyActive;
         }
-        if self.timeline.past_len() >= MOST_STEPS {
+        if self.timeline.is_full() {
             return StepAnswer::TooManySteps;
         }
         StepAnswer::Ok
@@ -157,7 +157,7 @@ impl Nemesis {
         if !is_active(&self.begun, self.timeline.now(), id) {
             return StepAnswer::NotActive;
         }
-        if self.timeline.past_len() >= MOST_STEPS {
+        if self.timeline.is_full() {
             return StepAnswer::TooManySteps;
         }
         StepAnswer::Ok

@@ -1,6 +1,6 @@
 //! The moments that a nemesis goes through. `specs/Timeline.antt` says what a change of them is.
 
-ghost use Rattle.std.specs.Prelude.{◌≡◌, ◌<◌, [], length, OnOk};
+ghost use Rattle.std.specs.Prelude.{◌≡◌, ◌<◌, [], length, nat_le, OnOk};
 ghost use Rattle.jh_nemesis.specs.Timeline.{SameMoments, MovesOn};
 
 use crate::steps::{MOST_ACTIVE, MOST_STEPS};
@@ -51,10 +51,11 @@ impl Timeline {
         &self.current
     }
 
-    pub fn past_len(&self) -> usize
-        ensures { result ≡ length self.now.past }
+    /// Whether no further moment can be kept.
+    pub fn is_full(&self) -> bool
+        ensures { result ≡ nat_le MOST_STEPS (length self.now.past) }
     {
-        self.past.len()
+        self.past.len() >= MOST_STEPS
     }
 
     /// Takes the memory for one more moment, and for going back from it and forth again.
