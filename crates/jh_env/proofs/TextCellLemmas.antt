@@ -66,9 +66,9 @@ pub sets_link : (old new : StartValue) (from to : List ℕ) (says : LinkChange) 
 sets_link old new from to says a b link from_at to_at was starting sets = record {
   names = sets.names;
   links = λ c d. rw (sets.links c d, from_at, to_at)
-    (elim (same_link (c, d) (a, b))
+      (elim (same_link (c, d) (a, b))
       as (λ t. same_link (c, d) (a, b) ≡ t → (if t then Some (link_with says link) else link_at old.cells c d)
-            ≡ option_map (λ l. if t then link_with says l else l) (link_at old.cells c d)) [
+      ≡ option_map (λ l. if t then link_with says l else l) (link_at old.cells c d)) [
         | true ↦ λ is.
             let parts = and_parts (c == a) (d == b) is in
             rw (eqb-true c a parts.0, eqb-true d b parts.1, was) refl
@@ -77,16 +77,16 @@ sets_link old new from to says a b link from_at to_at was starting sets = record
   nodes = λ c. rw (sets.nodes c) (elim (node_at old.cells c) as (λ o. o ≡ option_map (λ l. l) o) [ Some l ↦ refl | None ↦ refl ]);
   starting = record {
     links = λ c d l at. elim (same_link (c, d) (a, b))
-      as (λ t. (if t then Some (link_with says link) else link_at old.cells c d) ≡ Some l → IsStartingLink l) [
-        | true ↦ λ e. let same : link_with says link ≡ l = cc in subst IsStartingLink same sets.amounts
-        | false ↦ λ e. starting.links c d l e
-      ] (sym (sets.links c d) ∙ at);
+        as (λ t. (if t then Some (link_with says link) else link_at old.cells c d) ≡ Some l → IsStartingLink l) [
+          | true ↦ λ e. let same : link_with says link ≡ l = cc in subst IsStartingLink same sets.amounts
+          | false ↦ λ e. starting.links c d l e
+        ] (sym (sets.links c d) ∙ at);
     nodes = λ c n at. starting.nodes c n (sym (sets.nodes c) ∙ at);
     no_link = λ c d p q none. elim (same_link (c, d) (a, b))
-      as (λ t. (if t then Some (link_with says link) else link_at old.cells c d) ≡ None → c ≡ d) [
-        | true ↦ λ e. absurd cc
-        | false ↦ λ e. starting.no_link c d (rw (← sets.names) p) (rw (← sets.names) q) e
-      ] (sym (sets.links c d) ∙ none);
+        as (λ t. (if t then Some (link_with says link) else link_at old.cells c d) ≡ None → c ≡ d) [
+          | true ↦ λ e. absurd cc
+          | false ↦ λ e. starting.no_link c d (rw (← sets.names) p) (rw (← sets.names) q) e
+        ] (sym (sets.links c d) ∙ none);
     no_node = λ c p none. starting.no_node c (rw (← sets.names) p) (sym (sets.nodes c) ∙ none);
   };
 }
@@ -99,25 +99,25 @@ sets_node old new name says a cell at was starting sets = record {
   names = sets.names;
   links = λ c d. rw (sets.links c d) (elim (link_at old.cells c d) as (λ o. o ≡ option_map (λ l. l) o) [ Some l ↦ refl | None ↦ refl ]);
   nodes = λ c. rw (sets.nodes c, at)
-    (elim (c == a)
+      (elim (c == a)
       as (λ t. (c == a) ≡ t → (if t then Some (node_with says cell) else node_at old.cells c)
-            ≡ option_map (λ n. if t then node_with says n else n) (node_at old.cells c)) [
+      ≡ option_map (λ n. if t then node_with says n else n) (node_at old.cells c)) [
         | true ↦ λ is. rw (eqb-true c a is, was) refl
         | false ↦ λ is. elim (node_at old.cells c) as (λ o. o ≡ option_map (λ n. n) o) [ Some n ↦ refl | None ↦ refl ]
       ] refl);
   starting = record {
     links = λ c d l at_link. starting.links c d l (sym (sets.links c d) ∙ at_link);
     nodes = λ c n at_node. elim (c == a)
-      as (λ t. (if t then Some (node_with says cell) else node_at old.cells c) ≡ Some n → IsStartingNode n) [
-        | true ↦ λ e. let same : node_with says cell ≡ n = cc in subst IsStartingNode same sets.amount
-        | false ↦ λ e. starting.nodes c n e
-      ] (sym (sets.nodes c) ∙ at_node);
+        as (λ t. (if t then Some (node_with says cell) else node_at old.cells c) ≡ Some n → IsStartingNode n) [
+          | true ↦ λ e. let same : node_with says cell ≡ n = cc in subst IsStartingNode same sets.amount
+          | false ↦ λ e. starting.nodes c n e
+        ] (sym (sets.nodes c) ∙ at_node);
     no_link = λ c d p q none. starting.no_link c d (rw (← sets.names) p) (rw (← sets.names) q) (sym (sets.links c d) ∙ none);
     no_node = λ c p none. elim (c == a)
-      as (λ t. (if t then Some (node_with says cell) else node_at old.cells c) ≡ None → ⊥) [
-        | true ↦ λ e. absurd cc
-        | false ↦ λ e. starting.no_node c (rw (← sets.names) p) e
-      ] (sym (sets.nodes c) ∙ none);
+        as (λ t. (if t then Some (node_with says cell) else node_at old.cells c) ≡ None → ⊥) [
+          | true ↦ λ e. absurd cc
+          | false ↦ λ e. starting.no_node c (rw (← sets.names) p) e
+        ] (sym (sets.nodes c) ∙ none);
   };
 }
 

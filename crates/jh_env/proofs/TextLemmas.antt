@@ -27,15 +27,15 @@ pub value_under-found : (name : List ℕ) (pairs : List (Value × Value))
 value_under-found name [] = refl
 value_under-found name (p ∷ ps) =
     elim (is_keyword name (view p.0))
-      as (λ b. option_map (λ pair. view pair.1) (if b then Some p else find (λ pair. is_keyword name (view pair.0)) ps)
-            ≡ option_map (λ pair. pair.1) (if b then Some (view_pair p) else find (λ pair. is_keyword name pair.0) (view_pairs ps)))
-      [ true ↦ refl | false ↦ value_under-found name ps ]
+    as (λ b. option_map (λ pair. view pair.1) (if b then Some p else find (λ pair. is_keyword name (view pair.0)) ps)
+    ≡ option_map (λ pair. pair.1) (if b then Some (view_pair p) else find (λ pair. is_keyword name pair.0) (view_pairs ps)))
+    [ true ↦ refl | false ↦ value_under-found name ps ]
 
 -- the keys of a map that a program holds
 pub keys_of-map : (ps : List (Value × Value)) → keys_of (mapping (members_of (view_pairs ps)))
     ≡ (if list_all (λ pair. has_known_key (view_pair pair)) ps
-       then ok_or (option_map (λ nodes. let k : Keys = record { nodes = nodes; pairs = view_pairs ps } in k) (value_under nodes_keyword (view_pairs ps))) MissingNodes
-       else Err UnknownKey)
+    then ok_or (option_map (λ nodes. let k : Keys = record { nodes = nodes; pairs = view_pairs ps } in k) (value_under nodes_keyword (view_pairs ps))) MissingNodes
+    else Err UnknownKey)
 keys_of-map ps = simp (pairs_in-members_of, list_all-map has_known_key view_pair ps)
 
 -- What is told of a list of values is told one after another: a walk over it that has told `front` so far.

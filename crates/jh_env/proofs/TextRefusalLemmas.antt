@@ -23,7 +23,7 @@ IsEntryFault _ = ⊥
 
 kind_of_fault : (known itself good repeated : Bool) (fault : EnvTextError)
     → option_or (if not known then Some UnknownNode else if itself then Some SelfLink else if not good then Some BadAmount else None)
-        (if repeated then Some RepeatedEntry else None) ≡ Some fault
+    (if repeated then Some RepeatedEntry else None) ≡ Some fault
     → IsEntryFault fault
 unfolding IsEntryFault
 kind_of_fault false itself good repeated fault is = let e : UnknownNode ≡ fault = cc in subst IsEntryFault e tt

@@ -49,15 +49,15 @@ none_set entries start quiet = record {
     links = λ a b link at. calm_starts link (if-Some _ calm link (sym (quiet.links a b) ∙ at));
     nodes = λ a cell at. running_starts cell (if-Some _ running cell (sym (quiet.nodes a) ∙ at));
     no_link = λ a b p q none.
-      elim (a == b) as (λ t. (a == b) ≡ t → a ≡ b) [
-        | true ↦ λ is. eqb-true a b is
-        | false ↦ λ is.
-            let there : link_at start.cells a b ≡ Some calm = quiet.links a b ∙ rw (lt-ltb a (length start.names) p, lt-ltb b (length start.names) q, is) refl in
-            absurd cc
-      ] refl;
+        elim (a == b) as (λ t. (a == b) ≡ t → a ≡ b) [
+          | true ↦ λ is. eqb-true a b is
+          | false ↦ λ is.
+              let there : link_at start.cells a b ≡ Some calm = quiet.links a b ∙ rw (lt-ltb a (length start.names) p, lt-ltb b (length start.names) q, is) refl in
+              absurd cc
+        ] refl;
     no_node = λ a p none.
-      let there : node_at start.cells a ≡ Some running = quiet.nodes a ∙ rw (lt-ltb a (length start.names) p) refl in
-      absurd cc;
+        let there : node_at start.cells a ≡ Some running = quiet.nodes a ∙ rw (lt-ltb a (length start.names) p) refl in
+        absurd cc;
   };
 }
 
@@ -90,10 +90,10 @@ more_set names entries i entry start new below at own once set sets =
       named = sets.names ∙ set.named;
       told = record {
         links = λ a b. sets.links a b ∙ rw (set.told.links a b, set.named)
-          (option_map-if _ (λ link. link_after names a b link entry) _
+            (option_map-if _ (λ link. link_after names a b link entry) _
             ∙ rw (fold_more (link_after names a b) calm entries i entry below, here) refl);
         nodes = λ a. sets.nodes a ∙ rw (set.told.nodes a, set.named)
-          (option_map-if _ (λ cell. node_after names a cell entry) _
+            (option_map-if _ (λ cell. node_after names a cell entry) _
             ∙ rw (fold_more (node_after names a) running entries i entry below, here) refl);
       };
       sound = below_more (λ k. fault_at names entries k ≡ None) i set.sound (fault_at-others names entries i entry false at own_here once);
@@ -103,10 +103,11 @@ more_set names entries i entry start new below at own once set sets =
 -- all are set
 pub all_set : (names : List (List ℕ)) (entries : List Entry) (i : ℕ) (start : StartValue) → length entries ≤ i → AreSet names entries i start
     → (start.names ≡ names) × AreSound names entries × AreTold names entries start.cells
-all_set names entries i start past set =
-    (set.named,
-      λ k. elim (cases_lt k i) [ inl below ↦ set.sound k below | inr beyond ↦ let past_it : length entries ≤ k = omega arith in rw (slice_get_past entries k past_it) refl ],
-      subst (λ first. AreTold names first start.cells) (take_all i entries past) set.told)
+all_set names entries i start past set = (
+  set.named,
+  λ k. elim (cases_lt k i) [ inl below ↦ set.sound k below | inr beyond ↦ let past_it : length entries ≤ k = omega arith in rw (slice_get_past entries k past_it) refl ],
+  subst (λ first. AreTold names first start.cells) (take_all i entries past) set.told,
+)
 
 -- the next entry is at fault by itself
 pub own_first : (names : List (List ℕ)) (entries : List Entry) (i : ℕ) (entry : Entry) (start : StartValue) (fault : EnvTextError)

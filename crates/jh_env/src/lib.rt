@@ -14,3 +14,6 @@ pub use faults::{Fault, FaultError};
 pub use names::{Node, Nodes, NodesError};
 pub use starting::{Start, StartError};
 pub use texts::{EnvTextError, env_of_value, value_of_env};
+
+#[cfg(test)]
+mod tests;

@@ -155,7 +155,7 @@ impl Nodes {
     pub fn at(&self, place: u8) -> Option<Node>
         ensures { MatchOption result (length self.now ≤ place) (λ node. (node ≡ place) × (node < length self.now)) }
     {
-        if (place as usize) < self.names.len() {
+        if (place as usize) < self.len() {
             Some(Node { place })
         } else {
             None

@@ -7,8 +7,8 @@ ghost use Rattle.jh_env.specs.Text as text;
 ghost use Rattle.jh_env.specs.Text.{nodes_keyword, sections};
 ghost use Rattle.jh_env.specs.TextInside.{entries_said, with_front, RefusesShape};
 
-use super::entries::{Entry, SECTIONS, Section, elements_of};
 use super::EnvTextError;
+use super::entries::{Entry, SECTIONS, Section, elements_of};
 use jh_edn::Value;
 use std::alloc::Global;
 
@@ -105,7 +105,11 @@ pub fn all_entries(alloc: Global, pairs: &[(Value, Value)]) -> Result<Vec<Entry<
     Ok(entries)
 }
 
-fn push_section<'a>(section: Section, pairs: &'a [(Value, Value)], entries: &mut Vec<Entry<'a>>) -> Result<(), EnvTextError>
+fn push_section<'a>(
+    section: Section,
+    pairs: &'a [(Value, Value)],
+    entries: &mut Vec<Entry<'a>>,
+) -> Result<(), EnvTextError>
     ensures { MatchResult result
         (λ _. with_front (entries_said entries.old.items) (text.entries_under (view_pairs pairs.now) section) ≡ Some (entries_said entries.new.items))
         (RefusesShape (text.entries_under (view_pairs pairs.now) section)) }
@@ -116,7 +120,11 @@ fn push_section<'a>(section: Section, pairs: &'a [(Value, Value)], entries: &mut
     }
 }
 
-fn push_entries<'a>(section: Section, value: &'a Value, entries: &mut Vec<Entry<'a>>) -> Result<(), EnvTextError>
+fn push_entries<'a>(
+    section: Section,
+    value: &'a Value,
+    entries: &mut Vec<Entry<'a>>,
+) -> Result<(), EnvTextError>
     ensures { MatchResult result
         (λ _. with_front (entries_said entries.old.items) (text.entries_of section (view value.now)) ≡ Some (entries_said entries.new.items))
         (RefusesShape (text.entries_of section (view value.now))) }

@@ -10,8 +10,8 @@ ghost use Rattle.jh_env.specs.TextFaults as fault;
 ghost use Rattle.jh_env.specs.TextFaults.{place_of, own_fault, is_link_amount, is_node_amount, AreSound, HasFault};
 ghost use Rattle.jh_env.specs.TextInside.{entry_said, entries_said, AreStarting, SetsEntry};
 
-use super::entries::{Entry, LinkChange, NodeChange};
 use super::EnvTextError;
+use super::entries::{Entry, LinkChange, NodeChange};
 use crate::cells::{Life, Link, NodeCell};
 use crate::names::{Node, Nodes};
 use crate::starting::Start;
@@ -92,7 +92,9 @@ fn repeats(entry: &Entry, other: &Entry) -> bool
     ensures { result ≡ fault.repeats (entry_said entry.now) (entry_said other.now) }
 {
     match (*entry, *other) {
-        (Entry::Link(a, b, change), Entry::Link(c, d, other)) => a == c && b == d && change.has_key_of(other),
+        (Entry::Link(a, b, change), Entry::Link(c, d, other)) => a == c
+            && b == d
+            && change.has_key_of(other),
         (Entry::Node(a, change), Entry::Node(b, other)) => a == b && change.has_key_of(other),
         _ => false,
     }
@@ -108,7 +110,7 @@ fn set_link(start: &mut Start, from: &str, to: &str, change: LinkChange) -> Resu
     requires { AreStarting start.old }
     ensures { MatchResult result
         (λ _. (own_fault start.old.names (OfLink from.now to.now change) ≡ None)
-            × SetsEntry start.old (OfLink from.now to.now change) start.new)
+        × SetsEntry start.old (OfLink from.now to.now change) start.new)
         (λ e. own_fault start.old.names (OfLink from.now to.now change) ≡ Some e) }
 {
     let source = find(start.nodes(), from)?;
@@ -127,7 +129,7 @@ fn set_node(start: &mut Start, name: &str, change: NodeChange) -> Result<(), Env
     requires { AreStarting start.old }
     ensures { MatchResult result
         (λ _. (own_fault start.old.names (OfNode name.now change) ≡ None)
-            × SetsEntry start.old (OfNode name.now change) start.new)
+        × SetsEntry start.old (OfNode name.now change) start.new)
         (λ e. own_fault start.old.names (OfNode name.now change) ≡ Some e) }
 {
     let node = find(start.nodes(), name)?;
@@ -145,7 +147,7 @@ fn set_entry(start: &mut Start, entry: &Entry) -> Result<(), EnvTextError>
     requires { AreStarting start.old }
     ensures { MatchResult result
         (λ _. (own_fault start.old.names (entry_said entry.now) ≡ None)
-            × SetsEntry start.old (entry_said entry.now) start.new)
+        × SetsEntry start.old (entry_said entry.now) start.new)
         (λ e. own_fault start.old.names (entry_said entry.now) ≡ Some e) }
 {
     match *entry {
@@ -159,8 +161,8 @@ pub fn set_all(start: &mut Start, entries: &[Entry]) -> Result<(), EnvTextError>
     requires { IsCalm start.old }
     ensures { MatchResult result
         (λ _. (start.new.names ≡ start.old.names)
-            × AreSound start.old.names (entries_said entries.now)
-            × AreTold start.old.names (entries_said entries.now) start.new.cells)
+        × AreSound start.old.names (entries_said entries.now)
+        × AreTold start.old.names (entries_said entries.now) start.new.cells)
         (HasFault start.old.names (entries_said entries.now)) }
 {
     for (place, entry) in entries.iter().enumerate() {

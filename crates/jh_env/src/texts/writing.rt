@@ -61,7 +61,13 @@ fn node_entry(env: &Env, section: Section, node: Node) -> Option<Entry<'_>>
     Some(Entry::Node(name, section.node_part(cell)?))
 }
 
-fn push_links_from<'a>(env: &'a Env, section: Section, from: Node, nodes: &[Node], entries: &mut Vec<Entry<'a>>) -> Result<(), AllocError>
+fn push_links_from<'a>(
+    env: &'a Env,
+    section: Section,
+    from: Node,
+    nodes: &[Node],
+    entries: &mut Vec<Entry<'a>>,
+) -> Result<(), AllocError>
     ensures { OnOk result (entries_said entries.new.items
         ≡ entries_said entries.old.items ++ filter_map (text.link_entry env.now section from) nodes.now) }
 {
@@ -73,7 +79,12 @@ fn push_links_from<'a>(env: &'a Env, section: Section, from: Node, nodes: &[Node
     Ok(())
 }
 
-fn push_links<'a>(env: &'a Env, section: Section, nodes: &[Node], entries: &mut Vec<Entry<'a>>) -> Result<(), AllocError>
+fn push_links<'a>(
+    env: &'a Env,
+    section: Section,
+    nodes: &[Node],
+    entries: &mut Vec<Entry<'a>>,
+) -> Result<(), AllocError>
     ensures { OnOk result (entries_said entries.new.items
         ≡ entries_said entries.old.items ++ flat_map (λ from. filter_map (text.link_entry env.now section from) nodes.now) nodes.now) }
 {
@@ -83,7 +94,12 @@ fn push_links<'a>(env: &'a Env, section: Section, nodes: &[Node], entries: &mut 
     Ok(())
 }
 
-fn push_nodes<'a>(env: &'a Env, section: Section, nodes: &[Node], entries: &mut Vec<Entry<'a>>) -> Result<(), AllocError>
+fn push_nodes<'a>(
+    env: &'a Env,
+    section: Section,
+    nodes: &[Node],
+    entries: &mut Vec<Entry<'a>>,
+) -> Result<(), AllocError>
     ensures { OnOk result (entries_said entries.new.items
         ≡ entries_said entries.old.items ++ filter_map (text.node_entry env.now section) nodes.now) }
 {
@@ -173,7 +189,10 @@ fn section_pair(alloc: Global, env: &Env, section: Section) -> Result<(Value, Va
 {
     let entries = entries_of(alloc, env, section)?;
     let values = entry_values(alloc, &entries)?;
-    Ok((keyword(alloc, section.keyword())?, Value::Vector(Values::of(values))))
+    Ok((
+        keyword(alloc, section.keyword())?,
+        Value::Vector(Values::of(values)),
+    ))
 }
 
 fn name_at(nodes: &Nodes, place: u8) -> Option<&str>

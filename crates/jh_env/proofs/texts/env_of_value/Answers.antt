@@ -30,7 +30,7 @@ returns-in_err-set_all c =
     let p = err_from_is_err_and c.from_residual-in_err-set_all.result c.from_residual-in_err-set_all.ensures.1 in
     let faulty : HasFault shape.names shape.entries c.in_err-set_all.field-0.0 = rw (c.deref-2.ensures.value, names) at c.in_err-set_all.ensures in
     rw (p.1, p.2) (entry_refused (view c.args.value.now) shape c.in_err-set_all.field-0.0 (keys, keys_are, shaped)
-      (subst AreFew named c.in_ok-nodes-2.ensures.2) (subst AreNodeNames named c.in_ok-nodes-2.ensures.1) faulty)
+    (subst AreFew named c.in_ok-nodes-2.ensures.2) (subst AreNodeNames named c.in_ok-nodes-2.ensures.1) faulty)
 
 pub returns : goal.returns
 returns c =
@@ -42,10 +42,15 @@ returns c =
     let kept : c.in_ok-start-2.field-0.names ≡ c.in_ok-start.start.names = c.in_ok-start-2.ensures.start.0 ∙ c.in_ok-set_all.ensures.0 in
     let same : c.in_ok-start-2.field-0.names ≡ c.in_ok-nodes-2.nodes = kept ∙ c.in_ok-start.ensures.0 in
     let sound : AreSound c.in_ok-start.start.names shape.entries = rw c.deref-2.ensures.value at c.in_ok-set_all.ensures.1 in
-    let told : AreTold c.in_ok-start.start.names shape.entries c.set_all.new.start.cells = rw c.deref-2.ensures.value at c.in_ok-set_all.ensures.2 in
-    (c.in_ok-start-2.ensures.stands,
-      (shape, (keys, keys_are, shaped), sym (same ∙ named),
+    let told : AreTold c.in_ok-start.start.names shape.entries c.set_all.new.start.cells = rw c.deref-2.ensures.value at c.in_ok-set_all.ensures.2 in (
+      c.in_ok-start-2.ensures.stands,
+      (
+        shape,
+        (keys, keys_are, shaped),
+        sym (same ∙ named),
         subst AreFew (sym same) c.in_ok-nodes-2.ensures.2,
         subst AreNodeNames (sym same) c.in_ok-nodes-2.ensures.1,
         subst (λ ns. AreSound ns shape.entries) (sym kept) sound,
-        rw (kept, c.in_ok-start-2.ensures.start.1) told))
+        rw (kept, c.in_ok-start-2.ensures.start.1) told,
+      ),
+    )

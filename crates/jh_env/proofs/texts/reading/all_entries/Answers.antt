@@ -12,7 +12,7 @@ loop-section-preserved c =
     let below : c.loop-section.section-index < length sections = omega arith in
     let told = entries_under (view_pairs c.args.pairs.now) in
     sym (joined_more told sections c.loop-section.section-index Cut (entries_said c.loop-section.entries.items)
-      (entries_said c.push_section.new.entries.items) below c.in_ok-push_section.ensures)
+    (entries_said c.push_section.new.entries.items) below c.in_ok-push_section.ensures)
     ∙ c.loop-section.invariant
 
 pub returns-in_err-push_section : goal.returns-in_err-push_section
@@ -21,6 +21,6 @@ returns-in_err-push_section c =
     let told = entries_under (view_pairs c.args.pairs.now) in
     let p = err_from_is_err_and c.from_residual.result c.from_residual.ensures.1 in
     rw (p.1, p.2) (refuses_whole _ (all_entries (view_pairs c.args.pairs.now)) c.in_err-push_section.field-0.0
-      (λ none. sym c.loop-section.invariant
-        ∙ ap (λ o. with_front (entries_said c.loop-section.entries.items) (joined o)) (each_stops told sections c.loop-section.section-index Cut below none))
-      c.in_err-push_section.ensures)
+    (λ none. sym c.loop-section.invariant
+    ∙ ap (λ o. with_front (entries_said c.loop-section.entries.items) (joined o)) (each_stops told sections c.loop-section.section-index Cut below none))
+    c.in_err-push_section.ensures)

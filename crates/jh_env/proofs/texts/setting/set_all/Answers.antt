@@ -8,16 +8,16 @@ pub returns-then-is_repeated : goal.returns-then-is_repeated
 returns-then-is_repeated c =
     let below : c.loop-place.place < length c.args.entries.now = search rules in
     repeated_first c.args.start.now.names (entries_said c.args.entries.now) c.loop-place.place _ c.loop-place.start
-      (said_at c.args.entries.now c.loop-place.place _ below) c.loop-place.invariant c.in_ok-set_entry.ensures.0
-      (among_said (repeats _) c.args.entries.now c.loop-place.place ∙ search rules)
+    (said_at c.args.entries.now c.loop-place.place _ below) c.loop-place.invariant c.in_ok-set_entry.ensures.0
+    (among_said (repeats _) c.args.entries.now c.loop-place.place ∙ search rules)
 
 pub loop-place-preserved : goal.loop-place-preserved
 loop-place-preserved c =
     let below : c.loop-place.place < length c.args.entries.now = search rules in
     let below_said : c.loop-place.place < length (entries_said c.args.entries.now) = omega (arith, length-entries_said c.args.entries.now) in
     more_set c.args.start.now.names (entries_said c.args.entries.now) c.loop-place.place _ c.loop-place.start c.set_entry.new.start
-      below_said (said_at c.args.entries.now c.loop-place.place _ below) c.in_ok-set_entry.ensures.0
-      (among_said (repeats _) c.args.entries.now c.loop-place.place ∙ search rules) c.loop-place.invariant c.in_ok-set_entry.ensures.1
+    below_said (said_at c.args.entries.now c.loop-place.place _ below) c.in_ok-set_entry.ensures.0
+    (among_said (repeats _) c.args.entries.now c.loop-place.place ∙ search rules) c.loop-place.invariant c.in_ok-set_entry.ensures.1
 
 pub returns : goal.returns
 returns c =

@@ -30,8 +30,8 @@ returns-in_err-set_link c =
     let took = chosen (is_link_amount c.args.change) (link_with c.args.change c.in-Some.link) c.in-Some-applied.changed applied in
     let good = link_with-starts c.args.change c.in-Some.link took.0 (c.requires.links a b c.in-Some.link there) in
     absurd (link_not_refused c.args.start.now a b c.in-Some-applied.changed c.in_err-set_link.field-0.0
-      (place_below names c.args.from.now a from_at) (place_below names c.args.to.now b to_at) (link_apart c.args.start.now.cells a b c.in-Some.link there)
-      (subst IsStartingLink (sym took.1) good) c.in_err-set_link.ensures.1)
+    (place_below names c.args.from.now a from_at) (place_below names c.args.to.now b to_at) (link_apart c.args.start.now.cells a b c.in-Some.link there)
+    (subst IsStartingLink (sym took.1) good) c.in_err-set_link.ensures.1)
 
 pub returns : goal.returns
 returns c =
@@ -44,6 +44,7 @@ returns c =
     let applied : (if is_link_amount c.args.change then Some (link_with c.args.change c.in-Some.link) else None) ≡ Some c.in-Some-applied.changed = search rules in
     let took = chosen (is_link_amount c.args.change) (link_with c.args.change c.in-Some.link) c.in-Some-applied.changed applied in
     let apart = other_name names c.args.from.now c.args.to.now a b from_at to_at (link_apart c.args.start.now.cells a b c.in-Some.link there) in
-    let sets : SetsLink c.args.start.now a b (link_with c.args.change c.in-Some.link) c.set_link.new.self = rw took.1 at c.in_ok-set_link.ensures in
-    (rw (own_fault-link names c.args.from.now c.args.to.now c.args.change a b from_at to_at, apart, took.0) refl,
-      sets_link c.args.start.now c.set_link.new.self c.args.from.now c.args.to.now c.args.change a b c.in-Some.link from_at to_at there c.requires sets)
+    let sets : SetsLink c.args.start.now a b (link_with c.args.change c.in-Some.link) c.set_link.new.self = rw took.1 at c.in_ok-set_link.ensures in (
+      rw (own_fault-link names c.args.from.now c.args.to.now c.args.change a b from_at to_at, apart, took.0) refl,
+      sets_link c.args.start.now c.set_link.new.self c.args.from.now c.args.to.now c.args.change a b c.in-Some.link from_at to_at there c.requires sets,
+    )

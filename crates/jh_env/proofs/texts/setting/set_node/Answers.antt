@@ -17,7 +17,7 @@ returns-in_err-set_node c =
     let took = chosen (is_node_amount c.args.change) (node_with c.args.change c.in-Some.cell) c.in-Some-applied.changed applied in
     let good = node_with-starts c.args.change c.in-Some.cell took.0 (c.requires.nodes a c.in-Some.cell there) in
     absurd (node_not_refused c.args.start.now a c.in-Some-applied.changed c.in_err-set_node.field-0.0
-      (place_below names c.args.name.now a at) (subst IsStartingNode (sym took.1) good) c.in_err-set_node.ensures.1)
+    (place_below names c.args.name.now a at) (subst IsStartingNode (sym took.1) good) c.in_err-set_node.ensures.1)
 
 pub returns : goal.returns
 returns c =
@@ -27,6 +27,7 @@ returns c =
     let there : node_at c.args.start.now.cells a ≡ Some c.in-Some.cell = search rules in
     let applied : (if is_node_amount c.args.change then Some (node_with c.args.change c.in-Some.cell) else None) ≡ Some c.in-Some-applied.changed = search rules in
     let took = chosen (is_node_amount c.args.change) (node_with c.args.change c.in-Some.cell) c.in-Some-applied.changed applied in
-    let sets : SetsNode c.args.start.now a (node_with c.args.change c.in-Some.cell) c.set_node.new.self = rw took.1 at c.in_ok-set_node.ensures in
-    (rw (own_fault-node names c.args.name.now c.args.change a at, took.0) refl,
-      sets_node c.args.start.now c.set_node.new.self c.args.name.now c.args.change a c.in-Some.cell at there c.requires sets)
+    let sets : SetsNode c.args.start.now a (node_with c.args.change c.in-Some.cell) c.set_node.new.self = rw took.1 at c.in_ok-set_node.ensures in (
+      rw (own_fault-node names c.args.name.now c.args.change a at, took.0) refl,
+      sets_node c.args.start.now c.set_node.new.self c.args.name.now c.args.change a c.in-Some.cell at there c.requires sets,
+    )

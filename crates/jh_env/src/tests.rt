@@ -1,0 +1,232 @@
+//! Worked examples of names, starting environments, faults and what they make of an environment, and the
+//! texts of errors. What a clause says is proved: a test is for values and texts that come from outside.
+
+use crate::{
+    Env, Fault, FaultError, Life, Link, MOST_LAID, Node, NodeCell, Nodes, NodesError, Start,
+    StartError,
+};
+use std::alloc::Global;
+use std::test::Fail;
+
+const CUT: Link = Link {
+    cut: true,
+    delay: 0,
+    loss: 0,
+};
+
+// Each maker asks once more where memory was refused, so that the tests stand one refused allocation.
+fn named(alloc: Global, names: &[&str]) -> Result<Nodes, NodesError> {
+    match Nodes::of(alloc, names) {
+        Err(NodesError::OutOfMemory) => Nodes::of(alloc, names),
+        answer => answer,
+    }
+}
+
+fn three(alloc: Global) -> Result<Nodes, NodesError> {
+    named(alloc, &["n1", "n2", "n3"])
+}
+
+fn cut(alloc: Global, nodes: &Nodes, links: &[(Node, Node)]) -> Result<Fault, FaultError> {
+    match Fault::cut(alloc, nodes, links) {
+        Err(FaultError::OutOfMemory) => Fault::cut(alloc, nodes, links),
+        answer => answer,
+    }
+}
+
+fn calm(alloc: Global) -> Result<Start, Fail> {
+    match Start::new(alloc, three(alloc)?) {
+        Ok(start) => Ok(start),
+        Err(_) => Ok(Start::new(alloc, three(alloc)?)?),
+    }
+}
+
+// The nodes n1 and n2.
+fn two(nodes: &Nodes) -> Option<(Node, Node)> {
+    Some((nodes.at(0)?, nodes.at(1)?))
+}
+
+#[test]
+fn knows_names(rt: HostRuntime) -> Result<(), Fail> {
+    let nodes = three(rt.alloc())?;
+    assert_eq!(rt; nodes.len(), 3);
+    assert_eq!(rt; nodes.find("n2"), nodes.at(1));
+    assert!(rt; nodes.find("n4").is_none());
+    assert!(rt; nodes.at(3).is_none());
+    let Some(last) = nodes.at(2) else {
+        panic!(rt; "no third node");
+    };
+    assert_eq!(rt; last.place(), 2);
+    assert_eq!(rt; nodes.name(last), Some("n3"));
+    Ok(())
+}
+
+// The longest name that is allowed has 64 letters.
+static LISTS: [(&[&str], Option<NodesError>); 10] = [
+    (&[], Some(NodesError::NoNodes)),
+    (&["n"; 33], Some(NodesError::TooManyNodes)),
+    (&["n1", "n 2"], Some(NodesError::BadName)),
+    (&[""], Some(NodesError::BadName)),
+    (
+        &["a234567890123456789012345678901234567890123456789012345678901234"],
+        None,
+    ),
+    (
+        &["a2345678901234567890123456789012345678901234567890123456789012345"],
+        Some(NodesError::BadName),
+    ),
+    (&["ä"], Some(NodesError::BadName)),
+    (&["n1", "n1", "n 2"], Some(NodesError::DuplicateName)),
+    (&["n1", "n 2", "n1"], Some(NodesError::BadName)),
+    (&["A.b-c_9", "n1"], None),
+];
+
+#[test]
+fn refuses_names(rt: HostRuntime) {
+    for (names, refusal) in LISTS.iter() {
+        assert_eq!(rt; named(rt.alloc(), names).err(), *refusal);
+    }
+}
+
+#[test]
+fn sets_links(rt: HostRuntime) -> Result<(), Fail> {
+    let mut start = calm(rt.alloc())?;
+    let Some((first, second)) = two(start.nodes()) else {
+        panic!(rt; "no nodes");
+    };
+    let slow = |delay, loss| Link {
+        cut: true,
+        delay,
+        loss,
+    };
+    let cases = [
+        (first, second, slow(60_000, 20), Ok(())),
+        (first, first, CUT, Err(StartError::SelfLink)),
+        (first, first, slow(60_001, 0), Err(StartError::SelfLink)),
+        (second, first, slow(60_001, 0), Err(StartError::BadAmount)),
+        (second, first, slow(0, 21), Err(StartError::BadAmount)),
+    ];
+    for (from, to, cell, answer) in cases {
+        assert_eq!(rt; start.set_link(from, to, cell), answer);
+    }
+    assert_eq!(rt; start.link(first, second), Some(slow(60_000, 20)));
+    assert_eq!(rt; start.link(second, first), Some(Link::calm()));
+    Ok(())
+}
+
+#[test]
+fn sets_nodes(rt: HostRuntime) -> Result<(), Fail> {
+    let mut start = calm(rt.alloc())?;
+    let Some(node) = start.nodes().at(0) else {
+        panic!(rt; "no node");
+    };
+    let killed = |clock| NodeCell {
+        process: Life::Killed,
+        clock,
+    };
+    let cases = [
+        (1_000_000_000_001, Err(StartError::BadAmount)),
+        (-1_000_000_000_001, Err(StartError::BadAmount)),
+        (1_000_000_000_000, Ok(())),
+        (-1_000_000_000_000, Ok(())),
+    ];
+    for (clock, answer) in cases {
+        assert_eq!(rt; start.set_node(node, killed(clock)), answer);
+    }
+    assert_eq!(rt; start.node(node), Some(killed(-1_000_000_000_000)));
+    Ok(())
+}
+
+#[test]
+fn refuses_cuts(rt: HostRuntime) -> Result<(), Fail> {
+    let few = named(rt.alloc(), &["n1", "n2"])?;
+    let Some((first, second)) = two(&few) else {
+        panic!(rt; "no nodes");
+    };
+    let Some(unknown) = three(rt.alloc())?.find("n3") else {
+        panic!(rt; "no third node");
+    };
+    let cases = [
+        (first, second, None),
+        (second, second, Some(FaultError::SelfLink)),
+        (second, unknown, Some(FaultError::UnknownNode)),
+    ];
+    for (from, to, refusal) in cases {
+        let links = [(first, second), (from, to)];
+        assert_eq!(rt; cut(rt.alloc(), &few, &links).err(), refusal);
+    }
+    let links = [(first, first), (first, unknown)];
+    assert_eq!(rt;
+        cut(rt.alloc(), &few, &links).err(),
+        Some(FaultError::UnknownNode)
+    );
+    assert!(rt; cut(rt.alloc(), &few, &[]).is_ok());
+    Ok(())
+}
+
+#[test]
+fn cuts_until_reset(rt: HostRuntime) -> Result<(), Fail> {
+    let start = calm(rt.alloc())?;
+    let Some((first, second)) = two(start.nodes()) else {
+        panic!(rt; "no nodes");
+    };
+    let fault = cut(
+        rt.alloc(),
+        start.nodes(),
+        &[(first, second), (first, second)],
+    )?;
+    let mut env = Env::start(rt.alloc(), start)?;
+    assert!(rt; fault.fits(&env) && env.laid() < MOST_LAID);
+    env.lay(&fault);
+    assert_eq!(rt; env.link(first, second), Some(CUT));
+    assert_eq!(rt; env.link(second, first), Some(Link::calm()));
+    env.reset();
+    assert_eq!(rt; env.link(first, second), Some(Link::calm()));
+    Ok(())
+}
+
+#[test]
+fn keeps_a_cut_of_the_start(rt: HostRuntime) -> Result<(), Fail> {
+    let mut start = calm(rt.alloc())?;
+    let Some((first, second)) = two(start.nodes()) else {
+        panic!(rt; "no nodes");
+    };
+    assert_eq!(rt; start.set_link(first, second, CUT), Ok(()));
+    let mut env = Env::start(rt.alloc(), start)?;
+    env.reset();
+    assert_eq!(rt; env.link(first, second), Some(CUT));
+    assert_eq!(rt; env.node(first), Some(NodeCell::running()));
+    assert_eq!(rt; env.nodes().len(), 3);
+    Ok(())
+}
+
+#[test]
+fn says_why(rt: HostRuntime) -> Result<(), Fail> {
+    let names = [
+        (NodesError::NoNodes, "no nodes"),
+        (NodesError::TooManyNodes, "too many nodes"),
+        (NodesError::BadName, "bad name"),
+        (NodesError::DuplicateName, "duplicate name"),
+        (NodesError::OutOfMemory, "out of memory"),
+    ];
+    for (error, text) in names {
+        assert_eq!(rt; format!(in rt.alloc(); "{error}")?.as_str(), text);
+    }
+    let faults = [
+        (FaultError::UnknownNode, "unknown node"),
+        (FaultError::SelfLink, "self link"),
+        (FaultError::BadAmount, "bad amount"),
+        (FaultError::OutOfMemory, "out of memory"),
+    ];
+    for (error, text) in faults {
+        assert_eq!(rt; format!(in rt.alloc(); "{error}")?.as_str(), text);
+    }
+    let cells = [
+        (StartError::UnknownNode, "unknown node"),
+        (StartError::SelfLink, "self link"),
+        (StartError::BadAmount, "bad amount"),
+    ];
+    for (error, text) in cells {
+        assert_eq!(rt; format!(in rt.alloc(); "{error}")?.as_str(), text);
+    }
+    Ok(())
+}

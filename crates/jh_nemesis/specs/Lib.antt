@@ -1,0 +1,7 @@
+pub mod State
+pub mod Steps
+pub mod Laws
+pub mod Timeline
+pub mod TimelineInside
+pub mod Places
+pub mod NemesisInside

@@ -1,0 +1,15 @@
+//! Faults that are begun and withdrawn over an environment. Whatever the steps were, the environment is what
+//! the faults that are active make of its start.
+#![tactic(auto)]
+
+mod laws;
+mod nemesis;
+mod steps;
+mod timeline;
+
+pub use laws::{refused_stays, withdrawal_ends_begin, withdrawal_leaves_others};
+pub use nemesis::Nemesis;
+pub use steps::{BeginError, MOST_ACTIVE, MOST_STEPS, Step, StepAnswer, WithdrawError};
+
+#[cfg(test)]
+mod tests;

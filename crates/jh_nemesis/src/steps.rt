@@ -1,0 +1,59 @@
+//! Steps and the answers to them. `specs/Steps.antt` says which answer a step has; a new kind of step begins
+//! there.
+
+use jh_env::Fault;
+use thiserror::Error;
+
+/// The most faults that are active at once.
+pub const MOST_ACTIVE: usize = 256;
+
+/// The most steps that are kept in the past.
+pub const MOST_STEPS: usize = 4096;
+
+/// A step of a nemesis.
+#[derive(Debug, Drop)]
+pub enum Step {
+    /// Begins a fault under an id.
+    Begin(u32, Fault),
+    /// Withdraws the active fault of an id.
+    Withdraw(u32),
+}
+
+/// The answer to a step.
+#[derive(Clone, Copy, Debug, PartialEq, Eq)]
+pub enum StepAnswer {
+    /// The step is accepted.
+    Ok,
+    /// A fault of this id is active already.
+    IdTaken,
+    /// So many faults are active that none can be begun.
+    TooManyActive,
+    /// So many steps lie in the past that none can follow.
+    TooManySteps,
+    /// No fault of this id is active.
+    NotActive,
+}
+
+/// Why a fault is not begun.
+#[derive(Clone, Copy, Debug, PartialEq, Eq, Error)]
+pub enum BeginError {
+    #[error("id taken")]
+    IdTaken,
+    #[error("too many active")]
+    TooManyActive,
+    #[error("too many steps")]
+    TooManySteps,
+    #[error("out of memory")]
+    OutOfMemory,
+}
+
+/// Why a fault is not withdrawn.
+#[derive(Clone, Copy, Debug, PartialEq, Eq, Error)]
+pub enum WithdrawError {
+    #[error("not active")]
+    NotActive,
+    #[error("too many steps")]
+    TooManySteps,
+    #[error("out of memory")]
+    OutOfMemory,
+}

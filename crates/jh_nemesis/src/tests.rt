@@ -1,0 +1,163 @@
+//! Worked examples of begins and withdrawals, their limits, and the texts of errors. What the clauses say is
+//! proved: a test is for values and texts that come from outside.
+
+ghost use Rattle.std.specs.Prelude.{[], IfSome};
+ghost use Rattle.jh_env.specs.Overlay.{StandsFor};
+
+use crate::{BeginError, MOST_ACTIVE, Nemesis, Step, StepAnswer, WithdrawError};
+use jh_env::{Env, Fault, FaultError, Nodes, Start};
+use std::alloc::Global;
+use std::process::Abort;
+use std::test::Fail;
+
+// Each maker asks once more where memory was refused, so that the tests stand one refused allocation.
+fn calm_once(alloc: Global) -> Option<Env>
+    ensures { IfSome result (λ env. StandsFor env []) }
+{
+    let nodes = Nodes::of(alloc, &["n1", "n2"]).ok()?;
+    Env::start(alloc, Start::new(alloc, nodes).ok()?).ok()
+}
+
+fn calm(alloc: Global) -> Result<Nemesis, Fail> {
+    if let Some(env) = calm_once(alloc) {
+        return Ok(Nemesis::new(alloc, env));
+    }
+    match calm_once(alloc) {
+        Some(env) => Ok(Nemesis::new(alloc, env)),
+        None => Err("no environment")?,
+    }
+}
+
+// A cut of the link from n2 to n1.
+fn cut_once(alloc: Global, nodes: &Nodes) -> Result<Fault, FaultError> {
+    match (nodes.at(1), nodes.at(0)) {
+        (Some(from), Some(to)) => Fault::cut(alloc, nodes, &[(from, to)]),
+        _ => Err(FaultError::UnknownNode),
+    }
+}
+
+fn cut(alloc: Global, nodes: &Nodes) -> Result<Fault, FaultError> {
+    match cut_once(alloc, nodes) {
+        Err(FaultError::OutOfMemory) => cut_once(alloc, nodes),
+        answer => answer,
+    }
+}
+
+// Whether the link from n2 to n1 is cut.
+fn is_cut(nemesis: &Nemesis) -> Option<bool> {
+    let env = nemesis.env();
+    let link = env.link(env.nodes().at(1)?, env.nodes().at(0)?)?;
+    Some(link.cut)
+}
+
+// Begins a cut, and where memory was refused sees that nothing changed and begins it again.
+fn begin(rt: &impl Abort, alloc: Global, nemesis: &mut Nemesis, id: u32) -> Result<(), Fail> {
+    let fault = cut(alloc, nemesis.env().nodes())?;
+    assert!(rt; fault.fits(nemesis.env()));
+    let active = nemesis.active_len();
+    let answer = nemesis.begin(id, fault);
+    if answer != Err(BeginError::OutOfMemory) {
+        return Ok(answer?);
+    }
+    assert_eq!(rt; nemesis.active_len(), active);
+    let fault = cut(alloc, nemesis.env().nodes())?;
+    assert!(rt; fault.fits(nemesis.env()));
+    Ok(nemesis.begin(id, fault)?)
+}
+
+fn withdraw(rt: &impl Abort, nemesis: &mut Nemesis, id: u32) -> Result<(), WithdrawError> {
+    let active = nemesis.active_len();
+    let answer = nemesis.withdraw(id);
+    if answer != Err(WithdrawError::OutOfMemory) {
+        return answer;
+    }
+    assert_eq!(rt; nemesis.active_len(), active);
+    nemesis.withdraw(id)
+}
+
+#[test]
+fn keeps_the_cut_of_another(rt: HostRuntime) -> Result<(), Fail> {
+    let mut nemesis = calm(rt.alloc())?;
+    begin(&rt, rt.alloc(), &mut nemesis, 1)?;
+    begin(&rt, rt.alloc(), &mut nemesis, 2)?;
+    withdraw(&rt, &mut nemesis, 1)?;
+    assert_eq!(rt; nemesis.active_len(), 1);
+    let active = nemesis.active_at(0).map(|(id, _)| id);
+    assert_eq!(rt; active, Some(2));
+    assert_eq!(rt; is_cut(&nemesis), Some(true));
+    Ok(())
+}
+
+#[test]
+fn ends_a_cut(rt: HostRuntime) -> Result<(), Fail> {
+    let mut nemesis = calm(rt.alloc())?;
+    begin(&rt, rt.alloc(), &mut nemesis, 1)?;
+    assert_eq!(rt; is_cut(&nemesis), Some(true));
+    withdraw(&rt, &mut nemesis, 1)?;
+    assert_eq!(rt; is_cut(&nemesis), Some(false));
+    assert!(rt; nemesis.active_at(0).is_none());
+    Ok(())
+}
+
+#[test]
+fn answers_steps(rt: HostRuntime) -> Result<(), Fail> {
+    let mut nemesis = calm(rt.alloc())?;
+    begin(&rt, rt.alloc(), &mut nemesis, 1)?;
+    let fault = cut(rt.alloc(), nemesis.env().nodes())?;
+    assert!(rt; fault.fits(nemesis.env()));
+    assert_eq!(rt;
+        nemesis.apply(Step::Begin(1, fault)),
+        Ok(StepAnswer::IdTaken)
+    );
+    assert_eq!(rt; nemesis.apply(Step::Withdraw(2)), Ok(StepAnswer::NotActive));
+    Ok(())
+}
+
+#[test]
+fn stands_few_faults(rt: HostRuntime) -> Result<(), Fail> {
+    let mut nemesis = calm(rt.alloc())?;
+    for id in 0..256 {
+        begin(&rt, rt.alloc(), &mut nemesis, id)?;
+    }
+    let fault = cut(rt.alloc(), nemesis.env().nodes())?;
+    assert!(rt; fault.fits(nemesis.env()));
+    assert_eq!(rt; nemesis.begin(256, fault), Err(BeginError::TooManyActive));
+    assert_eq!(rt; nemesis.active_len(), MOST_ACTIVE);
+    Ok(())
+}
+
+#[test]
+fn stands_few_steps(rt: HostRuntime) -> Result<(), Fail> {
+    let mut nemesis = calm(rt.alloc())?;
+    for _round in 0..2048 {
+        begin(&rt, rt.alloc(), &mut nemesis, 1)?;
+        withdraw(&rt, &mut nemesis, 1)?;
+    }
+    let fault = cut(rt.alloc(), nemesis.env().nodes())?;
+    assert!(rt; fault.fits(nemesis.env()));
+    assert_eq!(rt; nemesis.begin(1, fault), Err(BeginError::TooManySteps));
+    assert_eq!(rt; nemesis.withdraw(1), Err(WithdrawError::NotActive));
+    Ok(())
+}
+
+#[test]
+fn says_why(rt: HostRuntime) -> Result<(), Fail> {
+    let begins = [
+        (BeginError::IdTaken, "id taken"),
+        (BeginError::TooManyActive, "too many active"),
+        (BeginError::TooManySteps, "too many steps"),
+        (BeginError::OutOfMemory, "out of memory"),
+    ];
+    for (error, text) in begins {
+        assert_eq!(rt; format!(in rt.alloc(); "{error}")?.as_str(), text);
+    }
+    let withdrawals = [
+        (WithdrawError::NotActive, "not active"),
+        (WithdrawError::TooManySteps, "too many steps"),
+        (WithdrawError::OutOfMemory, "out of memory"),
+    ];
+    for (error, text) in withdrawals {
+        assert_eq!(rt; format!(in rt.alloc(); "{error}")?.as_str(), text);
+    }
+    Ok(())
+}
