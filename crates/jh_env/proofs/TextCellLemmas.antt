@@ -1,5 +1,5 @@
 -- Facts about the cells that entries tell.
-use Rattle.std.proofs.Common.{◌≡◌, ℕ, ◌<◌, Bool, true, false, List, [], length, get_or, position, bytes_eq, Option, Some, None, option_map, sym, ◌∙◌, ap, refl, subst, pos, negsuc, arith}
+use Rattle.std.proofs.Common.{◌≡◌, ℕ, ◌<◌, Bool, true, false, List, [], length, get_or, bytes_eq, Some, None, option_map, sym, ◌∙◌, ap, refl, subst, pos, negsuc, arith}
 use Rattle.std.specs.Prelude.{nat_lt, slice_index_or, ◌+◌, ◌*◌, int_le, ◌-◌, ◌^◌, if◌then◌else◌, ◌&&◌, ◌==◌, not}
 use Rattle.std.proofs.lemmas.Bool.{and_parts, eqb-true, eq-eqb, false≢true}
 use Rattle.std.proofs.lemmas.Bool.Decides.{nat_tests}
@@ -9,18 +9,15 @@ use Rattle.std.proofs.lemmas.List.Quantifiers.{position-Some}
 use Rattle.std.proofs.lemmas.Slice.Eq.{bytes_eq-Decides}
 use Rattle.jh_env.specs.declared.cells.Link.{Link}
 use Rattle.jh_env.specs.declared.cells.NodeCell.{NodeCell}
-use Rattle.jh_env.specs.declared.texts.EnvTextError.TheVariants.{UnknownNode, SelfLink, BadAmount}
+use Rattle.jh_env.specs.declared.texts.EnvTextError.TheVariants.{SelfLink, BadAmount}
 use Rattle.jh_env.specs.declared.texts.entries.LinkChange.{LinkChange}
 use Rattle.jh_env.specs.declared.texts.entries.NodeChange.{NodeChange}
-use Rattle.jh_env.specs.declared.texts.entries.LinkChange.TheVariants as LinkChange
-use Rattle.jh_env.specs.declared.texts.entries.NodeChange.TheVariants as NodeChange
 use Rattle.jh_env.specs.declared.starting.StartError.{StartError}
-use Rattle.jh_env.specs.declared.starting.StartError.TheVariants as StartError
 use Rattle.jh_env.specs.Cells.{Table, calm, link_at, node_at}
 use Rattle.jh_env.specs.Faults.{same_link}
 use Rattle.jh_env.specs.Starting.{StartValue, SetsLink, SetsNode, IsStartingLink, IsStartingNode, RefusesLink, RefusesNode}
-use Rattle.jh_env.specs.Text.{Entry, OfLink, OfNode}
-use Rattle.jh_env.specs.TextCells.{link_after, node_after, link_with, node_with}
+use Rattle.jh_env.specs.Text.{OfLink, OfNode}
+use Rattle.jh_env.specs.TextCells.{link_with, node_with}
 use Rattle.jh_env.specs.TextFaults.{place_of, own_fault, is_link_amount, is_node_amount}
 use Rattle.jh_env.specs.TextInside.{AreStarting, SetsEntry}
 

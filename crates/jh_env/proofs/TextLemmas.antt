@@ -1,12 +1,12 @@
 -- Facts about the values of a text.
-use Rattle.std.proofs.Common.{◌≡◌, ℕ, ◌+◌, ◌<◌, ◌≤◌, Bool, true, false, if◌then◌else◌, List, [], ◌∷◌, ◌++◌, length, get_or, drop, map, find, Option, Some, None, option_map, option_and_then, option_copied, ok_or, Ok, Err, ap, refl, sym, ◌∙◌, subst, append_assoc, append-nil, flat_map}
-use Rattle.std.proofs.lemmas.List.{at_drop_more, at_drop_all}
+use Rattle.std.proofs.Common.{◌≡◌, ℕ, ◌+◌, ◌<◌, true, false, if◌then◌else◌, List, [], ◌∷◌, ◌++◌, length, get_or, drop, map, find, Option, Some, None, option_map, option_and_then, ok_or, Err, ap, refl, sym, ◌∙◌, append_assoc, flat_map}
+use Rattle.std.proofs.lemmas.List.{at_drop_more}
 use Rattle.std.proofs.lemmas.List.Folds.{list_all-map}
 use Rattle.std.specs.List.{list_all}
 use Rattle.jh_edn.specs.Edn.{Edn, mapping, items_of, members_of}
-use Rattle.jh_edn.specs.View.{view, views, view_pair, view_pairs}
+use Rattle.jh_edn.specs.View.{view, view_pair, view_pairs}
 use Rattle.jh_edn.specs.declared.value.Value.{Value}
-use Rattle.jh_env.specs.Text.{items_in, pairs_in, elements_of, is_keyword, has_known_key, nodes_keyword, value_under, keys_of, Keys, each_of}
+use Rattle.jh_env.specs.Text.{items_in, pairs_in, is_keyword, has_known_key, nodes_keyword, value_under, keys_of, Keys, each_of}
 use Rattle.jh_env.specs.TextInside.{with_front, RefusesShape}
 use Rattle.jh_env.specs.declared.texts.EnvTextError.TheVariants.{UnknownKey, MissingNodes, BadEntry, OutOfMemory}
 use Rattle.jh_env.specs.declared.texts.EnvTextError.{EnvTextError}

@@ -1,11 +1,10 @@
 -- Facts about why a text is refused.
-use Rattle.std.proofs.Common.{◌≡◌, ℕ, Bool, true, false, List, take, Option, Some, None, option_and_then, Ok, ap, ◌∙◌, sym, subst}
+use Rattle.std.proofs.Common.{◌≡◌, ℕ, Bool, true, false, List, take, Some, None, option_and_then, subst}
 use Rattle.std.specs.Prelude.{if◌then◌else◌, not, slice_get}
 use Rattle.std.specs.List.{list_any}
 use Rattle.std.specs.Option.{option_or}
 use Rattle.jh_edn.specs.Edn.{Edn}
 use Rattle.jh_env.specs.declared.names.NodesError.{NodesError}
-use Rattle.jh_env.specs.declared.names.NodesError.TheVariants as NodesError
 use Rattle.jh_env.specs.declared.texts.EnvTextError.{EnvTextError}
 use Rattle.jh_env.specs.declared.texts.EnvTextError.TheVariants.{UnknownNode, SelfLink, BadAmount, RepeatedEntry}
 use Rattle.jh_env.specs.Names.{AreNodeNames, AreFew, RefusesNames}

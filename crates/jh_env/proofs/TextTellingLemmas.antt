@@ -1,8 +1,7 @@
 -- A walk over the entries of a text that sets what they tell.
-use Rattle.std.proofs.Common.{◌≡◌, ℕ, zero, suc, ◌+◌, ◌<◌, ◌≤◌, Bool, true, false, List, [], length, get_or, take, fold, Option, Some, None, option_map, option_and_then, sym, ◌∙◌, ap, refl, subst, arith, inl, inr}
-use Rattle.std.specs.Prelude.{if◌then◌else◌, ◌&&◌, ◌==◌, not, nat_lt, slice_get, pos}
+use Rattle.std.proofs.Common.{◌≡◌, ℕ, ◌+◌, ◌<◌, ◌≤◌, Bool, true, false, List, length, get_or, take, Some, None, option_map, sym, ◌∙◌, ap, refl, subst, arith, inl, inr}
+use Rattle.std.specs.Prelude.{if◌then◌else◌, ◌==◌, slice_get}
 use Rattle.std.specs.List.{list_any}
-use Rattle.std.specs.Option.{option_or}
 use Rattle.std.specs.Int.Signed.{le_z_yes}
 use Rattle.std.proofs.lemmas.Bool.{eqb-true, lt-ltb, cases_lt}
 use Rattle.std.proofs.lemmas.List.{take_all, take-map, length-map}
@@ -17,7 +16,7 @@ use Rattle.jh_env.specs.Cells.{calm, running, link_at, node_at}
 use Rattle.jh_env.specs.Starting.{StartValue, IsCalm, IsStartingLink, IsStartingNode}
 use Rattle.jh_env.specs.Text.{Entry}
 use Rattle.jh_env.specs.TextCells.{link_after, node_after, AreTold}
-use Rattle.jh_env.specs.TextFaults.{own_fault, fault_after, fault_at, repeats, AreSound, HasFault}
+use Rattle.jh_env.specs.TextFaults.{own_fault, fault_at, repeats, AreSound, HasFault}
 use Rattle.jh_env.specs.TextInside.{AreStarting, SetsEntry, entry_said, entries_said}
 use Rattle.jh_env.specs.declared.texts.entries.Entry.TheVariants as said
 use Rattle.jh_env.proofs.NameLemmas.{list_any-map}

@@ -1,17 +1,14 @@
 -- The text of an environment, as an EDN value (this project's own; the kinds of element are those of EDN's format
 -- description): a map of `:nodes`, the names, and of the entries under `:cut`, `:slow`, `:loss`, `:down` and `:clock`.
-use Rattle.std.specs.Prelude.{ℕ, ℤ, Bool, true, false, List, [], ◌∷◌, ◌++◌, map, if◌then◌else◌, codes, bytes_eq, find, Option, Some, None, option_map, option_and_then, ok_or, Result, Ok, Err}
+use Rattle.std.specs.Prelude.{ℕ, Bool, false, List, [], ◌∷◌, map, if◌then◌else◌, codes, bytes_eq, find, Option, Some, None, option_map, option_and_then, ok_or, Result, Err}
 use Rattle.std.specs.List.{list_all, list_any, flat_map}
 use Rattle.std.specs.Option.{option_map_or}
 use Rattle.jh_edn.specs.Edn.{Edn, int, str, keyword, vector, mapping, Items, no_items, item, Members, no_members, member}
 use Rattle.jh_env.specs.declared.texts.EnvTextError.{EnvTextError}
 use Rattle.jh_env.specs.declared.texts.EnvTextError.TheVariants.{NotMap, UnknownKey, MissingNodes}
 use Rattle.jh_env.specs.declared.texts.entries.Section.{Section}
-use Rattle.jh_env.specs.declared.texts.entries.Section.TheVariants as Section
 use Rattle.jh_env.specs.declared.texts.entries.LinkChange.{LinkChange}
-use Rattle.jh_env.specs.declared.texts.entries.LinkChange.TheVariants as LinkChange
 use Rattle.jh_env.specs.declared.texts.entries.NodeChange.{NodeChange}
-use Rattle.jh_env.specs.declared.texts.entries.NodeChange.TheVariants as NodeChange
 
 infixl 10 ◌>>=◌
 -- what f gives of a value, where there is one

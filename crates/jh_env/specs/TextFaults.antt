@@ -4,14 +4,11 @@ use Rattle.std.specs.Prelude.{◌≡◌, ℕ, ◌-◌, ◌^◌, ◌<◌, ◌&&�
 use Rattle.std.specs.List.{list_all, list_any}
 use Rattle.std.specs.Option.{option_or}
 use Rattle.jh_edn.specs.Edn.{Edn}
-use Rattle.jh_env.specs.declared.names.NodesError.TheVariants as NodesError
 use Rattle.jh_env.specs.declared.names.NodesError.{NodesError}
 use Rattle.jh_env.specs.declared.texts.EnvTextError.{EnvTextError}
 use Rattle.jh_env.specs.declared.texts.EnvTextError.TheVariants.{NotMap, UnknownKey, MissingNodes, BadEntry, NoNodes, TooManyNodes, BadName, DuplicateName, UnknownNode, SelfLink, BadAmount, RepeatedEntry, OutOfMemory}
 use Rattle.jh_env.specs.declared.texts.entries.LinkChange.{LinkChange}
-use Rattle.jh_env.specs.declared.texts.entries.LinkChange.TheVariants as LinkChange
 use Rattle.jh_env.specs.declared.texts.entries.NodeChange.{NodeChange}
-use Rattle.jh_env.specs.declared.texts.entries.NodeChange.TheVariants as NodeChange
 use Rattle.jh_env.specs.Names.{AreNodeNames, AreFew, RefusesNames}
 use Rattle.jh_env.specs.Text.{Entry, OfLink, OfNode, Keys, keys_of, Shape, shape_of}
 

@@ -3,13 +3,10 @@ use Rattle.std.specs.Prelude.{◌≡◌, ◌<◌, ℕ, List, length, ◌++◌, m
 use Rattle.jh_env.specs.declared.cells.Link.{Link}
 use Rattle.jh_env.specs.declared.cells.NodeCell.{NodeCell}
 use Rattle.jh_env.specs.declared.names.NodesError.{NodesError}
-use Rattle.jh_env.specs.declared.names.NodesError.TheVariants as NodesError
 use Rattle.jh_env.specs.declared.texts.EnvTextError.{EnvTextError}
 use Rattle.jh_env.specs.declared.texts.EnvTextError.TheVariants.{NoNodes, TooManyNodes, BadName, DuplicateName, BadEntry, UnknownNode, SelfLink, BadAmount, OutOfMemory}
 use Rattle.jh_env.specs.declared.texts.entries.Entry.{Entry}
-use Rattle.jh_env.specs.declared.texts.entries.Entry.TheVariants as Entry
 use Rattle.jh_env.specs.declared.starting.StartError.{StartError}
-use Rattle.jh_env.specs.declared.starting.StartError.TheVariants as StartError
 use Rattle.jh_env.specs.Cells.{link_at, node_at}
 use Rattle.jh_env.specs.Starting.{StartValue, IsStartingLink, IsStartingNode}
 use Rattle.jh_env.specs.Text as text

@@ -1,6 +1,6 @@
 -- The text that is written of an environment (this project's own): all six keys in order, and under them what is
 -- not calm or not running, links by the place of their source and then of their destination, nodes by place.
-use Rattle.std.specs.Prelude.{ℕ, ◌-◌, ◌^◌, ◌==◌, min, Bool, true, false, ℤ, pos, nat_lt, List, [], ◌∷◌, map, length, filter_map, flat_map, if◌then◌else◌, codes, slice_get, Option, Some, None}
+use Rattle.std.specs.Prelude.{ℕ, ◌-◌, ◌^◌, ◌==◌, min, Bool, false, ℤ, pos, nat_lt, List, [], ◌∷◌, map, length, filter_map, flat_map, if◌then◌else◌, codes, slice_get, Option, Some, None}
 use Rattle.std.specs.List.{range_with_len}
 use Rattle.jh_edn.specs.Edn.{Edn, int, str, keyword, vector, mapping, items_of, members_of}
 use Rattle.jh_env.specs.declared.cells.Life.{Life}
@@ -8,11 +8,8 @@ use Rattle.jh_env.specs.declared.cells.Life.TheVariants.{Running, Paused, Killed
 use Rattle.jh_env.specs.declared.cells.Link.{Link}
 use Rattle.jh_env.specs.declared.cells.NodeCell.{NodeCell}
 use Rattle.jh_env.specs.declared.texts.entries.Section.{Section}
-use Rattle.jh_env.specs.declared.texts.entries.Section.TheVariants as Section
 use Rattle.jh_env.specs.declared.texts.entries.LinkChange.{LinkChange}
-use Rattle.jh_env.specs.declared.texts.entries.LinkChange.TheVariants as LinkChange
 use Rattle.jh_env.specs.declared.texts.entries.NodeChange.{NodeChange}
-use Rattle.jh_env.specs.declared.texts.entries.NodeChange.TheVariants as NodeChange
 use Rattle.jh_env.specs.Overlay.{EnvValue, link_of, node_of}
 use Rattle.jh_env.specs.Text.{◌>>=◌, Entry, OfLink, OfNode, keyword_of, nodes_keyword, sections}
 

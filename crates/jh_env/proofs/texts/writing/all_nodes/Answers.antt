@@ -1,4 +1,4 @@
-use Rattle.std.proofs.Common.{◌≡◌, ◌<◌, length, arith, sym, ◌∙◌, rules}
+use Rattle.std.proofs.Common.{arith}
 use Rattle.jh_env.proofs.TextWritingLemmas.{range_push}
 use Rattle.jh_env.proofs.texts.writing.all_nodes.Goals as goal
 use Rattle.jh_env.proofs.texts.writing.all_nodes.Goals.{in-Some+in_ok-push, in_default}
