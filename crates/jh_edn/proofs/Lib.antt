@@ -1,2 +1,9 @@
 pub mod Lists
+pub mod Bodies
+pub mod Numbers
+pub mod Sorting
+pub mod KeyLists
+pub mod Pairing
+pub mod Twice
+pub mod Keys
 pub mod Printing

@@ -7,5 +7,6 @@ pub mod Equality
 pub mod Key
 pub mod Spelling
 pub mod Reading
+pub mod Gives
 pub mod Refused
 pub mod Print

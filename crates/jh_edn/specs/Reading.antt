@@ -64,7 +64,7 @@ digits_end run = sign_len run + digits_len run
 
 -- a number begins with a digit, or with a sign and a digit
 abbrev pub begins_number : List ℕ → Bool
-begins_number run = is_digit (slice_index run (sign_len run))
+begins_number run = is_digit (slice_index (drop (sign_len run) run) 0)
 
 -- what follows the digits of a number that is no integer
 unfoldable pub begins_fraction : List ℕ → Bool

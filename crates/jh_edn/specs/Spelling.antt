@@ -32,7 +32,7 @@ IsBody (b ∷ bytes) s =
     × (((is_plain b ≡ true) × (s ≡ b ∷ rest)) ⊎ ((e : ℕ) × (escaped e ≡ Some b) × (s ≡ backslash ∷ e ∷ rest)))
 
 -- A keyword's name: symbol characters, with at most one slash, which is neither first nor last.
-abbrev pub is_name : List ℕ → Bool
+unfoldable pub is_name : List ℕ → Bool
 is_name s =
     is_first (slice_index s 0) && list_all is_symbol s && nat_lt (count_by (λ c. c == slash) s) 2
     && not (slice_index s (length s - 1) == slash)

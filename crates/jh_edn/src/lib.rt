@@ -1,9 +1,13 @@
 //! EDN texts: values, a reader and a printer.
 #![tactic(auto)]
 
+mod atom;
 mod error;
 mod fault;
+mod key;
+mod pairs;
 mod scan;
+mod string;
 mod value;
 mod writer;
 

@@ -2,7 +2,7 @@
 //!
 //! `specs/Bytes.antt` says what each byte is.
 
-ghost use Rattle.std.specs.Prelude.{◌≡◌, ◌<◌, IfSome};
+ghost use Rattle.std.specs.Prelude.{◌≡◌, ◌≤◌, ◌<◌, length, IfSome};
 ghost use Rattle.std.specs.Str.{IsCharBoundary};
 ghost use Rattle.jh_edn.specs.Bytes as bytes;
 ghost use Rattle.jh_edn.specs.Bytes.{leading, escaped};
@@ -145,7 +145,8 @@ pub(crate) fn plain_len(rest: &str) -> usize
 
 /// How many digits the bytes begin with.
 pub(crate) fn digits_len(run: &[u8]) -> usize
-    ensures { result ≡ leading bytes.is_digit run.now }
+    ensures len { result ≡ leading bytes.is_digit run.now }
+    ensures within { result ≤ length run.now }
 {
     let mut len = 0;
     for b in run {
