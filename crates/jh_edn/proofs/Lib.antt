@@ -6,4 +6,8 @@ pub mod KeyLists
 pub mod Pairing
 pub mod Twice
 pub mod Keys
+pub mod Sound
+pub mod Complete
+pub mod Loop
+pub mod Whole
 pub mod Printing
