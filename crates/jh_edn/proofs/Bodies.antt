@@ -1,11 +1,11 @@
 -- The rest of a string.
-use Rattle.std.proofs.Common.{◌≡◌, ℕ, zero, suc, ◌+◌, ◌≤◌, ◌<◌, Bool, true, false, cond, eqb, List, [], ◌∷◌, ◌++◌, length, take, drop, get_or, Option, Some, None, Result, Ok, Err, refl, sym, ap, ◌∙◌, append_assoc, arith, rules}
-use Rattle.std.specs.Prelude.{IfSome, ◌≢◌}
+use Rattle.std.proofs.Common.{◌≡◌, ℕ, suc, ◌≤◌, ◌<◌, Bool, true, false, cond, eqb, List, [], ◌∷◌, ◌++◌, length, take, drop, get_or, Some, None, Result, Ok, Err, refl, sym, ap, ◌∙◌, append_assoc, arith}
+use Rattle.std.specs.Prelude.{◌≢◌}
 use Rattle.std.proofs.lemmas.Grind.{common_steps}
 use Rattle.jh_edn.specs.declared.fault.Fault.{Fault}
-use Rattle.jh_edn.specs.declared.fault.Kind.TheVariants.{UnexpectedEnd, BadEscape}
+use Rattle.jh_edn.specs.declared.fault.Kind.TheVariants.{BadEscape}
 use Rattle.jh_edn.specs.Bytes.{is_plain, escaped, leading}
-use Rattle.jh_edn.specs.Reading.{◌>>=◌, body, with_front, fault}
+use Rattle.jh_edn.specs.Reading.{body, with_front, fault}
 
 pub escape_ascii : (b c : ℕ) → escaped b ≡ Some c → b < 128
 unfolding escaped

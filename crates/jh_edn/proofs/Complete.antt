@@ -1,22 +1,19 @@
 -- What is spelled so is read.
-use Rattle.std.proofs.Common.{◌≡◌, ℕ, zero, suc, ◌+◌, ◌-◌, ◌^◌, ◌≤◌, ◌<◌, ◌⊎◌, inl, inr, Bool, true, false, cond, eqb, ltb, List, [], ◌∷◌, ◌++◌, length, take, drop, get_or, Option, Some, None, Result, Ok, Err, refl, sym, ap, subst, ◌∙◌, append_assoc, arith, rules}
-use Rattle.std.specs.Prelude.{◌≢◌, ◌&&◌, ◌||◌, not, ℤ, pos, negsuc, FitsSigned, option_map}
-use Rattle.std.specs.Int.{w64, IsInRange}
+use Rattle.std.proofs.Common.{◌≡◌, ℕ, zero, suc, ◌+◌, ◌-◌, ◌^◌, ◌<◌, ◌⊎◌, inl, inr, Bool, true, false, eqb, ltb, List, [], ◌∷◌, ◌++◌, length, take, drop, get_or, Option, Some, Result, Ok, refl, sym, ap, subst, ◌∙◌, append_assoc, arith}
+use Rattle.std.specs.Prelude.{◌&&◌, not, ℤ, pos, negsuc, FitsSigned, option_map}
+use Rattle.std.specs.Int.{w64}
 use Rattle.std.specs.Char.{digit_value}
 use Rattle.std.specs.Str.Parse.{IsNumeral, AllDigits, signed_digits_value, without_leading_sign}
 use Rattle.std.proofs.lemmas.Grind.{common_steps}
 use Rattle.std.proofs.lemmas.Bool.{eqb-true, ne_eqb, cases_Bool}
-use Rattle.std.proofs.lemmas.Str.Parse.{digit_at}
 use Rattle.std.proofs.lemmas.List.{take_at, drop_at, length-append, append-nil}
 use Rattle.jh_edn.specs.declared.fault.Fault.{Fault}
-use Rattle.jh_edn.specs.declared.fault.Kind.{Kind}
-use Rattle.jh_edn.specs.declared.fault.Kind.TheVariants.{UnexpectedEnd, BadToken, FloatUnsupported, IntegerRange, BadEscape, OddMap, DuplicateKey, TooDeep}
 use Rattle.jh_edn.specs.Edn.{Edn, int, str, keyword, vector, mapping, Items, no_items, item, items_of, Members, no_members, member, members_of}
 use Rattle.jh_edn.specs.Bytes.{quote, backslash, colon, plus, minus, slash, capital_n, digit_zero, open_bracket, close_bracket, open_brace, close_brace, is_space, is_delimiter, is_run, is_plain, is_digit, is_symbol, is_first, escaped, leading}
 use Rattle.std.specs.List.{list_all, count_by}
 use Rattle.jh_edn.specs.Spelling.{IsGap, NoLeadingZero, IsInteger, IsBody, is_name, BeginsNoRun, Apart, Elements, Form, Spells, items_of_members}
 use Rattle.jh_edn.specs.Equality.{KeysDiffer}
-use Rattle.jh_edn.specs.Reading.{◌>>=◌, fault, with_front, after_escape, body, after_gap, run_of, sign_len, digits_len, digits_end, begins_number, begins_fraction, is_suffix, magnitude, integer_of, number_of, as_int, atom_of, placed, atom, Read, Inside, element, items_step, items, too_deep, read, pairs_of, repeats_key, paired}
+use Rattle.jh_edn.specs.Reading.{◌>>=◌, with_front, body, after_gap, sign_len, digits_end, begins_number, begins_fraction, is_suffix, magnitude, integer_of, number_of, atom_of, atom, Read, Inside, element, items_step, items, too_deep, read, pairs_of, repeats_key, paired}
 use Rattle.jh_edn.proofs.Numbers.{and_both, unsigned_is}
 use Rattle.jh_edn.proofs.Keys.{no_key_twice}
 use Rattle.jh_edn.proofs.Sound.{ok_is, done}
@@ -101,10 +98,10 @@ signed_cases (c ∷ s) lt =
     elim (cases_Bool (eqb c minus)) [
       | inl e ↦ rw e (inr (c, inr (eqb-true c minus e), refl))
       | inr e ↦
-        elim (cases_Bool (eqb c plus)) [
-          | inl f ↦ rw (e, f) (inr (c, inl (eqb-true c plus f), refl))
-          | inr f ↦ rw (e, f) (inl refl)
-        ]
+          elim (cases_Bool (eqb c plus)) [
+            | inl f ↦ rw (e, f) (inr (c, inl (eqb-true c plus f), refl))
+            | inr f ↦ rw (e, f) (inl refl)
+          ]
     ]
 
 digit_no_sign : (d : ℕ) (ds : List ℕ) → digit_value d < 10 → sign_len (d ∷ ds) ≡ 0
@@ -214,16 +211,16 @@ integer_run run z h =
     let value : integer_of h.core ≡ Ok z = rw h.value (integer_again h.core h.digits h.plain h.fits) in
     elim h.suffix [
       | inl e ↦
-        let n = number_at h.core ds [] cases h.digits.1 h.digits.0 refl in
-        let reads = number_again h.core [] z n nil_no_fraction refl value in
-        rw e (record { reads = rw append-nil at reads; all = core_run h.core ds cases h.digits.1; some = some_core h.core ds cases h.digits.0 })
+          let n = number_at h.core ds [] cases h.digits.1 h.digits.0 refl in
+          let reads = number_again h.core [] z n nil_no_fraction refl value in
+          rw e (record { reads = rw append-nil at reads; all = core_run h.core ds cases h.digits.1; some = some_core h.core ds cases h.digits.0 })
       | inr e ↦
-        let n = number_at h.core ds (capital_n ∷ []) cases h.digits.1 h.digits.0 (rw n_no_digit refl) in
-        rw e (record {
-          reads = number_again h.core (capital_n ∷ []) z n n_no_fraction refl value;
-          all = all_append is_run h.core (capital_n ∷ []) (core_run h.core ds cases h.digits.1) (rw n_run refl);
-          some = omega (arith, length-append h.core (capital_n ∷ []));
-        })
+          let n = number_at h.core ds (capital_n ∷ []) cases h.digits.1 h.digits.0 (rw n_no_digit refl) in
+          rw e (record {
+            reads = number_again h.core (capital_n ∷ []) z n n_no_fraction refl value;
+            all = all_append is_run h.core (capital_n ∷ []) (core_run h.core ds cases h.digits.1) (rw n_run refl);
+            some = omega (arith, length-append h.core (capital_n ∷ []));
+          })
     ]
 
 keyword_run : (name : List ℕ) → is_name name ≡ true → Run (keyword name) (colon ∷ name)

@@ -1,8 +1,8 @@
 -- A key's list, built piece by piece.
-use Rattle.std.proofs.Common.{◌≡◌, ℕ, zero, suc, ◌+◌, ◌<◌, List, [], ◌∷◌, ◌++◌, length, take, drop, get_or, map, refl, sym, ap, ◌∙◌, append_assoc, arith}
-use Rattle.jh_edn.specs.Edn.{Edn, items_of, members_of}
-use Rattle.jh_edn.specs.Key.{more_mark, key_of, items_key, pair_keys}
-use Rattle.jh_edn.specs.View.{view, views, view_pairs}
+use Rattle.std.proofs.Common.{◌≡◌, ℕ, zero, suc, ◌+◌, ◌<◌, List, [], ◌∷◌, ◌++◌, length, take, get_or, map, refl, ap, arith}
+use Rattle.jh_edn.specs.Edn.{members_of}
+use Rattle.jh_edn.specs.Key.{key_of, pair_keys}
+use Rattle.jh_edn.specs.View.{view, view_pairs}
 use Rattle.jh_edn.specs.declared.value.Value.{Value}
 
 -- one pair more

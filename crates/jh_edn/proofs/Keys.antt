@@ -1,12 +1,12 @@
 -- Two values have one key exactly where they are equal.
-use Rattle.std.proofs.Common.{◌≡◌, ℕ, zero, suc, ◌+◌, ◌≤◌, ◌<◌, ◌⊎◌, inl, inr, Bool, true, false, cond, eqb, List, [], ◌∷◌, ◌++◌, length, get_or, map, refl, sym, ap, subst, ◌∙◌, append_assoc, arith}
+use Rattle.std.proofs.Common.{◌≡◌, ℕ, ◌+◌, ◌<◌, inl, inr, Bool, true, false, cond, eqb, List, [], ◌∷◌, ◌++◌, get_or, map, refl, sym, ap, ◌∙◌, append_assoc, arith}
 use Rattle.std.specs.Prelude.{ℤ, pos, negsuc, ◌||◌}
 use Rattle.std.specs.Cmp.Lexicographic.{bytes_decides}
 use Rattle.std.specs.Str.{bytes_eq}
 use Rattle.std.proofs.lemmas.Bool.{eqb-false}
 use Rattle.jh_edn.specs.Edn.{Edn, int, str, keyword, vector, mapping, Items, no_items, item, Members, no_members, member, members_of}
 use Rattle.jh_edn.specs.Equality.{Picks, Equals, EqualItems, EqualMembers, IsNewKey, KeysDiffer}
-use Rattle.jh_edn.specs.Key.{more_mark, int_kind, str_kind, keyword_kind, vector_kind, mapping_kind, integer_key, text_key, marked_keys, put_in_order, in_order, key_of, items_key, pair_keys, is_in, has_twice_after}
+use Rattle.jh_edn.specs.Key.{more_mark, int_kind, str_kind, keyword_kind, vector_kind, mapping_kind, integer_key, text_key, marked_keys, in_order, key_of, items_key, pair_keys, is_in, has_twice_after}
 use Rattle.jh_edn.specs.Reading.{repeats_key}
 use Rattle.jh_edn.proofs.Sorting.{count, one_order, in_order_ascends, in_order_count, own, self, Each, in_order_each}
 use Rattle.jh_edn.proofs.Twice.{is_in-push}
@@ -21,9 +21,9 @@ picked_count z key value (member k v ns) others h =
     elim h [
       | inl p ↦ rw (p.0, p.1, p.2) refl
       | inr p ↦
-        let below = picked_count z key value ns p.0 p.2 in
-        let same : count z (pair_keys others) ≡ one (key_of k ++ key_of v) + count z (pair_keys p.0) = ap (λ w. count z (pair_keys w)) p.1 in
-        omega (arith, below, same)
+          let below = picked_count z key value ns p.0 p.2 in
+          let same : count z (pair_keys others) ≡ one (key_of k ++ key_of v) + count z (pair_keys p.0) = ap (λ w. count z (pair_keys w)) p.1 in
+          omega (arith, below, same)
     ]
 
 mutual
@@ -34,7 +34,7 @@ mutual
   same_key (vector xs) y h = ap (λ w. vector_kind ∷ w) (same_items xs h.0 h.2) ∙ ap key_of (sym h.1)
   same_key (mapping ms) y h =
       let order = one_order (in_order (pair_keys ms)) (in_order (pair_keys h.0)) (in_order_ascends (pair_keys ms)) (in_order_ascends (pair_keys h.0))
-        (λ z. in_order_count z (pair_keys ms) ∙ same_members ms h.0 h.2 z ∙ sym (in_order_count z (pair_keys h.0))) in
+      (λ z. in_order_count z (pair_keys ms) ∙ same_members ms h.0 h.2 z ∙ sym (in_order_count z (pair_keys h.0))) in
       ap (λ w. mapping_kind ∷ marked_keys w) order ∙ ap key_of (sym h.1)
 
   same_items : (xs ys : Items) → EqualItems xs ys → items_key xs ≡ items_key ys
@@ -89,7 +89,7 @@ marked_split (a ∷ xs) (b ∷ bs) r s h k e =
     let p = k.0 in
     let tails : (a ++ marked_keys xs) ++ r ≡ (b ++ marked_keys bs) ++ s = cc in
     let parts : a ++ (marked_keys xs ++ r) ≡ (key_of p.0 ++ key_of p.1) ++ (marked_keys bs ++ s) =
-        sym (append_assoc a (marked_keys xs) r) ∙ tails ∙ append_assoc b (marked_keys bs) s ∙ ap (λ (w : List ℕ). w ++ (marked_keys bs ++ s)) p.2 in
+    sym (append_assoc a (marked_keys xs) r) ∙ tails ∙ append_assoc b (marked_keys bs) s ∙ ap (λ (w : List ℕ). w ++ (marked_keys bs ++ s)) p.2 in
     let head = h.0 p.0 p.1 (marked_keys xs ++ r) (marked_keys bs ++ s) parts in
     let below = marked_split xs bs r s h.1 k.1 head.1 in
     let first : a ≡ b = head.0 ∙ sym p.2 in
@@ -132,10 +132,10 @@ members_equal (member k v ms) ns h c =
     let first = h.0 p.0 (key_of v) (key_of p.1) p.4 in
     let second = h.1 p.1 [] [] (ap (λ (w : List ℕ). w ++ []) first.1) in
     let others : (z : List ℕ) → count z (pair_keys ms) ≡ count z (pair_keys p.2) =
-        λ z.
-          let one : List ℕ → ℕ = λ w. cond (bytes_eq z w) 1 0 in
-          let same : one here ≡ one (key_of p.0 ++ key_of p.1) = ap one p.4 in
-          omega (arith, c z, picked_count z p.0 p.1 ns p.2 p.3, same) in
+    λ z.
+    let one : List ℕ → ℕ = λ w. cond (bytes_eq z w) 1 0 in
+    let same : one here ≡ one (key_of p.0 ++ key_of p.1) = ap one p.4 in
+    omega (arith, c z, picked_count z p.0 p.1 ns p.2 p.3, same) in
     (p.0, p.1, p.2, p.3, first.0, second.0, members_equal ms p.2 h.2 others)
 
 maps_split : (ms ns : Members) (r s : List ℕ) → SplitMembers ms → key_of (mapping ms) ++ r ≡ key_of (mapping ns) ++ s → EqualMembers ms ns × (r ≡ s)
@@ -261,10 +261,10 @@ fresh_more : (before : List (List ℕ)) (k : Edn) (ms : List (Edn × Edn)) → I
 fresh_more before k [] h f = tt
 fresh_more before k (m ∷ ms) h f =
     let other : bytes_eq (key_of k) (key_of m.0) ≡ false =
-        elim (bytes_eq (key_of k) (key_of m.0)) as (λ t. bytes_eq (key_of k) (key_of m.0) ≡ t → t ≡ false) [
-          | true ↦ λ e. absurd (h.0 (equal_from_key k m.0 ((bytes_decides (key_of k) (key_of m.0)).0 e)))
-          | false ↦ λ e. refl
-        ] refl in
+    elim (bytes_eq (key_of k) (key_of m.0)) as (λ t. bytes_eq (key_of k) (key_of m.0) ≡ t → t ≡ false) [
+      | true ↦ λ e. absurd (h.0 (equal_from_key k m.0 ((bytes_decides (key_of k) (key_of m.0)).0 e)))
+      | false ↦ λ e. refl
+    ] refl in
     (is_in-push (key_of m.0) before (key_of k) ∙ rw (other, f.0) refl, fresh_more before k ms h.1 f.1)
 
 none_after : (before : List (List ℕ)) (ms : List (Edn × Edn)) → Fresh before ms → KeysDiffer (members_of ms) → has_twice_after before (keys_of ms) ≡ false

@@ -10,4 +10,5 @@ pub mod Sound
 pub mod Complete
 pub mod Loop
 pub mod Whole
+pub mod Joining
 pub mod Printing

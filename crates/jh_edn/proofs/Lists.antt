@@ -1,19 +1,16 @@
 -- Texts and their fronts.
-use Rattle.std.proofs.Common.{◌≡◌, ℕ, suc, ◌+◌, ◌≤◌, ◌<◌, Bool, true, false, cond, List, [], ◌∷◌, ◌++◌, length, take, drop, refl, sym, ap, ◌∙◌, arith}
+use Rattle.std.proofs.Common.{◌≡◌, ℕ, suc, ◌≤◌, ◌<◌, Bool, true, false, cond, List, [], ◌∷◌, length, refl, arith}
 use Rattle.jh_edn.specs.Bytes.{leading}
-use Rattle.std.proofs.Common.{get_or, sym, subst}
+use Rattle.std.proofs.Common.{get_or}
 use Rattle.std.specs.Str.{IsCharBoundary, IsUtf8}
-use Rattle.std.proofs.Common.{zero, ◌-◌, add-one}
+use Rattle.std.proofs.Common.{zero, add-one}
 use Rattle.std.proofs.lemmas.Str.{IsCharBoundary-before_ascii, IsCharBoundary-after_ascii, IsCharBoundary-start}
 use Rattle.std.proofs.lemmas.Grind.{common_steps}
-use Rattle.std.proofs.lemmas.Bool.{cases_lt}
-use Rattle.std.proofs.Common.{inl, inr}
 use Rattle.jh_edn.specs.Bytes.{is_run, is_space, is_delimiter, is_plain}
 
 pub leading-le : (p : ℕ → Bool) (s : List ℕ) → leading p s ≤ length s
 leading-le p [] = omega arith
 leading-le p (c ∷ s) = elim (p c) as (λ b. cond b (suc (leading p s)) 0 ≤ suc (length s)) [ true ↦ omega (arith, leading-le p s) | false ↦ omega arith ]
-
 
 run_ascii : (c : ℕ) → is_run c ≡ false → c < 128
 unfolding is_run is_space is_delimiter

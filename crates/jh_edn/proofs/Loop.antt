@@ -1,11 +1,10 @@
 -- Reading elements one after the other, as a loop does.
-use Rattle.std.proofs.Common.{◌≡◌, ℕ, zero, suc, ◌+◌, ◌-◌, ◌≤◌, ◌<◌, Bool, true, false, cond, eqb, List, [], ◌∷◌, ◌++◌, length, take, drop, get_or, Result, Ok, Err, refl, sym, ap, subst, ◌∙◌, append_assoc, arith}
+use Rattle.std.proofs.Common.{◌≡◌, ℕ, zero, suc, ◌-◌, ◌≤◌, ◌<◌, true, false, eqb, List, [], ◌∷◌, ◌++◌, length, drop, get_or, Result, Ok, Err, refl, sym, ap, ◌∙◌, arith}
 use Rattle.std.specs.Prelude.{◌≢◌, ℤ}
 use Rattle.std.proofs.Common.{inl, inr}
 use Rattle.std.specs.Str.Parse.{without_leading_sign}
-use Rattle.std.proofs.lemmas.List.{length-append, length-drop, append-nil, take-append-drop}
-use Rattle.std.proofs.lemmas.Grind.{common_steps}
-use Rattle.std.proofs.lemmas.Bool.{eqb-true, eqb-false, ne_eqb, true_from_ne_false}
+use Rattle.std.proofs.lemmas.List.{length-append, length-drop, append-nil}
+use Rattle.std.proofs.lemmas.Bool.{eqb-false, ne_eqb, true_from_ne_false}
 use Rattle.jh_edn.specs.declared.fault.Fault.{Fault}
 use Rattle.jh_edn.specs.declared.fault.ReadError.{ReadError}
 use Rattle.jh_edn.specs.declared.fault.ReadError.TheVariants as errors
@@ -15,9 +14,8 @@ use Rattle.jh_edn.specs.Bytes.{capital_n, open_brace, close_brace, is_space, lea
 use Rattle.jh_edn.specs.Spelling.{Form, Spells, IsInteger}
 use Rattle.jh_edn.specs.Gives.{Fails}
 use Rattle.jh_edn.specs.Reading.{◌>>=◌, fault, with_front, after_gap, Read, items_step, items, read, element, paired, pairs_of}
-use Rattle.jh_edn.proofs.Bodies.{with_front-nil, with_front-append}
-use Rattle.jh_edn.proofs.Lists.{leading-le}
-use Rattle.jh_edn.proofs.Sound.{Takes, read_sound}
+use Rattle.jh_edn.proofs.Bodies.{with_front-append}
+use Rattle.jh_edn.proofs.Sound.{read_sound}
 
 same_eqb : (a b : ℕ) → a ≡ b → eqb a b ≡ true
 same_eqb a b e = true_from_ne_false (eqb a b) (λ f. eqb-false a b f e)
@@ -65,9 +63,9 @@ gap_shorter s here e = rw e (omega (arith, length-drop (leading is_space s) s))
 
 no_integer : (z : ℤ) → IsInteger [] z → ⊥
 no_integer z h = elim h.suffix [
-    | inl e ↦ let none : length (without_leading_sign h.core) ≡ 0 = rw (← e) refl in omega (arith, h.digits.0, none)
-    | inr e ↦ omega (arith, ap length e, length-append h.core (capital_n ∷ []))
-  ]
+  | inl e ↦ let none : length (without_leading_sign h.core) ≡ 0 = rw (← e) refl in omega (arith, h.digits.0, none)
+  | inr e ↦ omega (arith, ap length e, length-append h.core (capital_n ∷ []))
+]
 
 some_of : (x : Edn) (O : Type 0) (I : Edn → List ℕ → Type 0) (t : List ℕ) → Form O I x t → 0 < length t
 some_of (int z) O I [] h = absurd (no_integer z h)

@@ -1,8 +1,8 @@
 -- Printing, element by element.
-use Rattle.std.proofs.Common.{◌≡◌, ℕ, zero, suc, ◌+◌, ◌≤◌, ◌<◌, Bool, true, false, cond, eqb, List, [], ◌∷◌, ◌++◌, codes, length, take, get_or, Option, Some, None, refl, sym, ap, ◌∙◌, append_assoc, arith}
+use Rattle.std.proofs.Common.{◌≡◌, ℕ, zero, suc, ◌+◌, ◌<◌, Bool, true, false, eqb, List, [], ◌∷◌, ◌++◌, codes, length, take, get_or, Option, Some, None, refl, sym, ap, ◌∙◌, append_assoc, arith}
 use Rattle.std.specs.Io.KnownBytes.{Appends}
 use Rattle.std.proofs.lemmas.Bool.{ne_eqb}
-use Rattle.jh_edn.specs.Edn.{Edn, items_of, members_of}
+use Rattle.jh_edn.specs.Edn.{items_of, members_of}
 use Rattle.jh_edn.specs.View.{view, views, view_pairs}
 use Rattle.jh_edn.specs.Print.{print, joined, item_texts, member_texts, unless_first}
 use Rattle.jh_edn.specs.declared.value.Value.{Value}
@@ -72,5 +72,5 @@ members_push ps i d h =
     let front = joined (codes ", ") (member_texts (members_of (view_pairs (take i ps)))) ++ unless_first (eqb i 0) (codes ", ") in
     let pushed = joined_push (codes ", ") (pair_text p) (member_texts (members_of (view_pairs (take i ps)))) in
     let parts : front ++ pair_text p ≡ ((front ++ print (view p.0)) ++ codes " ") ++ print (view p.1) =
-        sym (append_assoc (front ++ print (view p.0)) (codes " ") (print (view p.1)) ∙ append_assoc front (print (view p.0)) (codes " " ++ print (view p.1))) in
+    sym (append_assoc (front ++ print (view p.0)) (codes " ") (print (view p.1)) ∙ append_assoc front (print (view p.0)) (codes " " ++ print (view p.1))) in
     rw k (ap (joined (codes ", ")) (member_texts_push ps i d h) ∙ (rw (members_begin ps i h) at pushed) ∙ parts)

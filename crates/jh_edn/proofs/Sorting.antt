@@ -1,7 +1,5 @@
 -- Lists of numbers in order: a sorted list has one order.
 use Rattle.std.proofs.Common.{◌≡◌, ℕ, zero, suc, ◌+◌, ◌≤◌, ◌<◌, Bool, true, false, cond, List, [], ◌∷◌, length, get_or, map, refl, sym, ap, subst, ◌∙◌, arith, Vec, Global}
-use Rattle.std.specs.Bool.{Decides}
-use Rattle.std.specs.Cmp.{IsStrictWeakOrder}
 use Rattle.std.specs.Cmp.Lexicographic.{slice_cmp, bytes_decides}
 use Rattle.std.specs.List.{sum_by}
 use Rattle.std.specs.List.Sorted.{IsSorted, IsPermutation}
@@ -83,7 +81,7 @@ one_order (x ∷ xs) (y ∷ ys) a b h =
     let down : above y x ≡ false = first_below y x ys b.0 (omega (arith, h x, own x xs)) in
     let heads : x ≡ y = anti x y up down in
     let tails : (z : List ℕ) → count z xs ≡ count z ys =
-        λ z. let one : List ℕ → ℕ = λ w. cond (bytes_eq z w) 1 0 in let e : one x ≡ one y = ap one heads in omega (arith, h z, e) in
+    λ z. let one : List ℕ → ℕ = λ w. cond (bytes_eq z w) 1 0 in let e : one x ≡ one y = ap one heads in omega (arith, h z, e) in
     λ i. heads i ∷ one_order xs ys a.1 b.1 tails i
 
 -- ---- putting lists in order
@@ -177,8 +175,8 @@ pub sorted_is : (vs ws : List (Vec ℕ Global)) → IsPermutation vs ws → IsSo
 sorted_is vs ws moved up =
     one_order (lists_of ws) (in_order (lists_of vs)) (sorted_ascends ws up) (in_order_ascends (lists_of vs))
     (λ z.
-      let counts = sum_by-IsPermutation (λ (w : List ℕ). cond (bytes_eq z w) 1 0) (lists_of vs) (lists_of ws) (IsPermutation-map (λ v. v.items) vs ws moved) in
-      count_sum z (lists_of ws) ∙ counts ∙ sym (count_sum z (lists_of vs)) ∙ sym (in_order_count z (lists_of vs)))
+    let counts = sum_by-IsPermutation (λ (w : List ℕ). cond (bytes_eq z w) 1 0) (lists_of vs) (lists_of ws) (IsPermutation-map (λ v. v.items) vs ws moved) in
+    count_sum z (lists_of ws) ∙ counts ∙ sym (count_sum z (lists_of vs)) ∙ sym (in_order_count z (lists_of vs)))
 
 -- ---- a fact of each list
 

@@ -1,23 +1,21 @@
 -- What is read is spelled so.
-use Rattle.std.proofs.Common.{◌≡◌, ℕ, zero, suc, ◌+◌, ◌-◌, ◌^◌, ◌≤◌, ◌<◌, ◌⊎◌, inl, inr, Bool, true, false, cond, eqb, ltb, List, [], ◌∷◌, ◌++◌, length, take, drop, get_or, Option, Some, None, Result, Ok, Err, refl, sym, ap, subst, ◌∙◌, append_assoc, arith, rules}
-use Rattle.std.specs.Prelude.{◌≢◌, ◌&&◌, ◌||◌, not, ℤ, FitsSigned, option_map}
-use Rattle.std.specs.Str.{byte}
+use Rattle.std.proofs.Common.{◌≡◌, ℕ, zero, suc, ◌+◌, ◌^◌, ◌<◌, ◌⊎◌, inl, inr, Bool, true, false, cond, eqb, ltb, List, [], ◌∷◌, ◌++◌, length, take, drop, get_or, Option, Some, None, Result, Ok, Err, refl, sym, ap, subst, ◌∙◌, append_assoc, arith}
+use Rattle.std.specs.Prelude.{◌&&◌, ℤ, FitsSigned, option_map}
 use Rattle.std.specs.Int.{w64}
-use Rattle.std.specs.Str.Parse.{IsNumeral, signed_digits_value, without_leading_sign}
+use Rattle.std.specs.Str.Parse.{signed_digits_value, without_leading_sign}
 use Rattle.std.proofs.lemmas.Grind.{common_steps}
 use Rattle.std.proofs.lemmas.Bool.{eqb-true}
-use Rattle.std.proofs.lemmas.List.{take-append-drop, length-append, append-nil}
+use Rattle.std.proofs.lemmas.List.{take-append-drop, append-nil}
 use Rattle.jh_edn.specs.declared.fault.Fault.{Fault}
 use Rattle.jh_edn.specs.declared.fault.Kind.{Kind}
-use Rattle.jh_edn.specs.declared.fault.Kind.TheVariants.{UnexpectedEnd, BadToken, FloatUnsupported, IntegerRange, BadEscape, OddMap, DuplicateKey, TooDeep}
+use Rattle.jh_edn.specs.declared.fault.Kind.TheVariants.{UnexpectedEnd, BadToken, FloatUnsupported, IntegerRange, DuplicateKey}
 use Rattle.jh_edn.specs.Edn.{Edn, int, str, keyword, vector, mapping, Items, no_items, item, items_of, members_of}
-use Rattle.jh_edn.specs.Bytes.{quote, backslash, colon, capital_n, digit_zero, open_bracket, close_bracket, open_brace, close_brace, is_space, is_run, is_plain, is_digit, escaped, leading}
+use Rattle.jh_edn.specs.Bytes.{quote, backslash, colon, capital_n, digit_zero, open_bracket, close_bracket, open_brace, close_brace, is_space, is_run, is_plain, escaped, leading}
 use Rattle.jh_edn.specs.Spelling.{IsGap, NoLeadingZero, IsInteger, IsBody, is_name, BeginsNoRun, Apart, Elements, Form, Spells, items_of_members}
 use Rattle.jh_edn.specs.Equality.{KeysDiffer}
-use Rattle.jh_edn.specs.Reading.{◌>>=◌, fault, with_front, after_escape, body, after_gap, run_of, sign_len, digits_len, digits_end, begins_number, begins_fraction, is_suffix, magnitude, integer_of, number_of, as_int, atom_of, placed, atom, Read, Inside, element, items_step, items, too_deep, read, pairs_of, repeats_key, paired}
+use Rattle.jh_edn.specs.Reading.{◌>>=◌, fault, with_front, after_escape, body, after_gap, run_of, sign_len, digits_end, begins_number, begins_fraction, is_suffix, magnitude, integer_of, number_of, as_int, atom_of, placed, atom, Read, Inside, element, items_step, items, too_deep, read, pairs_of, repeats_key, paired}
 use Rattle.jh_edn.proofs.Numbers.{numeral_cut, unsigned_is, fits_from, and_both}
 use Rattle.jh_edn.proofs.Keys.{keys_differ}
-use Rattle.jh_edn.proofs.Lists.{leading-le}
 
 pub chosen : {A : Type 0} (b : Bool) (x y z : A) → cond b x y ≡ z → ((b ≡ true) × (x ≡ z)) ⊎ ((b ≡ false) × (y ≡ z))
 chosen true x y z e = inl (refl, e)
@@ -68,24 +66,24 @@ body_sound [] t r e = absurd cc
 body_sound (c ∷ []) t r e =
     elim (chosen (eqb c quote) (done ([], [])) (fault UnexpectedEnd []) (Ok (t, r)) e) [
       | inl p ↦
-        let q = ok_is ([], []) (t, r) p.1 in
-        subst (λ (w : List ℕ × List ℕ). Body (c ∷ []) w.0 w.1) q ([], refl, ap (λ (n : ℕ). n ∷ []) (eqb-true _ _ p.0))
+          let q = ok_is ([], []) (t, r) p.1 in
+          subst (λ (w : List ℕ × List ℕ). Body (c ∷ []) w.0 w.1) q ([], refl, ap (λ (n : ℕ). n ∷ []) (eqb-true _ _ p.0))
       | inr p ↦ absurd (err_not _ _ p.1)
     ]
 body_sound (c ∷ d ∷ s) t r e =
     elim (chosen (eqb c quote) (done ([], d ∷ s)) (cond (eqb c backslash) (after_escape (escaped d) (c ∷ d ∷ s) (body s)) (with_front (c ∷ []) (body (d ∷ s)))) (Ok (t, r)) e) [
       | inl p ↦
-        let q = ok_is ([], d ∷ s) (t, r) p.1 in
-        subst (λ (w : List ℕ × List ℕ). Body (c ∷ d ∷ s) w.0 w.1) q ([], refl, ap (λ (n : ℕ). n ∷ d ∷ s) (eqb-true _ _ p.0))
+          let q = ok_is ([], d ∷ s) (t, r) p.1 in
+          subst (λ (w : List ℕ × List ℕ). Body (c ∷ d ∷ s) w.0 w.1) q ([], refl, ap (λ (n : ℕ). n ∷ d ∷ s) (eqb-true _ _ p.0))
       | inr p ↦
-        elim (chosen (eqb c backslash) (after_escape (escaped d) (c ∷ d ∷ s) (body s)) (with_front (c ∷ []) (body (d ∷ s))) (Ok (t, r)) p.1) [
-          | inl q ↦ escape_sound c d s t r (escaped d) refl (eqb-true _ _ q.0) (λ t' r' h. body_sound s t' r' h) q.1
-          | inr q ↦
-            let f = front_ok (c ∷ []) (body (d ∷ s)) t r q.1 in
-            let g = body_sound (d ∷ s) f.0 r f.1 in
-            subst (λ (w : List ℕ). Body (c ∷ d ∷ s) w r) (sym f.2)
-            (c ∷ g.0, (g.0, g.1, inl (plain_is c p.0 q.0, refl)), ap (λ (w : List ℕ). c ∷ w) g.2)
-        ]
+          elim (chosen (eqb c backslash) (after_escape (escaped d) (c ∷ d ∷ s) (body s)) (with_front (c ∷ []) (body (d ∷ s))) (Ok (t, r)) p.1) [
+            | inl q ↦ escape_sound c d s t r (escaped d) refl (eqb-true _ _ q.0) (λ t' r' h. body_sound s t' r' h) q.1
+            | inr q ↦
+                let f = front_ok (c ∷ []) (body (d ∷ s)) t r q.1 in
+                let g = body_sound (d ∷ s) f.0 r f.1 in
+                subst (λ (w : List ℕ). Body (c ∷ d ∷ s) w r) (sym f.2)
+                (c ∷ g.0, (g.0, g.1, inl (plain_is c p.0 q.0, refl)), ap (λ (w : List ℕ). c ∷ w) g.2)
+          ]
     ]
 
 -- ---- integers and keywords
@@ -107,12 +105,12 @@ integer_sound core z some e =
     elim (chosen (ltb 1 (length ds) && eqb (get_or ds 0 0) digit_zero) (Err BadToken) last (Ok z) e) [
       | inl p ↦ absurd (let bad = p.1 in cc)
       | inr p ↦
-        elim (chosen (ltb (magnitude v) (2 ^ 63)) (Ok v) (Err IntegerRange) (Ok z) p.1) [
-          | inl q ↦
-            let plain : NoLeadingZero ds = no_zero (length ds) (get_or ds 0 0) (rw (unsigned_is core) some) p.0 in
-            record { plain = subst NoLeadingZero (unsigned_is core) plain; fits = fits_from v q.0; value = let same = q.1 in cc }
-          | inr q ↦ absurd (let bad = q.1 in cc)
-        ]
+          elim (chosen (ltb (magnitude v) (2 ^ 63)) (Ok v) (Err IntegerRange) (Ok z) p.1) [
+            | inl q ↦
+                let plain : NoLeadingZero ds = no_zero (length ds) (get_or ds 0 0) (rw (unsigned_is core) some) p.0 in
+                record { plain = subst NoLeadingZero (unsigned_is core) plain; fits = fits_from v q.0; value = let same = q.1 in cc }
+            | inr q ↦ absurd (let bad = q.1 in cc)
+          ]
     ]
 
 suffix_sound : (rest : List ℕ) → is_suffix rest ≡ true → (rest ≡ []) ⊎ (rest ≡ capital_n ∷ [])
@@ -137,13 +135,13 @@ number_sound run z begins e =
     elim (chosen (begins_fraction rest) (Err FloatUnsupported) second (Ok z) e) [
       | inl p ↦ absurd (let bad = p.1 in cc)
       | inr p ↦
-        elim (chosen (is_suffix rest) (integer_of core) (Err BadToken) (Ok z) p.1) [
-          | inl q ↦
-            let numeral = numeral_cut run begins in
-            let n = integer_sound core z numeral.0 q.1 in
-            record { core = core; suffix = suffix_is (digits_end run) run q.0; digits = numeral; plain = n.plain; fits = n.fits; value = n.value }
-          | inr q ↦ absurd (let bad = q.1 in cc)
-        ]
+          elim (chosen (is_suffix rest) (integer_of core) (Err BadToken) (Ok z) p.1) [
+            | inl q ↦
+                let numeral = numeral_cut run begins in
+                let n = integer_sound core z numeral.0 q.1 in
+                record { core = core; suffix = suffix_is (digits_end run) run q.0; digits = numeral; plain = n.plain; fits = n.fits; value = n.value }
+            | inr q ↦ absurd (let bad = q.1 in cc)
+          ]
     ]
 
 as_int_ok : (a : Result ℤ Kind) (x : Edn) → as_int a ≡ Ok x → (z : ℤ) × (a ≡ Ok z) × (int z ≡ x)
@@ -154,9 +152,9 @@ placed_ok : (a : Result Edn Kind) (s after : List ℕ) (x : Edn) (r : List ℕ) 
 placed_ok (Ok y) s after x r e = let p = ok_is (y, after) (x, r) e in (ap (λ (q : Edn × List ℕ). Ok q.0) p, ap (λ (q : Edn × List ℕ). q.1) p)
 placed_ok (Err k) s after x r e = absurd cc
 
-begins_with : (c : ℕ) (s : List ℕ) → get_or s 0 0 ≡ suc c → s ≡ suc c ∷ drop 1 s
-begins_with c [] e = absurd (omega arith)
-begins_with c (a ∷ s) e = ap (λ (n : ℕ). n ∷ s) e
+begins_with : (c : ℕ) (s : List ℕ) → 0 < c → get_or s 0 0 ≡ c → s ≡ c ∷ drop 1 s
+begins_with c [] some e = absurd (omega arith)
+begins_with c (a ∷ s) some e = ap (λ (n : ℕ). n ∷ s) e
 
 pub run_ends : (s : List ℕ) → BeginsNoRun (drop (leading is_run s) s)
 run_ends [] = tt
@@ -184,8 +182,8 @@ paired_ok (Some ms) after x r e =
     elim (chosen (repeats_key ms) twice (Ok (mapping (members_of ms), after)) (Ok (x, r)) e) [
       | inl p ↦ absurd (err_not _ _ p.1)
       | inr p ↦
-        let q = ok_is (mapping (members_of ms), after) (x, r) p.1 in
-        record { pairs = ms; found = refl; differ = keys_differ ms p.0; value = ap (λ (w : Edn × List ℕ). w.0) q; rest = ap (λ (w : Edn × List ℕ). w.1) q }
+          let q = ok_is (mapping (members_of ms), after) (x, r) p.1 in
+          record { pairs = ms; found = refl; differ = keys_differ ms p.0; value = ap (λ (w : Edn × List ℕ). w.0) q; rest = ap (λ (w : Edn × List ℕ). w.1) q }
     ]
 
 pub record Takes (P : Edn → List ℕ → Type 0) (s : List ℕ) (x : Edn) (r : List ℕ) : Type 0 where
@@ -201,17 +199,17 @@ module _ (O : Type 0) (I : Edn → List ℕ → Type 0) where
       let other : Result Edn Kind = cond (eqb (get_or run 0 0) colon && is_name (drop 1 run)) (Ok (keyword (drop 1 run))) (Err BadToken) in
       elim (chosen (begins_number run) (as_int (number_of run)) other (Ok x) e) [
         | inl p ↦
-          let a = as_int_ok (number_of run) x p.1 in
-          subst (λ (y : Edn). Form O I y run × ((r : List ℕ) → BeginsNoRun r → Apart y r)) a.2 (number_sound run a.0 p.0 a.1, λ r h. h)
+            let a = as_int_ok (number_of run) x p.1 in
+            subst (λ (y : Edn). Form O I y run × ((r : List ℕ) → BeginsNoRun r → Apart y r)) a.2 (number_sound run a.0 p.0 a.1, λ r h. h)
         | inr p ↦
-          elim (chosen (eqb (get_or run 0 0) colon && is_name (drop 1 run)) (Ok (keyword (drop 1 run))) (Err BadToken) (Ok x) p.1) [
-            | inl q ↦
-              let both = and_both (eqb (get_or run 0 0) colon) (is_name (drop 1 run)) q.0 in
-              let same : keyword (drop 1 run) ≡ x = let h = q.1 in cc in
-              subst (λ (y : Edn). Form O I y run × ((r : List ℕ) → BeginsNoRun r → Apart y r)) same
-              ((both.1, begins_with 57 run (eqb-true _ _ both.0)), λ r h. h)
-            | inr q ↦ absurd (let bad = q.1 in cc)
-          ]
+            elim (chosen (eqb (get_or run 0 0) colon && is_name (drop 1 run)) (Ok (keyword (drop 1 run))) (Err BadToken) (Ok x) p.1) [
+              | inl q ↦
+                  let both = and_both (eqb (get_or run 0 0) colon) (is_name (drop 1 run)) q.0 in
+                  let same : keyword (drop 1 run) ≡ x = let h = q.1 in cc in
+                  subst (λ (y : Edn). Form O I y run × ((r : List ℕ) → BeginsNoRun r → Apart y r)) same
+                  ((both.1, begins_with colon run (omega arith) (eqb-true _ _ both.0)), λ r h. h)
+              | inr q ↦ absurd (let bad = q.1 in cc)
+            ]
       ]
 
   atom_sound : (s : List ℕ) (x : Edn) (r : List ℕ) → atom s ≡ Ok (x, r) → Takes (Form O I) s x r
@@ -242,47 +240,47 @@ module _ (O : Type 0) (I : Edn → List ℕ → Type 0) where
       let second : Result (Edn × List ℕ) Fault = cond (eqb c open_bracket) bracket third in
       elim (chosen (eqb c quote) text second (Ok (x, r)) e) [
         | inl p ↦
-          let a = bind_ok (body s) (λ q. Ok (str q.0, q.1)) (x, r) p.1 in
-          let b = body_sound s a.0.0 a.0.1 a.1 in
-          subst (λ (y : Edn × List ℕ). Takes (Form O I) (c ∷ s) y.0 y.1) (ok_is (str a.0.0, a.0.1) (x, r) a.2)
-          record {
-            text = quote ∷ (b.0 ++ quote ∷ []);
-            parts = ap (λ (n : ℕ). n ∷ s) (eqb-true _ _ p.0) ∙ ap (λ (w : List ℕ). quote ∷ w) (b.2 ∙ sym (append_assoc b.0 (quote ∷ []) a.0.1));
-            spells = (b.0, b.1, refl);
-            apart = tt;
-          }
+            let a = bind_ok (body s) (λ q. Ok (str q.0, q.1)) (x, r) p.1 in
+            let b = body_sound s a.0.0 a.0.1 a.1 in
+            subst (λ (y : Edn × List ℕ). Takes (Form O I) (c ∷ s) y.0 y.1) (ok_is (str a.0.0, a.0.1) (x, r) a.2)
+            record {
+              text = quote ∷ (b.0 ++ quote ∷ []);
+              parts = ap (λ (n : ℕ). n ∷ s) (eqb-true _ _ p.0) ∙ ap (λ (w : List ℕ). quote ∷ w) (b.2 ∙ sym (append_assoc b.0 (quote ∷ []) a.0.1));
+              spells = (b.0, b.1, refl);
+              apart = tt;
+            }
         | inr p ↦
-          elim (chosen (eqb c open_bracket) bracket third (Ok (x, r)) p.1) [
-            | inl q ↦
-              let a = bind_ok (inside close_bracket c s) (λ w. Ok (vector (items_of w.0), w.1)) (x, r) q.1 in
-              let b = h close_bracket c s a.0.0 a.0.1 a.1 in
-              subst (λ (y : Edn × List ℕ). Takes (Form O I) (c ∷ s) y.0 y.1) (ok_is (vector (items_of a.0.0), a.0.1) (x, r) a.2)
-              record {
-                text = open_bracket ∷ (b.1 ++ close_bracket ∷ []);
-                parts = ap (λ (n : ℕ). n ∷ s) (eqb-true _ _ q.0) ∙ ap (λ (w : List ℕ). open_bracket ∷ w) (b.2 ∙ sym (append_assoc b.1 (close_bracket ∷ []) a.0.1));
-                spells = (b.0, b.1, b.3, refl);
-                apart = tt;
-              }
-            | inr q ↦
-              elim (chosen (eqb c open_brace) brace fourth (Ok (x, r)) q.1) [
-                | inl u ↦
-                  let a = bind_ok (inside close_brace c s) (λ w. paired (pairs_of w.0) w.1) (x, r) u.1 in
-                  let b = h close_brace c s a.0.0 a.0.1 a.1 in
-                  let m = paired_ok (pairs_of a.0.0) a.0.1 x r a.2 in
-                  subst (λ (y : Edn). Takes (Form O I) (c ∷ s) y r) m.value
-                  (subst (λ (w : List ℕ). Takes (Form O I) (c ∷ s) (mapping (members_of m.pairs)) w) m.rest record {
-                    text = open_brace ∷ (b.1 ++ close_brace ∷ []);
-                    parts = ap (λ (n : ℕ). n ∷ s) (eqb-true _ _ u.0) ∙ ap (λ (w : List ℕ). open_brace ∷ w) (b.2 ∙ sym (append_assoc b.1 (close_brace ∷ []) a.0.1));
-                    spells = (b.0, b.1, subst (λ (w : Items). Elements I w b.1) (pairs_items a.0.0 m.pairs m.found) b.3, refl, m.differ);
+            elim (chosen (eqb c open_bracket) bracket third (Ok (x, r)) p.1) [
+              | inl q ↦
+                  let a = bind_ok (inside close_bracket c s) (λ w. Ok (vector (items_of w.0), w.1)) (x, r) q.1 in
+                  let b = h close_bracket c s a.0.0 a.0.1 a.1 in
+                  subst (λ (y : Edn × List ℕ). Takes (Form O I) (c ∷ s) y.0 y.1) (ok_is (vector (items_of a.0.0), a.0.1) (x, r) a.2)
+                  record {
+                    text = open_bracket ∷ (b.1 ++ close_bracket ∷ []);
+                    parts = ap (λ (n : ℕ). n ∷ s) (eqb-true _ _ q.0) ∙ ap (λ (w : List ℕ). open_bracket ∷ w) (b.2 ∙ sym (append_assoc b.1 (close_bracket ∷ []) a.0.1));
+                    spells = (b.0, b.1, b.3, refl);
                     apart = tt;
-                  })
-                | inr u ↦
-                  elim (chosen (is_run c) (atom (c ∷ s)) (fault BadToken (c ∷ s)) (Ok (x, r)) u.1) [
-                    | inl w ↦ atom_sound (c ∷ s) x r w.1
-                    | inr w ↦ absurd (err_not _ _ w.1)
+                  }
+              | inr q ↦
+                  elim (chosen (eqb c open_brace) brace fourth (Ok (x, r)) q.1) [
+                    | inl u ↦
+                        let a = bind_ok (inside close_brace c s) (λ w. paired (pairs_of w.0) w.1) (x, r) u.1 in
+                        let b = h close_brace c s a.0.0 a.0.1 a.1 in
+                        let m = paired_ok (pairs_of a.0.0) a.0.1 x r a.2 in
+                        subst (λ (y : Edn). Takes (Form O I) (c ∷ s) y r) m.value
+                        (subst (λ (w : List ℕ). Takes (Form O I) (c ∷ s) (mapping (members_of m.pairs)) w) m.rest record {
+                          text = open_brace ∷ (b.1 ++ close_brace ∷ []);
+                          parts = ap (λ (n : ℕ). n ∷ s) (eqb-true _ _ u.0) ∙ ap (λ (w : List ℕ). open_brace ∷ w) (b.2 ∙ sym (append_assoc b.1 (close_brace ∷ []) a.0.1));
+                          spells = (b.0, b.1, subst (λ (w : Items). Elements I w b.1) (pairs_items a.0.0 m.pairs m.found) b.3, refl, m.differ);
+                          apart = tt;
+                        })
+                    | inr u ↦
+                        elim (chosen (is_run c) (atom (c ∷ s)) (fault BadToken (c ∷ s)) (Ok (x, r)) u.1) [
+                          | inl w ↦ atom_sound (c ∷ s) x r w.1
+                          | inr w ↦ absurd (err_not _ _ w.1)
+                        ]
                   ]
-              ]
-          ]
+            ]
       ]
 
 -- ---- elements
@@ -309,12 +307,12 @@ step_ok close value more (c ∷ s) xs r e =
     let go : Result (List Edn × List ℕ) Fault = value (c ∷ s) >>= λ x. with_front (x.0 ∷ []) (more x.1) in
     elim (chosen (eqb c close) (done ([], s)) go (Ok (xs, r)) e) [
       | inl p ↦
-        let q = ok_is ([], s) (xs, r) p.1 in
-        inl (rw (eqb-true c close p.0) (ap (λ (w : List Edn × List ℕ). close ∷ w.1) q), sym (ap (λ (w : List Edn × List ℕ). w.0) q))
+          let q = ok_is ([], s) (xs, r) p.1 in
+          inl (rw (eqb-true c close p.0) (ap (λ (w : List Edn × List ℕ). close ∷ w.1) q), sym (ap (λ (w : List Edn × List ℕ). w.0) q))
       | inr p ↦
-        let a = bind_ok (value (c ∷ s)) (λ x. with_front (x.0 ∷ []) (more x.1)) (xs, r) p.1 in
-        let b = front_ok (a.0.0 ∷ []) (more a.0.1) xs r a.2 in
-        inr (a.0.0, a.0.1, b.0, a.1, b.1, b.2)
+          let a = bind_ok (value (c ∷ s)) (λ x. with_front (x.0 ∷ []) (more x.1)) (xs, r) p.1 in
+          let b = front_ok (a.0.0 ∷ []) (more a.0.1) xs r a.2 in
+          inr (a.0.0, a.0.1, b.0, a.1, b.1, b.2)
     ]
 
 module _ (close : ℕ) (value : Read Edn) (P : Edn → List ℕ → Type 0) (sound : (s : List ℕ) (x : Edn) (r : List ℕ) → value s ≡ Ok (x, r) → Takes P s x r) where
@@ -327,13 +325,13 @@ module _ (close : ℕ) (value : Read Edn) (P : Edn → List ℕ → Type 0) (sou
       elim (step_ok close value (items close value n) (after_gap s) xs r e) [
         | inl p ↦ (gap, cut ∙ ap (λ (w : List ℕ). gap ++ w) p.0, rw p.1 (gap_is s))
         | inr p ↦
-          let t = sound (after_gap s) p.0 p.1 p.3 in
-          let below = items_sound n p.1 p.2 r p.4 in
-          rw p.5 (
-            gap ++ (t.text ++ below.0),
-            cut ∙ ap (λ (w : List ℕ). gap ++ w) (t.parts ∙ ap (λ (w : List ℕ). t.text ++ w) below.1 ∙ sym (append_assoc t.text below.0 (close ∷ r))) ∙ sym (append_assoc gap (t.text ++ below.0) (close ∷ r)),
-            (gap, t.text, below.0, refl, gap_is s, t.spells, apart_front p.0 below.0 (close ∷ r) (subst (Apart p.0) below.1 t.apart), below.2),
-          )
+            let t = sound (after_gap s) p.0 p.1 p.3 in
+            let below = items_sound n p.1 p.2 r p.4 in
+            rw p.5 (
+              gap ++ (t.text ++ below.0),
+              cut ∙ ap (λ (w : List ℕ). gap ++ w) (t.parts ∙ ap (λ (w : List ℕ). t.text ++ w) below.1 ∙ sym (append_assoc t.text below.0 (close ∷ r))) ∙ sym (append_assoc gap (t.text ++ below.0) (close ∷ r)),
+              (gap, t.text, below.0, refl, gap_is s, t.spells, apart_front p.0 below.0 (close ∷ r) (subst (Apart p.0) below.1 t.apart), below.2),
+            )
       ]
 
 pub read_sound : (depth : ℕ) (s : List ℕ) (x : Edn) (r : List ℕ) → read depth s ≡ Ok (x, r) → Takes (Spells depth) s x r

@@ -1,8 +1,8 @@
-use Rattle.std.proofs.Common.{◌≡◌, ℕ, zero, suc, ◌+◌, ◌<◌, Bool, true, false, cond, List, [], ◌∷◌, ◌++◌, length, take, drop, get_or, map, refl, sym, ap, ◌∙◌, arith, Vec, Global}
+use Rattle.std.proofs.Common.{◌≡◌, ℕ, ◌+◌, ◌<◌, Bool, true, false, cond, List, [], ◌∷◌, ◌++◌, length, take, drop, get_or, map, refl, ap, ◌∙◌, Vec, Global}
 use Rattle.std.specs.Prelude.{◌||◌}
 use Rattle.std.specs.Str.{bytes_eq}
 use Rattle.std.proofs.lemmas.List.{take_more, drop_more, map_push}
-use Rattle.jh_edn.specs.Key.{is_in, has_twice_after, has_twice}
+use Rattle.jh_edn.specs.Key.{is_in, has_twice_after}
 
 pub is_in-push : (k : List ℕ) (bs : List (List ℕ)) (b : List ℕ) → is_in k (bs ++ b ∷ []) ≡ cond (bytes_eq b k) true (is_in k bs)
 is_in-push k [] b = elim (bytes_eq b k) as (λ t. (t || false) ≡ cond t true false) [ true ↦ refl | false ↦ refl ]

@@ -1,6 +1,6 @@
 -- The bytes of EDN texts (EDN's format description, "General considerations", "Strings", "Symbols", "Keywords").
 -- A text is the list of its UTF-8 bytes. Every byte that means something by itself is ASCII.
-use Rattle.std.specs.Prelude.{ℕ, suc, Bool, not, ◌&&◌, ◌||◌, ◌==◌, nat_le, List, [], ◌∷◌, Option, Some, None, if◌then◌else◌, codes}
+use Rattle.std.specs.Prelude.{ℕ, suc, ◌<◌, Bool, not, ◌&&◌, ◌||◌, ◌==◌, nat_le, List, [], ◌∷◌, Option, Some, None, if◌then◌else◌, codes}
 use Rattle.std.specs.List.{list_any}
 use Rattle.std.specs.Str.{byte}
 
@@ -63,6 +63,10 @@ open_brace = byte "{"
 
 abbrev pub close_brace : ℕ
 close_brace = byte "}"
+
+-- a byte that is a character by itself
+abbrev pub IsAscii : ℕ → Type 0
+IsAscii c = c < 128
 
 -- one of these bytes
 abbrev pub is_among : List ℕ → ℕ → Bool

@@ -7,6 +7,7 @@ use Rattle.jh_edn.specs.declared.fault.ReadError.{ReadError}
 use Rattle.jh_edn.specs.declared.fault.ReadError.TheVariants as errors
 use Rattle.jh_edn.specs.declared.string.Stop.{Stop}
 use Rattle.jh_edn.specs.declared.string.Stop.TheVariants.{End, Close, Escape, BadEscape}
+use Rattle.jh_edn.specs.Bytes.{IsAscii}
 use Rattle.jh_edn.specs.Reading.{body, fault, with_front}
 
 -- reading gives this fault, unless memory ran out
@@ -30,5 +31,5 @@ at_stop BadEscape s = fault kinds.BadEscape s
 abbrev pub IsShorter : Stop → List ℕ → Type 0
 IsShorter End s = Unit {0}
 IsShorter (Close after) s = IsUtf8 after.now
-IsShorter (Escape c after) s = (length after.now < length s) × (c < 128) × IsUtf8 after.now
+IsShorter (Escape c after) s = (length after.now < length s) × IsAscii c × IsUtf8 after.now
 IsShorter BadEscape s = Unit {0}

@@ -3,7 +3,7 @@ use Rattle.std.specs.Prelude.{ℕ, Bool, List, [], ◌∷◌, ◌++◌, if◌the
 use Rattle.std.specs.List.{flat_map}
 use Rattle.std.specs.Fmt.{signed_decimal}
 use Rattle.jh_edn.specs.Edn.{Edn, int, str, keyword, vector, mapping, Items, no_items, item, Members, no_members, member}
-use Rattle.jh_edn.specs.Bytes.{backspace, tab, line_feed, form_feed, carriage_return, space, quote, colon, backslash, open_bracket, close_bracket, open_brace, close_brace}
+use Rattle.jh_edn.specs.Bytes.{backspace, tab, line_feed, form_feed, carriage_return, quote, colon, backslash, open_bracket, close_bracket, open_brace, close_brace}
 
 -- a byte of a string, as it stands between quotes
 abbrev pub escape : ℕ → List ℕ

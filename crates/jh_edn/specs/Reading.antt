@@ -1,6 +1,6 @@
 -- The first fault of a text: reading from left to right, up to the first character that decides against the text
 -- (this project's own; which texts spell which values is Spelling).
-use Rattle.std.specs.Prelude.{◌≡◌, ℕ, zero, suc, ◌+◌, ◌-◌, ◌^◌, Bool, true, false, not, ◌&&◌, ◌||◌, ◌==◌, nat_lt, if◌then◌else◌, List, [], ◌∷◌, ◌++◌, length, map, take, drop, slice_index, ℤ, pos, negsuc, Option, Some, None, option_map, Result, Ok, Err, codes}
+use Rattle.std.specs.Prelude.{◌≡◌, ℕ, zero, suc, ◌+◌, ◌-◌, ◌^◌, Bool, true, false, ◌&&◌, ◌||◌, ◌==◌, nat_lt, if◌then◌else◌, List, [], ◌∷◌, ◌++◌, length, map, take, drop, slice_index, ℤ, pos, negsuc, Option, Some, None, option_map, Result, Ok, Err, codes}
 use Rattle.std.specs.List.{count_by}
 use Rattle.std.specs.Str.Parse.{signed_digits_value}
 use Rattle.jh_edn.specs.declared.error.EdnError.{EdnError}

@@ -26,3 +26,10 @@ RefusesText bytes TooLong = Unit {0}
 RefusesText bytes Read = Unit {0}
 RefusesText bytes Write = ⊥
 RefusesText bytes OutOfMemory = Unit {0}
+
+-- what reading a reader's bytes can fail with
+abbrev pub IsReaderError : EdnError → Type 0
+IsReaderError TooLong = Unit {0}
+IsReaderError Read = Unit {0}
+IsReaderError OutOfMemory = Unit {0}
+IsReaderError _ = ⊥

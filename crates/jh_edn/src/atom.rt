@@ -56,11 +56,7 @@ fn is_suffix(rest: &[u8]) -> bool
 }
 
 /// The integer of a sign and digits.
-#[tactic(
-    auto,
-    using(crate::proofs::Numbers::too_large, crate::proofs::Numbers::unsigned_is),
-    unfolding(crate::specs::Reading::integer_of)
-)]
+#[tactic(auto, using(crate::proofs::Numbers::too_large, crate::proofs::Numbers::unsigned_is), unfolding(crate::specs::Reading::integer_of))]
 fn integer_of(core: &[u8]) -> Result<i64, Kind>
     requires { IsNumeral 10 (without_leading_sign core.now) }
     ensures { result ≡ reading.integer_of core.now }
@@ -115,15 +111,7 @@ fn count_slashes(name: &[u8]) -> usize
     count
 }
 
-#[tactic(
-    auto,
-    unfolding(
-        crate::specs::Spelling::is_name,
-        crate::specs::Bytes::is_first,
-        crate::specs::Bytes::is_symbol,
-        crate::specs::Bytes::is_digit
-    )
-)]
+#[tactic(auto, unfolding(crate::specs::Spelling::is_name, crate::specs::Bytes::is_first, crate::specs::Bytes::is_symbol, crate::specs::Bytes::is_digit))]
 fn is_name(name: &[u8]) -> bool
     ensures { result ≡ spelling.is_name name.now }
 {

@@ -4,6 +4,7 @@
 
 ghost use Rattle.std.specs.Prelude.{◌≡◌, ◌+◌, ◌<◌, ◌^◌, suc, length, IfOk};
 ghost use Rattle.std.specs.Str.{IsUtf8};
+ghost use Rattle.jh_edn.specs.Bytes.{IsAscii};
 ghost use Rattle.jh_edn.specs.Gives.{Gives};
 ghost use Rattle.jh_edn.specs.Reading.{read, items, paired, pairs_of};
 ghost use Rattle.jh_edn.specs.View.{view, views};
@@ -28,11 +29,7 @@ fn fault_before(kind: Kind, after: &str) -> ReadError
 }
 
 /// The map of these elements, with what follows it.
-fn close_map(
-    alloc: Global,
-    items: Vec<Value>,
-    after: &str,
-) -> Result<(Value, &str), ReadError>
+fn close_map(alloc: Global, items: Vec<Value>, after: &str) -> Result<(Value, &str), ReadError>
     requires { length after.now < 2 ^ 63 }
     ensures gives { Gives (λ x. (view x.0, x.1.now)) result (paired (pairs_of (views items.items)) after.now) }
     ensures text { IfOk result (λ x. IsUtf8 x.1.now) }
@@ -94,7 +91,7 @@ fn elements(
     close: u8,
     depth: usize,
 ) -> Result<(Vec<Value>, &str), ReadError>
-    requires { close < 128 }
+    requires { IsAscii close }
     ensures gives { Gives (λ x. (views x.0.items, x.1.now)) result
         (items close (read depth) (suc (length rest.now)) rest.now) }
     ensures text { IfOk result (λ x. IsUtf8 x.1.now) }

@@ -12,15 +12,21 @@ use crate::value::{Pairs, Value, Values};
 use std::alloc::{AllocError, Global};
 
 const INT_KIND: u64 = 1;
+
 const STR_KIND: u64 = 2;
+
 const KEYWORD_KIND: u64 = 3;
+
 const VECTOR_KIND: u64 = 4;
+
 const MAPPING_KIND: u64 = 5;
 
 const LAST_MARK: u64 = 0;
+
 const MORE_MARK: u64 = 1;
 
 const NEGATIVE_MARK: u64 = 0;
+
 const POSITIVE_MARK: u64 = 1;
 
 fn push_integer(n: i64, key: &mut Vec<u64>) -> Result<(), AllocError>

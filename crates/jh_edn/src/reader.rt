@@ -42,11 +42,7 @@ fn line_of(text: &str, left: usize) -> u64
 ///
 /// The fault whose deciding character comes first, with its line in the whole text; `OutOfMemory` where memory for a
 /// value or its keys was refused before that.
-pub fn read_one(
-    alloc: Global,
-    text: &str,
-    at: usize,
-) -> Result<Option<(Value, usize)>, EdnError>
+pub fn read_one(alloc: Global, text: &str, at: usize) -> Result<Option<(Value, usize)>, EdnError>
     requires { IsCharBoundary text.now at }
     ensures some { IfOk result (λ o. IfSome o (λ p. Reads text.now at (view p.0) p.1)) }
     ensures place { IfOk result (λ o. IfSome o (λ p. (at < p.1) × IsCharBoundary text.now p.1)) }

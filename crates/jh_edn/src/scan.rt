@@ -5,7 +5,7 @@
 ghost use Rattle.std.specs.Prelude.{◌≡◌, ◌≤◌, ◌<◌, length, IfSome};
 ghost use Rattle.std.specs.Str.{IsCharBoundary};
 ghost use Rattle.jh_edn.specs.Bytes as bytes;
-ghost use Rattle.jh_edn.specs.Bytes.{leading, escaped};
+ghost use Rattle.jh_edn.specs.Bytes.{IsAscii, leading, escaped};
 ghost use Rattle.jh_edn.specs.Reading as reading;
 
 #[tactic(auto, unfolding(crate::specs::Bytes::is_space))]
@@ -19,7 +19,10 @@ fn is_space(b: u8) -> bool
 fn is_delimiter(b: u8) -> bool
     ensures { result ≡ bytes.is_delimiter b }
 {
-    matches!(b, b'(' | b')' | b'[' | b']' | b'{' | b'}' | b'"' | b';' | b'\\')
+    matches!(
+        b,
+        b'(' | b')' | b'[' | b']' | b'{' | b'}' | b'"' | b';' | b'\\'
+    )
 }
 
 #[tactic(auto, unfolding(crate::specs::Bytes::is_run))]
@@ -83,7 +86,7 @@ pub(crate) fn is_first(b: u8) -> bool
 #[tactic(auto, unfolding(crate::specs::Bytes::escaped))]
 pub(crate) fn unescape(b: u8) -> Option<char>
     ensures value { result ≡ escaped b }
-    ensures ascii { IfSome result (λ c. (c < 128) × (b < 128)) }
+    ensures ascii { IfSome result (λ c. IsAscii c × IsAscii b) }
 {
     match b {
         b't' => Some('\t'),

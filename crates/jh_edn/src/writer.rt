@@ -27,7 +27,11 @@ fn separate<W: Write>(first: bool, separator: &[u8], writer: &mut W) -> Result<(
     ensures bytes { OnOk result (Appends (W.contents writer.old) (W.contents writer.new) (unless_first first separator.now)) }
     ensures error { IfErr result (λ e. e ≡ EdnError.Write) }
 {
-    if first { Ok(()) } else { put(separator, writer) }
+    if first {
+        Ok(())
+    } else {
+        put(separator, writer)
+    }
 }
 
 fn write_int<W: Write>(n: i64, writer: &mut W) -> Result<(), EdnError>

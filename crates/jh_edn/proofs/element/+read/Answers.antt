@@ -1,14 +1,12 @@
-use Rattle.std.proofs.Common.{◌≡◌, ℕ, zero, suc, ◌+◌, ◌-◌, ◌≤◌, ◌<◌, List, [], ◌∷◌, ◌++◌, length, take, drop, get_or, Result, Ok, Err, refl, sym, ap, subst, ◌∙◌, arith, rules}
+use Rattle.std.proofs.Common.{◌≡◌, suc, ◌-◌, ◌<◌, [], ◌∷◌, ◌++◌, length, drop, get_or, Ok, subst, arith}
 use Rattle.std.specs.Prelude.{◌≢◌}
 use Rattle.std.specs.Str.{IsUtf8}
 use Rattle.std.proofs.lemmas.Str.{IsCharBoundary-after_ascii}
 use Rattle.std.proofs.lemmas.Result.{err_from_is_err_and}
 use Rattle.std.proofs.lemmas.List.{map_push}
-use Rattle.std.proofs.lemmas.Grind.{common_steps}
-use Rattle.jh_edn.specs.Edn.{Edn}
 use Rattle.jh_edn.specs.Bytes.{quote, open_bracket, open_brace, close_brace}
 use Rattle.jh_edn.specs.View.{view, views}
-use Rattle.jh_edn.specs.Reading.{items, read, after_gap}
+use Rattle.jh_edn.specs.Reading.{items, read}
 use Rattle.jh_edn.proofs.Loop.{ends, closes, fails, goes, gap_shorter, read_shorter, read_map}
 use Rattle.jh_edn.proofs.element.+read.Goals as goal
 

@@ -1,4 +1,4 @@
-use Rattle.std.proofs.Common.{◌≡◌, ◌++◌, ◌∷◌, [], take, map, refl, ap, sym, ◌∙◌, arith}
+use Rattle.std.proofs.Common.{◌≡◌, ◌++◌, take, map, refl, ap, ◌∙◌, arith}
 use Rattle.std.proofs.lemmas.List.{map_push, take_all}
 use Rattle.jh_edn.specs.Key.{key_of, in_order, pair_keys}
 use Rattle.jh_edn.specs.Edn.{members_of}

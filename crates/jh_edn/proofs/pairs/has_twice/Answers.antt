@@ -1,8 +1,7 @@
-use Rattle.std.proofs.Common.{◌≡◌, ℕ, ◌+◌, ◌<◌, Bool, true, false, cond, List, [], ◌∷◌, ◌++◌, length, take, drop, get_or, map, refl, sym, ap, subst, ◌∙◌, arith, rules}
+use Rattle.std.proofs.Common.{◌≡◌, true, false, [], ◌∷◌, ◌++◌, take, get_or, refl, sym, ap, ◌∙◌, arith, rules}
 use Rattle.std.proofs.lemmas.Grind.{common_steps}
 use Rattle.std.proofs.lemmas.Map.Text.{is_eq-slice_cmp}
-use Rattle.std.specs.Str.{bytes_eq}
-use Rattle.jh_edn.specs.Key.{is_in, has_twice_after, has_twice}
+use Rattle.jh_edn.specs.Key.{is_in}
 use Rattle.jh_edn.proofs.Twice.{is_in-push, bytes_of, taken, is_old, is_new, cond_then}
 use Rattle.jh_edn.proofs.pairs.has_twice.Goals as goal
 

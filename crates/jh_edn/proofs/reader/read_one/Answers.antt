@@ -1,8 +1,8 @@
-use Rattle.std.proofs.Common.{◌≡◌, ℕ, ◌≤◌, ◌<◌, ◌++◌, length, drop, inr, ap, sym, ◌∙◌, subst, arith, Result, Ok, Err, refl}
-use Rattle.std.proofs.lemmas.List.{length-drop, length-append}
+use Rattle.std.proofs.Common.{◌≡◌, ◌<◌, length, drop, inr, arith, Ok, Err, refl}
+use Rattle.std.proofs.lemmas.List.{length-drop}
 use Rattle.jh_edn.specs.View.{view}
 use Rattle.jh_edn.specs.Spelling.{depth_limit}
-use Rattle.jh_edn.specs.Reading.{after_gap, read, FirstFault}
+use Rattle.jh_edn.specs.Reading.{after_gap, read}
 use Rattle.jh_edn.proofs.Loop.{read_shorter, gap_shorter}
 use Rattle.jh_edn.proofs.Whole.{gap_whole, made, refused, seam}
 use Rattle.jh_edn.proofs.reader.read_one.Goals as goal
@@ -33,8 +33,7 @@ returns-in-Err-Fault-clause-refused c =
 pub returns-in-Ok-clause-place : goal.returns-in-Ok-clause-place
 returns-in-Ok-clause-place c =
     let s = drop c.args.at c.args.text.now in
-    let e : read depth_limit (after_gap s) ≡ Ok (view c.in-Ok.value, c.in-Ok.after.now) = rw (← c.range_from.ensures.value, ← c.after_gap-rest.ensures) c.in-Ok.ensures.gives in
-    (
+    let e : read depth_limit (after_gap s) ≡ Ok (view c.in-Ok.value, c.in-Ok.after.now) = rw (← c.range_from.ensures.value, ← c.after_gap-rest.ensures) c.in-Ok.ensures.gives in (
       omega (arith, read_shorter depth_limit (after_gap s) (view c.in-Ok.value) c.in-Ok.after.now e, gap_shorter s (after_gap s) refl, length-drop c.args.at c.args.text.now),
       seam c.args.text.now c.args.at (view c.in-Ok.value) c.in-Ok.after.now c.requires.0 e c.in-Ok.ensures.text,
     )

@@ -1,7 +1,6 @@
-use Rattle.std.proofs.Common.{◌≡◌, ◌<◌, ◌≤◌, ℕ, ap, sym, ◌∙◌, subst, get_or, length, drop, arith, rules, None, Some, List}
+use Rattle.std.proofs.Common.{◌≡◌, ◌<◌, ◌≤◌, get_or, length, arith, None, Some}
 use Rattle.std.specs.Prelude.{◌≢◌}
 use Rattle.std.proofs.lemmas.Str.{IsCharBoundary-after_ascii}
-use Rattle.std.proofs.lemmas.Grind.{common_steps}
 use Rattle.jh_edn.specs.Bytes.{escaped}
 use Rattle.jh_edn.proofs.Bodies.{stop_none, stop_some}
 use Rattle.jh_edn.proofs.string.stop_at.Goals as goal

@@ -1,13 +1,10 @@
-use Rattle.std.proofs.Common.{◌≡◌, ◌<◌, ◌≤◌, ℕ, ap, sym, ◌∙◌, subst, get_or, length, drop, take, arith, rules, None, Some, List, [], ◌∷◌, ◌++◌, refl, Ok}
+use Rattle.std.proofs.Common.{◌≡◌, ℕ, ap, sym, ◌∙◌, rules, List, [], ◌∷◌, ◌++◌, refl, Ok}
 use Rattle.std.specs.String.{string_bytes}
-use Rattle.std.specs.Str.{IsUtf8}
 use Rattle.std.proofs.lemmas.Str.{encode_ascii}
 use Rattle.std.proofs.lemmas.List.{append-nil}
-use Rattle.std.proofs.lemmas.Grind.{common_steps}
-use Rattle.jh_edn.specs.Bytes.{escaped, is_plain, leading}
-use Rattle.jh_edn.specs.Reading.{body, with_front}
-use Rattle.jh_edn.specs.Gives.{at_stop}
-use Rattle.jh_edn.proofs.Bodies.{body_plain, leading-past, with_front-append, with_front-nil, moved, ended}
+use Rattle.jh_edn.specs.Bytes.{is_plain}
+use Rattle.jh_edn.specs.Reading.{body}
+use Rattle.jh_edn.proofs.Bodies.{leading-past, with_front-append, moved, ended}
 use Rattle.jh_edn.proofs.string.string.Goals as goal
 
 pub stop_at-requires : goal.stop_at-requires

@@ -1,5 +1,4 @@
-use Rattle.std.proofs.Common.{◌≡◌, ◌++◌, arith}
-use Rattle.jh_edn.specs.View.{view}
+use Rattle.std.proofs.Common.{arith}
 use Rattle.jh_edn.proofs.Printing.{appends_then, items_push, members_push}
 use Rattle.jh_edn.proofs.writer.+write.Goals as goal
 

@@ -1,4 +1,4 @@
-use Rattle.std.proofs.Common.{take, ◌∷◌, List, ℕ}
+use Rattle.std.proofs.Common.{take, ◌∷◌}
 use Rattle.std.specs.Io.KnownBytes.{Appends}
 use Rattle.std.specs.List.{flat_map}
 use Rattle.jh_edn.specs.Print.{escape}
