@@ -23,3 +23,6 @@ pub use laws::{equality_laws, spelled_once};
 pub use reader::read_one;
 pub use value::{Pairs, Text, Value, Values};
 pub use writer::write;
+
+#[cfg(test)]
+mod tests;
