@@ -1,0 +1,14 @@
+pub mod Lists
+pub mod Bodies
+pub mod Numbers
+pub mod Sorting
+pub mod KeyLists
+pub mod Pairing
+pub mod Twice
+pub mod Keys
+pub mod Sound
+pub mod Complete
+pub mod Loop
+pub mod Whole
+pub mod Joining
+pub mod Printing

@@ -2,3 +2,11 @@ pub mod Edn
 pub mod Code
 pub mod View
 pub mod Falls
+pub mod Bytes
+pub mod Equality
+pub mod Key
+pub mod Spelling
+pub mod Reading
+pub mod Gives
+pub mod Refused
+pub mod Print

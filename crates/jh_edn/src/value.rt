@@ -42,7 +42,8 @@ impl Text {
     pub fn into_string(self) -> String
         ensures { string_bytes result ≡ self }
     {
-        self.text
+        let Text { text } = self;
+        text
     }
 }
 
@@ -148,7 +149,8 @@ impl Values {
     pub fn into_vec(self) -> Vec<Value>
         ensures { views result.items ≡ self }
     {
-        self.items
+        let Values { items } = self;
+        items
     }
 }
 
@@ -163,25 +165,26 @@ impl Pairs {
     pub fn len(&self) -> usize
         ensures { result ≡ length self.now }
     {
-        self.items.len()
+        self.as_slice().len()
     }
 
     pub fn is_empty(&self) -> bool
         ensures { IsTrue result ↔ (self.now ≡ []) }
     {
-        self.items.is_empty()
+        self.as_slice().is_empty()
     }
 
     pub fn as_slice(&self) -> &[(Value, Value)]
         ensures { view_pairs result.now ≡ self.now }
     {
-        self.items.as_slice()
+        &self.items
     }
 
     /// The vector, given back without memory.
     pub fn into_vec(self) -> Vec<(Value, Value)>
         ensures { view_pairs result.items ≡ self }
     {
-        self.items
+        let Pairs { items } = self;
+        items
     }
 }

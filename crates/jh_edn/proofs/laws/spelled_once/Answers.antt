@@ -1,0 +1,5 @@
+use Rattle.jh_edn.proofs.Joining.{once}
+use Rattle.jh_edn.proofs.laws.spelled_once.Goals as goal
+
+pub returns : goal.returns
+returns c = once

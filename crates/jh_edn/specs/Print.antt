@@ -1,0 +1,41 @@
+-- The one printed text of a value (this project's own; what it may look like is EDN's format description).
+use Rattle.std.specs.Prelude.{ℕ, Bool, List, [], ◌∷◌, ◌++◌, if◌then◌else◌, ◌==◌, codes}
+use Rattle.std.specs.List.{flat_map}
+use Rattle.std.specs.Fmt.{signed_decimal}
+use Rattle.jh_edn.specs.Edn.{Edn, int, str, keyword, vector, mapping, Items, no_items, item, Members, no_members, member}
+use Rattle.jh_edn.specs.Bytes.{backspace, tab, line_feed, form_feed, carriage_return, quote, colon, backslash, open_bracket, close_bracket, open_brace, close_brace}
+
+-- a byte of a string, as it stands between quotes
+abbrev pub escape : ℕ → List ℕ
+escape c =
+    if c == quote then codes "\\\"" else if c == backslash then codes "\\\\" else if c == line_feed then codes "\\n"
+    else if c == tab then codes "\\t" else if c == carriage_return then codes "\\r" else if c == backspace then codes "\\b"
+    else if c == form_feed then codes "\\f" else c ∷ []
+
+-- texts one after the other, with the separator between
+abbrev pub joined : List ℕ → List (List ℕ) → List ℕ
+joined separator [] = []
+joined separator (t ∷ []) = t
+joined separator (t ∷ u ∷ ts) = t ++ (separator ++ joined separator (u ∷ ts))
+
+-- what stands before a text that is joined to others: the separator, but not before the first
+abbrev pub unless_first : Bool → List ℕ → List ℕ
+unless_first first separator = if first then [] else separator
+
+abbrev mutual
+  pub print : Edn → List ℕ
+  print (int z) = signed_decimal z
+  print (str s) = quote ∷ (flat_map escape s ++ quote ∷ [])
+  print (keyword s) = colon ∷ s
+  print (vector xs) = open_bracket ∷ (joined (codes " ") (item_texts xs) ++ close_bracket ∷ [])
+  print (mapping ms) = open_brace ∷ (joined (codes ", ") (member_texts ms) ++ close_brace ∷ [])
+
+  -- the text of each element
+  pub item_texts : Items → List (List ℕ)
+  item_texts no_items = []
+  item_texts (item x xs) = print x ∷ item_texts xs
+
+  -- the text of each pair: the key, a space, the value
+  pub member_texts : Members → List (List ℕ)
+  member_texts no_members = []
+  member_texts (member k v ms) = (print k ++ (codes " " ++ print v)) ∷ member_texts ms

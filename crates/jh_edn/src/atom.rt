@@ -1,0 +1,143 @@
+//! Reading a run: a number or a keyword.
+//!
+//! `atom` of `specs/Reading.antt` says what a run is, and in which order its faults are looked for.
+
+ghost use Rattle.std.specs.Prelude.{◌≡◌, ◌≤◌, ◌==◌, length, IfOk, true};
+ghost use Rattle.std.specs.List.{list_all, count_by};
+ghost use Rattle.std.specs.Str.{IsUtf8};
+ghost use Rattle.std.specs.Str.Parse.{IsNumeral, without_leading_sign};
+ghost use Rattle.jh_edn.specs.Bytes as bytes;
+ghost use Rattle.jh_edn.specs.Gives.{Gives};
+ghost use Rattle.jh_edn.specs.Reading as reading;
+ghost use Rattle.jh_edn.specs.Spelling as spelling;
+ghost use Rattle.jh_edn.specs.View.{view};
+
+use crate::fault::{Kind, ReadError, fault_at};
+use crate::scan::{digits_len, is_digit, is_first, is_symbol, run_len};
+use crate::value::{Text, Value};
+use std::alloc::Global;
+
+/// How many bytes the sign takes: 1 or none.
+#[tactic(auto, unfolding(crate::specs::Reading::sign_len))]
+fn sign_len(run: &[u8]) -> usize
+    ensures len { result ≡ reading.sign_len run.now }
+    ensures within { result ≤ length run.now }
+{
+    match run {
+        [b'+' | b'-', ..] => 1,
+        _ => 0,
+    }
+}
+
+#[tactic(auto, unfolding(crate::specs::Reading::sign_len, crate::specs::Bytes::is_digit))]
+fn begins_number(run: &[u8]) -> bool
+    ensures { result ≡ reading.begins_number run.now }
+{
+    match run {
+        [] => false,
+        [b'+' | b'-'] => false,
+        [b'+' | b'-', second, ..] => is_digit(*second),
+        [first, ..] => is_digit(*first),
+    }
+}
+
+/// A fraction, an exponent or the mark of an exact decimal.
+#[tactic(auto, unfolding(crate::specs::Reading::begins_fraction))]
+fn begins_fraction(rest: &[u8]) -> bool
+    ensures { result ≡ reading.begins_fraction rest.now }
+{
+    matches!(rest, [b'.' | b'e' | b'E' | b'M', ..])
+}
+
+fn is_suffix(rest: &[u8]) -> bool
+    ensures { result ≡ reading.is_suffix rest.now }
+{
+    matches!(rest, [] | [b'N'])
+}
+
+/// The integer of a sign and digits.
+#[tactic(auto, using(crate::proofs::Numbers::too_large, crate::proofs::Numbers::unsigned_is), unfolding(crate::specs::Reading::integer_of))]
+fn integer_of(core: &[u8]) -> Result<i64, Kind>
+    requires { IsNumeral 10 (without_leading_sign core.now) }
+    ensures { result ≡ reading.integer_of core.now }
+{
+    let digits = &core[sign_len(core)..];
+    if digits.len() > 1 && digits[0] == b'0' {
+        return Err(Kind::BadToken);
+    }
+    match fast_float::parse_i64(core) {
+        Ok(n) => Ok(n),
+        Err(_) => Err(Kind::IntegerRange),
+    }
+}
+
+#[tactic(auto, using(crate::proofs::Numbers::numeral_cut), unfolding(crate::specs::Reading::number_of))]
+fn number_of(run: &[u8]) -> Result<i64, Kind>
+    requires { reading.begins_number run.now ≡ true }
+    ensures { result ≡ reading.number_of run.now }
+{
+    let sign = sign_len(run);
+    let end = sign + digits_len(&run[sign..]);
+    let rest = &run[end..];
+    if begins_fraction(rest) {
+        return Err(Kind::FloatUnsupported);
+    }
+    if !is_suffix(rest) {
+        return Err(Kind::BadToken);
+    }
+    integer_of(&run[..end])
+}
+
+fn all_symbols(name: &[u8]) -> bool
+    ensures { result ≡ list_all bytes.is_symbol name.now }
+{
+    for b in name {
+        if !is_symbol(*b) {
+            return false;
+        }
+    }
+    true
+}
+
+fn count_slashes(name: &[u8]) -> usize
+    ensures { result ≡ count_by (λ c. c == bytes.slash) name.now }
+{
+    let mut count = 0;
+    for b in name {
+        if *b == b'/' {
+            count += 1;
+        }
+    }
+    count
+}
+
+#[tactic(auto, unfolding(crate::specs::Spelling::is_name, crate::specs::Bytes::is_first, crate::specs::Bytes::is_symbol, crate::specs::Bytes::is_digit))]
+fn is_name(name: &[u8]) -> bool
+    ensures { result ≡ spelling.is_name name.now }
+{
+    let [first, ..] = name else {
+        return false;
+    };
+    is_first(*first) && all_symbols(name) && count_slashes(name) < 2 && name[name.len() - 1] != b'/'
+}
+
+/// An integer or a keyword, and what follows it.
+#[tactic(auto, unfolding(crate::specs::Reading::atom, crate::specs::Reading::atom_of))]
+pub(crate) fn atom(alloc: Global, rest: &str) -> Result<(Value, &str), ReadError>
+    ensures gives { Gives (λ x. (view x.0, x.1.now)) result (reading.atom rest.now) }
+    ensures text { IfOk result (λ x. IsUtf8 x.1.now) }
+{
+    let len = run_len(rest);
+    let run = &rest[..len];
+    if begins_number(run.as_bytes()) {
+        return match number_of(run.as_bytes()) {
+            Ok(n) => Ok((Value::Int(n), &rest[len..])),
+            Err(kind) => Err(fault_at(kind, rest)),
+        };
+    }
+    if run.starts_with(':') && is_name(&run.as_bytes()[1..]) {
+        let name = String::from_str(alloc, &run[1..])?;
+        return Ok((Value::Keyword(Text::of(name)), &rest[len..]));
+    }
+    Err(fault_at(Kind::BadToken, rest))
+}

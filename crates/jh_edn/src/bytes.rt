@@ -1,0 +1,37 @@
+//! Reading all bytes of a reader.
+
+ghost use Rattle.std.specs.Prelude.{◌≡◌, IfOk, IfErr, IfSome, Err};
+ghost use Rattle.jh_edn.specs.Refused.{IsReaderError};
+
+use crate::error::EdnError;
+use std::alloc::Global;
+use std::io::{ErrorKind, Read};
+
+/// How many bytes one read asks for at most.
+const BUFFER_LEN: usize = 4096;
+
+/// The bytes that the reader gives, up to its end.
+///
+/// A turn is one read, also the one that finds the end and one that was interrupted, and there are at most `turns`.
+/// After an error the reader stands where its last read left it.
+///
+/// # Errors
+///
+/// `Read` where a read failed, `TooLong` where the end was not seen in the turns allowed, `OutOfMemory`.
+pub fn read_bytes<R: Read>(alloc: Global, reader: &mut R, turns: u32) -> Result<Vec<u8>, EdnError>
+    ensures bytes { IfOk result (λ v. IfSome (R.remaining reader.old) (λ all. v.items ≡ all)) }
+    ensures error { IfErr result IsReaderError }
+    ensures no_turns { turns ≡ 0 → result ≡ Err EdnError.TooLong }
+{
+    let mut bytes = Vec::new(alloc);
+    let mut buffer = [0; BUFFER_LEN];
+    for _turn in 0..turns {
+        match reader.read(&mut buffer) {
+            Ok(0) => return Ok(bytes),
+            Ok(len) => bytes.extend_from_slice(&buffer[..len])?,
+            Err(error) if error.kind() == ErrorKind::Interrupted => {}
+            Err(_) => return Err(EdnError::Read),
+        }
+    }
+    Err(EdnError::TooLong)
+}

@@ -1,0 +1,62 @@
+//! What can be wrong with a text, while it is read.
+//!
+//! A fault says how many bytes were left, and not its line, so that lines are counted once, at the end, and only
+//! for a text that is refused. `specs/Reading.antt` says which fault a text has.
+
+ghost use Rattle.std.specs.Prelude.{◌≡◌, length};
+ghost use Rattle.jh_edn.specs.declared.fault.ReadError.TheVariants.{Memory};
+
+use std::alloc::{AllocError, AllocFailed};
+
+/// What is wrong.
+#[derive(Clone, Copy, Debug, PartialEq, Eq)]
+pub(crate) enum Kind {
+    UnexpectedEnd,
+    BadToken,
+    FloatUnsupported,
+    IntegerRange,
+    BadEscape,
+    OddMap,
+    DuplicateKey,
+    TooDeep,
+}
+
+/// What is wrong, and how many bytes of the text are left there.
+#[derive(Clone, Copy, Debug, PartialEq, Eq)]
+pub(crate) struct Fault {
+    pub(crate) kind: Kind,
+    pub(crate) left: usize,
+}
+
+/// Why reading stopped.
+#[derive(Debug, Drop)]
+pub(crate) enum ReadError {
+    Memory,
+    Fault(Fault),
+}
+
+impl From<AllocError> for ReadError {
+    ghost from_gives = { λ _ e. e ≡ Memory };
+
+    fn from(_: AllocError) -> ReadError {
+        ReadError::Memory
+    }
+}
+
+impl<T: Drop> From<AllocFailed<T>> for ReadError {
+    ghost from_gives = { λ _ e. e ≡ Memory };
+
+    fn from(_: AllocFailed<T>) -> ReadError {
+        ReadError::Memory
+    }
+}
+
+/// The fault at the front of the text.
+pub(crate) fn fault_at(kind: Kind, rest: &str) -> ReadError
+    ensures { result ≡ ReadError.Fault (record { kind = kind; left = length rest.now }) }
+{
+    ReadError::Fault(Fault {
+        kind,
+        left: rest.len(),
+    })
+}

@@ -1,0 +1,64 @@
+//! Reading the next element of a text.
+//!
+//! `Reads` of `specs/Spelling.antt` says what an element is, `FirstFault` of `specs/Reading.antt` which error
+//! a refused text has.
+
+ghost use Rattle.std.specs.Prelude.{◌≡◌, ◌⊎◌, ◌<◌, drop, IfOk, IfErr, IfSome, IfNone};
+ghost use Rattle.std.specs.Str.{IsCharBoundary};
+ghost use Rattle.jh_edn.specs.Reading.{line_at, FirstFault};
+ghost use Rattle.jh_edn.specs.Spelling.{IsGap, Reads, NothingReads};
+ghost use Rattle.jh_edn.specs.View.{view};
+
+use crate::element::element;
+use crate::error::{EdnError, fault_at_line};
+use crate::fault::ReadError;
+use crate::scan::after_gap;
+use crate::value::Value;
+use std::alloc::Global;
+
+/// How many brackets may be open at once.
+const DEPTH_LIMIT: usize = 64;
+
+/// The line, from 1, of the place with so many bytes left.
+fn line_of(text: &str, left: usize) -> u64
+    ensures { result ≡ line_at text.now left }
+{
+    let place = text.len().saturating_sub(left);
+    let mut line = 1;
+    for b in &text.as_bytes()[..place] {
+        if *b == b'\n' {
+            line += 1;
+        }
+    }
+    line
+}
+
+/// The element that begins behind the gap at `at`, and the place after it, both counted in bytes. `None` when only
+/// a gap is left.
+///
+/// Takes time in proportion to the text read, but for keys of maps: a map of n pairs takes n log n comparisons.
+///
+/// # Errors
+///
+/// The fault whose deciding character comes first, with its line in the whole text; `OutOfMemory` where memory for a
+/// value or its keys was refused before that.
+pub fn read_one(alloc: Global, text: &str, at: usize) -> Result<Option<(Value, usize)>, EdnError>
+    requires { IsCharBoundary text.now at }
+    ensures some { IfOk result (λ o. IfSome o (λ p. Reads text.now at (view p.0) p.1)) }
+    ensures place { IfOk result (λ o. IfSome o (λ p. (at < p.1) × IsCharBoundary text.now p.1)) }
+    ensures none { IfOk result (λ o. IfNone o (IsGap (drop at text.now))) }
+    ensures refused { IfErr result (λ e. (e ≡ EdnError.OutOfMemory) ⊎ NothingReads text.now at) }
+    ensures first_fault { IfErr result (λ e. (e ≡ EdnError.OutOfMemory) ⊎ FirstFault text.now at e) }
+{
+    let rest = after_gap(&text[at..]);
+    if rest.is_empty() {
+        return Ok(None);
+    }
+    match element(alloc, rest, DEPTH_LIMIT) {
+        Ok((value, after)) => Ok(Some((value, text.len() - after.len()))),
+        Err(ReadError::Memory) => Err(EdnError::OutOfMemory),
+        Err(ReadError::Fault(fault)) => {
+            Err(fault_at_line(fault.kind, line_of(text, fault.left)))
+        }
+    }
+}

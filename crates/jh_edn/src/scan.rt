@@ -1,0 +1,170 @@
+//! Looking ahead in a text: what a byte is, and how far bytes of one kind go.
+//!
+//! `specs/Bytes.antt` says what each byte is.
+
+ghost use Rattle.std.specs.Prelude.{◌≡◌, ◌≤◌, ◌<◌, length, IfSome};
+ghost use Rattle.std.specs.Str.{IsCharBoundary};
+ghost use Rattle.jh_edn.specs.Bytes as bytes;
+ghost use Rattle.jh_edn.specs.Bytes.{IsAscii, leading, escaped};
+ghost use Rattle.jh_edn.specs.Reading as reading;
+
+#[tactic(auto, unfolding(crate::specs::Bytes::is_space))]
+fn is_space(b: u8) -> bool
+    ensures { result ≡ bytes.is_space b }
+{
+    matches!(b, b' ' | b',' | b'\t'..=b'\r')
+}
+
+#[tactic(auto, unfolding(crate::specs::Bytes::is_delimiter))]
+fn is_delimiter(b: u8) -> bool
+    ensures { result ≡ bytes.is_delimiter b }
+{
+    matches!(
+        b,
+        b'(' | b')' | b'[' | b']' | b'{' | b'}' | b'"' | b';' | b'\\'
+    )
+}
+
+#[tactic(auto, unfolding(crate::specs::Bytes::is_run))]
+pub(crate) fn is_run(b: u8) -> bool
+    ensures { result ≡ bytes.is_run b }
+{
+    !is_space(b) && !is_delimiter(b)
+}
+
+#[tactic(auto, unfolding(crate::specs::Bytes::is_plain))]
+fn is_plain(b: u8) -> bool
+    ensures { result ≡ bytes.is_plain b }
+{
+    b != b'"' && b != b'\\'
+}
+
+#[tactic(auto, unfolding(crate::specs::Bytes::is_digit))]
+pub(crate) fn is_digit(b: u8) -> bool
+    ensures { result ≡ bytes.is_digit b }
+{
+    matches!(b, b'0'..=b'9')
+}
+
+#[tactic(auto, unfolding(crate::specs::Bytes::is_symbol, crate::specs::Bytes::is_digit))]
+pub(crate) fn is_symbol(b: u8) -> bool
+    ensures { result ≡ bytes.is_symbol b }
+{
+    matches!(
+        b,
+        b'0'..=b'9'
+            | b'A'..=b'Z'
+            | b'a'..=b'z'
+            | b'.'
+            | b'*'
+            | b'+'
+            | b'!'
+            | b'-'
+            | b'_'
+            | b'?'
+            | b'$'
+            | b'%'
+            | b'&'
+            | b'='
+            | b'<'
+            | b'>'
+            | b':'
+            | b'#'
+            | b'\''
+            | b'/'
+    )
+}
+
+#[tactic(auto, unfolding(crate::specs::Bytes::is_first))]
+pub(crate) fn is_first(b: u8) -> bool
+    ensures { result ≡ bytes.is_first b }
+{
+    is_symbol(b) && !matches!(b, b':' | b'#' | b'\'' | b'/')
+}
+
+/// What the byte after a backslash stands for.
+#[tactic(auto, unfolding(crate::specs::Bytes::escaped))]
+pub(crate) fn unescape(b: u8) -> Option<char>
+    ensures value { result ≡ escaped b }
+    ensures ascii { IfSome result (λ c. IsAscii c × IsAscii b) }
+{
+    match b {
+        b't' => Some('\t'),
+        b'r' => Some('\r'),
+        b'n' => Some('\n'),
+        b'\\' => Some('\\'),
+        b'"' => Some('"'),
+        b'b' => Some('\x08'),
+        b'f' => Some('\x0c'),
+        _ => None,
+    }
+}
+
+/// How many bytes of white space the text begins with.
+fn gap_len(rest: &str) -> usize
+    ensures { result ≡ leading bytes.is_space rest.now }
+{
+    let mut len = 0;
+    for b in rest.as_bytes() {
+        if !is_space(*b) {
+            return len;
+        }
+        len += 1;
+    }
+    len
+}
+
+/// How many bytes of a run the text begins with.
+#[tactic(auto, using(crate::proofs::Lists::run_stops))]
+pub(crate) fn run_len(rest: &str) -> usize
+    ensures len { result ≡ leading bytes.is_run rest.now }
+    ensures boundary { IsCharBoundary rest.now result }
+{
+    let mut len = 0;
+    for b in rest.as_bytes() {
+        if !is_run(*b) {
+            return len;
+        }
+        len += 1;
+    }
+    len
+}
+
+/// How many bytes the text begins with that stand for themselves in a string.
+#[tactic(auto, using(crate::proofs::Lists::plain_stops))]
+pub(crate) fn plain_len(rest: &str) -> usize
+    ensures len { result ≡ leading bytes.is_plain rest.now }
+    ensures boundary { IsCharBoundary rest.now result }
+{
+    let mut len = 0;
+    for b in rest.as_bytes() {
+        if !is_plain(*b) {
+            return len;
+        }
+        len += 1;
+    }
+    len
+}
+
+/// How many digits the bytes begin with.
+pub(crate) fn digits_len(run: &[u8]) -> usize
+    ensures len { result ≡ leading bytes.is_digit run.now }
+    ensures within { result ≤ length run.now }
+{
+    let mut len = 0;
+    for b in run {
+        if !is_digit(*b) {
+            return len;
+        }
+        len += 1;
+    }
+    len
+}
+
+/// The text after the white space that it begins with.
+pub(crate) fn after_gap(rest: &str) -> &str
+    ensures { result.now ≡ reading.after_gap rest.now }
+{
+    let len = gap_len(rest);
+    &rest[len..]
+}

@@ -1,0 +1,67 @@
+//! Reading a string.
+//!
+//! `body` of `specs/Reading.antt` says what stands between the quotes, and where it is refused.
+
+ghost use Rattle.std.specs.Prelude.{◌≡◌, IfOk};
+ghost use Rattle.std.specs.Str.{IsUtf8};
+ghost use Rattle.jh_edn.specs.Bytes.{leading, is_plain};
+ghost use Rattle.jh_edn.specs.Gives.{Gives, at_stop, IsShorter};
+ghost use Rattle.jh_edn.specs.Reading.{body};
+
+use crate::fault::{Kind, ReadError, fault_at};
+use crate::scan::{plain_len, unescape};
+use crate::value::Text;
+use std::alloc::Global;
+
+/// What stands where the bytes end that stand for themselves.
+enum Stop<'a> {
+    End,
+    Close(&'a str),
+    Escape(char, &'a str),
+    BadEscape,
+}
+
+#[tactic(auto, using(crate::proofs::Bodies::escape_ascii), unfolding(crate::specs::Reading::body))]
+fn stop_at(rest: &str) -> Stop<'_>
+    requires { leading is_plain rest.now ≡ 0 }
+    ensures gives { body rest.now ≡ at_stop result rest.now }
+    ensures shorter { IsShorter result rest.now }
+{
+    let bytes = rest.as_bytes();
+    if bytes.is_empty() {
+        return Stop::End;
+    }
+    if bytes[0] == b'"' {
+        return Stop::Close(&rest[1..]);
+    }
+    if bytes.len() == 1 {
+        return Stop::End;
+    }
+    match unescape(bytes[1]) {
+        Some(c) => Stop::Escape(c, &rest[2..]),
+        None => Stop::BadEscape,
+    }
+}
+
+/// What follows a string's opening quote, up to its end.
+pub(crate) fn string(alloc: Global, rest: &str) -> Result<(Text, &str), ReadError>
+    ensures gives { Gives (λ x. (x.0, x.1.now)) result (body rest.now) }
+    ensures text { IfOk result (λ x. IsUtf8 x.1.now) }
+{
+    let mut text = String::new(alloc);
+    let mut left = rest;
+    'pieces: loop {
+        let len = plain_len(left);
+        text.push_str(&left[..len])?;
+        left = &left[len..];
+        match stop_at(left) {
+            Stop::End => return Err(fault_at(Kind::UnexpectedEnd, "")),
+            Stop::Close(after) => return Ok((Text::of(text), after)),
+            Stop::BadEscape => return Err(fault_at(Kind::BadEscape, left)),
+            Stop::Escape(c, after) => {
+                text.push(c)?;
+                left = after;
+            }
+        }
+    }
+}

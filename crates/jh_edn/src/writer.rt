@@ -1,0 +1,133 @@
+//! Printing a value.
+//!
+//! `print` of `specs/Print.antt` is the one printed text.
+
+ghost use Rattle.std.specs.Prelude.{◌≡◌, OnOk, IfErr, [], ◌∷◌, ◌++◌, codes};
+ghost use Rattle.std.specs.Fmt.{signed_decimal};
+ghost use Rattle.std.specs.Io.KnownBytes.{Appends};
+ghost use Rattle.std.specs.List.{flat_map};
+ghost use Rattle.jh_edn.specs.Bytes.{quote};
+ghost use Rattle.jh_edn.specs.Edn.{items_of, members_of};
+ghost use Rattle.jh_edn.specs.Print.{print, joined, item_texts, member_texts, unless_first, escape};
+ghost use Rattle.jh_edn.specs.View.{view};
+
+use crate::error::EdnError;
+use crate::value::{Pairs, Value, Values};
+use std::io::Write;
+
+fn put<W: Write>(bytes: &[u8], writer: &mut W) -> Result<(), EdnError>
+    ensures bytes { OnOk result (Appends (W.contents writer.old) (W.contents writer.new) bytes.now) }
+    ensures error { IfErr result (λ e. e ≡ EdnError.Write) }
+{
+    writer.write_all(bytes).map_err(|_| EdnError::Write)
+}
+
+/// The separator, unless this is the first.
+fn separate<W: Write>(first: bool, separator: &[u8], writer: &mut W) -> Result<(), EdnError>
+    ensures bytes { OnOk result (Appends (W.contents writer.old) (W.contents writer.new) (unless_first first separator.now)) }
+    ensures error { IfErr result (λ e. e ≡ EdnError.Write) }
+{
+    if first {
+        Ok(())
+    } else {
+        put(separator, writer)
+    }
+}
+
+fn write_int<W: Write>(n: i64, writer: &mut W) -> Result<(), EdnError>
+    ensures bytes { OnOk result (Appends (W.contents writer.old) (W.contents writer.new) (signed_decimal n)) }
+    ensures error { IfErr result (λ e. e ≡ EdnError.Write) }
+{
+    write!(writer, "{n}").map_err(|_| EdnError::Write)
+}
+
+/// A byte of a string, as it stands between quotes.
+fn write_byte<W: Write>(b: u8, writer: &mut W) -> Result<(), EdnError>
+    ensures bytes { OnOk result (Appends (W.contents writer.old) (W.contents writer.new) (escape b)) }
+    ensures error { IfErr result (λ e. e ≡ EdnError.Write) }
+{
+    match b {
+        b'"' => put(b"\\\"", writer),
+        b'\\' => put(b"\\\\", writer),
+        b'\n' => put(b"\\n", writer),
+        b'\t' => put(b"\\t", writer),
+        b'\r' => put(b"\\r", writer),
+        b'\x08' => put(b"\\b", writer),
+        b'\x0c' => put(b"\\f", writer),
+        _ => put(&[b], writer),
+    }
+}
+
+/// A string in quotes.
+fn write_text<W: Write>(text: &str, writer: &mut W) -> Result<(), EdnError>
+    ensures bytes { OnOk result (Appends (W.contents writer.old) (W.contents writer.new)
+        (quote ∷ (flat_map escape text.now ++ quote ∷ []))) }
+    ensures error { IfErr result (λ e. e ≡ EdnError.Write) }
+{
+    put(b"\"", writer)?;
+    for b in text.as_bytes() {
+        write_byte(*b, writer)?;
+    }
+    put(b"\"", writer)
+}
+
+/// Prints the value: members in the order held, one space between elements, `, ` between pairs.
+///
+/// Takes no memory. The writer may have taken a part of the text where it failed.
+///
+/// # Errors
+///
+/// `Write` where the writer failed, and no other.
+#[cycle(write)]
+pub fn write<W: Write>(value: &Value, writer: &mut W) -> Result<(), EdnError>
+    ensures bytes { OnOk result (Appends (W.contents writer.old) (W.contents writer.new) (print (view value.now))) }
+    ensures error { IfErr result (λ e. e ≡ EdnError.Write) }
+{
+    match value {
+        Value::Int(n) => write_int(*n, writer),
+        Value::Str(text) => write_text(text.as_str(), writer),
+        Value::Keyword(name) => {
+            put(b":", writer)?;
+            put(name.as_str().as_bytes(), writer)
+        }
+        Value::Vector(items) => {
+            put(b"[", writer)?;
+            write_items(items, writer)?;
+            put(b"]", writer)
+        }
+        Value::Map(pairs) => {
+            put(b"{", writer)?;
+            write_pairs(pairs, writer)?;
+            put(b"}", writer)
+        }
+    }
+}
+
+#[cycle(write)]
+fn write_items<W: Write>(items: &Values, writer: &mut W) -> Result<(), EdnError>
+    ensures bytes { OnOk result (Appends (W.contents writer.old) (W.contents writer.new)
+        (joined (codes " ") (item_texts (items_of items.now)))) }
+    ensures error { IfErr result (λ e. e ≡ EdnError.Write) }
+{
+    for (place, item) in items.items.iter().enumerate() {
+        separate(place == 0, b" ", writer)?;
+        write(item, writer)?;
+    }
+    Ok(())
+}
+
+#[cycle(write)]
+fn write_pairs<W: Write>(pairs: &Pairs, writer: &mut W) -> Result<(), EdnError>
+    ensures bytes { OnOk result (Appends (W.contents writer.old) (W.contents writer.new)
+        (joined (codes ", ") (member_texts (members_of pairs.now)))) }
+    ensures error { IfErr result (λ e. e ≡ EdnError.Write) }
+{
+    for (place, pair) in pairs.items.iter().enumerate() {
+        let (key, value) = pair;
+        separate(place == 0, b", ", writer)?;
+        write(key, writer)?;
+        put(b" ", writer)?;
+        write(value, writer)?;
+    }
+    Ok(())
+}
