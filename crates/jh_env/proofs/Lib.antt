@@ -3,6 +3,12 @@ pub mod TextCellLemmas
 pub mod TextTellingLemmas
 pub mod TextRefusalLemmas
 pub mod TextWritingLemmas
+pub mod TextFoldLemmas
+pub mod TextPlaceLemmas
+pub mod TextReadBackLemmas
+pub mod TextSoundLemmas
+pub mod TextShapeLemmas
+pub mod TextLawLemmas
 pub mod NameLemmas
 pub mod FaultLemmas
 pub mod LayingLemmas

@@ -11,3 +11,4 @@ pub mod TextFaults
 pub mod TextCells
 pub mod TextWritten
 pub mod TextInside
+pub mod TextLaws

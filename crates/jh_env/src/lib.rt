@@ -13,7 +13,7 @@ pub use environment::{Env, MOST_LAID};
 pub use faults::{Fault, FaultError};
 pub use names::{Node, Nodes, NodesError};
 pub use starting::{Start, StartError};
-pub use texts::{EnvTextError, env_of_value, value_of_env};
+pub use texts::{EnvTextError, env_of_value, environments_read_back, value_of_env};
 
 #[cfg(test)]
 mod tests;

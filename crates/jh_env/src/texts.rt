@@ -12,9 +12,12 @@ ghost use Rattle.jh_env.specs.TextFaults.{RefusesText};
 ghost use Rattle.jh_env.specs.TextWritten.{text_of};
 
 mod entries;
+mod laws;
 mod reading;
 mod setting;
 mod writing;
+
+pub use laws::environments_read_back;
 
 use crate::environment::Env;
 use crate::names::{Nodes, NodesError};

@@ -1,6 +1,6 @@
 //! Worked texts of environments: which are refused and why, and how they are written.
 
-use crate::{EnvTextError, env_of_value, value_of_env};
+use crate::{EnvTextError, env_of_value, environments_read_back, value_of_env};
 use jh_edn::{read_one, write};
 use std::alloc::Global;
 
@@ -120,6 +120,7 @@ static TEXTS: [(&str, &str); 35] = [
 
 #[test]
 fn reads_and_writes(rt: HostRuntime) {
+    environments_read_back();
     for (text, wanted) in TEXTS.iter() {
         let Some(written) = answer(rt.alloc(), text) else {
             panic!(rt; "no answer at {text}");

@@ -1,0 +1,23 @@
+//! Laws of the text of an environment, each a clause of a function that does nothing.
+
+ghost use Rattle.std.specs.Prelude.{◌≡◌, ℕ, List};
+ghost use Rattle.jh_edn.specs.Edn.{Edn};
+ghost use Rattle.jh_env.specs.Cells.{Table};
+ghost use Rattle.jh_env.specs.Overlay.{EnvValue, cells_of};
+ghost use Rattle.jh_env.specs.TextCells.{IsTextOf};
+ghost use Rattle.jh_env.specs.TextFaults.{RefusesText};
+ghost use Rattle.jh_env.specs.TextLaws.{CanStart, SameCells};
+ghost use Rattle.jh_env.specs.TextWritten.{text_of};
+ghost use Rattle.jh_env.specs.declared.texts.EnvTextError.{EnvTextError};
+
+/// What is written of an environment that can start is a text of its names and cells, a text of an environment is
+/// refused for want of memory alone, and it tells one environment. So what `value_of_env` writes, `env_of_value`
+/// reads back.
+pub fn environments_read_back()
+    ensures written { (env : EnvValue) → CanStart env → IsTextOf (text_of env) env.names (cells_of env) }
+    ensures accepted { (value : Edn) (names : List (List ℕ)) (cells : Table) (e : EnvTextError)
+        → IsTextOf value names cells → RefusesText value e → e ≡ EnvTextError.OutOfMemory }
+    ensures tells_one { (value : Edn) (names others : List (List ℕ)) (cells more : Table)
+        → IsTextOf value names cells → IsTextOf value others more → (others ≡ names) × SameCells cells more }
+{
+}
