@@ -1,7 +1,8 @@
 -- Facts about the cells that entries tell.
 use Rattle.std.proofs.Common.{◌≡◌, ℕ, ◌<◌, Bool, true, false, List, [], length, get_or, bytes_eq, Some, None, option_map, sym, ◌∙◌, ap, refl, subst, pos, negsuc, arith}
-use Rattle.std.specs.Prelude.{nat_lt, slice_index_or, ◌+◌, ◌*◌, int_le, ◌-◌, ◌^◌, if◌then◌else◌, ◌&&◌, ◌==◌, not}
-use Rattle.std.proofs.lemmas.Bool.{and_parts, eqb-true, eq-eqb, false≢true}
+use Rattle.std.specs.Prelude.{T, ℤ, ◌≤ℤ◌, nat_lt, slice_index_or, ◌+◌, ◌*◌, int_le, ◌-◌, ◌^◌, if◌then◌else◌, ◌&&◌, ◌==◌, not}
+use Rattle.std.proofs.lemmas.Int.{ints}
+use Rattle.std.proofs.lemmas.Bool.{and_parts, and_from, eqb-true, eq-eqb, false≢true}
 use Rattle.std.proofs.lemmas.Bool.Decides.{nat_tests}
 use Rattle.std.specs.Int.Signed.{le_z_yes}
 use Rattle.std.proofs.lemmas.Float.{T_from_true}
@@ -18,8 +19,8 @@ use Rattle.jh_env.specs.Faults.{same_link}
 use Rattle.jh_env.specs.Starting.{StartValue, SetsLink, SetsNode, IsStartingLink, IsStartingNode, RefusesLink, RefusesNode}
 use Rattle.jh_env.specs.Text.{OfLink, OfNode}
 use Rattle.jh_env.specs.TextCells.{link_with, node_with}
-use Rattle.jh_env.specs.TextFaults.{place_of, own_fault, is_link_amount, is_node_amount}
-use Rattle.jh_env.specs.TextInside.{AreStarting, SetsEntry}
+use Rattle.jh_env.specs.TextFaults.{place_of, own_fault, is_within, is_link_amount, is_node_amount}
+use Rattle.jh_env.specs.TextInside.{AreStarting, SetsEntry, fits_link, cell_fault}
 
 -- a place is one of the names'
 pub place_below : (names : List (List ℕ)) (name : List ℕ) (a : ℕ) → place_of names name ≡ Some a → a < length names
@@ -118,19 +119,6 @@ sets_node old new name says a cell at was starting sets = record {
   };
 }
 
--- a link between two nodes that is in its ranges is not refused
-pub link_not_refused : (s : StartValue) (a b : ℕ) (l : Link) (e : StartError) → a < length s.names → b < length s.names → (a ≡ b → ⊥) → IsStartingLink l
-    → RefusesLink s a b l e → ⊥
-link_not_refused s a b l StartError.UnknownNode p q apart good refused = refused (p, q)
-link_not_refused s a b l StartError.SelfLink p q apart good refused = apart refused.1
-link_not_refused s a b l StartError.BadAmount p q apart good refused = refused.2 good
-
--- nor is a node
-pub node_not_refused : (s : StartValue) (a : ℕ) (n : NodeCell) (e : StartError) → a < length s.names → IsStartingNode n → RefusesNode s a n e → ⊥
-node_not_refused s a n StartError.UnknownNode p good refused = omega arith
-node_not_refused s a n StartError.SelfLink p good refused = refused
-node_not_refused s a n StartError.BadAmount p good refused = refused.1 good
-
 -- what is said within its range keeps a link within its ranges
 pub link_with-starts : (says : LinkChange) (link : Link) → is_link_amount says ≡ true → IsStartingLink link → IsStartingLink (link_with says link)
 link_with-starts LinkChange.Cut link good starts = starts
@@ -152,6 +140,11 @@ pub chosen : {A : Type 0} (test : Bool) (x y : A) → (if test then Some x else 
 chosen true x y is = (refl, cc)
 chosen false x y is = absurd cc
 
+-- what a test passed over
+pub passed_over : {A : Type 0} (test : Bool) (x : A) → (if test then Some x else None) ≡ None → test ≡ false
+passed_over true x is = absurd cc
+passed_over false x is = refl
+
 -- there is no link from a node to itself
 pub link_apart : (cells : Table) (a b : ℕ) (link : Link) → link_at cells a b ≡ Some link → a ≡ b → ⊥
 link_apart cells a b link there same =
@@ -160,3 +153,65 @@ link_apart cells a b link there same =
     let differ = (and_parts (nat_lt b count) (not (a == b)) (and_parts (nat_lt a count) (nat_lt b count && not (a == b)) test).1).1 in
     let bad : not true ≡ true = rw (eq-eqb a b same) at differ in
     false≢true bad
+
+passes : (b : Bool) → T b → b ≡ true
+passes true t = refl
+passes false t = absurd t
+
+-- a number between two others
+pub within : (least most z : ℤ) → least ≤ℤ z → z ≤ℤ most → is_within least most z ≡ true
+within least most z above below = and_from (int_le least z) (int_le z most) (passes (int_le least z) above.le) (passes (int_le z most) below.le)
+
+-- what is said within its range fits a link
+pub link_amount-fits : (says : LinkChange) → is_link_amount says ≡ true → fits_link says ≡ true
+link_amount-fits LinkChange.Cut good = refl
+link_amount-fits (LinkChange.Delay ms) good = (and_parts (int_le (pos 0) ms) (int_le ms (pos 60000)) good).0
+link_amount-fits (LinkChange.Loss level) good =
+    let parts = and_parts (int_le (pos 0) level) (int_le level (pos 20)) good in
+    let above : pos 0 ≤ℤ level = le_z_yes (T_from_true _ parts.0) in
+    let below : level ≤ℤ pos 20 = le_z_yes (T_from_true _ parts.1) in
+    within (pos 0) (pos 255) level above (omega (arith, ints))
+
+-- what is said of a link that may start so, and fits it, is within its range
+pub link_amount-starts : (says : LinkChange) (link : Link) → fits_link says ≡ true → IsStartingLink (link_with says link) → is_link_amount says ≡ true
+link_amount-starts LinkChange.Cut link fits starts = refl
+link_amount-starts (LinkChange.Delay (pos n)) link fits starts = within (pos 0) (pos 60000) (pos n) (omega (arith, ints)) (omega (arith, ints, starts.0))
+link_amount-starts (LinkChange.Delay (negsuc n)) link fits starts = absurd cc
+link_amount-starts (LinkChange.Loss (pos n)) link fits starts = within (pos 0) (pos 20) (pos n) (omega (arith, ints)) (omega (arith, ints, starts.1))
+link_amount-starts (LinkChange.Loss (negsuc n)) link fits starts = absurd cc
+
+-- and so of a node
+pub node_amount-starts : (says : NodeChange) (cell : NodeCell) → IsStartingNode (node_with says cell) → is_node_amount says ≡ true
+node_amount-starts NodeChange.Pause cell starts = refl
+node_amount-starts NodeChange.Kill cell starts = refl
+node_amount-starts (NodeChange.Clock ms) cell starts = within _ _ ms starts.0 starts.1
+
+-- what a test does not pass
+unless : (t : Bool) → (t ≡ true → ⊥) → t ≡ false
+unless true never = absurd (never refl)
+unless false never = refl
+
+-- what does not fit a link is out of its range
+pub link_amount-unfit : (says : LinkChange) → fits_link says ≡ false → is_link_amount says ≡ false
+link_amount-unfit says unfit = unless (is_link_amount says) (λ good. false≢true (sym unfit ∙ link_amount-fits says good))
+
+-- a link between two nodes that is not set is at fault by its entry
+pub link_refused : (s : StartValue) (from to : List ℕ) (says : LinkChange) (a b : ℕ) (link : Link) (e : StartError)
+    → place_of s.names from ≡ Some a → place_of s.names to ≡ Some b → (a ≡ b → ⊥) → IsStartingLink link
+    → RefusesLink s a b (link_with says link) e → own_fault s.names (OfLink from to says) ≡ Some (cell_fault e)
+link_refused s from to says a b link StartError.UnknownNode from_at to_at apart starts refused =
+    absurd (refused (place_below s.names from a from_at, place_below s.names to b to_at))
+link_refused s from to says a b link StartError.SelfLink from_at to_at apart starts refused = absurd (apart refused.1)
+link_refused s from to says a b link StartError.BadAmount from_at to_at apart starts refused =
+    let bad = unless (is_link_amount says) (λ good. refused.2 (link_with-starts says link good starts)) in
+    rw (own_fault-link s.names from to says a b from_at to_at, other_name s.names from to a b from_at to_at apart, bad) refl
+
+-- and so of a node
+pub node_refused : (s : StartValue) (name : List ℕ) (says : NodeChange) (a : ℕ) (cell : NodeCell) (e : StartError)
+    → place_of s.names name ≡ Some a → IsStartingNode cell
+    → RefusesNode s a (node_with says cell) e → own_fault s.names (OfNode name says) ≡ Some (cell_fault e)
+node_refused s name says a cell StartError.UnknownNode at starts refused = let below = place_below s.names name a at in absurd (omega arith)
+node_refused s name says a cell StartError.SelfLink at starts refused = absurd refused
+node_refused s name says a cell StartError.BadAmount at starts refused =
+    let bad = unless (is_node_amount says) (λ good. refused.1 (node_with-starts says cell good starts)) in
+    rw (own_fault-node s.names name says a at, bad) refl

@@ -31,35 +31,35 @@ told_link env a b starts =
     let n = length (cells_of env).nodes in
     let here = slice_index_or (cells_of env).links (a * n + b) calm in
     elim (nat_lt a n && (nat_lt b n && not (a == b)))
-      as (λ t. (nat_lt a n && (nat_lt b n && not (a == b))) ≡ t
-            → (if t then Some here else None) ≡ (if t then Some (fold (link_after env.names a b) calm (flat_map (entries_written env) sections)) else None)) [
-        | true ↦ λ is.
-            let p = and_parts (nat_lt a n) (nat_lt b n && not (a == b)) is in
-            let q = and_parts (nat_lt b n) (not (a == b)) p.1 in
-            let a_below : a < length env.names = omega (arith, ltb-true a n p.0, starts.whole) in
-            let b_below : b < length env.names = omega (arith, ltb-true b n q.0, starts.whole) in
-            let there : link_of env a b ≡ Some here = ap (λ t. if t then Some here else None) is in
-            ap Some (sym (fold_written-link env a b here starts.named a_below b_below there (starts.links a b here there)))
-        | false ↦ λ is. refl
-      ] refl
+    as (λ t. (nat_lt a n && (nat_lt b n && not (a == b))) ≡ t
+    → (if t then Some here else None) ≡ (if t then Some (fold (link_after env.names a b) calm (flat_map (entries_written env) sections)) else None)) [
+      | true ↦ λ is.
+          let p = and_parts (nat_lt a n) (nat_lt b n && not (a == b)) is in
+          let q = and_parts (nat_lt b n) (not (a == b)) p.1 in
+          let a_below : a < length env.names = omega (arith, ltb-true a n p.0, starts.whole) in
+          let b_below : b < length env.names = omega (arith, ltb-true b n q.0, starts.whole) in
+          let there : link_of env a b ≡ Some here = ap (λ t. if t then Some here else None) is in
+          ap Some (sym (fold_written-link env a b here starts.named a_below b_below there (starts.links a b here there)))
+      | false ↦ λ is. refl
+    ] refl
 
 told_node : (env : EnvValue) (a : ℕ) → CanStart env
     → node_of env a ≡ (if nat_lt a (length (cells_of env).nodes) then Some (fold (node_after env.names a) running (flat_map (entries_written env) sections)) else None)
 told_node env a starts =
     let n = length (cells_of env).nodes in
     elim (node_of env a)
-      as (λ o. node_of env a ≡ o → o ≡ (if nat_lt a n then Some (fold (node_after env.names a) running (flat_map (entries_written env) sections)) else None)) [
-        | Some cell ↦ λ there.
-            let below : a < n = slice_get_within (cells_of env).nodes a cell there in
-            let a_below : a < length env.names = omega (arith, starts.whole) in
-            rw (lt-ltb a n below) (ap Some (sym (fold_written-node env a cell starts.named a_below there)))
-        | None ↦ λ none.
-            elim (nat_lt a n)
-              as (λ t. nat_lt a n ≡ t → None ≡ (if t then Some (fold (node_after env.names a) running (flat_map (entries_written env) sections)) else None)) [
-                | true ↦ λ is. absurd (at_each_place (cells_of env).nodes a (ltb-true a n is) none)
-                | false ↦ λ is. refl
-              ] refl
-      ] refl
+    as (λ o. node_of env a ≡ o → o ≡ (if nat_lt a n then Some (fold (node_after env.names a) running (flat_map (entries_written env) sections)) else None)) [
+      | Some cell ↦ λ there.
+          let below : a < n = slice_get_within (cells_of env).nodes a cell there in
+          let a_below : a < length env.names = omega (arith, starts.whole) in
+          rw (lt-ltb a n below) (ap Some (sym (fold_written-node env a cell starts.named a_below there)))
+      | None ↦ λ none.
+          elim (nat_lt a n)
+          as (λ t. nat_lt a n ≡ t → None ≡ (if t then Some (fold (node_after env.names a) running (flat_map (entries_written env) sections)) else None)) [
+            | true ↦ λ is. absurd (at_each_place (cells_of env).nodes a (ltb-true a n is) none)
+            | false ↦ λ is. refl
+          ] refl
+    ] refl
 
 -- the text that is written of an environment that can start tells its cells
 pub text_reads_back : (env : EnvValue) → CanStart env → IsTextOf (text_of env) env.names (cells_of env)
@@ -67,9 +67,9 @@ unfolding is_pair
 text_reads_back env starts =
     let told : AreTold env.names (flat_map (entries_written env) sections) (cells_of env) = record {
       links = λ a b. told_link env a b starts
-        ∙ ap (λ n. if nat_lt a n && (nat_lt b n && not (a == b)) then Some (fold (link_after env.names a b) calm (flat_map (entries_written env) sections)) else None) starts.whole;
+          ∙ ap (λ n. if nat_lt a n && (nat_lt b n && not (a == b)) then Some (fold (link_after env.names a b) calm (flat_map (entries_written env) sections)) else None) starts.whole;
       nodes = λ a. told_node env a starts
-        ∙ ap (λ n. if nat_lt a n then Some (fold (node_after env.names a) running (flat_map (entries_written env) sections)) else None) starts.whole;
+          ∙ ap (λ n. if nat_lt a n then Some (fold (node_after env.names a) running (flat_map (entries_written env) sections)) else None) starts.whole;
     } in
     (shape_written env, text_shape env, refl, starts.few, starts.named, written_sound env starts, told)
 
@@ -132,8 +132,10 @@ text_tells_one value names others cells more first second =
     let same = same_shape value first.0 second.0 first.1 second.1 in
     let named : others ≡ names = sym second.2 ∙ sym (ap (λ s. s.names) same) ∙ first.2 in
     let told : AreTold names first.0.entries more =
-      subst (λ ns. AreTold ns first.0.entries more) named (subst (λ es. AreTold others es more) (sym (ap (λ s. s.entries) same)) second.6) in
-    (named, record {
-      links = λ a b. first.6.links a b ∙ sym (told.links a b);
-      nodes = λ a. first.6.nodes a ∙ sym (told.nodes a);
-    })
+    subst (λ ns. AreTold ns first.0.entries more) named (subst (λ es. AreTold others es more) (sym (ap (λ s. s.entries) same)) second.6) in (
+      named,
+      record {
+        links = λ a b. first.6.links a b ∙ sym (told.links a b);
+        nodes = λ a. first.6.nodes a ∙ sym (told.nodes a);
+      },
+    )

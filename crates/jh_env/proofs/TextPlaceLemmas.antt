@@ -28,6 +28,6 @@ place_of-at names a name good at =
     let below = slice_get_within names a name at in
     let here = get_or_from_slice_get names a name [] at in
     let split : names ≡ take a names ++ (name ∷ drop (suc a) names) =
-        sym (take-append-drop a names) ∙ ap (λ r. take a names ++ r) (drop-cons names a [] below ∙ ap (λ x. x ∷ drop (suc a) names) here) in
+    sym (take-append-drop a names) ∙ ap (λ r. take a names ++ r) (drop-cons names a [] below ∙ ap (λ x. x ∷ drop (suc a) names) here) in
     let first = first_place (bytes_eq name) names a name at ((bytes_eq-Decides name name).1 refl) (good (take a names) (drop (suc a) names) name split).1 in
     ap (λ i. cond (nat_lt i (length names)) (Some i) None) first ∙ ap (λ t. cond t (Some a) None) (lt-ltb a (length names) below)

@@ -53,30 +53,30 @@ link_step : (env : EnvValue) (section : Section) (a b x y : ℕ) (l : Link) → 
 unfolding said_of_link
 link_step env section a b x y l good a_below b_below =
     elim (slice_get env.names x)
-      as (λ o. slice_get env.names x ≡ o
-            → option_map_or (link_after env.names a b l)
-                (o >>= (λ from. slice_get env.names y >>= (λ to. link_of env x y >>= (λ k. link_part section k >>= (λ says. Some (OfLink from to says)))))) l
-            ≡ (if (a == x) && (b == y) then option_map_or (λ says. link_with says l) (link_of env x y >>= link_part section) l else l)) [
-        | None ↦ λ none. rw (not_there env.names a x a_below none) refl
-        | Some from ↦ λ from_at.
-            elim (slice_get env.names y)
-              as (λ o. slice_get env.names y ≡ o
-                    → option_map_or (link_after env.names a b l)
-                        (o >>= (λ to. link_of env x y >>= (λ k. link_part section k >>= (λ says. Some (OfLink from to says))))) l
-                    ≡ (if (a == x) && (b == y) then option_map_or (λ says. link_with says l) (link_of env x y >>= link_part section) l else l)) [
-                | None ↦ λ none. rw (not_there env.names b y b_below none)
-                    (elim (a == x) as (λ t. l ≡ (if t && false then option_map_or (λ says. link_with says l) (link_of env x y >>= link_part section) l else l)) [ true ↦ refl | false ↦ refl ])
-                | Some to ↦ λ to_at.
-                    let from_place = place_of-at env.names x from good from_at in
-                    let to_place = place_of-at env.names y to good to_at in
-                    elim (link_of env x y)
-                      as (λ o. option_map_or (link_after env.names a b l) (o >>= (λ k. link_part section k >>= (λ says. Some (OfLink from to says)))) l
-                            ≡ (if (a == x) && (b == y) then option_map_or (λ says. link_with says l) (o >>= link_part section) l else l)) [
-                        | None ↦ link_step_there env.names a b x y from to l None from_place to_place
-                        | Some k ↦ link_step_there env.names a b x y from to l (link_part section k) from_place to_place
-                      ]
-              ] refl
-      ] refl
+    as (λ o. slice_get env.names x ≡ o
+    → option_map_or (link_after env.names a b l)
+    (o >>= (λ from. slice_get env.names y >>= (λ to. link_of env x y >>= (λ k. link_part section k >>= (λ says. Some (OfLink from to says)))))) l
+    ≡ (if (a == x) && (b == y) then option_map_or (λ says. link_with says l) (link_of env x y >>= link_part section) l else l)) [
+      | None ↦ λ none. rw (not_there env.names a x a_below none) refl
+      | Some from ↦ λ from_at.
+          elim (slice_get env.names y)
+          as (λ o. slice_get env.names y ≡ o
+          → option_map_or (link_after env.names a b l)
+          (o >>= (λ to. link_of env x y >>= (λ k. link_part section k >>= (λ says. Some (OfLink from to says))))) l
+          ≡ (if (a == x) && (b == y) then option_map_or (λ says. link_with says l) (link_of env x y >>= link_part section) l else l)) [
+            | None ↦ λ none. rw (not_there env.names b y b_below none)
+                (elim (a == x) as (λ t. l ≡ (if t && false then option_map_or (λ says. link_with says l) (link_of env x y >>= link_part section) l else l)) [ true ↦ refl | false ↦ refl ])
+            | Some to ↦ λ to_at.
+                let from_place = place_of-at env.names x from good from_at in
+                let to_place = place_of-at env.names y to good to_at in
+                elim (link_of env x y)
+                as (λ o. option_map_or (link_after env.names a b l) (o >>= (λ k. link_part section k >>= (λ says. Some (OfLink from to says)))) l
+                ≡ (if (a == x) && (b == y) then option_map_or (λ says. link_with says l) (o >>= link_part section) l else l)) [
+                  | None ↦ link_step_there env.names a b x y from to l None from_place to_place
+                  | Some k ↦ link_step_there env.names a b x y from to l (link_part section k) from_place to_place
+                ]
+          ] refl
+    ] refl
 
 -- all entries of links under a key tell of the link from a to b what is written of it
 pub fold_links : (env : EnvValue) (section : Section) (a b : ℕ) (l : Link) → AreNodeNames env.names → a < length env.names → b < length env.names
@@ -84,14 +84,14 @@ pub fold_links : (env : EnvValue) (section : Section) (a b : ℕ) (l : Link) →
 fold_links env section a b l good a_below b_below =
     let n = length env.names in
     let inner : (m : Link) (x : ℕ) → fold (link_after env.names a b) m (filter_map (link_entry env section x) (places env)) ≡ (if a == x then said_of_link env section x b m else m) =
-      λ m x.
-        fold-filter_map (link_after env.names a b) (link_entry env section x) m (places env)
-        ∙ fold-same (λ k y. option_map_or (link_after env.names a b k) (link_entry env section x y) k) (λ k y. if (a == x) && (b == y) then said_of_link env section x y k else k)
-            (λ k y. link_step env section a b x y k good a_below b_below) m (places env)
-        ∙ (elim (a == x) as (λ t. fold (λ k y. if t && (b == y) then said_of_link env section x y k else k) m (places env) ≡ (if t then said_of_link env section x b m else m)) [
-            | true ↦ fold-once (said_of_link env section x) b 0 n m (omega arith) (omega arith)
-            | false ↦ fold-idle (λ k y. k) (λ k y. refl) m (places env)
-          ])
+    λ m x.
+    fold-filter_map (link_after env.names a b) (link_entry env section x) m (places env)
+    ∙ fold-same (λ k y. option_map_or (link_after env.names a b k) (link_entry env section x y) k) (λ k y. if (a == x) && (b == y) then said_of_link env section x y k else k)
+    (λ k y. link_step env section a b x y k good a_below b_below) m (places env)
+    ∙ (elim (a == x) as (λ t. fold (λ k y. if t && (b == y) then said_of_link env section x y k else k) m (places env) ≡ (if t then said_of_link env section x b m else m)) [
+      | true ↦ fold-once (said_of_link env section x) b 0 n m (omega arith) (omega arith)
+      | false ↦ fold-idle (λ k y. k) (λ k y. refl) m (places env)
+    ])
     in
     fold-flat_map (link_after env.names a b) (λ x. filter_map (link_entry env section x) (places env)) l (places env)
     ∙ fold-same (λ m x. fold (link_after env.names a b) m (filter_map (link_entry env section x) (places env))) (λ m x. if a == x then said_of_link env section x b m else m) inner l (places env)
@@ -113,19 +113,19 @@ node_step : (env : EnvValue) (section : Section) (a x : ℕ) (c : NodeCell) → 
 unfolding said_of_node
 node_step env section a x c good a_below =
     elim (slice_get env.names x)
-      as (λ o. slice_get env.names x ≡ o
-            → option_map_or (node_after env.names a c) (o >>= (λ name. node_of env x >>= (λ k. node_part section k >>= (λ says. Some (OfNode name says))))) c
-            ≡ (if a == x then option_map_or (λ says. node_with says c) (node_of env x >>= node_part section) c else c)) [
-        | None ↦ λ none. rw (not_there env.names a x a_below none) refl
-        | Some name ↦ λ name_at.
-            let place = place_of-at env.names x name good name_at in
-            elim (node_of env x)
-              as (λ o. option_map_or (node_after env.names a c) (o >>= (λ k. node_part section k >>= (λ says. Some (OfNode name says)))) c
-                    ≡ (if a == x then option_map_or (λ says. node_with says c) (o >>= node_part section) c else c)) [
-                | None ↦ node_step_there env.names a x name c None place
-                | Some k ↦ node_step_there env.names a x name c (node_part section k) place
-              ]
-      ] refl
+    as (λ o. slice_get env.names x ≡ o
+    → option_map_or (node_after env.names a c) (o >>= (λ name. node_of env x >>= (λ k. node_part section k >>= (λ says. Some (OfNode name says))))) c
+    ≡ (if a == x then option_map_or (λ says. node_with says c) (node_of env x >>= node_part section) c else c)) [
+      | None ↦ λ none. rw (not_there env.names a x a_below none) refl
+      | Some name ↦ λ name_at.
+          let place = place_of-at env.names x name good name_at in
+          elim (node_of env x)
+          as (λ o. option_map_or (node_after env.names a c) (o >>= (λ k. node_part section k >>= (λ says. Some (OfNode name says)))) c
+          ≡ (if a == x then option_map_or (λ says. node_with says c) (o >>= node_part section) c else c)) [
+            | None ↦ node_step_there env.names a x name c None place
+            | Some k ↦ node_step_there env.names a x name c (node_part section k) place
+          ]
+    ] refl
 
 -- all entries of nodes under a key tell of the node a what is written of it
 pub fold_nodes : (env : EnvValue) (section : Section) (a : ℕ) (c : NodeCell) → AreNodeNames env.names → a < length env.names
@@ -133,7 +133,7 @@ pub fold_nodes : (env : EnvValue) (section : Section) (a : ℕ) (c : NodeCell) �
 fold_nodes env section a c good a_below =
     fold-filter_map (node_after env.names a) (node_entry env section) c (places env)
     ∙ fold-same (λ k x. option_map_or (node_after env.names a k) (node_entry env section x) k) (λ k x. if a == x then said_of_node env section x k else k)
-        (λ k x. node_step env section a x k good a_below) c (places env)
+    (λ k x. node_step env section a x k good a_below) c (places env)
     ∙ fold-once (said_of_node env section) a 0 (length env.names) c (omega arith) (omega arith)
 
 -- entries of nodes tell nothing of a link
@@ -146,14 +146,14 @@ fold_nodes-link env section a b l =
     idle : (k : Link) (x : ℕ) → option_map_or (link_after env.names a b k) (node_entry env section x) k ≡ k
     idle k x =
         elim (slice_get env.names x)
-          as (λ o. option_map_or (link_after env.names a b k) (o >>= (λ name. node_of env x >>= (λ cell. node_part section cell >>= (λ says. Some (OfNode name says))))) k ≡ k) [
-            | None ↦ refl
-            | Some name ↦ elim (node_of env x)
-                as (λ o. option_map_or (link_after env.names a b k) (o >>= (λ cell. node_part section cell >>= (λ says. Some (OfNode name says)))) k ≡ k) [
-                  | None ↦ refl
-                  | Some cell ↦ elim (node_part section cell) as (λ o. option_map_or (link_after env.names a b k) (o >>= (λ says. Some (OfNode name says))) k ≡ k) [ None ↦ refl | Some says ↦ refl ]
-                ]
-          ]
+        as (λ o. option_map_or (link_after env.names a b k) (o >>= (λ name. node_of env x >>= (λ cell. node_part section cell >>= (λ says. Some (OfNode name says))))) k ≡ k) [
+          | None ↦ refl
+          | Some name ↦ elim (node_of env x)
+              as (λ o. option_map_or (link_after env.names a b k) (o >>= (λ cell. node_part section cell >>= (λ says. Some (OfNode name says)))) k ≡ k) [
+                | None ↦ refl
+                | Some cell ↦ elim (node_part section cell) as (λ o. option_map_or (link_after env.names a b k) (o >>= (λ says. Some (OfNode name says))) k ≡ k) [ None ↦ refl | Some says ↦ refl ]
+              ]
+        ]
 
 -- entries of links tell nothing of a node
 pub fold_links-node : (env : EnvValue) (section : Section) (a : ℕ) (c : NodeCell)
@@ -161,29 +161,29 @@ pub fold_links-node : (env : EnvValue) (section : Section) (a : ℕ) (c : NodeCe
 fold_links-node env section a c =
     fold-flat_map (node_after env.names a) (λ x. filter_map (link_entry env section x) (places env)) c (places env)
     ∙ fold-idle (λ k x. fold (node_after env.names a) k (filter_map (link_entry env section x) (places env)))
-        (λ k x. fold-filter_map (node_after env.names a) (link_entry env section x) k (places env)
-          ∙ fold-idle (λ m y. option_map_or (node_after env.names a m) (link_entry env section x y) m) (λ m y. idle m x y) k (places env)) c (places env)
+    (λ k x. fold-filter_map (node_after env.names a) (link_entry env section x) k (places env)
+    ∙ fold-idle (λ m y. option_map_or (node_after env.names a m) (link_entry env section x y) m) (λ m y. idle m x y) k (places env)) c (places env)
   where
     idle : (m : NodeCell) (x y : ℕ) → option_map_or (node_after env.names a m) (link_entry env section x y) m ≡ m
     idle m x y =
         elim (slice_get env.names x)
-          as (λ o. option_map_or (node_after env.names a m) (o >>= (λ from. slice_get env.names y >>= (λ to. link_of env x y >>= (λ k. link_part section k >>= (λ says. Some (OfLink from to says)))))) m ≡ m) [
-            | None ↦ refl
-            | Some from ↦ elim (slice_get env.names y)
-                as (λ o. option_map_or (node_after env.names a m) (o >>= (λ to. link_of env x y >>= (λ k. link_part section k >>= (λ says. Some (OfLink from to says))))) m ≡ m) [
-                  | None ↦ refl
-                  | Some to ↦ elim (link_of env x y)
-                      as (λ o. option_map_or (node_after env.names a m) (o >>= (λ k. link_part section k >>= (λ says. Some (OfLink from to says)))) m ≡ m) [
-                        | None ↦ refl
-                        | Some k ↦ elim (link_part section k) as (λ o. option_map_or (node_after env.names a m) (o >>= (λ says. Some (OfLink from to says))) m ≡ m) [ None ↦ refl | Some says ↦ refl ]
-                      ]
-                ]
-          ]
+        as (λ o. option_map_or (node_after env.names a m) (o >>= (λ from. slice_get env.names y >>= (λ to. link_of env x y >>= (λ k. link_part section k >>= (λ says. Some (OfLink from to says)))))) m ≡ m) [
+          | None ↦ refl
+          | Some from ↦ elim (slice_get env.names y)
+              as (λ o. option_map_or (node_after env.names a m) (o >>= (λ to. link_of env x y >>= (λ k. link_part section k >>= (λ says. Some (OfLink from to says))))) m ≡ m) [
+                | None ↦ refl
+                | Some to ↦ elim (link_of env x y)
+                    as (λ o. option_map_or (node_after env.names a m) (o >>= (λ k. link_part section k >>= (λ says. Some (OfLink from to says)))) m ≡ m) [
+                      | None ↦ refl
+                      | Some k ↦ elim (link_part section k) as (λ o. option_map_or (node_after env.names a m) (o >>= (λ says. Some (OfLink from to says))) m ≡ m) [ None ↦ refl | Some says ↦ refl ]
+                    ]
+              ]
+        ]
 
 cut_said : (link : Link) → option_map_or (λ says. link_with says calm) (link_part Section.Cut link) calm ≡ record { cut = link.cut; delay = 0; loss = 0 }
 cut_said link =
     elim link.cut
-      as (λ t. option_map_or (λ says. link_with says calm) (if t then Some LinkChange.Cut else None) calm ≡ record { cut = t; delay = 0; loss = 0 }) [ true ↦ refl | false ↦ refl ]
+    as (λ t. option_map_or (λ says. link_with says calm) (if t then Some LinkChange.Cut else None) calm ≡ record { cut = t; delay = 0; loss = 0 }) [ true ↦ refl | false ↦ refl ]
 
 no_less : (n : ℕ) → nat_lt 0 n ≡ false → 0 ≡ n
 no_less n is = grind (arith, nat_tests)
@@ -194,26 +194,26 @@ delay_said : (link : Link) (cut : Bool) → link.delay ≤ most_written
 delay_said link cut fits =
     let whole : min link.delay most_written ≡ link.delay = omega arith in
     elim (nat_lt 0 link.delay)
-      as (λ t. nat_lt 0 link.delay ≡ t
-            → option_map_or (λ says. link_with says (record { cut = cut; delay = 0; loss = 0 }))
-                (if t then Some (LinkChange.Delay (pos (min link.delay most_written))) else None) (record { cut = cut; delay = 0; loss = 0 })
-            ≡ record { cut = cut; delay = link.delay; loss = 0 }) [
-        | true ↦ λ is. λ i. record { cut = cut; delay = whole i; loss = 0 }
-        | false ↦ λ is. λ i. record { cut = cut; delay = no_less link.delay is i; loss = 0 }
-      ] refl
+    as (λ t. nat_lt 0 link.delay ≡ t
+    → option_map_or (λ says. link_with says (record { cut = cut; delay = 0; loss = 0 }))
+    (if t then Some (LinkChange.Delay (pos (min link.delay most_written))) else None) (record { cut = cut; delay = 0; loss = 0 })
+    ≡ record { cut = cut; delay = link.delay; loss = 0 }) [
+      | true ↦ λ is. λ i. record { cut = cut; delay = whole i; loss = 0 }
+      | false ↦ λ is. λ i. record { cut = cut; delay = no_less link.delay is i; loss = 0 }
+    ] refl
 
 loss_said : (link : Link) (cut : Bool) (delay : ℕ)
     → option_map_or (λ says. link_with says (record { cut = cut; delay = delay; loss = 0 })) (link_part Section.Loss link) (record { cut = cut; delay = delay; loss = 0 })
     ≡ record { cut = cut; delay = delay; loss = link.loss }
 loss_said link cut delay =
     elim (nat_lt 0 link.loss)
-      as (λ t. nat_lt 0 link.loss ≡ t
-            → option_map_or (λ says. link_with says (record { cut = cut; delay = delay; loss = 0 }))
-                (if t then Some (LinkChange.Loss (pos link.loss)) else None) (record { cut = cut; delay = delay; loss = 0 })
-            ≡ record { cut = cut; delay = delay; loss = link.loss }) [
-        | true ↦ λ is. refl
-        | false ↦ λ is. λ i. record { cut = cut; delay = delay; loss = no_less link.loss is i }
-      ] refl
+    as (λ t. nat_lt 0 link.loss ≡ t
+    → option_map_or (λ says. link_with says (record { cut = cut; delay = delay; loss = 0 }))
+    (if t then Some (LinkChange.Loss (pos link.loss)) else None) (record { cut = cut; delay = delay; loss = 0 })
+    ≡ record { cut = cut; delay = delay; loss = link.loss }) [
+      | true ↦ λ is. refl
+      | false ↦ λ is. λ i. record { cut = cut; delay = delay; loss = no_less link.loss is i }
+    ] refl
 
 -- all that is said of a link, under the three keys, is the link
 pub link_rebuilt : (env : EnvValue) (a b : ℕ) (link : Link) → link_of env a b ≡ Some link → IsStartingLink link
@@ -223,7 +223,7 @@ link_rebuilt env a b link there starts =
     let said : Section → Link → Link = λ s l. option_map_or (λ says. link_with says l) (link_of env a b >>= link_part s) l in
     let short : link.delay ≤ most_written = omega (arith, starts.0) in
     let is : (s : Section) (l : Link) → said s l ≡ option_map_or (λ says. link_with says l) (link_part s link) l =
-      λ s l. ap (λ o. option_map_or (λ says. link_with says l) (o >>= link_part s) l) there in
+    λ s l. ap (λ o. option_map_or (λ says. link_with says l) (o >>= link_part s) l) there in
     ap (λ l. said Section.Loss (said Section.Slow l)) (is Section.Cut calm ∙ cut_said link)
     ∙ ap (said Section.Loss) (is Section.Slow _ ∙ delay_said link link.cut short)
     ∙ (is Section.Loss _ ∙ loss_said link link.cut link.delay)
@@ -238,17 +238,17 @@ life_said cell =
 
 clock_said : (process : Life) (clock : ℤ)
     → option_map_or (λ says. node_with says (record { process = process; clock = pos 0 })) (if is_zero clock then None else Some (NodeChange.Clock clock))
-        (record { process = process; clock = pos 0 })
+    (record { process = process; clock = pos 0 })
     ≡ record { process = process; clock = clock }
 clock_said process (pos n) =
     elim (n == 0)
-      as (λ t. (n == 0) ≡ t
-            → option_map_or (λ says. node_with says (record { process = process; clock = pos 0 })) (if t then None else Some (NodeChange.Clock (pos n)))
-                (record { process = process; clock = pos 0 })
-            ≡ record { process = process; clock = pos n }) [
-        | true ↦ λ is. let none = eqb-true n 0 is in λ i. record { process = process; clock = pos (sym none i) }
-        | false ↦ λ is. refl
-      ] refl
+    as (λ t. (n == 0) ≡ t
+    → option_map_or (λ says. node_with says (record { process = process; clock = pos 0 })) (if t then None else Some (NodeChange.Clock (pos n)))
+    (record { process = process; clock = pos 0 })
+    ≡ record { process = process; clock = pos n }) [
+      | true ↦ λ is. let none = eqb-true n 0 is in λ i. record { process = process; clock = pos (sym none i) }
+      | false ↦ λ is. refl
+    ] refl
 clock_said process (negsuc n) = refl
 
 -- all that is said of a node, under the two keys, is the node
@@ -258,7 +258,7 @@ unfolding said_of_node
 node_rebuilt env a cell there =
     let said : Section → NodeCell → NodeCell = λ s c. option_map_or (λ says. node_with says c) (node_of env a >>= node_part s) c in
     let is : (s : Section) (c : NodeCell) → said s c ≡ option_map_or (λ says. node_with says c) (node_part s cell) c =
-      λ s c. ap (λ o. option_map_or (λ says. node_with says c) (o >>= node_part s) c) there in
+    λ s c. ap (λ o. option_map_or (λ says. node_with says c) (o >>= node_part s) c) there in
     ap (said Section.Clock) (is Section.Down running ∙ life_said cell)
     ∙ (is Section.Clock _ ∙ clock_said cell.process cell.clock)
 
@@ -282,5 +282,5 @@ fold_written-node env a cell good a_below there =
     fold-flat_map (node_after env.names a) (entries_written env) running sections
     ∙ fold_nodes env Section.Clock a _ good a_below
     ∙ ap (said_of_node env Section.Clock a) (fold_nodes env Section.Down a _ good a_below
-        ∙ ap (said_of_node env Section.Down a) (fold_links-node env Section.Loss a _ ∙ fold_links-node env Section.Slow a _ ∙ fold_links-node env Section.Cut a running))
+    ∙ ap (said_of_node env Section.Down a) (fold_links-node env Section.Loss a _ ∙ fold_links-node env Section.Slow a _ ∙ fold_links-node env Section.Cut a running))
     ∙ node_rebuilt env a cell there

@@ -61,8 +61,8 @@ node_part-read Section.Loss cell name says said = absurd cc
 entries_read : (env : EnvValue) (section : Section) → All (λ e. entry_in section (edn_of_entry e) ≡ Some e) (entries_written env section)
 entries_read env section =
     all_written env (λ e. entry_in section (edn_of_entry e) ≡ Some e) section
-      (λ a b e made. let p = link_parts env section a b e made in rw p.is (link_part-read section p.link p.from p.to p.says p.said))
-      (λ a e made. let p = node_parts env section a e made in rw p.is (node_part-read section p.cell p.name p.says p.said))
+    (λ a b e made. let p = link_parts env section a b e made in rw p.is (link_part-read section p.link p.from p.to p.says p.said))
+    (λ a e made. let p = node_parts env section a e made in rw p.is (node_part-read section p.cell p.name p.says p.said))
 
 section_read : (env : EnvValue) (section : Section) → entries_of section (vector (items_of (map edn_of_entry (entries_written env section)))) ≡ Some (entries_written env section)
 section_read env section =
@@ -93,6 +93,9 @@ pub text_shape : (env : EnvValue) → HasShape (text_of env) (shape_written env)
 unfolding keys_written
 text_shape env =
     let all : all_entries (keys_written env).pairs ≡ Some (flat_map (entries_written env) sections) =
-      ap (option_map (flat_map (λ es. es))) (each_of-images (entries_under (keys_written env).pairs) (entries_written env) (under_read env) sections) in
-    (keys_written env, refl, ap (λ o. o >>= (λ names. all_entries (keys_written env).pairs >>= (λ entries. Some (record { names = names; entries = entries })))) (names_read env.names)
-      ∙ ap (λ o. o >>= (λ entries. Some (record { names = env.names; entries = entries }))) all)
+    ap (option_map (flat_map (λ es. es))) (each_of-images (entries_under (keys_written env).pairs) (entries_written env) (under_read env) sections) in (
+      keys_written env,
+      refl,
+      ap (λ o. o >>= (λ names. all_entries (keys_written env).pairs >>= (λ entries. Some (record { names = names; entries = entries })))) (names_read env.names)
+          ∙ ap (λ o. o >>= (λ entries. Some (record { names = env.names; entries = entries }))) all,
+    )

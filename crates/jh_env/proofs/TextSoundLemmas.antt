@@ -1,8 +1,8 @@
 -- The entries that are written are sound, and each is spelled as it is read.
 use Rattle.std.proofs.Common.{◌≡◌, ℕ, zero, suc, ◌+◌, ◌*◌, ◌<◌, ◌≤◌, Bool, true, false, List, [], ◌∷◌, ◌++◌, length, take, bytes_eq, filter_map, flat_map, Option, Some, None, ap, refl, sym, ◌∙◌, arith, subst, pos, add-zero}
-use Rattle.std.specs.Prelude.{T, ℤ, ◌≤ℤ◌, if◌then◌else◌, ◌&&◌, ◌||◌, min, nat_lt, int_le, slice_get, unwrap_or, option_and_then, All}
+use Rattle.std.specs.Prelude.{◌≤ℤ◌, if◌then◌else◌, ◌&&◌, ◌||◌, min, nat_lt, slice_get, unwrap_or, option_and_then, All}
 use Rattle.std.specs.List.{range_with_len, cons_option, list_any}
-use Rattle.std.proofs.lemmas.Bool.{and_parts, and_from}
+use Rattle.std.proofs.lemmas.Bool.{and_parts}
 use Rattle.std.proofs.lemmas.Int.{ints}
 use Rattle.std.proofs.lemmas.List.Elements.{All-nil, All-cons, All-append, All-get_or}
 use Rattle.std.proofs.lemmas.Option.{slice_get_within, get_or_from_slice_get}
@@ -17,10 +17,10 @@ use Rattle.jh_env.specs.declared.texts.entries.NodeChange.{NodeChange}
 use Rattle.jh_env.specs.Overlay.{EnvValue, cells_of, link_of, node_of}
 use Rattle.jh_env.specs.Starting.{IsStartingLink, IsStartingNode}
 use Rattle.jh_env.specs.Text.{◌>>=◌, Entry, OfLink, OfNode, sections}
-use Rattle.jh_env.specs.TextFaults.{place_of, own_fault, fault_after, repeats, same_link_key, same_node_key, is_within, is_link_amount, is_node_amount, AreSound}
+use Rattle.jh_env.specs.TextFaults.{place_of, own_fault, fault_after, repeats, same_link_key, same_node_key, is_link_amount, is_node_amount, AreSound}
 use Rattle.jh_env.specs.TextLaws.{CanStart}
 use Rattle.jh_env.specs.TextWritten.{places, link_entry, node_entry, link_part, node_part, life_part, is_zero, most_written, entries_written}
-use Rattle.jh_env.proofs.TextCellLemmas.{own_fault-link, own_fault-node, other_name, link_apart}
+use Rattle.jh_env.proofs.TextCellLemmas.{within, own_fault-link, own_fault-node, other_name, link_apart}
 use Rattle.jh_env.proofs.TextPlaceLemmas.{place_of-at}
 
 bind_gives : {A B : Type 0} (o : Option A) (f : A → Option B) (y : B) → (o >>= f) ≡ Some y → (x : A) × (o ≡ Some x) × (f x ≡ Some y)
@@ -73,13 +73,6 @@ if_gives false x y is = absurd cc
 pub unless_gives : {A : Type 0} (t : Bool) (x y : A) → (if t then None else Some x) ≡ Some y → y ≡ x
 unless_gives true x y is = absurd cc
 unless_gives false x y is = cc
-
-passes : (b : Bool) → T b → b ≡ true
-passes true t = refl
-passes false t = absurd t
-
-within : (least most z : ℤ) → least ≤ℤ z → z ≤ℤ most → is_within least most z ≡ true
-within least most z above below = and_from (int_le least z) (int_le z most) (passes (int_le least z) above.le) (passes (int_le z most) below.le)
 
 -- what is written of a link that may start is in its range
 link_part-amount : (section : Section) (link : Link) (says : LinkChange) → IsStartingLink link → link_part section link ≡ Some says → is_link_amount says ≡ true
@@ -150,8 +143,8 @@ all_written env P Section.Clock links nodes = all-filter_map P (node_entry env S
 pub all_sound : (env : EnvValue) → CanStart env → All (λ e. own_fault env.names e ≡ None) (flat_map (entries_written env) sections)
 all_sound env starts =
     all-flat_map (λ e. own_fault env.names e ≡ None) (entries_written env) sections
-      (λ section. all_written env (λ e. own_fault env.names e ≡ None) section
-        (λ a b e made. link_entry-sound env section a b e starts made) (λ a e made. node_entry-sound env section a e starts made))
+    (λ section. all_written env (λ e. own_fault env.names e ≡ None) section
+    (λ a b e made. link_entry-sound env section a b e starts made) (λ a e made. node_entry-sound env section a e starts made))
 
 -- the number of the key under which an entry stands
 link_number : LinkChange → ℕ
@@ -219,12 +212,13 @@ unfolding Climbs
 climbs-once names low high [] k e climbs at = absurd cc
 climbs-once names low high (d ∷ ds) zero e climbs at = let same : d ≡ e = cc in (subst (λ x. low ≤ rank names x) same climbs.0, refl)
 climbs-once names low high (d ∷ ds) (suc k) e climbs at =
-    let rest = climbs-once names (rank names d + 1) high ds k e climbs.1 at in
-    (omega (arith, climbs.0, rest.0),
+    let rest = climbs-once names (rank names d + 1) high ds k e climbs.1 at in (
+      omega (arith, climbs.0, rest.0),
       elim (repeats e d) as (λ t. repeats e d ≡ t → (t || list_any (repeats e) (take k ds)) ≡ false) [
         | true ↦ λ is. let same = same_rank names e d is in absurd (omega (arith, same, rest.0))
         | false ↦ λ is. rest.1
-      ] refl)
+      ] refl,
+    )
 
 climbs-wider : (names : List (List ℕ)) (low high lower higher : ℕ) (es : List Entry) → lower ≤ low → high ≤ higher → Climbs names low high es → Climbs names lower higher es
 unfolding Climbs
@@ -245,7 +239,7 @@ climbs-flat_map names g f s zero each = let e : g s ≡ g (s + 0) = ap g (sym (a
 climbs-flat_map names g f s (suc m) each =
     let e : (s + 1) + m ≡ s + suc m = omega arith in
     climbs-append names (g s) (g (s + 1)) (g (s + suc m)) (f s) (flat_map f (range_with_len (s + 1) m)) (each s)
-      (subst (λ k. Climbs names (g (s + 1)) (g k) (flat_map f (range_with_len (s + 1) m))) e (climbs-flat_map names g f (s + 1) m each))
+    (subst (λ k. Climbs names (g (s + 1)) (g k) (flat_map f (range_with_len (s + 1) m))) e (climbs-flat_map names g f (s + 1) m each))
 
 climbs-filter_map : (names : List (List ℕ)) (g : ℕ → ℕ) (h : ℕ → Option Entry) (s m : ℕ) → ((x : ℕ) → g x ≤ g (x + 1))
     → ((x : ℕ) (e : Entry) → h x ≡ Some e → (g x ≤ rank names e) × (rank names e < g (x + 1)))
@@ -255,7 +249,7 @@ climbs-filter_map names g h s zero rises each = let e : g s ≡ g (s + 0) = ap g
 climbs-filter_map names g h s (suc m) rises each =
     let e : (s + 1) + m ≡ s + suc m = omega arith in
     let rest : Climbs names (g (s + 1)) (g (s + suc m)) (filter_map h (range_with_len (s + 1) m)) =
-      subst (λ k. Climbs names (g (s + 1)) (g k) (filter_map h (range_with_len (s + 1) m))) e (climbs-filter_map names g h (s + 1) m rises each) in
+    subst (λ k. Climbs names (g (s + 1)) (g k) (filter_map h (range_with_len (s + 1) m))) e (climbs-filter_map names g h (s + 1) m rises each) in
     elim (h s) as (λ o. h s ≡ o → Climbs names (g s) (g (s + suc m)) (cons_option o (filter_map h (range_with_len (s + 1) m)))) [
       | None ↦ λ is. climbs-wider names (g (s + 1)) (g (s + suc m)) (g s) (g (s + suc m)) (filter_map h (range_with_len (s + 1) m)) (rises s) (omega arith) rest
       | Some x ↦ λ is.
@@ -316,30 +310,30 @@ next_key n k = omega arith
 
 link_entries_climb : (env : EnvValue) (section : Section) → CanStart env
     → Climbs env.names (start_of (length env.names) (number section) 0) (start_of (length env.names) (number section + 1) 0)
-        (flat_map (λ a. filter_map (link_entry env section a) (places env)) (places env))
+    (flat_map (λ a. filter_map (link_entry env section a) (places env)) (places env))
 link_entries_climb env section starts =
     let n = length env.names in
     let k = number section in
     let each : (a : ℕ) → Climbs env.names (start_of n k a) (start_of n k (a + 1)) (filter_map (link_entry env section a) (places env)) =
-      λ a.
-        let inner = climbs-filter_map env.names (λ b. start_of n k a + b) (link_entry env section a) 0 n (λ b. omega arith)
-          (λ b e made. let is = link_rank env section a b e starts made in (omega (arith, is), omega (arith, is))) in
-        climbs-wider env.names (start_of n k a + 0) (start_of n k a + (0 + n)) (start_of n k a) (start_of n k (a + 1)) (filter_map (link_entry env section a) (places env))
-          (omega arith) (omega (arith, next_start n k a)) inner
+    λ a.
+    let inner = climbs-filter_map env.names (λ b. start_of n k a + b) (link_entry env section a) 0 n (λ b. omega arith)
+    (λ b e made. let is = link_rank env section a b e starts made in (omega (arith, is), omega (arith, is))) in
+    climbs-wider env.names (start_of n k a + 0) (start_of n k a + (0 + n)) (start_of n k a) (start_of n k (a + 1)) (filter_map (link_entry env section a) (places env))
+    (omega arith) (omega (arith, next_start n k a)) inner
     in
     subst (λ high. Climbs env.names (start_of n k 0) high (flat_map (λ a. filter_map (link_entry env section a) (places env)) (places env))) (next_key n k)
-      (climbs-flat_map env.names (start_of n k) (λ a. filter_map (link_entry env section a) (places env)) 0 n each)
+    (climbs-flat_map env.names (start_of n k) (λ a. filter_map (link_entry env section a) (places env)) 0 n each)
 
 node_entries_climb : (env : EnvValue) (section : Section) → CanStart env
     → Climbs env.names (start_of (length env.names) (number section) 0) (start_of (length env.names) (number section + 1) 0)
-        (filter_map (node_entry env section) (places env))
+    (filter_map (node_entry env section) (places env))
 node_entries_climb env section starts =
     let n = length env.names in
     let k = number section in
     let some : 0 < n = starts.few.0 in
     subst (λ high. Climbs env.names (start_of n k 0) high (filter_map (node_entry env section) (places env))) (next_key n k)
-      (climbs-filter_map env.names (start_of n k) (node_entry env section) 0 n (λ a. omega (arith, next_start n k a))
-        (λ a e made. let is = node_rank env section a e starts made in (omega (arith, is), omega (arith, is, next_start n k a))))
+    (climbs-filter_map env.names (start_of n k) (node_entry env section) 0 n (λ a. omega (arith, next_start n k a))
+    (λ a e made. let is = node_rank env section a e starts made in (omega (arith, is), omega (arith, is, next_start n k a))))
 
 -- all entries that are written climb, so none repeats another
 all_climb : (env : EnvValue) → CanStart env → Climbs env.names (start_of (length env.names) 0 0) (start_of (length env.names) 5 0) (flat_map (entries_written env) sections)
@@ -358,11 +352,11 @@ pub written_sound : (env : EnvValue) → CanStart env → AreSound env.names (fl
 written_sound env starts = λ place.
     let entries = flat_map (entries_written env) sections in
     elim (slice_get entries place)
-      as (λ o. slice_get entries place ≡ o → option_and_then (fault_after env.names (take place entries)) o ≡ None) [
-        | None ↦ λ none. refl
-        | Some e ↦ λ at.
-            let own : own_fault env.names e ≡ None = subst (λ x. own_fault env.names x ≡ None) (get_or_from_slice_get entries place e e at)
-              (All-get_or (λ x. own_fault env.names x ≡ None) entries place e (slice_get_within entries place e at) (all_sound env starts)) in
-            let once = (climbs-once env.names _ _ entries place e (all_climb env starts) at).1 in
-            rw (own, once) refl
-      ] refl
+    as (λ o. slice_get entries place ≡ o → option_and_then (fault_after env.names (take place entries)) o ≡ None) [
+      | None ↦ λ none. refl
+      | Some e ↦ λ at.
+          let own : own_fault env.names e ≡ None = subst (λ x. own_fault env.names x ≡ None) (get_or_from_slice_get entries place e e at)
+          (All-get_or (λ x. own_fault env.names x ≡ None) entries place e (slice_get_within entries place e at) (all_sound env starts)) in
+          let once = (climbs-once env.names _ _ entries place e (all_climb env starts) at).1 in
+          rw (own, once) refl
+    ] refl

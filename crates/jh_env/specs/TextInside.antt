@@ -1,5 +1,5 @@
 -- What a contract sees of what a program reads of a text.
-use Rattle.std.specs.Prelude.{◌≡◌, ◌<◌, ℕ, List, length, ◌++◌, map, Option, Some, None, option_map, ⊤}
+use Rattle.std.specs.Prelude.{◌≡◌, ◌<◌, ℕ, List, length, ◌++◌, map, Option, Some, None, option_map, ⊤, Bool, true, pos, int_le}
 use Rattle.jh_env.specs.declared.cells.Link.{Link}
 use Rattle.jh_env.specs.declared.cells.NodeCell.{NodeCell}
 use Rattle.jh_env.specs.declared.names.NodesError.{NodesError}
@@ -10,7 +10,9 @@ use Rattle.jh_env.specs.declared.starting.StartError.{StartError}
 use Rattle.jh_env.specs.Cells.{link_at, node_at}
 use Rattle.jh_env.specs.Starting.{StartValue, IsStartingLink, IsStartingNode}
 use Rattle.jh_env.specs.Text as text
+use Rattle.jh_env.specs.declared.texts.entries.LinkChange.{LinkChange}
 use Rattle.jh_env.specs.TextCells.{link_after, node_after}
+use Rattle.jh_env.specs.TextFaults.{is_within}
 
 -- an entry, by the names that it borrows
 abbrev pub entry_said : Entry → text.Entry
@@ -37,6 +39,12 @@ abbrev pub RefusesShape : {A : Type 0} → Option A → EnvTextError → Type 0
 RefusesShape told BadEntry = told ≡ None
 RefusesShape told OutOfMemory = ⊤
 RefusesShape told _ = ⊥
+
+-- a link can hold what is said of it: a delay is a natural number, a level of loss a byte
+abbrev pub fits_link : LinkChange → Bool
+fits_link LinkChange.Cut = true
+fits_link (LinkChange.Delay ms) = int_le (pos 0) ms
+fits_link (LinkChange.Loss level) = is_within (pos 0) (pos 255) level
 
 -- the fault of a cell that is not set
 abbrev pub cell_fault : StartError → EnvTextError

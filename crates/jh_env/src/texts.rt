@@ -17,12 +17,11 @@ mod reading;
 mod setting;
 mod writing;
 
-pub use laws::environments_read_back;
-
 use crate::environment::Env;
 use crate::names::{Nodes, NodesError};
 use crate::starting::{Start, StartError};
 use jh_edn::{Pairs, Value};
+pub use laws::environments_read_back;
 use std::alloc::{AllocError, AllocFailed, Global};
 use thiserror::Error;
 

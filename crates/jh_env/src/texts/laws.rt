@@ -19,5 +19,4 @@ pub fn environments_read_back()
         → IsTextOf value names cells → RefusesText value e → e ≡ EnvTextError.OutOfMemory }
     ensures tells_one { (value : Edn) (names others : List (List ℕ)) (cells more : Table)
         → IsTextOf value names cells → IsTextOf value others more → (others ≡ names) × SameCells cells more }
-{
-}
+{}

@@ -7,8 +7,8 @@ ghost use Rattle.jh_env.specs.Starting.{IsCalm};
 ghost use Rattle.jh_env.specs.Text.{OfLink, OfNode};
 ghost use Rattle.jh_env.specs.TextCells.{AreTold, link_with, node_with};
 ghost use Rattle.jh_env.specs.TextFaults as fault;
-ghost use Rattle.jh_env.specs.TextFaults.{place_of, own_fault, is_link_amount, is_node_amount, AreSound, HasFault};
-ghost use Rattle.jh_env.specs.TextInside.{entry_said, entries_said, AreStarting, SetsEntry};
+ghost use Rattle.jh_env.specs.TextFaults.{place_of, own_fault, AreSound, HasFault};
+ghost use Rattle.jh_env.specs.TextInside.{entry_said, entries_said, fits_link, AreStarting, SetsEntry};
 
 use super::EnvTextError;
 use super::entries::{Entry, LinkChange, NodeChange};
@@ -25,22 +25,21 @@ fn find(nodes: &Nodes, name: &str) -> Result<Node, EnvTextError>
 }
 
 impl LinkChange {
-    /// The link with what is said of it, where that is in its range.
+    /// The link with what is said of it, where a link can hold that.
     fn applied(self, link: Link) -> Option<Link>
-        ensures { result ≡ (if is_link_amount self then Some (link_with self link) else None) }
+        ensures { result ≡ (if fits_link self then Some (link_with self link) else None) }
     {
-        match self {
-            LinkChange::Cut => Some(Link { cut: true, ..link }),
-            LinkChange::Delay(ms) if 0 <= ms && ms <= 60_000 => Some(Link {
-                delay: ms.unsigned_abs(),
+        Some(match self {
+            LinkChange::Cut => Link { cut: true, ..link },
+            LinkChange::Delay(ms) => Link {
+                delay: u64::try_from(ms).ok()?,
                 ..link
-            }),
-            LinkChange::Loss(level) if 0 <= level && level <= 20 => Some(Link {
-                loss: level.unsigned_abs() as u8,
+            },
+            LinkChange::Loss(level) => Link {
+                loss: u8::try_from(level).ok()?,
                 ..link
-            }),
-            _ => None,
-        }
+            },
+        })
     }
 
     fn has_key_of(self, other: LinkChange) -> bool
@@ -56,23 +55,20 @@ impl LinkChange {
 }
 
 impl NodeChange {
-    /// The node with what is said of it, where that is in its range.
-    fn applied(self, cell: NodeCell) -> Option<NodeCell>
-        ensures { result ≡ (if is_node_amount self then Some (node_with self cell) else None) }
+    /// The node with what is said of it.
+    fn applied(self, cell: NodeCell) -> NodeCell
+        ensures { result ≡ node_with self cell }
     {
         match self {
-            NodeChange::Pause => Some(NodeCell {
+            NodeChange::Pause => NodeCell {
                 process: Life::Paused,
                 ..cell
-            }),
-            NodeChange::Kill => Some(NodeCell {
+            },
+            NodeChange::Kill => NodeCell {
                 process: Life::Killed,
                 ..cell
-            }),
-            NodeChange::Clock(ms) if -1_000_000_000_000 <= ms && ms <= 1_000_000_000_000 => {
-                Some(NodeCell { clock: ms, ..cell })
-            }
-            NodeChange::Clock(_) => None,
+            },
+            NodeChange::Clock(ms) => NodeCell { clock: ms, ..cell },
         }
     }
 
@@ -136,10 +132,7 @@ fn set_node(start: &mut Start, name: &str, change: NodeChange) -> Result<(), Env
     let Some(cell) = start.node(node) else {
         return Err(EnvTextError::UnknownNode);
     };
-    let Some(changed) = change.applied(cell) else {
-        return Err(EnvTextError::BadAmount);
-    };
-    start.set_node(node, changed)?;
+    start.set_node(node, change.applied(cell))?;
     Ok(())
 }
 
