@@ -9,8 +9,8 @@ use Rattle.jh_edn.specs.declared.fault.Kind.TheVariants.{UnexpectedEnd, BadToken
 use Rattle.jh_edn.specs.Edn.{Edn}
 use Rattle.jh_edn.specs.Bytes.{is_space, leading}
 use Rattle.jh_edn.specs.Spelling.{IsGap, Spells, depth_limit, SpellsAll, Reads, NothingReads}
-use Rattle.jh_edn.specs.Reading.{after_gap, error_at, FirstFault}
-use Rattle.jh_edn.specs.Refused.{SpellsNothing, RefusesText}
+use Rattle.jh_edn.specs.Reading.{after_gap, error_at, FirstFault, line_at, Reached, FaultBehind}
+use Rattle.jh_edn.specs.Refused.{SpellsNothing, RefusesText, IsFirstFault}
 use Rattle.jh_edn.proofs.Complete.{spells_start, gap_off, one_form}
 use Rattle.jh_edn.proofs.Whole.{no_gap}
 
@@ -88,6 +88,21 @@ refuses_at text TooDeep line h = h
 
 pub refuses : (text : List ℕ) (at : ℕ) (e : EdnError) → SpellsNothing text → FirstFault text at e → RefusesText text e
 refuses text at e h f = subst (RefusesText text) (sym f.is) (refuses_at text f.found.kind _ h)
+
+first_at : (text : List ℕ) (kind : Kind) (line : ℕ) → FaultBehind text (error_at kind line) → IsFirstFault text (error_at kind line)
+first_at text UnexpectedEnd line h = h
+first_at text BadToken line h = h
+first_at text FloatUnsupported line h = h
+first_at text IntegerRange line h = h
+first_at text BadEscape line h = h
+first_at text OddMap line h = h
+first_at text DuplicateKey line h = h
+first_at text TooDeep line h = h
+
+pub first_behind : (text : List ℕ) (at : ℕ) (e : EdnError) → Reached text at → FirstFault text at e → IsFirstFault text e
+first_behind text at e reached f =
+    let behind : FaultBehind text (error_at f.found.kind (line_at text f.found.left)) = subst (FaultBehind text) f.is (at, reached, f) in
+    subst (IsFirstFault text) (sym f.is) (first_at text f.found.kind _ behind)
 
 -- a text spells at most one list of values
 pub once : (text : List ℕ) (xs ys : List Edn) → SpellsAll xs text → SpellsAll ys text → xs ≡ ys

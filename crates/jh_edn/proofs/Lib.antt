@@ -1,3 +1,4 @@
+pub mod SequenceLemmas
 pub mod Lists
 pub mod Bodies
 pub mod Numbers

@@ -13,9 +13,6 @@ is_in-push k (c ∷ bs) b =
       | false ↦ refl
     ]
 
-pub step : (before : List (List ℕ)) (k : List ℕ) (ks : List (List ℕ)) → has_twice_after before (k ∷ ks) ≡ (is_in k before || has_twice_after (before ++ k ∷ []) ks)
-step before k ks = refl
-
 abbrev pub bytes_of : List (Vec ℕ Global) → List (List ℕ)
 bytes_of ks = map (λ v. v.items) ks
 

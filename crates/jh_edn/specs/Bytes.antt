@@ -72,6 +72,7 @@ IsAscii c = c < 128
 abbrev pub is_among : List ℕ → ℕ → Bool
 is_among marks c = list_any (λ m. c == m) marks
 
+-- between the two, both included
 abbrev pub is_between : ℕ → ℕ → ℕ → Bool
 is_between low high c = nat_le low c && nat_le c high
 
@@ -91,6 +92,7 @@ is_run c = not (is_space c) && not (is_delimiter c)
 unfoldable pub is_plain : ℕ → Bool
 is_plain c = not (c == quote) && not (c == backslash)
 
+-- a decimal digit
 unfoldable pub is_digit : ℕ → Bool
 is_digit c = is_between digit_zero digit_nine c
 

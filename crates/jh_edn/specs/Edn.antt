@@ -1,6 +1,6 @@
 -- EDN values, as contracts see them (EDN's format description, "Built-in elements").
 -- A text is the list of its UTF-8 bytes. A new kind of element is a new case of `Edn`.
-use Rattle.std.specs.Prelude.{ℕ, suc, ◌+◌, ℤ, List, [], ◌∷◌}
+use Rattle.std.specs.Prelude.{ℕ, suc, ◌+◌, ℤ, List, [], ◌∷◌, Option, Some, None}
 
 mutual
   pub data Edn : Type 0 where
@@ -50,3 +50,13 @@ size_list xs = size_items (items_of xs)
 
 abbrev pub size_pairs : List (Edn × Edn) → ℕ
 size_pairs xs = size_members (members_of xs)
+
+-- the values of a list of values
+abbrev pub list_of : Items → List Edn
+list_of no_items = []
+list_of (item x xs) = x ∷ list_of xs
+
+-- the elements of a sequence: of a vector, and of nothing else
+abbrev pub elements_of : Edn → Option (List Edn)
+elements_of (vector xs) = Some (list_of xs)
+elements_of _ = None

@@ -10,7 +10,7 @@ use Rattle.jh_edn.specs.declared.fault.Kind.{Kind}
 use Rattle.jh_edn.specs.declared.fault.Kind.TheVariants.{UnexpectedEnd, BadToken, FloatUnsupported, IntegerRange, BadEscape, OddMap, DuplicateKey, TooDeep}
 use Rattle.jh_edn.specs.Edn.{Edn, int, str, keyword, vector, mapping, items_of, members_of}
 use Rattle.jh_edn.specs.Bytes.{quote, plus, minus, digit_zero, line_feed, colon, capital_n, open_bracket, close_bracket, backslash, open_brace, close_brace, is_among, is_space, is_run, is_digit, escaped, leading}
-use Rattle.jh_edn.specs.Spelling.{is_name, depth_limit}
+use Rattle.jh_edn.specs.Spelling.{is_name, depth_limit, Reads}
 use Rattle.jh_edn.specs.Key.{key_of, has_twice}
 
 -- reads the front of a text: what was read and what follows it, or a fault
@@ -45,9 +45,11 @@ body (c ∷ d ∷ s) =
     else if c == backslash then after_escape (escaped d) (c ∷ d ∷ s) (body s)
     else with_front (c ∷ []) (body (d ∷ s))
 
+-- what follows the white space
 abbrev pub after_gap : List ℕ → List ℕ
 after_gap s = drop (leading is_space s) s
 
+-- the run that the text begins with
 abbrev pub run_of : List ℕ → List ℕ
 run_of s = take (leading is_run s) s
 
@@ -55,10 +57,11 @@ run_of s = take (leading is_run s) s
 unfoldable pub sign_len : List ℕ → ℕ
 sign_len run = if slice_index run 0 == plus || slice_index run 0 == minus then 1 else 0
 
--- how many digits a number has, and where they end
+-- how many digits a number has
 abbrev pub digits_len : List ℕ → ℕ
 digits_len run = leading is_digit (drop (sign_len run) run)
 
+-- where they end
 abbrev pub digits_end : List ℕ → ℕ
 digits_end run = sign_len run + digits_len run
 
@@ -76,6 +79,7 @@ is_suffix [] = true
 is_suffix (c ∷ []) = c == capital_n
 is_suffix (c ∷ d ∷ s) = false
 
+-- a number without its sign; of a negative one, one less, as its range wants it
 abbrev pub magnitude : ℤ → ℕ
 magnitude (pos n) = n
 magnitude (negsuc n) = n
@@ -94,6 +98,7 @@ number_of run =
     else if is_suffix (drop (digits_end run) run) then integer_of (take (digits_end run) run)
     else Err BadToken
 
+-- an integer as a value
 abbrev pub as_int : Result ℤ Kind → Result Edn Kind
 as_int (Ok z) = Ok (int z)
 as_int (Err k) = Err k
@@ -110,6 +115,7 @@ abbrev pub placed : Result Edn Kind → List ℕ → List ℕ → Result (Edn ×
 placed (Ok x) s after = Ok (x, after)
 placed (Err k) s after = fault k s
 
+-- a run, and what follows it
 unfoldable pub atom : Read Edn
 atom s = placed (atom_of (run_of s)) s (drop (leading is_run s) s)
 
@@ -169,6 +175,7 @@ read (suc depth) = element (λ close c s. items close (read depth) (suc (length 
 abbrev pub line_at : List ℕ → ℕ → ℕ
 line_at text left = 1 + count_by (λ c. c == line_feed) (take (length text - left) text)
 
+-- what is wrong, at that line
 abbrev pub error_at : Kind → ℕ → EdnError
 error_at UnexpectedEnd line = errors.UnexpectedEnd line
 error_at BadToken line = errors.BadToken line
@@ -179,8 +186,17 @@ error_at OddMap line = errors.OddMap line
 error_at DuplicateKey line = errors.DuplicateKey line
 error_at TooDeep line = errors.TooDeep line
 
--- from `at` on the text's first fault is this error, with its line in the whole text
+-- From `at` on the text's first fault is this error, with its line in the whole text
 pub record FirstFault (text : List ℕ) (at : ℕ) (e : EdnError) : Type 0 where
   pub found : Fault
   pub is_first : read depth_limit (after_gap (drop at text)) ≡ Err found
   pub is : e ≡ error_at found.kind (line_at text found.left)
+
+-- reading whole elements from the start of the text on, one comes to that place
+pub data Reached (text : List ℕ) : ℕ → Type 0 where
+  start : (at : ℕ) → at ≡ 0 → Reached text at
+  behind : (at end : ℕ) (x : Edn) → Reached text at → Reads text at x end → Reached text end
+
+-- a first fault, behind the elements that the text begins with
+abbrev pub FaultBehind : List ℕ → EdnError → Type 0
+FaultBehind text e = (at : ℕ) × Reached text at × FirstFault text at e

@@ -12,6 +12,7 @@ abbrev pub IsGap : List ℕ → Type 0
 IsGap [] = Unit {0}
 IsGap (c ∷ s) = (is_space c ≡ true) × IsGap s
 
+-- a zero stands first only where it stands alone
 abbrev pub NoLeadingZero : List ℕ → Type 0
 NoLeadingZero digits = slice_index digits 0 ≡ digit_zero → length digits ≡ 1
 
@@ -37,6 +38,7 @@ is_name s =
     is_first (slice_index s 0) && list_all is_symbol s && nat_lt (count_by (λ c. c == slash) s) 2
     && not (slice_index s (length s - 1) == slash)
 
+-- a run that ends before this text does not go on in it
 abbrev pub BeginsNoRun : List ℕ → Type 0
 BeginsNoRun [] = Unit {0}
 BeginsNoRun (c ∷ s) = is_run c ≡ false

@@ -31,7 +31,8 @@ fn fault_before(kind: Kind, after: &str) -> ReadError
 /// The map of these elements, with what follows it.
 fn close_map(alloc: Global, items: Vec<Value>, after: &str) -> Result<(Value, &str), ReadError>
     requires { length after.now < 2 ^ 63 }
-    ensures gives { Gives (λ x. (view x.0, x.1.now)) result (paired (pairs_of (views items.items)) after.now) }
+    ensures gives { Gives (λ x. (view x.0, x.1.now)) result
+        (paired (pairs_of (views items.items)) after.now) }
     ensures text { IfOk result (λ x. IsUtf8 x.1.now) }
 {
     let Some(pairs) = make_pairs(alloc, items)? else {
@@ -73,13 +74,8 @@ pub(crate) fn element(alloc: Global, rest: &str, depth: usize) -> Result<(Value,
             let (items, after) = elements(alloc, &rest[1..], b'}', depth - 1)?;
             close_map(alloc, items, after)
         }
-        first => {
-            if is_run(first) {
-                atom(alloc, rest)
-            } else {
-                Err(fault_at(Kind::BadToken, rest))
-            }
-        }
+        first if is_run(first) => atom(alloc, rest),
+        _ => Err(fault_at(Kind::BadToken, rest)),
     }
 }
 

@@ -11,6 +11,7 @@ ghost use Rattle.jh_edn.specs.View.{view};
 use crate::value::{Pairs, Value, Values};
 use std::alloc::{AllocError, Global};
 
+// What a list begins with, by the kind of the value.
 const INT_KIND: u64 = 1;
 
 const STR_KIND: u64 = 2;
@@ -21,14 +22,17 @@ const VECTOR_KIND: u64 = 4;
 
 const MAPPING_KIND: u64 = 5;
 
+// What ends a list of things, and what leads each of them.
 const LAST_MARK: u64 = 0;
 
 const MORE_MARK: u64 = 1;
 
+// What leads an integer, by its sign.
 const NEGATIVE_MARK: u64 = 0;
 
 const POSITIVE_MARK: u64 = 1;
 
+/// Appends the list of an integer, without its kind.
 fn push_integer(n: i64, key: &mut Vec<u64>) -> Result<(), AllocError>
     ensures { OnOk result (key.new.items ≡ key.old.items ++ keys.integer_key n) }
 {
@@ -40,6 +44,7 @@ fn push_integer(n: i64, key: &mut Vec<u64>) -> Result<(), AllocError>
     }
 }
 
+/// Appends the list of a text, without its kind.
 fn push_text(text: &str, key: &mut Vec<u64>) -> Result<(), AllocError>
     ensures { OnOk result (key.new.items ≡ key.old.items ++ keys.text_key text.now) }
 {
@@ -79,6 +84,7 @@ pub(crate) fn push_key(alloc: Global, value: &Value, key: &mut Vec<u64>) -> Resu
     }
 }
 
+/// Appends the lists of the elements, each led by a mark, and an end.
 #[cycle(key)]
 fn push_items(alloc: Global, items: &Values, key: &mut Vec<u64>) -> Result<(), AllocError>
     ensures { OnOk result (key.new.items ≡ key.old.items ++ keys.items_key (items_of items.now)) }
@@ -94,7 +100,8 @@ fn push_items(alloc: Global, items: &Values, key: &mut Vec<u64>) -> Result<(), A
 /// The list of each pair, its key's and then its value's, in ascending order.
 #[cycle(key)]
 fn pair_keys(alloc: Global, pairs: &Pairs) -> Result<Vec<Vec<u64>>, AllocError>
-    ensures { IfOk result (λ codes. map (λ v. v.items) codes.items ≡ in_order (keys.pair_keys (members_of pairs.now))) }
+    ensures { IfOk result
+        (λ codes. map (λ v. v.items) codes.items ≡ in_order (keys.pair_keys (members_of pairs.now))) }
 {
     let mut codes = Vec::new(alloc);
     for pair in &pairs.items {
@@ -110,7 +117,8 @@ fn pair_keys(alloc: Global, pairs: &Pairs) -> Result<Vec<Vec<u64>>, AllocError>
 
 /// Appends the lists, each led by a mark, and an end.
 fn push_marked(codes: &[Vec<u64>], key: &mut Vec<u64>) -> Result<(), AllocError>
-    ensures { OnOk result (key.new.items ≡ key.old.items ++ keys.marked_keys (map (λ v. v.items) codes.now)) }
+    ensures { OnOk result
+        (key.new.items ≡ key.old.items ++ keys.marked_keys (map (λ v. v.items) codes.now)) }
 {
     for code in codes {
         key.push(MORE_MARK)?;

@@ -33,8 +33,8 @@ fn line_of(text: &str, left: usize) -> u64
     line
 }
 
-/// The element that begins behind the gap at `at`, and the place after it, both counted in bytes. `None` when only
-/// a gap is left.
+/// The element that begins behind the gap at `at`, and the place after it, both in bytes. `None` where only a gap
+/// is left.
 ///
 /// Takes time in proportion to the text read, but for keys of maps: a map of n pairs takes n log n comparisons.
 ///

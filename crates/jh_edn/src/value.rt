@@ -3,8 +3,9 @@
 //! `specs/Edn.antt` says what a contract sees of a value and `specs/View.antt` how it sees it. A kind
 //! of element is added here, there and in `specs/Code.antt`.
 
-ghost use Rattle.std.specs.Prelude.{◌≡◌, ◌↔◌, [], length, IsTrue};
+ghost use Rattle.std.specs.Prelude.{◌≡◌, ◌↔◌, [], length, IsTrue, option_map};
 ghost use Rattle.std.specs.String.{string_bytes};
+ghost use Rattle.jh_edn.specs.Edn.{elements_of};
 ghost use Rattle.jh_edn.specs.View.{view, views, view_pairs};
 
 use std::marker::Model;
@@ -117,6 +118,18 @@ impl Model for Pairs {
     ghost use Rattle.jh_edn.specs.Falls.{pairs_fall};
 
     ghost size_decreases = { λ a h. pairs_fall a };
+}
+
+impl Value {
+    /// The elements of a sequence, where the value is one.
+    pub fn elements(&self) -> Option<&[Value]>
+        ensures { option_map (λ xs. views xs.now) result ≡ elements_of (view self.now) }
+    {
+        match self {
+            Value::Vector(items) => Some(items.as_slice()),
+            _ => None,
+        }
+    }
 }
 
 impl Values {

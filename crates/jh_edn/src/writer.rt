@@ -24,7 +24,8 @@ fn put<W: Write>(bytes: &[u8], writer: &mut W) -> Result<(), EdnError>
 
 /// The separator, unless this is the first.
 fn separate<W: Write>(first: bool, separator: &[u8], writer: &mut W) -> Result<(), EdnError>
-    ensures bytes { OnOk result (Appends (W.contents writer.old) (W.contents writer.new) (unless_first first separator.now)) }
+    ensures bytes { OnOk result
+        (Appends (W.contents writer.old) (W.contents writer.new) (unless_first first separator.now)) }
     ensures error { IfErr result (λ e. e ≡ EdnError.Write) }
 {
     if first {
@@ -80,7 +81,8 @@ fn write_text<W: Write>(text: &str, writer: &mut W) -> Result<(), EdnError>
 /// `Write` where the writer failed, and no other.
 #[cycle(write)]
 pub fn write<W: Write>(value: &Value, writer: &mut W) -> Result<(), EdnError>
-    ensures bytes { OnOk result (Appends (W.contents writer.old) (W.contents writer.new) (print (view value.now))) }
+    ensures bytes { OnOk result
+        (Appends (W.contents writer.old) (W.contents writer.new) (print (view value.now))) }
     ensures error { IfErr result (λ e. e ≡ EdnError.Write) }
 {
     match value {

@@ -3,18 +3,13 @@ use Rattle.std.proofs.Common.{◌≡◌, ℕ, ◌+◌, ◌<◌, true, false, if�
 use Rattle.std.proofs.lemmas.List.{at_drop_more}
 use Rattle.std.proofs.lemmas.List.Folds.{list_all-map}
 use Rattle.std.specs.List.{list_all}
-use Rattle.jh_edn.specs.Edn.{Edn, mapping, items_of, members_of}
+use Rattle.jh_edn.specs.Edn.{Edn, mapping, members_of}
 use Rattle.jh_edn.specs.View.{view, view_pair, view_pairs}
 use Rattle.jh_edn.specs.declared.value.Value.{Value}
-use Rattle.jh_env.specs.Text.{items_in, pairs_in, is_keyword, has_known_key, nodes_keyword, value_under, keys_of, Keys, each_of}
+use Rattle.jh_env.specs.Text.{pairs_in, is_keyword, has_known_key, nodes_keyword, value_under, keys_of, Keys, each_of}
 use Rattle.jh_env.specs.TextInside.{with_front, RefusesShape}
 use Rattle.jh_env.specs.declared.texts.EnvTextError.TheVariants.{UnknownKey, MissingNodes, BadEntry, OutOfMemory}
 use Rattle.jh_env.specs.declared.texts.EnvTextError.{EnvTextError}
-
--- the values of a vector are those that it was made of
-pub items_in-items_of : (xs : List Edn) → items_in (items_of xs) ≡ xs
-items_in-items_of [] = refl
-items_in-items_of (x ∷ xs) = ap (λ ys. x ∷ ys) (items_in-items_of xs)
 
 -- the pairs of a map are those that it was made of
 pub pairs_in-members_of : (ms : List (Edn × Edn)) → pairs_in (members_of ms) ≡ ms
@@ -38,7 +33,7 @@ pub keys_of-map : (ps : List (Value × Value)) → keys_of (mapping (members_of 
     else Err UnknownKey)
 keys_of-map ps = simp (pairs_in-members_of, list_all-map has_known_key view_pair ps)
 
--- what is told of images is told of what they are images of
+-- What is told of a list of values is told one after another: a walk over it that has told `front` so far.
 pub each_of-map : {A B C : Type 0} (f : B → Option C) (v : A → B) (xs : List A) → each_of f (map v xs) ≡ each_of (λ x. f (v x)) xs
 each_of-map f v [] = refl
 each_of-map f v (x ∷ xs) = ap (λ o. option_and_then (λ y. option_map (λ ys. y ∷ ys) o) (f (v x))) (each_of-map f v xs)

@@ -15,7 +15,8 @@ use Rattle.jh_env.specs.Overlay.{EnvValue}
 use Rattle.jh_env.specs.Text.{◌>>=◌, OfLink, OfNode, Keys, Shape, each_of, text_of_string, names_of, entry_in, entries_of, entries_under, all_entries, nodes_keyword, sections}
 use Rattle.jh_env.specs.TextFaults.{HasShape}
 use Rattle.jh_env.specs.TextWritten.{link_part, node_part, life_part, entries_written, edn_of_entry, section_pair, text_of}
-use Rattle.jh_env.proofs.TextLemmas.{items_in-items_of, each_of-map}
+use Rattle.jh_edn.proofs.SequenceLemmas.{list_of-items_of}
+use Rattle.jh_env.proofs.TextLemmas.{each_of-map}
 use Rattle.jh_env.proofs.TextSoundLemmas.{link_parts, node_parts, if_gives, unless_gives, all_written}
 
 -- each tells itself
@@ -34,7 +35,7 @@ each_of-images f g is (x ∷ xs) =
 
 names_read : (names : List (List ℕ)) → names_of (vector (items_of (map str names))) ≡ Some names
 names_read names =
-    ap (each_of text_of_string) (items_in-items_of (map str names)) ∙ each_of-map text_of_string str names ∙ each_of-images (λ n. Some n) (λ n. n) (λ n. refl) names ∙ ap Some (map-id names)
+    ap (each_of text_of_string) (list_of-items_of (map str names)) ∙ each_of-map text_of_string str names ∙ each_of-images (λ n. Some n) (λ n. n) (λ n. refl) names ∙ ap Some (map-id names)
 
 link_part-read : (section : Section) (link : Link) (from to : List ℕ) (says : LinkChange) → link_part section link ≡ Some says
     → entry_in section (edn_of_entry (OfLink from to says)) ≡ Some (OfLink from to says)
@@ -66,7 +67,7 @@ entries_read env section =
 
 section_read : (env : EnvValue) (section : Section) → entries_of section (vector (items_of (map edn_of_entry (entries_written env section)))) ≡ Some (entries_written env section)
 section_read env section =
-    ap (each_of (entry_in section)) (items_in-items_of (map edn_of_entry (entries_written env section)))
+    ap (each_of (entry_in section)) (list_of-items_of (map edn_of_entry (entries_written env section)))
     ∙ each_of-map (entry_in section) edn_of_entry (entries_written env section)
     ∙ each_of-itself (λ e. entry_in section (edn_of_entry e)) (entries_written env section) (entries_read env section)
 

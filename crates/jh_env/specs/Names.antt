@@ -2,18 +2,18 @@
 use Rattle.std.specs.Prelude.{◌≡◌, ℕ, ◌==◌, ◌&&◌, ◌||◌, ◌<◌, ◌≤◌, Bool, true, false, List, [], ◌∷◌, ◌++◌, length, nat_le, not}
 use Rattle.std.specs.Char.{is_ascii_alphanumeric}
 use Rattle.std.specs.List.{list_all, list_any}
-use Rattle.std.specs.Str.{bytes_eq}
+use Rattle.std.specs.Str.{byte, bytes_eq}
 use Rattle.jh_env.specs.declared.names.NodesError.{NodesError}
 use Rattle.jh_env.specs.declared.names.NodesError.TheVariants.{NoNodes, TooManyNodes, BadName, DuplicateName, OutOfMemory}
 
 abbrev pub dot : ℕ
-dot = 46
+dot = byte "."
 
 abbrev pub dash : ℕ
-dash = 45
+dash = byte "-"
 
 abbrev pub underscore : ℕ
-underscore = 95
+underscore = byte "_"
 
 -- a byte of a name
 abbrev pub is_name_byte : ℕ → Bool

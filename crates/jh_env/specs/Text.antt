@@ -3,7 +3,7 @@
 use Rattle.std.specs.Prelude.{ℕ, Bool, false, List, [], ◌∷◌, map, if◌then◌else◌, codes, bytes_eq, find, Option, Some, None, option_map, option_and_then, ok_or, Result, Err}
 use Rattle.std.specs.List.{list_all, list_any, flat_map}
 use Rattle.std.specs.Option.{option_map_or}
-use Rattle.jh_edn.specs.Edn.{Edn, int, str, keyword, vector, mapping, Items, no_items, item, Members, no_members, member}
+use Rattle.jh_edn.specs.Edn.{Edn, int, str, keyword, mapping, Members, no_members, member, elements_of}
 use Rattle.jh_env.specs.declared.texts.EnvTextError.{EnvTextError}
 use Rattle.jh_env.specs.declared.texts.EnvTextError.TheVariants.{NotMap, UnknownKey, MissingNodes}
 use Rattle.jh_env.specs.declared.texts.entries.Section.{Section}
@@ -15,25 +15,15 @@ infixl 10 ◌>>=◌
 abbrev pub ◌>>=◌ : {A B : Type 0} → Option A → (A → Option B) → Option B
 o >>= f = option_and_then f o
 
--- an entry: the names of a link's ends, or of a node, and what is said of it
+-- An entry: the names of a link's ends, or of a node, and what is said of it.
 pub data Entry : Type 0 where
   OfLink : List ℕ → List ℕ → LinkChange → Entry
   OfNode : List ℕ → NodeChange → Entry
-
--- the values of a vector, as a list
-abbrev pub items_in : Items → List Edn
-items_in no_items = []
-items_in (item x xs) = x ∷ items_in xs
 
 -- the pairs of a map, as a list
 abbrev pub pairs_in : Members → List (Edn × Edn)
 pairs_in no_members = []
 pairs_in (member key value ms) = (key, value) ∷ pairs_in ms
-
--- the values of a sequence: for now of a vector
-abbrev pub elements_of : Edn → Option (List Edn)
-elements_of (vector xs) = Some (items_in xs)
-elements_of _ = None
 
 -- the text of a string
 abbrev pub text_of_string : Edn → Option (List ℕ)
@@ -76,7 +66,6 @@ sections = Section.Cut ∷ Section.Slow ∷ Section.Loss ∷ Section.Down ∷ Se
 abbrev pub nodes_keyword : List ℕ
 nodes_keyword = codes "nodes"
 
--- the keyword of this name
 abbrev pub is_keyword : List ℕ → Edn → Bool
 is_keyword name (keyword text) = bytes_eq text name
 is_keyword name _ = false
@@ -115,7 +104,7 @@ pub record Keys : Type 0 where
   pub nodes : Edn
   pub pairs : List (Edn × Edn)
 
--- the keys of a text: it is a map, each key is known, and the names are there
+-- The keys of a text: it is a map, each key is known, and the names are there.
 abbrev pub keys_of : Edn → Result Keys EnvTextError
 keys_of (mapping ms) =
     if list_all has_known_key (pairs_in ms)

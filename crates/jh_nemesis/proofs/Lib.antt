@@ -1,3 +1,5 @@
 pub mod PlaceLemmas
 pub mod BeginLemmas
 pub mod LawLemmas
+pub mod ListLemmas
+pub mod StepTextLemmas

@@ -5,3 +5,4 @@ pub mod Timeline
 pub mod TimelineInside
 pub mod Places
 pub mod NemesisInside
+pub mod StepText

@@ -51,10 +51,14 @@ is_ok NotActive = false
 abbrev pub state_after : State → Step → State
 state_after s step = if is_ok (answer_of s step) then moved_on s (active_after s.now step) else s
 
--- the nodes that the fault of the step names are in the environment
+-- the nodes that the fault of the step names are among so many
+abbrev pub FitsNodes : ℕ → Step → Type 0
+FitsNodes count (Begin id f) = FitsCount count f
+FitsNodes count (Withdraw id) = Unit {0}
+
+-- they are in the environment
 abbrev pub StepFits : State → Step → Type 0
-StepFits s (Begin id f) = FitsCount (length s.names) f
-StepFits s (Withdraw id) = Unit {0}
+StepFits s step = FitsNodes (length s.names) step
 
 -- the answers to steps, one after another
 abbrev pub answers_of : State → List Step → List StepAnswer

@@ -5,11 +5,13 @@
 mod laws;
 mod nemesis;
 mod steps;
+mod texts;
 mod timeline;
 
 pub use laws::{refused_stays, withdrawal_ends_begin, withdrawal_leaves_others};
 pub use nemesis::Nemesis;
 pub use steps::{BeginError, MOST_ACTIVE, MOST_STEPS, Step, StepAnswer, WithdrawError};
+pub use texts::{StepTextError, step_of_value};
 
 #[cfg(test)]
 mod tests;

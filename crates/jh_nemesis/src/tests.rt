@@ -6,7 +6,8 @@ ghost use Rattle.jh_env.specs.Overlay.{StandsFor};
 
 use crate::{BeginError, MOST_ACTIVE, Nemesis, Step, StepAnswer, WithdrawError};
 use jh_env::{Env, Fault, FaultError, Nodes, Start};
-use std::alloc::Global;
+use std::alloc::{AllocError, Global};
+use std::fmt::Display;
 use std::process::Abort;
 use std::test::Fail;
 
@@ -99,6 +100,13 @@ fn ends_a_cut(rt: HostRuntime) -> Result<(), Fail> {
     Ok(())
 }
 
+fn apply_withdrawal(nemesis: &mut Nemesis, id: u32) -> Result<StepAnswer, AllocError> {
+    match nemesis.apply(Step::Withdraw(id)) {
+        Ok(answer) => Ok(answer),
+        Err(_) => nemesis.apply(Step::Withdraw(id)),
+    }
+}
+
 #[test]
 fn answers_steps(rt: HostRuntime) -> Result<(), Fail> {
     let mut nemesis = calm(rt.alloc())?;
@@ -109,7 +117,11 @@ fn answers_steps(rt: HostRuntime) -> Result<(), Fail> {
         nemesis.apply(Step::Begin(1, fault)),
         Ok(StepAnswer::IdTaken)
     );
-    assert_eq!(rt; nemesis.apply(Step::Withdraw(2)), Ok(StepAnswer::NotActive));
+    assert_eq!(rt;
+        apply_withdrawal(&mut nemesis, 2),
+        Ok(StepAnswer::NotActive)
+    );
+    assert_eq!(rt; apply_withdrawal(&mut nemesis, 1), Ok(StepAnswer::Ok));
     Ok(())
 }
 
@@ -140,6 +152,13 @@ fn stands_few_steps(rt: HostRuntime) -> Result<(), Fail> {
     Ok(())
 }
 
+fn text_of(alloc: Global, error: &impl Display) -> Result<String, AllocError> {
+    match format!(in alloc; "{error}") {
+        Ok(text) => Ok(text),
+        Err(_) => format!(in alloc; "{error}"),
+    }
+}
+
 #[test]
 fn says_why(rt: HostRuntime) -> Result<(), Fail> {
     let begins = [
@@ -149,7 +168,7 @@ fn says_why(rt: HostRuntime) -> Result<(), Fail> {
         (BeginError::OutOfMemory, "out of memory"),
     ];
     for (error, text) in begins {
-        assert_eq!(rt; format!(in rt.alloc(); "{error}")?.as_str(), text);
+        assert_eq!(rt; text_of(rt.alloc(), &error)?.as_str(), text);
     }
     let withdrawals = [
         (WithdrawError::NotActive, "not active"),
@@ -157,7 +176,7 @@ fn says_why(rt: HostRuntime) -> Result<(), Fail> {
         (WithdrawError::OutOfMemory, "out of memory"),
     ];
     for (error, text) in withdrawals {
-        assert_eq!(rt; format!(in rt.alloc(); "{error}")?.as_str(), text);
+        assert_eq!(rt; text_of(rt.alloc(), &error)?.as_str(), text);
     }
     Ok(())
 }

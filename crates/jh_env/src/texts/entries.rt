@@ -52,16 +52,6 @@ pub enum Entry<'a> {
     Node(&'a str, NodeChange),
 }
 
-/// The values of a sequence: for now of a vector.
-pub fn elements_of(value: &Value) -> Option<&[Value]>
-    ensures { option_map (λ s. views s.now) result ≡ text.elements_of (view value.now) }
-{
-    match value {
-        Value::Vector(items) => Some(items.as_slice()),
-        _ => None,
-    }
-}
-
 impl Section {
     /// Its keyword, without the colon.
     pub fn keyword(self) -> &'static str
@@ -80,7 +70,7 @@ impl Section {
     pub fn entry_in(self, value: &Value) -> Option<Entry<'_>>
         ensures { option_map entry_said result ≡ text.entry_in self (view value.now) }
     {
-        self.entry_of(elements_of(value)?)
+        self.entry_of(value.elements()?)
     }
 
     fn entry_of(self, elements: &[Value]) -> Option<Entry<'_>>

@@ -8,7 +8,7 @@ ghost use Rattle.jh_env.specs.Text.{nodes_keyword, sections};
 ghost use Rattle.jh_env.specs.TextInside.{entries_said, with_front, RefusesShape};
 
 use super::EnvTextError;
-use super::entries::{Entry, SECTIONS, Section, elements_of};
+use super::entries::{Entry, SECTIONS, Section};
 use jh_edn::Value;
 use std::alloc::Global;
 
@@ -81,7 +81,7 @@ pub fn names_of(alloc: Global, value: &Value) -> Result<Vec<&str>, EnvTextError>
         (λ names. text.names_of (view value.now) ≡ Some (map (λ s. s.now) names.items))
         (RefusesShape (text.names_of (view value.now))) }
 {
-    let elements = elements_of(value).ok_or(EnvTextError::BadEntry)?;
+    let elements = value.elements().ok_or(EnvTextError::BadEntry)?;
     let mut names = Vec::new(alloc);
     for element in elements {
         let Value::Str(name) = element else {
@@ -129,7 +129,7 @@ fn push_entries<'a>(
         (λ _. with_front (entries_said entries.old.items) (text.entries_of section (view value.now)) ≡ Some (entries_said entries.new.items))
         (RefusesShape (text.entries_of section (view value.now))) }
 {
-    let elements = elements_of(value).ok_or(EnvTextError::BadEntry)?;
+    let elements = value.elements().ok_or(EnvTextError::BadEntry)?;
     for element in elements {
         entries.push(section.entry_in(element).ok_or(EnvTextError::BadEntry)?)?;
     }

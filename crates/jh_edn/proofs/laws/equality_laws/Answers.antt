@@ -1,5 +1,4 @@
 use Rattle.std.proofs.Common.{refl, sym, ◌∙◌}
-use Rattle.jh_edn.specs.Key.{key_of}
 use Rattle.jh_edn.proofs.Keys.{same_key, equal_from_key}
 use Rattle.jh_edn.proofs.laws.equality_laws.Goals as goal
 
