@@ -11,3 +11,9 @@ pub written_for : (known : Option (List ℕ)) (values : List Edn) (output : List
     → IfSome known (λ input. (output : List ℕ) × IsEnvTextOf input output × Appends old new output)
 written_for None values output old new spelled text appended = tt
 written_for (Some input) values output old new spelled text appended = (output, (values, spelled, text), appended)
+
+-- and there is something that is written for it
+pub written_of : (known : Option (List ℕ)) (values : List Edn) (output : List ℕ) → IfSome known (SpellsAll values) → IsEnvText values output
+    → IfSome known (λ input. (output : List ℕ) × IsEnvTextOf input output)
+written_of None values output spelled text = tt
+written_of (Some input) values output spelled text = (output, (values, spelled, text))

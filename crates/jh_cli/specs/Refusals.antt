@@ -10,6 +10,7 @@ use Rattle.jh_env.specs.TextFaults as env
 use Rattle.jh_nemesis.specs.StepText.{step_told}
 use Rattle.jh_nemesis.specs.declared.steps.Step.{Step}
 use Rattle.jh_nemesis.specs.declared.texts.StepTextError.{StepTextError}
+use Rattle.jh_cli.specs.EnvText.{IsEnvTextOf}
 use Rattle.jh_cli.specs.declared.error.CliError.{CliError}
 use Rattle.jh_cli.specs.declared.error.CliError.TheVariants.{Input, EnvironmentMissing, Environment, Element, Read, Write, OutOfMemory}
 
@@ -46,12 +47,13 @@ RefusesValues values Read = ⊥
 RefusesValues values Write = ⊥
 RefusesValues values OutOfMemory = Unit {0}
 
--- why an input is refused: for its text, or for the values that it spells; a reader, a writer or memory may fail with any
+-- Why an input is refused: for its text, or for the values that it spells. A writer fails only with what is written for a
+-- good input; a reader or memory may fail with any.
 abbrev pub RefusesInput : List ℕ → CliError → Type 0
 RefusesInput input (Input fault) = edn.RefusesText input fault
 RefusesInput input EnvironmentMissing = (values : List Edn) × SpellsAll values input × RefusesValues values EnvironmentMissing
 RefusesInput input (Environment fault) = (values : List Edn) × SpellsAll values input × RefusesValues values (Environment fault)
 RefusesInput input (Element place fault) = (values : List Edn) × SpellsAll values input × RefusesValues values (Element place fault)
 RefusesInput input Read = Unit {0}
-RefusesInput input Write = Unit {0}
+RefusesInput input Write = (output : List ℕ) × IsEnvTextOf input output
 RefusesInput input OutOfMemory = Unit {0}
