@@ -33,7 +33,7 @@ pub keys_of-map : (ps : List (Value × Value)) → keys_of (mapping (members_of 
     else Err UnknownKey)
 keys_of-map ps = simp (pairs_in-members_of, list_all-map has_known_key view_pair ps)
 
--- What is told of a list of values is told one after another: a walk over it that has told `front` so far.
+-- what is told of images is told of what they are images of
 pub each_of-map : {A B C : Type 0} (f : B → Option C) (v : A → B) (xs : List A) → each_of f (map v xs) ≡ each_of (λ x. f (v x)) xs
 each_of-map f v [] = refl
 each_of-map f v (x ∷ xs) = ap (λ o. option_and_then (λ y. option_map (λ ys. y ∷ ys) o) (f (v x))) (each_of-map f v xs)

@@ -1,19 +1,15 @@
 -- A walk over the entries of a text that sets what they tell.
-use Rattle.std.proofs.Common.{◌≡◌, ℕ, ◌+◌, ◌<◌, ◌≤◌, Bool, true, false, List, length, get_or, take, Some, None, option_map, sym, ◌∙◌, ap, refl, subst, arith, inl, inr}
-use Rattle.std.specs.Prelude.{if◌then◌else◌, ◌==◌, slice_get}
+use Rattle.std.proofs.Common.{◌≡◌, ℕ, ◌+◌, ◌<◌, ◌≤◌, Bool, true, false, List, length, get_or, take, Some, None, option_map, ◌∙◌, ap, refl, subst, arith, inl, inr}
+use Rattle.std.specs.Prelude.{if◌then◌else◌, slice_get}
 use Rattle.std.specs.List.{list_any}
-use Rattle.std.specs.Int.Signed.{le_z_yes}
-use Rattle.std.proofs.lemmas.Bool.{eqb-true, lt-ltb, cases_lt}
+use Rattle.std.proofs.lemmas.Bool.{cases_lt}
 use Rattle.std.proofs.lemmas.List.{take_all, take-map, length-map}
 use Rattle.std.proofs.lemmas.List.Sums.{fold_more}
 use Rattle.std.proofs.lemmas.Option.{slice_get-get_or, slice_get_past, slice_get-map}
 use borrow.Author.Count.{below_more}
-use Rattle.jh_env.specs.declared.cells.Link.{Link}
-use Rattle.jh_env.specs.declared.cells.NodeCell.{NodeCell}
-use Rattle.jh_env.specs.declared.texts.EnvTextError.{EnvTextError}
 use Rattle.jh_env.specs.declared.texts.EnvTextError.TheVariants.{RepeatedEntry}
-use Rattle.jh_env.specs.Cells.{calm, running, link_at, node_at}
-use Rattle.jh_env.specs.Starting.{StartValue, IsCalm, IsStartingLink, IsStartingNode}
+use Rattle.jh_env.specs.Cells.{calm, running}
+use Rattle.jh_env.specs.Starting.{StartValue}
 use Rattle.jh_env.specs.Text.{Entry}
 use Rattle.jh_env.specs.TextCells.{link_after, node_after, AreTold}
 use Rattle.jh_env.specs.TextFaults.{own_fault, fault_at, repeats, AreSound, HasFault}
@@ -28,38 +24,6 @@ pub record AreSet (names : List (List ℕ)) (entries : List Entry) (i : ℕ) (st
   pub sound : (k : ℕ) → k < i → fault_at names entries k ≡ None
   pub starting : AreStarting start
 
-if-Some : {A : Type 0} (test : Bool) (x y : A) → (if test then Some x else None) ≡ Some y → y ≡ x
-if-Some true x y is = cc
-if-Some false x y is = absurd cc
-
-calm_starts : (link : Link) → link ≡ calm → IsStartingLink link
-calm_starts link is = rw is (omega arith, omega arith)
-
-running_starts : (cell : NodeCell) → cell ≡ running → IsStartingNode cell
-running_starts cell is = rw is (le_z_yes tt, le_z_yes tt)
-
--- where nothing is set yet
-pub none_set : (entries : List Entry) (start : StartValue) → IsCalm start → AreSet start.names entries 0 start
-none_set entries start quiet = record {
-  named = refl;
-  told = record { links = quiet.links; nodes = quiet.nodes };
-  sound = λ k below. absurd (omega arith);
-  starting = record {
-    links = λ a b link at. calm_starts link (if-Some _ calm link (sym (quiet.links a b) ∙ at));
-    nodes = λ a cell at. running_starts cell (if-Some _ running cell (sym (quiet.nodes a) ∙ at));
-    no_link = λ a b p q none.
-        elim (a == b) as (λ t. (a == b) ≡ t → a ≡ b) [
-          | true ↦ λ is. eqb-true a b is
-          | false ↦ λ is.
-              let there : link_at start.cells a b ≡ Some calm = quiet.links a b ∙ rw (lt-ltb a (length start.names) p, lt-ltb b (length start.names) q, is) refl in
-              absurd cc
-        ] refl;
-    no_node = λ a p none.
-        let there : node_at start.cells a ≡ Some running = quiet.nodes a ∙ rw (lt-ltb a (length start.names) p) refl in
-        absurd cc;
-  };
-}
-
 option_map-if : {A : Type 0} (test : Bool) (f : A → A) (x : A) → option_map f (if test then Some x else None) ≡ (if test then Some (f x) else None)
 option_map-if true f x = refl
 option_map-if false f x = refl
@@ -68,11 +32,7 @@ option_map-if false f x = refl
 at_place : (entries : List Entry) (i : ℕ) (entry : Entry) → i < length entries → slice_get entries i ≡ Some entry → get_or entries i entry ≡ entry
 at_place entries i entry below at = let e = slice_get-get_or entries i entry below in cc
 
--- the fault of the entry at a place, where it is known
-fault_at-own : (names : List (List ℕ)) (entries : List Entry) (i : ℕ) (entry : Entry) (fault : EnvTextError) → slice_get entries i ≡ Some entry
-    → own_fault names entry ≡ Some fault → fault_at names entries i ≡ Some fault
-fault_at-own names entries i entry fault at own = rw (at, own) refl
-
+-- the fault of the entry at a place, where it has none by itself
 fault_at-others : (names : List (List ℕ)) (entries : List Entry) (i : ℕ) (entry : Entry) (repeated : Bool) → slice_get entries i ≡ Some entry
     → own_fault names entry ≡ None → list_any (repeats entry) (take i entries) ≡ repeated
     → fault_at names entries i ≡ (if repeated then Some RepeatedEntry else None)
@@ -107,11 +67,6 @@ all_set names entries i start past set = (
   λ k. elim (cases_lt k i) [ inl below ↦ set.sound k below | inr beyond ↦ let past_it : length entries ≤ k = omega arith in rw (slice_get_past entries k past_it) refl ],
   subst (λ first. AreTold names first start.cells) (take_all i entries past) set.told,
 )
-
--- the next entry is at fault by itself
-pub own_first : (names : List (List ℕ)) (entries : List Entry) (i : ℕ) (entry : Entry) (start : StartValue) (fault : EnvTextError)
-    → slice_get entries i ≡ Some entry → AreSet names entries i start → own_fault start.names entry ≡ Some fault → HasFault names entries fault
-own_first names entries i entry start fault at set own = (i, fault_at-own names entries i entry fault at (rw (← set.named) own), set.sound)
 
 -- the next entry repeats one before it
 pub repeated_first : (names : List (List ℕ)) (entries : List Entry) (i : ℕ) (entry : Entry) (start : StartValue)

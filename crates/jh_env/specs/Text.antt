@@ -15,7 +15,7 @@ infixl 10 ◌>>=◌
 abbrev pub ◌>>=◌ : {A B : Type 0} → Option A → (A → Option B) → Option B
 o >>= f = option_and_then f o
 
--- An entry: the names of a link's ends, or of a node, and what is said of it.
+-- an entry: the names of a link's ends, or of a node, and what is said of it
 pub data Entry : Type 0 where
   OfLink : List ℕ → List ℕ → LinkChange → Entry
   OfNode : List ℕ → NodeChange → Entry
@@ -66,6 +66,7 @@ sections = Section.Cut ∷ Section.Slow ∷ Section.Loss ∷ Section.Down ∷ Se
 abbrev pub nodes_keyword : List ℕ
 nodes_keyword = codes "nodes"
 
+-- the keyword of this name
 abbrev pub is_keyword : List ℕ → Edn → Bool
 is_keyword name (keyword text) = bytes_eq text name
 is_keyword name _ = false
@@ -104,7 +105,7 @@ pub record Keys : Type 0 where
   pub nodes : Edn
   pub pairs : List (Edn × Edn)
 
--- The keys of a text: it is a map, each key is known, and the names are there.
+-- the keys of a text: it is a map, each key is known, and the names are there
 abbrev pub keys_of : Edn → Result Keys EnvTextError
 keys_of (mapping ms) =
     if list_all has_known_key (pairs_in ms)

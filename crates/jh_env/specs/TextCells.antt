@@ -23,6 +23,7 @@ node_with NodeChange.Pause node = record node { process = Paused }
 node_with NodeChange.Kill node = record node { process = Killed }
 node_with (NodeChange.Clock ms) node = record node { clock = ms }
 
+-- there is a place, and it is a
 abbrev pub is_place : Option ℕ → ℕ → Bool
 is_place None a = false
 is_place (Some place) a = a == place

@@ -30,6 +30,7 @@ abbrev pub links_itself : Entry → Bool
 links_itself (OfLink from to says) = bytes_eq from to
 links_itself (OfNode node says) = false
 
+-- a number from the least to the most
 abbrev pub is_within : ℤ → ℤ → ℤ → Bool
 is_within least most z = int_le least z && int_le z most
 
@@ -44,6 +45,7 @@ abbrev pub is_node_amount : NodeChange → Bool
 is_node_amount (NodeChange.Clock ms) = is_within (negsuc (10 ^ 12 - 1)) (pos (10 ^ 12)) ms
 is_node_amount _ = true
 
+-- what an entry says is in its range
 abbrev pub is_amount : Entry → Bool
 is_amount (OfLink from to says) = is_link_amount says
 is_amount (OfNode node says) = is_node_amount says

@@ -19,6 +19,7 @@ abbrev pub entry_said : Entry → text.Entry
 entry_said (Entry.Link from to says) = text.OfLink from.now to.now says
 entry_said (Entry.Node node says) = text.OfNode node.now says
 
+-- entries, by the names that they borrow
 abbrev pub entries_said : List Entry → List text.Entry
 entries_said entries = map entry_said entries
 

@@ -24,11 +24,13 @@ link_part Section.Slow link = if nat_lt 0 link.delay then Some (LinkChange.Delay
 link_part Section.Loss link = if nat_lt 0 link.loss then Some (LinkChange.Loss (pos link.loss)) else None
 link_part _ link = None
 
+-- what a process is said to be, if anything
 abbrev pub life_part : Life → Option NodeChange
 life_part Running = None
 life_part Paused = Some NodeChange.Pause
 life_part Killed = Some NodeChange.Kill
 
+-- the integer 0
 abbrev pub is_zero : ℤ → Bool
 is_zero (pos n) = n == 0
 is_zero _ = false

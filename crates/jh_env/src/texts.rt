@@ -112,6 +112,7 @@ impl From<StartError> for EnvTextError {
 /// where a value under a key has not its shape; `NoNodes`, `TooManyNodes`, `BadName`, `DuplicateName` as
 /// `Nodes::of` has them; then for the first entry at fault, in the order of the keys, `UnknownNode`, `SelfLink`,
 /// `BadAmount` or `RepeatedEntry`. `OutOfMemory` where memory was refused before another error was found.
+/// Of a key that a map made by hand holds twice, the first counts.
 ///
 /// Takes time linear in the text: repeats are looked for among the accepted entries, of which 32 nodes have at
 /// most 3,040.
@@ -131,7 +132,7 @@ pub fn env_of_value(alloc: Global, value: &Value) -> Result<Env, EnvTextError>
 
 /// The text of an environment as it is now: all six keys in the order `:nodes :cut :slow :loss :down :clock`, and
 /// under them only what is not calm or not running, links by the place of their source and then of their
-/// destination, nodes by place.
+/// destination, nodes by place. A delay beyond `i64::MAX` milliseconds would be written as that.
 pub fn value_of_env(alloc: Global, env: &Env) -> Result<Value, AllocError>
     ensures { IfOk result (λ value. view value ≡ text_of env.now) }
 {
