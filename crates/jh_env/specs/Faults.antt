@@ -1,6 +1,6 @@
 -- Faults, as contracts see them (Jepsen's pages on nemeses and nets name cuts of links, slow and lossy
 -- links, paused and killed processes and bumped clocks; the amounts are this project's own).
-use Rattle.std.specs.Prelude.{◌≡◌, ℕ, ◌==◌, ◌&&◌, ◌||◌, ◌<◌, Bool, true, false, ℤ, List, [], ◌∷◌, ◌++◌, if◌then◌else◌, nat_le}
+use Rattle.std.specs.Prelude.{◌≡◌, ◌≢◌, ℕ, ◌==◌, ◌&&◌, ◌||◌, ◌<◌, Bool, true, false, ℤ, List, [], ◌∷◌, ◌++◌, if◌then◌else◌, nat_le}
 use Rattle.std.specs.List.{list_any, All}
 use Rattle.jh_env.specs.declared.faults.FaultError.{FaultError}
 use Rattle.jh_env.specs.declared.faults.FaultError.TheVariants.{UnknownNode, SelfLink, BadAmount, OutOfMemory}
@@ -57,9 +57,9 @@ RefusesEnds count links BadAmount = ⊥
 RefusesEnds count links OutOfMemory = ⊥
 
 -- Why a fault on these links is refused: an unknown node anywhere, else a node linked with itself, else
--- its amount, which is right if the fact `amount` holds.
+-- its amount, which is right if the fact `amount` holds, else memory, which only a link to keep needs.
 abbrev pub RefusesLinks : ℕ → List (ℕ × ℕ) → Type 0 → FaultError → Type 0
 RefusesLinks count links amount UnknownNode = list_any (is_unknown_link count) links ≡ true
 RefusesLinks count links amount SelfLink = (list_any (is_unknown_link count) links ≡ false) × (list_any is_self_link links ≡ true)
 RefusesLinks count links amount BadAmount = AreLinksOf count links × (amount → ⊥)
-RefusesLinks count links amount OutOfMemory = AreLinksOf count links × amount
+RefusesLinks count links amount OutOfMemory = AreLinksOf count links × amount × (links ≢ [])

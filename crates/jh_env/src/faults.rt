@@ -1,7 +1,7 @@
 //! Faults: what is done to which links and nodes. `specs/Faults.antt` says what a contract sees of one,
 //! `specs/Overlay.antt` what it does to an environment.
 
-ghost use Rattle.std.specs.Prelude.{◌≡◌, ◌↔◌, length, IsTrue, [], MatchResult, IfOk, ⊤};
+ghost use Rattle.std.specs.Prelude.{◌≡◌, ◌≢◌, ◌↔◌, length, IsTrue, [], MatchResult, ⊤};
 ghost use Rattle.jh_env.specs.Faults.{kept_links, FitsCount, AreLinksOf, RefusesEnds, RefusesLinks};
 ghost use Rattle.jh_env.specs.Faults.FaultValue.{Cut};
 
@@ -58,7 +58,7 @@ fn check_links(nodes: &Nodes, links: &[(Node, Node)]) -> Result<(), FaultError>
 }
 
 fn kept_of(alloc: Global, links: &[(Node, Node)]) -> Result<Vec<(Node, Node)>, AllocError>
-    ensures { IfOk result (λ kept. kept.items ≡ kept_links [] links.now) }
+    ensures { MatchResult result (λ kept. kept.items ≡ kept_links [] links.now) (λ _. links.now ≢ []) }
 {
     let mut kept: Vec<(Node, Node)> = Vec::new(alloc);
     for link in links {
