@@ -5,7 +5,8 @@ use crate::{
     Env, Fault, FaultError, Life, Link, MOST_LAID, Node, NodeCell, Nodes, NodesError, Start,
     StartError,
 };
-use std::alloc::Global;
+use std::alloc::{AllocError, Global};
+use std::fmt::Display;
 use std::test::Fail;
 
 const CUT: Link = Link {
@@ -37,6 +38,22 @@ fn calm(alloc: Global) -> Result<Start, Fail> {
     match Start::new(alloc, three(alloc)?) {
         Ok(start) => Ok(start),
         Err(_) => Ok(Start::new(alloc, three(alloc)?)?),
+    }
+}
+
+// An environment in which no link is cut but these.
+fn started_once(alloc: Global, cuts: &[(Node, Node)]) -> Option<Env> {
+    let mut start = Start::new(alloc, three(alloc).ok()?).ok()?;
+    for (from, to) in cuts {
+        start.set_link(*from, *to, CUT).ok()?;
+    }
+    Env::start(alloc, start).ok()
+}
+
+fn started(alloc: Global, cuts: &[(Node, Node)]) -> Option<Env> {
+    match started_once(alloc, cuts) {
+        Some(env) => Some(env),
+        None => started_once(alloc, cuts),
     }
 }
 
@@ -165,16 +182,13 @@ fn refuses_cuts(rt: HostRuntime) -> Result<(), Fail> {
 
 #[test]
 fn cuts_until_reset(rt: HostRuntime) -> Result<(), Fail> {
-    let start = calm(rt.alloc())?;
-    let Some((first, second)) = two(start.nodes()) else {
+    let Some(mut env) = started(rt.alloc(), &[]) else {
+        panic!(rt; "no environment");
+    };
+    let Some((first, second)) = two(env.nodes()) else {
         panic!(rt; "no nodes");
     };
-    let fault = cut(
-        rt.alloc(),
-        start.nodes(),
-        &[(first, second), (first, second)],
-    )?;
-    let mut env = Env::start(rt.alloc(), start)?;
+    let fault = cut(rt.alloc(), env.nodes(), &[(first, second), (first, second)])?;
     assert!(rt; fault.fits(&env) && env.laid() < MOST_LAID);
     env.lay(&fault);
     assert_eq!(rt; env.link(first, second), Some(CUT));
@@ -186,17 +200,24 @@ fn cuts_until_reset(rt: HostRuntime) -> Result<(), Fail> {
 
 #[test]
 fn keeps_a_cut_of_the_start(rt: HostRuntime) -> Result<(), Fail> {
-    let mut start = calm(rt.alloc())?;
-    let Some((first, second)) = two(start.nodes()) else {
+    let Some((first, second)) = two(&three(rt.alloc())?) else {
         panic!(rt; "no nodes");
     };
-    assert_eq!(rt; start.set_link(first, second, CUT), Ok(()));
-    let mut env = Env::start(rt.alloc(), start)?;
+    let Some(mut env) = started(rt.alloc(), &[(first, second)]) else {
+        panic!(rt; "no environment");
+    };
     env.reset();
     assert_eq!(rt; env.link(first, second), Some(CUT));
     assert_eq!(rt; env.node(first), Some(NodeCell::running()));
     assert_eq!(rt; env.nodes().len(), 3);
     Ok(())
+}
+
+fn text_of(alloc: Global, error: &impl Display) -> Result<String, AllocError> {
+    match format!(in alloc; "{error}") {
+        Ok(text) => Ok(text),
+        Err(_) => format!(in alloc; "{error}"),
+    }
 }
 
 #[test]
@@ -209,7 +230,7 @@ fn says_why(rt: HostRuntime) -> Result<(), Fail> {
         (NodesError::OutOfMemory, "out of memory"),
     ];
     for (error, text) in names {
-        assert_eq!(rt; format!(in rt.alloc(); "{error}")?.as_str(), text);
+        assert_eq!(rt; text_of(rt.alloc(), &error)?.as_str(), text);
     }
     let faults = [
         (FaultError::UnknownNode, "unknown node"),
@@ -218,7 +239,7 @@ fn says_why(rt: HostRuntime) -> Result<(), Fail> {
         (FaultError::OutOfMemory, "out of memory"),
     ];
     for (error, text) in faults {
-        assert_eq!(rt; format!(in rt.alloc(); "{error}")?.as_str(), text);
+        assert_eq!(rt; text_of(rt.alloc(), &error)?.as_str(), text);
     }
     let cells = [
         (StartError::UnknownNode, "unknown node"),
@@ -226,7 +247,7 @@ fn says_why(rt: HostRuntime) -> Result<(), Fail> {
         (StartError::BadAmount, "bad amount"),
     ];
     for (error, text) in cells {
-        assert_eq!(rt; format!(in rt.alloc(); "{error}")?.as_str(), text);
+        assert_eq!(rt; text_of(rt.alloc(), &error)?.as_str(), text);
     }
     Ok(())
 }

@@ -6,7 +6,8 @@ ghost use Rattle.jh_env.specs.Overlay.{StandsFor};
 
 use crate::{BeginError, MOST_ACTIVE, Nemesis, Step, StepAnswer, WithdrawError};
 use jh_env::{Env, Fault, FaultError, Nodes, Start};
-use std::alloc::Global;
+use std::alloc::{AllocError, Global};
+use std::fmt::Display;
 use std::process::Abort;
 use std::test::Fail;
 
@@ -140,6 +141,13 @@ fn stands_few_steps(rt: HostRuntime) -> Result<(), Fail> {
     Ok(())
 }
 
+fn text_of(alloc: Global, error: &impl Display) -> Result<String, AllocError> {
+    match format!(in alloc; "{error}") {
+        Ok(text) => Ok(text),
+        Err(_) => format!(in alloc; "{error}"),
+    }
+}
+
 #[test]
 fn says_why(rt: HostRuntime) -> Result<(), Fail> {
     let begins = [
@@ -149,7 +157,7 @@ fn says_why(rt: HostRuntime) -> Result<(), Fail> {
         (BeginError::OutOfMemory, "out of memory"),
     ];
     for (error, text) in begins {
-        assert_eq!(rt; format!(in rt.alloc(); "{error}")?.as_str(), text);
+        assert_eq!(rt; text_of(rt.alloc(), &error)?.as_str(), text);
     }
     let withdrawals = [
         (WithdrawError::NotActive, "not active"),
@@ -157,7 +165,7 @@ fn says_why(rt: HostRuntime) -> Result<(), Fail> {
         (WithdrawError::OutOfMemory, "out of memory"),
     ];
     for (error, text) in withdrawals {
-        assert_eq!(rt; format!(in rt.alloc(); "{error}")?.as_str(), text);
+        assert_eq!(rt; text_of(rt.alloc(), &error)?.as_str(), text);
     }
     Ok(())
 }
