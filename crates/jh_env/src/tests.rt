@@ -181,6 +181,22 @@ fn refuses_cuts(rt: HostRuntime) -> Result<(), Fail> {
 }
 
 #[test]
+fn fits_known_nodes(rt: HostRuntime) -> Result<(), Fail> {
+    let four = named(rt.alloc(), &["n1", "n2", "n3", "n4"])?;
+    let (Some((first, _)), Some(fourth)) = (two(&four), four.find("n4")) else {
+        panic!(rt; "no nodes");
+    };
+    let Some(env) = started(rt.alloc(), &[]) else {
+        panic!(rt; "no environment");
+    };
+    let fault = cut(rt.alloc(), &four, &[(first, fourth)])?;
+    assert!(rt; !fault.fits(&env));
+    let fault = cut(rt.alloc(), &four, &[])?;
+    assert!(rt; fault.fits(&env));
+    Ok(())
+}
+
+#[test]
 fn cuts_until_reset(rt: HostRuntime) -> Result<(), Fail> {
     let Some(mut env) = started(rt.alloc(), &[]) else {
         panic!(rt; "no environment");
