@@ -6,12 +6,15 @@ use Rattle.std.specs.Str.{byte, bytes_eq}
 use Rattle.jh_env.specs.declared.names.NodesError.{NodesError}
 use Rattle.jh_env.specs.declared.names.NodesError.TheVariants.{NoNodes, TooManyNodes, BadName, DuplicateName, OutOfMemory}
 
+-- the byte of `.`
 abbrev pub dot : ℕ
 dot = byte "."
 
+-- the byte of `-`
 abbrev pub dash : ℕ
 dash = byte "-"
 
+-- the byte of `_`
 abbrev pub underscore : ℕ
 underscore = byte "_"
 

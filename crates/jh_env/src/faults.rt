@@ -40,6 +40,7 @@ pub enum FaultError {
     OutOfMemory,
 }
 
+// Refuses links with an end that is no node, and links of a node with itself.
 fn check_links(nodes: &Nodes, links: &[(Node, Node)]) -> Result<(), FaultError>
     ensures { MatchResult result (λ _. AreLinksOf (length nodes.now) links.now) (RefusesEnds (length nodes.now) links.now) }
 {
@@ -57,6 +58,7 @@ fn check_links(nodes: &Nodes, links: &[(Node, Node)]) -> Result<(), FaultError>
     Ok(())
 }
 
+// Each of these links once, in the order of their first mentions.
 fn kept_of(alloc: Global, links: &[(Node, Node)]) -> Result<Vec<(Node, Node)>, AllocError>
     ensures { MatchResult result (λ kept. kept.items ≡ kept_links [] links.now) (λ _. links.now ≢ []) }
 {

@@ -80,6 +80,7 @@ fn is_node_name(name: &str) -> bool
     are_name_bytes(bytes)
 }
 
+// Whether each of these bytes may stand in a name.
 fn are_name_bytes(bytes: &[u8]) -> bool
     ensures { result ≡ list_all is_name_byte bytes.now }
 {
@@ -92,6 +93,7 @@ fn is_name_byte(byte: u8) -> bool
     byte.is_ascii_alphanumeric() || byte == b'.' || byte == b'-' || byte == b'_'
 }
 
+// Adds a name, if it may stand after those that are there.
 fn add_name(alloc: Global, set: &mut IndexSet<String>, name: &str) -> Result<(), NodesError>
     ensures { MatchResult result
         (λ _. (map string_bytes set.new.keys ≡ map string_bytes set.old.keys ++ name.now ∷ []) × MayFollow (map string_bytes set.old.keys) name.now)

@@ -1,10 +1,13 @@
-use Rattle.std.proofs.Common.{◌≡◌, ℕ, Bool, true, false, [], ◌∷◌, ◌++◌, refl, ap, ◌∙◌, sym}
-use Rattle.std.specs.Prelude.{if◌then◌else◌, ◌||◌}
-use Rattle.std.proofs.lemmas.Bool.{eq-eqb}
+use Rattle.std.proofs.Common.{◌≡◌, ◌≢◌, ℕ, Bool, true, false, [], ◌∷◌, ◌++◌, refl, ap, ◌∙◌, sym}
+use Rattle.std.specs.Prelude.{if◌then◌else◌, not, ◌==◌, ◌||◌}
+use Rattle.std.proofs.lemmas.Bool.{eq-eqb, eqb-true, or_right}
+use Rattle.std.specs.List.{list_any}
+use Rattle.jh_env.specs.Overlay.{cuts, link_over}
+use Rattle.std.proofs.lemmas.List.Elements.{filter-append}
 use Rattle.jh_env.specs.Faults.{FaultValue}
-use Rattle.jh_nemesis.specs.State.{State, Active, has_id, is_active}
+use Rattle.jh_nemesis.specs.State.{State, Active, has_id, is_active, faults_in, moved_on}
 use Rattle.jh_nemesis.specs.Steps.{answer_of, begin_answer, state_after, is_ok, active_after, without}
-use Rattle.jh_nemesis.specs.Laws.{WithdrawalLeavesOthers, WithdrawalEndsBegin}
+use Rattle.jh_nemesis.specs.Laws.{CutsOfOthersStay, CutsOfStartStay, WithdrawalLeavesOthers, WithdrawalEndsBegin}
 use Rattle.std.proofs.lemmas.List.{append-nil}
 use Rattle.jh_nemesis.specs.declared.steps.StepAnswer.{StepAnswer}
 use Rattle.jh_nemesis.specs.declared.steps.StepAnswer.TheVariants.{IdTaken}
@@ -48,3 +51,26 @@ pub withdrawal_ends : WithdrawalEndsBegin
 withdrawal_ends s id f began ended =
     accepted (state_after s (Begin id f)) (Withdraw id) ended
     ∙ (ap (λ a. without a id) (accepted s (Begin id f) began) ∙ (without_middle s.now [] id f (fresh s id began) ∙ append-nil s.now))
+
+-- a link is cut if one of the faults cuts it
+cut_among : (before after : Active) (x : ℕ × FaultValue) (a b : ℕ) → cuts a b x.1 ≡ true → list_any (cuts a b) (faults_in (before ++ (x ∷ after))) ≡ true
+cut_among [] after x a b h = rw h refl
+cut_among (y ∷ ys) after x a b h = or_right (cuts a b y.1) _ (cut_among ys after x a b h)
+
+different : (a b : ℕ) → a ≢ b → (a == b) ≡ false
+different a b apart = elim (a == b) as (λ s. (a == b) ≡ s → s ≡ false) [ true ↦ λ s. absurd (apart (eqb-true a b s)) | false ↦ λ s. refl ] refl
+
+-- a withdrawal keeps a fault of another id
+without_other : (before after : Active) (id other : ℕ) (f : FaultValue) → other ≢ id → without (before ++ ((other, f) ∷ after)) id ≡ without before id ++ ((other, f) ∷ without after id)
+without_other before after id other f apart =
+    filter-append (λ g. not (has_id id g)) before ((other, f) ∷ after) ∙ rw (different other id apart) refl
+
+pub others_stay : CutsOfOthersStay
+others_stay s before after id other f a b l now apart h =
+    elim (is_ok (answer_of s (Withdraw id))) as (λ k. (link_over (faults_in (if k then moved_on s (without s.now id) else s).now) a b l).cut ≡ true) [
+      | true ↦ rw (now, without_other before after id other f apart) (or_right l.cut _ (cut_among (without before id) (without after id) (other, f) a b h))
+      | false ↦ rw now (or_right l.cut _ (cut_among before after (other, f) a b h))
+    ]
+
+pub start_stays : CutsOfStartStay
+start_stays active a b l h = rw h refl
