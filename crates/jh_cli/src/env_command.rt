@@ -42,7 +42,8 @@ pub fn env_run<R: Read, W: Write>(
 ) -> Result<u8, CliError>
     ensures status { IfOk result (λ status. status ≡ 0) }
     ensures written { OnOk result (IfSome (R.remaining reader.old) (λ input.
-        (output : List ℕ) × IsEnvTextOf input output × Appends (W.contents writer.old) (W.contents writer.new) output)) }
+        (output : List ℕ) × IsEnvTextOf input output
+        × Appends (W.contents writer.old) (W.contents writer.new) output)) }
     ensures refused { IfErr result (λ e. IfSome (R.remaining reader.old) (λ input. RefusesInput input e)) }
     ensures unwritten { IfErr result (λ e. e ≢ CliError.Write → writer.new ≡ writer.old) }
 {
@@ -116,7 +117,8 @@ fn answer_steps(
 ) -> Result<(), AllocError>
     requires { All (StepFits nemesis.old) steps.items }
     ensures state { OnOk result (nemesis.new ≡ state_after_all nemesis.old steps.items) }
-    ensures lines { OnOk result (output.new.items ≡ output.old.items ++ answer_lines (answers_of nemesis.old steps.items)) }
+    ensures lines { OnOk result (output.new.items
+        ≡ output.old.items ++ answer_lines (answers_of nemesis.old steps.items)) }
 {
     for step in steps {
         let answer = nemesis.apply(step)?;

@@ -30,9 +30,13 @@ fn env_once(alloc: Global, mut input: &[u8]) -> Run {
     Run { answer, output }
 }
 
+// The text of an error, once more where memory was refused.
 fn text_of(alloc: Global, error: CliError) -> Result<Vec<u8>, Fail> {
     let mut text = Vec::new(alloc);
-    error.text(&mut text)?;
+    if error.text(&mut text).is_err() {
+        text.clear();
+        error.text(&mut text)?;
+    }
     Ok(text)
 }
 
