@@ -12,18 +12,18 @@ use Rattle.jh_cli.specs.declared.error.CliError.{CliError}
 -- a first value that is no environment
 refuses_environment : (first : Edn) (others : List Edn) (fault : EnvTextError.the_data) → env.RefusesText first fault
     → RefusesValues (first ∷ others) (environment_fault fault)
-refuses_environment first others EnvTextError.NotMap refused = (first, others, refl, refused)
-refuses_environment first others EnvTextError.UnknownKey refused = (first, others, refl, refused)
-refuses_environment first others EnvTextError.MissingNodes refused = (first, others, refl, refused)
-refuses_environment first others EnvTextError.BadEntry refused = (first, others, refl, refused)
-refuses_environment first others EnvTextError.NoNodes refused = (first, others, refl, refused)
-refuses_environment first others EnvTextError.TooManyNodes refused = (first, others, refl, refused)
-refuses_environment first others EnvTextError.BadName refused = (first, others, refl, refused)
-refuses_environment first others EnvTextError.DuplicateName refused = (first, others, refl, refused)
-refuses_environment first others EnvTextError.UnknownNode refused = (first, others, refl, refused)
-refuses_environment first others EnvTextError.SelfLink refused = (first, others, refl, refused)
-refuses_environment first others EnvTextError.BadAmount refused = (first, others, refl, refused)
-refuses_environment first others EnvTextError.RepeatedEntry refused = (first, others, refl, refused)
+refuses_environment first others EnvTextError.NotMap refused = (refl, (first, others, refl, refused))
+refuses_environment first others EnvTextError.UnknownKey refused = (refl, (first, others, refl, refused))
+refuses_environment first others EnvTextError.MissingNodes refused = (refl, (first, others, refl, refused))
+refuses_environment first others EnvTextError.BadEntry refused = (refl, (first, others, refl, refused))
+refuses_environment first others EnvTextError.NoNodes refused = (refl, (first, others, refl, refused))
+refuses_environment first others EnvTextError.TooManyNodes refused = (refl, (first, others, refl, refused))
+refuses_environment first others EnvTextError.BadName refused = (refl, (first, others, refl, refused))
+refuses_environment first others EnvTextError.DuplicateName refused = (refl, (first, others, refl, refused))
+refuses_environment first others EnvTextError.UnknownNode refused = (refl, (first, others, refl, refused))
+refuses_environment first others EnvTextError.SelfLink refused = (refl, (first, others, refl, refused))
+refuses_environment first others EnvTextError.BadAmount refused = (refl, (first, others, refl, refused))
+refuses_environment first others EnvTextError.RepeatedEntry refused = (refl, (first, others, refl, refused))
 refuses_environment first others EnvTextError.OutOfMemory refused = tt
 
 -- values of which the first is no environment

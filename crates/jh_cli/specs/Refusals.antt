@@ -11,6 +11,7 @@ use Rattle.jh_nemesis.specs.StepText.{step_told}
 use Rattle.jh_nemesis.specs.declared.steps.Step.{Step}
 use Rattle.jh_nemesis.specs.declared.texts.StepTextError.{StepTextError}
 use Rattle.jh_cli.specs.EnvText.{IsEnvTextOf}
+use Rattle.jh_cli.specs.Status.{edn_fault, environment_fault}
 use Rattle.jh_cli.specs.declared.error.CliError.{CliError}
 use Rattle.jh_cli.specs.declared.error.CliError.TheVariants.{Input, EnvironmentMissing, Environment, Element, Read, Write, OutOfMemory}
 
@@ -35,11 +36,13 @@ RefusesSteps names values (Element place fault) = HasFault names values place fa
 RefusesSteps names values OutOfMemory = Unit {0}
 RefusesSteps names values _ = ⊥
 
--- why values are refused
+-- Why values are refused. Want of memory has a name of its own, wherever it came.
 abbrev pub RefusesValues : List Edn → CliError → Type 0
 RefusesValues values (Input fault) = ⊥
 RefusesValues values EnvironmentMissing = values ≡ []
-RefusesValues values (Environment fault) = (first : Edn) × (others : List Edn) × (values ≡ first ∷ others) × env.RefusesText first fault
+RefusesValues values (Environment fault) =
+    (environment_fault fault ≡ Environment fault)
+    × ((first : Edn) × (others : List Edn) × (values ≡ first ∷ others) × env.RefusesText first fault)
 RefusesValues values (Element place fault) =
     (first : Edn) × (others : List Edn) × (names : List (List ℕ)) × (start : Table) × (values ≡ first ∷ others)
     × IsTextOf first names start × HasFault names others place fault
@@ -47,10 +50,10 @@ RefusesValues values Read = ⊥
 RefusesValues values Write = ⊥
 RefusesValues values OutOfMemory = Unit {0}
 
--- Why an input is refused: for its text, or for the values that it spells. A writer fails only with what is written for a
--- good input; a reader or memory may fail with any.
+-- Why an input is refused: for its text, or for the values that it spells. A failed read and want of memory have names of
+-- their own and may come with any input; a failed write comes only where there is something to write.
 abbrev pub RefusesInput : List ℕ → CliError → Type 0
-RefusesInput input (Input fault) = edn.RefusesText input fault
+RefusesInput input (Input fault) = (edn_fault fault ≡ Input fault) × edn.RefusesText input fault
 RefusesInput input EnvironmentMissing = (values : List Edn) × SpellsAll values input × RefusesValues values EnvironmentMissing
 RefusesInput input (Environment fault) = (values : List Edn) × SpellsAll values input × RefusesValues values (Environment fault)
 RefusesInput input (Element place fault) = (values : List Edn) × SpellsAll values input × RefusesValues values (Element place fault)
