@@ -8,9 +8,8 @@ mod words;
 use crate::words::{parse, status_of_refusal};
 use clap::ArgMatches;
 use jh_cli::CliError;
-use std::env;
-use std::io;
 use std::process::ExitCode;
+use std::{env, io};
 
 /// Says on standard error why a command ended early, and gives its status.
 fn failed(rt: &impl Eprint, error: CliError) -> u8 {

@@ -17,8 +17,9 @@ pub const REFUSED: u8 = 3;
 
 /// The commands and their options.
 fn command_line<'a>(alloc: Global) -> Result<Command<'a>, Error> {
-    let env = Command::new(alloc, "env")
-        .about("Applies fault steps to an environment, both read from standard input as EDN");
+    let env = Command::new(alloc, "env").about(
+        "Applies fault steps to an environment, both read from standard input as EDN",
+    );
     let jeprun = Command::new(alloc, "jeprun")
         .about("A test harness for databases, over a simulated cluster under faults")
         .subcommand_required(true)
