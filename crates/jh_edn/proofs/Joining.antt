@@ -1,18 +1,15 @@
 -- Elements read one by one are the elements of the whole text.
-use Rattle.std.proofs.Common.{◌≡◌, ℕ, ◌+◌, ◌<◌, List, [], ◌∷◌, ◌++◌, length, drop, refl, sym, ap, subst, ◌∙◌, append_assoc, arith}
+use Rattle.std.proofs.Common.{◌≡◌, ℕ, ◌-◌, List, [], ◌∷◌, ◌++◌, length, drop, refl, sym, ap, subst, ◌∙◌, append_assoc}
 use Rattle.std.specs.Str.{IsUtf8}
-use Rattle.std.proofs.lemmas.List.{append-nil, drop_at, length-append}
-use Rattle.std.proofs.Math.Seq.{drop-drop}
+use Rattle.std.proofs.lemmas.List.{append-nil}
 use Rattle.jh_edn.specs.declared.error.EdnError.{EdnError}
 use Rattle.jh_edn.specs.declared.fault.Kind.{Kind}
 use Rattle.jh_edn.specs.declared.fault.Kind.TheVariants.{UnexpectedEnd, BadToken, FloatUnsupported, IntegerRange, BadEscape, OddMap, DuplicateKey, TooDeep}
 use Rattle.jh_edn.specs.Edn.{Edn}
-use Rattle.jh_edn.specs.Bytes.{is_space, leading}
-use Rattle.jh_edn.specs.Spelling.{IsGap, Spells, depth_limit, SpellsAll, Reads, NothingReads}
-use Rattle.jh_edn.specs.Reading.{after_gap, error_at, FirstFault, line_at, Reached, FaultBehind}
+use Rattle.jh_edn.specs.Spelling.{IsGap, SpellsAll, Reads, NothingReads}
+use Rattle.jh_edn.specs.Reading.{error_at, FirstFault, line_at, Reached, FaultBehind}
 use Rattle.jh_edn.specs.Refused.{SpellsNothing, RefusesText, IsFirstFault}
-use Rattle.jh_edn.proofs.Complete.{spells_start, gap_off, one_form}
-use Rattle.jh_edn.proofs.Whole.{no_gap}
+use Rattle.jh_edn.proofs.Whole.{no_gap, one_next, made}
 
 -- whatever the rest is spelled as, these stand before it
 abbrev pub Before : List Edn → List ℕ → ℕ → Type 0
@@ -28,53 +25,31 @@ before_none text = λ ys h. h
 pub behind_none : (text : List ℕ) → Behind [] text 0
 behind_none text = λ ys h. (ys, refl, h)
 
-rest_is : (text : List ℕ) (at : ℕ) (x : Edn) (end : ℕ) → (r : Reads text at x end) → drop end text ≡ r.rest
-rest_is text at x end r =
-    let k : end ≡ at + length (r.gap ++ r.spelling) = omega (arith, r.place, length-append r.gap r.spelling) in
-    ap (λ n. drop n text) k ∙ sym (simp drop-drop) ∙ ap (drop (length (r.gap ++ r.spelling))) (r.parts ∙ sym (append_assoc r.gap r.spelling r.rest)) ∙ drop_at (r.gap ++ r.spelling) r.rest (length (r.gap ++ r.spelling)) refl
-
 pub before_more : (xs : List Edn) (text : List ℕ) (at : ℕ) (x : Edn) (end : ℕ) → Before xs text at → Reads text at x end → Before (xs ++ x ∷ []) text end
-before_more xs text at x end h r = λ ys rest.
-    let here : SpellsAll (x ∷ ys) (drop at text) = (r.gap, r.spelling, r.rest, r.parts, r.is_gap, r.spells, r.apart, subst (SpellsAll ys) (rest_is text at x end r) rest) in
-    subst (λ (w : List Edn). SpellsAll w text) (sym (append_assoc xs (x ∷ []) ys)) (h (x ∷ ys) here)
+before_more xs text at x end h r = λ ys rest. subst (λ (w : List Edn). SpellsAll w text) (sym (append_assoc xs (x ∷ []) ys)) (h (x ∷ ys) (drop end text, r.1, rest))
 
 pub before_all : (xs : List Edn) (text : List ℕ) (at : ℕ) → Before xs text at → IsGap (drop at text) → SpellsAll xs text
 before_all xs text at h g = subst (λ (w : List Edn). SpellsAll w text) (append-nil xs) (h [] g)
 
--- behind the gap stands the element, and it is not empty
-pub record Stands (s spelling rest : List ℕ) : Type 0 where
-  pub is : after_gap s ≡ spelling ++ rest
-  pub some : 0 < length (after_gap s)
-
-stands : (s gap spelling rest : List ℕ) (x : Edn) → s ≡ gap ++ (spelling ++ rest) → IsGap gap → Spells depth_limit x spelling → Stands s spelling rest
-stands s gap spelling rest x parts g h =
-    let begin = (spells_start depth_limit x spelling h).0 in
-    let unspaced : leading is_space (spelling ++ rest) ≡ 0 = rw (begin.is, begin.no_space) refl in
-    let here : after_gap s ≡ spelling ++ rest = ap after_gap parts ∙ gap_off gap (spelling ++ rest) g unspaced in
-    record { is = here; some = omega (arith, ap length here, length-append spelling rest, ap length begin.is) }
-
 -- what is read next is the first of the values spelled
 shed : (text : List ℕ) (at : ℕ) (x : Edn) (end : ℕ) → Reads text at x end → (zs : List Edn) → SpellsAll zs (drop at text) → (rest : List Edn) × (zs ≡ x ∷ rest) × SpellsAll rest (drop end text)
-shed text at x end r [] h = absurd (no_gap (drop at text) (stands (drop at text) r.gap r.spelling r.rest x r.parts r.is_gap r.spells).some h)
+shed text at x end r [] h = absurd (no_gap (drop at text) x (drop end text) r.1 h)
 shed text at x end r (z ∷ zs) h =
-    let here = stands (drop at text) r.gap r.spelling r.rest x r.parts r.is_gap r.spells in
-    let there = stands (drop at text) h.0 h.1 h.2 z h.3 h.4 h.5 in
-    let p = one_form depth_limit z x h.1 r.spelling h.2 r.rest h.5 h.6 r.spells r.apart (sym there.is ∙ here.is) in
-    (zs, λ i. p.0 i ∷ zs, subst (SpellsAll zs) (p.1 ∙ sym (rest_is text at x end r)) h.7)
+    let p = one_next (drop at text) z x h.0 (drop end text) h.1 r.1 in
+    (zs, λ i. p.0 i ∷ zs, subst (SpellsAll zs) p.1 h.2)
 
 pub behind_more : (xs : List Edn) (text : List ℕ) (at : ℕ) (x : Edn) (end : ℕ) → Behind xs text at → Reads text at x end → Behind (xs ++ x ∷ []) text end
-behind_more xs text at x end h r = λ ys whole.
-    let p = h ys whole in
+behind_more xs text at x end h r = λ ys spelled.
+    let p = h ys spelled in
     let q = shed text at x end r p.0 p.2 in
     (q.0, p.1 ∙ ap (λ (w : List Edn). xs ++ w) q.1 ∙ sym (append_assoc xs (x ∷ []) q.0), q.2)
 
 nothing_spelled : (text : List ℕ) (at : ℕ) → NothingReads text at → (zs : List Edn) → SpellsAll zs (drop at text) → ⊥
 nothing_spelled text at h [] s = h.0 s
-nothing_spelled text at h (z ∷ zs) s =
-    h.1 z (at + length s.0 + length s.1) (record { gap = s.0; spelling = s.1; rest = s.2; parts = s.3; is_gap = s.4; spells = s.5; apart = s.6; place = refl })
+nothing_spelled text at h (z ∷ zs) s = h.1 z (length text - length s.0) (made text at z s.0 s.1)
 
 pub spells_nothing : (xs : List Edn) (text : List ℕ) (at : ℕ) → IsUtf8 text → Behind xs text at → NothingReads text at → SpellsNothing text
-spells_nothing xs text at utf8 behind h = (utf8, λ ys whole. let p = behind ys whole in nothing_spelled text at h p.0 p.2)
+spells_nothing xs text at utf8 behind h = (utf8, λ ys spelled. let p = behind ys spelled in nothing_spelled text at h p.0 p.2)
 
 refuses_at : (text : List ℕ) (kind : Kind) (line : ℕ) → SpellsNothing text → RefusesText text (error_at kind line)
 refuses_at text UnexpectedEnd line h = h
@@ -107,11 +82,9 @@ first_behind text at e reached f =
 -- a text spells at most one list of values
 pub once : (text : List ℕ) (xs ys : List Edn) → SpellsAll xs text → SpellsAll ys text → xs ≡ ys
 once text [] [] h k = refl
-once text [] (y ∷ ys) h k = absurd (no_gap text (stands text k.0 k.1 k.2 y k.3 k.4 k.5).some h)
-once text (x ∷ xs) [] h k = absurd (no_gap text (stands text h.0 h.1 h.2 x h.3 h.4 h.5).some k)
+once text [] (y ∷ ys) h k = absurd (no_gap text y k.0 k.1 h)
+once text (x ∷ xs) [] h k = absurd (no_gap text x h.0 h.1 k)
 once text (x ∷ xs) (y ∷ ys) h k =
-    let here = stands text h.0 h.1 h.2 x h.3 h.4 h.5 in
-    let there = stands text k.0 k.1 k.2 y k.3 k.4 k.5 in
-    let p = one_form depth_limit x y h.1 k.1 h.2 k.2 h.5 h.6 k.5 k.6 (sym here.is ∙ there.is) in
-    let below = once h.2 xs ys h.7 (subst (SpellsAll ys) (sym p.1) k.7) in
+    let p = one_next text x y h.0 k.0 h.1 k.1 in
+    let below = once h.0 xs ys h.2 (subst (SpellsAll ys) (sym p.1) k.2) in
     λ i. p.0 i ∷ below i

@@ -1,9 +1,18 @@
--- A key's list, built piece by piece.
+-- Keys, built one by one.
 use Rattle.std.proofs.Common.{◌≡◌, ℕ, zero, suc, ◌+◌, ◌<◌, List, [], ◌∷◌, ◌++◌, length, take, get_or, map, refl, ap, arith}
-use Rattle.jh_edn.specs.Edn.{members_of}
-use Rattle.jh_edn.specs.Key.{key_of, pair_keys}
-use Rattle.jh_edn.specs.View.{view, view_pairs}
+use Rattle.jh_edn.specs.Edn.{items_of, members_of}
+use Rattle.jh_edn.specs.Key.{KeyPart, key_of, item_keys, pair_keys}
+use Rattle.jh_edn.specs.View.{view, views, view_pairs}
 use Rattle.jh_edn.specs.declared.value.Value.{Value}
+
+-- one element more
+pub item_keys_push : (vs : List Value) (i : ℕ) (d : Value) → i < length vs
+    → item_keys (items_of (views (take (i + 1) vs))) ≡ item_keys (items_of (views (take i vs))) ++ key_of (view (get_or vs i d)) ∷ []
+item_keys_push [] i d h = absurd (omega arith)
+item_keys_push (v ∷ vs) zero d h = refl
+item_keys_push (v ∷ vs) (suc i) d h =
+    let k : suc i + 1 ≡ suc (i + 1) = omega arith in
+    rw k (ap (λ (w : List (List KeyPart)). key_of (view v) ∷ w) (item_keys_push vs i d (omega arith)))
 
 -- one pair more
 pub pair_keys_push : (ps : List (Value × Value)) (i : ℕ) (d : Value × Value) → i < length ps
@@ -12,9 +21,9 @@ pair_keys_push [] i d h = absurd (omega arith)
 pair_keys_push (p ∷ ps) zero d h = refl
 pair_keys_push (p ∷ ps) (suc i) d h =
     let k : suc i + 1 ≡ suc (i + 1) = omega arith in
-    rw k (ap (λ (w : List (List ℕ)). (key_of (view p.0) ++ key_of (view p.1)) ∷ w) (pair_keys_push ps i d (omega arith)))
+    rw k (ap (λ (w : List (List KeyPart)). (key_of (view p.0) ++ key_of (view p.1)) ∷ w) (pair_keys_push ps i d (omega arith)))
 
--- the lists of the keys that a program holds
+-- the keys of the keys that a program holds
 pub keys_seen : (ps : List (Value × Value)) → map (λ p. key_of (view p.0)) ps ≡ map (λ m. key_of m.0) (view_pairs ps)
 keys_seen [] = refl
-keys_seen (p ∷ ps) = ap (λ (w : List (List ℕ)). key_of (view p.0) ∷ w) (keys_seen ps)
+keys_seen (p ∷ ps) = ap (λ (w : List (List KeyPart)). key_of (view p.0) ∷ w) (keys_seen ps)

@@ -1,207 +1,338 @@
 -- Two values have one key exactly where they are equal.
-use Rattle.std.proofs.Common.{◌≡◌, ℕ, ◌+◌, ◌<◌, inl, inr, Bool, true, false, cond, eqb, List, [], ◌∷◌, ◌++◌, get_or, map, refl, sym, ap, ◌∙◌, append_assoc, arith}
-use Rattle.std.specs.Prelude.{ℤ, pos, negsuc, ◌||◌}
-use Rattle.std.specs.Cmp.Lexicographic.{bytes_decides}
-use Rattle.std.specs.Str.{bytes_eq}
+use Rattle.std.proofs.Common.{◌≡◌, ℕ, suc, ◌+◌, ◌<◌, inl, inr, Bool, true, false, cond, eqb, List, [], ◌∷◌, ◌++◌, get_or, map, refl, sym, ap, ◌∙◌, append_assoc, arith}
+use Rattle.std.specs.Prelude.{ℤ, pos, ◌||◌}
+use Rattle.std.specs.Ordering.{is_eq}
+use Rattle.std.specs.List.Sorted.{ties}
 use Rattle.std.proofs.lemmas.Bool.{eqb-false}
-use Rattle.jh_edn.specs.Edn.{Edn, int, str, keyword, vector, mapping, Items, no_items, item, Members, no_members, member, members_of}
-use Rattle.jh_edn.specs.Equality.{Picks, Equals, EqualItems, EqualMembers, IsNewKey, KeysDiffer}
-use Rattle.jh_edn.specs.Key.{more_mark, int_kind, str_kind, keyword_kind, vector_kind, mapping_kind, integer_key, text_key, marked_keys, in_order, key_of, items_key, pair_keys, is_in, has_twice_after}
-use Rattle.jh_edn.specs.Reading.{repeats_key}
-use Rattle.jh_edn.proofs.Sorting.{count, one_order, in_order_ascends, in_order_count, own, self, Each, in_order_each}
+use Rattle.jh_edn.specs.declared.key.Mark.TheVariants as mark
+use Rattle.jh_edn.specs.Edn.{Edn, nil, boolean, int, char, str, keyword, symbol, list, vector, mapping, set, tagged, Items, no_items, item, items_of, Members, no_members, member, members_of}
+use Rattle.jh_edn.specs.Equality.{IsSequence, Takes, Picks, Equals, EqualItems, EqualElements, EqualMembers, IsNew, Differ, keys_of, KeysDiffer}
+use Rattle.jh_edn.specs.Order.{in_order, kind_of}
+use Rattle.jh_edn.specs.Key.{KeyPart, bare, numbered, texted, mark_place, key_cmp, is_key_below, marked_keys, key_of, item_keys, pair_keys, is_in, has_twice_after}
+use Rattle.jh_edn.specs.Reading.{repeats_key, repeats_element}
+use Rattle.jh_edn.proofs.Sorting as sorting
+use Rattle.jh_edn.proofs.KeyOrder.{key_order, ties_exact, same_is, same_itself}
 use Rattle.jh_edn.proofs.Twice.{is_in-push}
+
+abbrev pub Key : Type 0
+Key = List KeyPart
+
+-- 1 where the two are one key
+abbrev one : Key → Key → ℕ
+one z w = cond (ties is_key_below z w) 1 0
+
+abbrev pub count : Key → List Key → ℕ
+count = sorting.count is_key_below key_order
+
+abbrev pub sorted : List Key → List Key
+sorted = in_order is_key_below
+
+-- lists of keys with the same counts have one order
+pub same_order : (ks ls : List Key) → ((z : Key) → count z ks ≡ count z ls) → sorted ks ≡ sorted ls
+same_order ks ls h =
+    sorting.one_order is_key_below key_order ties_exact (sorted ks) (sorted ls) (sorting.in_order_ascends is_key_below key_order ks) (sorting.in_order_ascends is_key_below key_order ls)
+    (λ z. sorting.in_order_count is_key_below key_order z ks ∙ h z ∙ sym (sorting.in_order_count is_key_below key_order z ls))
 
 -- ---- equal values have one key
 
-picked_count : (z : List ℕ) (key value : Edn) (ns others : Members) → Picks key value ns others
-    → count z (pair_keys ns) ≡ cond (bytes_eq z (key_of key ++ key_of value)) 1 0 + count z (pair_keys others)
+taken_count : (z : Key) (x : Edn) (ys others : Items) → Takes x ys others → count z (item_keys ys) ≡ one z (key_of x) + count z (item_keys others)
+taken_count z x no_items others h = absurd h
+taken_count z x (item y ys) others h =
+    elim h [
+      | inl p ↦ rw (p.0, p.1) refl
+      | inr p ↦
+          let below = taken_count z x ys p.0 p.2 in
+          let same : count z (item_keys others) ≡ one z (key_of y) + count z (item_keys p.0) = ap (λ w. count z (item_keys w)) p.1 in
+          omega (arith, below, same)
+    ]
+
+picked_count : (z : Key) (key value : Edn) (ns others : Members) → Picks key value ns others
+    → count z (pair_keys ns) ≡ one z (key_of key ++ key_of value) + count z (pair_keys others)
 picked_count z key value no_members others h = absurd h
 picked_count z key value (member k v ns) others h =
-    let one : List ℕ → ℕ = λ w. cond (bytes_eq z w) 1 0 in
     elim h [
       | inl p ↦ rw (p.0, p.1, p.2) refl
       | inr p ↦
           let below = picked_count z key value ns p.0 p.2 in
-          let same : count z (pair_keys others) ≡ one (key_of k ++ key_of v) + count z (pair_keys p.0) = ap (λ w. count z (pair_keys w)) p.1 in
+          let same : count z (pair_keys others) ≡ one z (key_of k ++ key_of v) + count z (pair_keys p.0) = ap (λ w. count z (pair_keys w)) p.1 in
           omega (arith, below, same)
     ]
 
+abbrev sequence : List Key → Key
+sequence ks = bare mark.Sequence ∷ marked_keys ks
+
+sequence_key : (y : Edn) (ys : Items) → IsSequence y ys → sequence (item_keys ys) ≡ key_of y
+sequence_key y ys h = elim h [ inl p ↦ ap key_of (sym p) | inr p ↦ ap key_of (sym p) ]
+
 mutual
   pub same_key : (x y : Edn) → Equals x y → key_of x ≡ key_of y
+  same_key nil y h = ap key_of (sym h)
+  same_key (boolean b) y h = ap key_of (sym h)
   same_key (int z) y h = ap key_of (sym h)
+  same_key (char c) y h = ap key_of (sym h)
   same_key (str s) y h = ap key_of (sym h)
   same_key (keyword s) y h = ap key_of (sym h)
-  same_key (vector xs) y h = ap (λ w. vector_kind ∷ w) (same_items xs h.0 h.2) ∙ ap key_of (sym h.1)
+  same_key (symbol s) y h = ap key_of (sym h)
+  same_key (list xs) y h = ap sequence (same_items xs h.0 h.2) ∙ sequence_key y h.0 h.1
+  same_key (vector xs) y h = ap sequence (same_items xs h.0 h.2) ∙ sequence_key y h.0 h.1
   same_key (mapping ms) y h =
-      let order = one_order (in_order (pair_keys ms)) (in_order (pair_keys h.0)) (in_order_ascends (pair_keys ms)) (in_order_ascends (pair_keys h.0))
-      (λ z. in_order_count z (pair_keys ms) ∙ same_members ms h.0 h.2 z ∙ sym (in_order_count z (pair_keys h.0))) in
-      ap (λ w. mapping_kind ∷ marked_keys w) order ∙ ap key_of (sym h.1)
+      ap (λ w. bare mark.Map ∷ marked_keys w) (same_order (pair_keys ms) (pair_keys h.0) (same_members ms h.0 h.2)) ∙ ap key_of (sym h.1)
+  same_key (set xs) y h =
+      ap (λ w. bare mark.Set ∷ marked_keys w) (same_order (item_keys xs) (item_keys h.0) (same_elements xs h.0 h.2)) ∙ ap key_of (sym h.1)
+  same_key (tagged tag x) y h = ap (λ w. texted mark.Tagged tag ∷ w) (same_key x h.0 h.2) ∙ ap key_of (sym h.1)
 
-  same_items : (xs ys : Items) → EqualItems xs ys → items_key xs ≡ items_key ys
-  same_items no_items ys h = ap items_key (sym h)
-  same_items (item x xs) ys h =
-      (λ i. more_mark ∷ (same_key x h.0 h.3 i ++ same_items xs h.1 h.4 i)) ∙ ap items_key (sym h.2)
+  same_items : (xs ys : Items) → EqualItems xs ys → item_keys xs ≡ item_keys ys
+  same_items no_items ys h = ap item_keys (sym h)
+  same_items (item x xs) ys h = (λ i. same_key x h.0 h.3 i ∷ same_items xs h.1 h.4 i) ∙ ap item_keys (sym h.2)
 
-  same_members : (ms ns : Members) → EqualMembers ms ns → (z : List ℕ) → count z (pair_keys ms) ≡ count z (pair_keys ns)
+  same_elements : (xs ys : Items) → EqualElements xs ys → (z : Key) → count z (item_keys xs) ≡ count z (item_keys ys)
+  same_elements no_items ys h z = ap (λ w. count z (item_keys w)) (sym h)
+  same_elements (item x xs) ys h z =
+      let head : one z (key_of x) ≡ one z (key_of h.0) = ap (one z) (same_key x h.0 h.3) in
+      omega (arith, head, same_elements xs h.1 h.4 z, taken_count z h.0 ys h.1 h.2)
+
+  same_members : (ms ns : Members) → EqualMembers ms ns → (z : Key) → count z (pair_keys ms) ≡ count z (pair_keys ns)
   same_members no_members ns h z = ap (λ w. count z (pair_keys w)) (sym h)
   same_members (member k v ms) ns h z =
-      let one : List ℕ → ℕ = λ w. cond (bytes_eq z w) 1 0 in
-      let head : one (key_of k ++ key_of v) ≡ one (key_of h.0 ++ key_of h.1) = λ i. one (same_key k h.0 h.4 i ++ same_key v h.1 h.5 i) in
+      let head : one z (key_of k ++ key_of v) ≡ one z (key_of h.0 ++ key_of h.1) = λ i. one z (same_key k h.0 h.4 i ++ same_key v h.1 h.5 i) in
       omega (arith, head, same_members ms h.2 h.6 z, picked_count z h.0 h.1 ns h.2 h.3)
 
 -- ---- values with one key are equal, and a key ends by itself
 
 abbrev pub Splits : Edn → Type 0
-Splits x = (y : Edn) (r s : List ℕ) → key_of x ++ r ≡ key_of y ++ s → Equals x y × (r ≡ s)
+Splits x = (y : Edn) (r s : Key) → key_of x ++ r ≡ key_of y ++ s → Equals x y × (r ≡ s)
+
+abbrev SplitItems : Items → Type 0
+SplitItems no_items = Unit {0}
+SplitItems (item x xs) = Splits x × SplitItems xs
 
 abbrev SplitMembers : Members → Type 0
 SplitMembers no_members = Unit {0}
 SplitMembers (member k v ms) = Splits k × Splits v × SplitMembers ms
 
-integer_split : (z w : ℤ) (r s : List ℕ) → integer_key z ++ r ≡ integer_key w ++ s → (z ≡ w) × (r ≡ s)
-integer_split (pos n) (pos m) r s e = (let same : n ≡ m = cc in ap pos same, cc)
-integer_split (pos n) (negsuc m) r s e = absurd cc
-integer_split (negsuc n) (pos m) r s e = absurd cc
-integer_split (negsuc n) (negsuc m) r s e = (let same : n ≡ m = cc in ap negsuc same, cc)
+-- this key ends by itself: what begins like it and with one of P begins with that one
+abbrev Free : (Key → Type 0) → Key → Type 0
+Free P a = (b : Key) → P b → (r s : Key) → a ++ r ≡ b ++ s → (a ≡ b) × (r ≡ s)
 
-text_split : (a b r s : List ℕ) → text_key a ++ r ≡ text_key b ++ s → (a ≡ b) × (r ≡ s)
-text_split [] [] r s e = (refl, cc)
-text_split [] (d ∷ b) r s e = absurd cc
-text_split (c ∷ a) [] r s e = absurd cc
-text_split (c ∷ a) (d ∷ b) r s e =
-    let first : c ≡ d = cc in
-    let rest : text_key a ++ r ≡ text_key b ++ s = cc in
-    let below = text_split a b r s rest in
-    (λ i. first i ∷ below.0 i, below.1)
+abbrev IsElement : Key → Type 0
+IsElement b = (y : Edn) × (b ≡ key_of y)
 
--- what begins like this list and a pair's key is this list
-abbrev Free : List ℕ → Type 0
-Free a = (k v : Edn) (r s : List ℕ) → a ++ r ≡ (key_of k ++ key_of v) ++ s → (a ≡ key_of k ++ key_of v) × (r ≡ s)
-
-abbrev IsPair : List ℕ → Type 0
+abbrev IsPair : Key → Type 0
 IsPair b = (k : Edn) × (v : Edn) × (b ≡ key_of k ++ key_of v)
 
-marked_split : (xs bs : List (List ℕ)) (r s : List ℕ) → Each Free xs → Each IsPair bs → marked_keys xs ++ r ≡ marked_keys bs ++ s → (xs ≡ bs) × (r ≡ s)
-marked_split [] [] r s h k e = (refl, cc)
-marked_split [] (b ∷ bs) r s h k e = absurd cc
-marked_split (a ∷ xs) [] r s h k e = absurd cc
-marked_split (a ∷ xs) (b ∷ bs) r s h k e =
-    let p = k.0 in
-    let tails : (a ++ marked_keys xs) ++ r ≡ (b ++ marked_keys bs) ++ s = cc in
-    let parts : a ++ (marked_keys xs ++ r) ≡ (key_of p.0 ++ key_of p.1) ++ (marked_keys bs ++ s) =
-    sym (append_assoc a (marked_keys xs) r) ∙ tails ∙ append_assoc b (marked_keys bs) s ∙ ap (λ (w : List ℕ). w ++ (marked_keys bs ++ s)) p.2 in
-    let head = h.0 p.0 p.1 (marked_keys xs ++ r) (marked_keys bs ++ s) parts in
-    let below = marked_split xs bs r s h.1 k.1 head.1 in
-    let first : a ≡ b = head.0 ∙ sym p.2 in
-    (λ i. first i ∷ below.0 i, below.1)
+abbrev Each : (Key → Type 0) → List Key → Type 0
+Each = sorting.Each is_key_below key_order
 
-pair_free : (k v : Edn) → Splits k → Splits v → Free (key_of k ++ key_of v)
-pair_free k v split_k split_v l w r s e =
-    let parts : key_of k ++ (key_of v ++ r) ≡ key_of l ++ (key_of w ++ s) = sym (append_assoc (key_of k) (key_of v) r) ∙ e ∙ append_assoc (key_of l) (key_of w) s in
+marked_split : (P : Key → Type 0) (ks ls : List Key) (r s : Key) → Each (Free P) ks → Each P ls → marked_keys ks ++ r ≡ marked_keys ls ++ s → (ks ≡ ls) × (r ≡ s)
+marked_split P [] [] r s h k e = (refl, cc)
+marked_split P [] (b ∷ ls) r s h k e = absurd (let bad : bare mark.Last ≡ bare mark.More = cc in let places : 0 ≡ 1 = ap (λ p. mark_place p.mark) bad in cc)
+marked_split P (a ∷ ks) [] r s h k e = absurd (let bad : bare mark.More ≡ bare mark.Last = cc in let places : 1 ≡ 0 = ap (λ p. mark_place p.mark) bad in cc)
+marked_split P (a ∷ ks) (b ∷ ls) r s h k e =
+    let tails : (a ++ marked_keys ks) ++ r ≡ (b ++ marked_keys ls) ++ s = cc in
+    let parts : a ++ (marked_keys ks ++ r) ≡ b ++ (marked_keys ls ++ s) = sym (append_assoc a (marked_keys ks) r) ∙ tails ∙ append_assoc b (marked_keys ls) s in
+    let head = h.0 b k.0 (marked_keys ks ++ r) (marked_keys ls ++ s) parts in
+    let below = marked_split P ks ls r s h.1 k.1 head.1 in
+    (λ i. head.0 i ∷ below.0 i, below.1)
+
+element_free : (x : Edn) → Splits x → Free IsElement (key_of x)
+element_free x split_x b is r s e =
+    let p = split_x is.0 r s (e ∙ ap (λ (w : Key). w ++ s) is.1) in
+    (same_key x is.0 p.0 ∙ sym is.1, p.1)
+
+elements_free : (xs : Items) → SplitItems xs → Each (Free IsElement) (item_keys xs)
+elements_free no_items h = tt
+elements_free (item x xs) h = (element_free x h.0, elements_free xs h.1)
+
+are_elements : (xs : Items) → Each IsElement (item_keys xs)
+are_elements no_items = tt
+are_elements (item x xs) = ((x, refl), are_elements xs)
+
+pair_free : (k v : Edn) → Splits k → Splits v → Free IsPair (key_of k ++ key_of v)
+pair_free k v split_k split_v b is r s e =
+    let l = is.0 in
+    let w = is.1 in
+    let parts : key_of k ++ (key_of v ++ r) ≡ key_of l ++ (key_of w ++ s) =
+    sym (append_assoc (key_of k) (key_of v) r) ∙ e ∙ ap (λ (u : Key). u ++ s) is.2 ∙ append_assoc (key_of l) (key_of w) s in
     let first = split_k l (key_of v ++ r) (key_of w ++ s) parts in
     let second = split_v w r s first.1 in
-    (λ i. same_key k l first.0 i ++ same_key v w second.0 i, second.1)
+    ((λ i. same_key k l first.0 i ++ same_key v w second.0 i) ∙ sym is.2, second.1)
 
-members_free : (ms : Members) → SplitMembers ms → Each Free (pair_keys ms)
-members_free no_members h = tt
-members_free (member k v ms) h = (pair_free k v h.0 h.1, members_free ms h.2)
+pairs_free : (ms : Members) → SplitMembers ms → Each (Free IsPair) (pair_keys ms)
+pairs_free no_members h = tt
+pairs_free (member k v ms) h = (pair_free k v h.0 h.1, pairs_free ms h.2)
 
-members_pairs : (ms : Members) → Each IsPair (pair_keys ms)
-members_pairs no_members = tt
-members_pairs (member k v ms) = ((k, v, refl), members_pairs ms)
+are_pairs : (ms : Members) → Each IsPair (pair_keys ms)
+are_pairs no_members = tt
+are_pairs (member k v ms) = ((k, v, refl), are_pairs ms)
+
+-- an element with this key, and the others
+abbrev FoundElement : Key → Items → Type 0
+FoundElement z ys = (y : Edn) × (others : Items) × Takes y ys others × (z ≡ key_of y)
+
+find_element : (z : Key) (ys : Items) → 0 < count z (item_keys ys) → FoundElement z ys
+find_element z no_items less = absurd (omega arith)
+find_element z (item y ys) less =
+    elim (ties is_key_below z (key_of y)) as (λ b. ties is_key_below z (key_of y) ≡ b → 0 < cond b 1 0 + count z (item_keys ys) → FoundElement z (item y ys)) [
+      | true ↦ λ e l. (y, ys, inl (refl, refl), ties_exact z (key_of y) e)
+      | false ↦ λ e l. let p = find_element z ys (omega arith) in (p.0, item y p.1, inr (p.1, refl, p.2), p.3)
+    ] refl less
 
 -- a pair with this key, and the others
-abbrev Found : List ℕ → Members → Type 0
-Found z ns = (key : Edn) × (value : Edn) × (others : Members) × Picks key value ns others × (z ≡ key_of key ++ key_of value)
+abbrev FoundPair : Key → Members → Type 0
+FoundPair z ns = (key : Edn) × (value : Edn) × (others : Members) × Picks key value ns others × (z ≡ key_of key ++ key_of value)
 
-find_pair : (z : List ℕ) (ns : Members) → 0 < count z (pair_keys ns) → Found z ns
-find_pair z no_members lt = absurd (omega arith)
-find_pair z (member k v ns) lt =
+find_pair : (z : Key) (ns : Members) → 0 < count z (pair_keys ns) → FoundPair z ns
+find_pair z no_members less = absurd (omega arith)
+find_pair z (member k v ns) less =
     let here = key_of k ++ key_of v in
-    elim (bytes_eq z here) as (λ b. bytes_eq z here ≡ b → 0 < cond b 1 0 + count z (pair_keys ns) → Found z (member k v ns)) [
-      | true ↦ λ e l. (k, v, ns, inl (refl, refl, refl), (bytes_decides z here).0 e)
+    elim (ties is_key_below z here) as (λ b. ties is_key_below z here ≡ b → 0 < cond b 1 0 + count z (pair_keys ns) → FoundPair z (member k v ns)) [
+      | true ↦ λ e l. (k, v, ns, inl (refl, refl, refl), ties_exact z here e)
       | false ↦ λ e l. let p = find_pair z ns (omega arith) in (p.0, p.1, member k v p.2, inr (p.2, refl, p.3), p.4)
-    ] refl lt
+    ] refl less
 
-members_equal : (ms ns : Members) → SplitMembers ms → ((z : List ℕ) → count z (pair_keys ms) ≡ count z (pair_keys ns)) → EqualMembers ms ns
+own : (z : Key) (ks : List Key) → 0 < count z (z ∷ ks)
+own = sorting.own is_key_below key_order
+
+elements_equal : (xs ys : Items) → SplitItems xs → ((z : Key) → count z (item_keys xs) ≡ count z (item_keys ys)) → EqualElements xs ys
+elements_equal no_items no_items h c = refl
+elements_equal no_items (item y ys) h c = absurd (omega (arith, c (key_of y), own (key_of y) (item_keys ys)))
+elements_equal (item x xs) ys h c =
+    let p = find_element (key_of x) ys (omega (arith, c (key_of x), own (key_of x) (item_keys xs))) in
+    let first = h.0 p.0 [] [] (ap (λ (w : Key). w ++ []) p.3) in
+    let others : (z : Key) → count z (item_keys xs) ≡ count z (item_keys p.1) =
+    λ z.
+    let same : one z (key_of x) ≡ one z (key_of p.0) = ap (one z) p.3 in
+    omega (arith, c z, taken_count z p.0 ys p.1 p.2, same) in
+    (p.0, p.1, p.2, first.0, elements_equal xs p.1 h.1 others)
+
+members_equal : (ms ns : Members) → SplitMembers ms → ((z : Key) → count z (pair_keys ms) ≡ count z (pair_keys ns)) → EqualMembers ms ns
 members_equal no_members no_members h c = refl
 members_equal no_members (member k v ns) h c = let here = key_of k ++ key_of v in absurd (omega (arith, c here, own here (pair_keys ns)))
 members_equal (member k v ms) ns h c =
     let here = key_of k ++ key_of v in
     let p = find_pair here ns (omega (arith, c here, own here (pair_keys ms))) in
     let first = h.0 p.0 (key_of v) (key_of p.1) p.4 in
-    let second = h.1 p.1 [] [] (ap (λ (w : List ℕ). w ++ []) first.1) in
-    let others : (z : List ℕ) → count z (pair_keys ms) ≡ count z (pair_keys p.2) =
+    let second = h.1 p.1 [] [] (ap (λ (w : Key). w ++ []) first.1) in
+    let others : (z : Key) → count z (pair_keys ms) ≡ count z (pair_keys p.2) =
     λ z.
-    let one : List ℕ → ℕ = λ w. cond (bytes_eq z w) 1 0 in
-    let same : one here ≡ one (key_of p.0 ++ key_of p.1) = ap one p.4 in
+    let same : one z here ≡ one z (key_of p.0 ++ key_of p.1) = ap (one z) p.4 in
     omega (arith, c z, picked_count z p.0 p.1 ns p.2 p.3, same) in
     (p.0, p.1, p.2, p.3, first.0, second.0, members_equal ms p.2 h.2 others)
 
-maps_split : (ms ns : Members) (r s : List ℕ) → SplitMembers ms → key_of (mapping ms) ++ r ≡ key_of (mapping ns) ++ s → EqualMembers ms ns × (r ≡ s)
+-- what the keys in order are made of, they are made of as they stand
+unsorted : (ks ls : List Key) → sorted ks ≡ sorted ls → (z : Key) → count z ks ≡ count z ls
+unsorted ks ls e z = sym (sorting.in_order_count is_key_below key_order z ks) ∙ ap (count z) e ∙ sorting.in_order_count is_key_below key_order z ls
+
+sets_split : (xs ys : Items) (r s : Key) → SplitItems xs → key_of (set xs) ++ r ≡ key_of (set ys) ++ s → EqualElements xs ys × (r ≡ s)
+sets_split xs ys r s h e =
+    let inner : marked_keys (sorted (item_keys xs)) ++ r ≡ marked_keys (sorted (item_keys ys)) ++ s = cc in
+    let each = sorting.in_order_each is_key_below key_order in
+    let p = marked_split IsElement (sorted (item_keys xs)) (sorted (item_keys ys)) r s (each (Free IsElement) (item_keys xs) (elements_free xs h)) (each IsElement (item_keys ys) (are_elements ys)) inner in
+    (elements_equal xs ys h (unsorted (item_keys xs) (item_keys ys) p.0), p.1)
+
+maps_split : (ms ns : Members) (r s : Key) → SplitMembers ms → key_of (mapping ms) ++ r ≡ key_of (mapping ns) ++ s → EqualMembers ms ns × (r ≡ s)
 maps_split ms ns r s h e =
-    let xs = in_order (pair_keys ms) in
-    let bs = in_order (pair_keys ns) in
-    let inner : marked_keys xs ++ r ≡ marked_keys bs ++ s = cc in
-    let p = marked_split xs bs r s (in_order_each Free (pair_keys ms) (members_free ms h)) (in_order_each IsPair (pair_keys ns) (members_pairs ns)) inner in
-    (members_equal ms ns h (λ z. sym (in_order_count z (pair_keys ms)) ∙ ap (count z) p.0 ∙ in_order_count z (pair_keys ns)), p.1)
+    let inner : marked_keys (sorted (pair_keys ms)) ++ r ≡ marked_keys (sorted (pair_keys ns)) ++ s = cc in
+    let each = sorting.in_order_each is_key_below key_order in
+    let p = marked_split IsPair (sorted (pair_keys ms)) (sorted (pair_keys ns)) r s (each (Free IsPair) (pair_keys ms) (pairs_free ms h)) (each IsPair (pair_keys ns) (are_pairs ns)) inner in
+    (members_equal ms ns h (unsorted (pair_keys ms) (pair_keys ns) p.0), p.1)
 
--- what a value's list begins with
-abbrev kind_of : Edn → ℕ
-kind_of (int z) = int_kind
-kind_of (str a) = str_kind
-kind_of (keyword a) = keyword_kind
-kind_of (vector xs) = vector_kind
-kind_of (mapping ms) = mapping_kind
+abbrev bare_place : Key → ℕ
+bare_place w = mark_place (get_or w 0 (bare mark.Last)).mark
 
-kind_first : (x : Edn) (r : List ℕ) → get_or (key_of x ++ r) 0 0 ≡ kind_of x
+-- a key begins with its value's kind
+kind_first : (x : Edn) (r : Key) → bare_place (key_of x ++ r) ≡ 2 + kind_of x
+kind_first nil r = refl
+kind_first (boolean b) r = refl
 kind_first (int z) r = refl
-kind_first (str a) r = refl
-kind_first (keyword a) r = refl
+kind_first (char c) r = refl
+kind_first (str s) r = refl
+kind_first (keyword s) r = refl
+kind_first (symbol s) r = refl
+kind_first (list xs) r = refl
 kind_first (vector xs) r = refl
 kind_first (mapping ms) r = refl
+kind_first (set xs) r = refl
+kind_first (tagged tag x) r = refl
 
-other_kind : (x y : Edn) (r s : List ℕ) → key_of x ++ r ≡ key_of y ++ s → eqb (kind_of x) (kind_of y) ≡ false → ⊥
-other_kind x y r s e differ = eqb-false (kind_of x) (kind_of y) differ (sym (kind_first x r) ∙ ap (λ (w : List ℕ). get_or w 0 0) e ∙ kind_first y s)
+other_kind : (x y : Edn) (r s : Key) → key_of x ++ r ≡ key_of y ++ s → eqb (kind_of x) (kind_of y) ≡ false → ⊥
+other_kind x y r s e differ = eqb-false (kind_of x) (kind_of y) differ (let same : 2 + kind_of x ≡ 2 + kind_of y = sym (kind_first x r) ∙ ap bare_place e ∙ kind_first y s in omega (arith, same))
+
+abbrev bool_number : Bool → ℤ
+bool_number b = pos (cond b 1 0)
+
+bool_split : (b c : Bool) → bool_number b ≡ bool_number c → b ≡ c
+bool_split true true e = refl
+bool_split true false e = absurd cc
+bool_split false true e = absurd cc
+bool_split false false e = refl
+
+-- the first parts of two keys, and what follows them
+heads : (p q : KeyPart) (r s : Key) → p ∷ r ≡ q ∷ s → (p ≡ q) × (r ≡ s)
+heads p q r s e = (cc, cc)
+
+sequence_tail : (ks ls : List Key) (r s : Key) → sequence ks ++ r ≡ sequence ls ++ s → marked_keys ks ++ r ≡ marked_keys ls ++ s
+sequence_tail ks ls r s e = (heads (bare mark.Sequence) (bare mark.Sequence) (marked_keys ks ++ r) (marked_keys ls ++ s) e).1
 
 mutual
-  pub split : (x y : Edn) (r s : List ℕ) → key_of x ++ r ≡ key_of y ++ s → Equals x y × (r ≡ s)
+  pub split : (x y : Edn) (r s : Key) → key_of x ++ r ≡ key_of y ++ s → Equals x y × (r ≡ s)
+  split nil nil r s e = (refl, (heads (bare mark.Nil) (bare mark.Nil) r s e).1)
+  split (boolean b) (boolean c) r s e =
+      let p = heads (numbered mark.Bool (bool_number b)) (numbered mark.Bool (bool_number c)) r s e in
+      (ap boolean (sym (bool_split b c (ap (λ w. w.number) p.0))), p.1)
   split (int z) (int w) r s e =
-      let inner : integer_key z ++ r ≡ integer_key w ++ s = cc in
-      let p = integer_split z w r s inner in
-      (ap int (sym p.0), p.1)
+      let p = heads (numbered mark.Int z) (numbered mark.Int w) r s e in
+      (ap int (sym (ap (λ w. w.number) p.0)), p.1)
+  split (char c) (char d) r s e =
+      let p = heads (numbered mark.Char (pos c)) (numbered mark.Char (pos d)) r s e in
+      let same : pos c ≡ pos d = ap (λ w. w.number) p.0 in
+      let codes : c ≡ d = cc in
+      (ap char (sym codes), p.1)
   split (str a) (str b) r s e =
-      let inner : text_key a ++ r ≡ text_key b ++ s = cc in
-      let p = text_split a b r s inner in
-      (ap str (sym p.0), p.1)
+      let p = heads (texted mark.Str a) (texted mark.Str b) r s e in
+      (ap str (sym (ap (λ w. w.text) p.0)), p.1)
   split (keyword a) (keyword b) r s e =
-      let inner : text_key a ++ r ≡ text_key b ++ s = cc in
-      let p = text_split a b r s inner in
-      (ap keyword (sym p.0), p.1)
-  split (vector xs) (vector ys) r s e =
-      let inner : items_key xs ++ r ≡ items_key ys ++ s = cc in
-      let p = items_split xs ys r s inner in
-      ((ys, refl, p.0), p.1)
-  split (mapping ms) (mapping ns) r s e =
-      let p = maps_split ms ns r s (members_split ms) e in
-      ((ns, refl, p.0), p.1)
+      let p = heads (texted mark.Keyword a) (texted mark.Keyword b) r s e in
+      (ap keyword (sym (ap (λ w. w.text) p.0)), p.1)
+  split (symbol a) (symbol b) r s e =
+      let p = heads (texted mark.Symbol a) (texted mark.Symbol b) r s e in
+      (ap symbol (sym (ap (λ w. w.text) p.0)), p.1)
+  split (list xs) (list ys) r s e = let p = items_split xs ys r s (sequence_tail (item_keys xs) (item_keys ys) r s e) in ((ys, inl refl, p.0), p.1)
+  split (list xs) (vector ys) r s e = let p = items_split xs ys r s (sequence_tail (item_keys xs) (item_keys ys) r s e) in ((ys, inr refl, p.0), p.1)
+  split (vector xs) (list ys) r s e = let p = items_split xs ys r s (sequence_tail (item_keys xs) (item_keys ys) r s e) in ((ys, inl refl, p.0), p.1)
+  split (vector xs) (vector ys) r s e = let p = items_split xs ys r s (sequence_tail (item_keys xs) (item_keys ys) r s e) in ((ys, inr refl, p.0), p.1)
+  split (mapping ms) (mapping ns) r s e = let p = maps_split ms ns r s (members_split ms) e in ((ns, refl, p.0), p.1)
+  split (set xs) (set ys) r s e = let p = sets_split xs ys r s (elements_split xs) e in ((ys, refl, p.0), p.1)
+  split (tagged a x) (tagged b y) r s e =
+      let p = heads (texted mark.Tagged a) (texted mark.Tagged b) (key_of x ++ r) (key_of y ++ s) e in
+      let below = split x y r s p.1 in
+      let tags : b ≡ a = sym (ap (λ w. w.text) p.0) in
+      ((y, ap (λ w. tagged w y) tags, below.0), below.1)
   split x y r s e = absurd (other_kind x y r s e refl)
 
-  items_split : (xs ys : Items) (r s : List ℕ) → items_key xs ++ r ≡ items_key ys ++ s → EqualItems xs ys × (r ≡ s)
-  items_split no_items no_items r s e = (refl, cc)
+  items_split : (xs ys : Items) (r s : Key) → marked_keys (item_keys xs) ++ r ≡ marked_keys (item_keys ys) ++ s → EqualItems xs ys × (r ≡ s)
+  items_split no_items no_items r s e = (refl, (heads (bare mark.Last) (bare mark.Last) r s e).1)
+  items_split no_items (item y ys) r s e =
+      absurd (let bad = (heads (bare mark.Last) (bare mark.More) r ((key_of y ++ marked_keys (item_keys ys)) ++ s) e).0 in let places : 0 ≡ 1 = ap (λ p. mark_place p.mark) bad in cc)
+  items_split (item x xs) no_items r s e =
+      absurd (let bad = (heads (bare mark.More) (bare mark.Last) ((key_of x ++ marked_keys (item_keys xs)) ++ r) s e).0 in let places : 1 ≡ 0 = ap (λ p. mark_place p.mark) bad in cc)
   items_split (item x xs) (item y ys) r s e =
-      let inner : (key_of x ++ items_key xs) ++ r ≡ (key_of y ++ items_key ys) ++ s = cc in
-      let first = split x y (items_key xs ++ r) (items_key ys ++ s) (sym (append_assoc (key_of x) (items_key xs) r) ∙ inner ∙ append_assoc (key_of y) (items_key ys) s) in
+      let inner = (heads (bare mark.More) (bare mark.More) ((key_of x ++ marked_keys (item_keys xs)) ++ r) ((key_of y ++ marked_keys (item_keys ys)) ++ s) e).1 in
+      let first = split x y (marked_keys (item_keys xs) ++ r) (marked_keys (item_keys ys) ++ s)
+      (sym (append_assoc (key_of x) (marked_keys (item_keys xs)) r) ∙ inner ∙ append_assoc (key_of y) (marked_keys (item_keys ys)) s) in
       let below = items_split xs ys r s first.1 in
       ((y, ys, refl, first.0, below.0), below.1)
-  items_split _ _ r s e = absurd cc
+
+  elements_split : (xs : Items) → SplitItems xs
+  elements_split no_items = tt
+  elements_split (item x xs) = (λ y r s e. split x y r s e, elements_split xs)
 
   members_split : (ms : Members) → SplitMembers ms
   members_split no_members = tt
   members_split (member k v ms) = (λ y r s e. split k y r s e, λ y r s e. split v y r s e, members_split ms)
 
 pub equal_from_key : (x y : Edn) → key_of x ≡ key_of y → Equals x y
-equal_from_key x y e = (split x y [] [] (ap (λ (w : List ℕ). w ++ []) e)).0
+equal_from_key x y e = (split x y [] [] (ap (λ (w : Key). w ++ []) e)).0
 
 -- ---- repeated keys
 
@@ -209,69 +340,76 @@ or_false : (a b : Bool) → (a || b) ≡ false → (a ≡ false) × (b ≡ false
 or_false true b e = absurd cc
 or_false false b e = (refl, e)
 
-not_both : {b : Bool} → b ≡ true → b ≡ false → ⊥
-not_both e f = let bad : true ≡ false = sym e ∙ f in cc
+-- the key is none of these values'
+abbrev Avoids : Key → Items → Type 0
+Avoids b no_items = Unit {0}
+Avoids b (item x xs) = (b ≡ key_of x → ⊥) × Avoids b xs
 
--- the list is none of these
-abbrev Avoids : List ℕ → List (Edn × Edn) → Type 0
-Avoids b [] = Unit {0}
-Avoids b (m ∷ ms) = (b ≡ key_of m.0 → ⊥) × Avoids b ms
+still_in : (b k : Key) (before : List Key) → is_in b before ≡ true → is_in b (before ++ k ∷ []) ≡ true
+still_in b k before h = is_in-push b before k ∙ elim (is_eq (key_cmp k b)) as (λ t. cond t true (is_in b before) ≡ true) [ true ↦ refl | false ↦ h ]
 
-abbrev keys_of : List (Edn × Edn) → List (List ℕ)
-keys_of ms = map (λ m. key_of m.0) ms
+now_in : (b : Key) (before : List Key) → is_in b (before ++ b ∷ []) ≡ true
+now_in b before = is_in-push b before b ∙ rw (same_itself b) refl
 
-still_in : (b k : List ℕ) (before : List (List ℕ)) → is_in b before ≡ true → is_in b (before ++ k ∷ []) ≡ true
-still_in b k before h = is_in-push b before k ∙ elim (bytes_eq k b) as (λ t. cond t true (is_in b before) ≡ true) [ true ↦ refl | false ↦ h ]
+avoids : (b : Key) (before : List Key) (xs : Items) → is_in b before ≡ true → has_twice_after before (item_keys xs) ≡ false → Avoids b xs
+avoids b before no_items h e = tt
+avoids b before (item x xs) h e =
+    let p = or_false (is_in (key_of x) before) (has_twice_after (before ++ key_of x ∷ []) (item_keys xs)) e in
+    (λ same. sorting.no_both (ap (λ (w : Key). is_in w before) (sym same) ∙ h) p.0, avoids b (before ++ key_of x ∷ []) xs (still_in b (key_of x) before h) p.1)
 
-now_in : (b : List ℕ) (before : List (List ℕ)) → is_in b (before ++ b ∷ []) ≡ true
-now_in b before = is_in-push b before b ∙ rw (self b) refl
+new_from : (x : Edn) (xs : Items) → Avoids (key_of x) xs → IsNew x xs
+new_from x no_items h = tt
+new_from x (item y ys) h = (λ e. h.0 (same_key x y e), new_from x ys h.1)
 
-avoids : (b : List ℕ) (before : List (List ℕ)) (ms : List (Edn × Edn)) → is_in b before ≡ true → has_twice_after before (keys_of ms) ≡ false → Avoids b ms
-avoids b before [] h e = tt
-avoids b before (m ∷ ms) h e =
-    let p = or_false (is_in (key_of m.0) before) (has_twice_after (before ++ key_of m.0 ∷ []) (keys_of ms)) e in
-    (λ same. not_both (ap (λ (w : List ℕ). is_in w before) (sym same) ∙ h) p.0, avoids b (before ++ key_of m.0 ∷ []) ms (still_in b (key_of m.0) before h) p.1)
+differ_after : (before : List Key) (xs : Items) → has_twice_after before (item_keys xs) ≡ false → Differ xs
+differ_after before no_items e = tt
+differ_after before (item x xs) e =
+    let p = or_false (is_in (key_of x) before) (has_twice_after (before ++ key_of x ∷ []) (item_keys xs)) e in
+    let after = before ++ key_of x ∷ [] in
+    (new_from x xs (avoids (key_of x) after xs (now_in (key_of x) before) p.1), differ_after after xs p.1)
 
-new_key : (k : Edn) (ms : List (Edn × Edn)) → Avoids (key_of k) ms → IsNewKey k (members_of ms)
-new_key k [] h = tt
-new_key k (m ∷ ms) h = (λ e. h.0 (same_key k m.0 e), new_key k ms h.1)
+-- none of these values' keys is among those
+abbrev Fresh : List Key → Items → Type 0
+Fresh before no_items = Unit {0}
+Fresh before (item x xs) = (is_in (key_of x) before ≡ false) × Fresh before xs
 
-differ_after : (before : List (List ℕ)) (ms : List (Edn × Edn)) → has_twice_after before (keys_of ms) ≡ false → KeysDiffer (members_of ms)
-differ_after before [] e = tt
-differ_after before (m ∷ ms) e =
-    let p = or_false (is_in (key_of m.0) before) (has_twice_after (before ++ key_of m.0 ∷ []) (keys_of ms)) e in
-    let after = before ++ key_of m.0 ∷ [] in
-    (new_key m.0 ms (avoids (key_of m.0) after ms (now_in (key_of m.0) before) p.1), differ_after after ms p.1)
+fresh_none : (xs : Items) → Fresh [] xs
+fresh_none no_items = tt
+fresh_none (item x xs) = (refl, fresh_none xs)
+
+fresh_more : (before : List Key) (x : Edn) (ys : Items) → IsNew x ys → Fresh before ys → Fresh (before ++ key_of x ∷ []) ys
+fresh_more before x no_items h f = tt
+fresh_more before x (item y ys) h f =
+    let other : is_eq (key_cmp (key_of x) (key_of y)) ≡ false =
+    elim (is_eq (key_cmp (key_of x) (key_of y))) as (λ t. is_eq (key_cmp (key_of x) (key_of y)) ≡ t → t ≡ false) [
+      | true ↦ λ e. absurd (h.0 (equal_from_key x y (same_is (key_of x) (key_of y) e)))
+      | false ↦ λ e. refl
+    ] refl in
+    (is_in-push (key_of y) before (key_of x) ∙ rw (other, f.0) refl, fresh_more before x ys h.1 f.1)
+
+none_after : (before : List Key) (xs : Items) → Fresh before xs → Differ xs → has_twice_after before (item_keys xs) ≡ false
+none_after before no_items f h = refl
+none_after before (item x xs) f h = rw f.0 (none_after (before ++ key_of x ∷ []) xs (fresh_more before x xs h.0 f.1) h.1)
+
+keys_are : (ms : List (Edn × Edn)) → map (λ m. key_of m.0) ms ≡ item_keys (keys_of (members_of ms))
+keys_are [] = refl
+keys_are (m ∷ ms) = ap (λ (w : List Key). key_of m.0 ∷ w) (keys_are ms)
 
 -- the keys differ where none stands twice
 pub keys_differ : (ms : List (Edn × Edn)) → repeats_key ms ≡ false → KeysDiffer (members_of ms)
 unfolding repeats_key
-keys_differ ms e = differ_after [] ms e
-
--- none of the keys is among these
-abbrev Fresh : List (List ℕ) → List (Edn × Edn) → Type 0
-Fresh before [] = Unit {0}
-Fresh before (m ∷ ms) = (is_in (key_of m.0) before ≡ false) × Fresh before ms
-
-fresh_none : (ms : List (Edn × Edn)) → Fresh [] ms
-fresh_none [] = tt
-fresh_none (m ∷ ms) = (refl, fresh_none ms)
-
-fresh_more : (before : List (List ℕ)) (k : Edn) (ms : List (Edn × Edn)) → IsNewKey k (members_of ms) → Fresh before ms → Fresh (before ++ key_of k ∷ []) ms
-fresh_more before k [] h f = tt
-fresh_more before k (m ∷ ms) h f =
-    let other : bytes_eq (key_of k) (key_of m.0) ≡ false =
-    elim (bytes_eq (key_of k) (key_of m.0)) as (λ t. bytes_eq (key_of k) (key_of m.0) ≡ t → t ≡ false) [
-      | true ↦ λ e. absurd (h.0 (equal_from_key k m.0 ((bytes_decides (key_of k) (key_of m.0)).0 e)))
-      | false ↦ λ e. refl
-    ] refl in
-    (is_in-push (key_of m.0) before (key_of k) ∙ rw (other, f.0) refl, fresh_more before k ms h.1 f.1)
-
-none_after : (before : List (List ℕ)) (ms : List (Edn × Edn)) → Fresh before ms → KeysDiffer (members_of ms) → has_twice_after before (keys_of ms) ≡ false
-none_after before [] f h = refl
-none_after before (m ∷ ms) f h = rw f.0 (none_after (before ++ key_of m.0 ∷ []) ms (fresh_more before m.0 ms h.0 f.1) h.1)
+keys_differ ms e = differ_after [] (keys_of (members_of ms)) (ap (has_twice_after []) (sym (keys_are ms)) ∙ e)
 
 -- none stands twice where the keys differ
 pub no_key_twice : (ms : List (Edn × Edn)) → KeysDiffer (members_of ms) → repeats_key ms ≡ false
 unfolding repeats_key
-no_key_twice ms h = none_after [] ms (fresh_none ms) h
+no_key_twice ms h = ap (has_twice_after []) (keys_are ms) ∙ none_after [] (keys_of (members_of ms)) (fresh_none (keys_of (members_of ms))) h
+
+-- the same of a set's elements
+pub elements_differ : (xs : List Edn) → repeats_element xs ≡ false → Differ (items_of xs)
+unfolding repeats_element
+elements_differ xs e = differ_after [] (items_of xs) e
+
+pub no_element_twice : (xs : List Edn) → Differ (items_of xs) → repeats_element xs ≡ false
+unfolding repeats_element
+no_element_twice xs h = none_after [] (items_of xs) (fresh_none (items_of xs)) h

@@ -1,197 +1,258 @@
--- Lists of numbers in order: a sorted list has one order.
-use Rattle.std.proofs.Common.{◌≡◌, ℕ, zero, suc, ◌+◌, ◌≤◌, ◌<◌, Bool, true, false, cond, List, [], ◌∷◌, length, get_or, map, refl, sym, ap, subst, ◌∙◌, arith, Vec, Global}
-use Rattle.std.specs.Cmp.Lexicographic.{slice_cmp, bytes_decides}
-use Rattle.std.specs.List.{sum_by}
-use Rattle.std.specs.List.Sorted.{IsSorted, IsPermutation}
-use Rattle.std.specs.declared.cmp.Ordering.{Ordering}
-use Rattle.std.specs.declared.cmp.Ordering.TheVariants.{Less, Equal, Greater}
-use Rattle.std.specs.Ordering.{nat_cmp, is_lt, is_gt, is_eq, ordering_reverse}
-use Rattle.std.specs.Str.{bytes_eq}
-use Rattle.std.proofs.lemmas.Cmp.{tied_itself, upto, nat_list_cmp_total}
-use Rattle.std.proofs.lemmas.List.Sorted.{ranks_by, sorted_far, IsPermutation-map, sum_by-IsPermutation}
-use Rattle.std.proofs.lemmas.List.Sums.{sum_by-cons}
-use Rattle.std.proofs.lemmas.Map.Text.{is_eq-slice_cmp}
-use Rattle.jh_edn.specs.Key.{put_in_order, in_order}
+-- Lists in order: a stable sort gives `in_order`, and a list in an exact order has one order.
+use Rattle.std.proofs.Common.{◌≡◌, ℕ, zero, suc, ◌+◌, ◌≤◌, ◌<◌, Bool, true, false, cond, not, ◌&&◌, List, [], ◌∷◌, length, get_or, map, refl, sym, ap, subst, ◌∙◌, arith}
+use Rattle.std.specs.Cmp.{IsStrictWeakOrder}
+use Rattle.std.specs.List.{filter}
+use Rattle.std.specs.List.Sorted.{IsSortedBy, IsStableBy, ties}
+use Rattle.std.proofs.lemmas.List.Sorted.{sorted_far}
+use Rattle.jh_edn.specs.Order.{put_in_order, in_order}
 
--- the first comes after the second
-abbrev pub above : List ℕ → List ℕ → Bool
-above x y = is_gt (slice_cmp nat_cmp x y)
+pub both : (a b : Bool) → (a && b) ≡ true → (a ≡ true) × (b ≡ true)
+both true b h = (refl, h)
+both false b h = absurd cc
 
-both_below : (o p : Ordering) → o ≡ ordering_reverse p → is_gt o ≡ false → is_gt p ≡ false → is_eq o ≡ true
-both_below o Less e h k = absurd (let bad = rw e at h in cc)
-both_below o Equal e h k = rw e refl
-both_below o Greater e h k = absurd cc
+pub no_both : {b : Bool} → b ≡ true → b ≡ false → ⊥
+no_both e f = let bad : true ≡ false = sym e ∙ f in cc
 
-turned : (o p : Ordering) → o ≡ ordering_reverse p → is_lt p ≡ is_gt o
-turned o Less e = rw e refl
-turned o Equal e = rw e refl
-turned o Greater e = rw e refl
+not_true : (b : Bool) → not b ≡ true → b ≡ false
+not_true true h = absurd cc
+not_true false h = refl
 
-pub self : (x : List ℕ) → bytes_eq x x ≡ true
-self x = (bytes_decides x x).1 refl
+module _ {X : Type 0} (lt : X → X → Bool) (o : IsStrictWeakOrder lt) where
+  pub below_itself : (x : X) → lt x x ≡ false
+  below_itself x = elim (lt x x) as (λ b. lt x x ≡ b → b ≡ false) [ true ↦ λ e. sym e ∙ o.one_way x x e | false ↦ λ e. refl ] refl
 
-exact : (x y : List ℕ) → bytes_eq x y ≡ true → x ≡ y
-exact x y h = (bytes_decides x y).0 h
+  pub tied : (x y : X) → ties lt x y ≡ true → (lt x y ≡ false) × (lt y x ≡ false)
+  tied x y h = let p = both (not (lt x y)) (not (lt y x)) h in (not_true (lt x y) p.0, not_true (lt y x) p.1)
 
-low : (x : List ℕ) → above x x ≡ false
-low x = rw (tied_itself nat_list_cmp_total x) refl
+  pub ties_from : (x y : X) → lt x y ≡ false → lt y x ≡ false → ties lt x y ≡ true
+  ties_from x y h k = rw (h, k) refl
 
-anti : (x y : List ℕ) → above x y ≡ false → above y x ≡ false → x ≡ y
-anti x y h k = exact x y (sym (is_eq-slice_cmp x y) ∙ both_below (slice_cmp nat_cmp x y) (slice_cmp nat_cmp y x) (nat_list_cmp_total.antisymm x y) h k)
+  -- x is not above any
+  abbrev pub Below : X → List X → Type 0
+  Below x [] = Unit {0}
+  Below x (y ∷ ys) = (lt y x ≡ false) × Below x ys
 
--- how often the list is among these
-abbrev pub count : List ℕ → List (List ℕ) → ℕ
-count z [] = 0
-count z (x ∷ xs) = cond (bytes_eq z x) 1 0 + count z xs
+  abbrev pub Ascends : List X → Type 0
+  Ascends [] = Unit {0}
+  Ascends (x ∷ xs) = Below x xs × Ascends xs
 
--- x is not above any
-abbrev pub Below : List ℕ → List (List ℕ) → Type 0
-Below x [] = Unit {0}
-Below x (y ∷ ys) = (above x y ≡ false) × Below x ys
+  below_all : (x y : X) (ys : List X) → lt y x ≡ false → Below y ys → Below x ys
+  below_all x y [] h b = tt
+  below_all x y (z ∷ zs) h b = (o.chain z y x b.0 h, below_all x y zs h b.1)
 
-abbrev pub Ascends : List (List ℕ) → Type 0
-Ascends [] = Unit {0}
-Ascends (x ∷ xs) = Below x xs × Ascends xs
+  below_put : (y x : X) (ys : List X) → Below y ys → lt x y ≡ false → Below y (put_in_order lt x ys)
+  below_put y x [] b h = (h, tt)
+  below_put y x (z ∷ zs) b h =
+      elim (lt z x) as (λ t. Below y (cond t (z ∷ put_in_order lt x zs) (x ∷ z ∷ zs))) [
+        | true ↦ (b.0, below_put y x zs b.1 h)
+        | false ↦ (h, b)
+      ]
 
-among : (x z : List ℕ) (ys : List (List ℕ)) → Below x ys → 0 < count z ys → above x z ≡ false
-among x z [] h lt = absurd (omega arith)
-among x z (y ∷ ys) h lt =
-    elim (bytes_eq z y) as (λ b. bytes_eq z y ≡ b → 0 < cond b 1 0 + count z ys → above x z ≡ false) [
-      | true ↦ λ e l. subst (λ w. above x w ≡ false) (sym (exact z y e)) h.0
-      | false ↦ λ e l. among x z ys h.1 (omega arith)
-    ] refl lt
+  put_ascends : (x : X) (ys : List X) → Ascends ys → Ascends (put_in_order lt x ys)
+  put_ascends x [] a = (tt, tt)
+  put_ascends x (y ∷ ys) a =
+      elim (lt y x) as (λ t. lt y x ≡ t → Ascends (cond t (y ∷ put_in_order lt x ys) (x ∷ y ∷ ys))) [
+        | true ↦ λ e. (below_put y x ys a.0 (o.one_way y x e), put_ascends x ys a.1)
+        | false ↦ λ e. ((e, below_all x y ys e a.0), a)
+      ] refl
 
--- x is not above what the list has, with x itself at its head
-first_below : (x z : List ℕ) (xs : List (List ℕ)) → Below x xs → 0 < count z (x ∷ xs) → above x z ≡ false
-first_below x z xs h lt =
-    elim (bytes_eq z x) as (λ b. bytes_eq z x ≡ b → 0 < cond b 1 0 + count z xs → above x z ≡ false) [
-      | true ↦ λ e l. subst (λ w. above x w ≡ false) (sym (exact z x e)) (low x)
-      | false ↦ λ e l. among x z xs h (omega arith)
-    ] refl lt
+  pub in_order_ascends : (xs : List X) → Ascends (in_order lt xs)
+  in_order_ascends [] = tt
+  in_order_ascends (x ∷ xs) = put_ascends x (in_order lt xs) (in_order_ascends xs)
 
-pub own : (x : List ℕ) (xs : List (List ℕ)) → 0 < count x (x ∷ xs)
-own x xs = rw (self x) (omega arith)
+  -- ---- those that tie stay as they stood
 
-pub one_order : (xs ys : List (List ℕ)) → Ascends xs → Ascends ys → ((z : List ℕ) → count z xs ≡ count z ys) → xs ≡ ys
-one_order [] [] a b h = refl
-one_order [] (y ∷ ys) a b h = absurd (omega (arith, h y, own y ys))
-one_order (x ∷ xs) [] a b h = absurd (omega (arith, h x, own x xs))
-one_order (x ∷ xs) (y ∷ ys) a b h =
-    let up : above x y ≡ false = first_below x y xs a.0 (omega (arith, h y, own y ys)) in
-    let down : above y x ≡ false = first_below y x ys b.0 (omega (arith, h x, own x xs)) in
-    let heads : x ≡ y = anti x y up down in
-    let tails : (z : List ℕ) → count z xs ≡ count z ys =
-    λ z. let one : List ℕ → ℕ = λ w. cond (bytes_eq z w) 1 0 in let e : one x ≡ one y = ap one heads in omega (arith, h z, e) in
-    λ i. heads i ∷ one_order xs ys a.1 b.1 tails i
+  swap_ties : (z x y : X) (ys : List X) → lt y x ≡ true → filter (ties lt z) (y ∷ x ∷ ys) ≡ filter (ties lt z) (x ∷ y ∷ ys)
+  swap_ties z x y ys h =
+      elim (ties lt z x) as (λ b. ties lt z x ≡ b → cond (ties lt z y) (y ∷ cond b (x ∷ filter (ties lt z) ys) (filter (ties lt z) ys)) (cond b (x ∷ filter (ties lt z) ys) (filter (ties lt z) ys)) ≡ cond b (x ∷ cond (ties lt z y) (y ∷ filter (ties lt z) ys) (filter (ties lt z) ys)) (cond (ties lt z y) (y ∷ filter (ties lt z) ys) (filter (ties lt z) ys))) [
+        | true ↦ λ e.
+            elim (ties lt z y) as (λ c. ties lt z y ≡ c → cond c (y ∷ x ∷ filter (ties lt z) ys) (x ∷ filter (ties lt z) ys) ≡ (x ∷ cond c (y ∷ filter (ties lt z) ys) (filter (ties lt z) ys))) [
+              | true ↦ λ f. absurd (no_both h (o.chain y z x (tied z y f).1 (tied z x e).0))
+              | false ↦ λ f. refl
+            ] refl
+        | false ↦ λ e. refl
+      ] refl
 
--- ---- putting lists in order
+  put_ties : (z x : X) (ys : List X) → filter (ties lt z) (put_in_order lt x ys) ≡ filter (ties lt z) (x ∷ ys)
+  put_ties z x [] = refl
+  put_ties z x (y ∷ ys) =
+      elim (lt y x) as (λ t. lt y x ≡ t → filter (ties lt z) (cond t (y ∷ put_in_order lt x ys) (x ∷ y ∷ ys)) ≡ filter (ties lt z) (x ∷ y ∷ ys)) [
+        | true ↦ λ e. ap (λ w. cond (ties lt z y) (y ∷ w) w) (put_ties z x ys) ∙ swap_ties z x y ys e
+        | false ↦ λ e. refl
+      ] refl
 
-below_all : (k l : List ℕ) (ls : List (List ℕ)) → above k l ≡ false → Below l ls → Below k ls
-below_all k l [] h b = tt
-below_all k l (m ∷ ls) h b = (upto nat_list_cmp_total k l m h b.0, below_all k l ls h b.1)
+  in_order_ties : (z : X) (xs : List X) → filter (ties lt z) (in_order lt xs) ≡ filter (ties lt z) xs
+  in_order_ties z [] = refl
+  in_order_ties z (x ∷ xs) = put_ties z x (in_order lt xs) ∙ ap (λ w. cond (ties lt z x) (x ∷ w) w) (in_order_ties z xs)
 
-below_put : (l k : List ℕ) (ls : List (List ℕ)) → Below l ls → above l k ≡ false → Below l (put_in_order k ls)
-below_put l k [] b h = (h, tt)
-below_put l k (m ∷ ls) b h =
-    elim (is_lt (slice_cmp nat_cmp m k)) as (λ t. Below l (cond t (m ∷ put_in_order k ls) (k ∷ m ∷ ls))) [
-      | true ↦ (b.0, below_put l k ls b.1 h)
-      | false ↦ (h, b)
-    ]
+  -- ---- lists that ascend and have the same that tie are one
 
--- a list that comes before another is not above it
-lt_below : (l k : List ℕ) → is_lt (slice_cmp nat_cmp l k) ≡ true → above l k ≡ false
-lt_below l k h = elim (slice_cmp nat_cmp l k) as (λ o. is_lt o ≡ true → is_gt o ≡ false) [ Less ↦ λ e. refl | Equal ↦ λ e. refl | Greater ↦ λ e. sym e ] h
+  some_tie : (x y a : X) (zs rest : List X) → Below y zs → filter (ties lt x) zs ≡ a ∷ rest → lt x y ≡ false
+  some_tie x y a [] rest b h = absurd cc
+  some_tie x y a (z ∷ zs) rest b h =
+      elim (ties lt x z) as (λ t. ties lt x z ≡ t → cond t (z ∷ filter (ties lt x) zs) (filter (ties lt x) zs) ≡ a ∷ rest → lt x y ≡ false) [
+        | true ↦ λ e f. o.chain x z y (tied x z e).0 b.0
+        | false ↦ λ e f. some_tie x y a zs rest b.1 f
+      ] refl h
 
-not_lt_below : (l k : List ℕ) → is_lt (slice_cmp nat_cmp l k) ≡ false → above k l ≡ false
-not_lt_below l k h = sym (turned (slice_cmp nat_cmp k l) (slice_cmp nat_cmp l k) (nat_list_cmp_total.antisymm k l)) ∙ h
+  own_ties : (x : X) (xs : List X) → filter (ties lt x) (x ∷ xs) ≡ x ∷ filter (ties lt x) xs
+  own_ties x xs = rw (ties_from x x (below_itself x) (below_itself x)) refl
 
-put_ascends : (k : List ℕ) (ls : List (List ℕ)) → Ascends ls → Ascends (put_in_order k ls)
-put_ascends k [] a = (tt, tt)
-put_ascends k (l ∷ ls) a =
-    elim (is_lt (slice_cmp nat_cmp l k)) as (λ t. is_lt (slice_cmp nat_cmp l k) ≡ t → Ascends (cond t (l ∷ put_in_order k ls) (k ∷ l ∷ ls))) [
-      | true ↦ λ e. (below_put l k ls a.0 (lt_below l k e), put_ascends k ls a.1)
-      | false ↦ λ e. ((not_lt_below l k e, below_all k l ls (not_lt_below l k e) a.0), a)
-    ] refl
+  -- the first of one list is not below that of the other
+  not_below : (x y : X) (xs ys : List X) → Below y ys → filter (ties lt x) (x ∷ xs) ≡ filter (ties lt x) (y ∷ ys) → lt x y ≡ false
+  not_below x y xs ys b h = some_tie x y x (y ∷ ys) (filter (ties lt x) xs) (below_itself y, b) (sym h ∙ own_ties x xs)
 
-pub in_order_ascends : (ks : List (List ℕ)) → Ascends (in_order ks)
-in_order_ascends [] = tt
-in_order_ascends (k ∷ ks) = put_ascends k (in_order ks) (in_order_ascends ks)
+  tail_ties : (z x : X) (xs ys : List X) → filter (ties lt z) (x ∷ xs) ≡ filter (ties lt z) (x ∷ ys) → filter (ties lt z) xs ≡ filter (ties lt z) ys
+  tail_ties z x xs ys h =
+      elim (ties lt z x) as (λ t. cond t (x ∷ filter (ties lt z) xs) (filter (ties lt z) xs) ≡ cond t (x ∷ filter (ties lt z) ys) (filter (ties lt z) ys) → filter (ties lt z) xs ≡ filter (ties lt z) ys) [
+        | true ↦ λ e. cc
+        | false ↦ λ e. e
+      ] h
 
-put_count : (z k : List ℕ) (ls : List (List ℕ)) → count z (put_in_order k ls) ≡ count z (k ∷ ls)
-put_count z k [] = refl
-put_count z k (l ∷ ls) =
-    elim (is_lt (slice_cmp nat_cmp l k)) as (λ t. count z (cond t (l ∷ put_in_order k ls) (k ∷ l ∷ ls)) ≡ count z (k ∷ l ∷ ls)) [
-      | true ↦ omega (arith, put_count z k ls)
-      | false ↦ refl
-    ]
+  one_stable : (xs ys : List X) → Ascends xs → Ascends ys → ((z : X) → filter (ties lt z) xs ≡ filter (ties lt z) ys) → xs ≡ ys
+  one_stable [] [] a b h = refl
+  one_stable [] (y ∷ ys) a b h = absurd (let bad : [] ≡ y ∷ filter (ties lt y) ys = h y ∙ own_ties y ys in cc)
+  one_stable (x ∷ xs) [] a b h = absurd (let bad : [] ≡ x ∷ filter (ties lt x) xs = sym (h x) ∙ own_ties x xs in cc)
+  one_stable (x ∷ xs) (y ∷ ys) a b h =
+      let up : lt x y ≡ false = not_below x y xs ys b.0 (h x) in
+      let down : lt y x ≡ false = not_below y x ys xs a.0 (sym (h y)) in
+      let other : filter (ties lt x) (y ∷ ys) ≡ y ∷ filter (ties lt x) ys = rw (ties_from x y up down) refl in
+      let firsts : x ∷ filter (ties lt x) xs ≡ y ∷ filter (ties lt x) ys = sym (own_ties x xs) ∙ h x ∙ other in
+      let heads : x ≡ y = cc in
+      let tails : (z : X) → filter (ties lt z) xs ≡ filter (ties lt z) ys =
+      λ z. tail_ties z x xs ys (h z ∙ ap (λ w. filter (ties lt z) (w ∷ ys)) (sym heads)) in
+      λ i. heads i ∷ one_stable xs ys a.1 b.1 tails i
 
-pub in_order_count : (z : List ℕ) (ks : List (List ℕ)) → count z (in_order ks) ≡ count z ks
-in_order_count z [] = refl
-in_order_count z (k ∷ ks) = omega (arith, put_count z k (in_order ks), in_order_count z ks)
+  -- each is not above those after it, by index
+  below_from : (x : X) (xs : List X) → ((j : ℕ) (d : X) → j < length xs → lt (get_or xs j d) x ≡ false) → Below x xs
+  below_from x [] h = tt
+  below_from x (y ∷ ys) h = (h 0 x (omega arith), below_from x ys (λ j d less. h (suc j) d (omega arith)))
 
--- ---- what a sort gives
+  ascends_from : (xs : List X) → ((i j : ℕ) (d : X) → i ≤ j → j < length xs → lt (get_or xs j d) (get_or xs i d) ≡ false) → Ascends xs
+  ascends_from [] h = tt
+  ascends_from (x ∷ xs) h =
+      (below_from x xs (λ j d less. h 0 (suc j) d (omega arith) (omega arith)), ascends_from xs (λ i j d le less. h (suc i) (suc j) d (omega arith) (omega arith)))
 
--- each list is not above those after it, by index
-below_from : (x : List ℕ) (xs : List (List ℕ)) → ((j : ℕ) (d : List ℕ) → j < length xs → above x (get_or xs j d) ≡ false) → Below x xs
-below_from x [] h = tt
-below_from x (y ∷ ys) h = (h 0 [] (omega arith), below_from x ys (λ j d lt. h (suc j) d (omega arith)))
+  -- a stable sort gives the list in order
+  pub sorted_is : (xs ys : List X) → IsSortedBy lt ys → IsStableBy lt xs ys → ys ≡ in_order lt xs
+  sorted_is xs ys up still =
+      one_stable ys (in_order lt xs) (ascends_from ys (λ i j d le less. sorted_far lt o ys up i j d le less)) (in_order_ascends xs)
+      (λ z. still z ∙ sym (in_order_ties z xs))
 
-ascends_from : (xs : List (List ℕ)) → ((i j : ℕ) (d : List ℕ) → i ≤ j → j < length xs → above (get_or xs i d) (get_or xs j d) ≡ false) → Ascends xs
-ascends_from [] h = tt
-ascends_from (x ∷ xs) h =
-    (below_from x xs (λ j d lt. h 0 (suc j) d (omega arith) (omega arith)), ascends_from xs (λ i j d le lt. h (suc i) (suc j) d (omega arith) (omega arith)))
+  -- ---- counting
 
-count_sum : (z : List ℕ) (xs : List (List ℕ)) → count z xs ≡ sum_by (λ x. cond (bytes_eq z x) 1 0) xs
-count_sum z [] = refl
-count_sum z (x ∷ xs) = let more = sum_by-cons (λ (w : List ℕ). cond (bytes_eq z w) 1 0) x xs in omega (arith, count_sum z xs, more)
+  -- how often it is among these
+  abbrev pub count : X → List X → ℕ
+  count z [] = 0
+  count z (x ∷ xs) = cond (ties lt z x) 1 0 + count z xs
 
-abbrev pub lists_of : List (Vec ℕ Global) → List (List ℕ)
-lists_of vs = map (λ v. v.items) vs
+  put_count : (z x : X) (ys : List X) → count z (put_in_order lt x ys) ≡ count z (x ∷ ys)
+  put_count z x [] = refl
+  put_count z x (y ∷ ys) =
+      elim (lt y x) as (λ t. count z (cond t (y ∷ put_in_order lt x ys) (x ∷ y ∷ ys)) ≡ count z (x ∷ y ∷ ys)) [
+        | true ↦ omega (arith, put_count z x ys)
+        | false ↦ refl
+      ]
 
-length-lists : (vs : List (Vec ℕ Global)) → length (lists_of vs) ≡ length vs
-length-lists [] = refl
-length-lists (v ∷ vs) = ap suc (length-lists vs)
+  pub in_order_count : (z : X) (xs : List X) → count z (in_order lt xs) ≡ count z xs
+  in_order_count z [] = refl
+  in_order_count z (x ∷ xs) = omega (arith, put_count z x (in_order lt xs), in_order_count z xs)
 
-get_lists : (vs : List (Vec ℕ Global)) (i : ℕ) (v : Vec ℕ Global) (d : List ℕ) → i < length vs → get_or (lists_of vs) i d ≡ (get_or vs i v).items
-get_lists [] i v d lt = absurd (omega arith)
-get_lists (w ∷ vs) zero v d lt = refl
-get_lists (w ∷ vs) (suc i) v d lt = get_lists vs i v d (omega arith)
+  pub own : (x : X) (xs : List X) → 0 < count x (x ∷ xs)
+  own x xs = rw (ties_from x x (below_itself x) (below_itself x)) (omega arith)
 
-far : (w : Vec ℕ Global) (ws : List (Vec ℕ Global)) → IsSorted (λ x y. slice_cmp nat_cmp x.items y.items) (w ∷ ws)
-    → (i j : ℕ) (d : List ℕ) → i ≤ j → j < length (lists_of (w ∷ ws)) → above (get_or (lists_of (w ∷ ws)) i d) (get_or (lists_of (w ∷ ws)) j d) ≡ false
-far w ws up i j d le lt =
-    let vs = w ∷ ws in
-    let in_list : j < length vs = omega (arith, length-lists vs) in
-    let order = ranks_by nat_list_cmp_total (λ (v : Vec ℕ Global). v.items) in
-    rw (get_lists vs i w d (omega arith), get_lists vs j w d in_list)
-    (not_lt_below (get_or vs j w).items (get_or vs i w).items (sorted_far (λ x y. is_lt (slice_cmp nat_cmp x.items y.items)) order vs up i j w le in_list))
+  -- ---- a fact of each
 
-sorted_ascends : (ws : List (Vec ℕ Global)) → IsSorted (λ x y. slice_cmp nat_cmp x.items y.items) ws → Ascends (lists_of ws)
-sorted_ascends [] up = tt
-sorted_ascends (w ∷ ws) up = ascends_from (lists_of (w ∷ ws)) (far w ws up)
+  abbrev pub Each : (X → Type 0) → List X → Type 0
+  Each P [] = Unit {0}
+  Each P (x ∷ xs) = P x × Each P xs
 
--- a sort gives the lists in order
-pub sorted_is : (vs ws : List (Vec ℕ Global)) → IsPermutation vs ws → IsSorted (λ x y. slice_cmp nat_cmp x.items y.items) ws → lists_of ws ≡ in_order (lists_of vs)
-sorted_is vs ws moved up =
-    one_order (lists_of ws) (in_order (lists_of vs)) (sorted_ascends ws up) (in_order_ascends (lists_of vs))
-    (λ z.
-    let counts = sum_by-IsPermutation (λ (w : List ℕ). cond (bytes_eq z w) 1 0) (lists_of vs) (lists_of ws) (IsPermutation-map (λ v. v.items) vs ws moved) in
-    count_sum z (lists_of ws) ∙ counts ∙ sym (count_sum z (lists_of vs)) ∙ sym (in_order_count z (lists_of vs)))
+  put_each : (P : X → Type 0) (x : X) (ys : List X) → P x → Each P ys → Each P (put_in_order lt x ys)
+  put_each P x [] h e = (h, tt)
+  put_each P x (y ∷ ys) h e =
+      elim (lt y x) as (λ t. Each P (cond t (y ∷ put_in_order lt x ys) (x ∷ y ∷ ys))) [
+        | true ↦ (e.0, put_each P x ys h e.1)
+        | false ↦ (h, e)
+      ]
 
--- ---- a fact of each list
+  pub in_order_each : (P : X → Type 0) (xs : List X) → Each P xs → Each P (in_order lt xs)
+  in_order_each P [] e = tt
+  in_order_each P (x ∷ xs) e = put_each P x (in_order lt xs) e.0 (in_order_each P xs e.1)
 
-abbrev pub Each : (List ℕ → Type 0) → List (List ℕ) → Type 0
-Each P [] = Unit {0}
-Each P (k ∷ ks) = P k × Each P ks
+  -- ---- no two tie
 
-put_each : (P : List ℕ → Type 0) (k : List ℕ) (ls : List (List ℕ)) → P k → Each P ls → Each P (put_in_order k ls)
-put_each P k [] h e = (h, tt)
-put_each P k (l ∷ ls) h e =
-    elim (is_lt (slice_cmp nat_cmp l k)) as (λ t. Each P (cond t (l ∷ put_in_order k ls) (k ∷ l ∷ ls))) [
-      | true ↦ (e.0, put_each P k ls h e.1)
-      | false ↦ (h, e)
-    ]
+  abbrev pub Unlike : List X → Type 0
+  Unlike [] = Unit {0}
+  Unlike (x ∷ xs) = Each (λ y. ties lt x y ≡ false) xs × Unlike xs
 
-pub in_order_each : (P : List ℕ → Type 0) (ks : List (List ℕ)) → Each P ks → Each P (in_order ks)
-in_order_each P [] e = tt
-in_order_each P (k ∷ ks) e = put_each P k (in_order ks) e.0 (in_order_each P ks e.1)
+  ties_back : (x y : X) → ties lt x y ≡ false → ties lt y x ≡ false
+  ties_back x y h =
+      elim (ties lt y x) as (λ b. ties lt y x ≡ b → b ≡ false) [
+        | true ↦ λ e. absurd (let p = tied y x e in no_both (ties_from x y p.1 p.0) h)
+        | false ↦ λ e. refl
+      ] refl
+
+  put_unlike : (x : X) (ys : List X) → Unlike (x ∷ ys) → Unlike (put_in_order lt x ys)
+  put_unlike x [] u = u
+  put_unlike x (y ∷ ys) u =
+      elim (lt y x) as (λ t. Unlike (cond t (y ∷ put_in_order lt x ys) (x ∷ y ∷ ys))) [
+        | true ↦ (put_each (λ z. ties lt y z ≡ false) x ys (ties_back x y u.0.0) u.1.0, put_unlike x ys (u.0.1, u.1.1))
+        | false ↦ u
+      ]
+
+  pub in_order_unlike : (xs : List X) → Unlike xs → Unlike (in_order lt xs)
+  in_order_unlike [] u = tt
+  in_order_unlike (x ∷ xs) u = put_unlike x (in_order lt xs) (in_order_each (λ y. ties lt x y ≡ false) xs u.0, in_order_unlike xs u.1)
+
+  -- of two that do not tie, the one that is not above the other is below it
+  pub strictly : (x y : X) → lt y x ≡ false → ties lt x y ≡ false → lt x y ≡ true
+  strictly x y h k =
+      elim (lt x y) as (λ b. lt x y ≡ b → b ≡ true) [ true ↦ λ e. refl | false ↦ λ e. absurd (no_both (ties_from x y e h) k) ] refl
+
+  put_first : (x : X) (xs : List X) → Below x xs → put_in_order lt x xs ≡ x ∷ xs
+  put_first x [] b = refl
+  put_first x (y ∷ ys) b = rw b.0 refl
+
+  -- a list that ascends is in order
+  pub in_order_is : (xs : List X) → Ascends xs → in_order lt xs ≡ xs
+  in_order_is [] a = refl
+  in_order_is (x ∷ xs) a = ap (put_in_order lt x) (in_order_is xs a.1) ∙ put_first x xs a.0
+
+-- ---- where only equal things tie
+
+module _ {X : Type 0} (lt : X → X → Bool) (o : IsStrictWeakOrder lt) (exact : (x y : X) → ties lt x y ≡ true → x ≡ y) where
+  among : (x z : X) (ys : List X) → Below lt o x ys → 0 < count lt o z ys → lt z x ≡ false
+  among x z [] h less = absurd (omega arith)
+  among x z (y ∷ ys) h less =
+      elim (ties lt z y) as (λ b. ties lt z y ≡ b → 0 < cond b 1 0 + count lt o z ys → lt z x ≡ false) [
+        | true ↦ λ e l. subst (λ w. lt w x ≡ false) (sym (exact z y e)) h.0
+        | false ↦ λ e l. among x z ys h.1 (omega arith)
+      ] refl less
+
+  -- a list that ascends has one order
+  pub one_order : (xs ys : List X) → Ascends lt o xs → Ascends lt o ys → ((z : X) → count lt o z xs ≡ count lt o z ys) → xs ≡ ys
+  one_order [] [] a b h = refl
+  one_order [] (y ∷ ys) a b h = absurd (omega (arith, h y, own lt o y ys))
+  one_order (x ∷ xs) [] a b h = absurd (omega (arith, h x, own lt o x xs))
+  one_order (x ∷ xs) (y ∷ ys) a b h =
+      let up : lt y x ≡ false = among x y (x ∷ xs) (below_itself lt o x, a.0) (omega (arith, h y, own lt o y ys)) in
+      let down : lt x y ≡ false = among y x (y ∷ ys) (below_itself lt o y, b.0) (omega (arith, h x, own lt o x xs)) in
+      let heads : x ≡ y = exact x y (ties_from lt o x y down up) in
+      let tails : (z : X) → count lt o z xs ≡ count lt o z ys =
+      λ z. let one : X → ℕ = λ w. cond (ties lt z w) 1 0 in let e : one x ≡ one y = ap one heads in omega (arith, h z, e) in
+      λ i. heads i ∷ one_order xs ys a.1 b.1 tails i
+
+-- ---- in order by what a function says of each
+
+module _ {X Y : Type 0} (f : X → Y) (lt : Y → Y → Bool) where
+  map_put : (x : X) (ys : List X) → map f (put_in_order (λ a b. lt (f a) (f b)) x ys) ≡ put_in_order lt (f x) (map f ys)
+  map_put x [] = refl
+  map_put x (y ∷ ys) =
+      elim (lt (f y) (f x)) as (λ t. map f (cond t (y ∷ put_in_order (λ a b. lt (f a) (f b)) x ys) (x ∷ y ∷ ys)) ≡ cond t (f y ∷ put_in_order lt (f x) (map f ys)) (f x ∷ f y ∷ map f ys)) [
+        | true ↦ ap (λ w. f y ∷ w) (map_put x ys)
+        | false ↦ refl
+      ]
+
+  pub map_in_order : (xs : List X) → map f (in_order (λ a b. lt (f a) (f b)) xs) ≡ in_order lt (map f xs)
+  map_in_order [] = refl
+  map_in_order (x ∷ xs) = map_put x (in_order (λ a b. lt (f a) (f b)) xs) ∙ ap (put_in_order lt (f x)) (map_in_order xs)

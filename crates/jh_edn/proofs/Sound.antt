@@ -1,21 +1,25 @@
 -- What is read is spelled so.
 use Rattle.std.proofs.Common.{◌≡◌, ℕ, zero, suc, ◌+◌, ◌^◌, ◌<◌, ◌⊎◌, inl, inr, Bool, true, false, cond, eqb, ltb, List, [], ◌∷◌, ◌++◌, length, take, drop, get_or, Option, Some, None, Result, Ok, Err, refl, sym, ap, subst, ◌∙◌, append_assoc, arith}
-use Rattle.std.specs.Prelude.{◌&&◌, ℤ, FitsSigned, option_map}
+use Rattle.std.specs.Prelude.{◌&&◌, slice_get, chars, encode_utf8, codes, ℤ, FitsSigned, option_map}
 use Rattle.std.specs.Int.{w64}
+use Rattle.std.specs.Char.{IsScalar}
+use lib.Utf8.{scalar}
+use Rattle.std.specs.Str.{bytes_eq}
 use Rattle.std.specs.Str.Parse.{signed_digits_value, without_leading_sign}
 use Rattle.std.proofs.lemmas.Grind.{common_steps}
+use Rattle.std.proofs.lemmas.Slice.Eq.{bytes_eq-Decides}
 use Rattle.std.proofs.lemmas.Bool.{eqb-true}
 use Rattle.std.proofs.lemmas.List.{take-append-drop, append-nil}
 use Rattle.jh_edn.specs.declared.fault.Fault.{Fault}
 use Rattle.jh_edn.specs.declared.fault.Kind.{Kind}
 use Rattle.jh_edn.specs.declared.fault.Kind.TheVariants.{UnexpectedEnd, BadToken, FloatUnsupported, IntegerRange, DuplicateKey}
-use Rattle.jh_edn.specs.Edn.{Edn, int, str, keyword, vector, mapping, Items, no_items, item, items_of, members_of}
-use Rattle.jh_edn.specs.Bytes.{quote, backslash, colon, capital_n, digit_zero, open_bracket, close_bracket, open_brace, close_brace, is_space, is_run, is_plain, escaped, leading}
-use Rattle.jh_edn.specs.Spelling.{IsGap, NoLeadingZero, IsInteger, IsBody, is_name, BeginsNoRun, Apart, Elements, Form, Spells, items_of_members}
-use Rattle.jh_edn.specs.Equality.{KeysDiffer}
-use Rattle.jh_edn.specs.Reading.{◌>>=◌, fault, with_front, after_escape, body, after_gap, run_of, sign_len, digits_end, begins_number, begins_fraction, is_suffix, magnitude, integer_of, number_of, as_int, atom_of, placed, atom, Read, Inside, element, items_step, items, too_deep, read, pairs_of, repeats_key, paired}
+use Rattle.jh_edn.specs.Edn.{Edn, nil, boolean, int, char, str, keyword, symbol, list, vector, mapping, set, tagged, Items, no_items, item, items_of, members_of}
+use Rattle.jh_edn.specs.Bytes.{is_blank, open_paren, close_paren, quote, backslash, colon, capital_n, digit_zero, open_bracket, close_bracket, open_brace, close_brace, semicolon, hash, underscore, line_feed, begins_discard, is_space, is_run, is_plain, escaped, leading}
+use Rattle.jh_edn.specs.Spelling.{NoLeadingZero, IsInteger, IsBody, is_name, is_symbol_name, is_tag, char_named, char_numbered, IsCharacter, BeginsNoRun, IsLine, EndsLine, GapIn, nothing, white, comment, discard, Inner, Elements, Form, around, inside, items_of_members}
+use Rattle.jh_edn.specs.Equality.{Differ, KeysDiffer}
+use Rattle.jh_edn.specs.Reading.{◌>>=◌, fault, with_front, after_escape, body, run_of, sign_len, digits_end, begins_number, begins_fraction, is_suffix, magnitude, integer_of, number_of, as_int, word_of, word_or_symbol, alone, or_else, called, char_of, as_char, begins_char, char_before, character_at, character, unique, hashed, repeats_element, atom_of, placed, atom, Read, Deeper, after_blank, after_comment, element, gap_turns, gap_in, items_step, items, deeper, gap, read, pairs_of, repeats_key, paired}
 use Rattle.jh_edn.proofs.Numbers.{numeral_cut, unsigned_is, fits_from, and_both}
-use Rattle.jh_edn.proofs.Keys.{keys_differ}
+use Rattle.jh_edn.proofs.Keys.{keys_differ, elements_differ}
 
 pub chosen : {A : Type 0} (b : Bool) (x y z : A) → cond b x y ≡ z → ((b ≡ true) × (x ≡ z)) ⊎ ((b ≡ false) × (y ≡ z))
 chosen true x y z e = inl (refl, e)
@@ -186,119 +190,331 @@ paired_ok (Some ms) after x r e =
           record { pairs = ms; found = refl; differ = keys_differ ms p.0; value = ap (λ (w : Edn × List ℕ). w.0) q; rest = ap (λ (w : Edn × List ℕ). w.1) q }
     ]
 
-pub record Takes (P : Edn → List ℕ → Type 0) (s : List ℕ) (x : Edn) (r : List ℕ) : Type 0 where
-  pub text : List ℕ
-  pub parts : s ≡ text ++ r
-  pub spells : P x text
-  pub apart : Apart x r
+pub same_bytes : (a b : List ℕ) → bytes_eq a b ≡ true → a ≡ b
+same_bytes a b h = (bytes_eq-Decides a b).0 h
 
-module _ (O : Type 0) (I : Edn → List ℕ → Type 0) where
-  atom_of-sound : (run : List ℕ) (x : Edn) → atom_of run ≡ Ok x → Form O I x run × ((r : List ℕ) → BeginsNoRun r → Apart x r)
-  unfolding atom_of
-  atom_of-sound run x e =
-      let other : Result Edn Kind = cond (eqb (get_or run 0 0) colon && is_name (drop 1 run)) (Ok (keyword (drop 1 run))) (Err BadToken) in
-      elim (chosen (begins_number run) (as_int (number_of run)) other (Ok x) e) [
-        | inl p ↦
-            let a = as_int_ok (number_of run) x p.1 in
-            subst (λ (y : Edn). Form O I y run × ((r : List ℕ) → BeginsNoRun r → Apart y r)) a.2 (number_sound run a.0 p.0 a.1, λ r h. h)
+-- the text is the character and what stands behind its bytes
+begins_with_char : (c : ℕ) (t : List ℕ) → begins_char c t ≡ true → t ≡ encode_utf8 c ++ drop (length (encode_utf8 c)) t
+begins_with_char c t h =
+    let front = encode_utf8 c in
+    let both = and_both (scalar c) (bytes_eq (take (length front) t) front) h in
+    sym (take-append-drop (length front) t) ∙ ap (λ (w : List ℕ). w ++ drop (length front) t) (same_bytes (take (length front) t) front both.1)
+
+is_scalar : (c : ℕ) (t : List ℕ) → begins_char c t ≡ true → IsScalar c
+is_scalar c t h = (and_both (scalar c) (bytes_eq (take (length (encode_utf8 c)) t) (encode_utf8 c)) h).0
+
+as_char_ok : (o : Option ℕ) (x : Edn) → as_char o ≡ Ok x → (c : ℕ) × (o ≡ Some c) × (char c ≡ x)
+as_char_ok (Some c) x e = (c, refl, cc)
+as_char_ok None x e = absurd cc
+
+alone_sound : (c d : ℕ) → IsScalar c → alone c ≡ Some d → IsCharacter d (encode_utf8 c)
+unfolding alone
+alone_sound c d scalar e =
+    elim (chosen (is_blank c) None (Some c) (Some d) e) [
+      | inl p ↦ absurd (let bad = p.1 in cc)
+      | inr p ↦ let same : c ≡ d = let h = p.1 in cc in inl (subst IsScalar same scalar, subst (λ n. is_blank n ≡ false) same p.0, ap encode_utf8 same)
+    ]
+
+or_else-sound : (name : List ℕ) (d : ℕ) (a b : Option ℕ) → char_named name ≡ a → char_numbered name ≡ b → or_else a b ≡ Some d → IsCharacter d name
+or_else-sound name d (Some c) b e f h = inr (inl (e ∙ h))
+or_else-sound name d None b e f h = inr (inr (f ∙ h))
+
+called_sound : (name : List ℕ) (d : ℕ) → called name ≡ Some d → IsCharacter d name
+unfolding called
+called_sound name d e = or_else-sound name d (char_named name) (char_numbered name) refl refl e
+
+-- what stands behind the backslash is the character
+char_of-sound : (c : ℕ) (run : List ℕ) (d : ℕ) → IsScalar c → char_of c run ≡ Some d → IsCharacter d (encode_utf8 c ++ run)
+unfolding char_of
+char_of-sound c [] d scalar e = subst (IsCharacter d) (sym (append-nil (encode_utf8 c))) (alone_sound c d scalar e)
+char_of-sound c (b ∷ run) d scalar e = called_sound (encode_utf8 c ++ b ∷ run) d e
+
+-- a set whose elements differ, and what follows it
+record Unique (xs : List Edn) (after : List ℕ) (x : Edn) (r : List ℕ) : Type 0 where
+  pub differ : Differ (items_of xs)
+  pub value : set (items_of xs) ≡ x
+  pub rest : after ≡ r
+
+unique_ok : (xs : List Edn) (after : List ℕ) (x : Edn) (r : List ℕ) → unique xs after ≡ Ok (x, r) → Unique xs after x r
+unique_ok xs after x r e =
+    let twice : Result (Edn × List ℕ) Fault = Err (record { kind = DuplicateKey; left = length after + 1 }) in
+    elim (chosen (repeats_element xs) twice (Ok (set (items_of xs), after)) (Ok (x, r)) e) [
+      | inl p ↦ absurd (err_not _ _ p.1)
+      | inr p ↦
+          let q = ok_is (set (items_of xs), after) (x, r) p.1 in
+          record { differ = elements_differ xs p.0; value = ap (λ (w : Edn × List ℕ). w.0) q; rest = ap (λ (w : Edn × List ℕ). w.1) q }
+    ]
+
+module _ (deep : Deeper) (inner : Inner) where
+  -- what a run is, as an element in front of a text that does not go on in it
+  abbrev Stands : Edn → List ℕ → Type 0
+  Stands x run = (rest : List ℕ) → BeginsNoRun rest → Form inner x (run ++ rest) rest
+
+  word_sound : (run : List ℕ) (x : Edn) → word_of run ≡ Some x → Stands x run
+  unfolding word_of
+  word_sound run x e =
+      let third : Option Edn = cond (bytes_eq run (codes "false")) (Some (boolean false)) None in
+      let second : Option Edn = cond (bytes_eq run (codes "true")) (Some (boolean true)) third in
+      elim (chosen (bytes_eq run (codes "nil")) (Some nil) second (Some x) e) [
+        | inl p ↦ let same : nil ≡ x = let h = p.1 in cc in subst (λ (y : Edn). Stands y run) same (λ rest h. (run, same_bytes run (codes "nil") p.0, refl, h))
         | inr p ↦
-            elim (chosen (eqb (get_or run 0 0) colon && is_name (drop 1 run)) (Ok (keyword (drop 1 run))) (Err BadToken) (Ok x) p.1) [
-              | inl q ↦
-                  let both = and_both (eqb (get_or run 0 0) colon) (is_name (drop 1 run)) q.0 in
-                  let same : keyword (drop 1 run) ≡ x = let h = q.1 in cc in
-                  subst (λ (y : Edn). Form O I y run × ((r : List ℕ) → BeginsNoRun r → Apart y r)) same
-                  ((both.1, begins_with colon run (omega arith) (eqb-true _ _ both.0)), λ r h. h)
-              | inr q ↦ absurd (let bad = q.1 in cc)
-            ]
-      ]
-
-  atom_sound : (s : List ℕ) (x : Edn) (r : List ℕ) → atom s ≡ Ok (x, r) → Takes (Form O I) s x r
-  unfolding atom
-  atom_sound s x r e =
-      let p = placed_ok (atom_of (run_of s)) s (drop (leading is_run s) s) x r e in
-      let q = atom_of-sound (run_of s) x p.0 in
-      record {
-        text = run_of s;
-        parts = sym (take-append-drop (leading is_run s) s) ∙ ap (λ (w : List ℕ). run_of s ++ w) p.1;
-        spells = q.0;
-        apart = q.1 r (subst BeginsNoRun p.1 (run_ends s));
-      }
-
-  abbrev Within : ℕ → List ℕ → List Edn → List ℕ → Type 0
-  Within close s xs r = O × (inner : List ℕ) × (s ≡ inner ++ close ∷ r) × Elements I (items_of xs) inner
-
-  element_sound : (inside : Inside) → ((close c : ℕ) (s : List ℕ) (xs : List Edn) (r : List ℕ) → inside close c s ≡ Ok (xs, r) → Within close s xs r)
-      → (s : List ℕ) (x : Edn) (r : List ℕ) → element inside s ≡ Ok (x, r) → Takes (Form O I) s x r
-  unfolding element
-  element_sound inside h [] x r e = absurd cc
-  element_sound inside h (c ∷ s) x r e =
-      let text : Result (Edn × List ℕ) Fault = body s >>= λ q. Ok (str q.0, q.1) in
-      let fourth : Result (Edn × List ℕ) Fault = cond (is_run c) (atom (c ∷ s)) (fault BadToken (c ∷ s)) in
-      let brace : Result (Edn × List ℕ) Fault = inside close_brace c s >>= λ q. paired (pairs_of q.0) q.1 in
-      let third : Result (Edn × List ℕ) Fault = cond (eqb c open_brace) brace fourth in
-      let bracket : Result (Edn × List ℕ) Fault = inside close_bracket c s >>= λ q. Ok (vector (items_of q.0), q.1) in
-      let second : Result (Edn × List ℕ) Fault = cond (eqb c open_bracket) bracket third in
-      elim (chosen (eqb c quote) text second (Ok (x, r)) e) [
-        | inl p ↦
-            let a = bind_ok (body s) (λ q. Ok (str q.0, q.1)) (x, r) p.1 in
-            let b = body_sound s a.0.0 a.0.1 a.1 in
-            subst (λ (y : Edn × List ℕ). Takes (Form O I) (c ∷ s) y.0 y.1) (ok_is (str a.0.0, a.0.1) (x, r) a.2)
-            record {
-              text = quote ∷ (b.0 ++ quote ∷ []);
-              parts = ap (λ (n : ℕ). n ∷ s) (eqb-true _ _ p.0) ∙ ap (λ (w : List ℕ). quote ∷ w) (b.2 ∙ sym (append_assoc b.0 (quote ∷ []) a.0.1));
-              spells = (b.0, b.1, refl);
-              apart = tt;
-            }
-        | inr p ↦
-            elim (chosen (eqb c open_bracket) bracket third (Ok (x, r)) p.1) [
-              | inl q ↦
-                  let a = bind_ok (inside close_bracket c s) (λ w. Ok (vector (items_of w.0), w.1)) (x, r) q.1 in
-                  let b = h close_bracket c s a.0.0 a.0.1 a.1 in
-                  subst (λ (y : Edn × List ℕ). Takes (Form O I) (c ∷ s) y.0 y.1) (ok_is (vector (items_of a.0.0), a.0.1) (x, r) a.2)
-                  record {
-                    text = open_bracket ∷ (b.1 ++ close_bracket ∷ []);
-                    parts = ap (λ (n : ℕ). n ∷ s) (eqb-true _ _ q.0) ∙ ap (λ (w : List ℕ). open_bracket ∷ w) (b.2 ∙ sym (append_assoc b.1 (close_bracket ∷ []) a.0.1));
-                    spells = (b.0, b.1, b.3, refl);
-                    apart = tt;
-                  }
+            elim (chosen (bytes_eq run (codes "true")) (Some (boolean true)) third (Some x) p.1) [
+              | inl q ↦ let same : boolean true ≡ x = let h = q.1 in cc in subst (λ (y : Edn). Stands y run) same (λ rest h. (run, same_bytes run (codes "true") q.0, refl, h))
               | inr q ↦
-                  elim (chosen (eqb c open_brace) brace fourth (Ok (x, r)) q.1) [
-                    | inl u ↦
-                        let a = bind_ok (inside close_brace c s) (λ w. paired (pairs_of w.0) w.1) (x, r) u.1 in
-                        let b = h close_brace c s a.0.0 a.0.1 a.1 in
-                        let m = paired_ok (pairs_of a.0.0) a.0.1 x r a.2 in
-                        subst (λ (y : Edn). Takes (Form O I) (c ∷ s) y r) m.value
-                        (subst (λ (w : List ℕ). Takes (Form O I) (c ∷ s) (mapping (members_of m.pairs)) w) m.rest record {
-                          text = open_brace ∷ (b.1 ++ close_brace ∷ []);
-                          parts = ap (λ (n : ℕ). n ∷ s) (eqb-true _ _ u.0) ∙ ap (λ (w : List ℕ). open_brace ∷ w) (b.2 ∙ sym (append_assoc b.1 (close_brace ∷ []) a.0.1));
-                          spells = (b.0, b.1, subst (λ (w : Items). Elements I w b.1) (pairs_items a.0.0 m.pairs m.found) b.3, refl, m.differ);
-                          apart = tt;
-                        })
-                    | inr u ↦
-                        elim (chosen (is_run c) (atom (c ∷ s)) (fault BadToken (c ∷ s)) (Ok (x, r)) u.1) [
-                          | inl w ↦ atom_sound (c ∷ s) x r w.1
-                          | inr w ↦ absurd (err_not _ _ w.1)
-                        ]
+                  elim (chosen (bytes_eq run (codes "false")) (Some (boolean false)) None (Some x) q.1) [
+                    | inl u ↦ let same : boolean false ≡ x = let h = u.1 in cc in subst (λ (y : Edn). Stands y run) same (λ rest h. (run, same_bytes run (codes "false") u.0, refl, h))
+                    | inr u ↦ absurd (let bad = u.1 in cc)
                   ]
             ]
       ]
 
--- ---- elements
+  word_or_symbol-sound : (run : List ℕ) (o : Option Edn) (x : Edn) → word_of run ≡ o → word_or_symbol o run ≡ Ok x → Stands x run
+  word_or_symbol-sound run (Some y) x is e = let same : y ≡ x = cc in word_sound run x (is ∙ ap (λ (w : Edn). Some w) same)
+  word_or_symbol-sound run None x is e =
+      elim (chosen (is_symbol_name run) (Ok (symbol run)) (Err BadToken) (Ok x) e) [
+        | inl q ↦
+            let same : symbol run ≡ x = let h = q.1 in cc in
+            subst (λ (y : Edn). Stands y run) same (λ rest h. (run, (q.0, refl), refl, h))
+        | inr q ↦ absurd (let bad = q.1 in cc)
+      ]
 
-pub gap_is : (s : List ℕ) → IsGap (take (leading is_space s) s)
-gap_is [] = tt
-gap_is (c ∷ s) = elim (is_space c) as (λ b. is_space c ≡ b → IsGap (take (cond b (suc (leading is_space s)) 0) (c ∷ s))) [ true ↦ λ e. (e, gap_is s) | false ↦ λ e. tt ] refl
+  keyword_or_word : (run : List ℕ) (x : Edn) → cond (eqb (get_or run 0 0) colon && is_name (drop 1 run)) (Ok (keyword (drop 1 run))) (word_or_symbol (word_of run) run) ≡ Ok x → Stands x run
+  keyword_or_word run x e =
+      elim (chosen (eqb (get_or run 0 0) colon && is_name (drop 1 run)) (Ok (keyword (drop 1 run))) (word_or_symbol (word_of run) run) (Ok x) e) [
+        | inl q ↦
+            let both = and_both (eqb (get_or run 0 0) colon) (is_name (drop 1 run)) q.0 in
+            let same : keyword (drop 1 run) ≡ x = let h = q.1 in cc in
+            subst (λ (y : Edn). Stands y run) same
+            (λ rest h. (run, (both.1, begins_with colon run (omega arith) (eqb-true _ _ both.0)), refl, h))
+        | inr q ↦ word_or_symbol-sound run (word_of run) x refl q.1
+      ]
 
-no_run_front : (a b : List ℕ) → BeginsNoRun (a ++ b) → BeginsNoRun a
-no_run_front [] b h = tt
-no_run_front (c ∷ a) b h = h
+  atom_of-sound : (run : List ℕ) (x : Edn) → atom_of run ≡ Ok x → Stands x run
+  unfolding atom_of
+  atom_of-sound run x e =
+      let other : Result Edn Kind = cond (eqb (get_or run 0 0) colon && is_name (drop 1 run)) (Ok (keyword (drop 1 run))) (word_or_symbol (word_of run) run) in
+      elim (chosen (begins_number run) (as_int (number_of run)) other (Ok x) e) [
+        | inl p ↦
+            let a = as_int_ok (number_of run) x p.1 in
+            subst (λ (y : Edn). Stands y run) a.2 (λ rest h. (run, number_sound run a.0 p.0 a.1, refl, h))
+        | inr p ↦ keyword_or_word run x p.1
+      ]
 
-pub apart_front : (x : Edn) (a b : List ℕ) → Apart x (a ++ b) → Apart x a
-apart_front (int z) a b h = no_run_front a b h
-apart_front (str t) a b h = tt
-apart_front (keyword t) a b h = no_run_front a b h
-apart_front (vector t) a b h = tt
-apart_front (mapping t) a b h = tt
+  atom_sound : (s : List ℕ) (x : Edn) (r : List ℕ) → atom s ≡ Ok (x, r) → Form inner x s r
+  unfolding atom
+  atom_sound s x r e =
+      let p = placed_ok (atom_of (run_of s)) s (drop (leading is_run s) s) x r e in
+      let whole : s ≡ run_of s ++ r = sym (take-append-drop (leading is_run s) s) ∙ ap (λ (w : List ℕ). run_of s ++ w) p.1 in
+      subst (λ (w : List ℕ). Form inner x w r) (sym whole) (atom_of-sound (run_of s) x p.0 r (subst BeginsNoRun p.1 (run_ends s)))
+
+  -- the backslash stands first
+  char_before-sound : (c : ℕ) (t : List ℕ) (x : Edn) (r : List ℕ) → begins_char c t ≡ true → char_before c (backslash ∷ t) (drop (length (encode_utf8 c)) t) ≡ Ok (x, r) → Form inner x (backslash ∷ t) r
+  char_before-sound c t x r b e =
+      let front = encode_utf8 c in
+      let after = drop (length front) t in
+      let p = placed_ok (as_char (char_of c (run_of after))) (backslash ∷ t) (drop (leading is_run after) after) x r e in
+      let a = as_char_ok (char_of c (run_of after)) x p.0 in
+      let whole : t ≡ (front ++ run_of after) ++ r =
+      begins_with_char c t b ∙ ap (λ (w : List ℕ). front ++ w) (sym (take-append-drop (leading is_run after) after) ∙ ap (λ (w : List ℕ). run_of after ++ w) p.1) ∙ sym (append_assoc front (run_of after) r) in
+      subst (λ (y : Edn). Form inner y (backslash ∷ t) r) a.2
+      (front ++ run_of after, char_of-sound c (run_of after) a.0 (is_scalar c t b) a.1, ap (λ (w : List ℕ). backslash ∷ w) whole, subst BeginsNoRun p.1 (run_ends after))
+
+  character_at-sound : (o : Option ℕ) (t : List ℕ) (x : Edn) (r : List ℕ) → character_at o (backslash ∷ t) t ≡ Ok (x, r) → Form inner x (backslash ∷ t) r
+  character_at-sound None t x r e = absurd cc
+  character_at-sound (Some c) t x r e =
+      elim (chosen (begins_char c t) (char_before c (backslash ∷ t) (drop (length (encode_utf8 c)) t)) (fault BadToken (backslash ∷ t)) (Ok (x, r)) e) [
+        | inl p ↦ char_before-sound c t x r p.0 p.1
+        | inr p ↦ absurd (err_not _ _ p.1)
+      ]
+
+  character_sound : (t : List ℕ) (x : Edn) (r : List ℕ) → character (backslash ∷ t) ≡ Ok (x, r) → Form inner x (backslash ∷ t) r
+  unfolding character
+  character_sound t x r e = character_at-sound (slice_get (chars t) 0) t x r e
+
+  abbrev pub ElementsSound : Type 0
+  ElementsSound = (close : ℕ) (begin s : List ℕ) (xs : List Edn) (r : List ℕ) → deep.elements close begin s ≡ Ok (xs, r) → Elements inner (items_of xs) s (close ∷ r)
+
+  abbrev pub OneSound : Type 0
+  OneSound = (begin s : List ℕ) (x : Edn) (r : List ℕ) → deep.one begin s ≡ Ok (x, r) → inner.next x s r
+
+  module _ (h : ElementsSound) (one : OneSound) where
+    hashed_sound : (s : List ℕ) (x : Edn) (r : List ℕ) → hashed deep (hash ∷ s) ≡ Ok (x, r) → Form inner x (hash ∷ s) r
+    unfolding hashed
+    hashed_sound s x r e =
+        let begin = hash ∷ s in
+        let tag = run_of s in
+        let more = drop (leading is_run s) s in
+        let braced : Result (Edn × List ℕ) Fault = deep.elements close_brace begin (drop 1 s) >>= λ q. unique q.0 q.1 in
+        let tagging : Result (Edn × List ℕ) Fault = deep.one begin more >>= λ q. Ok (tagged tag q.0, q.1) in
+        let second : Result (Edn × List ℕ) Fault = cond (is_tag tag) tagging (fault BadToken begin) in
+        elim (chosen (eqb (get_or s 0 0) open_brace) braced second (Ok (x, r)) e) [
+          | inl p ↦
+              let a = bind_ok (deep.elements close_brace begin (drop 1 s)) (λ q. unique q.0 q.1) (x, r) p.1 in
+              let m = unique_ok a.0.0 a.0.1 x r a.2 in
+              subst (λ (y : Edn). Form inner y begin r) m.value
+              (subst (λ (w : List ℕ). Form inner (set (items_of a.0.0)) begin w) m.rest
+              (drop 1 s, ap (λ (w : List ℕ). hash ∷ w) (begins_with open_brace s (omega arith) (eqb-true _ _ p.0)), h close_brace begin (drop 1 s) a.0.0 a.0.1 a.1, m.differ))
+          | inr p ↦
+              elim (chosen (is_tag tag) tagging (fault BadToken begin) (Ok (x, r)) p.1) [
+                | inl q ↦
+                    let a = bind_ok (deep.one begin more) (λ w. Ok (tagged tag w.0, w.1)) (x, r) q.1 in
+                    subst (λ (y : Edn × List ℕ). Form inner y.0 begin y.1) (ok_is (tagged tag a.0.0, a.0.1) (x, r) a.2)
+                    (more, q.0, ap (λ (w : List ℕ). hash ∷ w) (sym (take-append-drop (leading is_run s) s)), run_ends s, one begin more a.0.0 a.0.1 a.1)
+                | inr q ↦ absurd (err_not _ _ q.1)
+              ]
+        ]
+
+    abbrev as_string : List ℕ × List ℕ → Result (Edn × List ℕ) Fault
+    as_string q = Ok (str q.0, q.1)
+
+    abbrev as_made : (Items → Edn) → List Edn × List ℕ → Result (Edn × List ℕ) Fault
+    as_made make q = Ok (make (items_of q.0), q.1)
+
+    -- brackets, and what is made of the elements between them
+    between_sound : (make : Items → Edn) (mark close : ℕ) (s : List ℕ) (x : Edn) (r : List ℕ)
+        → ((xs : Items) (t : List ℕ) → Elements inner xs s (close ∷ t) → Form inner (make xs) (mark ∷ s) t)
+        → (deep.elements close (mark ∷ s) s >>= as_made make) ≡ Ok (x, r) → Form inner x (mark ∷ s) r
+    between_sound make mark close s x r told e =
+        let a = bind_ok (deep.elements close (mark ∷ s) s) (as_made make) (x, r) e in
+        subst (λ (y : Edn × List ℕ). Form inner y.0 (mark ∷ s) y.1) (ok_is (make (items_of a.0.0), a.0.1) (x, r) a.2)
+        (told (items_of a.0.0) a.0.1 (h close (mark ∷ s) s a.0.0 a.0.1 a.1))
+
+    map_sound : (s : List ℕ) (x : Edn) (r : List ℕ) → (deep.elements close_brace (open_brace ∷ s) s >>= λ q. paired (pairs_of q.0) q.1) ≡ Ok (x, r) → Form inner x (open_brace ∷ s) r
+    map_sound s x r e =
+        let a = bind_ok (deep.elements close_brace (open_brace ∷ s) s) (λ w. paired (pairs_of w.0) w.1) (x, r) e in
+        let m = paired_ok (pairs_of a.0.0) a.0.1 x r a.2 in
+        let found = h close_brace (open_brace ∷ s) s a.0.0 a.0.1 a.1 in
+        subst (λ (y : Edn). Form inner y (open_brace ∷ s) r) m.value
+        (subst (λ (w : List ℕ). Form inner (mapping (members_of m.pairs)) (open_brace ∷ s) w) m.rest
+        (s, refl, subst (λ (w : Items). Elements inner w s (close_brace ∷ a.0.1)) (pairs_items a.0.0 m.pairs m.found) found, m.differ))
+
+    string_sound : (s : List ℕ) (x : Edn) (r : List ℕ) → (body s >>= as_string) ≡ Ok (x, r) → Form inner x (quote ∷ s) r
+    string_sound s x r e =
+        let a = bind_ok (body s) as_string (x, r) e in
+        let b = body_sound s a.0.0 a.0.1 a.1 in
+        subst (λ (y : Edn × List ℕ). Form inner y.0 (quote ∷ s) y.1) (ok_is (str a.0.0, a.0.1) (x, r) a.2)
+        (b.0, b.1, ap (λ (w : List ℕ). quote ∷ w) b.2)
+
+    -- a byte that is that one
+    at_byte : (c d : ℕ) (s : List ℕ) (x : Edn) (r : List ℕ) (given : ℕ → Result (Edn × List ℕ) Fault)
+        → eqb c d ≡ true → given c ≡ Ok (x, r) → (given d ≡ Ok (x, r) → Form inner x (d ∷ s) r) → Form inner x (c ∷ s) r
+    at_byte c d s x r given e h told =
+        let same : c ≡ d = eqb-true c d e in
+        subst (λ (n : ℕ). Form inner x (n ∷ s) r) (sym same) (told (subst (λ (n : ℕ). given n ≡ Ok (x, r)) same h))
+
+    element_sound : (s : List ℕ) (x : Edn) (r : List ℕ) → element deep s ≡ Ok (x, r) → Form inner x s r
+    unfolding element
+    element_sound [] x r e = absurd cc
+    element_sound (c ∷ s) x r e =
+        let Out : Type 0 = Result (Edn × List ℕ) Fault in
+        let text : ℕ → Out = λ n. body s >>= λ q. Ok (str q.0, q.1) in
+        let paren : ℕ → Out = λ n. deep.elements close_paren (n ∷ s) s >>= λ q. Ok (list (items_of q.0), q.1) in
+        let bracket : ℕ → Out = λ n. deep.elements close_bracket (n ∷ s) s >>= λ q. Ok (vector (items_of q.0), q.1) in
+        let brace : ℕ → Out = λ n. deep.elements close_brace (n ∷ s) s >>= λ q. paired (pairs_of q.0) q.1 in
+        let marked : ℕ → Out = λ n. hashed deep (n ∷ s) in
+        let slashed : ℕ → Out = λ n. character (n ∷ s) in
+        let last : Out = cond (is_run c) (atom (c ∷ s)) (fault BadToken (c ∷ s)) in
+        let sixth : Out = cond (eqb c hash) (marked c) last in
+        let fifth : Out = cond (eqb c backslash) (slashed c) sixth in
+        let fourth : Out = cond (eqb c open_brace) (brace c) fifth in
+        let third : Out = cond (eqb c open_bracket) (bracket c) fourth in
+        let second : Out = cond (eqb c open_paren) (paren c) third in
+        elim (chosen (eqb c quote) (text c) second (Ok (x, r)) e) [
+          | inl p ↦ at_byte c quote s x r text p.0 p.1 (string_sound s x r)
+          | inr p ↦
+              elim (chosen (eqb c open_paren) (paren c) third (Ok (x, r)) p.1) [
+                | inl q ↦ at_byte c open_paren s x r paren q.0 q.1 (between_sound list open_paren close_paren s x r (λ xs t g. (s, refl, g)))
+                | inr q ↦
+                    elim (chosen (eqb c open_bracket) (bracket c) fourth (Ok (x, r)) q.1) [
+                      | inl u ↦ at_byte c open_bracket s x r bracket u.0 u.1 (between_sound vector open_bracket close_bracket s x r (λ xs t g. (s, refl, g)))
+                      | inr u ↦
+                          elim (chosen (eqb c open_brace) (brace c) fifth (Ok (x, r)) u.1) [
+                            | inl v ↦ at_byte c open_brace s x r brace v.0 v.1 (map_sound s x r)
+                            | inr v ↦
+                                elim (chosen (eqb c backslash) (slashed c) sixth (Ok (x, r)) v.1) [
+                                  | inl w ↦ at_byte c backslash s x r slashed w.0 w.1 (character_sound s x r)
+                                  | inr w ↦
+                                      elim (chosen (eqb c hash) (marked c) last (Ok (x, r)) w.1) [
+                                        | inl y ↦ at_byte c hash s x r marked y.0 y.1 (hashed_sound s x r)
+                                        | inr y ↦
+                                            elim (chosen (is_run c) (atom (c ∷ s)) (fault BadToken (c ∷ s)) (Ok (x, r)) y.1) [
+                                              | inl z ↦ atom_sound (c ∷ s) x r z.1
+                                              | inr z ↦ absurd (err_not _ _ z.1)
+                                            ]
+                                      ]
+                                ]
+                          ]
+                    ]
+              ]
+        ]
+
+-- ---- gaps and elements
+
+-- in a comment: its line, and a gap behind
+record InComment (Next : Edn → List ℕ → List ℕ → Type 0) (s r : List ℕ) : Type 0 where
+  pub line : List ℕ
+  pub more : List ℕ
+  pub parts : s ≡ line ++ more
+  pub is_line : IsLine line
+  pub ends : EndsLine more
+  pub gap : GapIn Next more r
+
+line_feed_white : is_space line_feed ≡ true
+unfolding is_space
+line_feed_white = refl
+
+module _ (Next : Edn → List ℕ → List ℕ → Type 0) where
+  mutual
+    blank_sound : (s r : List ℕ) → GapIn Next (after_blank s) r → GapIn Next s r
+    blank_sound [] r g = g
+    blank_sound (c ∷ s) r g =
+        elim (is_space c) as (λ b. is_space c ≡ b → GapIn Next (cond b (after_blank s) (cond (eqb c semicolon) (after_comment s) (c ∷ s))) r → GapIn Next (c ∷ s) r) [
+          | true ↦ λ e h. white c s refl e (blank_sound s r h)
+          | false ↦ λ e h.
+              elim (eqb c semicolon) as (λ b. eqb c semicolon ≡ b → GapIn Next (cond b (after_comment s) (c ∷ s)) r → GapIn Next (c ∷ s) r) [
+                | true ↦ λ f k.
+                    let q = comment_sound s r k in
+                    comment q.line q.more (ap (λ (n : ℕ). n ∷ s) (eqb-true _ _ f) ∙ ap (λ (w : List ℕ). semicolon ∷ w) q.parts) q.is_line q.ends q.gap
+                | false ↦ λ f k. k
+              ] refl h
+        ] refl g
+
+    comment_sound : (s r : List ℕ) → GapIn Next (after_comment s) r → InComment Next s r
+    comment_sound [] r g = record { line = []; more = []; parts = refl; is_line = refl; ends = tt; gap = g }
+    comment_sound (c ∷ s) r g =
+        elim (eqb c line_feed) as (λ b. eqb c line_feed ≡ b → GapIn Next (cond b (after_blank s) (after_comment s)) r → InComment Next (c ∷ s) r) [
+          | true ↦ λ e h.
+              let feed : c ≡ line_feed = eqb-true _ _ e in
+              record { line = []; more = c ∷ s; parts = refl; is_line = refl; ends = feed; gap = white c s refl (rw feed line_feed_white) (blank_sound s r h) }
+          | false ↦ λ e h.
+              let q = comment_sound s r h in
+              record { line = c ∷ q.line; more = q.more; parts = ap (λ (w : List ℕ). c ∷ w) q.parts; is_line = rw e q.is_line; ends = q.ends; gap = q.gap }
+        ] refl g
+
+pub discard_is : (s : List ℕ) → begins_discard s ≡ true → s ≡ hash ∷ underscore ∷ drop 2 s
+unfolding begins_discard
+discard_is [] e = absurd cc
+discard_is (c ∷ []) e = absurd (grind (arith, common_steps))
+discard_is (c ∷ d ∷ s) e =
+    let both = and_both (eqb c hash) (eqb d underscore) e in
+    ap (λ (n : ℕ). n ∷ d ∷ s) (eqb-true _ _ both.0) ∙ ap (λ (n : ℕ). hash ∷ n ∷ s) (eqb-true _ _ both.1)
+
+module _ (deep : Deeper) (inner : Inner) (one : OneSound deep inner) where
+  gap_turns-sound : (n : ℕ) (s r : List ℕ) → gap_turns deep n s ≡ Ok r → GapIn inner.next s r
+  unfolding gap_turns
+  gap_turns-sound zero s r e = absurd cc
+  gap_turns-sound (suc n) s r e =
+      let t = after_blank s in
+      let more : Result (List ℕ) Fault = deep.one t (drop 2 t) >>= λ x. gap_turns deep n x.1 in
+      elim (chosen (begins_discard t) more (Ok t) (Ok r) e) [
+        | inl p ↦
+            let a = bind_ok (deep.one t (drop 2 t)) (λ x. gap_turns deep n x.1) r p.1 in
+            blank_sound inner.next s r (discard a.0.0 (drop 2 t) a.0.1 (discard_is t p.0) (one t (drop 2 t) a.0.0 a.0.1 a.1) (gap_turns-sound n a.0.1 r a.2))
+        | inr p ↦ blank_sound inner.next s r (nothing (ok_is t r p.1))
+      ]
+
+  gap_in-sound : (s r : List ℕ) → gap_in deep s ≡ Ok r → GapIn inner.next s r
+  gap_in-sound s r e = gap_turns-sound (suc (length s)) s r e
 
 step_ok : (close : ℕ) (value : Read Edn) (more : Read (List Edn)) (here : List ℕ) (xs : List Edn) (r : List ℕ) → items_step close value more here ≡ Ok (xs, r)
     → ((here ≡ close ∷ r) × (xs ≡ [])) ⊎ ((x : Edn) × (after : List ℕ) × (ys : List Edn) × (value here ≡ Ok (x, after)) × (more after ≡ Ok (ys, r)) × (xs ≡ x ∷ ys))
@@ -315,28 +531,39 @@ step_ok close value more (c ∷ s) xs r e =
           inr (a.0.0, a.0.1, b.0, a.1, b.1, b.2)
     ]
 
-module _ (close : ℕ) (value : Read Edn) (P : Edn → List ℕ → Type 0) (sound : (s : List ℕ) (x : Edn) (r : List ℕ) → value s ≡ Ok (x, r) → Takes P s x r) where
-  pub items_sound : (n : ℕ) (s : List ℕ) (xs : List Edn) (r : List ℕ) → items close value n s ≡ Ok (xs, r) → (inner : List ℕ) × (s ≡ inner ++ close ∷ r) × Elements P (items_of xs) inner
+module _ (close : ℕ) (deep : Deeper) (inner : Inner) (one : OneSound deep inner) (value : (s : List ℕ) (x : Edn) (r : List ℕ) → element deep s ≡ Ok (x, r) → Form inner x s r) where
+  items_sound : (n : ℕ) (s : List ℕ) (xs : List Edn) (r : List ℕ) → items close (gap_in deep) (element deep) n s ≡ Ok (xs, r) → Elements (around inner) (items_of xs) s (close ∷ r)
   unfolding items
   items_sound zero s xs r e = absurd cc
   items_sound (suc n) s xs r e =
-      let gap = take (leading is_space s) s in
-      let cut : s ≡ gap ++ after_gap s = sym (take-append-drop (leading is_space s) s) in
-      elim (step_ok close value (items close value n) (after_gap s) xs r e) [
-        | inl p ↦ (gap, cut ∙ ap (λ (w : List ℕ). gap ++ w) p.0, rw p.1 (gap_is s))
-        | inr p ↦
-            let t = sound (after_gap s) p.0 p.1 p.3 in
-            let below = items_sound n p.1 p.2 r p.4 in
-            rw p.5 (
-              gap ++ (t.text ++ below.0),
-              cut ∙ ap (λ (w : List ℕ). gap ++ w) (t.parts ∙ ap (λ (w : List ℕ). t.text ++ w) below.1 ∙ sym (append_assoc t.text below.0 (close ∷ r))) ∙ sym (append_assoc gap (t.text ++ below.0) (close ∷ r)),
-              (gap, t.text, below.0, refl, gap_is s, t.spells, apart_front p.0 below.0 (close ∷ r) (subst (Apart p.0) below.1 t.apart), below.2),
-            )
+      let a = bind_ok (gap_in deep s) (items_step close (element deep) (items close (gap_in deep) (element deep) n)) (xs, r) e in
+      let gone = gap_in-sound deep inner one s a.0 a.1 in
+      elim (step_ok close (element deep) (items close (gap_in deep) (element deep) n) a.0 xs r a.2) [
+        | inl p ↦ rw p.1 (subst (λ (w : List ℕ). GapIn inner.next s w) p.0 gone)
+        | inr p ↦ rw p.5 (p.1, (a.0, gone, value a.0 p.0 p.1 p.3), items_sound n p.1 p.2 r p.4)
       ]
 
-pub read_sound : (depth : ℕ) (s : List ℕ) (x : Edn) (r : List ℕ) → read depth s ≡ Ok (x, r) → Takes (Spells depth) s x r
-unfolding read Spells
-read_sound zero s x r e = element_sound ⊥ (λ y t. ⊥) too_deep (λ close c t xs q bad. absurd (err_not _ _ bad)) s x r e
-read_sound (suc depth) s x r e =
-    element_sound (Unit {0}) (Spells depth) (λ close c t. items close (read depth) (suc (length t)) t)
-    (λ close c t xs q h. let p = items_sound close (read depth) (Spells depth) (read_sound depth) (suc (length t)) t xs q h in (tt, p.0, p.1, p.2)) s x r e
+-- what is read there is what may stand there
+pub record Sound (deep : Deeper) (inner : Inner) : Type 0 where
+  pub elements : ElementsSound deep inner
+  pub one : OneSound deep inner
+
+pub sound : (depth : ℕ) → Sound (deeper depth) (inside depth)
+unfolding deeper inside
+sound zero = record { elements = λ close begin s xs r bad. absurd (err_not _ _ bad); one = λ begin s x r bad. absurd (err_not _ _ bad) }
+sound (suc depth) =
+    let deep = deeper depth in
+    let below = sound depth in
+    let value = element_sound deep (inside depth) below.elements below.one in
+    record {
+      elements = λ close begin s xs r e. items_sound close deep (inside depth) below.one value (suc (length s)) s xs r e;
+      one = λ begin s x r e.
+          let a = bind_ok (gap_in deep s) (element deep) (x, r) e in
+          (a.0, gap_in-sound deep (inside depth) below.one s a.0 a.1, value a.0 x r a.2);
+    }
+
+pub gap_sound : (depth : ℕ) (s r : List ℕ) → gap depth s ≡ Ok r → GapIn (inside depth).next s r
+gap_sound depth s r e = gap_in-sound (deeper depth) (inside depth) (sound depth).one s r e
+
+pub read_sound : (depth : ℕ) (s : List ℕ) (x : Edn) (r : List ℕ) → read depth s ≡ Ok (x, r) → Form (inside depth) x s r
+read_sound depth s x r e = element_sound (deeper depth) (inside depth) (sound depth).elements (sound depth).one s x r e

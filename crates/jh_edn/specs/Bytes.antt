@@ -1,7 +1,9 @@
--- The bytes of EDN texts (EDN's format description, "General considerations", "Strings", "Symbols", "Keywords").
+-- The bytes of EDN texts (EDN's format description, "General considerations", "Strings", "Symbols", "Keywords",
+-- "Characters", "Comments", "Discard").
 -- A text is the list of its UTF-8 bytes. Every byte that means something by itself is ASCII.
-use Rattle.std.specs.Prelude.{ℕ, suc, ◌<◌, Bool, not, ◌&&◌, ◌||◌, ◌==◌, nat_le, List, [], ◌∷◌, Option, Some, None, if◌then◌else◌, codes}
+use Rattle.std.specs.Prelude.{ℕ, suc, ◌<◌, Bool, not, ◌&&◌, ◌||◌, ◌==◌, nat_le, nat_lt, List, [], ◌∷◌, slice_index, Option, Some, None, if◌then◌else◌, codes}
 use Rattle.std.specs.List.{list_any}
+use Rattle.std.specs.Char.{digit_value}
 use Rattle.std.specs.Str.{byte}
 
 abbrev pub backspace : ℕ
@@ -25,6 +27,15 @@ space = byte " "
 abbrev pub quote : ℕ
 quote = byte "\""
 
+abbrev pub hash : ℕ
+hash = byte "#"
+
+abbrev pub open_paren : ℕ
+open_paren = byte "("
+
+abbrev pub close_paren : ℕ
+close_paren = byte ")"
+
 abbrev pub plus : ℕ
 plus = byte "+"
 
@@ -46,6 +57,9 @@ digit_nine = byte "9"
 abbrev pub colon : ℕ
 colon = byte ":"
 
+abbrev pub semicolon : ℕ
+semicolon = byte ";"
+
 abbrev pub capital_n : ℕ
 capital_n = byte "N"
 
@@ -57,6 +71,9 @@ backslash = byte "\\"
 
 abbrev pub close_bracket : ℕ
 close_bracket = byte "]"
+
+abbrev pub underscore : ℕ
+underscore = byte "_"
 
 abbrev pub open_brace : ℕ
 open_brace = byte "{"
@@ -112,6 +129,18 @@ escaped c =
 unfoldable pub is_symbol : ℕ → Bool
 is_symbol c = is_digit c || is_between (byte "A") (byte "Z") c || is_between (byte "a") (byte "z") c || is_among (codes ".*+!-_?$%&=<>:#'/") c
 
+-- an ASCII letter
+unfoldable pub is_letter : ℕ → Bool
+is_letter c = is_between (byte "A") (byte "Z") c || is_between (byte "a") (byte "z") c
+
+-- a hexadecimal digit, of either case
+unfoldable pub is_hex : ℕ → Bool
+is_hex c = nat_lt (digit_value c) 16
+
+-- a character that may not stand behind a backslash: white space, but for the comma
+unfoldable pub is_blank : ℕ → Bool
+is_blank c = c == space || is_between tab carriage_return c
+
 -- what may be the first character of a keyword's name
 unfoldable pub is_first : ℕ → Bool
 is_first c = is_symbol c && not (is_among (codes ":#'/") c)
@@ -120,3 +149,7 @@ is_first c = is_symbol c && not (is_among (codes ":#'/") c)
 abbrev pub leading : (ℕ → Bool) → List ℕ → ℕ
 leading p [] = 0
 leading p (c ∷ s) = if p c then suc (leading p s) else 0
+
+-- a discard stands first: #_
+unfoldable pub begins_discard : List ℕ → Bool
+begins_discard s = slice_index s 0 == hash && slice_index s 1 == underscore

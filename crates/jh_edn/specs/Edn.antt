@@ -1,14 +1,21 @@
 -- EDN values, as contracts see them (EDN's format description, "Built-in elements").
--- A text is the list of its UTF-8 bytes. A new kind of element is a new case of `Edn`.
-use Rattle.std.specs.Prelude.{ℕ, suc, ◌+◌, ℤ, List, [], ◌∷◌, Option, Some, None}
+-- A text is the list of its UTF-8 bytes, a character its code point.
+use Rattle.std.specs.Prelude.{ℕ, suc, ◌+◌, Bool, ℤ, List, [], ◌∷◌, Option, Some, None}
 
 mutual
   pub data Edn : Type 0 where
+    nil : Edn
+    boolean : Bool → Edn
     int : ℤ → Edn
+    char : ℕ → Edn
     str : List ℕ → Edn
     keyword : List ℕ → Edn
+    symbol : List ℕ → Edn
+    list : Items → Edn
     vector : Items → Edn
     mapping : Members → Edn
+    set : Items → Edn
+    tagged : List ℕ → Edn → Edn
 
   -- a list of values
   pub data Items : Type 0 where
@@ -28,14 +35,21 @@ abbrev pub members_of : List (Edn × Edn) → Members
 members_of [] = no_members
 members_of (m ∷ ms) = member m.0 m.1 (members_of ms)
 
--- how large a value is, by which a proof goes down it: one for each collection and each thing in one
+-- how large a value is, by which a proof goes down it: one for each collection, each tag and each thing in one
 abbrev mutual
   pub size_of : Edn → ℕ
+  size_of nil = 0
+  size_of (boolean b) = 0
   size_of (int z) = 0
+  size_of (char c) = 0
   size_of (str s) = 0
   size_of (keyword s) = 0
+  size_of (symbol s) = 0
+  size_of (list xs) = suc (size_items xs)
   size_of (vector xs) = suc (size_items xs)
   size_of (mapping ms) = suc (size_members ms)
+  size_of (set xs) = suc (size_items xs)
+  size_of (tagged tag x) = suc (size_of x)
 
   pub size_items : Items → ℕ
   size_items no_items = 0
@@ -56,7 +70,8 @@ abbrev pub list_of : Items → List Edn
 list_of no_items = []
 list_of (item x xs) = x ∷ list_of xs
 
--- the elements of a sequence: of a vector, and of nothing else
+-- the elements of a sequence: of a list or a vector, and of nothing else
 abbrev pub elements_of : Edn → Option (List Edn)
+elements_of (list xs) = Some (list_of xs)
 elements_of (vector xs) = Some (list_of xs)
 elements_of _ = None

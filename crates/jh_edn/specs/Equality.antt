@@ -1,7 +1,16 @@
--- When two EDN values are equal (EDN's format description, "Equality"): integers, strings and keywords by
--- what they hold, vectors element by element, maps whatever the order of their pairs.
+-- When two EDN values are equal (EDN's format description, "Equality"): by what they hold, lists and vectors
+-- element by element and a list also to a vector, maps and sets whatever the order, tagged ones by tag and element.
 use Rattle.std.specs.Prelude.{◌≡◌, ◌⊎◌}
-use Rattle.jh_edn.specs.Edn.{Edn, int, str, keyword, vector, mapping, Items, no_items, item, Members, no_members, member}
+use Rattle.jh_edn.specs.Edn.{Edn, nil, boolean, int, char, str, keyword, symbol, list, vector, mapping, set, tagged, Items, no_items, item, Members, no_members, member}
+
+-- these are the elements of a list or a vector
+abbrev pub IsSequence : Edn → Items → Type 0
+IsSequence y ys = (y ≡ list ys) ⊎ (y ≡ vector ys)
+
+-- the others are the elements without one that is that
+abbrev pub Takes : Edn → Items → Items → Type 0
+Takes x no_items others = ⊥
+Takes x (item y ys) others = ((y ≡ x) × (others ≡ ys)) ⊎ ((rest : Items) × (others ≡ item y rest) × Takes x ys rest)
 
 -- the others are the members without one pair of that key and value
 abbrev pub Picks : Edn → Edn → Members → Members → Type 0
@@ -11,11 +20,18 @@ Picks key value (member k v ms) others =
 
 abbrev mutual
   pub Equals : Edn → Edn → Type 0
+  Equals nil y = y ≡ nil
+  Equals (boolean b) y = y ≡ boolean b
   Equals (int z) y = y ≡ int z
+  Equals (char c) y = y ≡ char c
   Equals (str s) y = y ≡ str s
   Equals (keyword s) y = y ≡ keyword s
-  Equals (vector xs) y = (ys : Items) × (y ≡ vector ys) × EqualItems xs ys
+  Equals (symbol s) y = y ≡ symbol s
+  Equals (list xs) y = (ys : Items) × IsSequence y ys × EqualItems xs ys
+  Equals (vector xs) y = (ys : Items) × IsSequence y ys × EqualItems xs ys
   Equals (mapping ms) y = (ns : Members) × (y ≡ mapping ns) × EqualMembers ms ns
+  Equals (set xs) y = (ys : Items) × (y ≡ set ys) × EqualElements xs ys
+  Equals (tagged tag x) y = (z : Edn) × (y ≡ tagged tag z) × Equals x z
 
   -- as many, equal one by one
   pub EqualItems : Items → Items → Type 0
@@ -23,17 +39,30 @@ abbrev mutual
   EqualItems (item x xs) ys = (y : Edn) × (rest : Items) × (ys ≡ item y rest) × Equals x y × EqualItems xs rest
 
   -- as many, equal one by one in some order
+  pub EqualElements : Items → Items → Type 0
+  EqualElements no_items ys = ys ≡ no_items
+  EqualElements (item x xs) ys = (y : Edn) × (others : Items) × Takes y ys others × Equals x y × EqualElements xs others
+
+  -- as many, equal one by one in some order
   pub EqualMembers : Members → Members → Type 0
   EqualMembers no_members ns = ns ≡ no_members
   EqualMembers (member k v ms) ns =
       (key : Edn) × (value : Edn) × (others : Members) × Picks key value ns others × Equals k key × Equals v value × EqualMembers ms others
 
--- the key is equal to none of the members' keys
-abbrev pub IsNewKey : Edn → Members → Type 0
-IsNewKey key no_members = Unit {0}
-IsNewKey key (member k v ms) = (Equals key k → ⊥) × IsNewKey key ms
+-- the value is equal to none of the elements
+abbrev pub IsNew : Edn → Items → Type 0
+IsNew x no_items = Unit {0}
+IsNew x (item y ys) = (Equals x y → ⊥) × IsNew x ys
+
+-- no two elements are equal
+abbrev pub Differ : Items → Type 0
+Differ no_items = Unit {0}
+Differ (item x xs) = IsNew x xs × Differ xs
+
+abbrev pub keys_of : Members → Items
+keys_of no_members = no_items
+keys_of (member k v ms) = item k (keys_of ms)
 
 -- no two keys are equal
 abbrev pub KeysDiffer : Members → Type 0
-KeysDiffer no_members = Unit {0}
-KeysDiffer (member k v ms) = IsNewKey k ms × KeysDiffer ms
+KeysDiffer ms = Differ (keys_of ms)

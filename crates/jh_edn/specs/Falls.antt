@@ -5,18 +5,25 @@ use denote.Param.Weighed.{most}
 use Rattle.jh_edn.specs.Edn.{size_of, size_list, size_pairs}
 use Rattle.jh_edn.specs.View.{view, views, view_pairs}
 use Rattle.jh_edn.specs.declared.value.Value.{Value}
-use Rattle.jh_edn.specs.declared.value.Value.TheVariants.{Int, Str, Keyword, Vector, Map}
+use Rattle.jh_edn.specs.declared.value.Value.TheVariants.{Nil, Bool, Int, Char, Str, Keyword, Symbol, List as Listed, Vector, Map, Set, Tagged}
 use Rattle.jh_edn.specs.declared.value.Pairs.TheDeep.{deep-Value, deep-Pairs}
 use Rattle.jh_edn.specs.declared.value.Pairs.TheInside.{Inside}
 use Rattle.jh_edn.specs.declared.value.Pairs.TheShapes.{weighed-Pairs-items-at-2}
 use Rattle.jh_edn.specs.declared.value.Value.TheVariants.{the_data}
 
-deep : (v : Value) → deep-Value v ≤ size_of (view v)
+pub deep : (v : Value) → deep-Value v ≤ size_of (view v)
+deep Nil = omega arith
+deep (Bool b) = omega arith
 deep (Int b) = omega arith
+deep (Char b) = omega arith
 deep (Str b) = omega arith
 deep (Keyword b) = omega arith
+deep (Symbol b) = omega arith
+deep (Listed b) = omega arith
 deep (Vector b) = omega arith
 deep (Map b) = omega arith
+deep (Set b) = omega arith
+deep (Tagged b) = omega arith
 
 pub values_fall : (xs : List Value) → most (λ x. deep-Value x) xs ≤ size_list (views xs)
 values_fall [] = omega arith

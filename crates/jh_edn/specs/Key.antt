@@ -1,92 +1,106 @@
--- A list of numbers for each value, the same list exactly where the values are equal (this project's own).
--- Lists are in order by kind (integers, strings, keywords, vectors, maps) and then by content.
-use Rattle.std.specs.Prelude.{ℕ, suc, ◌-◌, ◌^◌, Bool, false, ◌||◌, ℤ, pos, negsuc, List, [], ◌∷◌, ◌++◌, map, if◌then◌else◌}
-use Rattle.std.specs.Ordering.{nat_cmp, is_lt}
+-- A list of parts for each value, the same list exactly where the values are equal (this project's own).
+use Rattle.std.specs.Prelude.{ℕ, Bool, true, false, ◌||◌, ℤ, pos, List, [], ◌∷◌, ◌++◌, map, if◌then◌else◌, Vec}
+use Rattle.std.specs.Global.{Global}
+use Rattle.std.specs.declared.cmp.Ordering.{Ordering}
+use Rattle.std.specs.Ordering.{nat_cmp, int_cmp, ordering_then, is_lt, is_eq}
 use Rattle.std.specs.Cmp.Lexicographic.{slice_cmp}
-use Rattle.std.specs.Str.{bytes_eq}
-use Rattle.jh_edn.specs.Edn.{Edn, int, str, keyword, vector, mapping, Items, no_items, item, Members, no_members, member}
+use Rattle.jh_edn.specs.declared.key.Part.{Part}
+use Rattle.jh_edn.specs.declared.key.Mark.{Mark}
+use Rattle.jh_edn.specs.declared.key.Mark.TheVariants as mark
+use Rattle.jh_edn.specs.Edn.{Edn, nil, boolean, int, char, str, keyword, symbol, list, vector, mapping, set, tagged, Items, no_items, item, Members, no_members, member}
+use Rattle.jh_edn.specs.Order.{in_order, text_cmp}
 
--- what a value's list begins with, by its kind
-abbrev pub int_kind : ℕ
-int_kind = 1
+-- a part of a key: what begins or ends there, and its number or text where it has one
+pub record KeyPart : Type 0 where
+  pub mark : Mark
+  pub number : ℤ
+  pub text : List ℕ
 
-abbrev pub str_kind : ℕ
-str_kind = 2
+-- what a contract sees of a part that a program holds
+abbrev pub seen : Part → KeyPart
+seen p = record { mark = p.mark; number = p.number; text = p.text.now }
 
-abbrev pub keyword_kind : ℕ
-keyword_kind = 3
+-- the parts, and the keys, that a program holds
+abbrev pub parts_of : List Part → List KeyPart
+parts_of ps = map seen ps
 
-abbrev pub vector_kind : ℕ
-vector_kind = 4
+abbrev pub keys_in : List (Vec Part Global) → List (List KeyPart)
+keys_in vs = map (λ v. parts_of v.items) vs
 
-abbrev pub mapping_kind : ℕ
-mapping_kind = 5
+abbrev pub bare : Mark → KeyPart
+bare m = record { mark = m; number = pos 0; text = [] }
 
--- what ends a list of things, and what leads each of them
-abbrev pub last_mark : ℕ
-last_mark = 0
+abbrev pub numbered : Mark → ℤ → KeyPart
+numbered m z = record { mark = m; number = z; text = [] }
 
-abbrev pub more_mark : ℕ
-more_mark = 1
+abbrev pub texted : Mark → List ℕ → KeyPart
+texted m s = record { mark = m; number = pos 0; text = s }
 
--- what leads an integer, by its sign
-abbrev pub negative_mark : ℕ
-negative_mark = 0
+-- where a mark stands among the marks
+abbrev pub mark_place : Mark → ℕ
+mark_place mark.Last = 0
+mark_place mark.More = 1
+mark_place mark.Nil = 2
+mark_place mark.Bool = 3
+mark_place mark.Int = 4
+mark_place mark.Char = 5
+mark_place mark.Str = 6
+mark_place mark.Keyword = 7
+mark_place mark.Symbol = 8
+mark_place mark.Sequence = 9
+mark_place mark.Map = 10
+mark_place mark.Set = 11
+mark_place mark.Tagged = 12
 
-abbrev pub positive_mark : ℕ
-positive_mark = 1
+abbrev pub part_cmp : KeyPart → KeyPart → Ordering
+part_cmp p q = ordering_then (nat_cmp (mark_place p.mark) (mark_place q.mark)) (ordering_then (int_cmp p.number q.number) (text_cmp p.text q.text))
 
--- A negative integer also says how far it is above the least of 64 bits, so that lists ascend with integers.
-abbrev pub integer_key : ℤ → List ℕ
-integer_key (pos n) = positive_mark ∷ n ∷ []
-integer_key (negsuc n) = negative_mark ∷ (2 ^ 63 - suc n) ∷ suc n ∷ []
+abbrev pub key_cmp : List KeyPart → List KeyPart → Ordering
+key_cmp = slice_cmp part_cmp
 
--- bytes, each one more than it is, and an end
-abbrev pub text_key : List ℕ → List ℕ
-text_key s = map suc s ++ last_mark ∷ []
+abbrev pub is_key_below : List KeyPart → List KeyPart → Bool
+is_key_below k l = is_lt (key_cmp k l)
 
--- these lists one after the other, each led by a mark, and an end
-abbrev pub marked_keys : List (List ℕ) → List ℕ
-marked_keys [] = last_mark ∷ []
-marked_keys (k ∷ ks) = more_mark ∷ (k ++ marked_keys ks)
-
--- the list put before the first that is not below it
-abbrev pub put_in_order : List ℕ → List (List ℕ) → List (List ℕ)
-put_in_order k [] = k ∷ []
-put_in_order k (l ∷ ls) = if is_lt (slice_cmp nat_cmp l k) then l ∷ put_in_order k ls else k ∷ l ∷ ls
-
--- the lists in ascending order
-abbrev pub in_order : List (List ℕ) → List (List ℕ)
-in_order [] = []
-in_order (k ∷ ks) = put_in_order k (in_order ks)
+-- these keys one after the other, each led by a mark, and an end
+abbrev pub marked_keys : List (List KeyPart) → List KeyPart
+marked_keys [] = bare mark.Last ∷ []
+marked_keys (k ∷ ks) = bare mark.More ∷ (k ++ marked_keys ks)
 
 abbrev mutual
-  pub key_of : Edn → List ℕ
-  key_of (int z) = int_kind ∷ integer_key z
-  key_of (str s) = str_kind ∷ text_key s
-  key_of (keyword s) = keyword_kind ∷ text_key s
-  key_of (vector xs) = vector_kind ∷ items_key xs
-  key_of (mapping ms) = mapping_kind ∷ marked_keys (in_order (pair_keys ms))
+  pub key_of : Edn → List KeyPart
+  key_of nil = bare mark.Nil ∷ []
+  key_of (boolean b) = numbered mark.Bool (pos (if b then 1 else 0)) ∷ []
+  key_of (int z) = numbered mark.Int z ∷ []
+  key_of (char c) = numbered mark.Char (pos c) ∷ []
+  key_of (str s) = texted mark.Str s ∷ []
+  key_of (keyword s) = texted mark.Keyword s ∷ []
+  key_of (symbol s) = texted mark.Symbol s ∷ []
+  key_of (list xs) = bare mark.Sequence ∷ marked_keys (item_keys xs)
+  key_of (vector xs) = bare mark.Sequence ∷ marked_keys (item_keys xs)
+  key_of (mapping ms) = bare mark.Map ∷ marked_keys (in_order is_key_below (pair_keys ms))
+  key_of (set xs) = bare mark.Set ∷ marked_keys (in_order is_key_below (item_keys xs))
+  key_of (tagged tag x) = texted mark.Tagged tag ∷ key_of x
 
-  pub items_key : Items → List ℕ
-  items_key no_items = last_mark ∷ []
-  items_key (item x xs) = more_mark ∷ (key_of x ++ items_key xs)
+  -- for each element its key
+  pub item_keys : Items → List (List KeyPart)
+  item_keys no_items = []
+  item_keys (item x xs) = key_of x ∷ item_keys xs
 
-  -- for each pair its key's list and then its value's
-  pub pair_keys : Members → List (List ℕ)
+  -- for each pair its key's key and then its value's
+  pub pair_keys : Members → List (List KeyPart)
   pair_keys no_members = []
   pair_keys (member k v ms) = (key_of k ++ key_of v) ∷ pair_keys ms
 
--- the list is one of these
-abbrev pub is_in : List ℕ → List (List ℕ) → Bool
+-- the key is one of these
+abbrev pub is_in : List KeyPart → List (List KeyPart) → Bool
 is_in k [] = false
-is_in k (l ∷ ls) = bytes_eq l k || is_in k ls
+is_in k (l ∷ ls) = is_eq (key_cmp l k) || is_in k ls
 
--- one of the lists is among those before, or stands twice itself
-abbrev pub has_twice_after : List (List ℕ) → List (List ℕ) → Bool
+-- one of the keys is among those before, or stands twice itself
+abbrev pub has_twice_after : List (List KeyPart) → List (List KeyPart) → Bool
 has_twice_after before [] = false
 has_twice_after before (k ∷ ks) = is_in k before || has_twice_after (before ++ k ∷ []) ks
 
--- one of the lists stands twice
-abbrev pub has_twice : List (List ℕ) → Bool
+-- one of the keys stands twice
+abbrev pub has_twice : List (List KeyPart) → Bool
 has_twice ks = has_twice_after [] ks

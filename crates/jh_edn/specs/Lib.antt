@@ -4,9 +4,12 @@ pub mod View
 pub mod Falls
 pub mod Bytes
 pub mod Equality
+pub mod Order
 pub mod Key
 pub mod Spelling
 pub mod Reading
+pub mod Normal
+pub mod Printable
 pub mod Gives
 pub mod Refused
 pub mod Print

@@ -1,9 +1,10 @@
 -- The one printed text of a value (this project's own; what it may look like is EDN's format description).
-use Rattle.std.specs.Prelude.{ℕ, Bool, List, [], ◌∷◌, ◌++◌, if◌then◌else◌, ◌==◌, codes}
+use Rattle.std.specs.Prelude.{ℕ, ◌/◌, ◌%◌, Bool, ◌||◌, nat_lt, List, [], ◌∷◌, ◌++◌, if◌then◌else◌, ◌==◌, codes, encode_utf8}
+use Rattle.std.specs.Char.{digit_char}
 use Rattle.std.specs.List.{flat_map}
 use Rattle.std.specs.Fmt.{signed_decimal}
-use Rattle.jh_edn.specs.Edn.{Edn, int, str, keyword, vector, mapping, Items, no_items, item, Members, no_members, member}
-use Rattle.jh_edn.specs.Bytes.{backspace, tab, line_feed, form_feed, carriage_return, quote, colon, backslash, open_bracket, close_bracket, open_brace, close_brace}
+use Rattle.jh_edn.specs.Edn.{Edn, nil, boolean, int, char, str, keyword, symbol, list, vector, mapping, set, tagged, Items, no_items, item, Members, no_members, member}
+use Rattle.jh_edn.specs.Bytes.{backspace, tab, line_feed, form_feed, carriage_return, space, quote, hash, colon, backslash, open_paren, close_paren, open_bracket, close_bracket, open_brace, close_brace}
 
 -- a byte of a string, as it stands between quotes
 abbrev pub escape : ℕ → List ℕ
@@ -11,6 +12,21 @@ escape c =
     if c == quote then codes "\\\"" else if c == backslash then codes "\\\\" else if c == line_feed then codes "\\n"
     else if c == tab then codes "\\t" else if c == carriage_return then codes "\\r" else if c == backspace then codes "\\b"
     else if c == form_feed then codes "\\f" else c ∷ []
+
+-- a character that would not show
+abbrev pub is_unshown : ℕ → Bool
+is_unshown c = nat_lt c 32 || c == 127
+
+-- u and the character's number below 256 in four hexadecimal digits
+abbrev pub char_number : ℕ → List ℕ
+char_number c = codes "u00" ++ digit_char (c / 16) ∷ digit_char (c % 16) ∷ []
+
+-- what stands behind the backslash of a character: its name, its number where it would not show, or itself
+unfoldable pub char_text : ℕ → List ℕ
+char_text c =
+    if c == line_feed then codes "newline" else if c == carriage_return then codes "return" else if c == space then codes "space"
+    else if c == tab then codes "tab" else if c == form_feed then codes "formfeed" else if c == backspace then codes "backspace"
+    else if is_unshown c then char_number c else encode_utf8 c
 
 -- texts one after the other, with the separator between
 abbrev pub joined : List ℕ → List (List ℕ) → List ℕ
@@ -24,11 +40,18 @@ unless_first first separator = if first then [] else separator
 
 abbrev mutual
   pub print : Edn → List ℕ
+  print nil = codes "nil"
+  print (boolean b) = if b then codes "true" else codes "false"
   print (int z) = signed_decimal z
+  print (char c) = backslash ∷ char_text c
   print (str s) = quote ∷ (flat_map escape s ++ quote ∷ [])
   print (keyword s) = colon ∷ s
+  print (symbol s) = s
+  print (list xs) = open_paren ∷ (joined (codes " ") (item_texts xs) ++ close_paren ∷ [])
   print (vector xs) = open_bracket ∷ (joined (codes " ") (item_texts xs) ++ close_bracket ∷ [])
   print (mapping ms) = open_brace ∷ (joined (codes ", ") (member_texts ms) ++ close_brace ∷ [])
+  print (set xs) = hash ∷ open_brace ∷ (joined (codes " ") (item_texts xs) ++ close_brace ∷ [])
+  print (tagged tag x) = hash ∷ (tag ++ (space ∷ print x))
 
   -- the text of each element
   pub item_texts : Items → List (List ℕ)

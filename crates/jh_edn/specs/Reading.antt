@@ -1,21 +1,29 @@
 -- The first fault of a text: reading from left to right, up to the first character that decides against the text
 -- (this project's own; which texts spell which values is Spelling).
-use Rattle.std.specs.Prelude.{◌≡◌, ℕ, zero, suc, ◌+◌, ◌-◌, ◌^◌, Bool, true, false, ◌&&◌, ◌||◌, ◌==◌, nat_lt, if◌then◌else◌, List, [], ◌∷◌, ◌++◌, length, map, take, drop, slice_index, ℤ, pos, negsuc, Option, Some, None, option_map, Result, Ok, Err, codes}
+use Rattle.std.specs.Prelude.{◌≡◌, ℕ, zero, suc, ◌+◌, ◌-◌, ◌^◌, Bool, true, false, ◌&&◌, ◌||◌, ◌==◌, nat_lt, if◌then◌else◌, List, [], ◌∷◌, ◌++◌, length, map, take, drop, slice_index, slice_get, encode_utf8, chars, ℤ, pos, negsuc, Option, Some, None, option_map, Result, Ok, Err, codes}
 use Rattle.std.specs.List.{count_by}
+use Rattle.std.specs.Str.{bytes_eq}
+use lib.Utf8.{scalar}
 use Rattle.std.specs.Str.Parse.{signed_digits_value}
 use Rattle.jh_edn.specs.declared.error.EdnError.{EdnError}
 use Rattle.jh_edn.specs.declared.error.EdnError.TheVariants as errors
 use Rattle.jh_edn.specs.declared.fault.Fault.{Fault}
+use Rattle.jh_edn.specs.declared.fault.ReadError.{ReadError}
+use Rattle.jh_edn.specs.declared.fault.ReadError.TheVariants as reads
 use Rattle.jh_edn.specs.declared.fault.Kind.{Kind}
 use Rattle.jh_edn.specs.declared.fault.Kind.TheVariants.{UnexpectedEnd, BadToken, FloatUnsupported, IntegerRange, BadEscape, OddMap, DuplicateKey, TooDeep}
-use Rattle.jh_edn.specs.Edn.{Edn, int, str, keyword, vector, mapping, items_of, members_of}
-use Rattle.jh_edn.specs.Bytes.{quote, plus, minus, digit_zero, line_feed, colon, capital_n, open_bracket, close_bracket, backslash, open_brace, close_brace, is_among, is_space, is_run, is_digit, escaped, leading}
-use Rattle.jh_edn.specs.Spelling.{is_name, depth_limit, Reads}
-use Rattle.jh_edn.specs.Key.{key_of, has_twice}
+use Rattle.jh_edn.specs.Edn.{Edn, nil, boolean, int, char, str, keyword, symbol, list, vector, mapping, set, tagged, items_of, members_of}
+use Rattle.jh_edn.specs.Bytes.{open_paren, close_paren, hash, is_blank, quote, plus, minus, digit_zero, line_feed, colon, semicolon, begins_discard, capital_n, open_bracket, close_bracket, backslash, open_brace, close_brace, is_among, is_space, is_run, is_digit, escaped, leading}
+use Rattle.jh_edn.specs.Spelling.{is_name, is_symbol_name, is_tag, char_named, char_numbered, depth_limit, Reads}
+use Rattle.jh_edn.specs.Key.{key_of, item_keys, has_twice}
 
 -- reads the front of a text: what was read and what follows it, or a fault
 abbrev pub Read : Type 0 → Type 0
 Read A = List ℕ → Result (A × List ℕ) Fault
+
+-- finds what follows the front of a text, or a fault
+abbrev pub Skip : Type 0
+Skip = List ℕ → Result (List ℕ) Fault
 
 -- goes on with what was read; the first fault stays
 infixl 10 ◌>>=◌
@@ -45,9 +53,16 @@ body (c ∷ d ∷ s) =
     else if c == backslash then after_escape (escaped d) (c ∷ d ∷ s) (body s)
     else with_front (c ∷ []) (body (d ∷ s))
 
--- what follows the white space
-abbrev pub after_gap : List ℕ → List ℕ
-after_gap s = drop (leading is_space s) s
+-- what follows white space and comments, where no comment has begun
+abbrev mutual
+  pub after_blank : List ℕ → List ℕ
+  after_blank [] = []
+  after_blank (c ∷ s) = if is_space c then after_blank s else if c == semicolon then after_comment s else c ∷ s
+
+  -- the same, in a comment
+  pub after_comment : List ℕ → List ℕ
+  after_comment [] = []
+  after_comment (c ∷ s) = if c == line_feed then after_blank s else after_comment s
 
 -- the run that the text begins with
 abbrev pub run_of : List ℕ → List ℕ
@@ -103,12 +118,25 @@ abbrev pub as_int : Result ℤ Kind → Result Edn Kind
 as_int (Ok z) = Ok (int z)
 as_int (Err k) = Err k
 
--- a run: a number, a keyword, or BadToken
+-- nil, true or false
+unfoldable pub word_of : List ℕ → Option Edn
+word_of run =
+    if bytes_eq run (codes "nil") then Some nil
+    else if bytes_eq run (codes "true") then Some (boolean true)
+    else if bytes_eq run (codes "false") then Some (boolean false)
+    else None
+
+-- such a word, or else a symbol, or BadToken
+abbrev pub word_or_symbol : Option Edn → List ℕ → Result Edn Kind
+word_or_symbol (Some x) run = Ok x
+word_or_symbol None run = if is_symbol_name run then Ok (symbol run) else Err BadToken
+
+-- a run: a number, a keyword, nil, true, false, a symbol, or BadToken
 unfoldable pub atom_of : List ℕ → Result Edn Kind
 atom_of run =
     if begins_number run then as_int (number_of run)
     else if slice_index run 0 == colon && is_name (drop 1 run) then Ok (keyword (drop 1 run))
-    else Err BadToken
+    else word_or_symbol (word_of run) run
 
 -- a run's fault stands at its first character
 abbrev pub placed : Result Edn Kind → List ℕ → List ℕ → Result (Edn × List ℕ) Fault
@@ -118,6 +146,48 @@ placed (Err k) s after = fault k s
 -- a run, and what follows it
 unfoldable pub atom : Read Edn
 atom s = placed (atom_of (run_of s)) s (drop (leading is_run s) s)
+
+-- a character by itself
+unfoldable pub alone : ℕ → Option ℕ
+alone c = if is_blank c then None else Some c
+
+-- the one or else the other
+abbrev pub or_else : Option ℕ → Option ℕ → Option ℕ
+or_else (Some c) other = Some c
+or_else None other = other
+
+-- a character by its name or its number
+unfoldable pub called : List ℕ → Option ℕ
+called name = or_else (char_named name) (char_numbered name)
+
+-- the character that stands behind a backslash, and the run behind it: itself, or both together its name
+unfoldable pub char_of : ℕ → List ℕ → Option ℕ
+char_of c [] = alone c
+char_of c (d ∷ run) = called (encode_utf8 c ++ d ∷ run)
+
+-- a character as a value
+abbrev pub as_char : Option ℕ → Result Edn Kind
+as_char (Some c) = Ok (char c)
+as_char None = Err BadToken
+
+-- the text begins with the character (as each text does with its first: other bytes are no UTF-8)
+abbrev pub begins_char : ℕ → List ℕ → Bool
+begins_char c s = scalar c && bytes_eq (take (length (encode_utf8 c)) s) (encode_utf8 c)
+
+-- a character behind the backslash where the text begins, and what stands behind the character
+abbrev pub char_before : ℕ → List ℕ → Read Edn
+char_before c begin after = placed (as_char (char_of c (run_of after))) begin (drop (leading is_run after) after)
+
+-- what stands behind the backslash where the text begins: UnexpectedEnd where there is nothing
+abbrev pub character_at : Option ℕ → List ℕ → List ℕ → Result (Edn × List ℕ) Fault
+character_at None begin s = fault UnexpectedEnd []
+character_at (Some c) begin s =
+    if begins_char c s then char_before c begin (drop (length (encode_utf8 c)) s)
+    else fault BadToken begin
+
+-- a character, from its backslash on
+unfoldable pub character : Read Edn
+character begin = character_at (slice_get (chars (drop 1 begin)) 0) begin (drop 1 begin)
 
 -- elements two by two, or None where one is left over
 abbrev pub pairs_of : List Edn → Option (List (Edn × Edn))
@@ -129,6 +199,10 @@ pairs_of (k ∷ v ∷ xs) = option_map (λ ms. (k, v) ∷ ms) (pairs_of xs)
 unfoldable pub repeats_key : List (Edn × Edn) → Bool
 repeats_key ms = has_twice (map (λ m. key_of m.0) ms)
 
+-- two elements are equal
+unfoldable pub repeats_element : List Edn → Bool
+repeats_element xs = has_twice (item_keys (items_of xs))
+
 -- a map's elements: OddMap, then DuplicateKey, at the closing brace, which stands just before the rest
 abbrev pub paired : Option (List (Edn × Edn)) → List ℕ → Result (Edn × List ℕ) Fault
 paired None after = Err (record { kind = OddMap; left = length after + 1 })
@@ -136,19 +210,58 @@ paired (Some ms) after =
     if repeats_key ms then Err (record { kind = DuplicateKey; left = length after + 1 })
     else Ok (mapping (members_of ms), after)
 
--- reads what stands behind an opening bracket c, up to the closing one
-abbrev pub Inside : Type 0
-Inside = ℕ → ℕ → Read (List Edn)
+-- a set's elements: DuplicateKey at the closing brace, which stands just before the rest
+abbrev pub unique : List Edn → List ℕ → Result (Edn × List ℕ) Fault
+unique xs after =
+    if repeats_element xs then Err (record { kind = DuplicateKey; left = length after + 1 })
+    else Ok (set (items_of xs), after)
+
+-- Reading one bracket, tag or discard deeper: the elements up to a closing bracket, or one element. Both are told the
+-- text from the bracket, tag or discard on, where TooDeep stands, and then what stands behind it.
+pub record Deeper : Type 0 where
+  pub elements : ℕ → List ℕ → Read (List Edn)
+  pub one : List ℕ → Read Edn
+
+-- what stands behind a # as a tag
+abbrev pub tag_of : List ℕ → List ℕ
+tag_of begin = run_of (drop 1 begin)
+
+-- what stands behind that
+abbrev pub after_tag : List ℕ → List ℕ
+after_tag begin = drop (leading is_run (drop 1 begin)) (drop 1 begin)
+
+-- a set or a tagged element, from its # on: BadToken before anything else
+unfoldable pub hashed : Deeper → Read Edn
+hashed deeper begin =
+    if slice_index begin 1 == open_brace then (deeper.elements close_brace begin (drop 2 begin) >>= λ x. unique x.0 x.1)
+    else if is_tag (tag_of begin) then (deeper.one begin (after_tag begin) >>= λ x. Ok (tagged (tag_of begin) x.0, x.1))
+    else fault BadToken begin
 
 -- an element: UnexpectedEnd at the end, BadToken where a delimiter stands that opens none
-unfoldable pub element : Inside → Read Edn
-element inside [] = fault UnexpectedEnd []
-element inside (c ∷ s) =
+unfoldable pub element : Deeper → Read Edn
+element deeper [] = fault UnexpectedEnd []
+element deeper (c ∷ s) =
     if c == quote then (body s >>= λ x. Ok (str x.0, x.1))
-    else if c == open_bracket then (inside close_bracket c s >>= λ x. Ok (vector (items_of x.0), x.1))
-    else if c == open_brace then (inside close_brace c s >>= λ x. paired (pairs_of x.0) x.1)
+    else if c == open_paren then (deeper.elements close_paren (c ∷ s) s >>= λ x. Ok (list (items_of x.0), x.1))
+    else if c == open_bracket then (deeper.elements close_bracket (c ∷ s) s >>= λ x. Ok (vector (items_of x.0), x.1))
+    else if c == open_brace then (deeper.elements close_brace (c ∷ s) s >>= λ x. paired (pairs_of x.0) x.1)
+    else if c == backslash then character (c ∷ s)
+    else if c == hash then hashed deeper (c ∷ s)
     else if is_run c then atom (c ∷ s)
     else fault BadToken (c ∷ s)
+
+-- white space and comments are gone: a discarded element and more, or the end of the gap
+abbrev pub gap_step : Deeper → Skip → Skip
+gap_step deeper more s = if begins_discard s then (deeper.one s (drop 2 s) >>= λ x. more x.1) else Ok s
+
+-- a gap, with at most so many discarded elements: one more than the bytes is enough
+unfoldable pub gap_turns : Deeper → ℕ → Skip
+gap_turns deeper zero s = fault UnexpectedEnd []
+gap_turns deeper (suc n) s = gap_step deeper (gap_turns deeper n) (after_blank s)
+
+-- a gap
+abbrev pub gap_in : Deeper → Skip
+gap_in deeper s = gap_turns deeper (suc (length s)) s
 
 -- the closing bracket, or an element and more: UnexpectedEnd at the end
 abbrev pub items_step : ℕ → Read Edn → Read (List Edn) → Read (List Edn)
@@ -157,19 +270,34 @@ items_step close value more (c ∷ s) =
     if c == close then Ok ([], s)
     else (value (c ∷ s) >>= λ x. with_front (x.0 ∷ []) (more x.1))
 
--- elements up to the closing bracket, at most as many as the number says: one more than the bytes is enough
-unfoldable pub items : ℕ → Read Edn → ℕ → Read (List Edn)
-items close value zero s = fault UnexpectedEnd []
-items close value (suc n) s = items_step close value (items close value n) (after_gap s)
+-- elements and gaps up to the closing bracket, at most as many as the number says: one more than the bytes is enough
+unfoldable pub items : ℕ → Skip → Read Edn → ℕ → Read (List Edn)
+items close skip value zero s = fault UnexpectedEnd []
+items close skip value (suc n) s = skip s >>= items_step close value (items close skip value n)
 
--- TooDeep at the opening bracket
-abbrev pub too_deep : Inside
-too_deep close c s = fault TooDeep (c ∷ s)
+-- TooDeep at the opening bracket, the tag or the discard
+abbrev pub too_deep : Deeper
+too_deep = record { elements = λ close begin s. fault TooDeep begin; one = λ begin s. fault TooDeep begin }
 
--- an element with brackets nested no deeper than that
-unfoldable pub read : ℕ → Read Edn
-read zero = element too_deep
-read (suc depth) = element (λ close c s. items close (read depth) (suc (length s)) s)
+-- with brackets, tags and discards nested less deep than that
+unfoldable pub deeper : ℕ → Deeper
+deeper zero = too_deep
+deeper (suc depth) = record {
+  elements = λ close begin s. items close (gap_in (deeper depth)) (element (deeper depth)) (suc (length s)) s;
+  one = λ begin s. gap_in (deeper depth) s >>= element (deeper depth);
+}
+
+-- what follows a gap with discards nested no deeper than that
+abbrev pub gap : ℕ → Skip
+gap depth = gap_in (deeper depth)
+
+-- an element with brackets, tags and discards nested no deeper than that
+abbrev pub read : ℕ → Read Edn
+read depth = element (deeper depth)
+
+-- a gap and then an element
+abbrev pub next : ℕ → Read Edn
+next depth s = gap depth s >>= read depth
 
 -- the line of the place with so many bytes left: one more than the line feeds before it
 abbrev pub line_at : List ℕ → ℕ → ℕ
@@ -186,10 +314,15 @@ error_at OddMap line = errors.OddMap line
 error_at DuplicateKey line = errors.DuplicateKey line
 error_at TooDeep line = errors.TooDeep line
 
+-- why a text was not read on
+abbrev pub error_in : List ℕ → ReadError → EdnError
+error_in text reads.Memory = errors.OutOfMemory
+error_in text (reads.Fault f) = error_at f.kind (line_at text f.left)
+
 -- From `at` on the text's first fault is this error, with its line in the whole text
 pub record FirstFault (text : List ℕ) (at : ℕ) (e : EdnError) : Type 0 where
   pub found : Fault
-  pub is_first : read depth_limit (after_gap (drop at text)) ≡ Err found
+  pub is_first : next depth_limit (drop at text) ≡ Err found
   pub is : e ≡ error_at found.kind (line_at text found.left)
 
 -- reading whole elements from the start of the text on, one comes to that place

@@ -1,16 +1,14 @@
--- What spells a value (EDN's format description, "Built-in elements"): a relation between values and texts.
-use Rattle.std.specs.Prelude.{◌≡◌, ℕ, zero, suc, ◌+◌, Bool, true, false, not, ◌&&◌, ◌==◌, nat_lt, ◌⊎◌, ℤ, Some, List, [], ◌∷◌, ◌++◌, length, drop, slice_index, FitsSigned, ◌-◌}
+-- What spells a value (EDN's format description, "Built-in elements", "Comments", "Discard"): a relation between
+-- values and texts. Each says of a text that begins so what stands behind.
+use Rattle.std.specs.Prelude.{◌≡◌, ℕ, zero, suc, Bool, true, false, not, ◌&&◌, ◌||◌, ◌==◌, nat_lt, if◌then◌else◌, ◌≤◌, ◌⊎◌, ℤ, Option, Some, None, codes, encode_utf8, List, [], ◌∷◌, ◌++◌, length, drop, slice_index, FitsSigned, ◌-◌}
 use Rattle.std.specs.Int.{w64}
 use Rattle.std.specs.List.{list_all, count_by}
-use Rattle.std.specs.Str.Parse.{IsNumeral, signed_digits_value, without_leading_sign}
-use Rattle.jh_edn.specs.Edn.{Edn, int, str, keyword, vector, mapping, Items, no_items, item, items_of, Members, no_members, member}
-use Rattle.jh_edn.specs.Bytes.{quote, slash, digit_zero, colon, capital_n, open_bracket, close_bracket, backslash, open_brace, close_brace, is_space, is_run, is_plain, is_symbol, is_first, escaped}
-use Rattle.jh_edn.specs.Equality.{KeysDiffer}
-
--- white space, or nothing
-abbrev pub IsGap : List ℕ → Type 0
-IsGap [] = Unit {0}
-IsGap (c ∷ s) = (is_space c ≡ true) × IsGap s
+use Rattle.std.specs.Char.{IsScalar}
+use Rattle.std.specs.Str.{byte, bytes_eq}
+use Rattle.std.specs.Str.Parse.{IsNumeral, digits_value, signed_digits_value, without_leading_sign}
+use Rattle.jh_edn.specs.Edn.{Edn, nil, boolean, int, char, str, keyword, symbol, list, vector, mapping, set, tagged, Items, no_items, item, items_of, Members, no_members, member}
+use Rattle.jh_edn.specs.Bytes.{backspace, tab, form_feed, carriage_return, space, open_paren, close_paren, is_among, is_between, is_digit, is_letter, is_hex, is_blank, quote, slash, digit_zero, colon, semicolon, hash, underscore, line_feed, capital_n, open_bracket, close_bracket, backslash, open_brace, close_brace, is_space, is_run, is_plain, is_symbol, is_first, escaped}
+use Rattle.jh_edn.specs.Equality.{Differ, KeysDiffer}
 
 -- a zero stands first only where it stands alone
 abbrev pub NoLeadingZero : List ℕ → Type 0
@@ -38,63 +36,151 @@ is_name s =
     is_first (slice_index s 0) && list_all is_symbol s && nat_lt (count_by (λ c. c == slash) s) 2
     && not (slice_index s (length s - 1) == slash)
 
+-- nil, true and false are values of their own
+unfoldable pub is_word : List ℕ → Bool
+is_word s = bytes_eq s (codes "nil") || bytes_eq s (codes "true") || bytes_eq s (codes "false")
+
+-- a number, or what looks like one: a digit first, or second behind a first +, - or .
+unfoldable pub looks_numeric : List ℕ → Bool
+looks_numeric s = is_digit (slice_index s 0) || (is_among (codes "+-.") (slice_index s 0) && is_digit (slice_index s 1))
+
+-- A symbol: a slash alone, or a name that neither looks like a number nor is nil, true or false.
+unfoldable pub is_symbol_name : List ℕ → Bool
+is_symbol_name s = bytes_eq s (slash ∷ []) || (is_name s && not (looks_numeric s) && not (is_word s))
+
+-- a tag: a symbol that begins with a letter
+unfoldable pub is_tag : List ℕ → Bool
+is_tag s = is_letter (slice_index s 0) && is_symbol_name s
+
+-- the characters that have names
+unfoldable pub char_named : List ℕ → Option ℕ
+char_named name =
+    if bytes_eq name (codes "newline") then Some line_feed
+    else if bytes_eq name (codes "return") then Some carriage_return
+    else if bytes_eq name (codes "space") then Some space
+    else if bytes_eq name (codes "tab") then Some tab
+    else if bytes_eq name (codes "formfeed") then Some form_feed
+    else if bytes_eq name (codes "backspace") then Some backspace
+    else None
+
+-- half of a pair in UTF-16, and no character
+abbrev pub is_surrogate : ℕ → Bool
+is_surrogate c = is_between 0xD800 0xDFFF c
+
+-- the character of u and four hexadecimal digits
+unfoldable pub char_numbered : List ℕ → Option ℕ
+char_numbered (u ∷ d₁ ∷ d₂ ∷ d₃ ∷ d₄ ∷ []) =
+    if u == byte "u" && list_all is_hex (d₁ ∷ d₂ ∷ d₃ ∷ d₄ ∷ []) && not (is_surrogate (digits_value 16 (d₁ ∷ d₂ ∷ d₃ ∷ d₄ ∷ [])))
+    then Some (digits_value 16 (d₁ ∷ d₂ ∷ d₃ ∷ d₄ ∷ []))
+    else None
+char_numbered _ = None
+
+-- What may stand behind the backslash of a character: the character itself, unless it is blank, its name or its number.
+abbrev pub IsCharacter : ℕ → List ℕ → Type 0
+IsCharacter c text =
+    (IsScalar c × (is_blank c ≡ false) × (text ≡ encode_utf8 c)) ⊎ ((char_named text ≡ Some c) ⊎ (char_numbered text ≡ Some c))
+
 -- a run that ends before this text does not go on in it
 abbrev pub BeginsNoRun : List ℕ → Type 0
 BeginsNoRun [] = Unit {0}
 BeginsNoRun (c ∷ s) = is_run c ≡ false
 
--- With this behind it, the element is not cut off in a run. Strings and collections end by themselves.
-abbrev pub Apart : Edn → List ℕ → Type 0
-Apart (int z) after = BeginsNoRun after
-Apart (str s) after = Unit {0}
-Apart (keyword s) after = BeginsNoRun after
-Apart (vector xs) after = Unit {0}
-Apart (mapping ms) after = Unit {0}
+-- no line feed
+abbrev pub IsLine : List ℕ → Type 0
+IsLine s = list_all (λ c. not (c == line_feed)) s ≡ true
 
--- elements, each after a gap, and a gap at the end
-abbrev pub Elements : (Edn → List ℕ → Type 0) → Items → List ℕ → Type 0
-Elements Inner no_items s = IsGap s
-Elements Inner (item x xs) s =
-    (gap first after : List ℕ) × (s ≡ gap ++ (first ++ after)) × IsGap gap × Inner x first × Apart x after × Elements Inner xs after
+-- a comment ends here: at the end of the text, or before a line feed
+abbrev pub EndsLine : List ℕ → Type 0
+EndsLine [] = Unit {0}
+EndsLine (c ∷ s) = c ≡ line_feed
+
+-- The text begins with a gap, behind which the rest stands: white space, comments, and elements that are discarded,
+-- of which Next says what stands behind one ("Discard": a gap may stand before the element).
+pub data GapIn (Next : Edn → List ℕ → List ℕ → Type 0) : List ℕ → List ℕ → Type 0 where
+  nothing : {text rest : List ℕ} → text ≡ rest → GapIn Next text rest
+  white : {text rest : List ℕ} (c : ℕ) (more : List ℕ) → text ≡ c ∷ more → is_space c ≡ true → GapIn Next more rest → GapIn Next text rest
+  comment : {text rest : List ℕ} (line more : List ℕ) → text ≡ semicolon ∷ (line ++ more) → IsLine line → EndsLine more → GapIn Next more rest → GapIn Next text rest
+  discard : {text rest : List ℕ} (x : Edn) (more behind : List ℕ) → text ≡ hash ∷ underscore ∷ more → Next x more behind → GapIn Next behind rest → GapIn Next text rest
+
+-- what may stand at a place: gaps, and elements with the gaps before them
+pub record Inner : Type 1 where
+  pub gap : List ℕ → List ℕ → Type 0
+  pub next : Edn → List ℕ → List ℕ → Type 0
+
+-- elements, each behind a gap, and a gap at the end
+abbrev pub Elements : Inner → Items → List ℕ → List ℕ → Type 0
+Elements inner no_items text rest = inner.gap text rest
+Elements inner (item x xs) text rest = (more : List ℕ) × inner.next x text more × Elements inner xs more rest
 
 -- each key, and its value after it
 abbrev pub items_of_members : Members → Items
 items_of_members no_members = no_items
 items_of_members (member k v ms) = item k (item v (items_of_members ms))
 
--- The text spells the value. Open says that one more bracket may stand there, Inner what spells an element inside.
-abbrev pub Form : Type 0 → (Edn → List ℕ → Type 0) → Edn → List ℕ → Type 0
-Form Open Inner (int z) s = IsInteger s z
-Form Open Inner (str t) s = (body : List ℕ) × IsBody t body × (s ≡ quote ∷ (body ++ quote ∷ []))
-Form Open Inner (keyword name) s = (is_name name ≡ true) × (s ≡ colon ∷ name)
-Form Open Inner (vector xs) s =
-    Open × (inner : List ℕ) × Elements Inner xs inner × (s ≡ open_bracket ∷ (inner ++ close_bracket ∷ []))
-Form Open Inner (mapping ms) s =
-    Open × (inner : List ℕ) × Elements Inner (items_of_members ms) inner × (s ≡ open_brace ∷ (inner ++ close_brace ∷ [])) × KeysDiffer ms
+-- a run that is such, and is not cut off
+abbrev pub RunOf : (List ℕ → Type 0) → List ℕ → List ℕ → Type 0
+RunOf IsSuch text rest = (run : List ℕ) × IsSuch run × (text ≡ run ++ rest) × BeginsNoRun rest
 
--- the text spells the value, with brackets nested no deeper than that
-unfoldable pub Spells : ℕ → Edn → List ℕ → Type 0
-Spells zero = Form ⊥ (λ x s. ⊥)
-Spells (suc depth) = Form (Unit {0}) (Spells depth)
+-- The text begins with a spelling of the value, behind which the rest stands.
+abbrev pub Form : Inner → Edn → List ℕ → List ℕ → Type 0
+Form inner nil text rest = RunOf (λ run. run ≡ codes "nil") text rest
+Form inner (boolean true) text rest = RunOf (λ run. run ≡ codes "true") text rest
+Form inner (boolean false) text rest = RunOf (λ run. run ≡ codes "false") text rest
+Form inner (int z) text rest = RunOf (λ run. IsInteger run z) text rest
+Form inner (char c) text rest = (name : List ℕ) × IsCharacter c name × (text ≡ backslash ∷ (name ++ rest)) × BeginsNoRun rest
+Form inner (str t) text rest = (body : List ℕ) × IsBody t body × (text ≡ quote ∷ (body ++ quote ∷ rest))
+Form inner (keyword name) text rest = RunOf (λ run. (is_name name ≡ true) × (run ≡ colon ∷ name)) text rest
+Form inner (symbol name) text rest = RunOf (λ run. (is_symbol_name name ≡ true) × (run ≡ name)) text rest
+Form inner (list xs) text rest =
+    (more : List ℕ) × (text ≡ open_paren ∷ more) × Elements inner xs more (close_paren ∷ rest)
+Form inner (vector xs) text rest =
+    (more : List ℕ) × (text ≡ open_bracket ∷ more) × Elements inner xs more (close_bracket ∷ rest)
+Form inner (mapping ms) text rest =
+    (more : List ℕ) × (text ≡ open_brace ∷ more) × Elements inner (items_of_members ms) more (close_brace ∷ rest) × KeysDiffer ms
+Form inner (set xs) text rest =
+    (more : List ℕ) × (text ≡ hash ∷ open_brace ∷ more) × Elements inner xs more (close_brace ∷ rest) × Differ xs
+Form inner (tagged tag x) text rest =
+    (more : List ℕ) × (is_tag tag ≡ true) × (text ≡ hash ∷ (tag ++ more)) × BeginsNoRun more × inner.next x more rest
 
--- how deep brackets may be nested
+-- where nothing may stand
+abbrev pub nowhere : Inner
+nowhere = record { gap = λ text rest. ⊥; next = λ x text rest. ⊥ }
+
+-- gaps and elements around such ones
+abbrev pub around : Inner → Inner
+around inner = record {
+  gap = GapIn inner.next;
+  next = λ x text rest. (here : List ℕ) × GapIn inner.next text here × Form inner x here rest;
+}
+
+-- what may stand inside, with brackets, tags and discards nested one less deep than that
+unfoldable pub inside : ℕ → Inner
+inside zero = nowhere
+inside (suc depth) = around (inside depth)
+
+-- the text spells the value, with brackets, tags and discards nested no deeper than that
+abbrev pub Spells : ℕ → Edn → List ℕ → Type 0
+Spells depth x text = Form (inside depth) x text []
+
+-- how deep brackets, tags and discards may be nested
 abbrev pub depth_limit : ℕ
 depth_limit = 64
 
+-- gaps and elements of a whole text
+abbrev pub whole : Inner
+whole = around (inside depth_limit)
+
+-- the text is a gap and nothing else
+abbrev pub IsGap : List ℕ → Type 0
+IsGap text = whole.gap text []
+
 -- a whole text: these values, with gaps before, between and behind them
 abbrev pub SpellsAll : List Edn → List ℕ → Type 0
-SpellsAll xs text = Elements (Spells depth_limit) (items_of xs) text
+SpellsAll xs text = Elements whole (items_of xs) text []
 
 -- From `at` to `end` the text is a gap and a spelling of the value that is not cut off in a run.
-pub record Reads (text : List ℕ) (at : ℕ) (x : Edn) (end : ℕ) : Type 0 where
-  pub gap : List ℕ
-  pub spelling : List ℕ
-  pub rest : List ℕ
-  pub parts : drop at text ≡ gap ++ (spelling ++ rest)
-  pub is_gap : IsGap gap
-  pub spells : Spells depth_limit x spelling
-  pub apart : Apart x rest
-  pub place : end ≡ at + length gap + length spelling
+abbrev pub Reads : List ℕ → ℕ → Edn → ℕ → Type 0
+Reads text at x end = (end ≤ length text) × whole.next x (drop at text) (drop end text)
 
 -- from there on the text is no gap, and no value is spelled next
 abbrev pub NothingReads : List ℕ → ℕ → Type 0

@@ -1,19 +1,17 @@
-//! Reading a run: a number or a keyword.
+//! Reading a run: a number, a keyword, a symbol, `nil`, `true` or `false`.
 //!
 //! `atom` of `specs/Reading.antt` says what a run is, and in which order its faults are looked for.
 
-ghost use Rattle.std.specs.Prelude.{◌≡◌, ◌≤◌, ◌==◌, length, IfOk, true};
-ghost use Rattle.std.specs.List.{list_all, count_by};
+ghost use Rattle.std.specs.Prelude.{◌≡◌, ◌≤◌, length, IfOk, true, option_map};
 ghost use Rattle.std.specs.Str.{IsUtf8};
 ghost use Rattle.std.specs.Str.Parse.{IsNumeral, without_leading_sign};
-ghost use Rattle.jh_edn.specs.Bytes as bytes;
 ghost use Rattle.jh_edn.specs.Gives.{Gives};
 ghost use Rattle.jh_edn.specs.Reading as reading;
-ghost use Rattle.jh_edn.specs.Spelling as spelling;
 ghost use Rattle.jh_edn.specs.View.{view};
 
 use crate::fault::{Kind, ReadError, fault_at};
-use crate::scan::{digits_len, is_digit, is_first, is_symbol, run_len};
+use crate::name::{is_name, is_symbol_name};
+use crate::scan::{digits_len, is_digit, run_len};
 use crate::value::{Text, Value};
 use std::alloc::Global;
 
@@ -88,40 +86,23 @@ fn number_of(run: &[u8]) -> Result<i64, Kind>
     integer_of(&run[..end])
 }
 
-fn all_symbols(name: &[u8]) -> bool
-    ensures { result ≡ list_all bytes.is_symbol name.now }
+/// `nil`, `true` or `false`.
+#[tactic(auto, unfolding(crate::specs::Reading::word_of))]
+fn word(run: &str) -> Option<Value>
+    ensures { option_map view result ≡ reading.word_of run.now }
 {
-    for b in name {
-        if !is_symbol(*b) {
-            return false;
-        }
+    if run == "nil" {
+        Some(Value::Nil)
+    } else if run == "true" {
+        Some(Value::Bool(true))
+    } else if run == "false" {
+        Some(Value::Bool(false))
+    } else {
+        None
     }
-    true
 }
 
-fn count_slashes(name: &[u8]) -> usize
-    ensures { result ≡ count_by (λ c. c == bytes.slash) name.now }
-{
-    let mut count = 0;
-    for b in name {
-        if *b == b'/' {
-            count += 1;
-        }
-    }
-    count
-}
-
-#[tactic(auto, unfolding(crate::specs::Spelling::is_name, crate::specs::Bytes::is_first, crate::specs::Bytes::is_symbol, crate::specs::Bytes::is_digit))]
-fn is_name(name: &[u8]) -> bool
-    ensures { result ≡ spelling.is_name name.now }
-{
-    let [first, ..] = name else {
-        return false;
-    };
-    is_first(*first) && all_symbols(name) && count_slashes(name) < 2 && name[name.len() - 1] != b'/'
-}
-
-/// An integer or a keyword, and what follows it.
+/// A number, a keyword, a symbol, `nil`, `true` or `false`, and what follows it.
 #[tactic(auto, unfolding(crate::specs::Reading::atom, crate::specs::Reading::atom_of))]
 pub(crate) fn atom(alloc: Global, rest: &str) -> Result<(Value, &str), ReadError>
     ensures gives { Gives (λ x. (view x.0, x.1.now)) result (reading.atom rest.now) }
@@ -138,6 +119,13 @@ pub(crate) fn atom(alloc: Global, rest: &str) -> Result<(Value, &str), ReadError
     if run.starts_with(':') && is_name(&run.as_bytes()[1..]) {
         let name = String::from_str(alloc, &run[1..])?;
         return Ok((Value::Keyword(Text::of(name)), &rest[len..]));
+    }
+    if let Some(value) = word(run) {
+        return Ok((value, &rest[len..]));
+    }
+    if is_symbol_name(run.as_bytes()) {
+        let name = String::from_str(alloc, run)?;
+        return Ok((Value::Symbol(Text::of(name)), &rest[len..]));
     }
     Err(fault_at(Kind::BadToken, rest))
 }

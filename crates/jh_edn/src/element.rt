@@ -2,20 +2,29 @@
 //!
 //! `read` and `items` of `specs/Reading.antt` say what is read. A new kind of element is a new arm of `element`.
 
-ghost use Rattle.std.specs.Prelude.{◌≡◌, ◌+◌, ◌<◌, ◌^◌, suc, length, IfOk};
-ghost use Rattle.std.specs.Str.{IsUtf8};
-ghost use Rattle.jh_edn.specs.Bytes.{IsAscii};
+ghost use Rattle.std.specs.Prelude.{◌≡◌, ◌+◌, ◌<◌, ◌^◌, suc, slice_index, drop, length, IfOk};
+ghost use Rattle.std.specs.Str.{IsUtf8, IsCharBoundary};
+ghost use Rattle.jh_edn.specs.Bytes.{IsAscii, hash};
 ghost use Rattle.jh_edn.specs.Gives.{Gives};
-ghost use Rattle.jh_edn.specs.Reading.{read, items, paired, pairs_of};
+ghost use Rattle.jh_edn.specs.Reading as reading;
+ghost use Rattle.jh_edn.specs.Reading.{read, gap, deeper, items, paired, pairs_of, unique};
 ghost use Rattle.jh_edn.specs.View.{view, views};
 
 use crate::atom::atom;
+use crate::character::character;
 use crate::fault::{Fault, Kind, ReadError, fault_at};
-use crate::pairs::{make_pairs, repeats_key};
-use crate::scan::{after_gap, is_run};
+use crate::name::is_tag;
+use crate::pairs::{make_pairs, repeats_element, repeats_key};
+use crate::scan::{after_blank, begins_discard, begins_set, is_run, run_len};
 use crate::string::string;
-use crate::value::{Value, Values};
+use crate::value::{Tagged, Text, Value, Values};
 use std::alloc::Global;
+
+/// How many bytes open a set.
+const SET_LEN: usize = 2;
+
+/// How many bytes the mark of a discard takes.
+const DISCARD_LEN: usize = 2;
 
 /// A fault at the closing bracket just before the text.
 fn fault_before(kind: Kind, after: &str) -> ReadError
@@ -44,9 +53,21 @@ fn close_map(alloc: Global, items: Vec<Value>, after: &str) -> Result<(Value, &s
     Ok((Value::Map(pairs), after))
 }
 
-/// One element, with brackets nested at most that deep.
+/// The set of these elements, with what follows it.
+fn close_set(alloc: Global, items: Values, after: &str) -> Result<(Value, &str), ReadError>
+    requires { length after.now < 2 ^ 63 }
+    ensures gives { Gives (λ x. (view x.0, x.1.now)) result (unique items after.now) }
+    ensures text { IfOk result (λ x. IsUtf8 x.1.now) }
+{
+    if repeats_element(alloc, &items)? {
+        return Err(fault_before(Kind::DuplicateKey, after));
+    }
+    Ok((Value::Set(items), after))
+}
+
+/// One element, with brackets, tags and discards nested at most that deep.
 #[cycle(read)]
-#[tactic(auto, unfolding(crate::specs::Reading::read, crate::specs::Reading::element))]
+#[tactic(auto, unfolding(crate::specs::Reading::element))]
 pub(crate) fn element(alloc: Global, rest: &str, depth: usize) -> Result<(Value, &str), ReadError>
     ensures gives { Gives (λ x. (view x.0, x.1.now)) result (read depth rest.now) }
     ensures text { IfOk result (λ x. IsUtf8 x.1.now) }
@@ -60,22 +81,103 @@ pub(crate) fn element(alloc: Global, rest: &str, depth: usize) -> Result<(Value,
             let (text, after) = string(alloc, &rest[1..])?;
             Ok((Value::Str(text), after))
         }
+        b'(' => {
+            let (items, after) = elements_inside(alloc, rest, 1, b')', depth)?;
+            Ok((Value::List(Values::of(items)), after))
+        }
         b'[' => {
-            if depth == 0 {
-                return Err(fault_at(Kind::TooDeep, rest));
-            }
-            let (items, after) = elements(alloc, &rest[1..], b']', depth - 1)?;
+            let (items, after) = elements_inside(alloc, rest, 1, b']', depth)?;
             Ok((Value::Vector(Values::of(items)), after))
         }
         b'{' => {
-            if depth == 0 {
-                return Err(fault_at(Kind::TooDeep, rest));
-            }
-            let (items, after) = elements(alloc, &rest[1..], b'}', depth - 1)?;
+            let (items, after) = elements_inside(alloc, rest, 1, b'}', depth)?;
             close_map(alloc, items, after)
         }
+        b'\\' => character(rest),
+        b'#' => hashed(alloc, rest, depth),
         first if is_run(first) => atom(alloc, rest),
         _ => Err(fault_at(Kind::BadToken, rest)),
+    }
+}
+
+/// A set or a tagged element, from its `#` on.
+#[cycle(read)]
+#[tactic(auto, unfolding(crate::specs::Reading::hashed))]
+fn hashed(alloc: Global, rest: &str, depth: usize) -> Result<(Value, &str), ReadError>
+    requires { slice_index rest.now 0 ≡ hash }
+    ensures gives { Gives (λ x. (view x.0, x.1.now)) result (reading.hashed (deeper depth) rest.now) }
+    ensures text { IfOk result (λ x. IsUtf8 x.1.now) }
+{
+    if begins_set(rest.as_bytes()) {
+        let (items, after) = elements_inside(alloc, rest, SET_LEN, b'}', depth)?;
+        return close_set(alloc, Values::of(items), after);
+    }
+    let behind = &rest[1..];
+    let len = run_len(behind);
+    let tag = &behind[..len];
+    if !is_tag(tag.as_bytes()) {
+        return Err(fault_at(Kind::BadToken, rest));
+    }
+    let (value, after) = one_inside(alloc, rest, 1 + len, depth)?;
+    let tag = Text::of(String::from_str(alloc, tag)?);
+    Ok((Value::Tagged(Tagged::of(alloc, tag, value)?), after))
+}
+
+/// The elements behind an opening bracket of `front` bytes, up to the closing one.
+#[cycle(read)]
+fn elements_inside(
+    alloc: Global,
+    rest: &str,
+    front: usize,
+    close: u8,
+    depth: usize,
+) -> Result<(Vec<Value>, &str), ReadError>
+    requires ascii { IsAscii close }
+    requires boundary { IsCharBoundary rest.now front }
+    ensures gives { Gives (λ x. (views x.0.items, x.1.now)) result
+        ((deeper depth).elements close rest.now (drop front rest.now)) }
+    ensures text { IfOk result (λ x. IsUtf8 x.1.now) }
+{
+    if depth == 0 {
+        return Err(fault_at(Kind::TooDeep, rest));
+    }
+    elements(alloc, &rest[front..], close, depth - 1)
+}
+
+/// The element behind a tag or a mark of `front` bytes.
+#[cycle(read)]
+fn one_inside(
+    alloc: Global,
+    rest: &str,
+    front: usize,
+    depth: usize,
+) -> Result<(Value, &str), ReadError>
+    requires boundary { IsCharBoundary rest.now front }
+    ensures gives { Gives (λ x. (view x.0, x.1.now)) result
+        ((deeper depth).one rest.now (drop front rest.now)) }
+    ensures text { IfOk result (λ x. IsUtf8 x.1.now) }
+{
+    if depth == 0 {
+        return Err(fault_at(Kind::TooDeep, rest));
+    }
+    let here = after_gap(alloc, &rest[front..], depth - 1)?;
+    element(alloc, here, depth - 1)
+}
+
+/// What follows white space, comments and discarded elements.
+#[cycle(read)]
+pub(crate) fn after_gap(alloc: Global, rest: &str, depth: usize) -> Result<&str, ReadError>
+    ensures gives { Gives (λ x. x.now) result (gap depth rest.now) }
+    ensures text { IfOk result (λ x. IsUtf8 x.now) }
+{
+    let mut left = rest;
+    'discards: loop {
+        let here = after_blank(left);
+        if !begins_discard(here) {
+            return Ok(here);
+        }
+        let (_, behind) = one_inside(alloc, here, DISCARD_LEN, depth)?;
+        left = behind;
     }
 }
 
@@ -89,21 +191,21 @@ fn elements(
 ) -> Result<(Vec<Value>, &str), ReadError>
     requires { IsAscii close }
     ensures gives { Gives (λ x. (views x.0.items, x.1.now)) result
-        (items close (read depth) (suc (length rest.now)) rest.now) }
+        (items close (gap depth) (read depth) (suc (length rest.now)) rest.now) }
     ensures text { IfOk result (λ x. IsUtf8 x.1.now) }
 {
     let mut found = Vec::new(alloc);
     let mut left = rest;
     'turns: loop {
-        left = after_gap(left);
-        let bytes = left.as_bytes();
+        let here = after_gap(alloc, left, depth)?;
+        let bytes = here.as_bytes();
         if bytes.is_empty() {
             return Err(fault_at(Kind::UnexpectedEnd, ""));
         }
         if bytes[0] == close {
-            return Ok((found, &left[1..]));
+            return Ok((found, &here[1..]));
         }
-        let (value, after) = element(alloc, left, depth)?;
+        let (value, after) = element(alloc, here, depth)?;
         found.push(value)?;
         left = after;
     }

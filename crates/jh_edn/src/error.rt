@@ -14,10 +14,11 @@ use thiserror::Error;
 /// Why a text was refused, with the line (from 1) of the character that decided against it, or what else failed.
 #[derive(Clone, Copy, Debug, PartialEq, Eq, Error)]
 pub enum EdnError {
-    /// The text ends inside a string, a vector or a map.
+    /// The text ends inside a string, a collection, a tag or a discard, or behind a last backslash.
     #[error("line {0}: unexpected end")]
     UnexpectedEnd(u64),
-    /// A run that is no number and no keyword, or a delimiter that opens nothing and closes nothing here.
+    /// A run that is no element, a character or a tag that there is not, or a delimiter that opens nothing and closes
+    /// nothing here.
     #[error("line {0}: bad token")]
     BadToken(u64),
     /// A number with a fraction, an exponent or an `M`.
@@ -32,10 +33,10 @@ pub enum EdnError {
     /// A map with a key that has no value.
     #[error("line {0}: odd map")]
     OddMap(u64),
-    /// A map with two equal keys.
+    /// A map with two equal keys, or a set with two equal elements.
     #[error("line {0}: duplicate key")]
     DuplicateKey(u64),
-    /// An opening bracket inside 64 open ones.
+    /// A bracket, a tag or a discard inside 64 others.
     #[error("line {0}: too deep")]
     TooDeep(u64),
     #[error("not UTF-8")]

@@ -1,107 +1,176 @@
-//! A list of numbers for a value, the same exactly for equal values.
+//! A key for a value: a list of parts, the same exactly for equal values.
 //!
-//! `key_of` of `specs/Key.antt` is the list, and its constants are those below.
+//! `key_of` of `specs/Key.antt` is the list. A part refers to the text of its value, so no text is copied.
 
-ghost use Rattle.std.specs.Prelude.{◌≡◌, ◌++◌, IfOk, OnOk, map};
-ghost use Rattle.jh_edn.specs.Edn.{items_of, members_of};
+ghost use Rattle.std.specs.Prelude.{◌≡◌, [], ◌∷◌, ◌++◌, IfOk, OnOk, map};
+ghost use Rattle.jh_edn.specs.Edn.{vector, items_of, members_of};
 ghost use Rattle.jh_edn.specs.Key as keys;
-ghost use Rattle.jh_edn.specs.Key.{in_order};
+ghost use Rattle.jh_edn.specs.Key.{is_key_below, parts_of, keys_in};
+ghost use Rattle.jh_edn.specs.Order.{in_order};
 ghost use Rattle.jh_edn.specs.View.{view};
 
 use crate::value::{Pairs, Value, Values};
 use std::alloc::{AllocError, Global};
 
-// What a list begins with, by the kind of the value.
-const INT_KIND: u64 = 1;
+/// What a part of a key begins, or ends.
+#[derive(Clone, Copy, Debug, PartialEq, Eq, PartialOrd, Ord)]
+pub(crate) enum Mark {
+    /// The end of the elements of a collection.
+    Last,
+    /// One more element of a collection.
+    More,
+    Nil,
+    Bool,
+    Int,
+    Char,
+    Str,
+    Keyword,
+    Symbol,
+    /// A list or a vector.
+    Sequence,
+    Map,
+    Set,
+    Tagged,
+}
 
-const STR_KIND: u64 = 2;
+/// A part of a key: a mark, with the number or the text of what it begins.
+#[derive(Clone, Copy, Debug, PartialEq, Eq, PartialOrd, Ord)]
+pub(crate) struct Part<'a> {
+    mark: Mark,
+    number: i64,
+    text: &'a str,
+}
 
-const KEYWORD_KIND: u64 = 3;
+impl<'a> Part<'a> {
+    fn bare(mark: Mark) -> Part<'a>
+        ensures { keys.seen result ≡ keys.bare mark }
+    {
+        Part {
+            mark,
+            number: 0,
+            text: "",
+        }
+    }
 
-const VECTOR_KIND: u64 = 4;
+    fn numbered(mark: Mark, number: i64) -> Part<'a>
+        ensures { keys.seen result ≡ keys.numbered mark number }
+    {
+        Part {
+            mark,
+            number,
+            text: "",
+        }
+    }
 
-const MAPPING_KIND: u64 = 5;
-
-// What ends a list of things, and what leads each of them.
-const LAST_MARK: u64 = 0;
-
-const MORE_MARK: u64 = 1;
-
-// What leads an integer, by its sign.
-const NEGATIVE_MARK: u64 = 0;
-
-const POSITIVE_MARK: u64 = 1;
-
-/// Appends the list of an integer, without its kind.
-fn push_integer(n: i64, key: &mut Vec<u64>) -> Result<(), AllocError>
-    ensures { OnOk result (key.new.items ≡ key.old.items ++ keys.integer_key n) }
-{
-    let magnitude = n.unsigned_abs();
-    if n < 0 {
-        key.extend_from_slice(&[NEGATIVE_MARK, (1 << 63) - magnitude, magnitude])
-    } else {
-        key.extend_from_slice(&[POSITIVE_MARK, magnitude])
+    fn texted(mark: Mark, text: &'a str) -> Part<'a>
+        ensures { keys.seen result ≡ keys.texted mark text.now }
+    {
+        Part {
+            mark,
+            number: 0,
+            text,
+        }
     }
 }
 
-/// Appends the list of a text, without its kind.
-fn push_text(text: &str, key: &mut Vec<u64>) -> Result<(), AllocError>
-    ensures { OnOk result (key.new.items ≡ key.old.items ++ keys.text_key text.now) }
+fn push<'a>(part: Part<'a>, key: &mut Vec<Part<'a>>) -> Result<(), AllocError>
+    ensures { OnOk result (parts_of key.new.items ≡ parts_of key.old.items ++ keys.seen part.entry ∷ []) }
 {
-    for b in text.as_bytes() {
-        key.push(u64::from(*b) + 1)?;
-    }
-    key.push(LAST_MARK)?;
+    key.push(part)?;
     Ok(())
 }
 
-/// Appends the value's list.
+/// Appends the keys, each led by a mark, and an end.
+fn push_marked<'a>(codes: &[Vec<Part<'a>>], key: &mut Vec<Part<'a>>) -> Result<(), AllocError>
+    ensures { OnOk result
+        (parts_of key.new.items ≡ parts_of key.old.items ++ keys.marked_keys (keys_in codes.now)) }
+{
+    for code in codes {
+        push(Part::bare(Mark::More), key)?;
+        key.extend_from_slice(code)?;
+    }
+    push(Part::bare(Mark::Last), key)
+}
+
+/// Appends the keys in ascending order, each led by a mark, and an end.
+fn push_sorted<'a>(mut codes: Vec<Vec<Part<'a>>>, key: &mut Vec<Part<'a>>) -> Result<(), AllocError>
+    ensures { OnOk result (parts_of key.new.items
+        ≡ parts_of key.old.items ++ keys.marked_keys (in_order is_key_below (keys_in codes.entry.items))) }
+{
+    codes.sort()?;
+    push_marked(&codes, key)
+}
+
+/// Appends the value's key.
 #[cycle(key)]
-pub(crate) fn push_key(alloc: Global, value: &Value, key: &mut Vec<u64>) -> Result<(), AllocError>
-    ensures { OnOk result (key.new.items ≡ key.old.items ++ keys.key_of (view value.now)) }
+pub(crate) fn push_key<'a>(
+    alloc: Global,
+    value: &'a Value,
+    key: &mut Vec<Part<'a>>,
+) -> Result<(), AllocError>
+    ensures { OnOk result (parts_of key.new.items ≡ parts_of key.old.items ++ keys.key_of (view value.now)) }
 {
     match value {
-        Value::Int(n) => {
-            key.push(INT_KIND)?;
-            push_integer(*n, key)
-        }
-        Value::Str(text) => {
-            key.push(STR_KIND)?;
-            push_text(text.as_str(), key)
-        }
-        Value::Keyword(name) => {
-            key.push(KEYWORD_KIND)?;
-            push_text(name.as_str(), key)
-        }
-        Value::Vector(items) => {
-            key.push(VECTOR_KIND)?;
-            push_items(alloc, items, key)
-        }
+        Value::Nil => push(Part::bare(Mark::Nil), key),
+        Value::Bool(b) => push(Part::numbered(Mark::Bool, i64::from(*b)), key),
+        Value::Int(n) => push(Part::numbered(Mark::Int, *n), key),
+        Value::Char(c) => push(Part::numbered(Mark::Char, i64::from(u32::from(*c))), key),
+        Value::Str(text) => push(Part::texted(Mark::Str, text.as_str()), key),
+        Value::Keyword(name) => push(Part::texted(Mark::Keyword, name.as_str()), key),
+        Value::Symbol(name) => push(Part::texted(Mark::Symbol, name.as_str()), key),
+        Value::List(items) => push_items(alloc, items, key),
+        Value::Vector(items) => push_items(alloc, items, key),
         Value::Map(pairs) => {
-            key.push(MAPPING_KIND)?;
-            push_marked(&pair_keys(alloc, pairs)?, key)
+            push(Part::bare(Mark::Map), key)?;
+            push_sorted(pair_keys(alloc, pairs)?, key)
+        }
+        Value::Set(items) => {
+            push(Part::bare(Mark::Set), key)?;
+            push_sorted(item_keys(alloc, items)?, key)
+        }
+        Value::Tagged(tagged) => {
+            push(Part::texted(Mark::Tagged, tagged.tag()), key)?;
+            push_key(alloc, &tagged.element, key)
         }
     }
 }
 
-/// Appends the lists of the elements, each led by a mark, and an end.
+/// Appends the key of a sequence of these elements.
 #[cycle(key)]
-fn push_items(alloc: Global, items: &Values, key: &mut Vec<u64>) -> Result<(), AllocError>
-    ensures { OnOk result (key.new.items ≡ key.old.items ++ keys.items_key (items_of items.now)) }
+fn push_items<'a>(
+    alloc: Global,
+    items: &'a Values,
+    key: &mut Vec<Part<'a>>,
+) -> Result<(), AllocError>
+    ensures { OnOk result (parts_of key.new.items
+        ≡ parts_of key.old.items ++ keys.key_of (vector (items_of items.now))) }
 {
+    push(Part::bare(Mark::Sequence), key)?;
     for item in &items.items {
-        key.push(MORE_MARK)?;
+        push(Part::bare(Mark::More), key)?;
         push_key(alloc, item, key)?;
     }
-    key.push(LAST_MARK)?;
-    Ok(())
+    push(Part::bare(Mark::Last), key)
 }
 
-/// The list of each pair, its key's and then its value's, in ascending order.
+/// The key of each element.
 #[cycle(key)]
-fn pair_keys(alloc: Global, pairs: &Pairs) -> Result<Vec<Vec<u64>>, AllocError>
-    ensures { IfOk result
-        (λ codes. map (λ v. v.items) codes.items ≡ in_order (keys.pair_keys (members_of pairs.now))) }
+pub(crate) fn item_keys(alloc: Global, items: &Values) -> Result<Vec<Vec<Part<'_>>>, AllocError>
+    ensures { IfOk result (λ codes. keys_in codes.items ≡ keys.item_keys (items_of items.now)) }
+{
+    let mut codes = Vec::new(alloc);
+    for item in &items.items {
+        let mut code = Vec::new(alloc);
+        push_key(alloc, item, &mut code)?;
+        codes.push(code)?;
+    }
+    Ok(codes)
+}
+
+/// The key of each pair: that of its key, and then that of its value.
+#[cycle(key)]
+fn pair_keys(alloc: Global, pairs: &Pairs) -> Result<Vec<Vec<Part<'_>>>, AllocError>
+    ensures { IfOk result (λ codes. keys_in codes.items ≡ keys.pair_keys (members_of pairs.now)) }
 {
     let mut codes = Vec::new(alloc);
     for pair in &pairs.items {
@@ -111,19 +180,5 @@ fn pair_keys(alloc: Global, pairs: &Pairs) -> Result<Vec<Vec<u64>>, AllocError>
         push_key(alloc, value, &mut code)?;
         codes.push(code)?;
     }
-    codes.sort()?;
     Ok(codes)
-}
-
-/// Appends the lists, each led by a mark, and an end.
-fn push_marked(codes: &[Vec<u64>], key: &mut Vec<u64>) -> Result<(), AllocError>
-    ensures { OnOk result
-        (key.new.items ≡ key.old.items ++ keys.marked_keys (map (λ v. v.items) codes.now)) }
-{
-    for code in codes {
-        key.push(MORE_MARK)?;
-        key.extend_from_slice(code)?;
-    }
-    key.push(LAST_MARK)?;
-    Ok(())
 }

@@ -1,9 +1,12 @@
 //! Laws of the definitions, each the clause of a function that does nothing.
 
-ghost use Rattle.std.specs.Prelude.{◌≡◌, ℕ, List};
+ghost use Rattle.std.specs.Prelude.{◌≡◌, ℕ, List, [], ◌∷◌, IsTrue};
 ghost use Rattle.jh_edn.specs.Edn.{Edn};
 ghost use Rattle.jh_edn.specs.Equality.{Equals};
-ghost use Rattle.jh_edn.specs.Spelling.{SpellsAll};
+ghost use Rattle.jh_edn.specs.Normal.{normal, is_normal};
+ghost use Rattle.jh_edn.specs.Print.{print};
+ghost use Rattle.jh_edn.specs.Printable.{IsPrintable};
+ghost use Rattle.jh_edn.specs.Spelling.{depth_limit, SpellsAll};
 
 /// A text spells at most one list of values.
 pub fn spelled_once()
@@ -15,4 +18,18 @@ pub fn equality_laws()
     ensures reflexive { (x : Edn) → Equals x x }
     ensures symmetric { (x y : Edn) → Equals x y → Equals y x }
     ensures transitive { (x y z : Edn) → Equals x y → Equals y z → Equals x z }
+{}
+
+/// Every value has a normal form, and what is in normal form is printed so that it is read back.
+pub fn normal_laws()
+    ensures keeps { (x : Edn) → Equals x (normal x) }
+    ensures normal { (x : Edn) → IsPrintable depth_limit x → IsTrue (is_normal (normal x)) }
+    ensures printable { (x : Edn) → IsTrue (is_normal x) → IsPrintable depth_limit x }
+{}
+
+/// What is printed of a value that can be printed spells that value and no other.
+pub fn print_laws()
+    ensures spells { (x : Edn) → IsPrintable depth_limit x → SpellsAll (x ∷ []) (print x) }
+    ensures alone { (x : Edn) (ys : List Edn) → IsPrintable depth_limit x → SpellsAll ys (print x)
+        → ys ≡ x ∷ [] }
 {}

@@ -4,11 +4,17 @@
 mod all;
 mod atom;
 mod bytes;
+mod character;
+mod copy;
 mod element;
 mod error;
 mod fault;
+mod is_normal;
 mod key;
 mod laws;
+mod name;
+mod normal;
+mod order;
 mod pairs;
 mod reader;
 mod scan;
@@ -19,9 +25,9 @@ mod writer;
 pub use all::read_all;
 pub use bytes::read_bytes;
 pub use error::EdnError;
-pub use laws::{equality_laws, spelled_once};
+pub use laws::{equality_laws, normal_laws, print_laws, spelled_once};
 pub use reader::read_one;
-pub use value::{Pairs, Text, Value, Values};
+pub use value::{Pairs, Tagged, Text, Value, Values};
 pub use writer::write;
 
 #[cfg(test)]

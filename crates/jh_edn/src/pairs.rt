@@ -2,12 +2,13 @@
 
 ghost use Rattle.std.specs.Prelude.{◌≡◌, IfOk, map};
 ghost use Rattle.jh_edn.specs.Key as key;
+ghost use Rattle.jh_edn.specs.Key.{keys_in};
 ghost use Rattle.jh_edn.specs.Reading as reading;
 ghost use Rattle.jh_edn.specs.Reading.{pairs_of};
 ghost use Rattle.jh_edn.specs.View.{views};
 
-use crate::key::push_key;
-use crate::value::{Pairs, Value};
+use crate::key::{Part, item_keys, push_key};
+use crate::value::{Pairs, Value, Values};
 use std::alloc::{AllocError, Global};
 use std::collections::BTreeSet;
 
@@ -26,9 +27,9 @@ pub(crate) fn make_pairs(alloc: Global, items: Vec<Value>) -> Result<Option<Pair
     Ok(Some(Pairs::of(pairs)))
 }
 
-/// Whether one of the lists stands twice.
-fn has_twice(alloc: Global, keys: &[Vec<u64>]) -> Result<bool, AllocError>
-    ensures { IfOk result (λ b. b ≡ key.has_twice (map (λ v. v.items) keys.now)) }
+/// Whether one of the keys stands twice. Looks each up in a tree of those before it.
+fn has_twice(alloc: Global, keys: &[Vec<Part<'_>>]) -> Result<bool, AllocError>
+    ensures { IfOk result (λ b. b ≡ key.has_twice (keys_in keys.now)) }
 {
     let mut seen = BTreeSet::new(alloc);
     for key in keys {
@@ -39,7 +40,7 @@ fn has_twice(alloc: Global, keys: &[Vec<u64>]) -> Result<bool, AllocError>
     Ok(false)
 }
 
-/// Whether two keys are equal. Each key is encoded once, and the codes are looked up in a tree.
+/// Whether two keys of the map are equal. Takes n log n comparisons in a map of n pairs.
 #[tactic(auto, unfolding(crate::specs::Reading::repeats_key))]
 pub(crate) fn repeats_key(alloc: Global, pairs: &Pairs) -> Result<bool, AllocError>
     ensures { IfOk result (λ b. b ≡ reading.repeats_key pairs.now) }
@@ -51,4 +52,12 @@ pub(crate) fn repeats_key(alloc: Global, pairs: &Pairs) -> Result<bool, AllocErr
         keys.push(code)?;
     }
     has_twice(alloc, &keys)
+}
+
+/// Whether two elements of the set are equal. Takes n log n comparisons in a set of n elements.
+#[tactic(auto, unfolding(crate::specs::Reading::repeats_element))]
+pub(crate) fn repeats_element(alloc: Global, items: &Values) -> Result<bool, AllocError>
+    ensures { IfOk result (λ b. b ≡ reading.repeats_element items.now) }
+{
+    has_twice(alloc, &item_keys(alloc, items)?)
 }

@@ -5,19 +5,19 @@
 
 ghost use Rattle.std.specs.Prelude.{◌≡◌, ◌⊎◌, ◌<◌, drop, IfOk, IfErr, IfSome, IfNone};
 ghost use Rattle.std.specs.Str.{IsCharBoundary};
+ghost use Rattle.jh_edn.specs.Reading as reading;
 ghost use Rattle.jh_edn.specs.Reading.{line_at, FirstFault};
 ghost use Rattle.jh_edn.specs.Spelling.{IsGap, Reads, NothingReads};
 ghost use Rattle.jh_edn.specs.View.{view};
 
-use crate::element::element;
+use crate::element::{after_gap, element};
 use crate::error::{EdnError, fault_at_line};
 use crate::fault::ReadError;
-use crate::scan::after_gap;
 use crate::value::Value;
 use std::alloc::Global;
 
-/// How many brackets may be open at once.
-const DEPTH_LIMIT: usize = 64;
+/// How many brackets, tags and discards may be open at once.
+pub(crate) const DEPTH_LIMIT: usize = 64;
 
 /// The line, from 1, of the place with so many bytes left.
 fn line_of(text: &str, left: usize) -> u64
@@ -33,10 +33,21 @@ fn line_of(text: &str, left: usize) -> u64
     line
 }
 
+/// The error of a whole text.
+fn error_in(text: &str, error: ReadError) -> EdnError
+    ensures { result ≡ reading.error_in text.now error }
+{
+    match error {
+        ReadError::Memory => EdnError::OutOfMemory,
+        ReadError::Fault(fault) => fault_at_line(fault.kind, line_of(text, fault.left)),
+    }
+}
+
 /// The element that begins behind the gap at `at`, and the place after it, both in bytes. `None` where only a gap
 /// is left.
 ///
-/// Takes time in proportion to the text read, but for keys of maps: a map of n pairs takes n log n comparisons.
+/// Takes time in proportion to the text read, but for keys of maps and elements of sets: n of them take n log n
+/// comparisons.
 ///
 /// # Errors
 ///
@@ -50,15 +61,15 @@ pub fn read_one(alloc: Global, text: &str, at: usize) -> Result<Option<(Value, u
     ensures refused { IfErr result (λ e. (e ≡ EdnError.OutOfMemory) ⊎ NothingReads text.now at) }
     ensures first_fault { IfErr result (λ e. (e ≡ EdnError.OutOfMemory) ⊎ FirstFault text.now at e) }
 {
-    let rest = after_gap(&text[at..]);
-    if rest.is_empty() {
+    let here = match after_gap(alloc, &text[at..], DEPTH_LIMIT) {
+        Ok(here) => here,
+        Err(error) => return Err(error_in(text, error)),
+    };
+    if here.is_empty() {
         return Ok(None);
     }
-    match element(alloc, rest, DEPTH_LIMIT) {
+    match element(alloc, here, DEPTH_LIMIT) {
         Ok((value, after)) => Ok(Some((value, text.len() - after.len()))),
-        Err(ReadError::Memory) => Err(EdnError::OutOfMemory),
-        Err(ReadError::Fault(fault)) => {
-            Err(fault_at_line(fault.kind, line_of(text, fault.left)))
-        }
+        Err(error) => Err(error_in(text, error)),
     }
 }

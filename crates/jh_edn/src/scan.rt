@@ -2,7 +2,7 @@
 //!
 //! `specs/Bytes.antt` says what each byte is.
 
-ghost use Rattle.std.specs.Prelude.{◌≡◌, ◌≤◌, ◌<◌, length, IfSome};
+ghost use Rattle.std.specs.Prelude.{◌≡◌, ◌≤◌, ◌<◌, drop, length, slice_index, ◌==◌, IfSome};
 ghost use Rattle.std.specs.Str.{IsCharBoundary};
 ghost use Rattle.jh_edn.specs.Bytes as bytes;
 ghost use Rattle.jh_edn.specs.Bytes.{IsAscii, leading, escaped};
@@ -75,6 +75,13 @@ pub(crate) fn is_symbol(b: u8) -> bool
     )
 }
 
+#[tactic(auto, unfolding(crate::specs::Bytes::is_letter))]
+pub(crate) fn is_letter(b: u8) -> bool
+    ensures { result ≡ bytes.is_letter b }
+{
+    matches!(b, b'A'..=b'Z' | b'a'..=b'z')
+}
+
 #[tactic(auto, unfolding(crate::specs::Bytes::is_first))]
 pub(crate) fn is_first(b: u8) -> bool
     ensures { result ≡ bytes.is_first b }
@@ -100,13 +107,19 @@ pub(crate) fn unescape(b: u8) -> Option<char>
     }
 }
 
-/// How many bytes of white space the text begins with.
-fn gap_len(rest: &str) -> usize
-    ensures { result ≡ leading bytes.is_space rest.now }
+/// How many bytes of white space and comments the text begins with.
+fn blank_len(rest: &str) -> usize
+    ensures rest { drop result rest.now ≡ reading.after_blank rest.now }
+    ensures boundary { IsCharBoundary rest.now result }
 {
+    let mut in_comment = false;
     let mut len = 0;
     for b in rest.as_bytes() {
-        if !is_space(*b) {
+        if in_comment {
+            in_comment = *b != b'\n';
+        } else if *b == b';' {
+            in_comment = true;
+        } else if !is_space(*b) {
             return len;
         }
         len += 1;
@@ -161,10 +174,23 @@ pub(crate) fn digits_len(run: &[u8]) -> usize
     len
 }
 
-/// The text after the white space that it begins with.
-pub(crate) fn after_gap(rest: &str) -> &str
-    ensures { result.now ≡ reading.after_gap rest.now }
+/// The text after the white space and the comments that it begins with.
+pub(crate) fn after_blank(rest: &str) -> &str
+    ensures { result.now ≡ reading.after_blank rest.now }
 {
-    let len = gap_len(rest);
+    let len = blank_len(rest);
     &rest[len..]
+}
+
+#[tactic(auto, unfolding(crate::specs::Bytes::begins_discard))]
+pub(crate) fn begins_discard(rest: &str) -> bool
+    ensures { result ≡ bytes.begins_discard rest.now }
+{
+    matches!(rest.as_bytes(), [b'#', b'_', ..])
+}
+
+pub(crate) fn begins_set(rest: &[u8]) -> bool
+    ensures { result ≡ (slice_index rest.now 1 == bytes.open_brace) }
+{
+    matches!(rest, [_, b'{', ..])
 }

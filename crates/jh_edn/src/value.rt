@@ -3,11 +3,13 @@
 //! `specs/Edn.antt` says what a contract sees of a value and `specs/View.antt` how it sees it. A kind
 //! of element is added here, there and in `specs/Code.antt`.
 
-ghost use Rattle.std.specs.Prelude.{◌≡◌, ◌↔◌, [], length, IsTrue, option_map};
+ghost use Rattle.std.specs.Prelude.{◌≡◌, ◌↔◌, [], length, IsTrue, IfOk, option_map};
 ghost use Rattle.std.specs.String.{string_bytes};
 ghost use Rattle.jh_edn.specs.Edn.{elements_of};
 ghost use Rattle.jh_edn.specs.View.{view, views, view_pairs};
 
+use std::alloc::{AllocError, Global};
+use std::boxed::Box;
 use std::marker::Model;
 
 /// A text that a value holds. A contract sees its bytes, which are UTF-8.
@@ -48,19 +50,28 @@ impl Text {
     }
 }
 
-/// An EDN element: one of the kinds that EDN's format description lists under "Built-in elements".
+/// An EDN element: one of the kinds that EDN's format description lists under "Built-in elements",
+/// floating point numbers left out.
 #[cycle(value)]
 #[derive(Debug, Drop)]
 pub enum Value {
+    Nil,
+    Bool(bool),
     /// An integer of 64 bits, whether or not an `N` stood behind it.
     Int(i64),
+    Char(char),
     /// A string, without its quotes and with its escapes resolved.
     Str(Text),
     /// A keyword, without its colon.
     Keyword(Text),
+    Symbol(Text),
+    List(Values),
     Vector(Values),
     /// A map, its pairs in the order in which they were written.
     Map(Pairs),
+    /// A set, its elements in the order in which they were written.
+    Set(Values),
+    Tagged(Tagged),
 }
 
 /// Values in order. A contract sees a list.
@@ -120,15 +131,84 @@ impl Model for Pairs {
     ghost size_decreases = { λ a h. pairs_fall a };
 }
 
+/// A tagged element: a tag, and the element behind it. A contract sees both, as a pair.
+#[cycle(value)]
+#[derive(Debug, Drop)]
+pub struct Tagged {
+    pub(crate) tag: Text,
+    pub(crate) element: Box<Value>,
+}
+
+impl Model for Tagged {
+    ghost use Rattle.std.specs.Prelude.{List, ℕ};
+    ghost use Rattle.std.specs.Coded.{coded_list, coded_ℕ, coded×};
+    ghost use Rattle.jh_edn.specs.Edn.{Edn, size_of};
+    ghost use Rattle.jh_edn.specs.Code.{edn_coded};
+
+    ghost Value = { List ℕ × Edn };
+
+    ghost coded = { coded× (coded_list coded_ℕ) edn_coded };
+
+    ghost use Rattle.jh_edn.specs.View.{view as view_of};
+
+    ghost view = { λ a. (a.tag, view_of a.element.value) };
+
+    ghost size = { λ t. size_of t.1 };
+
+    ghost use Rattle.std.proofs.Common.{arith};
+    ghost use Rattle.jh_edn.specs.Falls.{deep};
+
+    ghost size_decreases = { λ a h. Prim.omega (arith, deep a.element.value) };
+}
+
 impl Value {
-    /// The elements of a sequence, where the value is one.
+    /// The elements of a sequence, a list or a vector, where the value is one.
     pub fn elements(&self) -> Option<&[Value]>
         ensures { option_map (λ xs. views xs.now) result ≡ elements_of (view self.now) }
     {
         match self {
+            Value::List(items) => Some(items.as_slice()),
             Value::Vector(items) => Some(items.as_slice()),
             _ => None,
         }
+    }
+}
+
+impl Tagged {
+    /// The element behind a tag.
+    ///
+    /// # Errors
+    ///
+    /// Where there is no memory to hold the element.
+    pub fn of(alloc: Global, tag: Text, element: Value) -> Result<Tagged, AllocError>
+        ensures { IfOk result (λ t. (t.0 ≡ tag) × (t.1 ≡ view element)) }
+    {
+        Ok(Tagged {
+            tag,
+            element: Box::new(alloc, element)?,
+        })
+    }
+
+    /// The tag, without its `#`.
+    pub fn tag(&self) -> &str
+        ensures { result.now ≡ self.now.0 }
+    {
+        self.tag.as_str()
+    }
+
+    pub fn element(&self) -> &Value
+        ensures { view result.now ≡ self.now.1 }
+    {
+        &self.element
+    }
+
+    /// The tag and the element, given back without memory.
+    pub fn into_parts(self) -> (Text, Value)
+        ensures tag { result.0 ≡ self.0 }
+        ensures element { view result.1 ≡ self.1 }
+    {
+        let Tagged { tag, element } = self;
+        (tag, Box::into_inner(element))
     }
 }
 

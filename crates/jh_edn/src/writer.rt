@@ -2,13 +2,14 @@
 //!
 //! `print` of `specs/Print.antt` is the one printed text.
 
-ghost use Rattle.std.specs.Prelude.{◌≡◌, OnOk, IfErr, [], ◌∷◌, ◌++◌, codes};
+ghost use Rattle.std.specs.Prelude.{◌≡◌, OnOk, IfErr, [], ◌∷◌, ◌++◌, ◌<◌, codes, encode_utf8};
+ghost use Rattle.std.specs.Char.{digit_char};
 ghost use Rattle.std.specs.Fmt.{signed_decimal};
 ghost use Rattle.std.specs.Io.KnownBytes.{Appends};
 ghost use Rattle.std.specs.List.{flat_map};
 ghost use Rattle.jh_edn.specs.Bytes.{quote};
 ghost use Rattle.jh_edn.specs.Edn.{items_of, members_of};
-ghost use Rattle.jh_edn.specs.Print.{print, joined, item_texts, member_texts, unless_first, escape};
+ghost use Rattle.jh_edn.specs.Print.{print, joined, item_texts, member_texts, unless_first, escape, char_number, char_text};
 ghost use Rattle.jh_edn.specs.View.{view};
 
 use crate::error::EdnError;
@@ -72,6 +73,56 @@ fn write_text<W: Write>(text: &str, writer: &mut W) -> Result<(), EdnError>
     put(b"\"", writer)
 }
 
+/// A hexadecimal digit, in lower case.
+fn hex_digit(value: u8) -> u8
+    requires { value < 16 }
+    ensures { result ≡ digit_char value }
+{
+    if value < 10 {
+        b'0' + value
+    } else {
+        b'a' + (value - 10)
+    }
+}
+
+/// A character that would not show, by its number.
+fn write_number<W: Write>(b: u8, writer: &mut W) -> Result<(), EdnError>
+    ensures bytes { OnOk result (Appends (W.contents writer.old) (W.contents writer.new) (char_number b)) }
+    ensures error { IfErr result (λ e. e ≡ EdnError.Write) }
+{
+    put(
+        &[b'u', b'0', b'0', hex_digit(b / 16), hex_digit(b % 16)],
+        writer,
+    )
+}
+
+/// A character by itself.
+fn write_itself<W: Write>(c: char, writer: &mut W) -> Result<(), EdnError>
+    ensures bytes { OnOk result (Appends (W.contents writer.old) (W.contents writer.new) (encode_utf8 c)) }
+    ensures error { IfErr result (λ e. e ≡ EdnError.Write) }
+{
+    let mut bytes = [0; 4];
+    put(c.encode_utf8(&mut bytes).as_bytes(), writer)
+}
+
+/// What stands behind the backslash of a character.
+#[tactic(auto, unfolding(crate::specs::Print::char_text))]
+fn write_char<W: Write>(c: char, writer: &mut W) -> Result<(), EdnError>
+    ensures bytes { OnOk result (Appends (W.contents writer.old) (W.contents writer.new) (char_text c)) }
+    ensures error { IfErr result (λ e. e ≡ EdnError.Write) }
+{
+    match c {
+        '\n' => put(b"newline", writer),
+        '\r' => put(b"return", writer),
+        ' ' => put(b"space", writer),
+        '\t' => put(b"tab", writer),
+        '\x0c' => put(b"formfeed", writer),
+        '\x08' => put(b"backspace", writer),
+        '\0'..='\x1f' | '\x7f' => write_number(c as u8, writer),
+        _ => write_itself(c, writer),
+    }
+}
+
 /// Prints the value: members in the order held, one space between elements, `, ` between pairs.
 ///
 /// Takes no memory. The writer may have taken a part of the text where it failed.
@@ -86,11 +137,23 @@ pub fn write<W: Write>(value: &Value, writer: &mut W) -> Result<(), EdnError>
     ensures error { IfErr result (λ e. e ≡ EdnError.Write) }
 {
     match value {
+        Value::Nil => put(b"nil", writer),
+        Value::Bool(b) => put(if *b { b"true" } else { b"false" }, writer),
         Value::Int(n) => write_int(*n, writer),
+        Value::Char(c) => {
+            put(b"\\", writer)?;
+            write_char(*c, writer)
+        }
         Value::Str(text) => write_text(text.as_str(), writer),
         Value::Keyword(name) => {
             put(b":", writer)?;
             put(name.as_str().as_bytes(), writer)
+        }
+        Value::Symbol(name) => put(name.as_str().as_bytes(), writer),
+        Value::List(items) => {
+            put(b"(", writer)?;
+            write_items(items, writer)?;
+            put(b")", writer)
         }
         Value::Vector(items) => {
             put(b"[", writer)?;
@@ -101,6 +164,17 @@ pub fn write<W: Write>(value: &Value, writer: &mut W) -> Result<(), EdnError>
             put(b"{", writer)?;
             write_pairs(pairs, writer)?;
             put(b"}", writer)
+        }
+        Value::Set(items) => {
+            put(b"#{", writer)?;
+            write_items(items, writer)?;
+            put(b"}", writer)
+        }
+        Value::Tagged(tagged) => {
+            put(b"#", writer)?;
+            put(tagged.tag().as_bytes(), writer)?;
+            put(b" ", writer)?;
+            write(&tagged.element, writer)
         }
     }
 }

@@ -1,13 +1,14 @@
-use Rattle.std.proofs.Common.{◌≡◌, suc, ◌-◌, ◌<◌, [], ◌∷◌, ◌++◌, length, drop, get_or, Ok, subst, arith}
+use Rattle.std.proofs.Common.{◌≡◌, ◌-◌, ◌<◌, [], ◌∷◌, ◌++◌, length, drop, get_or, true, false, subst, arith}
 use Rattle.std.specs.Prelude.{◌≢◌}
 use Rattle.std.specs.Str.{IsUtf8}
 use Rattle.std.proofs.lemmas.Str.{IsCharBoundary-after_ascii}
 use Rattle.std.proofs.lemmas.Result.{err_from_is_err_and}
 use Rattle.std.proofs.lemmas.List.{map_push}
-use Rattle.jh_edn.specs.Bytes.{quote, open_bracket, open_brace, close_brace}
+use Rattle.jh_edn.specs.Bytes.{hash, quote, open_paren, open_bracket, open_brace, begins_discard}
 use Rattle.jh_edn.specs.View.{view, views}
-use Rattle.jh_edn.specs.Reading.{items, read}
-use Rattle.jh_edn.proofs.Loop.{ends, closes, fails, goes, gap_shorter, read_shorter, read_map}
+use Rattle.jh_edn.specs.Reading.{deeper, gap, read}
+use Rattle.jh_edn.proofs.Loop.{ends, closes, stuck, fails, goes, gap_ends, gap_fails, gap_goes, blank_shorter, discard_shorter, discard_boundary, elements_below, elements_too_deep, one_below, one_too_deep, stuck_one, gap_shorter, read_shorter}
+use Rattle.jh_edn.proofs.Lists.{within}
 use Rattle.jh_edn.proofs.element.+read.Goals as goal
 
 pub element-range_from-requires : goal.element-range_from-requires
@@ -17,70 +18,151 @@ element-range_from-requires t c =
     let some : 0 < length s = rw (← c.as_bytes-bytes.ensures.value) (grind arith) in
     λ _. IsCharBoundary-after_ascii s 0 (subst IsUtf8 c.as_bytes-bytes.ensures.value c.as_bytes-bytes.ensures.utf8) some (omega arith)
 
-pub element-range_from-requires-in-91 : goal.element-range_from-requires-in-91
-element-range_from-requires-in-91 t c =
-    let s = c.args.rest.now in
-    let first : get_or s 0 0 ≡ open_bracket = rw (← c.as_bytes-bytes.ensures.value) (grind arith) in
-    let some : 0 < length s = rw (← c.as_bytes-bytes.ensures.value) (grind arith) in
-    λ _. IsCharBoundary-after_ascii s 0 (subst IsUtf8 c.as_bytes-bytes.ensures.value c.as_bytes-bytes.ensures.utf8) some (omega arith)
-
 pub elements-range_from-requires : goal.elements-range_from-requires
 elements-range_from-requires t c =
-    let s = c.after_gap-left.result.now in
+    let s = c.in_ok-here.here.now in
     let first : get_or s 0 0 ≡ c.args.close = rw (← c.as_bytes-bytes.ensures.value) (grind arith) in
     let some : 0 < length s = rw (← c.as_bytes-bytes.ensures.value) (grind arith) in
-    λ _. IsCharBoundary-after_ascii s 0 c.after_gap-left.utf8 some (omega (arith, c.requires))
+    λ _. IsCharBoundary-after_ascii s 0 c.in_ok-here.ensures.text some (omega (arith, c.requires))
 
 pub elements-returns-then-is_empty-clause-gives : goal.elements-returns-then-is_empty-clause-gives
 elements-returns-then-is_empty-clause-gives t c =
-    let none : length c.after_gap-left.result.now ≡ 0 = rw (← c.as_bytes-bytes.ensures.value) (grind arith) in
+    let here = c.in_ok-here.here.now in
+    let none : length here ≡ 0 = rw (← c.as_bytes-bytes.ensures.value) (grind arith) in
     let l = c.turns in
-    rw c.fault_at.ensures (ends c.args.close (read c.args.depth) (views l.found.items) l.invariant.1 l.left.now c.after_gap-left.result.now _ l.invariant.2 c.after_gap-left.ensures l.invariant.3 none)
+    rw c.fault_at.ensures (ends c.args.close (gap c.args.depth) (read c.args.depth) (views l.found.items) l.invariant.1 l.left.now _ l.invariant.2 l.invariant.3 here c.in_ok-here.ensures.gives none)
 
 pub elements-returns-then-bytes-close-clause-gives : goal.elements-returns-then-bytes-close-clause-gives
 elements-returns-then-bytes-close-clause-gives t c =
-    let here = c.after_gap-left.result.now in
+    let here = c.in_ok-here.here.now in
     let some : 0 < length here = rw (← c.as_bytes-bytes.ensures.value) (grind arith) in
     let first : get_or here 0 0 ≡ c.args.close = rw (← c.as_bytes-bytes.ensures.value) (grind arith) in
     let l = c.turns in
-    rw c.range_from.ensures.value (closes c.args.close (read c.args.depth) (views l.found.items) l.invariant.1 l.left.now here _ l.invariant.2 c.after_gap-left.ensures l.invariant.3 some first)
+    rw c.range_from.ensures.value (closes c.args.close (gap c.args.depth) (read c.args.depth) (views l.found.items) l.invariant.1 l.left.now _ l.invariant.2 l.invariant.3 here c.in_ok-here.ensures.gives some first)
 
 pub elements-returns-in_err-value-clause-gives : goal.elements-returns-in_err-value-clause-gives
 elements-returns-in_err-value-clause-gives t c =
-    let p = err_from_is_err_and c.from_residual.result c.from_residual.ensures.1 in
-    let here = c.after_gap-left.result.now in
+    let p = err_from_is_err_and c.from_residual-in_err-value.result c.from_residual-in_err-value.ensures.1 in
+    let here = c.in_ok-here.here.now in
     let some : 0 < length here = rw (← c.as_bytes-bytes.ensures.value) (grind arith) in
     let other : get_or here 0 0 ≢ c.args.close = rw (← c.as_bytes-bytes.ensures.value) (grind arith) in
     let l = c.turns in
-    rw (p.1, p.2) (fails c.args.close (read c.args.depth) (views l.found.items) l.invariant.1 l.left.now here _ l.invariant.2 c.after_gap-left.ensures l.invariant.3 c.in_err-value.field-0.0 some other c.in_err-value.ensures.gives)
+    rw (p.1, p.2) (fails c.args.close (gap c.args.depth) (read c.args.depth) (views l.found.items) l.invariant.1 l.left.now _ l.invariant.2 l.invariant.3 here c.in_ok-here.ensures.gives c.in_err-value.field-0.0 some other c.in_err-value.ensures.gives)
 
 pub elements-turns-smaller : goal.elements-turns-smaller
 elements-turns-smaller t c =
-    omega (arith, gap_shorter c.turns.left.now c.after_gap-left.result.now c.after_gap-left.ensures, read_shorter c.args.depth c.after_gap-left.result.now (view c.in_ok-value.value) c.in_ok-value.after.now c.in_ok-value.ensures.gives)
+    let here = c.in_ok-here.here.now in
+    omega (arith, gap_shorter c.args.depth c.turns.left.now here c.in_ok-here.ensures.gives, read_shorter c.args.depth here (view c.in_ok-value.value) c.in_ok-value.after.now c.in_ok-value.ensures.gives)
 
 pub elements-turns-preserved : goal.elements-turns-preserved
 elements-turns-preserved t c =
-    let here = c.after_gap-left.result.now in
+    let here = c.in_ok-here.here.now in
     let some : 0 < length here = rw (← c.as_bytes-bytes.ensures.value) (grind arith) in
     let other : get_or here 0 0 ≢ c.args.close = rw (← c.as_bytes-bytes.ensures.value) (grind arith) in
     let l = c.turns in
     let n = l.invariant.1 in
     let pushed : views c.push.new.self.items ≡ views l.found.items ++ view c.in_ok-value.value ∷ [] = rw c.in_ok-push.ensures.items (map_push _ l.found.items c.in_ok-value.value) in
-    let short : length c.in_ok-value.after.now < n - 1 = omega (arith, l.invariant.2, gap_shorter l.left.now here c.after_gap-left.ensures, read_shorter c.args.depth here (view c.in_ok-value.value) c.in_ok-value.after.now c.in_ok-value.ensures.gives) in
-    (c.in_ok-value.ensures.text, n - 1, short, rw pushed (goes c.args.close (read c.args.depth) (views l.found.items) n l.left.now here _ l.invariant.2 c.after_gap-left.ensures l.invariant.3 (view c.in_ok-value.value) c.in_ok-value.after.now some other c.in_ok-value.ensures.gives))
+    let short : length c.in_ok-value.after.now < n - 1 = omega (arith, l.invariant.2, gap_shorter c.args.depth l.left.now here c.in_ok-here.ensures.gives, read_shorter c.args.depth here (view c.in_ok-value.value) c.in_ok-value.after.now c.in_ok-value.ensures.gives) in
+    (c.in_ok-value.ensures.text, n - 1, short, rw pushed (goes c.args.close (gap c.args.depth) (read c.args.depth) (views l.found.items) n l.left.now _ l.invariant.2 l.invariant.3 here c.in_ok-here.ensures.gives (view c.in_ok-value.value) c.in_ok-value.after.now some other c.in_ok-value.ensures.gives))
 
-pub element-range_from-requires-in-123 : goal.element-range_from-requires-in-123
-element-range_from-requires-in-123 t c =
+pub after_gap-returns-then-not-begins_discard-clause-gives : goal.after_gap-returns-then-not-begins_discard-clause-gives
+after_gap-returns-then-not-begins_discard-clause-gives t c =
+    let here = c.after_blank-here.result.now in
+    let l = c.discards in
+    let kept : begins_discard here ≡ false = rw (← c.begins_discard.ensures) (grind arith) in
+    gap_ends (deeper c.args.depth) l.invariant.1 l.left.now here _ l.invariant.2 c.after_blank-here.ensures l.invariant.3 kept
+
+pub after_gap-one_inside-requires : goal.after_gap-one_inside-requires
+after_gap-one_inside-requires t c =
+    let here = c.after_blank-here.result.now in
+    let marked : begins_discard here ≡ true = rw (← c.begins_discard.ensures) (grind arith) in
+    (omega arith, discard_boundary here c.after_blank-here.utf8 marked)
+
+pub after_gap-returns-in_err-behind-clause-gives : goal.after_gap-returns-in_err-behind-clause-gives
+after_gap-returns-in_err-behind-clause-gives t c =
+    let p = err_from_is_err_and c.from_residual.result c.from_residual.ensures.1 in
+    let here = c.after_blank-here.result.now in
+    let l = c.discards in
+    let marked : begins_discard here ≡ true = rw (← c.begins_discard.ensures) (grind arith) in
+    rw (p.1, p.2) (gap_fails (deeper c.args.depth) l.invariant.1 l.left.now here _ l.invariant.2 c.after_blank-here.ensures l.invariant.3 c.in_err-behind.field-0.0 marked c.in_err-behind.ensures.gives)
+
+pub after_gap-discards-smaller : goal.after_gap-discards-smaller
+after_gap-discards-smaller t c =
+    let here = c.after_blank-here.result.now in
+    omega (arith, blank_shorter c.discards.left.now here c.after_blank-here.ensures, discard_shorter c.args.depth here (view c.in_ok-behind.field-0-0) c.in_ok-behind.behind.now c.in_ok-behind.ensures.gives)
+
+pub after_gap-discards-preserved : goal.after_gap-discards-preserved
+after_gap-discards-preserved t c =
+    let here = c.after_blank-here.result.now in
+    let l = c.discards in
+    let n = l.invariant.1 in
+    let marked : begins_discard here ≡ true = rw (← c.begins_discard.ensures) (grind arith) in
+    let short : length c.in_ok-behind.behind.now < n - 1 = omega (arith, l.invariant.2, blank_shorter l.left.now here c.after_blank-here.ensures, discard_shorter c.args.depth here (view c.in_ok-behind.field-0-0) c.in_ok-behind.behind.now c.in_ok-behind.ensures.gives) in
+    (c.in_ok-behind.ensures.text, n - 1, short, gap_goes (deeper c.args.depth) n l.left.now here _ l.invariant.2 c.after_blank-here.ensures l.invariant.3 (view c.in_ok-behind.field-0-0) c.in_ok-behind.behind.now marked c.in_ok-behind.ensures.gives)
+
+pub element-elements_inside-requires : goal.element-elements_inside-requires
+element-elements_inside-requires t c =
+    let s = c.args.rest.now in
+    let first : get_or s 0 0 ≡ open_paren = rw (← c.as_bytes-bytes.ensures.value) (grind arith) in
+    let some : 0 < length s = rw (← c.as_bytes-bytes.ensures.value) (grind arith) in
+    (omega arith, (omega arith, IsCharBoundary-after_ascii s 0 (subst IsUtf8 c.as_bytes-bytes.ensures.value c.as_bytes-bytes.ensures.utf8) some (omega arith)))
+
+pub element-elements_inside-requires-in-123 : goal.element-elements_inside-requires-in-123
+element-elements_inside-requires-in-123 t c =
     let s = c.args.rest.now in
     let first : get_or s 0 0 ≡ open_brace = rw (← c.as_bytes-bytes.ensures.value) (grind arith) in
     let some : 0 < length s = rw (← c.as_bytes-bytes.ensures.value) (grind arith) in
-    λ _. IsCharBoundary-after_ascii s 0 (subst IsUtf8 c.as_bytes-bytes.ensures.value c.as_bytes-bytes.ensures.utf8) some (omega arith)
+    (omega arith, (omega arith, IsCharBoundary-after_ascii s 0 (subst IsUtf8 c.as_bytes-bytes.ensures.value c.as_bytes-bytes.ensures.utf8) some (omega arith)))
 
-pub element-returns-in_ok-items-in-123-clause-gives : goal.element-returns-in_ok-items-in-123-clause-gives
-element-returns-in_ok-items-in-123-clause-gives t c =
+pub element-elements_inside-requires-in-91 : goal.element-elements_inside-requires-in-91
+element-elements_inside-requires-in-91 t c =
     let s = c.args.rest.now in
-    let first : get_or s 0 0 ≡ open_brace = rw (← c.as_bytes-bytes.ensures.value) (grind arith) in
+    let first : get_or s 0 0 ≡ open_bracket = rw (← c.as_bytes-bytes.ensures.value) (grind arith) in
     let some : 0 < length s = rw (← c.as_bytes-bytes.ensures.value) (grind arith) in
-    let got : items close_brace (read (c.args.depth - 1)) (suc (length (drop 1 s))) (drop 1 s) ≡ Ok (views c.in_ok-items-in-123.items.items, c.in_ok-items-in-123.after.now) = rw (← c.range_from-in-123.ensures.value) c.in_ok-items-in-123.ensures.gives in
-    let whole = read_map c.args.depth s (views c.in_ok-items-in-123.items.items) c.in_ok-items-in-123.after.now (omega arith) some first got in
-    rw whole c.close_map.ensures.gives
+    (omega arith, (omega arith, IsCharBoundary-after_ascii s 0 (subst IsUtf8 c.as_bytes-bytes.ensures.value c.as_bytes-bytes.ensures.utf8) some (omega arith)))
+
+pub elements-returns-in_err-here-clause-gives : goal.elements-returns-in_err-here-clause-gives
+elements-returns-in_err-here-clause-gives t c =
+    let p = err_from_is_err_and c.from_residual.result c.from_residual.ensures.1 in
+    let l = c.turns in
+    rw (p.1, p.2) (stuck c.args.close (gap c.args.depth) (read c.args.depth) (views l.found.items) l.invariant.1 l.left.now _ l.invariant.2 l.invariant.3 c.in_err-here.field-0.0 c.in_err-here.ensures.gives)
+
+pub elements_inside-returns-then-depth-eq0-clause-gives : goal.elements_inside-returns-then-depth-eq0-clause-gives
+elements_inside-returns-then-depth-eq0-clause-gives t c =
+    let s = c.args.rest.now in
+    rw c.fault_at.ensures (elements_too_deep c.args.depth c.args.close s (drop c.args.front s) (omega arith))
+
+pub elements_inside-returns-clause-gives : goal.elements_inside-returns-clause-gives
+elements_inside-returns-clause-gives t c =
+    let s = c.args.rest.now in
+    rw (elements_below c.args.depth c.args.close s (drop c.args.front s) (omega arith), ← c.range_from.ensures.value) c.elements.ensures.gives
+
+pub one_inside-returns-then-depth-eq0-clause-gives : goal.one_inside-returns-then-depth-eq0-clause-gives
+one_inside-returns-then-depth-eq0-clause-gives t c =
+    let s = c.args.rest.now in
+    rw c.fault_at.ensures (one_too_deep c.args.depth s (drop c.args.front s) (omega arith))
+
+pub one_inside-returns-in_err-here-clause-gives : goal.one_inside-returns-in_err-here-clause-gives
+one_inside-returns-in_err-here-clause-gives t c =
+    let p = err_from_is_err_and c.from_residual.result c.from_residual.ensures.1 in
+    let s = c.args.rest.now in
+    rw (p.1, p.2, one_below c.args.depth s (drop c.args.front s) (omega arith), ← c.range_from.ensures.value) (stuck_one (c.args.depth - 1) c.range_from.result.now c.in_err-here.field-0.0 c.in_err-here.ensures.gives)
+
+pub one_inside-returns-clause-gives : goal.one_inside-returns-clause-gives
+one_inside-returns-clause-gives t c =
+    let s = c.args.rest.now in
+    rw (one_below c.args.depth s (drop c.args.front s) (omega arith), ← c.range_from.ensures.value, c.in_ok-here.ensures.gives) c.element.ensures.gives
+
+pub hashed-elements_inside-requires : goal.hashed-elements_inside-requires
+hashed-elements_inside-requires t c =
+    let s = c.args.rest.now in
+    let utf8 = subst IsUtf8 c.as_bytes.ensures.value c.as_bytes.ensures.utf8 in
+    let second : get_or s 1 0 ≡ open_brace = rw (← c.as_bytes.ensures.value) (grind arith) in
+    (omega arith, (omega arith, IsCharBoundary-after_ascii s 1 utf8 (within s 1 (omega arith)) (omega arith)))
+
+pub hashed-range_from-behind-requires : goal.hashed-range_from-behind-requires
+hashed-range_from-behind-requires t c =
+    let s = c.args.rest.now in
+    let utf8 = subst IsUtf8 c.as_bytes.ensures.value c.as_bytes.ensures.utf8 in
+    let first : get_or s 0 0 ≡ hash = omega (arith, c.requires) in
+    λ _. IsCharBoundary-after_ascii s 0 utf8 (within s 0 (omega arith)) (omega arith)

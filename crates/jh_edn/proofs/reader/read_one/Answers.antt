@@ -1,46 +1,72 @@
-use Rattle.std.proofs.Common.{◌≡◌, ◌<◌, length, drop, inr, arith, Ok, Err, refl}
+use Rattle.std.proofs.Common.{◌≡◌, drop, arith, Ok}
 use Rattle.std.proofs.lemmas.List.{length-drop}
+use Rattle.jh_edn.specs.Gives.{Fails}
 use Rattle.jh_edn.specs.View.{view}
 use Rattle.jh_edn.specs.Spelling.{depth_limit}
-use Rattle.jh_edn.specs.Reading.{after_gap, read}
-use Rattle.jh_edn.proofs.Loop.{read_shorter, gap_shorter}
-use Rattle.jh_edn.proofs.Whole.{gap_whole, made, refused, seam}
+use Rattle.jh_edn.specs.Reading.{gap}
+use Rattle.jh_edn.proofs.Loop.{gap_shorter, read_shorter}
+use Rattle.jh_edn.proofs.Whole.{next_sound, whole_ending, gap_whole, place, made, refused_or, first_or, gap_fault, read_fault, refused_gap, not_at_end}
 use Rattle.jh_edn.proofs.reader.read_one.Goals as goal
 
 pub returns-then-is_empty-clause-none : goal.returns-then-is_empty-clause-none
 returns-then-is_empty-clause-none c =
-    gap_whole (drop c.args.at c.args.text.now) (rw (← c.range_from.ensures.value, ← c.after_gap-rest.ensures) (grind arith))
+    let s = drop c.args.at c.args.text.now in
+    let e : gap depth_limit s ≡ Ok c.in-Ok.here.now = rw (← c.range_from.ensures.value) c.in-Ok.ensures.gives in
+    gap_whole s c.in-Ok.here.now e (grind arith)
 
 pub overflow_sub-result : goal.overflow_sub-result
 overflow_sub-result c =
-    let e : read depth_limit (after_gap (drop c.args.at c.args.text.now)) ≡ Ok (view c.in-Ok.value, c.in-Ok.after.now) = rw (← c.range_from.ensures.value, ← c.after_gap-rest.ensures) c.in-Ok.ensures.gives in
     let s = drop c.args.at c.args.text.now in
-    omega (arith, read_shorter depth_limit (after_gap s) (view c.in-Ok.value) c.in-Ok.after.now e, gap_shorter s (after_gap s) refl, length-drop c.args.at c.args.text.now)
+    let e : gap depth_limit s ≡ Ok c.in-Ok.here.now = rw (← c.range_from.ensures.value) c.in-Ok.ensures.gives in
+    omega (arith, gap_shorter depth_limit s c.in-Ok.here.now e, read_shorter depth_limit c.in-Ok.here.now (view c.in-Ok-element.value) c.in-Ok-element.after.now c.in-Ok-element.ensures.gives, length-drop c.args.at c.args.text.now)
 
-pub returns-in-Ok-clause-some : goal.returns-in-Ok-clause-some
-returns-in-Ok-clause-some c =
-    let e : read depth_limit (after_gap (drop c.args.at c.args.text.now)) ≡ Ok (view c.in-Ok.value, c.in-Ok.after.now) = rw (← c.range_from.ensures.value, ← c.after_gap-rest.ensures) c.in-Ok.ensures.gives in
-    made c.args.text.now c.args.at (view c.in-Ok.value) c.in-Ok.after.now c.requires.0 e
+pub returns-in-Err-clause-refused : goal.returns-in-Err-clause-refused
+returns-in-Err-clause-refused c =
+    let text = c.args.text.now in
+    let s = drop c.args.at text in
+    let told = c.in-Err.error in
+    let e : Fails told (gap depth_limit s) = rw (← c.range_from.ensures.value) c.in-Err.ensures.gives in
+    rw c.error_in.ensures (refused_gap text c.args.at told e)
 
-pub returns-in-Err-Fault-clause-refused : goal.returns-in-Err-Fault-clause-refused
-returns-in-Err-Fault-clause-refused c =
+pub returns-in-Ok-element-clause-some : goal.returns-in-Ok-element-clause-some
+returns-in-Ok-element-clause-some c =
     let s = drop c.args.at c.args.text.now in
-    let some : 0 < length (after_gap s) = rw (← c.range_from.ensures.value, ← c.after_gap-rest.ensures) (grind arith) in
-    let failed : read depth_limit c.after_gap-rest.result.now ≡ Err c.in-Err-Fault.fault = rw c.in-Err-Fault.field-0-is at c.in-Err-Fault.ensures.gives in
-    let e : read depth_limit (after_gap s) ≡ Err c.in-Err-Fault.fault = rw (← c.range_from.ensures.value, ← c.after_gap-rest.ensures) failed in
-    inr (refused c.args.text.now c.args.at c.in-Err-Fault.fault some e)
+    let x = view c.in-Ok-element.value in
+    let e : gap depth_limit s ≡ Ok c.in-Ok.here.now = rw (← c.range_from.ensures.value) c.in-Ok.ensures.gives in
+    made c.args.text.now c.args.at x c.in-Ok-element.after.now (next_sound s c.in-Ok.here.now x c.in-Ok-element.after.now e c.in-Ok-element.ensures.gives)
 
-pub returns-in-Ok-clause-place : goal.returns-in-Ok-clause-place
-returns-in-Ok-clause-place c =
+pub returns-in-Ok-element-clause-place : goal.returns-in-Ok-element-clause-place
+returns-in-Ok-element-clause-place c =
     let s = drop c.args.at c.args.text.now in
-    let e : read depth_limit (after_gap s) ≡ Ok (view c.in-Ok.value, c.in-Ok.after.now) = rw (← c.range_from.ensures.value, ← c.after_gap-rest.ensures) c.in-Ok.ensures.gives in (
-      omega (arith, read_shorter depth_limit (after_gap s) (view c.in-Ok.value) c.in-Ok.after.now e, gap_shorter s (after_gap s) refl, length-drop c.args.at c.args.text.now),
-      seam c.args.text.now c.args.at (view c.in-Ok.value) c.in-Ok.after.now c.requires.0 e c.in-Ok.ensures.text,
+    let x = view c.in-Ok-element.value in
+    let after = c.in-Ok-element.after.now in
+    let e : gap depth_limit s ≡ Ok c.in-Ok.here.now = rw (← c.range_from.ensures.value) c.in-Ok.ensures.gives in
+    let next = next_sound s c.in-Ok.here.now x after e c.in-Ok-element.ensures.gives in
+    let p = place c.args.text.now c.args.at after (whole_ending s x after next) in (
+      omega (arith, gap_shorter depth_limit s c.in-Ok.here.now e, read_shorter depth_limit c.in-Ok.here.now x after c.in-Ok-element.ensures.gives, length-drop c.args.at c.args.text.now),
+      p.seam c.in-Ok-element.ensures.text,
     )
 
-pub returns-in-Err-Fault-clause-first_fault : goal.returns-in-Err-Fault-clause-first_fault
-returns-in-Err-Fault-clause-first_fault c =
-    let s = drop c.args.at c.args.text.now in
-    let failed : read depth_limit c.after_gap-rest.result.now ≡ Err c.in-Err-Fault.fault = rw c.in-Err-Fault.field-0-is at c.in-Err-Fault.ensures.gives in
-    let e : read depth_limit (after_gap s) ≡ Err c.in-Err-Fault.fault = rw (← c.range_from.ensures.value, ← c.after_gap-rest.ensures) failed in
-    inr (record { found = c.in-Err-Fault.fault; is_first = e; is = rw (c.fault_at_line.ensures, c.line_of.ensures) refl })
+pub returns-in-Err-element-clause-refused : goal.returns-in-Err-element-clause-refused
+returns-in-Err-element-clause-refused c =
+    let text = c.args.text.now in
+    let s = drop c.args.at text in
+    let told = c.in-Err-element.error in
+    let e : gap depth_limit s ≡ Ok c.in-Ok.here.now = rw (← c.range_from.ensures.value) c.in-Ok.ensures.gives in
+    rw c.error_in-in-Err-element.ensures (refused_or text c.args.at told (read_fault s c.in-Ok.here.now told e c.in-Err-element.ensures.gives) (not_at_end s c.in-Ok.here.now e (grind arith)))
+
+pub returns-in-Err-clause-first_fault : goal.returns-in-Err-clause-first_fault
+returns-in-Err-clause-first_fault c =
+    let text = c.args.text.now in
+    let s = drop c.args.at text in
+    let told = c.in-Err.error in
+    let e : Fails told (gap depth_limit s) = rw (← c.range_from.ensures.value) c.in-Err.ensures.gives in
+    rw c.error_in.ensures (first_or text c.args.at told (gap_fault s told e))
+
+pub returns-in-Err-element-clause-first_fault : goal.returns-in-Err-element-clause-first_fault
+returns-in-Err-element-clause-first_fault c =
+    let text = c.args.text.now in
+    let s = drop c.args.at text in
+    let told = c.in-Err-element.error in
+    let e : gap depth_limit s ≡ Ok c.in-Ok.here.now = rw (← c.range_from.ensures.value) c.in-Ok.ensures.gives in
+    rw c.error_in-in-Err-element.ensures (first_or text c.args.at told (read_fault s c.in-Ok.here.now told e c.in-Err-element.ensures.gives))

@@ -1,0 +1,58 @@
+-- Comparing values, element by element and pair by pair.
+use Rattle.std.proofs.Common.{◌≡◌, ℕ, zero, suc, ◌+◌, ◌≤◌, ◌<◌, ◌⊎◌, inl, inr, List, [], ◌∷◌, length, drop, get_or, refl, sym, ap, ◌∙◌, arith, nat_cmp}
+use Rattle.std.proofs.lemmas.Grind.{common_steps}
+use Rattle.std.specs.declared.cmp.Ordering.{Ordering}
+use Rattle.std.specs.declared.cmp.Ordering.TheVariants.{Less, Equal, Greater}
+use Rattle.jh_edn.specs.Edn.{items_of, members_of, size_of, size_list, size_pairs}
+use Rattle.jh_edn.specs.View.{view, views, view_pairs}
+use Rattle.jh_edn.specs.Order.{edn_cmp, items_cmp, members_cmp}
+use Rattle.jh_edn.specs.declared.value.Value.{Value}
+
+-- ---- what is within is smaller
+
+pub item_smaller : (vs : List Value) (i : ℕ) (d : Value) → i < length vs → size_of (view (get_or vs i d)) < size_list (views vs)
+item_smaller [] i d h = absurd (omega arith)
+item_smaller (v ∷ vs) zero d h = omega arith
+item_smaller (v ∷ vs) (suc i) d h = omega (arith, item_smaller vs i d (omega arith))
+
+pub pair_smaller : (ps : List (Value × Value)) (i : ℕ) (d : Value × Value) → i < length ps
+    → (size_of (view (get_or ps i d).0) < size_pairs (view_pairs ps)) × (size_of (view (get_or ps i d).1) < size_pairs (view_pairs ps))
+pair_smaller [] i d h = absurd (omega arith)
+pair_smaller (p ∷ ps) zero d h = (omega arith, omega arith)
+pair_smaller (p ∷ ps) (suc i) d h = let below = pair_smaller ps i d (omega arith) in (omega (arith, below.0), omega (arith, below.1))
+
+-- ---- where one of the two ends
+
+cmp_same : (n : ℕ) → nat_cmp n n ≡ Equal
+cmp_same n = grind (arith, common_steps)
+
+cmp_less : (m n : ℕ) → m < n → nat_cmp m n ≡ Less
+cmp_less m n h = grind (arith, common_steps)
+
+cmp_more : (m n : ℕ) → n < m → nat_cmp m n ≡ Greater
+cmp_more m n h = grind (arith, common_steps)
+
+one_more : (m n : ℕ) → nat_cmp (suc m) (suc n) ≡ nat_cmp m n
+one_more m n = grind (arith, common_steps)
+
+pub items_end : (xs ys : List Value) (at : ℕ) → at ≤ length xs → at ≤ length ys → (length xs ≤ at) ⊎ (length ys ≤ at) → items_cmp (items_of (views (drop at xs))) (items_of (views (drop at ys))) ≡ nat_cmp (length xs) (length ys)
+items_end [] [] zero h k e = sym (cmp_same 0)
+items_end [] (y ∷ ys) zero h k e = sym (cmp_less 0 (suc (length ys)) (omega arith))
+items_end (x ∷ xs) [] zero h k e = sym (cmp_more (suc (length xs)) 0 (omega arith))
+items_end (x ∷ xs) (y ∷ ys) zero h k (inl e) = absurd (omega arith)
+items_end (x ∷ xs) (y ∷ ys) zero h k (inr e) = absurd (omega arith)
+items_end [] ys (suc at) h k e = absurd (omega arith)
+items_end (x ∷ xs) [] (suc at) h k e = absurd (omega arith)
+items_end (x ∷ xs) (y ∷ ys) (suc at) h k (inl e) = items_end xs ys at (omega arith) (omega arith) (inl (omega arith)) ∙ sym (one_more (length xs) (length ys))
+items_end (x ∷ xs) (y ∷ ys) (suc at) h k (inr e) = items_end xs ys at (omega arith) (omega arith) (inr (omega arith)) ∙ sym (one_more (length xs) (length ys))
+
+pub pairs_end : (ps qs : List (Value × Value)) (at : ℕ) → at ≤ length ps → at ≤ length qs → (length ps ≤ at) ⊎ (length qs ≤ at) → members_cmp (members_of (view_pairs (drop at ps))) (members_of (view_pairs (drop at qs))) ≡ nat_cmp (length ps) (length qs)
+pairs_end [] [] zero h k e = sym (cmp_same 0)
+pairs_end [] (q ∷ qs) zero h k e = sym (cmp_less 0 (suc (length qs)) (omega arith))
+pairs_end (p ∷ ps) [] zero h k e = sym (cmp_more (suc (length ps)) 0 (omega arith))
+pairs_end (p ∷ ps) (q ∷ qs) zero h k (inl e) = absurd (omega arith)
+pairs_end (p ∷ ps) (q ∷ qs) zero h k (inr e) = absurd (omega arith)
+pairs_end [] qs (suc at) h k e = absurd (omega arith)
+pairs_end (p ∷ ps) [] (suc at) h k e = absurd (omega arith)
+pairs_end (p ∷ ps) (q ∷ qs) (suc at) h k (inl e) = pairs_end ps qs at (omega arith) (omega arith) (inl (omega arith)) ∙ sym (one_more (length ps) (length qs))
+pairs_end (p ∷ ps) (q ∷ qs) (suc at) h k (inr e) = pairs_end ps qs at (omega arith) (omega arith) (inr (omega arith)) ∙ sym (one_more (length ps) (length qs))

@@ -1,9 +1,0 @@
-use Rattle.std.proofs.Common.{◌≡◌, ◌+◌, drop}
-use Rattle.jh_edn.specs.Bytes.{leading, is_space}
-use Rattle.jh_edn.proofs.scan.gap_len.Given as goal
-
-abbrev pub invariant-loop-b : goal.invariant-loop-b
-invariant-loop-b l = record {
-  same : l.b-index ≡ l.len;
-  rest : l.len + leading is_space (drop l.len l.b-items) ≡ leading is_space l.b-items;
-}

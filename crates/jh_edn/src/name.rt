@@ -1,0 +1,80 @@
+//! The names of keywords and symbols, and tags.
+//!
+//! `is_name`, `is_symbol_name` and `is_tag` of `specs/Spelling.antt` say which there are.
+
+ghost use Rattle.std.specs.Prelude.{◌≡◌, ◌==◌};
+ghost use Rattle.std.specs.List.{list_all, count_by};
+ghost use Rattle.jh_edn.specs.Bytes as bytes;
+ghost use Rattle.jh_edn.specs.Spelling as spelling;
+
+use crate::scan::{is_digit, is_first, is_letter, is_symbol};
+
+fn all_symbols(name: &[u8]) -> bool
+    ensures { result ≡ list_all bytes.is_symbol name.now }
+{
+    for b in name {
+        if !is_symbol(*b) {
+            return false;
+        }
+    }
+    true
+}
+
+fn count_slashes(name: &[u8]) -> usize
+    ensures { result ≡ count_by (λ c. c == bytes.slash) name.now }
+{
+    let mut count = 0;
+    for b in name {
+        if *b == b'/' {
+            count += 1;
+        }
+    }
+    count
+}
+
+/// The name of a keyword.
+#[tactic(auto, unfolding(crate::specs::Spelling::is_name, crate::specs::Bytes::is_first, crate::specs::Bytes::is_symbol, crate::specs::Bytes::is_digit))]
+pub(crate) fn is_name(name: &[u8]) -> bool
+    ensures { result ≡ spelling.is_name name.now }
+{
+    let [first, ..] = name else {
+        return false;
+    };
+    is_first(*first) && all_symbols(name) && count_slashes(name) < 2 && name[name.len() - 1] != b'/'
+}
+
+#[tactic(auto, unfolding(crate::specs::Spelling::is_word))]
+fn is_word(name: &[u8]) -> bool
+    ensures { result ≡ spelling.is_word name.now }
+{
+    matches!(name, b"nil" | b"true" | b"false")
+}
+
+/// A digit stands first, or second behind a first `+`, `-` or `.`.
+#[tactic(auto, unfolding(crate::specs::Spelling::looks_numeric, crate::specs::Bytes::is_digit))]
+fn looks_numeric(name: &[u8]) -> bool
+    ensures { result ≡ spelling.looks_numeric name.now }
+{
+    match name {
+        [] => false,
+        [b'+' | b'-' | b'.', second, ..] => is_digit(*second),
+        [first, ..] => is_digit(*first),
+    }
+}
+
+#[tactic(auto, unfolding(crate::specs::Spelling::is_symbol_name))]
+pub(crate) fn is_symbol_name(name: &[u8]) -> bool
+    ensures { result ≡ spelling.is_symbol_name name.now }
+{
+    matches!(name, b"/") || (is_name(name) && !looks_numeric(name) && !is_word(name))
+}
+
+#[tactic(auto, unfolding(crate::specs::Spelling::is_tag, crate::specs::Bytes::is_letter))]
+pub(crate) fn is_tag(name: &[u8]) -> bool
+    ensures { result ≡ spelling.is_tag name.now }
+{
+    let [first, ..] = name else {
+        return false;
+    };
+    is_letter(*first) && is_symbol_name(name)
+}
