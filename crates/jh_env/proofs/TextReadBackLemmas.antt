@@ -1,6 +1,6 @@
 -- What the entries that are written tell of each cell.
-use Rattle.std.proofs.Common.{◌≡◌, ℕ, ◌<◌, ◌≤◌, Bool, true, false, List, length, fold, filter_map, flat_map, Option, Some, None, ap, refl, sym, ◌∙◌, arith}
-use Rattle.std.specs.Prelude.{if◌then◌else◌, ◌==◌, ◌&&◌, nat_lt, slice_get, pos, negsuc, ℤ, min}
+use Rattle.std.proofs.Common.{◌≡◌, ℕ, ◌<◌, Bool, true, false, List, length, fold, filter_map, flat_map, Option, Some, None, ap, refl, sym, ◌∙◌, arith}
+use Rattle.std.specs.Prelude.{if◌then◌else◌, ◌==◌, ◌&&◌, nat_lt, slice_get, pos, negsuc, ℤ}
 use Rattle.std.proofs.lemmas.Bool.Decides.{nat_tests}
 use Rattle.std.specs.Option.{option_map_or}
 use Rattle.std.proofs.lemmas.Bool.{eqb-true}
@@ -18,7 +18,7 @@ use Rattle.jh_env.specs.Overlay.{EnvValue, link_of, node_of}
 use Rattle.jh_env.specs.Text.{◌>>=◌, OfLink, OfNode, sections}
 use Rattle.jh_env.specs.TextCells.{link_after, node_after, link_with, node_with}
 use Rattle.jh_env.specs.TextFaults.{place_of}
-use Rattle.jh_env.specs.TextWritten.{places, link_entry, node_entry, link_part, node_part, life_part, is_zero, most_written, entries_written}
+use Rattle.jh_env.specs.TextWritten.{places, link_entry, node_entry, link_part, node_part, life_part, is_zero, entries_written}
 use Rattle.jh_env.proofs.TextPlaceLemmas.{place_of-at}
 use Rattle.jh_env.proofs.TextFoldLemmas.{fold-filter_map, fold-flat_map, fold-same, fold-idle, fold-once}
 use Rattle.jh_env.proofs.TextWritingLemmas.{at_each_place}
@@ -188,17 +188,16 @@ cut_said link =
 no_less : (n : ℕ) → nat_lt 0 n ≡ false → 0 ≡ n
 no_less n is = grind (arith, nat_tests)
 
-delay_said : (link : Link) (cut : Bool) → link.delay ≤ most_written
+delay_said : (link : Link) (cut : Bool)
     → option_map_or (λ says. link_with says (record { cut = cut; delay = 0; loss = 0 })) (link_part Section.Slow link) (record { cut = cut; delay = 0; loss = 0 })
     ≡ record { cut = cut; delay = link.delay; loss = 0 }
-delay_said link cut fits =
-    let whole : min link.delay most_written ≡ link.delay = omega arith in
+delay_said link cut =
     elim (nat_lt 0 link.delay)
     as (λ t. nat_lt 0 link.delay ≡ t
     → option_map_or (λ says. link_with says (record { cut = cut; delay = 0; loss = 0 }))
-    (if t then Some (LinkChange.Delay (pos (min link.delay most_written))) else None) (record { cut = cut; delay = 0; loss = 0 })
+    (if t then Some (LinkChange.Delay (pos link.delay)) else None) (record { cut = cut; delay = 0; loss = 0 })
     ≡ record { cut = cut; delay = link.delay; loss = 0 }) [
-      | true ↦ λ is. λ i. record { cut = cut; delay = whole i; loss = 0 }
+      | true ↦ λ is. refl
       | false ↦ λ is. λ i. record { cut = cut; delay = no_less link.delay is i; loss = 0 }
     ] refl
 
@@ -221,11 +220,10 @@ pub link_rebuilt : (env : EnvValue) (a b : ℕ) (link : Link) → link_of env a 
 unfolding said_of_link
 link_rebuilt env a b link there starts =
     let said : Section → Link → Link = λ s l. option_map_or (λ says. link_with says l) (link_of env a b >>= link_part s) l in
-    let short : link.delay ≤ most_written = omega (arith, starts.0) in
     let is : (s : Section) (l : Link) → said s l ≡ option_map_or (λ says. link_with says l) (link_part s link) l =
     λ s l. ap (λ o. option_map_or (λ says. link_with says l) (o >>= link_part s) l) there in
     ap (λ l. said Section.Loss (said Section.Slow l)) (is Section.Cut calm ∙ cut_said link)
-    ∙ ap (said Section.Loss) (is Section.Slow _ ∙ delay_said link link.cut short)
+    ∙ ap (said Section.Loss) (is Section.Slow _ ∙ delay_said link link.cut)
     ∙ (is Section.Loss _ ∙ loss_said link link.cut link.delay)
 
 life_said : (cell : NodeCell) → option_map_or (λ says. node_with says running) (node_part Section.Down cell) running ≡ record { process = cell.process; clock = pos 0 }

@@ -1,6 +1,6 @@
 -- The entries that are written are sound, and each is spelled as it is read.
 use Rattle.std.proofs.Common.{◌≡◌, ℕ, zero, suc, ◌+◌, ◌*◌, ◌<◌, ◌≤◌, Bool, true, false, List, [], ◌∷◌, ◌++◌, length, take, bytes_eq, filter_map, flat_map, Option, Some, None, ap, refl, sym, ◌∙◌, arith, subst, pos, add-zero}
-use Rattle.std.specs.Prelude.{◌≤ℤ◌, if◌then◌else◌, ◌&&◌, ◌||◌, min, nat_lt, slice_get, unwrap_or, option_and_then, All}
+use Rattle.std.specs.Prelude.{◌≤ℤ◌, if◌then◌else◌, ◌&&◌, ◌||◌, nat_lt, slice_get, unwrap_or, option_and_then, All}
 use Rattle.std.specs.List.{range_with_len, cons_option, list_any}
 use Rattle.std.proofs.lemmas.Bool.{and_parts}
 use Rattle.std.proofs.lemmas.Int.{ints}
@@ -19,7 +19,7 @@ use Rattle.jh_env.specs.Starting.{IsStartingLink, IsStartingNode}
 use Rattle.jh_env.specs.Text.{◌>>=◌, Entry, OfLink, OfNode, sections}
 use Rattle.jh_env.specs.TextFaults.{place_of, own_fault, fault_after, repeats, same_link_key, same_node_key, is_link_amount, is_node_amount, AreSound}
 use Rattle.jh_env.specs.TextLaws.{CanStart}
-use Rattle.jh_env.specs.TextWritten.{places, link_entry, node_entry, link_part, node_part, life_part, is_zero, most_written, entries_written}
+use Rattle.jh_env.specs.TextWritten.{places, link_entry, node_entry, link_part, node_part, life_part, is_zero, entries_written}
 use Rattle.jh_env.proofs.TextCellLemmas.{within, own_fault-link, own_fault-node, other_name, link_apart}
 use Rattle.jh_env.proofs.TextPlaceLemmas.{place_of-at}
 
@@ -78,9 +78,9 @@ unless_gives false x y is = cc
 link_part-amount : (section : Section) (link : Link) (says : LinkChange) → IsStartingLink link → link_part section link ≡ Some says → is_link_amount says ≡ true
 link_part-amount Section.Cut link says starts said = rw (if_gives link.cut LinkChange.Cut says said) refl
 link_part-amount Section.Slow link says starts said =
-    let above : pos 0 ≤ℤ pos (min link.delay most_written) = omega (arith, ints) in
-    let below : pos (min link.delay most_written) ≤ℤ pos 60000 = omega (arith, ints, starts.0) in
-    rw (if_gives (nat_lt 0 link.delay) _ says said) (within (pos 0) (pos 60000) (pos (min link.delay most_written)) above below)
+    let above : pos 0 ≤ℤ pos link.delay = omega (arith, ints) in
+    let below : pos link.delay ≤ℤ pos 60000 = omega (arith, ints, starts.0) in
+    rw (if_gives (nat_lt 0 link.delay) _ says said) (within (pos 0) (pos 60000) (pos link.delay) above below)
 link_part-amount Section.Loss link says starts said =
     let above : pos 0 ≤ℤ pos link.loss = omega (arith, ints) in
     let below : pos link.loss ≤ℤ pos 20 = omega (arith, ints, starts.1) in

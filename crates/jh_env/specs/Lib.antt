@@ -1,8 +1,10 @@
 pub mod Cells
 pub mod Names
 pub mod Faults
-pub mod Laying
+pub mod Effects
+pub mod FaultInside
 pub mod Overlay
+pub mod Laying
 pub mod Starting
 pub mod StartInside
 pub mod EnvInside

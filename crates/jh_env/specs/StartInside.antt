@@ -1,6 +1,7 @@
 -- What a contract sees of a starting environment's fields, and what holds of them.
 use Rattle.std.specs.Prelude.{◌≡◌, ◌*◌, ◌≤◌, length}
 use Rattle.std.specs.List.{All}
+use Rattle.jh_env.specs.Names.{AreFew, AreNodeNames}
 use Rattle.jh_env.specs.Starting.{StartValue, IsStartingLink, IsStartingNode}
 use Rattle.jh_env.specs.declared.starting.Start.TheInside.{Inside}
 
@@ -8,8 +9,9 @@ use Rattle.jh_env.specs.declared.starting.Start.TheInside.{Inside}
 abbrev pub start_value : Inside → StartValue
 start_value a = record { names = a.names; cells = record { links = a.links.items; nodes = a.cells.items } }
 
--- a cell for each pair of nodes and each node, and amounts within their ranges
+-- good names, a cell for each pair of nodes and each node, and amounts within their ranges
 pub record IsSetUp (a : Inside) : Type 0 where
+  pub names : AreFew a.names × AreNodeNames a.names
   pub few : length a.cells.items ≤ 32
   pub named : length a.cells.items ≡ length a.names
   pub square : length a.links.items ≡ length a.cells.items * length a.cells.items

@@ -1,6 +1,6 @@
 -- The text that is written of an environment (this project's own): all six keys in order, and under them what is
 -- not calm or not running, links by the place of their source and then of their destination, nodes by place.
-use Rattle.std.specs.Prelude.{ℕ, ◌-◌, ◌^◌, ◌==◌, min, Bool, false, ℤ, pos, nat_lt, List, [], ◌∷◌, map, length, filter_map, flat_map, if◌then◌else◌, codes, slice_get, Option, Some, None}
+use Rattle.std.specs.Prelude.{ℕ, ◌==◌, Bool, false, ℤ, pos, nat_lt, List, [], ◌∷◌, map, length, filter_map, flat_map, if◌then◌else◌, codes, slice_get, Option, Some, None}
 use Rattle.std.specs.List.{range_with_len}
 use Rattle.jh_edn.specs.Edn.{Edn, int, str, keyword, vector, mapping, items_of, members_of}
 use Rattle.jh_env.specs.declared.cells.Life.{Life}
@@ -13,14 +13,10 @@ use Rattle.jh_env.specs.declared.texts.entries.NodeChange.{NodeChange}
 use Rattle.jh_env.specs.Overlay.{EnvValue, link_of, node_of}
 use Rattle.jh_env.specs.Text.{◌>>=◌, Entry, OfLink, OfNode, keyword_of, nodes_keyword, sections}
 
--- the greatest integer that an element can hold, as which a longer delay would be written
-abbrev pub most_written : ℕ
-most_written = 2 ^ 63 - 1
-
 -- what a link is said to be under a key, if anything
 abbrev pub link_part : Section → Link → Option LinkChange
 link_part Section.Cut link = if link.cut then Some LinkChange.Cut else None
-link_part Section.Slow link = if nat_lt 0 link.delay then Some (LinkChange.Delay (pos (min link.delay most_written))) else None
+link_part Section.Slow link = if nat_lt 0 link.delay then Some (LinkChange.Delay (pos link.delay)) else None
 link_part Section.Loss link = if nat_lt 0 link.loss then Some (LinkChange.Loss (pos link.loss)) else None
 link_part _ link = None
 

@@ -1,9 +1,30 @@
 //! Faults: what is done to which links and nodes. `specs/Faults.antt` says what a contract sees of one,
-//! `specs/Overlay.antt` what it does to an environment.
+//! `specs/Overlay.antt` what it does to an environment. A new kind of fault is a case of both, and of `Effect`.
 
-ghost use Rattle.std.specs.Prelude.{◌≡◌, ◌≢◌, ◌↔◌, length, IsTrue, [], MatchResult, ⊤};
-ghost use Rattle.jh_env.specs.Faults.{kept_links, FitsCount, AreLinksOf, RefusesEnds, RefusesLinks};
-ghost use Rattle.jh_env.specs.Faults.FaultValue.{Cut};
+ghost use Rattle.std.specs.Prelude.{◌≡◌, ◌≢◌, ◌↔◌, ◌==◌, length, false, IsTrue, [], MatchResult, IfOk, ⊤};
+ghost use Rattle.std.specs.List.{All, list_any};
+ghost use Rattle.jh_env.specs.Effects.{on_links, on_nodes, IsLinkAmount};
+ghost use Rattle.jh_env.specs.Faults.{
+  kept_by,
+  kept_links,
+  kept_nodes,
+  FitsCount,
+  AreLinksOf,
+  AreApart,
+  AreBumps,
+  IsSlowAmount,
+  IsLossAmount,
+  IsBumpAmount,
+  RefusesLinks,
+  RefusesNodes,
+  RefusesBumps,
+  is_unknown_link,
+  is_self_link,
+  is_unknown_node,
+  is_unknown_bump,
+  same_bumped,
+};
+ghost use Rattle.jh_env.specs.Faults.FaultValue.{Cut, Slow, Loss, Pause, Kill, Bump};
 
 use crate::environment::Env;
 use crate::names::{Node, Nodes};
@@ -11,10 +32,42 @@ use std::alloc::{AllocError, Global};
 use std::marker::Model;
 use thiserror::Error;
 
-/// A fault of the environment: for now a cut of links, each once.
+/// The most milliseconds by which one fault slows a link.
+pub const MOST_SLOWED: u64 = 60_000;
+
+/// The greatest level of loss.
+pub const MOST_LOSS: u8 = 20;
+
+/// The most milliseconds by which one fault moves a clock, either way.
+pub const MOST_BUMPED: i64 = 1_000_000_000;
+
+/// What a fault does to each of its links.
+#[derive(Clone, Copy, Debug, PartialEq, Eq)]
+pub(crate) enum LinkEffect {
+    Cut,
+    Slow(u64),
+    Loss(u8),
+}
+
+/// How a fault takes each of its nodes down.
+#[derive(Clone, Copy, Debug, PartialEq, Eq)]
+pub(crate) enum Down {
+    Pause,
+    Kill,
+}
+
+/// What a fault does, and to what.
+#[derive(Debug, Drop)]
+pub(crate) enum Effect {
+    OnLinks(LinkEffect, Vec<(Node, Node)>),
+    OnNodes(Down, Vec<Node>),
+    Bump(Vec<(Node, i64)>),
+}
+
+/// A fault of an environment, on some of its links or nodes, each once.
 #[derive(Debug, Drop)]
 pub struct Fault {
-    pub(crate) links: Vec<(Node, Node)>,
+    pub(crate) effect: Effect,
 }
 
 impl Model for Fault {
@@ -22,9 +75,11 @@ impl Model for Fault {
 
     ghost Value = { FaultValue };
 
-    ghost use Rattle.jh_env.specs.Faults.FaultValue.{Cut};
+    ghost use Rattle.jh_env.specs.FaultInside.{fault_value, IsWellMade};
 
-    ghost view = { λ a. Cut a.links.items };
+    ghost view = { fault_value };
+
+    ghost invariant = { IsWellMade };
 }
 
 /// Why a fault is refused.
@@ -40,35 +95,145 @@ pub enum FaultError {
     OutOfMemory,
 }
 
-// Refuses links with an end that is no node, and links of a node with itself.
-fn check_links(nodes: &Nodes, links: &[(Node, Node)]) -> Result<(), FaultError>
-    ensures { MatchResult result (λ _. AreLinksOf (length nodes.now) links.now) (RefusesEnds (length nodes.now) links.now) }
+fn is_right(effect: LinkEffect) -> bool
+    ensures { IsTrue result ↔ IsLinkAmount effect }
 {
-    let count = nodes.len();
-    for (from, to) in links {
-        if from.place() as usize >= count || to.place() as usize >= count {
-            return Err(FaultError::UnknownNode);
-        }
+    match effect {
+        LinkEffect::Cut => true,
+        LinkEffect::Slow(ms) => 0 < ms && ms <= MOST_SLOWED,
+        LinkEffect::Loss(level) => 0 < level && level <= MOST_LOSS,
     }
-    for (from, to) in links {
-        if from.place() == to.place() {
-            return Err(FaultError::SelfLink);
-        }
-    }
-    Ok(())
 }
 
-// Each of these links once, in the order of their first mentions.
-fn kept_of(alloc: Global, links: &[(Node, Node)]) -> Result<Vec<(Node, Node)>, AllocError>
-    ensures { MatchResult result (λ kept. kept.items ≡ kept_links [] links.now) (λ _. links.now ≢ []) }
+fn is_bump_amount(ms: i64) -> bool
+    ensures { IsTrue result ↔ IsBumpAmount ms }
 {
-    let mut kept: Vec<(Node, Node)> = Vec::new(alloc);
-    for link in links {
-        if !kept.contains(link) {
-            kept.push(*link)?;
+    ms != 0 && -MOST_BUMPED <= ms && ms <= MOST_BUMPED
+}
+
+// Whether a link has an end that is none of count nodes.
+fn is_any_end_unknown(count: usize, links: &[(Node, Node)]) -> bool
+    ensures { result ≡ list_any (is_unknown_link count) links.now }
+{
+    links.iter().any(|link| link.0.place() as usize >= count || link.1.place() as usize >= count)
+}
+
+fn is_any_self_link(links: &[(Node, Node)]) -> bool
+    ensures { result ≡ list_any is_self_link links.now }
+{
+    links.iter().any(|link| link.0.place() == link.1.place())
+}
+
+fn is_any_node_unknown(count: usize, nodes: &[Node]) -> bool
+    ensures { result ≡ list_any (is_unknown_node count) nodes.now }
+{
+    nodes.iter().any(|node| node.place() as usize >= count)
+}
+
+fn is_any_bump_unknown(count: usize, bumps: &[(Node, i64)]) -> bool
+    ensures { result ≡ list_any (is_unknown_bump count) bumps.now }
+{
+    bumps.iter().any(|bump| bump.0.place() as usize >= count)
+}
+
+fn are_bump_amounts(bumps: &[(Node, i64)]) -> bool
+    ensures { IsTrue result ↔ All (λ b. IsBumpAmount b.1) bumps.now }
+{
+    bumps.iter().all(|bump| is_bump_amount(bump.1))
+}
+
+// Whether one of these bumps the node.
+fn is_bumped(bumps: &[(Node, i64)], node: Node) -> bool
+    ensures { result ≡ list_any (λ b. b.0 == node) bumps.now }
+{
+    bumps.iter().any(|bump| bump.0.place() == node.place())
+}
+
+// Whether no node is bumped twice. The first repeat ends the search, so each bump is compared with at most as
+// many as there are nodes.
+fn are_apart(bumps: &[(Node, i64)]) -> bool
+    ensures { IsTrue result ↔ AreApart same_bumped bumps.now }
+{
+    for place in 0..bumps.len() {
+        if is_bumped(&bumps[..place], bumps[place].0) {
+            return false;
+        }
+    }
+    true
+}
+
+// Each of these once, in the order of their first mentions.
+fn each_once<T: Copy + PartialEq + Drop>(alloc: Global, items: &[T]) -> Result<Vec<T>, AllocError>
+    ensures { MatchResult result (λ kept. kept.items ≡ kept_by T.eq [] items.now) (λ _. items.now ≢ []) }
+{
+    let mut kept: Vec<T> = Vec::new(alloc);
+    for item in items {
+        if !kept.contains(item) {
+            kept.push(*item)?;
         }
     }
     Ok(kept)
+}
+
+// These, in a vector of their own.
+fn copied(alloc: Global, bumps: &[(Node, i64)]) -> Result<Vec<(Node, i64)>, AllocError>
+    ensures { MatchResult result (λ copy. copy.items ≡ bumps.now) (λ _. bumps.now ≢ []) }
+{
+    let mut copy = Vec::new(alloc);
+    for bump in bumps {
+        copy.push(*bump)?;
+    }
+    Ok(copy)
+}
+
+fn on_links_of(
+    alloc: Global,
+    nodes: &Nodes,
+    effect: LinkEffect,
+    links: &[(Node, Node)],
+) -> Result<Fault, FaultError>
+    ensures made { MatchResult result
+        (λ fault. (fault ≡ on_links effect (kept_links links.now)) × AreLinksOf (length nodes.now) links.now × IsLinkAmount effect)
+        (RefusesLinks (length nodes.now) links.now (IsLinkAmount effect)) }
+    ensures fits { IfOk result (FitsCount (length nodes.now)) }
+{
+    if is_any_end_unknown(nodes.len(), links) {
+        return Err(FaultError::UnknownNode);
+    }
+    if is_any_self_link(links) {
+        return Err(FaultError::SelfLink);
+    }
+    if !is_right(effect) {
+        return Err(FaultError::BadAmount);
+    }
+    match each_once(alloc, links) {
+        Ok(links) => Ok(Fault {
+            effect: Effect::OnLinks(effect, links),
+        }),
+        Err(_) => Err(FaultError::OutOfMemory),
+    }
+}
+
+fn on_nodes_of(
+    alloc: Global,
+    nodes: &Nodes,
+    down: Down,
+    named: &[Node],
+) -> Result<Fault, FaultError>
+    ensures made { MatchResult result
+        (λ fault. (fault ≡ on_nodes down (kept_nodes named.now)) × (list_any (is_unknown_node (length nodes.now)) named.now ≡ false))
+        (RefusesNodes (length nodes.now) named.now) }
+    ensures fits { IfOk result (FitsCount (length nodes.now)) }
+{
+    if is_any_node_unknown(nodes.len(), named) {
+        return Err(FaultError::UnknownNode);
+    }
+    match each_once(alloc, named) {
+        Ok(named) => Ok(Fault {
+            effect: Effect::OnNodes(down, named),
+        }),
+        Err(_) => Err(FaultError::OutOfMemory),
+    }
 }
 
 impl Fault {
@@ -78,13 +243,93 @@ impl Fault {
     ///
     /// Errors, over all links: `UnknownNode`, `SelfLink`, `OutOfMemory`.
     pub fn cut(alloc: Global, nodes: &Nodes, links: &[(Node, Node)]) -> Result<Fault, FaultError>
-        ensures { MatchResult result
-            (λ fault. (fault ≡ Cut (kept_links [] links.now)) × AreLinksOf (length nodes.now) links.now)
+        ensures made { MatchResult result
+            (λ fault. (fault ≡ Cut (kept_links links.now)) × AreLinksOf (length nodes.now) links.now)
             (RefusesLinks (length nodes.now) links.now ⊤) }
+        ensures fits { IfOk result (FitsCount (length nodes.now)) }
     {
-        check_links(nodes, links)?;
-        match kept_of(alloc, links) {
-            Ok(links) => Ok(Fault { links }),
+        on_links_of(alloc, nodes, LinkEffect::Cut, links)
+    }
+
+    /// Makes messages on links later, by 1 to 60,000 milliseconds. Links are kept as `cut` keeps them.
+    ///
+    /// Errors, over all links: `UnknownNode`, `SelfLink`, `BadAmount`, `OutOfMemory`.
+    pub fn slow(
+        alloc: Global,
+        nodes: &Nodes,
+        links: &[(Node, Node)],
+        ms: u64,
+    ) -> Result<Fault, FaultError>
+        ensures made { MatchResult result
+            (λ fault. (fault ≡ Slow ms (kept_links links.now)) × AreLinksOf (length nodes.now) links.now × IsSlowAmount ms)
+            (RefusesLinks (length nodes.now) links.now (IsSlowAmount ms)) }
+        ensures fits { IfOk result (FitsCount (length nodes.now)) }
+    {
+        on_links_of(alloc, nodes, LinkEffect::Slow(ms), links)
+    }
+
+    /// Loses messages on links, at a level of 1 to 20 in 20. Links are kept as `cut` keeps them.
+    ///
+    /// Errors, over all links: `UnknownNode`, `SelfLink`, `BadAmount`, `OutOfMemory`.
+    pub fn loss(
+        alloc: Global,
+        nodes: &Nodes,
+        links: &[(Node, Node)],
+        level: u8,
+    ) -> Result<Fault, FaultError>
+        ensures made { MatchResult result
+            (λ fault. (fault ≡ Loss level (kept_links links.now)) × AreLinksOf (length nodes.now) links.now × IsLossAmount level)
+            (RefusesLinks (length nodes.now) links.now (IsLossAmount level)) }
+        ensures fits { IfOk result (FitsCount (length nodes.now)) }
+    {
+        on_links_of(alloc, nodes, LinkEffect::Loss(level), links)
+    }
+
+    /// Pauses the processes of nodes. A node that is named twice is kept once; a fault that names no node
+    /// is allowed.
+    ///
+    /// Errors, over all nodes: `UnknownNode`, `OutOfMemory`.
+    pub fn pause(alloc: Global, nodes: &Nodes, paused: &[Node]) -> Result<Fault, FaultError>
+        ensures made { MatchResult result
+            (λ fault. (fault ≡ Pause (kept_nodes paused.now)) × (list_any (is_unknown_node (length nodes.now)) paused.now ≡ false))
+            (RefusesNodes (length nodes.now) paused.now) }
+        ensures fits { IfOk result (FitsCount (length nodes.now)) }
+    {
+        on_nodes_of(alloc, nodes, Down::Pause, paused)
+    }
+
+    /// Kills the processes of nodes. Nodes are kept as `pause` keeps them.
+    ///
+    /// Errors, over all nodes: `UnknownNode`, `OutOfMemory`.
+    pub fn kill(alloc: Global, nodes: &Nodes, killed: &[Node]) -> Result<Fault, FaultError>
+        ensures made { MatchResult result
+            (λ fault. (fault ≡ Kill (kept_nodes killed.now)) × (list_any (is_unknown_node (length nodes.now)) killed.now ≡ false))
+            (RefusesNodes (length nodes.now) killed.now) }
+        ensures fits { IfOk result (FitsCount (length nodes.now)) }
+    {
+        on_nodes_of(alloc, nodes, Down::Kill, killed)
+    }
+
+    /// Moves the clocks of nodes, each by some milliseconds, at most 10^9 either way. A fault that names no
+    /// node is allowed.
+    ///
+    /// Errors, over all nodes: `UnknownNode`, `BadAmount` also where a node is named twice, `OutOfMemory`.
+    pub fn bump(alloc: Global, nodes: &Nodes, bumps: &[(Node, i64)]) -> Result<Fault, FaultError>
+        ensures made { MatchResult result
+            (λ fault. (fault ≡ Bump bumps.now) × (list_any (is_unknown_bump (length nodes.now)) bumps.now ≡ false) × AreBumps bumps.now)
+            (RefusesBumps (length nodes.now) bumps.now) }
+        ensures fits { IfOk result (FitsCount (length nodes.now)) }
+    {
+        if is_any_bump_unknown(nodes.len(), bumps) {
+            return Err(FaultError::UnknownNode);
+        }
+        if !are_bump_amounts(bumps) || !are_apart(bumps) {
+            return Err(FaultError::BadAmount);
+        }
+        match copied(alloc, bumps) {
+            Ok(bumps) => Ok(Fault {
+                effect: Effect::Bump(bumps),
+            }),
             Err(_) => Err(FaultError::OutOfMemory),
         }
     }
@@ -94,7 +339,10 @@ impl Fault {
         ensures { IsTrue result ↔ FitsCount (length env.now.names) self.now }
     {
         let count = env.nodes().len();
-        self.links.iter().all(|link| (link.0.place() as usize) < count
-            && (link.1.place() as usize) < count)
+        match &self.effect {
+            Effect::OnLinks(_, links) => !is_any_end_unknown(count, links),
+            Effect::OnNodes(_, nodes) => !is_any_node_unknown(count, nodes),
+            Effect::Bump(bumps) => !is_any_bump_unknown(count, bumps),
+        }
     }
 }

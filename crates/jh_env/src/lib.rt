@@ -9,8 +9,8 @@ mod starting;
 mod texts;
 
 pub use cells::{Life, Link, NodeCell};
-pub use environment::{Env, MOST_LAID};
-pub use faults::{Fault, FaultError};
+pub use environment::{Env, MOST_DELAY, MOST_LAID, MOST_OFFSET};
+pub use faults::{Fault, FaultError, MOST_BUMPED, MOST_LOSS, MOST_SLOWED};
 pub use names::{Node, Nodes, NodesError};
 pub use starting::{Start, StartError};
 pub use texts::{EnvTextError, env_of_value, environments_read_back, value_of_env};

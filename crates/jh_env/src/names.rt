@@ -49,9 +49,11 @@ impl Model for Nodes {
 
     ghost Value = { List (List ℕ) };
 
+    ghost use Rattle.jh_env.specs.Names.{AreNodeNames};
+
     ghost view = { λ a. map string_bytes a.names.keys };
 
-    ghost invariant = { λ a. (0 < length a.names.keys) × (length a.names.keys ≤ 32) };
+    ghost invariant = { λ a. (0 < length a.names.keys) × (length a.names.keys ≤ 32) × AreNodeNames (map string_bytes a.names.keys) };
 }
 
 /// Why names are refused.
@@ -141,6 +143,7 @@ impl Nodes {
     pub fn len(&self) -> usize
         ensures len { result ≡ length self.now }
         ensures bounded { (0 < result) × (result ≤ 32) }
+        ensures named { AreNodeNames self.now }
     {
         self.names.len()
     }

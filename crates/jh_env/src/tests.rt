@@ -229,6 +229,150 @@ fn keeps_a_cut_of_the_start(rt: HostRuntime) -> Result<(), Fail> {
     Ok(())
 }
 
+// Whether slowing the link from n1 to n2 by this is refused, and why.
+fn slow_refusal(alloc: Global, ms: u64) -> Option<FaultError> {
+    let nodes = three(alloc).ok()?;
+    let (first, second) = two(&nodes)?;
+    match Fault::slow(alloc, &nodes, &[(first, second)], ms) {
+        Err(FaultError::OutOfMemory) => Fault::slow(alloc, &nodes, &[(first, second)], ms).err(),
+        answer => answer.err(),
+    }
+}
+
+fn loss_refusal(alloc: Global, level: u8) -> Option<FaultError> {
+    let nodes = three(alloc).ok()?;
+    let (first, second) = two(&nodes)?;
+    match Fault::loss(alloc, &nodes, &[(first, second)], level) {
+        Err(FaultError::OutOfMemory) => Fault::loss(alloc, &nodes, &[(first, second)], level).err(),
+        answer => answer.err(),
+    }
+}
+
+fn bump_refusal(alloc: Global, ms: i64, again: bool) -> Option<FaultError> {
+    let nodes = three(alloc).ok()?;
+    let (first, second) = two(&nodes)?;
+    let other = if again { first } else { second };
+    match Fault::bump(alloc, &nodes, &[(first, ms), (other, 1)]) {
+        Err(FaultError::OutOfMemory) => {
+            Fault::bump(alloc, &nodes, &[(first, ms), (other, 1)]).err()
+        }
+        answer => answer.err(),
+    }
+}
+
+#[test]
+fn slows_within_a_minute(rt: HostRuntime) {
+    let cases = [
+        (0, Some(FaultError::BadAmount)),
+        (1, None),
+        (60_000, None),
+        (60_001, Some(FaultError::BadAmount)),
+    ];
+    for (ms, refusal) in cases {
+        assert_eq!(rt; slow_refusal(rt.alloc(), ms), refusal, "at {ms}");
+    }
+}
+
+#[test]
+fn loses_at_twenty_levels(rt: HostRuntime) {
+    let cases = [
+        (0, Some(FaultError::BadAmount)),
+        (1, None),
+        (20, None),
+        (21, Some(FaultError::BadAmount)),
+    ];
+    for (level, refusal) in cases {
+        assert_eq!(rt; loss_refusal(rt.alloc(), level), refusal, "at {level}");
+    }
+}
+
+#[test]
+fn bumps_within_bounds(rt: HostRuntime) {
+    let cases = [
+        (0, false, Some(FaultError::BadAmount)),
+        (1_000_000_000, false, None),
+        (-1_000_000_000, false, None),
+        (1_000_000_001, false, Some(FaultError::BadAmount)),
+        (-1_000_000_001, false, Some(FaultError::BadAmount)),
+        (1, true, Some(FaultError::BadAmount)),
+    ];
+    for (ms, again, refusal) in cases {
+        assert_eq!(rt; bump_refusal(rt.alloc(), ms, again), refusal, "at {ms}");
+    }
+}
+
+// A fault of each kind on the link from n1 to n2 or on n1, by its place in this list.
+fn fault_once(alloc: Global, nodes: &Nodes, kind: u8) -> Result<Fault, FaultError> {
+    let Some((first, second)) = two(nodes) else {
+        return Err(FaultError::UnknownNode);
+    };
+    match kind {
+        0 => Fault::slow(alloc, nodes, &[(first, second), (first, second)], 250),
+        1 => Fault::slow(alloc, nodes, &[(first, second)], 60_000),
+        2 => Fault::loss(alloc, nodes, &[(first, second)], 7),
+        3 => Fault::loss(alloc, nodes, &[(first, second)], 4),
+        4 => Fault::pause(alloc, nodes, &[first, first]),
+        5 => Fault::kill(alloc, nodes, &[first]),
+        _ => Fault::bump(alloc, nodes, &[(first, -500)]),
+    }
+}
+
+fn lay_once(alloc: Global, env: &mut Env, kind: u8) -> Option<FaultError> {
+    match fault_once(alloc, env.nodes(), kind) {
+        Err(refusal) => Some(refusal),
+        Ok(fault) => {
+            if fault.fits(env) && env.laid() < MOST_LAID {
+                env.lay(&fault);
+            }
+            None
+        }
+    }
+}
+
+fn lay(alloc: Global, env: &mut Env, kind: u8) -> Option<FaultError> {
+    match lay_once(alloc, env, kind) {
+        Some(FaultError::OutOfMemory) => lay_once(alloc, env, kind),
+        answer => answer,
+    }
+}
+
+#[test]
+fn lays_delays_and_losses(rt: HostRuntime) {
+    let Some(mut env) = started(rt.alloc(), &[]) else {
+        panic!(rt; "no environment");
+    };
+    for kind in 0..4 {
+        assert_eq!(rt; lay(rt.alloc(), &mut env, kind), None, "at {kind}");
+    }
+    let Some((first, second)) = two(env.nodes()) else {
+        panic!(rt; "no nodes");
+    };
+    let link = Link {
+        cut: false,
+        delay: 60_250,
+        loss: 7,
+    };
+    assert_eq!(rt; env.link(first, second), Some(link));
+}
+
+#[test]
+fn kills_over_pauses(rt: HostRuntime) {
+    let Some(mut env) = started(rt.alloc(), &[]) else {
+        panic!(rt; "no environment");
+    };
+    for kind in [4, 6, 5, 4, 6] {
+        assert_eq!(rt; lay(rt.alloc(), &mut env, kind), None, "at {kind}");
+    }
+    let Some((first, _)) = two(env.nodes()) else {
+        panic!(rt; "no nodes");
+    };
+    let cell = NodeCell {
+        process: Life::Killed,
+        clock: -1000,
+    };
+    assert_eq!(rt; env.node(first), Some(cell));
+}
+
 fn text_of(alloc: Global, error: &impl Display) -> Result<String, AllocError> {
     match format!(in alloc; "{error}") {
         Ok(text) => Ok(text),

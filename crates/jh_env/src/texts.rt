@@ -132,7 +132,7 @@ pub fn env_of_value(alloc: Global, value: &Value) -> Result<Env, EnvTextError>
 
 /// The text of an environment as it is now: all six keys in the order `:nodes :cut :slow :loss :down :clock`, and
 /// under them only what is not calm or not running, links by the place of their source and then of their
-/// destination, nodes by place. A delay beyond `i64::MAX` milliseconds would be written as that.
+/// destination, nodes by place.
 pub fn value_of_env(alloc: Global, env: &Env) -> Result<Value, AllocError>
     ensures { IfOk result (λ value. view value ≡ text_of env.now) }
 {

@@ -6,13 +6,23 @@ use Rattle.jh_env.specs.Overlay.{cuts, link_over}
 use Rattle.std.proofs.lemmas.List.Elements.{filter-append}
 use Rattle.jh_env.specs.Faults.{FaultValue}
 use Rattle.jh_nemesis.specs.State.{State, Active, has_id, is_active, faults_in, moved_on}
-use Rattle.jh_nemesis.specs.Steps.{answer_of, begin_answer, state_after, is_ok, active_after, without}
-use Rattle.jh_nemesis.specs.Laws.{CutsOfOthersStay, CutsOfStartStay, WithdrawalLeavesOthers, WithdrawalEndsBegin}
+use Rattle.jh_nemesis.specs.Steps.{answer_of, begin_answer, state_after, is_ok, moved, without}
+use Rattle.jh_nemesis.specs.Laws.{CutsOfOthersStay, CutsOfStartStay, WithdrawalLeavesOthers, WithdrawalEndsBegin, OthersAloneMake, WithdrawingAllLeavesStart, IsAtStart}
 use Rattle.std.proofs.lemmas.List.{append-nil}
 use Rattle.jh_nemesis.specs.declared.steps.StepAnswer.{StepAnswer}
 use Rattle.jh_nemesis.specs.declared.steps.StepAnswer.TheVariants.{IdTaken}
 use Rattle.jh_nemesis.specs.declared.steps.Step.{Step}
-use Rattle.jh_nemesis.specs.declared.steps.Step.TheVariants.{Begin, Withdraw}
+use Rattle.std.proofs.Math.Bool.{or-false}
+use Rattle.std.proofs.Common.{Option, Some, None, arith}
+use Rattle.std.specs.Prelude.{option_map}
+use Rattle.jh_env.specs.declared.cells.Life.{Life}
+use Rattle.jh_env.specs.declared.cells.Life.TheVariants.{Running, Paused, Killed}
+use Rattle.jh_env.specs.declared.cells.Link.{Link}
+use Rattle.jh_env.specs.declared.cells.NodeCell.{NodeCell}
+use Rattle.jh_env.specs.Cells.{link_at, node_at}
+use Rattle.jh_env.specs.Overlay.{EnvValue, StandsFor, node_over, is_killed, is_paused}
+use Rattle.jh_env.proofs.OverlayLemmas.{same_link_cell, same_node_cell}
+use Rattle.jh_nemesis.specs.declared.steps.Step.TheVariants.{Begin, Withdraw, WithdrawAll}
 
 parts : (x y : Bool) → (x || y) ≡ false → (x ≡ false) × (y ≡ false)
 parts true y e = cc
@@ -33,7 +43,7 @@ without_middle (b ∷ before) after id f h =
     rw (p.0, without_middle before after id f p.1) refl
 
 -- what an accepted step makes of the active faults
-accepted : (s : State) (step : Step) → is_ok (answer_of s step) ≡ true → (state_after s step).now ≡ active_after s.now step
+accepted : (s : State) (step : Step) → is_ok (answer_of s step) ≡ true → (state_after s step).now ≡ (moved s step).now
 accepted s step ok = rw ok refl
 
 pub withdrawal_leaves : WithdrawalLeavesOthers
@@ -74,3 +84,29 @@ others_stay s before after id other f a b l now apart h =
 
 pub start_stays : CutsOfStartStay
 start_stays active a b l h = rw h refl
+
+pub others_make : OthersAloneMake
+others_make s before after id f env now other ok stands = rw (← withdrawal_leaves s before after id f now other ok) stands.cells
+
+link_as_started : (a b : ℕ) (o : Option Link) → option_map (link_over [] a b) o ≡ o
+link_as_started a b None = refl
+link_as_started a b (Some l) = ap Some (same_link_cell _ _ _ _ _ _ (or-false l.cut) (omega arith) refl)
+
+life_as_started : (p : Life) → (if is_killed p || false then Killed else if is_paused p || false then Paused else Running) ≡ p
+life_as_started Running = refl
+life_as_started Paused = refl
+life_as_started Killed = refl
+
+node_as_started : (a : ℕ) (o : Option NodeCell) → option_map (node_over [] a) o ≡ o
+node_as_started a None = refl
+node_as_started a (Some n) = ap Some (same_node_cell _ _ _ _ (life_as_started n.process) refl)
+
+-- nothing makes of the start what it is
+over_nothing : (env : EnvValue) → StandsFor env [] → IsAtStart env
+over_nothing env stands = record {
+  links = λ a b. stands.cells.links a b ∙ link_as_started a b (link_at env.start a b);
+  nodes = λ a. stands.cells.nodes a ∙ node_as_started a (node_at env.start a);
+}
+
+pub all_withdrawn : WithdrawingAllLeavesStart
+all_withdrawn s env ok stands = over_nothing env (rw (accepted s WithdrawAll ok) at stands)

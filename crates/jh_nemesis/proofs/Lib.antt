@@ -2,4 +2,5 @@ pub mod PlaceLemmas
 pub mod BeginLemmas
 pub mod LawLemmas
 pub mod ListLemmas
-pub mod StepTextLemmas
+pub mod FaultTextLemmas
+pub mod RunLemmas

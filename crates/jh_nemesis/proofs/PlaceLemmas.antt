@@ -59,3 +59,17 @@ fault_read begun places i k x below at known is =
     let here : slice_get places i ≡ Some k = slice_get_read places (length places) i k refl below at in
     let value : get_or begun k (0, Cut []) ≡ x = get_or_default begun k (0, Cut []) x known ∙ sym is in
     rw (slice_get-map (λ k. get_or begun k (0, Cut [])) places i, here, value) refl
+
+-- the first of some moments, and the others
+pub places_head : (n : ℕ) (x : List ℕ) (xs all : List (List ℕ)) → all ≡ x ∷ xs → All (ArePlaces n) all → ArePlaces n x
+places_head n x xs all e h = All-head (ArePlaces n) x xs (rw e at h)
+
+pub places_tail : (n : ℕ) (x : List ℕ) (xs all : List (List ℕ)) → all ≡ x ∷ xs → All (ArePlaces n) all → All (ArePlaces n) xs
+places_tail n x xs all e h = All-tail (ArePlaces n) x xs (rw e at h)
+
+pub places_cons : (n : ℕ) (x : List ℕ) (xs all : List (List ℕ)) → all ≡ x ∷ xs → ArePlaces n x → All (ArePlaces n) xs → All (ArePlaces n) all
+places_cons n x xs all e k h = rw e (All-cons (ArePlaces n) x xs k h)
+
+-- no place
+pub places_none : (n : ℕ) (p : List ℕ) → p ≡ [] → ArePlaces n p
+places_none n p e = rw e (record { known = λ k d h. absurd (omega arith); few = omega arith })

@@ -5,4 +5,6 @@ pub mod Timeline
 pub mod TimelineInside
 pub mod Places
 pub mod NemesisInside
+pub mod FaultText
+pub mod ShapeInside
 pub mod StepText

@@ -1,5 +1,5 @@
 -- What a nemesis is at a moment (this project's own; Jepsen's pages on nemeses call its faults begun and withdrawn).
-use Rattle.std.specs.Prelude.{ℕ, ◌==◌, Bool, List, [], ◌∷◌, map}
+use Rattle.std.specs.Prelude.{ℕ, ◌==◌, Bool, true, false, List, [], ◌∷◌, map}
 use Rattle.std.specs.List.{list_any}
 use Rattle.jh_env.specs.Cells.{Table}
 use Rattle.jh_env.specs.Faults.{FaultValue}
@@ -36,3 +36,18 @@ faults_in active = map (λ f. f.1) active
 -- a new moment: what was now is the last of the past, and nothing is undone
 abbrev pub moved_on : State → Active → State
 moved_on s next = record s { past = s.now ∷ s.past; now = next; future = [] }
+
+-- nothing is in the list
+abbrev pub is_empty : {A : Type 0} → List A → Bool
+is_empty [] = true
+is_empty (x ∷ xs) = false
+
+-- back to the last moment of these before: what was now is the first that is undone
+abbrev pub back_to : State → List Active → State
+back_to s [] = s
+back_to s (moment ∷ before) = record s { past = before; now = moment; future = s.now ∷ s.future }
+
+-- forth to the first moment of these that are undone: what was now is the last of the past
+abbrev pub forth_to : State → List Active → State
+forth_to s [] = s
+forth_to s (moment ∷ after) = record s { past = s.now ∷ s.past; now = moment; future = after }

@@ -1,14 +1,15 @@
 -- The steps of a nemesis (this project's own): the answer to a step and the state that it leaves.
-use Rattle.std.specs.Prelude.{◌≡◌, ℕ, Bool, true, false, List, [], ◌∷◌, ◌++◌, length, filter, not, nat_le, if◌then◌else◌}
+use Rattle.std.specs.Prelude.{◌≡◌, ℕ, ◌<◌, Bool, true, false, List, [], ◌∷◌, ◌++◌, length, take, filter, not, nat_le, if◌then◌else◌}
 use Rattle.jh_env.specs.Faults.{FitsCount}
-use Rattle.jh_nemesis.specs.State.{State, Active, has_id, is_active, moved_on}
+use Rattle.jh_nemesis.specs.State.{State, Active, has_id, is_active, is_empty, moved_on, back_to, forth_to}
 use Rattle.jh_nemesis.specs.declared.steps.TheConstants.{MOST_ACTIVE, MOST_STEPS}
 use Rattle.jh_nemesis.specs.declared.steps.Step.{Step}
-use Rattle.jh_nemesis.specs.declared.steps.Step.TheVariants.{Begin, Withdraw}
+use Rattle.jh_nemesis.specs.declared.steps.Step.TheVariants.{Begin, Withdraw, WithdrawAll, Undo, Redo}
 use Rattle.jh_nemesis.specs.declared.steps.StepAnswer.{StepAnswer}
-use Rattle.jh_nemesis.specs.declared.steps.StepAnswer.TheVariants.{Ok, IdTaken, TooManyActive, TooManySteps, NotActive}
+use Rattle.jh_nemesis.specs.declared.steps.StepAnswer.TheVariants.{Ok, IdTaken, TooManyActive, TooManySteps, NotActive, NothingActive, NothingToUndo, NothingToRedo}
 use Rattle.jh_nemesis.specs.declared.steps.BeginError.TheVariants as BeginError
 use Rattle.jh_nemesis.specs.declared.steps.WithdrawError.TheVariants as WithdrawError
+use Rattle.jh_nemesis.specs.declared.steps.WithdrawAllError.TheVariants as WithdrawAllError
 
 -- the answer to the begin of a fault under this id: the first refusal that applies
 abbrev pub begin_answer : State → ℕ → StepAnswer
@@ -25,19 +26,32 @@ withdraw_answer s id =
     else if nat_le MOST_STEPS (length s.past) then TooManySteps
     else Ok
 
--- the answer to a step
+-- the answer to the withdrawal of all faults: the first refusal that applies
+abbrev pub withdraw_all_answer : State → StepAnswer
+withdraw_all_answer s =
+    if is_empty s.now then NothingActive
+    else if nat_le MOST_STEPS (length s.past) then TooManySteps
+    else Ok
+
+-- the answer to a step; a step back or forth needs no room, for it was made when its step was accepted
 abbrev pub answer_of : State → Step → StepAnswer
 answer_of s (Begin id f) = begin_answer s id
 answer_of s (Withdraw id) = withdraw_answer s id
+answer_of s WithdrawAll = withdraw_all_answer s
+answer_of s Undo = if is_empty s.past then NothingToUndo else Ok
+answer_of s Redo = if is_empty s.future then NothingToRedo else Ok
 
 -- the active faults but the one of this id
 abbrev pub without : Active → ℕ → Active
 without active id = filter (λ f. not (has_id id f)) active
 
--- the active faults after a step: a fault that is begun stands last, one that is withdrawn is gone
-abbrev pub active_after : Active → Step → Active
-active_after active (Begin id f) = active ++ (id, f) ∷ []
-active_after active (Withdraw id) = without active id
+-- the state after an accepted step: a fault that is begun stands last, one that is withdrawn is gone
+abbrev pub moved : State → Step → State
+moved s (Begin id f) = moved_on s (s.now ++ (id, f) ∷ [])
+moved s (Withdraw id) = moved_on s (without s.now id)
+moved s WithdrawAll = moved_on s []
+moved s Undo = back_to s s.past
+moved s Redo = forth_to s s.future
 
 -- the step is accepted
 abbrev pub is_ok : StepAnswer → Bool
@@ -46,19 +60,33 @@ is_ok IdTaken = false
 is_ok TooManyActive = false
 is_ok TooManySteps = false
 is_ok NotActive = false
+is_ok NothingActive = false
+is_ok NothingToUndo = false
+is_ok NothingToRedo = false
 
 -- the state after a step: a refused one changes nothing
 abbrev pub state_after : State → Step → State
-state_after s step = if is_ok (answer_of s step) then moved_on s (active_after s.now step) else s
+state_after s step = if is_ok (answer_of s step) then moved s step else s
 
 -- the nodes that the fault of the step names are among so many
 abbrev pub FitsNodes : ℕ → Step → Type 0
 FitsNodes count (Begin id f) = FitsCount count f
 FitsNodes count (Withdraw id) = Unit {0}
+FitsNodes count WithdrawAll = Unit {0}
+FitsNodes count Undo = Unit {0}
+FitsNodes count Redo = Unit {0}
 
 -- they are in the environment
 abbrev pub StepFits : State → Step → Type 0
 StepFits s step = FitsNodes (length s.names) step
+
+-- a step that takes no memory
+abbrev pub is_free : Step → Bool
+is_free (Begin id f) = false
+is_free (Withdraw id) = false
+is_free WithdrawAll = false
+is_free Undo = true
+is_free Redo = true
 
 -- the answers to steps, one after another
 abbrev pub answers_of : State → List Step → List StepAnswer
@@ -69,6 +97,11 @@ answers_of s (step ∷ steps) = answer_of s step ∷ answers_of (state_after s s
 abbrev pub state_after_all : State → List Step → State
 state_after_all s [] = s
 state_after_all s (step ∷ steps) = state_after_all (state_after s step) steps
+
+-- the first steps alone were taken, with these answers, and left this state; at least one was not
+abbrev pub TakesFirst : State → List Step → List StepAnswer → State → Type 0
+TakesFirst s steps answers after =
+    (n : ℕ) × (n < length steps) × (answers ≡ answers_of s (take n steps)) × (after ≡ state_after_all s (take n steps))
 
 -- why a fault is not begun: what the step is answered, or memory was refused where it would be accepted
 abbrev pub RefusesBegin : State → ℕ → BeginError.the_data → Type 0
@@ -82,3 +115,9 @@ abbrev pub RefusesWithdraw : State → ℕ → WithdrawError.the_data → Type 0
 RefusesWithdraw s id WithdrawError.NotActive = withdraw_answer s id ≡ NotActive
 RefusesWithdraw s id WithdrawError.TooManySteps = withdraw_answer s id ≡ TooManySteps
 RefusesWithdraw s id WithdrawError.OutOfMemory = withdraw_answer s id ≡ Ok
+
+-- why not all faults are withdrawn, likewise
+abbrev pub RefusesWithdrawAll : State → WithdrawAllError.the_data → Type 0
+RefusesWithdrawAll s WithdrawAllError.NothingActive = withdraw_all_answer s ≡ NothingActive
+RefusesWithdrawAll s WithdrawAllError.TooManySteps = withdraw_all_answer s ≡ TooManySteps
+RefusesWithdrawAll s WithdrawAllError.OutOfMemory = withdraw_all_answer s ≡ Ok

@@ -20,3 +20,8 @@ pub record MovesOn (old : Moments) (next : List ℕ) (new : Moments) : Type 0 wh
   pub past : new.past ≡ old.now ∷ old.past
   pub now : new.now ≡ next
   pub future : new.future ≡ []
+
+-- one moment back: the last of the past is now, and what was now is undone; the other way round, one moment forth
+pub record GoesBack (old new : Moments) : Type 0 where
+  pub past : old.past ≡ new.now ∷ new.past
+  pub future : new.future ≡ old.now ∷ old.future

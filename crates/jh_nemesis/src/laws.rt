@@ -1,16 +1,61 @@
 //! Laws of the steps, each a function that does nothing and whose contract is the law. `specs/Laws.antt` states
 //! them.
 
-ghost use Rattle.jh_nemesis.specs.Laws.{RefusedStays, WithdrawalLeavesOthers, WithdrawalEndsBegin, CutsOfOthersStay, CutsOfStartStay};
+ghost use Rattle.jh_nemesis.specs.Laws.{
+  RefusedStays,
+  UndoRestores,
+  RedoRestores,
+  UndoTakesRedoBack,
+  RedosLeadBack,
+  ChangeEndsFuture,
+  WithdrawalLeavesOthers,
+  OthersAloneMake,
+  WithdrawingAllLeavesStart,
+  EnvironmentIsOverlay,
+  WithdrawalEndsBegin,
+  CutsOfOthersStay,
+  CutsOfStartStay,
+};
 
 /// A refused step changes nothing.
 pub fn refused_stays()
     ensures { RefusedStays }
 {}
 
-/// A withdrawal leaves the other faults, in their order.
+/// For every list of steps: the environment of a nemesis (`Nemesis::env`) is what the active faults make of the
+/// environment in which it was begun.
+pub fn environment_is_overlay()
+    ensures { EnvironmentIsOverlay }
+{}
+
+/// An undo after an accepted begin or withdrawal gives back the active faults, in their order, over the same start, and
+/// so the environment.
+pub fn undo_restores()
+    ensures { UndoRestores }
+{}
+
+/// A redo after an undo gives back what the undo took, and an undo after a redo what the redo took; so do as many redos
+/// after undos.
+pub fn redo_restores()
+    ensures redo { RedoRestores }
+    ensures undo { UndoTakesRedoBack }
+    ensures many { RedosLeadBack }
+{}
+
+/// After an accepted begin or withdrawal nothing can be redone.
+pub fn change_ends_future()
+    ensures { ChangeEndsFuture }
+{}
+
+/// A withdrawal leaves the other faults, in their order, and the environment that these alone make of the start.
 pub fn withdrawal_leaves_others()
-    ensures { WithdrawalLeavesOthers }
+    ensures faults { WithdrawalLeavesOthers }
+    ensures environment { OthersAloneMake }
+{}
+
+/// Withdrawing all faults leaves the starting environment.
+pub fn withdrawing_all_leaves_start()
+    ensures { WithdrawingAllLeavesStart }
 {}
 
 /// A fault that is begun and withdrawn leaves the active faults as they were.

@@ -1,4 +1,4 @@
-//! Faults that are begun and withdrawn over an environment. Whatever the steps were, the environment is what
+//! Faults that are begun and withdrawn over an environment, with undo and redo. Whatever the steps were, the environment is what
 //! the faults that are active make of its start.
 #![tactic(auto)]
 
@@ -9,11 +9,15 @@ mod texts;
 mod timeline;
 
 pub use laws::{
-    cuts_of_others_stay, cuts_of_start_stay, refused_stays, withdrawal_ends_begin,
-    withdrawal_leaves_others,
+    change_ends_future, cuts_of_others_stay, cuts_of_start_stay, environment_is_overlay,
+    redo_restores, refused_stays, undo_restores, withdrawal_ends_begin, withdrawal_leaves_others,
+    withdrawing_all_leaves_start,
 };
 pub use nemesis::Nemesis;
-pub use steps::{BeginError, MOST_ACTIVE, MOST_STEPS, Step, StepAnswer, WithdrawError};
+pub use steps::{
+    BeginError, MOST_ACTIVE, MOST_STEPS, NothingToRedo, NothingToUndo, Step, StepAnswer, Stopped,
+    WithdrawAllError, WithdrawError,
+};
 pub use texts::{StepTextError, step_of_value};
 
 #[cfg(test)]

@@ -1,7 +1,7 @@
-//! A nemesis: faults that are begun and withdrawn over an environment. `specs/Steps.antt` says what a step
+//! A nemesis: faults that are begun and withdrawn over an environment, and steps back and forth. `specs/Steps.antt` says what a step
 //! does, `specs/Places.antt` what holds between the fields.
 
-ghost use Rattle.std.specs.Prelude.{◌≡◌, ◌≤◌, ◌<◌, [], length, option_map, slice_get, MatchResult, OnErr, IfOk};
+ghost use Rattle.std.specs.Prelude.{◌≡◌, ◌≤◌, ◌<◌, ◌↔◌, [], true, length, option_map, slice_get, MatchResult, OnErr, OnOk, IfOk, IsOk, IsErr};
 ghost use Rattle.std.specs.List.{All};
 ghost use Rattle.jh_env.specs.Overlay.{StandsFor, SamePlace};
 ghost use Rattle.jh_env.specs.Faults.{FitsCount};
@@ -10,7 +10,10 @@ ghost use Rattle.jh_nemesis.specs.State.{faults_in, first_state};
 ghost use Rattle.jh_nemesis.specs.Steps as spec_steps;
 ghost use Rattle.jh_nemesis.specs.Places.{faults_at, ArePlaces};
 
-use crate::steps::{BeginError, MOST_ACTIVE, MOST_STEPS, Step, StepAnswer, WithdrawError};
+use crate::steps::{
+    BeginError, MOST_ACTIVE, MOST_STEPS, NothingToRedo, NothingToUndo, Step, StepAnswer, Stopped,
+    WithdrawAllError, WithdrawError,
+};
 use crate::timeline::{Places, Timeline};
 use jh_env::{Env, Fault};
 use std::alloc::{AllocError, Global};
@@ -91,8 +94,22 @@ fn without(begun: &[(u32, Fault)], places: &[usize], id: u32) -> Places
 }
 
 impl Nemesis {
-    ghost use Rattle.jh_nemesis.specs.Steps.{begin_answer, withdraw_answer, answer_of, state_after, StepFits, RefusesBegin, RefusesWithdraw};
-    ghost use Rattle.jh_nemesis.specs.declared.steps.Step.TheVariants.{Begin, Withdraw};
+    ghost use Rattle.jh_nemesis.specs.Steps.{
+      begin_answer,
+      withdraw_answer,
+      withdraw_all_answer,
+      answer_of,
+      state_after,
+      answers_of,
+      state_after_all,
+      is_free,
+      StepFits,
+      TakesFirst,
+      RefusesBegin,
+      RefusesWithdraw,
+      RefusesWithdrawAll,
+    };
+    ghost use Rattle.jh_nemesis.specs.declared.steps.Step.TheVariants.{Begin, Withdraw, WithdrawAll, Undo, Redo};
 
     /// A nemesis over an environment in which no fault is laid.
     pub fn new(alloc: Global, env: Env) -> Nemesis
@@ -198,20 +215,100 @@ impl Nemesis {
         Ok(StepAnswer::Ok)
     }
 
+    // The answer to a withdrawal of all faults, if there is memory.
+    fn check_withdraw_all(&self) -> StepAnswer
+        ensures answer { result ≡ withdraw_all_answer self.now }
+        ensures room { result ≡ StepAnswer.Ok → length self.now.past < MOST_STEPS }
+    {
+        if self.timeline.now().is_empty() {
+            return StepAnswer::NothingActive;
+        }
+        if self.timeline.is_full() {
+            return StepAnswer::TooManySteps;
+        }
+        StepAnswer::Ok
+    }
+
+    fn withdraw_all_step(&mut self) -> Result<StepAnswer, AllocError>
+        ensures ok { IfOk result (λ answer. (answer ≡ withdraw_all_answer self.old) × (self.new ≡ state_after self.old WithdrawAll)) }
+        ensures err { OnErr result ((withdraw_all_answer self.old ≡ StepAnswer.Ok) × (self.new ≡ self.old)) }
+    {
+        let answer = self.check_withdraw_all();
+        if answer != StepAnswer::Ok {
+            return Ok(answer);
+        }
+        self.timeline.make_room()?;
+        self.timeline.move_on(Places::new());
+        self.env.reset();
+        Ok(StepAnswer::Ok)
+    }
+
+    fn undo_step(&mut self) -> StepAnswer
+        ensures answer { result ≡ answer_of self.old Undo }
+        ensures state { self.new ≡ state_after self.old Undo }
+    {
+        if self.timeline.is_at_start() {
+            return StepAnswer::NothingToUndo;
+        }
+        self.timeline.go_back();
+        lay_all(&mut self.env, &self.begun, self.timeline.now());
+        StepAnswer::Ok
+    }
+
+    fn redo_step(&mut self) -> StepAnswer
+        ensures answer { result ≡ answer_of self.old Redo }
+        ensures state { self.new ≡ state_after self.old Redo }
+    {
+        if self.timeline.is_at_end() {
+            return StepAnswer::NothingToRedo;
+        }
+        self.timeline.go_forth();
+        lay_all(&mut self.env, &self.begun, self.timeline.now());
+        StepAnswer::Ok
+    }
+
     /// Takes a step, and answers it; a refused step changes nothing. The fault of a begin must fit the
     /// environment, as `Fault::fits` tests. An accepted step takes time for the cells of all active faults.
     ///
-    /// Error: memory was refused to a step that would be accepted. Then nothing has changed.
+    /// Error: memory was refused to a step that would be accepted. Then nothing has changed. A step back or forth
+    /// takes no memory.
     pub fn apply(&mut self, step: Step) -> Result<StepAnswer, AllocError>
         requires { StepFits self.old step }
-        ensures { MatchResult result
+        ensures answer { MatchResult result
             (λ answer. (answer ≡ answer_of self.old step) × (self.new ≡ state_after self.old step))
             (λ _. (answer_of self.old step ≡ StepAnswer.Ok) × (self.new ≡ self.old)) }
+        ensures free { is_free step ≡ true → IsOk result }
     {
         match step {
             Step::Begin(id, fault) => self.begin_step(id, fault),
             Step::Withdraw(id) => self.withdraw_step(id),
+            Step::WithdrawAll => self.withdraw_all_step(),
+            Step::Undo => Ok(self.undo_step()),
+            Step::Redo => Ok(self.redo_step()),
         }
+    }
+
+    /// Takes steps, one after another, and answers each. The fault of each begin must fit the environment.
+    ///
+    /// Error: memory was refused before all were taken. What was taken until then stands, and `Stopped` has its
+    /// answers; the next step changed nothing.
+    pub fn apply_all(&mut self, alloc: Global, steps: Vec<Step>) -> Result<Vec<StepAnswer>, Stopped>
+        requires { All (StepFits self.old) steps.items }
+        ensures { MatchResult result
+            (λ answers. (answers.items ≡ answers_of self.old steps.items) × (self.new ≡ state_after_all self.old steps.items))
+            (λ stopped. TakesFirst self.old steps.items stopped.answers.items self.new) }
+    {
+        let mut answers = Vec::new(alloc);
+        if answers.reserve(steps.len()).is_err() {
+            return Err(Stopped { answers });
+        }
+        for step in steps {
+            match self.apply(step) {
+                Ok(answer) => answers.push_reserved(answer),
+                Err(_) => return Err(Stopped { answers }),
+            }
+        }
+        Ok(answers)
     }
 
     /// Begins a fault under an id that no active fault has. The fault must fit the environment, as
@@ -248,6 +345,52 @@ impl Nemesis {
             Ok(StepAnswer::TooManySteps) => Err(WithdrawError::TooManySteps),
             Ok(_) => Ok(()),
             Err(_) => Err(WithdrawError::OutOfMemory),
+        }
+    }
+
+    /// Withdraws all active faults: the environment is its start again, whatever that was.
+    ///
+    /// Errors, which change nothing: `NothingActive`; `TooManySteps` where 4,096 steps lie in the past;
+    /// `OutOfMemory`.
+    pub fn withdraw_all(&mut self) -> Result<(), WithdrawAllError>
+        ensures { MatchResult result
+            (λ _. (withdraw_all_answer self.old ≡ StepAnswer.Ok) × (self.new ≡ state_after self.old WithdrawAll))
+            (λ e. (self.new ≡ self.old) × RefusesWithdrawAll self.old e) }
+    {
+        match self.withdraw_all_step() {
+            Ok(StepAnswer::NothingActive) => Err(WithdrawAllError::NothingActive),
+            Ok(StepAnswer::TooManySteps) => Err(WithdrawAllError::TooManySteps),
+            Ok(_) => Ok(()),
+            Err(_) => Err(WithdrawAllError::OutOfMemory),
+        }
+    }
+
+    /// Goes back to the moment before the last step that stands: the faults that were active then are active
+    /// again, each in its place. It takes no memory.
+    ///
+    /// Error, which changes nothing: no step lies in the past.
+    pub fn undo(&mut self) -> Result<(), NothingToUndo>
+        ensures undone { OnOk result (self.new ≡ state_after self.old Undo) }
+        ensures unchanged { OnErr result (self.new ≡ self.old) }
+        ensures refused { IsErr result ↔ (self.old.past ≡ []) }
+    {
+        match self.undo_step() {
+            StepAnswer::NothingToUndo => Err(NothingToUndo),
+            _ => Ok(()),
+        }
+    }
+
+    /// Goes forth again to the moment that the last step back left. It takes no memory.
+    ///
+    /// Error, which changes nothing: no step was undone since the last begin or withdrawal.
+    pub fn redo(&mut self) -> Result<(), NothingToRedo>
+        ensures redone { OnOk result (self.new ≡ state_after self.old Redo) }
+        ensures unchanged { OnErr result (self.new ≡ self.old) }
+        ensures refused { IsErr result ↔ (self.old.future ≡ []) }
+    {
+        match self.redo_step() {
+            StepAnswer::NothingToRedo => Err(NothingToRedo),
+            _ => Ok(()),
         }
     }
 }

@@ -17,6 +17,12 @@ pub enum Step {
     Begin(u32, Fault),
     /// Withdraws the active fault of an id.
     Withdraw(u32),
+    /// Withdraws all active faults.
+    WithdrawAll,
+    /// Goes back to the moment before the last step that stands.
+    Undo,
+    /// Goes forth again to the moment before the last step back.
+    Redo,
 }
 
 /// The answer to a step.
@@ -32,6 +38,12 @@ pub enum StepAnswer {
     TooManySteps,
     /// No fault of this id is active.
     NotActive,
+    /// No fault is active.
+    NothingActive,
+    /// No step stands that could be undone.
+    NothingToUndo,
+    /// No step was undone since the last begin or withdrawal.
+    NothingToRedo,
 }
 
 /// Why a fault is not begun.
@@ -56,4 +68,32 @@ pub enum WithdrawError {
     TooManySteps,
     #[error("out of memory")]
     OutOfMemory,
+}
+
+/// Why not all faults are withdrawn.
+#[derive(Clone, Copy, Debug, PartialEq, Eq, Error)]
+pub enum WithdrawAllError {
+    #[error("nothing active")]
+    NothingActive,
+    #[error("too many steps")]
+    TooManySteps,
+    #[error("out of memory")]
+    OutOfMemory,
+}
+
+/// No step stands that could be undone.
+#[derive(Clone, Copy, Debug, PartialEq, Eq, Error)]
+#[error("nothing to undo")]
+pub struct NothingToUndo;
+
+/// No step was undone that could be taken again.
+#[derive(Clone, Copy, Debug, PartialEq, Eq, Error)]
+#[error("nothing to redo")]
+pub struct NothingToRedo;
+
+/// Memory was refused before all steps were taken.
+#[derive(Debug, Drop)]
+pub struct Stopped {
+    /// The answers to the steps that were taken, in order.
+    pub answers: Vec<StepAnswer>,
 }

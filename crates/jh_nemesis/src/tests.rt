@@ -1,10 +1,15 @@
 //! Worked examples of begins and withdrawals, their limits, and the texts of errors. What the clauses say is
 //! proved: a test is for values and texts that come from outside.
 
-ghost use Rattle.std.specs.Prelude.{[], IfSome};
+ghost use Rattle.std.specs.Prelude.{[], ℕ, IfOk, IfSome};
+ghost use Rattle.std.specs.List.{All};
 ghost use Rattle.jh_env.specs.Overlay.{StandsFor};
+ghost use Rattle.jh_nemesis.specs.Steps.{FitsNodes};
 
-use crate::{BeginError, MOST_ACTIVE, Nemesis, Step, StepAnswer, WithdrawError};
+use crate::{
+    BeginError, MOST_ACTIVE, Nemesis, NothingToRedo, NothingToUndo, Step, StepAnswer,
+    WithdrawAllError, WithdrawError,
+};
 use jh_env::{Env, Fault, FaultError, Nodes, Start};
 use std::alloc::{AllocError, Global};
 use std::fmt::Display;
@@ -152,6 +157,84 @@ fn stands_few_steps(rt: HostRuntime) -> Result<(), Fail> {
     Ok(())
 }
 
+fn withdraw_all(nemesis: &mut Nemesis) -> Result<(), WithdrawAllError> {
+    match nemesis.withdraw_all() {
+        Err(WithdrawAllError::OutOfMemory) => nemesis.withdraw_all(),
+        answer => answer,
+    }
+}
+
+#[test]
+fn goes_back_and_forth(rt: HostRuntime) -> Result<(), Fail> {
+    let mut nemesis = calm(rt.alloc())?;
+    begin(&rt, rt.alloc(), &mut nemesis, 1)?;
+    assert_eq!(rt; nemesis.undo(), Ok(()));
+    assert_eq!(rt; is_cut(&nemesis), Some(false));
+    assert_eq!(rt; nemesis.redo(), Ok(()));
+    assert_eq!(rt; is_cut(&nemesis), Some(true));
+    Ok(())
+}
+
+#[test]
+fn finds_nothing_to_do(rt: HostRuntime) -> Result<(), Fail> {
+    let mut nemesis = calm(rt.alloc())?;
+    assert_eq!(rt; nemesis.undo(), Err(NothingToUndo));
+    assert_eq!(rt; nemesis.redo(), Err(NothingToRedo));
+    assert_eq!(rt;
+        nemesis.withdraw_all(),
+        Err(WithdrawAllError::NothingActive)
+    );
+    Ok(())
+}
+
+#[test]
+fn withdraws_all(rt: HostRuntime) -> Result<(), Fail> {
+    let mut nemesis = calm(rt.alloc())?;
+    begin(&rt, rt.alloc(), &mut nemesis, 1)?;
+    assert_eq!(rt; withdraw_all(&mut nemesis), Ok(()));
+    assert_eq!(rt; nemesis.active_len(), 0);
+    assert_eq!(rt; is_cut(&nemesis), Some(false));
+    assert_eq!(rt; nemesis.undo(), Ok(()));
+    assert_eq!(rt; is_cut(&nemesis), Some(true));
+    Ok(())
+}
+
+// Steps that need no fault of their own.
+fn few_once(alloc: Global) -> Result<Vec<Step>, AllocError>
+    ensures { IfOk result (λ steps. (count : ℕ) → All (FitsNodes count) steps.items) }
+{
+    let mut steps = Vec::with_capacity(alloc, 3)?;
+    steps.push(Step::Undo)?;
+    steps.push(Step::Redo)?;
+    steps.push(Step::Withdraw(9))?;
+    Ok(steps)
+}
+
+fn few_steps(alloc: Global) -> Result<Vec<Step>, AllocError>
+    ensures { IfOk result (λ steps. (count : ℕ) → All (FitsNodes count) steps.items) }
+{
+    match few_once(alloc) {
+        Ok(steps) => Ok(steps),
+        Err(_) => few_once(alloc),
+    }
+}
+
+#[test]
+fn takes_many_steps(rt: HostRuntime) -> Result<(), Fail> {
+    let mut nemesis = calm(rt.alloc())?;
+    let steps = few_steps(rt.alloc())?;
+    let answers = [
+        StepAnswer::NothingToUndo,
+        StepAnswer::NothingToRedo,
+        StepAnswer::NotActive,
+    ];
+    match nemesis.apply_all(rt.alloc(), steps) {
+        Ok(told) => assert_eq!(rt; told.as_slice(), answers.as_slice()),
+        Err(stopped) => assert!(rt; stopped.answers.len() < 3),
+    }
+    Ok(())
+}
+
 fn text_of(alloc: Global, error: &impl Display) -> Result<String, AllocError> {
     match format!(in alloc; "{error}") {
         Ok(text) => Ok(text),
@@ -178,5 +261,26 @@ fn says_why(rt: HostRuntime) -> Result<(), Fail> {
     for (error, text) in withdrawals {
         assert_eq!(rt; text_of(rt.alloc(), &error)?.as_str(), text);
     }
+    Ok(())
+}
+
+#[test]
+fn says_why_not_all(rt: HostRuntime) -> Result<(), Fail> {
+    let withdrawals = [
+        (WithdrawAllError::NothingActive, "nothing active"),
+        (WithdrawAllError::TooManySteps, "too many steps"),
+        (WithdrawAllError::OutOfMemory, "out of memory"),
+    ];
+    for (error, text) in withdrawals {
+        assert_eq!(rt; text_of(rt.alloc(), &error)?.as_str(), text);
+    }
+    assert_eq!(rt;
+        text_of(rt.alloc(), &NothingToUndo)?.as_str(),
+        "nothing to undo"
+    );
+    assert_eq!(rt;
+        text_of(rt.alloc(), &NothingToRedo)?.as_str(),
+        "nothing to redo"
+    );
     Ok(())
 }

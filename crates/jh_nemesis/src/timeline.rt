@@ -1,7 +1,8 @@
 //! The moments that a nemesis goes through. `specs/Timeline.antt` says what a change of them is.
 
 ghost use Rattle.std.specs.Prelude.{◌≡◌, ◌<◌, [], length, nat_le, OnOk};
-ghost use Rattle.jh_nemesis.specs.Timeline.{SameMoments, MovesOn};
+ghost use Rattle.jh_nemesis.specs.State.{is_empty};
+ghost use Rattle.jh_nemesis.specs.Timeline.{SameMoments, MovesOn, GoesBack};
 
 use crate::steps::{MOST_ACTIVE, MOST_STEPS};
 use arrayvec::ArrayVec;
@@ -77,5 +78,39 @@ impl Timeline {
         let before = mem::replace(&mut self.current, next);
         self.past.push_reserved(before);
         self.future.clear();
+    }
+
+    /// Whether no moment lies before.
+    pub fn is_at_start(&self) -> bool
+        ensures { result ≡ is_empty self.now.past }
+    {
+        self.past.is_empty()
+    }
+
+    /// Whether no moment was undone.
+    pub fn is_at_end(&self) -> bool
+        ensures { result ≡ is_empty self.now.future }
+    {
+        self.future.is_empty()
+    }
+
+    /// Goes back to the moment before.
+    pub fn go_back(&mut self)
+        requires { 0 < length self.old.past }
+        ensures { GoesBack self.old self.new }
+    {
+        let earlier = self.past.take_last();
+        let later = mem::replace(&mut self.current, earlier);
+        self.future.push_reserved(later);
+    }
+
+    /// Goes forth to the moment that was undone last.
+    pub fn go_forth(&mut self)
+        requires { 0 < length self.old.future }
+        ensures { GoesBack self.new self.old }
+    {
+        let later = self.future.take_last();
+        let earlier = mem::replace(&mut self.current, later);
+        self.past.push_reserved(earlier);
     }
 }

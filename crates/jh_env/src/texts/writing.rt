@@ -4,6 +4,7 @@ ghost use Rattle.std.specs.Prelude.{◌≡◌, ◌∷◌, ◌++◌, length, map,
 ghost use Rattle.std.specs.List.{range_with_len};
 ghost use Rattle.jh_edn.specs.Edn.{str, keyword, vector, items_of};
 ghost use Rattle.jh_edn.specs.View.{view, views, view_pair, view_pairs};
+ghost use Rattle.jh_env.specs.Laying.{IsLinkWithin};
 ghost use Rattle.jh_env.specs.Text.{nodes_keyword, sections};
 ghost use Rattle.jh_env.specs.TextWritten as text;
 ghost use Rattle.jh_env.specs.TextWritten.{edn_of_entry};
@@ -11,7 +12,7 @@ ghost use Rattle.jh_env.specs.TextInside.{entry_said, entries_said};
 
 use super::entries::{Entry, LinkChange, NodeChange, SECTIONS, Section};
 use crate::cells::{Life, Link, NodeCell};
-use crate::environment::Env;
+use crate::environment::{Env, MOST_DELAY};
 use crate::names::{Node, Nodes};
 use jh_edn::{Text, Value, Values};
 use std::alloc::{AllocError, Global};
@@ -19,13 +20,12 @@ use std::alloc::{AllocError, Global};
 impl Section {
     /// What a link is said to be under this key.
     fn link_part(self, link: Link) -> Option<LinkChange>
+        requires { IsLinkWithin MOST_DELAY link }
         ensures { result ≡ text.link_part self link }
     {
         match self {
             Section::Cut if link.cut => Some(LinkChange::Cut),
-            Section::Slow if link.delay > 0 => {
-                Some(LinkChange::Delay(i64::try_from(link.delay).unwrap_or(i64::MAX)))
-            }
+            Section::Slow if link.delay > 0 => Some(LinkChange::Delay(link.delay as i64)),
             Section::Loss if link.loss > 0 => Some(LinkChange::Loss(i64::from(link.loss))),
             _ => None,
         }

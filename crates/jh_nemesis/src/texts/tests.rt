@@ -47,14 +47,92 @@ fn tells_steps(rt: HostRuntime) -> Result<(), Fail> {
 }
 
 #[test]
+fn tells_words(rt: HostRuntime) -> Result<(), Fail> {
+    let all = told(rt.alloc(), "[:withdraw-all]")?;
+    assert!(rt; matches!(all, Ok(Step::WithdrawAll)));
+    let undo = told(rt.alloc(), "[:undo]")?;
+    assert!(rt; matches!(undo, Ok(Step::Undo)));
+    let redo = told(rt.alloc(), "[:redo]")?;
+    assert!(rt; matches!(redo, Ok(Step::Redo)));
+    Ok(())
+}
+
+// Faults with amounts at their borders, as they stand behind `[:begin 1 `.
+static FAULTS: [(&str, Option<StepTextError>); 31] = [
+    ("[:cut []]", None),
+    ("[:slow 1 [[\"n1\" \"n2\"]]]", None),
+    ("[:slow 60000 []]", None),
+    ("[:slow 0 []]", Some(StepTextError::BadAmount)),
+    ("[:slow 60001 []]", Some(StepTextError::BadAmount)),
+    ("[:slow -1 []]", Some(StepTextError::BadAmount)),
+    ("[:slow 0 [[\"n1\" \"n1\"]]]", Some(StepTextError::SelfLink)),
+    (
+        "[:slow 0 [[\"n1\" \"n3\"]]]",
+        Some(StepTextError::UnknownNode),
+    ),
+    ("[:slow [[\"n1\" \"n2\"]]]", Some(StepTextError::BadStep)),
+    ("[:loss 1 []]", None),
+    ("[:loss 20 [[\"n1\" \"n2\"]]]", None),
+    ("[:loss 0 []]", Some(StepTextError::BadAmount)),
+    ("[:loss 21 []]", Some(StepTextError::BadAmount)),
+    ("[:loss 257 []]", Some(StepTextError::BadAmount)),
+    ("[:loss :1 []]", Some(StepTextError::BadStep)),
+    ("[:pause [\"n1\" \"n1\"]]", None),
+    ("[:pause []]", None),
+    ("[:pause [\"n3\"]]", Some(StepTextError::UnknownNode)),
+    ("[:pause [[\"n1\"]]]", Some(StepTextError::BadStep)),
+    ("[:pause \"n1\"]", Some(StepTextError::BadStep)),
+    ("[:kill [\"n2\"]]", None),
+    ("[:kill [\"n\"]]", Some(StepTextError::UnknownNode)),
+    ("[:kill 1 [\"n1\"]]", Some(StepTextError::BadStep)),
+    ("[:bump {}]", None),
+    ("[:bump {\"n1\" 1000000000, \"n2\" -1000000000}]", None),
+    ("[:bump {\"n1\" 0}]", Some(StepTextError::BadAmount)),
+    (
+        "[:bump {\"n1\" 1000000001}]",
+        Some(StepTextError::BadAmount),
+    ),
+    (
+        "[:bump {\"n1\" -1000000001}]",
+        Some(StepTextError::BadAmount),
+    ),
+    (
+        "[:bump {\"n1\" 0, \"n3\" 1}]",
+        Some(StepTextError::UnknownNode),
+    ),
+    ("[:bump [\"n1\" 1]]", Some(StepTextError::BadStep)),
+    ("[:bump {\"n1\" \"1\"}]", Some(StepTextError::BadStep)),
+];
+
+// The text of a begin of the fault.
+fn begin_of(alloc: Global, fault: &str) -> Result<String, Fail> {
+    match format!(in alloc; "[:begin 1 {fault}]") {
+        Ok(text) => Ok(text),
+        Err(_) => Ok(format!(in alloc; "[:begin 1 {fault}]")?),
+    }
+}
+
+#[test]
+fn tells_faults(rt: HostRuntime) -> Result<(), Fail> {
+    for (fault, refusal) in FAULTS.iter() {
+        let text = begin_of(rt.alloc(), fault)?;
+        assert_eq!(rt; told(rt.alloc(), &text)?.err(), *refusal, "at {fault}");
+    }
+    Ok(())
+}
+
+#[test]
 fn refuses_other_texts(rt: HostRuntime) -> Result<(), Fail> {
     let cases = [
         ("{}", StepTextError::BadStep),
+        ("[]", StepTextError::BadStep),
         ("[:frob 1]", StepTextError::BadStep),
+        ("[:undo 1]", StepTextError::BadStep),
+        ("[:withdraw]", StepTextError::BadStep),
         ("[\"withdraw\" 1]", StepTextError::BadStep),
         ("[:withdraw :1]", StepTextError::BadStep),
         ("[:begin -1 [:cut [[\"n1\"]]]]", StepTextError::BadStep),
-        ("[:begin 1 [:pause [\"n1\"]]]", StepTextError::BadStep),
+        ("[:begin -1 [:frob]]", StepTextError::BadStep),
         ("[:withdraw -1]", StepTextError::BadId),
         (
             "[:begin 4294967296 [:cut [[\"n3\" \"n1\"]]]]",

@@ -39,3 +39,14 @@ returns c =
     let same : map string_bytes c.loop-name.set.keys ≡ all = c.loop-name.invariant.same ∙ ap (map (λ s. s.now)) (take_all i c.args.names.now done) in
     let good : AreNodeNames all = node_names all all [] i (sym (append-nil all)) (omega arith) c.loop-name.invariant.good in
     (same, rw same good, rw same few)
+
+pub invariant_of-result : goal.invariant_of-result
+invariant_of-result c =
+    let all : List (List ℕ) = map (λ s. s.now) c.args.names.now in
+    let i = c.loop-name.name-index in
+    let size : length all ≡ length c.args.names.now = length-map c.args.names.now (λ s. s.now) in
+    let done : length c.args.names.now ≤ i = omega (arith, c.loop-name-test.false) in
+    let same : map string_bytes c.loop-name.set.keys ≡ all = c.loop-name.invariant.same ∙ ap (map (λ s. s.now)) (take_all i c.args.names.now done) in
+    let good : AreNodeNames all = node_names all all [] i (sym (append-nil all)) (omega arith) c.loop-name.invariant.good in
+    let count : length c.loop-name.set.keys ≡ length c.args.names.now = sym (length-map c.loop-name.set.keys string_bytes) ∙ (ap length same ∙ size) in
+    (rw count (above_nought (length c.args.names.now) c.if-is_empty.ensures), rw count c.if-names-gt32.false, rw same good)

@@ -1,0 +1,5 @@
+use Rattle.jh_nemesis.proofs.RunLemmas.{environment_over}
+use Rattle.jh_nemesis.proofs.laws.environment_is_overlay.Goals as goal
+
+pub returns : goal.returns
+returns c = environment_over

@@ -1,0 +1,20 @@
+use Rattle.std.proofs.Common.{ℕ, length, arith, ap}
+use Rattle.jh_nemesis.proofs.PlaceLemmas.{places_head, places_tail, places_cons}
+use Rattle.jh_nemesis.proofs.nemesis.Nemesis.redo_step.Goals as goal
+
+pub lay_all-requires-clause-known : goal.lay_all-requires-clause-known
+lay_all-requires-clause-known c =
+    rw (c.deref.ensures.value, c.deref-2.ensures.0, c.now.ensures)
+    (places_head (length c.self.inside.begun.items) c.go_forth.new.self.now c.go_forth.new.self.future c.self.inside.timeline.future c.go_forth.ensures.future c.self.invariant.future)
+
+pub invariant_of-self : goal.invariant_of-self
+invariant_of-self c =
+    let n : ℕ = length c.self.inside.begun.items in
+    record {
+      now = places_head n c.go_forth.new.self.now c.go_forth.new.self.future c.self.inside.timeline.future c.go_forth.ensures.future c.self.invariant.future;
+      past = places_cons n c.self.inside.timeline.now c.self.inside.timeline.past c.go_forth.new.self.past c.go_forth.ensures.past c.self.invariant.now c.self.invariant.past;
+      future = places_tail n c.go_forth.new.self.now c.go_forth.new.self.future c.self.inside.timeline.future c.go_forth.ensures.future c.self.invariant.future;
+      short = omega (arith, ap length c.go_forth.ensures.past, ap length c.go_forth.ensures.future);
+      fit = rw c.lay_all.ensures.kept.names c.self.invariant.fit;
+      stands = rw (c.deref.ensures.value, c.deref-2.ensures.0, c.now.ensures) at c.lay_all.ensures.stands;
+    }

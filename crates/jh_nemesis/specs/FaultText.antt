@@ -1,0 +1,167 @@
+-- Faults as EDN values (this project's own): `[:cut LINKS]`, `[:slow MS LINKS]`, `[:loss LEVEL LINKS]`, `[:pause NODES]`,
+-- `[:kill NODES]` and `[:bump {"n1" 500, ..}]`, where LINKS are `[[src dst] ..]`, NODES `["n1" ..]`, and each name is a
+-- node's. A new kind of fault is a new case here.
+use Rattle.std.specs.Prelude.{◌≡◌, ℕ, ◌^◌, ◌&&◌, ◌⊎◌, Bool, true, ℤ, pos, negsuc, List, [], ◌∷◌, ◌++◌, codes, not, nat_lt, nat_le, if◌then◌else◌, is_none, is_some, option_and_then, option_map, position, Option, Some, None, Result, Ok, Err, MatchResult, IsOk}
+use Rattle.std.specs.List.{filter_map, list_all, list_any}
+use Rattle.std.specs.Str.{bytes_eq}
+use Rattle.jh_edn.specs.Edn.{Edn, int, str, keyword, mapping, elements_of}
+use Rattle.jh_env.specs.Text.{pairs_in}
+use Rattle.jh_env.specs.Faults.{FaultValue, kept_links, kept_nodes, is_self_link, same_bumped}
+use Rattle.jh_env.specs.Faults.FaultValue.{Cut, Slow, Loss, Pause, Kill, Bump}
+use Rattle.jh_env.specs.declared.faults.FaultError.TheVariants as FaultError
+use Rattle.jh_nemesis.specs.declared.texts.StepTextError.{StepTextError}
+use Rattle.jh_nemesis.specs.declared.texts.StepTextError.TheVariants.{UnknownNode, SelfLink, BadAmount, OutOfMemory}
+use Rattle.jh_nemesis.specs.declared.texts.shapes.OnLinks.{OnLinks}
+use Rattle.jh_nemesis.specs.declared.texts.shapes.OnNodes.{OnNodes}
+
+-- a fault as it is spelled: what is done, and the values of its links, its nodes or its bumps
+pub data Spelled : Type 0 where
+  Links : OnLinks → List Edn → Spelled
+  Nodes : OnNodes → List Edn → Spelled
+  Bumps : List (Edn × Edn) → Spelled
+
+abbrev pub two_names : List Edn → Option (List ℕ × List ℕ)
+two_names (str source ∷ str destination ∷ []) = Some (source, destination)
+two_names _ = None
+
+-- the source's and the destination's name of a link
+abbrev pub link_names : Edn → Option (List ℕ × List ℕ)
+link_names v = option_and_then two_names (elements_of v)
+
+-- the name of a node
+abbrev pub node_name : Edn → Option (List ℕ)
+node_name (str name) = Some name
+node_name _ = None
+
+-- the name of a node and the milliseconds by which its clock is moved
+abbrev pub bump_said : Edn × Edn → Option (List ℕ × ℤ)
+bump_said (str name, int ms) = Some (name, ms)
+bump_said _ = None
+
+-- these, if each of them is such
+abbrev pub all_of : {A : Type 0} → (A → Bool) → List A → Option (List A)
+all_of is xs = if list_all is xs then Some xs else None
+
+abbrev pub links_in : Edn → Option (List Edn)
+links_in v = option_and_then (all_of (λ l. is_some (link_names l))) (elements_of v)
+
+abbrev pub nodes_in : Edn → Option (List Edn)
+nodes_in v = option_and_then (all_of (λ n. is_some (node_name n))) (elements_of v)
+
+abbrev pub bumps_in : Edn → Option (List (Edn × Edn))
+bumps_in (mapping ms) = all_of (λ b. is_some (bump_said b)) (pairs_in ms)
+bumps_in _ = None
+
+-- a word and what it is about
+abbrev pub plain_fault : List ℕ → Edn → Option Spelled
+plain_fault word v =
+    if bytes_eq word (codes "cut") then option_map (Links OnLinks.Cut) (links_in v)
+    else if bytes_eq word (codes "pause") then option_map (Nodes OnNodes.Pause) (nodes_in v)
+    else if bytes_eq word (codes "kill") then option_map (Nodes OnNodes.Kill) (nodes_in v)
+    else if bytes_eq word (codes "bump") then option_map Bumps (bumps_in v)
+    else None
+
+-- a word, an amount and what it is about
+abbrev pub measured_fault : List ℕ → ℤ → Edn → Option Spelled
+measured_fault word z v =
+    if bytes_eq word (codes "slow") then option_map (Links (OnLinks.Slow z)) (links_in v)
+    else if bytes_eq word (codes "loss") then option_map (Links (OnLinks.Loss z)) (links_in v)
+    else None
+
+abbrev pub spelled_in : List Edn → Option Spelled
+spelled_in (keyword word ∷ v ∷ []) = plain_fault word v
+spelled_in (keyword word ∷ int z ∷ v ∷ []) = measured_fault word z v
+spelled_in _ = None
+
+-- how a value spells a fault, if it does
+abbrev pub spelled : Edn → Option Spelled
+spelled v = option_and_then spelled_in (elements_of v)
+
+-- the place of a node
+abbrev pub place_of : List (List ℕ) → List ℕ → Option ℕ
+place_of names name = position (bytes_eq name) names
+
+abbrev pub both : Option ℕ → Option ℕ → Option (ℕ × ℕ)
+both (Some a) (Some b) = Some (a, b)
+both _ _ = None
+
+-- the places of a link's nodes, where both are known
+abbrev pub ends_of : List (List ℕ) → Edn → Option (ℕ × ℕ)
+ends_of names v = option_and_then (λ l. both (place_of names l.0) (place_of names l.1)) (link_names v)
+
+-- the place of a node that is named, where it is known
+abbrev pub node_of : List (List ℕ) → Edn → Option ℕ
+node_of names v = option_and_then (place_of names) (node_name v)
+
+-- the place of a node and by how much its clock is moved, where it is known
+abbrev pub bump_of : List (List ℕ) → Edn × Edn → Option (ℕ × ℤ)
+bump_of names b = option_and_then (λ said. option_map (λ node. (node, said.1)) (place_of names said.0)) (bump_said b)
+
+-- an integer from 1 to the most
+abbrev pub amount_within : ℕ → ℤ → Option ℕ
+amount_within most (pos n) = if nat_lt 0 n && nat_le n most then Some n else None
+amount_within most (negsuc n) = None
+
+-- some milliseconds, at most 10^9 either way
+abbrev pub is_bump_amount : ℤ → Bool
+is_bump_amount (pos n) = nat_lt 0 n && nat_le n (10 ^ 9)
+is_bump_amount (negsuc n) = nat_lt n (10 ^ 9)
+
+-- none of these is the same as one before it, or as one of those before all of them
+abbrev pub are_apart_after : List (ℕ × ℤ) → List (ℕ × ℤ) → Bool
+are_apart_after before [] = true
+are_apart_after before (b ∷ bs) = not (list_any (λ x. same_bumped x b) before) && are_apart_after (before ++ b ∷ []) bs
+
+-- each bump is in its range, and no node is bumped twice
+abbrev pub are_bumps : List (ℕ × ℤ) → Bool
+are_bumps bumps = list_all (λ b. is_bump_amount b.1) bumps && are_apart_after [] bumps
+
+-- the fault on these links, if its amount is in its range: 1 to 60,000 milliseconds, a level of 1 to 20
+abbrev pub links_fault : OnLinks → List (ℕ × ℕ) → Option FaultValue
+links_fault OnLinks.Cut links = Some (Cut (kept_links links))
+links_fault (OnLinks.Slow z) links = option_map (λ ms. Slow ms (kept_links links)) (amount_within 60000 z)
+links_fault (OnLinks.Loss z) links = option_map (λ level. Loss level (kept_links links)) (amount_within 20 z)
+
+abbrev pub nodes_fault : OnNodes → List ℕ → FaultValue
+nodes_fault OnNodes.Pause nodes = Pause (kept_nodes nodes)
+nodes_fault OnNodes.Kill nodes = Kill (kept_nodes nodes)
+
+-- what follows from a part that has to be there, or else the refusal
+abbrev pub needed : {A B : Type 0} → Option A → StepTextError → (A → Result B StepTextError) → Result B StepTextError
+needed None refusal told = Err refusal
+needed (Some part) refusal told = told part
+
+abbrev pub links_told : List (List ℕ) → OnLinks → List Edn → Result FaultValue StepTextError
+links_told names effect links =
+    if list_any (λ l. is_none (ends_of names l)) links then Err UnknownNode
+    else if list_any is_self_link (filter_map (ends_of names) links) then Err SelfLink
+    else needed (links_fault effect (filter_map (ends_of names) links)) BadAmount (λ fault. Ok fault)
+
+abbrev pub nodes_told : List (List ℕ) → OnNodes → List Edn → Result FaultValue StepTextError
+nodes_told names effect nodes =
+    if list_any (λ n. is_none (node_of names n)) nodes then Err UnknownNode
+    else Ok (nodes_fault effect (filter_map (node_of names) nodes))
+
+abbrev pub bumps_told : List (List ℕ) → List (Edn × Edn) → Result FaultValue StepTextError
+bumps_told names bumps =
+    if list_any (λ b. is_none (bump_of names b)) bumps then Err UnknownNode
+    else if are_bumps (filter_map (bump_of names) bumps) then Ok (Bump (filter_map (bump_of names) bumps))
+    else Err BadAmount
+
+-- The fault that is told, or the first refusal that applies, over the whole fault: an unknown node, a link of a node
+-- with itself, an amount out of range or a node that is bumped twice.
+abbrev pub fault_told : List (List ℕ) → Spelled → Result FaultValue StepTextError
+fault_told names (Links effect links) = links_told names effect links
+fault_told names (Nodes effect nodes) = nodes_told names effect nodes
+fault_told names (Bumps bumps) = bumps_told names bumps
+
+-- What was answered is what is told, unless memory was refused for what would have been told.
+abbrev pub Answers : {A : Type 0} → Result A StepTextError → Result A StepTextError → Type 0
+Answers answer told = MatchResult answer (λ x. told ≡ Ok x) (λ e. (told ≡ Err e) ⊎ ((e ≡ OutOfMemory) × IsOk told))
+
+-- the refusal of a step whose fault is refused
+abbrev pub refusal_of : FaultError.the_data → StepTextError
+refusal_of FaultError.UnknownNode = UnknownNode
+refusal_of FaultError.SelfLink = SelfLink
+refusal_of FaultError.BadAmount = BadAmount
+refusal_of FaultError.OutOfMemory = OutOfMemory

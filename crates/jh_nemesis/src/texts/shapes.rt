@@ -1,0 +1,174 @@
+//! Faults as EDN values: how they are spelled. `specs/FaultText.antt` has the rule, case by case.
+
+ghost use Rattle.std.specs.Prelude.{◌≡◌, option_map, is_some};
+ghost use Rattle.std.specs.List.{list_all};
+ghost use Rattle.jh_edn.specs.View.{view, views, view_pair, view_pairs};
+ghost use Rattle.jh_nemesis.specs.FaultText as rule;
+ghost use Rattle.jh_nemesis.specs.ShapeInside.{said};
+
+use jh_edn::Value;
+
+/// What is done to links, with its amount as it is written.
+#[derive(Clone, Copy, Debug, PartialEq, Eq)]
+pub enum OnLinks {
+    Cut,
+    Slow(i64),
+    Loss(i64),
+}
+
+/// What is done to nodes.
+#[derive(Clone, Copy, Debug, PartialEq, Eq)]
+pub enum OnNodes {
+    Pause,
+    Kill,
+}
+
+/// A fault as it is spelled: the values of its links, its nodes or its bumps, each of the right shape.
+#[derive(Clone, Copy, Debug)]
+pub enum Shape<'a> {
+    Links(OnLinks, &'a [Value]),
+    Nodes(OnNodes, &'a [Value]),
+    Bumps(&'a [(Value, Value)]),
+}
+
+/// The source's and the destination's name of a link.
+pub fn link_names(link: &Value) -> Option<(&str, &str)>
+    ensures { option_map (λ l. (l.0.now, l.1.now)) result ≡ rule.link_names (view link.now) }
+{
+    match link.elements()? {
+        [Value::Str(source), Value::Str(destination)] => {
+            Some((source.as_str(), destination.as_str()))
+        }
+        _ => None,
+    }
+}
+
+/// The name of a node.
+pub fn node_name(node: &Value) -> Option<&str>
+    ensures { option_map (λ s. s.now) result ≡ rule.node_name (view node.now) }
+{
+    match node {
+        Value::Str(name) => Some(name.as_str()),
+        _ => None,
+    }
+}
+
+/// The name of a node and by how much its clock is moved.
+pub fn bump_said(bump: &(Value, Value)) -> Option<(&str, i64)>
+    ensures { option_map (λ b. (b.0.now, b.1)) result ≡ rule.bump_said (view_pair bump.now) }
+{
+    match (&bump.0, &bump.1) {
+        (Value::Str(name), Value::Int(ms)) => Some((name.as_str(), *ms)),
+        _ => None,
+    }
+}
+
+fn is_link(link: &Value) -> bool
+    ensures { result ≡ is_some (rule.link_names (view link.now)) }
+{
+    link_names(link).is_some()
+}
+
+fn is_node(node: &Value) -> bool
+    ensures { result ≡ is_some (rule.node_name (view node.now)) }
+{
+    node_name(node).is_some()
+}
+
+fn is_bump(bump: &(Value, Value)) -> bool
+    ensures { result ≡ is_some (rule.bump_said (view_pair bump.now)) }
+{
+    bump_said(bump).is_some()
+}
+
+fn are_links(links: &[Value]) -> bool
+    ensures { result ≡ list_all (λ l. is_some (rule.link_names (view l))) links.now }
+{
+    links.iter().all(|link| is_link(link))
+}
+
+fn are_nodes(nodes: &[Value]) -> bool
+    ensures { result ≡ list_all (λ n. is_some (rule.node_name (view n))) nodes.now }
+{
+    nodes.iter().all(|node| is_node(node))
+}
+
+fn are_bumps(bumps: &[(Value, Value)]) -> bool
+    ensures { result ≡ list_all (λ b. is_some (rule.bump_said (view_pair b))) bumps.now }
+{
+    bumps.iter().all(|bump| is_bump(bump))
+}
+
+fn all_links(links: &[Value]) -> Option<&[Value]>
+    ensures { option_map (λ kept. views kept.now) result ≡ rule.all_of (λ l. is_some (rule.link_names l)) (views links.now) }
+{
+    if are_links(links) { Some(links) } else { None }
+}
+
+fn all_nodes(nodes: &[Value]) -> Option<&[Value]>
+    ensures { option_map (λ kept. views kept.now) result ≡ rule.all_of (λ n. is_some (rule.node_name n)) (views nodes.now) }
+{
+    if are_nodes(nodes) { Some(nodes) } else { None }
+}
+
+fn all_bumps(bumps: &[(Value, Value)]) -> Option<&[(Value, Value)]>
+    ensures { option_map (λ kept. view_pairs kept.now) result ≡ rule.all_of (λ b. is_some (rule.bump_said b)) (view_pairs bumps.now) }
+{
+    if are_bumps(bumps) { Some(bumps) } else { None }
+}
+
+fn links_in(value: &Value) -> Option<&[Value]>
+    ensures { option_map (λ links. views links.now) result ≡ rule.links_in (view value.now) }
+{
+    all_links(value.elements()?)
+}
+
+fn nodes_in(value: &Value) -> Option<&[Value]>
+    ensures { option_map (λ nodes. views nodes.now) result ≡ rule.nodes_in (view value.now) }
+{
+    all_nodes(value.elements()?)
+}
+
+fn bumps_in(value: &Value) -> Option<&[(Value, Value)]>
+    ensures { option_map (λ bumps. view_pairs bumps.now) result ≡ rule.bumps_in (view value.now) }
+{
+    match value {
+        Value::Map(pairs) => all_bumps(pairs.as_slice()),
+        _ => None,
+    }
+}
+
+fn plain_fault<'a>(word: &str, value: &'a Value) -> Option<Shape<'a>>
+    ensures { option_map said result ≡ rule.plain_fault word.now (view value.now) }
+{
+    match word {
+        "cut" => Some(Shape::Links(OnLinks::Cut, links_in(value)?)),
+        "pause" => Some(Shape::Nodes(OnNodes::Pause, nodes_in(value)?)),
+        "kill" => Some(Shape::Nodes(OnNodes::Kill, nodes_in(value)?)),
+        "bump" => Some(Shape::Bumps(bumps_in(value)?)),
+        _ => None,
+    }
+}
+
+fn measured_fault<'a>(word: &str, amount: i64, value: &'a Value) -> Option<Shape<'a>>
+    ensures { option_map said result ≡ rule.measured_fault word.now amount (view value.now) }
+{
+    match word {
+        "slow" => Some(Shape::Links(OnLinks::Slow(amount), links_in(value)?)),
+        "loss" => Some(Shape::Links(OnLinks::Loss(amount), links_in(value)?)),
+        _ => None,
+    }
+}
+
+/// How a value spells a fault, if it does.
+pub fn shape_of(fault: &Value) -> Option<Shape<'_>>
+    ensures { option_map said result ≡ rule.spelled (view fault.now) }
+{
+    match fault.elements()? {
+        [Value::Keyword(word), value] => plain_fault(word.as_str(), value),
+        [Value::Keyword(word), Value::Int(amount), value] => {
+            measured_fault(word.as_str(), *amount, value)
+        }
+        _ => None,
+    }
+}
