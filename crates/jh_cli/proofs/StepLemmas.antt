@@ -1,15 +1,13 @@
 -- Steps that are told one after another.
-use Rattle.std.proofs.Common.{◌≡◌, ℕ, suc, ◌+◌, ◌<◌, List, [], ◌∷◌, ◌++◌, length, take, drop, get_or, refl, ap, sym, ◌∙◌, arith, drop-cons, inl, inr}
-use Rattle.std.specs.Prelude.{map, ◌⊎◌, Some, Ok, Err, IsOk, pos, slice_get, if◌then◌else◌, true, false}
-use Rattle.std.specs.List.{All}
+use Rattle.std.proofs.Common.{◌≡◌, ℕ, suc, ◌+◌, ◌<◌, List, [], ◌∷◌, ◌++◌, length, take, drop, get_or, ap, sym, ◌∙◌, arith, drop-cons, inl, inr}
+use Rattle.std.specs.Prelude.{map, ◌⊎◌, Some, Ok, Err, IsOk, pos, slice_get}
 use Rattle.std.proofs.lemmas.Option.{slice_get_within, get_or_from_slice_get}
 use Rattle.std.proofs.lemmas.List.{length-map, map-append, length-take-le, take-append-drop, take_more}
 use Rattle.jh_edn.specs.Edn.{int}
 use Rattle.jh_edn.specs.View.{view, views}
 use Rattle.jh_edn.specs.declared.value.Value.{Value}
 use Rattle.jh_env.specs.Faults.{FaultValue}
-use Rattle.jh_nemesis.specs.State.{State, Active, moved_on}
-use Rattle.jh_nemesis.specs.Steps.{StepFits, answer_of, state_after, active_after, is_ok}
+use Rattle.jh_nemesis.specs.State.{Active}
 use Rattle.jh_nemesis.specs.StepText.{step_told}
 use Rattle.jh_nemesis.specs.declared.steps.Step.{Step}
 use Rattle.jh_nemesis.specs.declared.texts.StepTextError.TheVariants as StepTextError
@@ -48,18 +46,6 @@ refuses_element names values i v steps StepTextError.UnknownNode e below is told
 refuses_element names values i v steps StepTextError.SelfLink e below is told (inl at) named = rw named (has_fault names values i v steps StepTextError.SelfLink below is told at)
 refuses_element names values i v steps StepTextError.BadAmount e below is told (inl at) named = rw named (has_fault names values i v steps StepTextError.BadAmount below is told at)
 refuses_element names values i v steps fault e below is told (inr memory) named = absurd (let bad = memory.0 in cc)
-
--- a step fits what the steps before it leave
-fits_same : (s t : State) (step : Step) → t.names ≡ s.names → StepFits s step → StepFits t step
-fits_same s t step same fits = rw same fits
-
-state_after_names : (s : State) (step : Step) → (state_after s step).names ≡ s.names
-state_after_names s step =
-    elim (is_ok (answer_of s step)) as (λ b. (if b then moved_on s (active_after s.now step) else s).names ≡ s.names) [ true ↦ refl | false ↦ refl ]
-
--- the steps that are left fit after one of them
-pub all_fit : (s : State) (step : Step) (steps : List Step) → All (StepFits s) steps → All (StepFits (state_after s step)) steps
-all_fit s step steps fit k d below = fits_same s (state_after s step) (get_or steps k d) (state_after_names s step) (fit k d below)
 
 -- the id of one more active fault
 pub one_more_id : (active : Active) (i : ℕ) (id : ℕ) (f : FaultValue) → slice_get active i ≡ Some (id, f)

@@ -23,6 +23,9 @@ answer_word StepAnswer.IdTaken = codes ":id-taken"
 answer_word StepAnswer.TooManyActive = codes ":too-many-active"
 answer_word StepAnswer.TooManySteps = codes ":too-many-steps"
 answer_word StepAnswer.NotActive = codes ":not-active"
+answer_word StepAnswer.NothingActive = codes ":nothing-active"
+answer_word StepAnswer.NothingToUndo = codes ":nothing-to-undo"
+answer_word StepAnswer.NothingToRedo = codes ":nothing-to-redo"
 
 -- a line for each answer
 abbrev pub answer_lines : List StepAnswer → List ℕ

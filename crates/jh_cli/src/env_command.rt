@@ -103,7 +103,7 @@ fn report(alloc: Global, mut nemesis: Nemesis, steps: Vec<Step>) -> Result<Vec<u
     ensures { IfOk result (λ output. IsReport nemesis steps.items output.items) }
 {
     let mut output = Vec::new(alloc);
-    answer_steps(&mut nemesis, steps, &mut output)?;
+    answer_steps(alloc, &mut nemesis, steps, &mut output)?;
     write_active(alloc, &nemesis, &mut output)?;
     write_environment(alloc, nemesis.env(), &mut output)?;
     Ok(output)
@@ -111,6 +111,7 @@ fn report(alloc: Global, mut nemesis: Nemesis, steps: Vec<Step>) -> Result<Vec<u
 
 // Makes the steps, and writes a line with the answer to each.
 fn answer_steps(
+    alloc: Global,
     nemesis: &mut Nemesis,
     steps: Vec<Step>,
     output: &mut Vec<u8>,
@@ -120,9 +121,17 @@ fn answer_steps(
     ensures lines { OnOk result (output.new.items
         ≡ output.old.items ++ answer_lines (answers_of nemesis.old steps.items)) }
 {
-    for step in steps {
-        let answer = nemesis.apply(step)?;
-        write_answer(answer, output)?;
+    match nemesis.apply_all(alloc, steps) {
+        Ok(answers) => write_answers(&answers, output),
+        Err(_) => Err(AllocError),
+    }
+}
+
+fn write_answers(answers: &[StepAnswer], output: &mut Vec<u8>) -> Result<(), AllocError>
+    ensures { OnOk result (output.new.items ≡ output.old.items ++ answer_lines answers.now) }
+{
+    for answer in answers {
+        write_answer(*answer, output)?;
     }
     Ok(())
 }
@@ -142,6 +151,9 @@ fn answer_line(answer: StepAnswer) -> &'static str
         StepAnswer::TooManyActive => ":too-many-active\n",
         StepAnswer::TooManySteps => ":too-many-steps\n",
         StepAnswer::NotActive => ":not-active\n",
+        StepAnswer::NothingActive => ":nothing-active\n",
+        StepAnswer::NothingToUndo => ":nothing-to-undo\n",
+        StepAnswer::NothingToRedo => ":nothing-to-redo\n",
     }
 }
 

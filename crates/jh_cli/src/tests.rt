@@ -41,7 +41,7 @@ fn text_of(alloc: Global, error: CliError) -> Result<Vec<u8>, Fail> {
 }
 
 /// Inputs and what is written for them.
-static REPORTS: [(&[u8], &[u8]); 8] = [
+static REPORTS: [(&[u8], &[u8]); 22] = [
     // a calm environment
     (
         b"{:nodes [\"n1\" \"n2\"]}",
@@ -82,6 +82,76 @@ static REPORTS: [(&[u8], &[u8]); 8] = [
         b"{:nodes [\"n1\" \"n2\" \"n3\"] :slow [[\"n1\" \"n2\" 0]] :cut [[\"n3\" \"n1\"] [\"n1\" \"n3\"] [\"n1\" \"n2\"]]}",
         b":active []\n{:nodes [\"n1\" \"n2\" \"n3\"], :cut [[\"n1\" \"n2\"] [\"n1\" \"n3\"] [\"n3\" \"n1\"]], :slow [], :loss [], :down [], :clock []}\n",
     ),
+    // withdraw-all keeps the starting cut
+    (
+        b"{:nodes [\"n1\" \"n2\"], :cut [[\"n2\" \"n1\"]]} [:begin 1 [:cut [[\"n2\" \"n1\"]]]] [:withdraw-all]",
+        b":ok\n:ok\n:active []\n{:nodes [\"n1\" \"n2\"], :cut [[\"n2\" \"n1\"]], :slow [], :loss [], :down [], :clock []}\n",
+    ),
+    // loss is the greatest level left
+    (
+        b"{:nodes [\"n1\" \"n2\"]} [:begin 1 [:loss 4 [[\"n1\" \"n2\"]]]] [:begin 2 [:loss 7 [[\"n1\" \"n2\"]]]] [:begin 3 [:loss 7 [[\"n1\" \"n2\"]]]] [:withdraw 2]",
+        b":ok\n:ok\n:ok\n:ok\n:active [1 3]\n{:nodes [\"n1\" \"n2\"], :cut [], :slow [], :loss [[\"n1\" \"n2\" 7]], :down [], :clock []}\n",
+    ),
+    // and less once that is withdrawn
+    (
+        b"{:nodes [\"n1\" \"n2\"]} [:begin 1 [:loss 4 [[\"n1\" \"n2\"]]]] [:begin 2 [:loss 7 [[\"n1\" \"n2\"]]]] [:begin 3 [:loss 7 [[\"n1\" \"n2\"]]]] [:withdraw 2] [:withdraw 3]",
+        b":ok\n:ok\n:ok\n:ok\n:ok\n:active [1]\n{:nodes [\"n1\" \"n2\"], :cut [], :slow [], :loss [[\"n1\" \"n2\" 4]], :down [], :clock []}\n",
+    ),
+    // undo puts a withdrawn kill back in its place
+    (
+        b"{:nodes [\"n1\" \"n2\"]} [:begin 1 [:pause [\"n1\"]]] [:begin 2 [:kill [\"n2\"]]] [:begin 3 [:bump {\"n1\" 500}]] [:withdraw 2] [:undo]",
+        b":ok\n:ok\n:ok\n:ok\n:ok\n:active [1 2 3]\n{:nodes [\"n1\" \"n2\"], :cut [], :slow [], :loss [], :down [[\"n1\" :paused] [\"n2\" :killed]], :clock [[\"n1\" 500]]}\n",
+    ),
+    // an id used again, and two undos
+    (
+        b"{:nodes [\"n1\" \"n2\"]} [:begin 1 [:pause [\"n1\"]]] [:withdraw 1] [:begin 1 [:kill [\"n1\"]]] [:undo] [:undo]",
+        b":ok\n:ok\n:ok\n:ok\n:ok\n:active [1]\n{:nodes [\"n1\" \"n2\"], :cut [], :slow [], :loss [], :down [[\"n1\" :paused]], :clock []}\n",
+    ),
+    // a new step ends the future
+    (
+        b"{:nodes [\"n1\" \"n2\"]} [:begin 1 [:pause [\"n1\"]]] [:undo] [:begin 2 [:pause [\"n2\"]]] [:redo]",
+        b":ok\n:ok\n:ok\n:nothing-to-redo\n:active [2]\n{:nodes [\"n1\" \"n2\"], :cut [], :slow [], :loss [], :down [[\"n2\" :paused]], :clock []}\n",
+    ),
+    // a refused step does not
+    (
+        b"{:nodes [\"n1\" \"n2\"]} [:begin 1 [:pause [\"n1\"]]] [:undo] [:withdraw 9] [:redo]",
+        b":ok\n:ok\n:not-active\n:ok\n:active [1]\n{:nodes [\"n1\" \"n2\"], :cut [], :slow [], :loss [], :down [[\"n1\" :paused]], :clock []}\n",
+    ),
+    // a kill over a pause
+    (
+        b"{:nodes [\"n1\" \"n2\"]} [:begin 1 [:pause [\"n1\"]]] [:begin 2 [:kill [\"n1\"]]]",
+        b":ok\n:ok\n:active [1 2]\n{:nodes [\"n1\" \"n2\"], :cut [], :slow [], :loss [], :down [[\"n1\" :killed]], :clock []}\n",
+    ),
+    // and the pause is left
+    (
+        b"{:nodes [\"n1\" \"n2\"]} [:begin 1 [:pause [\"n1\"]]] [:begin 2 [:kill [\"n1\"]]] [:withdraw 2]",
+        b":ok\n:ok\n:ok\n:active [1]\n{:nodes [\"n1\" \"n2\"], :cut [], :slow [], :loss [], :down [[\"n1\" :paused]], :clock []}\n",
+    ),
+    // steps with nothing to do
+    (
+        b"{:nodes [\"n1\" \"n2\"]} [:undo] [:redo] [:withdraw-all] [:withdraw 9] [:begin 9 [:cut []]] [:begin 9 [:cut []]]",
+        b":nothing-to-undo\n:nothing-to-redo\n:nothing-active\n:not-active\n:ok\n:id-taken\n:active [9]\n{:nodes [\"n1\" \"n2\"], :cut [], :slow [], :loss [], :down [], :clock []}\n",
+    ),
+    // delays and offsets are sums
+    (
+        b"{:nodes [\"n1\" \"n2\"], :slow [[\"n1\" \"n2\" 100]], :clock [[\"n2\" -5]]} [:begin 1 [:slow 250 [[\"n1\" \"n2\"] [\"n1\" \"n2\"]]]] [:begin 2 [:slow 60000 [[\"n1\" \"n2\"]]]] [:begin 3 [:bump {\"n2\" 5}]] [:withdraw 2]",
+        b":ok\n:ok\n:ok\n:ok\n:active [1 3]\n{:nodes [\"n1\" \"n2\"], :cut [], :slow [[\"n1\" \"n2\" 350]], :loss [], :down [], :clock []}\n",
+    ),
+    // and an undo adds again
+    (
+        b"{:nodes [\"n1\" \"n2\"], :slow [[\"n1\" \"n2\" 100]], :clock [[\"n2\" -5]]} [:begin 1 [:slow 250 [[\"n1\" \"n2\"] [\"n1\" \"n2\"]]]] [:begin 2 [:slow 60000 [[\"n1\" \"n2\"]]]] [:begin 3 [:bump {\"n2\" 5}]] [:withdraw 2] [:undo]",
+        b":ok\n:ok\n:ok\n:ok\n:ok\n:active [1 2 3]\n{:nodes [\"n1\" \"n2\"], :cut [], :slow [[\"n1\" \"n2\" 60350]], :loss [], :down [], :clock []}\n",
+    ),
+    // undo and redo of a withdrawal of all
+    (
+        b"{:nodes [\"n1\" \"n2\"]} [:begin 1 [:pause [\"n1\"]]] [:begin 2 [:cut [[\"n2\" \"n1\"]]]] [:withdraw-all] [:undo] [:redo] [:undo]",
+        b":ok\n:ok\n:ok\n:ok\n:ok\n:ok\n:active [1 2]\n{:nodes [\"n1\" \"n2\"], :cut [[\"n2\" \"n1\"]], :slow [], :loss [], :down [[\"n1\" :paused]], :clock []}\n",
+    ),
+    // amounts at their borders
+    (
+        b"{:nodes [\"n1\" \"n2\"]} [:begin 1 [:slow 1 [[\"n1\" \"n2\"]]]] [:begin 2 [:slow 60000 [[\"n1\" \"n2\"]]]] [:begin 3 [:loss 20 [[\"n2\" \"n1\"]]]] [:begin 4 [:bump {\"n1\" 1000000000, \"n2\" -1000000000}]]",
+        b":ok\n:ok\n:ok\n:ok\n:active [1 2 3 4]\n{:nodes [\"n1\" \"n2\"], :cut [], :slow [[\"n1\" \"n2\" 60001]], :loss [[\"n2\" \"n1\" 20]], :down [], :clock [[\"n1\" 1000000000] [\"n2\" -1000000000]]}\n",
+    ),
 ];
 
 #[test]
@@ -93,8 +163,88 @@ fn writes_reports(rt: HostRuntime) {
     }
 }
 
+/// What is put together before a run: an input, and what should be written for it.
+#[derive(Drop)]
+struct Long {
+    input: Vec<u8>,
+    output: Vec<u8>,
+}
+
+// 257 delays of a millisecond on one link, and an undo.
+fn many_delays(alloc: Global) -> Option<Long> {
+    let mut input = Vec::new(alloc);
+    let mut output = Vec::new(alloc);
+    input.extend_from_slice(b"{:nodes [\"n1\" \"n2\"]}").ok()?;
+    for id in 1..258 {
+        if write!(&mut input, " [:begin {id} [:slow 1 [[\"n1\" \"n2\"]]]]").is_err() {
+            return None;
+        }
+        let answer = if id < 257 {
+            ":ok\n"
+        } else {
+            ":too-many-active\n"
+        };
+        output.extend_from_slice(answer.as_bytes()).ok()?;
+    }
+    input.extend_from_slice(b" [:undo]").ok()?;
+    output.extend_from_slice(b":ok\n:active [1").ok()?;
+    for id in 2..256 {
+        if write!(&mut output, " {id}").is_err() {
+            return None;
+        }
+    }
+    output
+        .extend_from_slice(
+            b"]\n{:nodes [\"n1\" \"n2\"], :cut [], :slow [[\"n1\" \"n2\" 255]], :loss [], :down [], :clock []}\n",
+        )
+        .ok()?;
+    Some(Long { input, output })
+}
+
+// 2,048 begins and withdrawals, one begin too many, and an undo.
+fn many_steps(alloc: Global) -> Option<Long> {
+    let mut input = Vec::new(alloc);
+    let mut output = Vec::new(alloc);
+    input.extend_from_slice(b"{:nodes [\"n1\" \"n2\"]}").ok()?;
+    for _round in 0..2048 {
+        input
+            .extend_from_slice(b" [:begin 1 [:cut []]] [:withdraw 1]")
+            .ok()?;
+        output.extend_from_slice(b":ok\n:ok\n").ok()?;
+    }
+    input
+        .extend_from_slice(b" [:begin 2 [:cut []]] [:undo]")
+        .ok()?;
+    output
+        .extend_from_slice(
+            b":too-many-steps\n:ok\n:active [1]\n{:nodes [\"n1\" \"n2\"], :cut [], :slow [], :loss [], :down [], :clock []}\n",
+        )
+        .ok()?;
+    Some(Long { input, output })
+}
+
+#[test]
+fn stands_many_faults(rt: HostRuntime) {
+    let Some(long) = many_delays(rt.alloc()).or_else(|| many_delays(rt.alloc())) else {
+        panic!(rt; "no memory");
+    };
+    let run = env_on(rt.alloc(), &long.input);
+    assert_eq!(rt; run.answer, Ok(0));
+    assert_eq!(rt; run.output.as_slice(), long.output.as_slice());
+}
+
+#[test]
+fn stands_many_steps(rt: HostRuntime) {
+    let Some(long) = many_steps(rt.alloc()).or_else(|| many_steps(rt.alloc())) else {
+        panic!(rt; "no memory");
+    };
+    let run = env_on(rt.alloc(), &long.input);
+    assert_eq!(rt; run.answer, Ok(0));
+    assert_eq!(rt; run.output.as_slice(), long.output.as_slice());
+}
+
 /// Inputs that are refused, and the texts of the refusals.
-static REFUSALS: [(&[u8], &[u8]); 38] = [
+static REFUSALS: [(&[u8], &[u8]); 58] = [
     (b"", b"environment missing"),
     (b" ,\n", b"environment missing"),
     (b"{:nodes [\"n1\"", b"line 1: unexpected end"),
@@ -147,9 +297,9 @@ static REFUSALS: [(&[u8], &[u8]); 38] = [
         b"environment: repeated entry",
     ),
     (b"{:nodes [\"n1\"]} []", b"element 2: bad step"),
-    (b"{:nodes [\"n1\"]} [:undo]", b"element 2: bad step"),
+    (b"{:nodes [\"n1\"]} [:undo 1]", b"element 2: bad step"),
     (
-        b"{:nodes [\"n1\"]} [:withdraw 1] [:begin 1 [:pause [\"n1\"]]]",
+        b"{:nodes [\"n1\"]} [:withdraw 1] [:begin 1 [:pause \"n1\"]]",
         b"element 3: bad step",
     ),
     (
@@ -183,6 +333,86 @@ static REFUSALS: [(&[u8], &[u8]); 38] = [
     (
         b"{:nodes [\"n1\" \"n1\"]} [:frob]",
         b"environment: duplicate name",
+    ),
+    (
+        b"{:nodes [\"n1\" \"n2\"]} [:undo] [:begin 1 [:slow 0 [[\"n1\" \"n2\"]]]]",
+        b"element 3: bad amount",
+    ),
+    (
+        b"{:nodes [\"n1\" \"n2\"]} [:undo] [:begin 1 [:slow 60001 []]]",
+        b"element 3: bad amount",
+    ),
+    (
+        b"{:nodes [\"n1\" \"n2\"]} [:undo] [:begin 1 [:slow -1 []]]",
+        b"element 3: bad amount",
+    ),
+    (
+        b"{:nodes [\"n1\" \"n2\"]} [:undo] [:begin 1 [:slow 1 [[\"n1\" \"n3\"]]]]",
+        b"element 3: unknown node",
+    ),
+    (
+        b"{:nodes [\"n1\" \"n2\"]} [:undo] [:begin 1 [:slow 0 [[\"n2\" \"n2\"]]]]",
+        b"element 3: self link",
+    ),
+    (
+        b"{:nodes [\"n1\" \"n2\"]} [:undo] [:begin 1 [:slow [[\"n1\" \"n2\"]]]]",
+        b"element 3: bad step",
+    ),
+    (
+        b"{:nodes [\"n1\" \"n2\"]} [:undo] [:begin 1 [:loss 0 []]]",
+        b"element 3: bad amount",
+    ),
+    (
+        b"{:nodes [\"n1\" \"n2\"]} [:undo] [:begin 1 [:loss 21 [[\"n1\" \"n2\"]]]]",
+        b"element 3: bad amount",
+    ),
+    (
+        b"{:nodes [\"n1\" \"n2\"]} [:undo] [:begin 1 [:loss 21 [[\"n1\" \"n1\"]]]]",
+        b"element 3: self link",
+    ),
+    (
+        b"{:nodes [\"n1\" \"n2\"]} [:undo] [:begin 1 [:loss 1 {}]]",
+        b"element 3: bad step",
+    ),
+    (
+        b"{:nodes [\"n1\" \"n2\"]} [:undo] [:begin 1 [:pause [\"n1\" \"n3\"]]]",
+        b"element 3: unknown node",
+    ),
+    (
+        b"{:nodes [\"n1\" \"n2\"]} [:undo] [:begin 1 [:pause [\"n1\" 2]]]",
+        b"element 3: bad step",
+    ),
+    (
+        b"{:nodes [\"n1\" \"n2\"]} [:undo] [:begin 1 [:kill [\"n3\"]]]",
+        b"element 3: unknown node",
+    ),
+    (
+        b"{:nodes [\"n1\" \"n2\"]} [:undo] [:begin 1 [:kill [\"n1\"] 1]]",
+        b"element 3: bad step",
+    ),
+    (
+        b"{:nodes [\"n1\" \"n2\"]} [:undo] [:begin 1 [:bump {\"n1\" 0}]]",
+        b"element 3: bad amount",
+    ),
+    (
+        b"{:nodes [\"n1\" \"n2\"]} [:undo] [:begin 1 [:bump {\"n1\" 1000000001}]]",
+        b"element 3: bad amount",
+    ),
+    (
+        b"{:nodes [\"n1\" \"n2\"]} [:undo] [:begin 1 [:bump {\"n1\" -1000000001}]]",
+        b"element 3: bad amount",
+    ),
+    (
+        b"{:nodes [\"n1\" \"n2\"]} [:undo] [:begin 1 [:bump {\"n1\" 0, \"n3\" 1}]]",
+        b"element 3: unknown node",
+    ),
+    (
+        b"{:nodes [\"n1\" \"n2\"]} [:undo] [:begin 1 [:bump {\"n1\" \"n2\"}]]",
+        b"element 3: bad step",
+    ),
+    (
+        b"{:nodes [\"n1\" \"n2\"]} [:undo] [:begin 1 [:bump {:n1 1}]]",
+        b"element 3: bad step",
     ),
 ];
 

@@ -9,4 +9,4 @@ returns-in_err-env c =
     rw p.1 (first_refused c.args.values.now c.first-item.result c.in_err-env.field-0.0 p.0 (search rules) c.first-item.is c.in_err-env.ensures p.2)
 
 pub report-requires : goal.report-requires
-report-requires c = λ k d below. rw c.new-nemesis.ensures (rw c.nodes.ensures at (c.in_ok-steps.ensures.fit k d below))
+report-requires c = λ k d below. rw c.new-nemesis.ensures (rw c.nodes.ensures.names at (c.in_ok-steps.ensures.fit k d below))
