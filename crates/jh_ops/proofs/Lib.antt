@@ -1,0 +1,9 @@
+pub mod KindLemmas
+pub mod ClaimLemmas
+pub mod StageLemmas
+pub mod PlaceLemmas
+pub mod PartLemmas
+pub mod ReadBackLemmas
+pub mod WrittenLemmas
+pub mod HistoryLemmas
+pub mod WithinLemmas

@@ -1,0 +1,38 @@
+-- Histories as EDN values (Jepsen writes one operation after another to `history.edn`; that a single sequence may hold them
+-- is this project's own). Places count from 0.
+use Rattle.std.specs.Prelude.{◌≡◌, ℕ, ◌<◌, ◌≤◌, List, [], ◌∷◌, map, slice_get, Some, unwrap_or, Result, Ok, Err}
+use Rattle.jh_edn.specs.Edn.{Edn, elements_of}
+use Rattle.jh_ops.specs.Operation.{Operation}
+use Rattle.jh_ops.specs.OperationText.{untagged, op_told}
+use Rattle.jh_ops.specs.declared.history.HistoryError.{HistoryError}
+use Rattle.jh_ops.specs.declared.history.HistoryError.TheVariants.{Op, OutOfMemory}
+use Rattle.jh_ops.specs.declared.op_text.OpError.{OpError}
+
+-- the values that tell operations: a single sequence stands for its elements, whatever tags are around it
+abbrev pub elements_in : List Edn → List Edn
+elements_in (value ∷ []) = unwrap_or (elements_of (untagged value)) (untagged value ∷ [])
+elements_in values = values
+
+-- what each of them tells
+abbrev pub each_told : List Edn → List (Result Operation OpError)
+each_told values = map op_told (elements_in values)
+
+-- they tell these operations, each one
+abbrev pub AreTold : List Edn → List Operation → Type 0
+AreTold values ops = each_told values ≡ map Ok ops
+
+-- the one at a place tells an operation
+abbrev pub TellsAt : List Edn → ℕ → Type 0
+TellsAt values place = (op : Operation) × (slice_get (each_told values) place ≡ Some (Ok op))
+
+-- Why a history is refused: at the first place where no operation is told. Memory can be wanted at a place only where
+-- operations are told up to it.
+abbrev pub RefusesValues : List Edn → HistoryError → Type 0
+RefusesValues values (Op place refusal) =
+    (slice_get (each_told values) place ≡ Some (Err refusal)) × ((earlier : ℕ) → earlier < place → TellsAt values earlier)
+RefusesValues values OutOfMemory = (place : ℕ) × ((earlier : ℕ) → earlier ≤ place → TellsAt values earlier)
+
+-- the refusal of a history with this refusal at a place
+abbrev pub refusal_at : ℕ → OpError → HistoryError
+refusal_at place OpError.OutOfMemory = OutOfMemory
+refusal_at place refusal = Op place refusal

@@ -1,0 +1,86 @@
+//! Histories as EDN values. `specs/HistoryText.antt` has the rule.
+
+ghost use Rattle.std.specs.Prelude.{◌≡◌, All, IfOk, MatchResult};
+ghost use Rattle.jh_edn.specs.View.{views};
+ghost use Rattle.jh_ops.specs.HistoryText as rule;
+ghost use Rattle.jh_ops.specs.HistoryText.{AreTold, RefusesValues, refusal_at};
+ghost use Rattle.jh_ops.specs.Operation.{operations};
+ghost use Rattle.jh_ops.specs.OperationWritten.{IsWritable};
+
+use crate::op_text::{OpError, op_of, untag};
+use crate::operation::Op;
+use jh_edn::Value;
+use std::alloc::{AllocFailed, Global};
+use thiserror::Error;
+
+/// Why values are refused as a history.
+#[derive(Clone, Copy, Debug, PartialEq, Eq, Error)]
+pub enum HistoryError {
+    /// The value at this place, from 0, is refused as an operation.
+    #[error("operation {0}: {1}")]
+    Op(usize, OpError),
+    #[error("out of memory")]
+    OutOfMemory,
+}
+
+impl<T: Drop> From<AllocFailed<T>> for HistoryError {
+    ghost use Rattle.jh_ops.specs.declared.history.HistoryError.TheVariants.{OutOfMemory};
+
+    ghost from_gives = { λ _ e. e ≡ OutOfMemory };
+
+    fn from(_error: AllocFailed<T>) -> HistoryError {
+        HistoryError::OutOfMemory
+    }
+}
+
+fn refusal(place: usize, refusal: OpError) -> HistoryError
+    ensures { result ≡ refusal_at place refusal }
+{
+    match refusal {
+        OpError::OutOfMemory => HistoryError::OutOfMemory,
+        _ => HistoryError::Op(place, refusal),
+    }
+}
+
+// The values that tell operations.
+fn elements_in(values: Vec<Value>) -> Vec<Value>
+    ensures { views result.items ≡ rule.elements_in (views values.items) }
+{
+    let mut values = values;
+    if values.len() != 1 {
+        return values;
+    }
+    let Some(value) = values.pop() else {
+        return values;
+    };
+    match untag(value) {
+        Value::List(items) => items.into_vec(),
+        Value::Vector(items) => items.into_vec(),
+        single => {
+            values.push_reserved(single);
+            values
+        }
+    }
+}
+
+/// The history that values tell: one operation each, or a single list or vector, with or without
+/// tags around it, of one operation for each element. No values tell the empty history.
+///
+/// Errors: `Op`, with the first place from 0 at which `op_of` refuses the value, and why;
+/// `OutOfMemory` at a place where it refuses none up to it.
+pub fn history_of(alloc: Global, values: Vec<Value>) -> Result<Vec<Op>, HistoryError>
+    ensures told { MatchResult result
+        (λ ops. AreTold (views values.items) (operations ops.items))
+        (RefusesValues (views values.items)) }
+    ensures writable { IfOk result (λ ops. All (λ op. IsWritable op.process) ops.items) }
+{
+    let mut rest = elements_in(values).into_iter();
+    let mut ops = Vec::new(alloc);
+    while let Some(value) = rest.next() {
+        match op_of(alloc, value) {
+            Ok(op) => ops.push(op)?,
+            Err(error) => return Err(refusal(ops.len(), error)),
+        }
+    }
+    Ok(ops)
+}

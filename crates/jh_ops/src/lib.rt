@@ -1,0 +1,19 @@
+//! Operations as Jepsen's histories have them, and the pairing of invocations with completions.
+#![tactic(auto)]
+
+mod history;
+mod op_text;
+mod op_written;
+mod operation;
+mod pairing;
+mod pairs;
+
+pub use history::{HistoryError, history_of};
+pub use op_text::{OpError, op_of};
+pub use op_written::{operations_read_back, value_of};
+pub use operation::{Kind, Op, Process};
+pub use pairing::pair;
+pub use pairs::{Pair, PairError};
+
+#[cfg(test)]
+mod tests;
