@@ -41,7 +41,7 @@ fn text_of(alloc: Global, error: CliError) -> Result<Vec<u8>, Fail> {
 }
 
 /// Inputs and what is written for them.
-static REPORTS: [(&[u8], &[u8]); 22] = [
+static REPORTS: [(&[u8], &[u8]); 23] = [
     // a calm environment
     (
         b"{:nodes [\"n1\" \"n2\"]}",
@@ -147,6 +147,11 @@ static REPORTS: [(&[u8], &[u8]); 22] = [
         b"{:nodes [\"n1\" \"n2\"]} [:begin 1 [:pause [\"n1\"]]] [:begin 2 [:cut [[\"n2\" \"n1\"]]]] [:withdraw-all] [:undo] [:redo] [:undo]",
         b":ok\n:ok\n:ok\n:ok\n:ok\n:ok\n:active [1 2]\n{:nodes [\"n1\" \"n2\"], :cut [[\"n2\" \"n1\"]], :slow [], :loss [], :down [[\"n1\" :paused]], :clock []}\n",
     ),
+    // a step that is left out, and lists for vectors
+    (
+        b"{:nodes (\"n1\" \"n2\")} #_[:undo] (:redo) ; no more",
+        b":nothing-to-redo\n:active []\n{:nodes [\"n1\" \"n2\"], :cut [], :slow [], :loss [], :down [], :clock []}\n",
+    ),
     // amounts at their borders
     (
         b"{:nodes [\"n1\" \"n2\"]} [:begin 1 [:slow 1 [[\"n1\" \"n2\"]]]] [:begin 2 [:slow 60000 [[\"n1\" \"n2\"]]]] [:begin 3 [:loss 20 [[\"n2\" \"n1\"]]]] [:begin 4 [:bump {\"n1\" 1000000000, \"n2\" -1000000000}]]",
@@ -244,12 +249,16 @@ fn stands_many_steps(rt: HostRuntime) {
 }
 
 /// Inputs that are refused, and the texts of the refusals.
-static REFUSALS: [(&[u8], &[u8]); 58] = [
+static REFUSALS: [(&[u8], &[u8]); 62] = [
     (b"", b"environment missing"),
     (b" ,\n", b"environment missing"),
     (b"{:nodes [\"n1\"", b"line 1: unexpected end"),
     (b"{:nodes [\"n1\"]}\n\n[:withdraw 01]", b"line 3: bad token"),
-    (b"; a comment", b"line 1: bad token"),
+    (b"; a comment", b"environment missing"),
+    (b"nil", b"environment: not a map"),
+    (b"#t {:nodes [\"n1\"]}", b"environment: not a map"),
+    (b"{:nodes [\"n1\"]} nil", b"element 2: bad step"),
+    (b"{:nodes [\"n1\"]} #t [:undo]", b"element 2: bad step"),
     (b"1.5", b"line 1: float unsupported"),
     (b"9223372036854775808", b"line 1: integer out of range"),
     (b"\"\\q\"", b"line 1: bad escape"),
