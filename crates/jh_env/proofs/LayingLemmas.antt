@@ -1,4 +1,4 @@
-use Rattle.std.proofs.Common.{◌≡◌, ◌≢◌, ℕ, ◌+◌, ◌*◌, ◌<◌, ◌≤◌, ◌^◌, Bool, true, false, List, [], ◌∷◌, length, get_or, set, take, refl, ap, ◌∙◌, sym, arith, subst, zero, suc, get_or-set_same, get_or-set_other, add-one}
+use Rattle.std.proofs.Common.{◌≡◌, ◌≢◌, ℕ, ◌+◌, ◌*◌, ◌<◌, ◌≤◌, ◌^◌, true, false, List, [], ◌∷◌, length, get_or, set, take, refl, ap, ◌∙◌, sym, arith, subst, zero, suc, get_or-set_same, get_or-set_other, add-one}
 use Rattle.std.specs.Prelude.{if◌then◌else◌, ◌||◌, ◌==◌, ℤ, pos, negsuc, ◌-◌, ◌+ℤ◌, ◌≤ℤ◌}
 use Rattle.std.specs.List.{All, list_any}
 use Rattle.std.proofs.Math.Bool.{or-false}
@@ -8,20 +8,17 @@ use Rattle.std.proofs.lemmas.Int.{ints}
 use Rattle.std.proofs.lemmas.List.Folds.{list_any_more}
 use Rattle.std.proofs.lemmas.List.Sums.{fold_more}
 use Rattle.std.proofs.lemmas.List.{take_all}
-use Rattle.std.proofs.lemmas.List.Elements.{All-from_get_or, All-weaker}
+use Rattle.std.proofs.lemmas.List.Elements.{All-from_get_or}
 use Rattle.std.proofs.lemmas.Nat.{same_from_place, mul-add-lt}
-use Rattle.jh_env.specs.declared.cells.Life.{Life}
-use Rattle.jh_env.specs.declared.cells.Life.TheVariants.{Running, Paused, Killed}
 use Rattle.jh_env.specs.declared.cells.Link.{Link}
 use Rattle.jh_env.specs.declared.cells.NodeCell.{NodeCell}
 use Rattle.jh_env.specs.declared.faults.LinkEffect.{LinkEffect}
-use Rattle.jh_env.specs.declared.faults.Down.{Down}
 use Rattle.jh_env.specs.Cells.{calm, running}
-use Rattle.jh_env.specs.Effects.{on_nodes, IsLinkAmount}
+use Rattle.jh_env.specs.Effects.{IsLinkAmount}
 use Rattle.jh_env.specs.Faults.{FaultValue, names_link, same_link, AreApart, AreBumps}
 use Rattle.jh_env.specs.Faults.FaultValue.{Bump}
-use Rattle.jh_env.specs.Laying.{LaidOnLinks, LaidOnNodes, IsLinkWithin, IsClockWithin, with_effect, with_down}
-use Rattle.jh_env.specs.Overlay.{node_over, bump_by, is_killed, is_paused}
+use Rattle.jh_env.specs.Laying.{LaidOnLinks, LaidOnNodes, IsLinkWithin, IsClockWithin, with_effect}
+use Rattle.jh_env.specs.Overlay.{node_over, bump_by}
 use Rattle.jh_env.proofs.OverlayLemmas.{same_node_cell}
 
 -- a link that is not named keeps its cell
@@ -71,49 +68,6 @@ node_more before after old mid k y below size laid here others a ha =
           let other : a ≢ k = (λ e. false≢true (sym s ∙ eq-eqb k a (sym e))) in
           rw (get_or-set_other mid k a y running other, others a (get_or old a running) s) (laid a ha)
     ] refl
-
-pause_again : (process : Life) (q : Bool)
-    → with_down Down.Pause (if is_killed process || false then Killed else if is_paused process || (q || false) then Paused else Running)
-    ≡ (if is_killed process || false then Killed else if is_paused process || (true || false) then Paused else Running)
-pause_again Running true = refl
-pause_again Running false = refl
-pause_again Paused q = refl
-pause_again Killed q = refl
-
-kill_again : (process : Life) → Killed ≡ (if is_killed process || (true || false) then Killed else if is_paused process || false then Paused else Running)
-kill_again Running = refl
-kill_again Paused = refl
-kill_again Killed = refl
-
--- a node that may be named already is taken down once more
-down_here : (down : Down) (nodes : List ℕ) (i : ℕ) (x : ℕ) (n : NodeCell) → i < length nodes → x ≡ get_or nodes i x
-    → (let before : NodeCell = node_over (on_nodes down (take i nodes) ∷ []) x n in record before { process = with_down down before.process }) ≡ node_over (on_nodes down (take (i + 1) nodes) ∷ []) x n
-down_here down nodes i x n h is =
-    let more : list_any (λ m. m == x) (take (i + 1) nodes) ≡ true =
-    list_any_more (λ m. m == x) nodes i x h ∙ rw (← is, eq-eqb x x refl) (or_right (list_any (λ m. m == x) (take i nodes)) true refl) in
-    elim down as (λ d. (let before : NodeCell = node_over (on_nodes d (take i nodes) ∷ []) x n in record before { process = with_down d before.process }) ≡ node_over (on_nodes d (take (i + 1) nodes) ∷ []) x n) [
-      | Down.Pause ↦ rw more (same_node_cell _ _ _ _ (pause_again n.process (list_any (λ m. m == x) (take i nodes))) refl)
-      | Down.Kill ↦ rw more (same_node_cell _ _ _ _ (kill_again n.process) refl)
-    ]
-
-down_other : (down : Down) (nodes : List ℕ) (i : ℕ) (x a : ℕ) (n : NodeCell) → i < length nodes → x ≡ get_or nodes i x → (x == a) ≡ false
-    → node_over (on_nodes down (take (i + 1) nodes) ∷ []) a n ≡ node_over (on_nodes down (take i nodes) ∷ []) a n
-down_other down nodes i x a n h is other =
-    let more : list_any (λ m. m == a) (take (i + 1) nodes) ≡ list_any (λ m. m == a) (take i nodes) =
-    list_any_more (λ m. m == a) nodes i x h ∙ rw (← is, other) (or-false (list_any (λ m. m == a) (take i nodes))) in
-    elim down as (λ d. node_over (on_nodes d (take (i + 1) nodes) ∷ []) a n ≡ node_over (on_nodes d (take i nodes) ∷ []) a n) [
-      | Down.Pause ↦ rw more refl
-      | Down.Kill ↦ rw more refl
-    ]
-
--- one more of the nodes is taken down
-pub nodes_more : (down : Down) (nodes : List ℕ) (i : ℕ) (x : ℕ) (old mid : List NodeCell) (y : NodeCell) → i < length nodes → x ≡ get_or nodes i x → x < length old → length mid ≡ length old
-    → y ≡ (let before : NodeCell = get_or mid x running in record before { process = with_down down before.process })
-    → LaidOnNodes (on_nodes down (take i nodes)) old mid → LaidOnNodes (on_nodes down (take (i + 1) nodes)) old (set mid x y)
-nodes_more down nodes i x old mid y h is below size val laid =
-    node_more (λ a n. node_over (on_nodes down (take i nodes) ∷ []) a n) (λ a n. node_over (on_nodes down (take (i + 1) nodes) ∷ []) a n) old mid x y below size laid
-    (val ∙ (rw (laid x below) (down_here down nodes i x (get_or old x running) h is)))
-    (λ a n other. down_other down nodes i x a n h is other)
 
 moved_more : (bumps : List (ℕ × ℤ)) (i : ℕ) (x : ℕ × ℤ) (a : ℕ) → i < length bumps → x ≡ get_or bumps i x
     → bump_by a (Bump (take (i + 1) bumps)) ≡ (bump_by a (Bump (take i bumps)) +ℤ (if x.0 == a then x.1 else pos 0))
@@ -168,10 +122,6 @@ all_moved bumps right a =
     let all : take (length bumps) bumps ≡ bumps = take_all (length bumps) bumps short in
     subst (λ (some : List (ℕ × ℤ)). IsWithin (10 ^ 9) (bump_by a (Bump some))) all (moved_within bumps right a (length bumps) short).1
 
-down_moved : (down : Down) (nodes : List ℕ) (a : ℕ) → IsWithin (10 ^ 9) (bump_by a (on_nodes down nodes))
-down_moved Down.Pause nodes a = (omega (arith, ints), omega (arith, ints))
-down_moved Down.Kill nodes a = (omega (arith, ints), omega (arith, ints))
-
 within_more : (z m : ℤ) (most more : ℕ) → IsWithin most z → IsWithin more m → IsWithin (most + more) (z +ℤ m)
 within_more z m most more h k = (omega (arith, ints, h.0, k.0), omega (arith, ints, h.1, k.1))
 
@@ -183,17 +133,9 @@ clocks_within fault old new most moves size laid within =
     let below : i < length old = rw (← size) h in
     rw (laid i below) (within_more (get_or old i running).clock (bump_by i fault) most (10 ^ 9) (within i running below) (moves i)))
 
-pub down_within : (down : Down) (nodes : List ℕ) (old new : List NodeCell) (most : ℕ) → length new ≡ length old
-    → LaidOnNodes (on_nodes down nodes) old new → All (IsClockWithin most) old → All (IsClockWithin (most + 10 ^ 9)) new
-down_within down nodes old new most = clocks_within (on_nodes down nodes) old new most (down_moved down nodes)
-
 pub bumps_within : (bumps : List (ℕ × ℤ)) → AreBumps bumps → (old new : List NodeCell) (most : ℕ) → length new ≡ length old
     → LaidOnNodes (Bump bumps) old new → All (IsClockWithin most) old → All (IsClockWithin (most + 10 ^ 9)) new
 bumps_within bumps right old new most = clocks_within (Bump bumps) old new most (all_moved bumps right)
-
-pub still_within : (cells : List NodeCell) (most : ℕ) → All (IsClockWithin most) cells → All (IsClockWithin (most + 10 ^ 9)) cells
-still_within cells most within =
-    All-weaker (IsClockWithin most) (IsClockWithin (most + 10 ^ 9)) (λ n h. (omega (arith, ints, h.0), omega (arith, ints, h.1))) cells within
 
 -- the clock of the next node can be moved
 pub bump_room : (bumps : List (ℕ × ℤ)) (i a : ℕ) (old mid : List NodeCell) → AreBumps bumps → i ≤ length bumps → a < length old → LaidOnNodes (Bump (take i bumps)) old mid

@@ -14,3 +14,5 @@ pub mod FaultLemmas
 pub mod LayingLemmas
 pub mod OverlayLemmas
 pub mod StartLemmas
+pub mod FaultOrderLemmas
+pub mod ApartLemmas

@@ -334,15 +334,22 @@ impl Fault {
         }
     }
 
-    /// Whether each node that it names is in the environment.
-    pub fn fits(&self, env: &Env) -> bool
-        ensures { IsTrue result ↔ FitsCount (length env.now.names) self.now }
+    /// Whether each node that it names is one of these.
+    pub fn fits_nodes(&self, nodes: &Nodes) -> bool
+        ensures { IsTrue result ↔ FitsCount (length nodes.now) self.now }
     {
-        let count = env.nodes().len();
+        let count = nodes.len();
         match &self.effect {
             Effect::OnLinks(_, links) => !is_any_end_unknown(count, links),
             Effect::OnNodes(_, nodes) => !is_any_node_unknown(count, nodes),
             Effect::Bump(bumps) => !is_any_bump_unknown(count, bumps),
         }
+    }
+
+    /// Whether each node that it names is in the environment.
+    pub fn fits(&self, env: &Env) -> bool
+        ensures { IsTrue result ↔ FitsCount (length env.now.names) self.now }
+    {
+        self.fits_nodes(env.nodes())
     }
 }

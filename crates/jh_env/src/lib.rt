@@ -13,7 +13,10 @@ pub use environment::{Env, MOST_DELAY, MOST_LAID, MOST_OFFSET};
 pub use faults::{Fault, FaultError, MOST_BUMPED, MOST_LOSS, MOST_SLOWED};
 pub use names::{Node, Nodes, NodesError};
 pub use starting::{Start, StartError};
-pub use texts::{EnvTextError, env_of_value, environments_read_back, value_of_env};
+pub use texts::{
+    EnvTextError, env_of_value, environments_read_back, order_changes_no_fault, value_of_env,
+    value_of_fault,
+};
 
 #[cfg(test)]
 mod tests;

@@ -12,8 +12,8 @@ use std::alloc::Global;
 use std::marker::Model;
 use thiserror::Error;
 
-/// A node of an environment, by its place among the names. A contract sees the place.
-#[derive(Clone, Copy, Debug, PartialEq, Eq)]
+/// A node of an environment, by its place among the names, in the order of the places. A contract sees the place.
+#[derive(Clone, Copy, Debug, PartialEq, Eq, PartialOrd, Ord)]
 pub struct Node {
     place: u8,
 }

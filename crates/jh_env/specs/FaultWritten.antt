@@ -1,0 +1,63 @@
+-- The text that is written of a fault (this project's own): `[:cut LINKS]`, `[:slow MS LINKS]`,
+-- `[:loss LEVEL LINKS]`, `[:pause NODES]`, `[:kill NODES]` and `[:bump {"n1" 500, ..}]`, where LINKS are
+-- `[["n2" "n1"] ..]` and NODES `["n1" ..]`: links by the place of their source and then of their destination, nodes
+-- and bumps by place.
+use Rattle.std.specs.Prelude.{ℕ, Bool, ℤ, pos, List, [], ◌∷◌, map, codes, slice_index_or}
+use Rattle.std.specs.Ordering.{nat_cmp, ordering_then, is_lt}
+use Rattle.jh_edn.specs.Edn.{Edn, int, str, keyword, vector, mapping, items_of, members_of}
+use Rattle.jh_edn.specs.Order.{in_order}
+use Rattle.jh_env.specs.Faults.{FaultValue}
+use Rattle.jh_env.specs.Faults.FaultValue.{Cut, Slow, Loss, Pause, Kill, Bump}
+
+-- the source's place comes first, or else the destination's
+abbrev pub is_link_before : (ℕ × ℕ) → (ℕ × ℕ) → Bool
+is_link_before k l = is_lt (ordering_then (nat_cmp k.0 l.0) (nat_cmp k.1 l.1))
+
+-- the place comes first
+abbrev pub is_node_before : ℕ → ℕ → Bool
+is_node_before a b = is_lt (nat_cmp a b)
+
+-- the place of the node that is bumped comes first
+abbrev pub is_bump_before : (ℕ × ℤ) → (ℕ × ℤ) → Bool
+is_bump_before x y = is_node_before x.0 y.0
+
+-- the same fault, with its links, nodes or bumps in order
+abbrev pub fault_in_order : FaultValue → FaultValue
+fault_in_order (Cut links) = Cut (in_order is_link_before links)
+fault_in_order (Slow ms links) = Slow ms (in_order is_link_before links)
+fault_in_order (Loss level links) = Loss level (in_order is_link_before links)
+fault_in_order (Pause nodes) = Pause (in_order is_node_before nodes)
+fault_in_order (Kill nodes) = Kill (in_order is_node_before nodes)
+fault_in_order (Bump bumps) = Bump (in_order is_bump_before bumps)
+
+-- the string with the name of the node at this place
+abbrev pub name_text : List (List ℕ) → ℕ → Edn
+name_text names a = str (slice_index_or names a [])
+
+abbrev pub link_text : List (List ℕ) → (ℕ × ℕ) → Edn
+link_text names link = vector (items_of (name_text names link.0 ∷ name_text names link.1 ∷ []))
+
+abbrev pub links_text : List (List ℕ) → List (ℕ × ℕ) → Edn
+links_text names links = vector (items_of (map (link_text names) links))
+
+abbrev pub nodes_text : List (List ℕ) → List ℕ → Edn
+nodes_text names nodes = vector (items_of (map (name_text names) nodes))
+
+abbrev pub bump_text : List (List ℕ) → (ℕ × ℤ) → Edn × Edn
+bump_text names bump = (name_text names bump.0, int bump.1)
+
+abbrev pub bumps_text : List (List ℕ) → List (ℕ × ℤ) → Edn
+bumps_text names bumps = mapping (members_of (map (bump_text names) bumps))
+
+-- the values of the text, in the order in which the fault holds its links, nodes or bumps
+abbrev pub fault_parts : List (List ℕ) → FaultValue → List Edn
+fault_parts names (Cut links) = keyword (codes "cut") ∷ links_text names links ∷ []
+fault_parts names (Slow ms links) = keyword (codes "slow") ∷ int (pos ms) ∷ links_text names links ∷ []
+fault_parts names (Loss level links) = keyword (codes "loss") ∷ int (pos level) ∷ links_text names links ∷ []
+fault_parts names (Pause nodes) = keyword (codes "pause") ∷ nodes_text names nodes ∷ []
+fault_parts names (Kill nodes) = keyword (codes "kill") ∷ nodes_text names nodes ∷ []
+fault_parts names (Bump bumps) = keyword (codes "bump") ∷ bumps_text names bumps ∷ []
+
+-- the text of a fault on nodes of these names
+abbrev pub text_of_fault : List (List ℕ) → FaultValue → Edn
+text_of_fault names fault = vector (items_of (fault_parts names (fault_in_order fault)))
