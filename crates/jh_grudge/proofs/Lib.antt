@@ -1,0 +1,9 @@
+pub mod ListLemmas
+pub mod MarkLemmas
+pub mod LinkLemmas
+pub mod AroundLemmas
+pub mod RankLemmas
+pub mod JoinLemmas
+pub mod SearchLemmas
+pub mod LawLemmas
+pub mod SplitLemmas
