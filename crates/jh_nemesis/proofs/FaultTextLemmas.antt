@@ -1,10 +1,11 @@
 -- What the values of a fault's text tell, by the tests that the code makes.
-use Rattle.std.proofs.Common.{◌≡◌, ℕ, ◌+◌, ◌<◌, Bool, true, false, suc, List, [], ◌∷◌, ◌++◌, length, get_or, take, drop, refl, arith, ap, sym, ◌∙◌, zero, append_assoc, subst, add-one, drop-cons}
-use Rattle.std.specs.Prelude.{ℤ, pos, negsuc, is_none, is_some, Option, Some, None, Ok, Err, ◌==◌, not, IsOk, nat_le, nat_lt, option_map, option_and_then, ◌^◌}
+use Rattle.std.proofs.Common.{◌≡◌, ◌≢◌, ℕ, ◌+◌, ◌<◌, Bool, true, false, suc, List, [], ◌∷◌, ◌++◌, length, get_or, take, drop, refl, arith, ap, sym, ◌∙◌, zero, append_assoc, subst, add-one, drop-cons}
+use Rattle.std.specs.Prelude.{⊤, ℤ, pos, negsuc, is_none, is_some, Option, Some, None, Ok, Err, ◌==◌, not, IsOk, nat_le, nat_lt, option_map, option_and_then, ◌^◌}
 use Rattle.std.specs.List.{cons_option, filter_map, list_all, list_any}
 use Rattle.std.specs.Str.{bytes_eq}
 use Rattle.std.proofs.lemmas.Grind.{common_steps}
-use Rattle.std.proofs.lemmas.Bool.{false≢true, and_parts, leb-true, ltb-true}
+use Rattle.std.proofs.lemmas.Bool.{both_ways, eqb-true, false≢true, and_parts, leb-true, ltb-true}
+use Rattle.std.proofs.lemmas.List.Elements.{All-contains}
 use Rattle.std.proofs.lemmas.Int.{ints}
 use Rattle.std.proofs.lemmas.List.{append-nil, take_more}
 use Rattle.std.proofs.lemmas.List.Elements.{filter_map-append}
@@ -13,15 +14,16 @@ use Rattle.std.proofs.lemmas.List.Sums.{AllPass-from_list_all}
 use Rattle.jh_edn.specs.Edn.{Edn}
 use Rattle.jh_edn.specs.View.{view, views, view_pair, view_pairs}
 use Rattle.jh_edn.specs.declared.value.Value.{Value}
-use Rattle.jh_env.specs.Faults.{FaultValue, kept_links, is_self_link, is_unknown_link, is_unknown_node, is_unknown_bump, same_bumped, AreBumps, IsBumpAmount, RefusesNodes, RefusesBumps}
+use Rattle.jh_env.specs.Faults.{FaultValue, kept_links, is_self_link, is_unknown_link, is_unknown_node, is_unknown_bump, same_bumped, AreBumps, IsBumpAmount, RefusesLinks, RefusesNodes, RefusesBumps}
 use Rattle.jh_env.specs.Faults.FaultValue.{Slow, Loss, Bump}
 use Rattle.jh_env.specs.declared.faults.FaultError.TheVariants as FaultError
-use Rattle.jh_env.proofs.NameLemmas.{list_any-map}
 use Rattle.jh_nemesis.specs.FaultText.{links_told, nodes_told, bumps_told, links_fault, nodes_fault, ends_of, node_of, bump_of, place_of, both, link_names, node_name, bump_said, amount_within, is_bump_amount, are_apart_after, are_bumps}
 use Rattle.jh_nemesis.specs.declared.texts.shapes.OnLinks.{OnLinks}
 use Rattle.jh_nemesis.specs.declared.texts.shapes.OnNodes.{OnNodes}
 use Rattle.jh_nemesis.specs.declared.texts.StepTextError.TheVariants.{UnknownNode, SelfLink, BadAmount}
-use Rattle.jh_nemesis.proofs.ListLemmas.{filter_map-map}
+use Rattle.jh_nemesis.specs.NamedFaults.{AreLinksAmong}
+use Rattle.jh_nemesis.proofs.LinkLemmas.{some_of_any}
+use Rattle.jh_nemesis.proofs.ListLemmas.{filter_map-map, list_any-map}
 
 -- an unknown node is told first
 pub links_told-unknown : (names : List (List ℕ)) (effect : OnLinks) (links : List Value) → list_any (λ l. is_none (ends_of names (view l))) links ≡ true
@@ -231,3 +233,17 @@ apart_next names bumps i x y all below is there new before =
     let step : are_apart_after (filter_map h (take i bumps)) (y ∷ filter_map h (drop (i + 1) bumps)) ≡ all =
     subst (λ some. are_apart_after (filter_map h (take i bumps)) some ≡ all) rest before in
     rw first (rw new at step)
+
+-- a cut of links between different nodes is refused for want of memory alone
+pub cut_refused : (n : ℕ) (links : List (ℕ × ℕ)) (refusal : FaultError.the_data) → AreLinksAmong n links → RefusesLinks n links ⊤ refusal → refusal ≡ FaultError.OutOfMemory
+cut_refused n links FaultError.UnknownNode among refused =
+    let (l, has, hit) = some_of_any (is_unknown_link n) links refused in
+    let (from, to, apart) = All-contains (λ l. (l.0 < n) × (l.1 < n) × (l.0 ≢ l.1)) links l among has in
+    let known : is_unknown_link n l ≡ false = grind (arith, common_steps) in
+    absurd (both_ways (is_unknown_link n l) known hit)
+cut_refused n links FaultError.SelfLink among refused =
+    let (l, has, hit) = some_of_any is_self_link links refused.1 in
+    let (from, to, apart) = All-contains (λ l. (l.0 < n) × (l.1 < n) × (l.0 ≢ l.1)) links l among has in
+    absurd (apart (eqb-true l.0 l.1 hit))
+cut_refused n links FaultError.BadAmount among refused = absurd (refused.1 tt)
+cut_refused n links FaultError.OutOfMemory among refused = refl

@@ -1,4 +1,4 @@
-use Rattle.std.proofs.Common.{◌≡◌, ◌≢◌, ℕ, Bool, true, false, [], ◌∷◌, ◌++◌, refl, ap, ◌∙◌, sym}
+use Rattle.std.proofs.Common.{◌≡◌, ◌≢◌, ℕ, ℤ, Bool, true, false, [], ◌∷◌, ◌++◌, refl, ap, ◌∙◌, sym}
 use Rattle.std.specs.Prelude.{if◌then◌else◌, not, ◌==◌, ◌||◌}
 use Rattle.std.proofs.lemmas.Bool.{eq-eqb, eqb-true, or_right}
 use Rattle.std.specs.List.{list_any}
@@ -21,8 +21,13 @@ use Rattle.jh_env.specs.declared.cells.Link.{Link}
 use Rattle.jh_env.specs.declared.cells.NodeCell.{NodeCell}
 use Rattle.jh_env.specs.Cells.{link_at, node_at}
 use Rattle.jh_env.specs.Overlay.{EnvValue, StandsFor, node_over, is_killed, is_paused}
-use Rattle.jh_env.proofs.OverlayLemmas.{same_link_cell, same_node_cell}
 use Rattle.jh_nemesis.specs.declared.steps.Step.TheVariants.{Begin, Withdraw, WithdrawAll}
+
+same_link_cell : (c d : Bool) (m n s t : ℕ) → c ≡ d → m ≡ n → s ≡ t → (let l : Link = record { cut = c; delay = m; loss = s } in l) ≡ record { cut = d; delay = n; loss = t }
+same_link_cell c d m n s t p q r = rw (p, q, r) refl
+
+same_node_cell : (p q : Life) (c d : ℤ) → p ≡ q → c ≡ d → (let n : NodeCell = record { process = p; clock = c } in n) ≡ record { process = q; clock = d }
+same_node_cell p q c d e f = rw (e, f) refl
 
 parts : (x y : Bool) → (x || y) ≡ false → (x ≡ false) × (y ≡ false)
 parts true y e = cc

@@ -2,5 +2,7 @@ pub mod PlaceLemmas
 pub mod BeginLemmas
 pub mod LawLemmas
 pub mod ListLemmas
+pub mod LinkLemmas
+pub mod GrudgeLemmas
 pub mod FaultTextLemmas
 pub mod RunLemmas

@@ -1,7 +1,8 @@
 -- Faults as EDN values (this project's own): `[:cut LINKS]`, `[:slow MS LINKS]`, `[:loss LEVEL LINKS]`, `[:pause NODES]`,
 -- `[:kill NODES]` and `[:bump {"n1" 500, ..}]`, where LINKS are `[[src dst] ..]`, NODES `["n1" ..]`, and each name is a
--- node's. A new kind of fault is a new case here.
-use Rattle.std.specs.Prelude.{◌≡◌, ℕ, ◌^◌, ◌&&◌, ◌⊎◌, Bool, true, ℤ, pos, negsuc, List, [], ◌∷◌, ◌++◌, codes, not, nat_lt, nat_le, if◌then◌else◌, is_none, is_some, option_and_then, option_map, position, Option, Some, None, Result, Ok, Err, MatchResult, IsOk}
+-- node's; or a cut that is named by a grudge over all nodes: `[:halves]`, `[:split-one "n1"]`, `[:bridge]`, `[:ring]` and
+-- `[:ring SEED]`. A new kind of fault is a new case here.
+use Rattle.std.specs.Prelude.{◌≡◌, ℕ, ◌^◌, ◌&&◌, ◌⊎◌, Bool, true, ℤ, pos, negsuc, List, [], ◌∷◌, ◌++◌, length, codes, not, nat_lt, nat_le, if◌then◌else◌, is_none, is_some, option_and_then, option_map, position, Option, Some, None, Result, Ok, Err, MatchResult, IsOk}
 use Rattle.std.specs.List.{filter_map, list_all, list_any}
 use Rattle.std.specs.Str.{bytes_eq}
 use Rattle.jh_edn.specs.Edn.{Edn, int, str, keyword, mapping, elements_of}
@@ -11,14 +12,19 @@ use Rattle.jh_env.specs.Faults.FaultValue.{Cut, Slow, Loss, Pause, Kill, Bump}
 use Rattle.jh_env.specs.declared.faults.FaultError.TheVariants as FaultError
 use Rattle.jh_nemesis.specs.declared.texts.StepTextError.{StepTextError}
 use Rattle.jh_nemesis.specs.declared.texts.StepTextError.TheVariants.{UnknownNode, SelfLink, BadAmount, OutOfMemory}
+use Rattle.jh_nemesis.specs.NamedFaults.{links_that, named_links, touches}
+use Rattle.jh_nemesis.specs.declared.texts.shapes.Named.{Named}
 use Rattle.jh_nemesis.specs.declared.texts.shapes.OnLinks.{OnLinks}
 use Rattle.jh_nemesis.specs.declared.texts.shapes.OnNodes.{OnNodes}
 
--- a fault as it is spelled: what is done, and the values of its links, its nodes or its bumps
+-- a fault as it is spelled: what is done, and the values of its links, its nodes or its bumps; or the loner's name; or
+-- the name of its grudge
 pub data Spelled : Type 0 where
   Links : OnLinks → List Edn → Spelled
   Nodes : OnNodes → List Edn → Spelled
   Bumps : List (Edn × Edn) → Spelled
+  SplitOne : List ℕ → Spelled
+  Grudge : Named → Spelled
 
 abbrev pub two_names : List Edn → Option (List ℕ × List ℕ)
 two_names (str source ∷ str destination ∷ []) = Some (source, destination)
@@ -52,6 +58,19 @@ abbrev pub bumps_in : Edn → Option (List (Edn × Edn))
 bumps_in (mapping ms) = all_of (λ b. is_some (bump_said b)) (pairs_in ms)
 bumps_in _ = None
 
+-- a word alone
+abbrev pub named_fault : List ℕ → Option Spelled
+named_fault word =
+    if bytes_eq word (codes "halves") then Some (Grudge Named.Halves)
+    else if bytes_eq word (codes "bridge") then Some (Grudge Named.Bridge)
+    else if bytes_eq word (codes "ring") then Some (Grudge Named.Ring)
+    else None
+
+-- a ring in the order that a seed gives
+abbrev pub shuffled_ring : Edn → Option Spelled
+shuffled_ring (int seed) = Some (Grudge (Named.ShuffledRing seed))
+shuffled_ring _ = None
+
 -- a word and what it is about
 abbrev pub plain_fault : List ℕ → Edn → Option Spelled
 plain_fault word v =
@@ -59,6 +78,8 @@ plain_fault word v =
     else if bytes_eq word (codes "pause") then option_map (Nodes OnNodes.Pause) (nodes_in v)
     else if bytes_eq word (codes "kill") then option_map (Nodes OnNodes.Kill) (nodes_in v)
     else if bytes_eq word (codes "bump") then option_map Bumps (bumps_in v)
+    else if bytes_eq word (codes "split-one") then option_map SplitOne (node_name v)
+    else if bytes_eq word (codes "ring") then shuffled_ring v
     else None
 
 -- a word, an amount and what it is about
@@ -69,6 +90,7 @@ measured_fault word z v =
     else None
 
 abbrev pub spelled_in : List Edn → Option Spelled
+spelled_in (keyword word ∷ []) = named_fault word
 spelled_in (keyword word ∷ v ∷ []) = plain_fault word v
 spelled_in (keyword word ∷ int z ∷ v ∷ []) = measured_fault word z v
 spelled_in _ = None
@@ -148,12 +170,24 @@ bumps_told names bumps =
     else if are_bumps (filter_map (bump_of names) bumps) then Ok (Bump (filter_map (bump_of names) bumps))
     else Err BadAmount
 
+-- a cut of these links
+abbrev pub cut_of : List (ℕ × ℕ) → FaultValue
+cut_of links = Cut (kept_links links)
+
+abbrev pub split_told : List (List ℕ) → List ℕ → Result FaultValue StepTextError
+split_told names loner = needed (place_of names loner) UnknownNode (λ place. Ok (cut_of (links_that (touches place) (length names))))
+
+abbrev pub named_told : ℕ → Named → Result FaultValue StepTextError
+named_told count named = needed (named_links named count) BadAmount (λ links. Ok (cut_of links))
+
 -- The fault that is told, or the first refusal that applies, over the whole fault: an unknown node, a link of a node
--- with itself, an amount out of range or a node that is bumped twice.
+-- with itself, an amount or a seed out of range or a node that is bumped twice.
 abbrev pub fault_told : List (List ℕ) → Spelled → Result FaultValue StepTextError
 fault_told names (Links effect links) = links_told names effect links
 fault_told names (Nodes effect nodes) = nodes_told names effect nodes
 fault_told names (Bumps bumps) = bumps_told names bumps
+fault_told names (SplitOne loner) = split_told names loner
+fault_told names (Grudge named) = named_told (length names) named
 
 -- What was answered is what is told, unless memory was refused for what would have been told.
 abbrev pub Answers : {A : Type 0} → Result A StepTextError → Result A StepTextError → Type 0

@@ -5,6 +5,9 @@ pub mod Timeline
 pub mod TimelineInside
 pub mod Places
 pub mod NemesisInside
+pub mod NamedFaults
+pub mod GrudgeLaws
 pub mod FaultText
 pub mod ShapeInside
 pub mod StepText
+pub mod StepWritten

@@ -16,6 +16,12 @@ ghost use Rattle.jh_nemesis.specs.Laws.{
   CutsOfOthersStay,
   CutsOfStartStay,
 };
+ghost use Rattle.jh_nemesis.specs.GrudgeLaws.{
+  BridgeIsBridge,
+  HalvesAreComplete,
+  RingIsRing,
+  SplitIsComplete,
+};
 
 /// A refused step changes nothing.
 pub fn refused_stays()
@@ -71,4 +77,14 @@ pub fn cuts_of_others_stay()
 /// A link that the start cuts is cut whatever is active.
 pub fn cuts_of_start_stay()
     ensures { CutsOfStartStay }
+{}
+
+/// A named fault cuts the links of its grudge: `[:halves]` those of the complete grudge of the two halves of all nodes,
+/// `[:split-one NODE]` those of the complete grudge of the node and the rest, `[:bridge]` those of the bridge, and a ring, in
+/// whatever order of all nodes, those of the majorities ring in that order.
+pub fn named_faults_are_grudges()
+    ensures halves { HalvesAreComplete }
+    ensures split { SplitIsComplete }
+    ensures bridge { BridgeIsBridge }
+    ensures ring { RingIsRing }
 {}

@@ -10,15 +10,15 @@ mod timeline;
 
 pub use laws::{
     change_ends_future, cuts_of_others_stay, cuts_of_start_stay, environment_is_overlay,
-    redo_restores, refused_stays, undo_restores, withdrawal_ends_begin, withdrawal_leaves_others,
-    withdrawing_all_leaves_start,
+    named_faults_are_grudges, redo_restores, refused_stays, undo_restores, withdrawal_ends_begin,
+    withdrawal_leaves_others, withdrawing_all_leaves_start,
 };
 pub use nemesis::Nemesis;
 pub use steps::{
     BeginError, MOST_ACTIVE, MOST_STEPS, NothingToRedo, NothingToUndo, Step, StepAnswer, Stopped,
     WithdrawAllError, WithdrawError,
 };
-pub use texts::{StepTextError, step_of_value};
+pub use texts::{StepTextError, ring_order, step_of_value, value_of_step};
 
 #[cfg(test)]
 mod tests;

@@ -8,13 +8,17 @@ ghost use Rattle.jh_nemesis.specs.StepText.{step_told, begin_told, withdraw_told
 ghost use Rattle.jh_nemesis.specs.Steps.{FitsNodes};
 
 mod faults;
+mod named;
 mod shapes;
+mod writing;
 
 use crate::steps::Step;
 use jh_edn::Value;
 use jh_env::{FaultError, Nodes};
-use std::alloc::Global;
+pub use named::ring_order;
+use std::alloc::{AllocError, Global};
 use thiserror::Error;
+pub use writing::value_of_step;
 
 /// Why a value is refused as a step.
 #[derive(Clone, Copy, Debug, PartialEq, Eq, Error)]
@@ -46,6 +50,17 @@ impl From<FaultError> for StepTextError {
             FaultError::BadAmount => StepTextError::BadAmount,
             FaultError::OutOfMemory => StepTextError::OutOfMemory,
         }
+    }
+}
+
+impl From<AllocError> for StepTextError {
+    ghost use Rattle.std.specs.Prelude.{◌≡◌};
+    ghost use Rattle.jh_nemesis.specs.declared.texts.StepTextError.TheVariants.{OutOfMemory};
+
+    ghost from_gives = { λ _ e. e ≡ OutOfMemory };
+
+    fn from(_: AllocError) -> StepTextError {
+        StepTextError::OutOfMemory
     }
 }
 
@@ -93,10 +108,14 @@ fn word_of(word: &str) -> Result<Step, StepTextError>
 
 /// The step that a value tells, its nodes given by their names: `[:begin ID FAULT]`, `[:withdraw ID]`,
 /// `[:withdraw-all]`, `[:undo]` or `[:redo]`, ids from 0 to 4,294,967,295. A fault is `[:cut LINKS]`,
-/// `[:slow MS LINKS]`, `[:loss LEVEL LINKS]`, `[:pause NODES]`, `[:kill NODES]` or `[:bump {NODE MS, ..}]`.
+/// `[:slow MS LINKS]`, `[:loss LEVEL LINKS]`, `[:pause NODES]`, `[:kill NODES]` or `[:bump {NODE MS, ..}]`; or it is the
+/// cut of a grudge over all nodes: `[:halves]`, `[:split-one NODE]`, `[:bridge]`, `[:ring]`, which takes the nodes as they
+/// are listed, or `[:ring SEED]`, which shuffles them first, for one seed always alike. `named_faults_are_grudges` ties these
+/// to their grudges.
 ///
 /// Errors: `BadStep` where the value has none of these shapes, its fault's looked at too; `BadId`; then over the
-/// whole fault `UnknownNode`, `SelfLink`, `BadAmount` also where a node is bumped twice; `OutOfMemory`.
+/// whole fault `UnknownNode`, `SelfLink`, `BadAmount` also where a node is bumped twice or the seed is below zero;
+/// `OutOfMemory`.
 pub fn step_of_value(alloc: Global, nodes: &Nodes, value: &Value) -> Result<Step, StepTextError>
     ensures told { Answers result (step_told nodes.now (view value.now)) }
     ensures fits { IfOk result (FitsNodes (length nodes.now)) }

@@ -9,6 +9,7 @@ ghost use Rattle.jh_nemesis.specs.FaultText.{Answers, fault_told, links_told, no
 ghost use Rattle.jh_nemesis.specs.ShapeInside.{said};
 
 use super::StepTextError;
+use super::named::{named_fault, split_fault};
 use super::shapes::{OnLinks, OnNodes, Shape, bump_said, link_names, node_name};
 use jh_edn::Value;
 use jh_env::{Fault, FaultError, MOST_BUMPED, MOST_LOSS, MOST_SLOWED, Node, Nodes};
@@ -260,5 +261,7 @@ pub fn fault_of(alloc: Global, nodes: &Nodes, shape: Shape) -> Result<Fault, Ste
         Shape::Links(effect, links) => on_links(alloc, nodes, effect, links),
         Shape::Nodes(effect, named) => on_nodes(alloc, nodes, effect, named),
         Shape::Bumps(bumps) => of_bumps(alloc, nodes, bumps),
+        Shape::SplitOne(loner) => split_fault(alloc, nodes, loner),
+        Shape::Grudge(named) => named_fault(alloc, nodes, named),
     }
 }

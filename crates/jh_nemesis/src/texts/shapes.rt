@@ -23,12 +23,25 @@ pub enum OnNodes {
     Kill,
 }
 
-/// A fault as it is spelled: the values of its links, its nodes or its bumps, each of the right shape.
+/// A cut that is named by its grudge over all nodes.
+#[derive(Clone, Copy, Debug, PartialEq, Eq)]
+pub enum Named {
+    Halves,
+    Bridge,
+    Ring,
+    /// A ring over the nodes in the order that a seed gives, as the seed is written.
+    ShuffledRing(i64),
+}
+
+/// A fault as it is spelled: the values of its links, its nodes or its bumps, each of the right shape, or the name of
+/// the node that is split off, or the name of its grudge.
 #[derive(Clone, Copy, Debug)]
 pub enum Shape<'a> {
     Links(OnLinks, &'a [Value]),
     Nodes(OnNodes, &'a [Value]),
     Bumps(&'a [(Value, Value)]),
+    SplitOne(&'a str),
+    Grudge(Named),
 }
 
 /// The source's and the destination's name of a link.
@@ -138,6 +151,26 @@ fn bumps_in(value: &Value) -> Option<&[(Value, Value)]>
     }
 }
 
+fn named_fault(word: &str) -> Option<Shape<'_>>
+    ensures { option_map said result ≡ rule.named_fault word.now }
+{
+    match word {
+        "halves" => Some(Shape::Grudge(Named::Halves)),
+        "bridge" => Some(Shape::Grudge(Named::Bridge)),
+        "ring" => Some(Shape::Grudge(Named::Ring)),
+        _ => None,
+    }
+}
+
+fn shuffled_ring(seed: &Value) -> Option<Shape<'_>>
+    ensures { option_map said result ≡ rule.shuffled_ring (view seed.now) }
+{
+    match seed {
+        Value::Int(seed) => Some(Shape::Grudge(Named::ShuffledRing(*seed))),
+        _ => None,
+    }
+}
+
 fn plain_fault<'a>(word: &str, value: &'a Value) -> Option<Shape<'a>>
     ensures { option_map said result ≡ rule.plain_fault word.now (view value.now) }
 {
@@ -146,6 +179,8 @@ fn plain_fault<'a>(word: &str, value: &'a Value) -> Option<Shape<'a>>
         "pause" => Some(Shape::Nodes(OnNodes::Pause, nodes_in(value)?)),
         "kill" => Some(Shape::Nodes(OnNodes::Kill, nodes_in(value)?)),
         "bump" => Some(Shape::Bumps(bumps_in(value)?)),
+        "split-one" => Some(Shape::SplitOne(node_name(value)?)),
+        "ring" => shuffled_ring(value),
         _ => None,
     }
 }
@@ -165,6 +200,7 @@ pub fn shape_of(fault: &Value) -> Option<Shape<'_>>
     ensures { option_map said result ≡ rule.spelled (view fault.now) }
 {
     match fault.elements()? {
+        [Value::Keyword(word)] => named_fault(word.as_str()),
         [Value::Keyword(word), value] => plain_fault(word.as_str(), value),
         [Value::Keyword(word), Value::Int(amount), value] => {
             measured_fault(word.as_str(), *amount, value)

@@ -7,6 +7,8 @@ use jh_env::{Nodes, NodesError};
 use std::alloc::Global;
 use std::test::Fail;
 
+mod written;
+
 // The one value of a text, once more where memory was refused.
 fn value_of(alloc: Global, text: &str) -> Result<Value, Fail> {
     let values = match read_all(alloc, &mut text.as_bytes(), 2) {

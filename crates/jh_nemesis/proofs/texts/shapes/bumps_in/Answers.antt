@@ -1,4 +1,4 @@
-use Rattle.jh_env.proofs.TextLemmas.{pairs_in-members_of}
+use Rattle.jh_nemesis.proofs.ListLemmas.{pairs_in-members_of}
 use Rattle.jh_nemesis.proofs.texts.shapes.bumps_in.Goals as goal
 
 pub returns-in-Map : goal.returns-in-Map
