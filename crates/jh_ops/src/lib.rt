@@ -1,6 +1,7 @@
 //! Operations as Jepsen's histories have them, and the pairing of invocations with completions.
 #![tactic(auto)]
 
+mod call;
 mod history;
 mod op_text;
 mod op_written;
@@ -8,6 +9,7 @@ mod operation;
 mod pairing;
 mod pairs;
 
+pub use call::{Call, Request, Workload};
 pub use history::{HistoryError, history_of};
 pub use op_text::{OpError, op_of};
 pub use op_written::{operations_read_back, value_of};

@@ -145,6 +145,8 @@ const HISTORY: &str = "\
 :value {\"n1\" #{\"n2\"}}}
 #jepsen.history.Op{:index 2, :time 5520, :type :info, :process 0, :f :write, :value 5, \
 :error [:timeout \"no answer\"]}
+#jepsen.history.Op{:index 3, :time 6001, :type :info, :process :nemesis, :f :stop-partition, \
+:value \"fully connected\"}
 ";
 
 const PRINTED: &str = "\
@@ -153,6 +155,8 @@ const PRINTED: &str = "\
 :value {\"n1\" #{\"n2\"}}}
 {:index 2, :time 5520, :type :info, :process 0, :f :write, :value 5, \
 :error [:timeout \"no answer\"]}
+{:index 3, :time 6001, :type :info, :process :nemesis, :f :stop-partition, \
+:value \"fully connected\"}
 ";
 
 #[test]

@@ -1,0 +1,17 @@
+pub mod Generator
+pub mod Code
+pub mod View
+pub mod Falls
+pub mod GeneratorText
+pub mod ShapeInside
+pub mod Tally
+pub mod Scope
+pub mod Offers
+pub mod Fits
+pub mod State
+pub mod StateCode
+pub mod NodeView
+pub mod NodeFalls
+pub mod Turns
+pub mod DriverState
+pub mod DriverInside

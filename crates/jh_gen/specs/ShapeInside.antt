@@ -1,0 +1,80 @@
+-- What a contract sees of a generator's form as a program reads it.
+use Rattle.std.specs.Prelude.{◌≡◌, ℕ, List, Option, Some, None, option_map}
+use Rattle.jh_edn.specs.Edn.{Edn, items_of, size_of, size_list}
+use Rattle.jh_edn.specs.View.{view, views}
+use Rattle.jh_gen.specs.Generator.{Generator, nothing, once, rising, forever, seq, limit, mix, phases, reserve, each_thread, clients, nemesis_only, Generators, no_generators, generator, Shared, no_shares, share}
+use Rattle.jh_gen.specs.GeneratorText.{Part, members, reserved, parts_of, generator_told}
+use Rattle.jh_gen.specs.declared.text.GenTextError.{GenTextError}
+use Rattle.jh_gen.specs.declared.text.GenTextError.TheVariants.{BadGenerator, OutOfMemory}
+use Rattle.jh_gen.specs.declared.text.Shape.{Shape}
+
+-- the part that a value is
+abbrev pub part_of : Edn → Part
+part_of value = record { value = value; told = generator_told value }
+
+-- the parts that these values are
+abbrev pub parts_in : List Edn → List Part
+parts_in xs = parts_of (items_of xs)
+
+abbrev pub members_told : List Edn → Option Generators
+members_told xs = members (parts_in xs)
+
+abbrev pub reserved_told : List Edn → Option (Shared × Generator)
+reserved_told xs = reserved (parts_in xs)
+
+-- the generator of a form whose inner values are still to be read
+abbrev pub shape_told : Shape → Option Generator
+shape_told Shape.Nil = Some nothing
+shape_told (Shape.Once call) = Some (once call)
+shape_told (Shape.Rising first) = Some (rising first)
+shape_told (Shape.Forever call) = Some (forever call)
+shape_told (Shape.Seq parts) = option_map seq (members_told (views parts.now))
+shape_told (Shape.Limit number inner) = option_map (limit number) (generator_told (view inner.now))
+shape_told (Shape.Mix parts) = option_map mix (members_told (views parts.now))
+shape_told (Shape.Phases parts) = option_map phases (members_told (views parts.now))
+shape_told (Shape.Reserve parts) = option_map (λ r. reserve r.0 r.1) (reserved_told (views parts.now))
+shape_told (Shape.EachThread inner) = option_map each_thread (generator_told (view inner.now))
+shape_told (Shape.Clients inner) = option_map clients (generator_told (view inner.now))
+shape_told (Shape.NemesisOnly inner) = option_map nemesis_only (generator_told (view inner.now))
+
+abbrev pub told_of : Option Shape → Option Generator
+told_of None = None
+told_of (Some shape) = shape_told shape
+
+-- how large its inner values are, by which a reading ends
+abbrev pub shape_size : Shape → ℕ
+shape_size Shape.Nil = 0
+shape_size (Shape.Once call) = 0
+shape_size (Shape.Rising first) = 0
+shape_size (Shape.Forever call) = 0
+shape_size (Shape.Seq parts) = size_list (views parts.now)
+shape_size (Shape.Limit number inner) = size_of (view inner.now)
+shape_size (Shape.Mix parts) = size_list (views parts.now)
+shape_size (Shape.Phases parts) = size_list (views parts.now)
+shape_size (Shape.Reserve parts) = size_list (views parts.now)
+shape_size (Shape.EachThread inner) = size_of (view inner.now)
+shape_size (Shape.Clients inner) = size_of (view inner.now)
+shape_size (Shape.NemesisOnly inner) = size_of (view inner.now)
+
+-- Why a reading ends early: there is nothing to be told, unless memory was refused.
+abbrev pub EndsReading : {A : Type 0} → Option A → GenTextError → Type 0
+EndsReading told BadGenerator = told ≡ None
+EndsReading told OutOfMemory = Unit {0}
+
+-- generators before others
+abbrev pub before_members : Generators → Generators → Generators
+before_members no_generators gs = gs
+before_members (generator g rest) gs = generator g (before_members rest gs)
+
+-- shares before others
+abbrev pub before_shares : Shared → Shared → Shared
+before_shares no_shares ms = ms
+before_shares (share n g rest) ms = share n g (before_shares rest ms)
+
+-- The generators so far, with those that the rest tells, are those that all tell.
+abbrev pub MembersSoFar : Generators → List Edn → List Edn → Type 0
+MembersSoFar made rest all = members_told all ≡ option_map (before_members made) (members_told rest)
+
+-- The shares so far, with what the rest tells, are what all tell.
+abbrev pub SharesSoFar : Shared → List Edn → List Edn → Type 0
+SharesSoFar made rest all = reserved_told all ≡ option_map (λ r. (before_shares made r.0, r.1)) (reserved_told rest)

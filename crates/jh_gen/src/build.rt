@@ -1,0 +1,272 @@
+//! What is left of a generator before its first call: all copies and seats are made here, so that taking a call needs
+//! no memory. `specs/State.antt` has the rule, `specs/Fits.antt` which generators are taken.
+
+ghost use Rattle.std.specs.Prelude.{◌≡◌, ◌+◌, ◌≤◌, ◌<◌, ◌^◌, [], ◌∷◌, IfOk, filter, true, nat_le};
+ghost use Rattle.jh_gen.specs.Fits as rule;
+ghost use Rattle.jh_gen.specs.Generator.{row_of, shared_of};
+ghost use Rattle.jh_gen.specs.View.{generator_of};
+ghost use Rattle.jh_gen.specs.Scope.{is_client, is_nemesis, is_among, is_beyond};
+ghost use Rattle.jh_gen.specs.Fits.{shares_sum, fits, all_fit, shares_fit};
+ghost use Rattle.jh_gen.specs.State.{left_of, lefts_of, lots_of, lots_each, states_from, lots_from};
+ghost use Rattle.jh_gen.specs.NodeView.{state_of, lot_of, lots_view};
+
+use crate::generator::{Gen, Gens, Inner, Shares};
+use crate::node::{Lot, Lots, Member, Node, Row, Within};
+use std::alloc::{AllocError, Global};
+
+/// Whether each reserve's numbers sum to at most the number of client threads.
+#[cycle(fits)]
+pub(crate) fn fits(source: &Gen, clients: u64) -> bool
+    requires { clients ≤ 16 }
+    ensures { result ≡ rule.fits clients (generator_of source.now) }
+{
+    match source {
+        Gen::Nil => true,
+        Gen::Once(_) => true,
+        Gen::Rising(_) => true,
+        Gen::Forever(_) => true,
+        Gen::Seq(members) => members.all_fit(clients),
+        Gen::Limit(_, inner) => fits(&inner.boxed, clients),
+        Gen::Mix(members) => members.all_fit(clients),
+        Gen::Phases(members) => members.all_fit(clients),
+        Gen::Reserve(shares, inner) => {
+            shares.is_at_most(clients) && shares.all_fit(clients) && fits(&inner.boxed, clients)
+        }
+        Gen::EachThread(inner) => fits(&inner.boxed, clients),
+        Gen::Clients(inner) => fits(&inner.boxed, clients),
+        Gen::NemesisOnly(inner) => fits(&inner.boxed, clients),
+    }
+}
+
+impl Gens {
+    #[cycle(fits)]
+    fn all_fit(&self, clients: u64) -> bool
+        requires { clients ≤ 16 }
+        ensures { result ≡ rule.all_fit clients (row_of self.now) }
+    {
+        for member in &self.items {
+            if !fits(member, clients) {
+                return false;
+            }
+        }
+        true
+    }
+}
+
+impl Shares {
+    #[cycle(fits)]
+    fn all_fit(&self, clients: u64) -> bool
+        requires { clients ≤ 16 }
+        ensures { result ≡ rule.shares_fit clients (shared_of self.now) }
+    {
+        for (_, member) in &self.items {
+            if !fits(member, clients) {
+                return false;
+            }
+        }
+        true
+    }
+
+    fn is_at_most(&self, clients: u64) -> bool
+        requires { clients ≤ 16 }
+        ensures { result ≡ nat_le (shares_sum (shared_of self.now)) clients }
+    {
+        let mut sum = 0;
+        for (count, _) in &self.items {
+            sum += *count as u64;
+            if sum > clients {
+                return false;
+            }
+        }
+        true
+    }
+}
+
+/// What is left of a generator for some seats, before its first call.
+#[cycle(build)]
+pub(crate) fn build(alloc: Global, source: &Gen, seats: &[usize]) -> Result<Node, AllocError>
+    requires { fits 16 (generator_of source.now) ≡ true }
+    ensures { IfOk result (λ n. state_of n ≡ left_of (generator_of source.now) [] seats.now) }
+{
+    match source {
+        Gen::Nil => Ok(Node::Gone),
+        Gen::Once(call) => {
+            if seats.is_empty() {
+                Ok(Node::Gone)
+            } else {
+                Ok(Node::One(*call))
+            }
+        }
+        Gen::Rising(first) => {
+            if seats.is_empty() {
+                Ok(Node::Gone)
+            } else {
+                Ok(Node::Counting(*first))
+            }
+        }
+        Gen::Forever(call) => {
+            if seats.is_empty() {
+                Ok(Node::Gone)
+            } else {
+                Ok(Node::Endless(*call))
+            }
+        }
+        Gen::Seq(members) => Ok(Node::InTurn(Vec::new(alloc), build_row(alloc, members, seats)?)),
+        Gen::Limit(limit, inner) => Ok(Node::Limited(*limit, build_within(alloc, inner, seats)?)),
+        Gen::Mix(members) => Ok(Node::Mixed(build_row(alloc, members, seats)?)),
+        Gen::Phases(members) => {
+            let awaited = seats.to_vec(alloc)?;
+            Ok(Node::InTurn(awaited, build_row(alloc, members, seats)?))
+        }
+        Gen::Reserve(shares, inner) => {
+            let mut items = build_shares(alloc, shares, seats)?;
+            let others = seats_beyond(alloc, seats, shares.sum())?;
+            items.push(build_lot(alloc, inner, others)?)?;
+            Ok(Node::Split(Lots { items }))
+        }
+        Gen::EachThread(inner) => Ok(Node::Split(build_copies(alloc, inner, seats)?)),
+        Gen::Clients(inner) => Ok(Node::Split(build_part(
+            alloc,
+            inner,
+            client_seats(alloc, seats)?,
+        )?)),
+        Gen::NemesisOnly(inner) => Ok(Node::Split(build_part(
+            alloc,
+            inner,
+            nemesis_seats(alloc, seats)?,
+        )?)),
+    }
+}
+
+#[cycle(build)]
+fn build_within(alloc: Global, inner: &Inner, seats: &[usize]) -> Result<Within, AllocError>
+    requires { fits 16 inner.now ≡ true }
+    ensures { IfOk result (λ w. w ≡ left_of inner.now [] seats.now) }
+{
+    let node = build(alloc, &inner.boxed, seats)?;
+    Ok(Within {
+        boxed: Box::new(alloc, node)?,
+    })
+}
+
+#[cycle(build)]
+fn build_row(alloc: Global, members: &Gens, seats: &[usize]) -> Result<Row, AllocError>
+    requires { all_fit 16 (row_of members.now) ≡ true }
+    ensures { IfOk result (λ r. states_from r ≡ lefts_of (row_of members.now) 0 [] seats.now) }
+{
+    let mut row = Vec::new(alloc);
+    for member in &members.items {
+        let node = build(alloc, member, seats)?;
+        row.push(Member {
+            started: false,
+            node,
+        })?;
+    }
+    Ok(Row { members: row })
+}
+
+/// One generator for a part of the seats.
+#[cycle(build)]
+fn build_lot(alloc: Global, inner: &Inner, part: Vec<usize>) -> Result<Lot, AllocError>
+    requires { fits 16 inner.now ≡ true }
+    ensures { IfOk result (λ l. lot_of l ≡ (part.items, left_of inner.now [] part.items)) }
+{
+    let node = build(alloc, &inner.boxed, part.as_slice())?;
+    Ok(Lot { seats: part, node })
+}
+
+#[cycle(build)]
+fn build_part(alloc: Global, inner: &Inner, part: Vec<usize>) -> Result<Lots, AllocError>
+    requires { fits 16 inner.now ≡ true }
+    ensures { IfOk result (λ ls. ls ≡ (part.items, left_of inner.now [] part.items) ∷ []) }
+{
+    let mut items = Vec::new(alloc);
+    items.push(build_lot(alloc, inner, part)?)?;
+    Ok(Lots { items })
+}
+
+/// A copy for each seat.
+#[cycle(build)]
+fn build_copies(alloc: Global, inner: &Inner, seats: &[usize]) -> Result<Lots, AllocError>
+    requires { fits 16 inner.now ≡ true }
+    ensures { IfOk result (λ ls. lots_from ls ≡ lots_each (λ x. left_of inner.now [] (x ∷ [])) seats.now) }
+{
+    let mut items = Vec::new(alloc);
+    for seat in seats {
+        let own = vec![in alloc; *seat]?;
+        let node = build(alloc, &inner.boxed, own.as_slice())?;
+        items.push(Lot { seats: own, node })?;
+    }
+    Ok(Lots { items })
+}
+
+/// The shares in order.
+#[cycle(build)]
+fn build_shares(alloc: Global, shares: &Shares, seats: &[usize]) -> Result<Vec<Lot>, AllocError>
+    requires sum { shares_sum (shared_of shares.now) ≤ 16 }
+    requires fit { shares_fit 16 (shared_of shares.now) ≡ true }
+    ensures { IfOk result (λ v. lots_from (lots_view v.items) ≡ lots_of (shared_of shares.now) 0 0 [] seats.now) }
+{
+    let mut items = Vec::new(alloc);
+    let mut first = 0;
+    for (count, member) in &shares.items {
+        let own = seats_among(alloc, seats, first, *count as usize)?;
+        let node = build(alloc, member, own.as_slice())?;
+        items.push(Lot { seats: own, node })?;
+        first += *count as usize;
+    }
+    Ok(items)
+}
+
+impl Shares {
+    /// How many client threads have a share.
+    fn sum(&self) -> usize
+        requires { shares_sum (shared_of self.now) ≤ 16 }
+        ensures { result ≡ shares_sum (shared_of self.now) }
+    {
+        let mut sum = 0;
+        for (count, _) in &self.items {
+            sum += *count as usize;
+        }
+        sum
+    }
+}
+
+fn client_seats(alloc: Global, seats: &[usize]) -> Result<Vec<usize>, AllocError>
+    ensures { IfOk result (λ v. v.items ≡ filter is_client seats.now) }
+{
+    seats.iter().copied().filter(|x| *x != 0).collect(alloc)
+}
+
+fn nemesis_seats(alloc: Global, seats: &[usize]) -> Result<Vec<usize>, AllocError>
+    ensures { IfOk result (λ v. v.items ≡ filter is_nemesis seats.now) }
+{
+    seats.iter().copied().filter(|x| *x == 0).collect(alloc)
+}
+
+fn seats_among(
+    alloc: Global,
+    seats: &[usize],
+    first: usize,
+    count: usize,
+) -> Result<Vec<usize>, AllocError>
+    requires { first + count ≤ 16 }
+    ensures { IfOk result (λ v. v.items ≡ filter (is_among first count) seats.now) }
+{
+    let last = first + count;
+    seats
+        .iter()
+        .copied()
+        .filter(|x| first < *x && *x <= last)
+        .collect(alloc)
+}
+
+fn seats_beyond(alloc: Global, seats: &[usize], count: usize) -> Result<Vec<usize>, AllocError>
+    ensures { IfOk result (λ v. v.items ≡ filter (is_beyond count) seats.now) }
+{
+    seats
+        .iter()
+        .copied()
+        .filter(|x| *x == 0 || count < *x)
+        .collect(alloc)
+}

@@ -1,0 +1,17 @@
+//! Generators of calls (jepsen.generator), and the driver that gives their calls to threads.
+#![tactic(auto)]
+
+mod answers;
+mod build;
+mod driver;
+mod generator;
+mod node;
+mod text;
+
+pub use answers::{DriverError, Ended, GenAnswer, GenError, Thread};
+pub use driver::{Driver, MOST_CALLS, MOST_CLIENTS};
+pub use generator::{Gen, Gens, Inner, Shares};
+pub use text::{GenTextError, gen_of_value};
+
+#[cfg(test)]
+mod tests;

@@ -1,0 +1,358 @@
+//! Generators as EDN values. `specs/GeneratorText.antt` has the rule, name by name.
+
+ghost use Rattle.std.specs.Prelude.{◌≡◌, ◌<◌, ◌≤◌, Some, IfOk, IfSome, MatchResult, option_map, is_some};
+ghost use Rattle.jh_edn.specs.Edn.{size_of, size_list};
+ghost use Rattle.jh_edn.specs.View.{view, views};
+ghost use Rattle.jh_gen.specs.Generator.{reserve, row_of};
+ghost use Rattle.jh_gen.specs.GeneratorText as rule;
+ghost use Rattle.jh_gen.specs.GeneratorText.{RefusesText, call_told, generator_told, told_by, told_in};
+ghost use Rattle.jh_gen.specs.ShapeInside.{EndsReading, members_told, part_of, parts_in, reserved_told};
+ghost use Rattle.jh_gen.specs.ShapeInside.{shape_size, told_of};
+ghost use Rattle.jh_gen.specs.View.{generator_of};
+ghost use Rattle.jh_gen.specs.declared.text.GenTextError.TheVariants.{OutOfMemory};
+
+use crate::generator::{Gen, Gens, Inner, Shares};
+use jh_edn::Value;
+use jh_ops::{Call, Request};
+use std::alloc::{AllocError, AllocFailed, Global};
+use thiserror::Error;
+
+/// Why a value is refused as a generator.
+#[derive(Clone, Copy, Debug, PartialEq, Eq, Error)]
+pub enum GenTextError {
+    #[error("bad generator")]
+    BadGenerator,
+    #[error("out of memory")]
+    OutOfMemory,
+}
+
+impl From<AllocError> for GenTextError {
+    ghost from_gives = { λ _ e. e ≡ OutOfMemory };
+
+    fn from(_error: AllocError) -> GenTextError {
+        GenTextError::OutOfMemory
+    }
+}
+
+impl<T: Drop> From<AllocFailed<T>> for GenTextError {
+    ghost from_gives = { λ _ e. e ≡ OutOfMemory };
+
+    fn from(_error: AllocFailed<T>) -> GenTextError {
+        GenTextError::OutOfMemory
+    }
+}
+
+/// A generator's form, whose inner values are still to be read.
+#[derive(Clone, Copy, Debug)]
+pub(crate) enum Shape<'a> {
+    Nil,
+    Once(Call),
+    Rising(i64),
+    Forever(Call),
+    Seq(&'a [Value]),
+    Limit(u32, &'a Value),
+    Mix(&'a [Value]),
+    Phases(&'a [Value]),
+    Reserve(&'a [Value]),
+    EachThread(&'a Value),
+    Clients(&'a Value),
+    NemesisOnly(&'a Value),
+}
+
+fn word_call(word: &str) -> Option<Call>
+    ensures { result ≡ rule.word_call word.now }
+{
+    match word {
+        "read" => Some(Call::Client(Request::Read)),
+        "generate" => Some(Call::Client(Request::Generate)),
+        _ => None,
+    }
+}
+
+fn number_of(number: i64) -> Option<u32>
+    ensures { result ≡ rule.number_of number }
+{
+    u32::try_from(number).ok()
+}
+
+fn number_call(word: &str, number: i64) -> Option<Call>
+    ensures { result ≡ rule.number_call word.now number }
+{
+    match word {
+        "write" => Some(Call::Client(Request::Write(number))),
+        "add" => Some(Call::Client(Request::Add(number))),
+        "step" => Some(Call::Step(number_of(number)?)),
+        _ => None,
+    }
+}
+
+fn call_in(parts: &[Value]) -> Option<Call>
+    ensures { result ≡ rule.call_in (views parts.now) }
+{
+    match parts {
+        [Value::Keyword(word), Value::Int(number)] => number_call(word.as_str(), *number),
+        [Value::Keyword(word), Value::Int(old), Value::Int(new)] if word.as_str() == "cas" => {
+            Some(Call::Client(Request::Cas(*old, *new)))
+        }
+        _ => None,
+    }
+}
+
+// The call that a value tells.
+fn call_of(value: &Value) -> Option<Call>
+    ensures { result ≡ call_told (view value.now) }
+{
+    match value {
+        Value::Keyword(word) => word_call(word.as_str()),
+        _ => call_in(value.elements()?),
+    }
+}
+
+// The only part.
+fn only(parts: &[Value]) -> Option<&Value>
+    ensures part { option_map (λ value. part_of (view value.now)) result ≡ rule.only (parts_in (views parts.now)) }
+    ensures smaller { IfSome result (λ value. size_of (view value.now) < size_list (views parts.now)) }
+{
+    match parts {
+        [part] => Some(part),
+        _ => None,
+    }
+}
+
+fn one_call(parts: &[Value]) -> Option<Call>
+    ensures { result ≡ rule.one_call (parts_in (views parts.now)) }
+{
+    call_of(only(parts)?)
+}
+
+fn one_integer(parts: &[Value]) -> Option<i64>
+    ensures { result ≡ rule.one_integer (parts_in (views parts.now)) }
+{
+    match only(parts)? {
+        Value::Int(number) => Some(*number),
+        _ => None,
+    }
+}
+
+fn number_in(value: &Value) -> Option<u32>
+    ensures { result ≡ rule.number_in (part_of (view value.now)) }
+{
+    match value {
+        Value::Int(number) => number_of(*number),
+        _ => None,
+    }
+}
+
+fn no_part(parts: &[Value]) -> Option<Shape<'_>>
+    ensures told { told_of result ≡ rule.no_part (parts_in (views parts.now)) }
+    ensures smaller { IfSome result (λ shape. shape_size shape ≤ size_list (views parts.now)) }
+{
+    match parts {
+        [] => Some(Shape::Nil),
+        _ => None,
+    }
+}
+
+fn limited(parts: &[Value]) -> Option<Shape<'_>>
+    ensures told { told_of result ≡ rule.limited (parts_in (views parts.now)) }
+    ensures smaller { IfSome result (λ shape. shape_size shape ≤ size_list (views parts.now)) }
+{
+    match parts {
+        [number, inner] => Some(Shape::Limit(number_in(number)?, inner)),
+        _ => None,
+    }
+}
+
+// The form of this name with these parts.
+fn shape_by<'a>(word: &str, parts: &'a [Value]) -> Option<Shape<'a>>
+    ensures told { told_of result ≡ told_by word.now (parts_in (views parts.now)) }
+    ensures smaller { IfSome result (λ shape. shape_size shape ≤ size_list (views parts.now)) }
+{
+    match word {
+        "nil" => no_part(parts),
+        "once" => Some(Shape::Once(one_call(parts)?)),
+        "rising" => Some(Shape::Rising(one_integer(parts)?)),
+        "forever" => Some(Shape::Forever(one_call(parts)?)),
+        "seq" => Some(Shape::Seq(parts)),
+        "limit" => limited(parts),
+        "mix" => Some(Shape::Mix(parts)),
+        "phases" => Some(Shape::Phases(parts)),
+        "reserve" => Some(Shape::Reserve(parts)),
+        "each-thread" => Some(Shape::EachThread(only(parts)?)),
+        "clients" => Some(Shape::Clients(only(parts)?)),
+        "nemesis" => Some(Shape::NemesisOnly(only(parts)?)),
+        _ => None,
+    }
+}
+
+fn word_of(value: &Value) -> Option<&str>
+    ensures { option_map (λ word. word.now) result ≡ rule.word_of (view value.now) }
+{
+    match value {
+        Value::Keyword(word) => Some(word.as_str()),
+        _ => None,
+    }
+}
+
+// The form of these parts, the first its name.
+fn shape_in(parts: &[Value]) -> Option<Shape<'_>>
+    ensures told { told_of result ≡ told_in (parts_in (views parts.now)) }
+    ensures smaller { IfSome result (λ shape. shape_size shape ≤ size_list (views parts.now)) }
+{
+    match parts {
+        [] => None,
+        [name, rest @ ..] => shape_by(word_of(name)?, rest),
+    }
+}
+
+// The form of a value, if it has one.
+fn shape_of(value: &Value) -> Option<Shape<'_>>
+    ensures told { told_of result ≡ generator_told (view value.now) }
+    ensures smaller { IfSome result (λ shape. shape_size shape < size_of (view value.now)) }
+{
+    shape_in(value.elements()?)
+}
+
+// Whether a value tells a generator.
+#[cycle(judge)]
+fn is_generator(value: &Value) -> bool
+    ensures { result ≡ is_some (generator_told (view value.now)) }
+{
+    let Some(shape) = shape_of(value) else {
+        return false;
+    };
+    match shape {
+        Shape::Nil => true,
+        Shape::Once(_) => true,
+        Shape::Rising(_) => true,
+        Shape::Forever(_) => true,
+        Shape::Seq(parts) => are_generators(parts),
+        Shape::Limit(_, inner) => is_generator(inner),
+        Shape::Mix(parts) => are_generators(parts),
+        Shape::Phases(parts) => are_generators(parts),
+        Shape::Reserve(parts) => are_reserved(parts),
+        Shape::EachThread(inner) => is_generator(inner),
+        Shape::Clients(inner) => is_generator(inner),
+        Shape::NemesisOnly(inner) => is_generator(inner),
+    }
+}
+
+#[cycle(judge)]
+fn are_generators(parts: &[Value]) -> bool
+    ensures { result ≡ is_some (members_told (views parts.now)) }
+{
+    for part in parts {
+        if !is_generator(part) {
+            return false;
+        }
+    }
+    true
+}
+
+// Whether these are numbers, each with a generator, and a generator behind them.
+#[cycle(judge)]
+fn are_reserved(parts: &[Value]) -> bool
+    ensures { result ≡ is_some (reserved_told (views parts.now)) }
+{
+    let mut rest = parts;
+    while let [number, part, later @ ..] = rest {
+        if number_in(number).is_none() || !is_generator(part) {
+            return false;
+        }
+        rest = later;
+    }
+    match rest {
+        [inner] => is_generator(inner),
+        _ => false,
+    }
+}
+
+// The generator that a value tells, or the first reason to end on the way.
+#[cycle(read)]
+fn gen_in(alloc: Global, value: &Value) -> Result<Gen, GenTextError>
+    ensures { MatchResult result
+        (λ source. generator_told (view value.now) ≡ Some (generator_of source))
+        (EndsReading (generator_told (view value.now))) }
+{
+    let Some(shape) = shape_of(value) else {
+        return Err(GenTextError::BadGenerator);
+    };
+    match shape {
+        Shape::Nil => Ok(Gen::Nil),
+        Shape::Once(call) => Ok(Gen::Once(call)),
+        Shape::Rising(first) => Ok(Gen::Rising(first)),
+        Shape::Forever(call) => Ok(Gen::Forever(call)),
+        Shape::Seq(parts) => Ok(Gen::Seq(members_in(alloc, parts)?)),
+        Shape::Limit(most, inner) => Ok(Gen::Limit(most, inner_in(alloc, inner)?)),
+        Shape::Mix(parts) => Ok(Gen::Mix(members_in(alloc, parts)?)),
+        Shape::Phases(parts) => Ok(Gen::Phases(members_in(alloc, parts)?)),
+        Shape::Reserve(parts) => reserve_in(alloc, parts),
+        Shape::EachThread(inner) => Ok(Gen::EachThread(inner_in(alloc, inner)?)),
+        Shape::Clients(inner) => Ok(Gen::Clients(inner_in(alloc, inner)?)),
+        Shape::NemesisOnly(inner) => Ok(Gen::NemesisOnly(inner_in(alloc, inner)?)),
+    }
+}
+
+#[cycle(read)]
+fn inner_in(alloc: Global, value: &Value) -> Result<Inner, GenTextError>
+    ensures { MatchResult result
+        (λ inner. generator_told (view value.now) ≡ Some inner)
+        (EndsReading (generator_told (view value.now))) }
+{
+    Ok(Inner::of(alloc, gen_in(alloc, value)?)?)
+}
+
+#[cycle(read)]
+fn members_in(alloc: Global, parts: &[Value]) -> Result<Gens, GenTextError>
+    ensures { MatchResult result
+        (λ members. members_told (views parts.now) ≡ Some (row_of members))
+        (EndsReading (members_told (views parts.now))) }
+{
+    let mut members = Vec::new(alloc);
+    for part in parts {
+        members.push(gen_in(alloc, part)?)?;
+    }
+    Ok(Gens::of(members))
+}
+
+#[cycle(read)]
+fn reserve_in(alloc: Global, parts: &[Value]) -> Result<Gen, GenTextError>
+    ensures { MatchResult result
+        (λ source. option_map (λ r. reserve r.0 r.1) (reserved_told (views parts.now)) ≡ Some (generator_of source))
+        (EndsReading (reserved_told (views parts.now))) }
+{
+    let mut shares = Vec::new(alloc);
+    let mut rest = parts;
+    while let [number, part, later @ ..] = rest {
+        let Some(count) = number_in(number) else {
+            return Err(GenTextError::BadGenerator);
+        };
+        shares.push((count, gen_in(alloc, part)?))?;
+        rest = later;
+    }
+    match rest {
+        [inner] => Ok(Gen::Reserve(Shares::of(shares), inner_in(alloc, inner)?)),
+        _ => Err(GenTextError::BadGenerator),
+    }
+}
+
+/// The generator that a value tells: a vector or a list of a name and what belongs to it, one of `[:nil]`, `[:once
+/// CALL]`, `[:rising N]`, `[:forever CALL]`, `[:seq G ..]`, `[:limit N G]`, `[:mix G ..]`, `[:phases G ..]`,
+/// `[:reserve N1 G1 .. D]`, `[:each-thread G]`, `[:clients G]` and `[:nemesis G]`. A call is `:read`, `[:write N]`,
+/// `[:cas OLD NEW]`, `[:add N]`, `:generate` or `[:step I]`. The numbers of a limit, a reserve and a step are from 0
+/// to 4,294,967,295, the others any of 64 bits.
+///
+/// Takes time linear in the value.
+///
+/// Errors, in this order: `BadGenerator` for any other value; `OutOfMemory`.
+pub fn gen_of_value(alloc: Global, value: &Value) -> Result<Gen, GenTextError>
+    ensures { MatchResult result
+        (λ source. generator_told (view value.now) ≡ Some (generator_of source))
+        (RefusesText (view value.now)) }
+{
+    match gen_in(alloc, value) {
+        // What was not read yet may tell nothing, which is the first reason to refuse it.
+        Err(GenTextError::OutOfMemory) if !is_generator(value) => Err(GenTextError::BadGenerator),
+        answer => answer,
+    }
+}

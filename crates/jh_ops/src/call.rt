@@ -1,0 +1,39 @@
+//! What clients and the nemesis are asked to do.
+
+/// What a client asks of the database: the functions `:read`, `:write`, `:cas`, `:add` and `:generate` of Jepsen's
+/// workloads, each with its argument.
+#[derive(Clone, Copy, Debug, PartialEq, Eq)]
+pub enum Request {
+    /// Read the register or the counter, or all elements of the set.
+    Read,
+    /// Write this value.
+    Write(i64),
+    /// Compare and set: where the first value is held, write the second.
+    Cas(i64, i64),
+    /// Add this amount to the counter, or this element to the set.
+    Add(i64),
+    /// Make an id that was never made before.
+    Generate,
+}
+
+/// One call that a generator gives to a thread.
+#[derive(Clone, Copy, Debug, PartialEq, Eq)]
+pub enum Call {
+    /// A client asks this of the database.
+    Client(Request),
+    /// The nemesis takes the step at this place of the schedule, from 0.
+    Step(u32),
+}
+
+/// What a test asks a database to be, which says the requests that a run may make and the checker of its history.
+#[derive(Clone, Copy, Debug, PartialEq, Eq)]
+pub enum Workload {
+    /// One value that is read, written, and compared and set.
+    Register,
+    /// A sum that is added to and read.
+    Counter,
+    /// Elements that are added once and read all together.
+    Set,
+    /// Ids, each made once.
+    Ids,
+}
