@@ -48,16 +48,17 @@ INPUTS = {
 }
 
 
-def measure(name, text):
+def measure(name):
+    # The input is made by a process of its own: what a process was before it runs a program counts among its memory.
     with tempfile.TemporaryFile() as source:
-        source.write(text.encode())
+        subprocess.run([sys.executable, __file__, name], stdout=source, check=True)
+        megabytes = source.seek(0, os.SEEK_END) / 1e6
         source.seek(0)
         begin = time.monotonic()
         child = subprocess.Popen([PROGRAM, "env"], stdin=source, stdout=subprocess.DEVNULL, stderr=subprocess.PIPE)
         complaint = child.stderr.read().decode().strip()
         _, _, usage = os.wait4(child.pid, 0)
         seconds = time.monotonic() - begin
-    megabytes = len(text) / 1e6
     print(
         f"{name:36} {megabytes:8.2f} MB {seconds:7.2f} s {megabytes / seconds:7.1f} MB/s "
         f"{usage.ru_maxrss / 1024:8.1f} MB at most   {complaint}"
@@ -67,8 +68,11 @@ def measure(name, text):
 def main():
     if not os.path.exists(PROGRAM):
         sys.exit(f"{PROGRAM} is not there: build it first, by rt run in crates/jeprun")
-    for name, make in INPUTS.items():
-        measure(name, make())
+    for name in INPUTS:
+        measure(name)
 
 
-main()
+if len(sys.argv) > 1:
+    sys.stdout.write(INPUTS[sys.argv[1]]())
+else:
+    main()

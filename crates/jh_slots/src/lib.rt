@@ -1,0 +1,16 @@
+//! A log of rows that threads share: each row is claimed, written and published once, and read by every seat alike.
+//!
+//! No call waits, and none but [`Slots::new`] takes memory.
+#![tactic(auto)]
+
+mod answers;
+mod laws;
+mod slots;
+mod steps;
+
+pub use answers::{Full, MOST_CLAIMED, MOST_ROWS, ROW_WORDS, Read, Receipt, SlotsError};
+pub use laws::slot_laws;
+pub use slots::{Claim, Seat, Slots};
+
+#[cfg(test)]
+mod tests;

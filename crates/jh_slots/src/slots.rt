@@ -1,0 +1,264 @@
+//! A log of rows, its seats and their calls. `specs/Seats.antt` says what each call makes of what a seat knows,
+//! `specs/States.antt` what is true of the log and all its seats at every moment.
+
+ghost use Rattle.std.specs.Prelude.{◌≡◌, ℕ, ◌+◌, ◌*◌, ◌<◌, ◌≤◌, ◌==◌, IfOk, IfErr, MatchBool, MatchResult, List, [], ◌∷◌, length, take, drop, replicate, true, Some};
+ghost use Rattle.std.specs.FinMap as fin;
+ghost use Rattle.jh_slots.specs.Seats.{Mark, newcomer, looked, took, wrote, published, voided, copied, joined, Agree, Holds, AreApart, BeginsAbove};
+ghost use Rattle.jh_slots.specs.Reading.{Reads};
+ghost use Rattle.jh_slots.specs.Sizes.{IsSize, RefusesSize};
+
+use crate::answers::{Full, MOST_ROWS, Read, Receipt, SlotsError};
+use crate::steps::{Copy, End, Gather, Law, Look, Peek, Recall, Take, Unite, View, Write};
+use atomic_table::Table;
+use std::alloc::{AllocError, Global};
+use std::marker::Model;
+
+/// A log of rows, each published or voided at most once. Threads share it by reference, and each has a seat of its own.
+/// A contract sees which table it is and the number of its rows.
+#[derive(Drop)]
+pub struct Slots {
+    table: Table<u8, View, usize, Law, Global>,
+    rows: usize,
+}
+
+impl Model for Slots {
+    ghost use Rattle.std.specs.Prelude.{◌≡◌, ◌+◌, ◌*◌, ◌≤◌};
+    ghost use Rattle.jh_slots.specs.Seats.{Log};
+    ghost use Rattle.jh_slots.specs.Codes.{log_code};
+
+    ghost Value = { Log };
+
+    ghost coded = { log_code };
+
+    ghost view = { λ s. record { table = s.table.shared.table_id; rows = s.rows } };
+
+    ghost invariant = { λ s. (s.table.shared.key ≡ s.rows) × (s.table.shared.table_id.words ≡ 1 + 6 * s.rows) × (s.rows ≤ 65536) };
+}
+
+/// One thread's place at a log. A contract sees the log's table and what the seat knows: the marks of rows that it has
+/// seen, a number of rows that it knows to be taken, and its claims. A claim of a seat that is dropped stays claimed.
+#[derive(Drop)]
+pub struct Seat {
+    inner: atomic_table::Seat<u8, View>,
+}
+
+impl Model for Seat {
+    ghost use Rattle.std.specs.Prelude.{◌≡◌, []};
+    ghost use Rattle.jh_slots.specs.Seats.{Seated};
+    ghost use Rattle.jh_slots.specs.Codes.{seated_code};
+
+    ghost Value = { Seated };
+
+    ghost coded = { seated_code };
+
+    ghost use Rattle.jh_slots.specs.Stored.{IsSeat};
+
+    ghost view = { λ s. record { table = s.inner.table_id; knows = s.inner.me.0.knows } };
+
+    ghost invariant = { λ s. (s.inner.me.1 ≡ []) × IsSeat s.inner.table_id.words s.inner.me.0 };
+}
+
+/// Rows that a seat has claimed, one after the other. It can't be dropped: it ends in [`Slots::publish`] or
+/// [`Slots::void`].
+pub struct Claim {
+    first: u32,
+    rows: u32,
+}
+
+// So many words, each 0.
+fn zeros(alloc: Global, count: usize) -> Result<Vec<u64>, AllocError>
+    ensures { IfOk result (λ words. words.items ≡ replicate count 0) }
+{
+    let mut words = Vec::with_capacity(alloc, count)?;
+    for _ in 0..count {
+        words.push(0)?;
+    }
+    Ok(words)
+}
+
+impl Slots {
+    /// A log of rows that are all free, and its first seat, which knows nothing yet. `rows` is from 1 to
+    /// [`MOST_ROWS`].
+    ///
+    /// Errors: `BadSize`; `OutOfMemory`.
+    pub fn new(alloc: Global, rows: u32) -> Result<(Slots, Seat), SlotsError>
+        ensures { MatchResult result
+            (λ r. IsSize rows × (r.0.rows ≡ rows) × (r.1.table ≡ r.0.table) × (r.1.knows ≡ newcomer))
+            (RefusesSize rows) }
+    {
+        if rows == 0 || rows > MOST_ROWS {
+            return Err(SlotsError::BadSize);
+        }
+        let rows = rows as usize;
+        let words = zeros(alloc, 1 + 6 * rows)?;
+        let (table, inner) = Table::of_words(alloc, &words, &rows)?;
+        Ok((Slots { table, rows }, Seat { inner }))
+    }
+
+    /// Two seats of one: the second has seen what the first has, and the claims stay with the first. It always
+    /// succeeds so far; a split that fails hands the seat back as it was.
+    pub fn split(&self, seat: Seat) -> Result<(Seat, Seat), Seat>
+        requires { seat.table ≡ self.now.table }
+        ensures split { IfOk result (λ r. (r.0 ≡ seat) × (r.1.table ≡ seat.table) × (r.1.knows ≡ copied seat.knows)) }
+        ensures kept { IfErr result (λ s. s ≡ seat) }
+    {
+        let Seat { mut inner } = seat;
+        let other = self.table.shared.split_seat::<Copy>(&mut inner);
+        Ok((Seat { inner }, Seat { inner: other }))
+    }
+
+    /// One seat of two: it has seen what either had and has the claims of both. On every row that both have seen they
+    /// agree, and their claims have no row in common.
+    pub fn join(&self, seat: Seat, other: Seat) -> Seat
+        requires { (seat.table ≡ self.now.table) × (other.table ≡ self.now.table) }
+        ensures table { result.table ≡ seat.table }
+        ensures joined { result.knows ≡ joined seat.knows other.knows }
+        ensures agree { Agree seat.knows other.knows }
+    {
+        let Seat { mut inner } = seat;
+        let Seat { inner: other } = other;
+        self.table.shared.join_seat::<Unite>(&mut inner, other);
+        self.table.shared.load::<Recall>(&mut inner, 0);
+        Seat { inner }
+    }
+
+    // The next free row.
+    fn look(&self, seat: &mut Seat) -> u32
+        requires { seat.old.table ≡ self.now.table }
+        ensures table { seat.new.table ≡ seat.old.table }
+        ensures low { seat.new.knows ≡ looked result seat.old.knows }
+        ensures range { (seat.old.knows.low ≤ result) × (result ≤ self.now.rows) }
+    {
+        self.table.shared.load::<Look>(&mut seat.inner, 0) as u32
+    }
+
+    // The next free row as it was. If it was `first`, the rows are now claimed.
+    fn take(&self, seat: &mut Seat, first: u32, rows: u32) -> u32
+        requires own { seat.old.table ≡ self.now.table }
+        requires fits { (1 ≤ rows) × (first + rows ≤ self.now.rows) }
+        ensures table { seat.new.table ≡ seat.old.table }
+        ensures range { (seat.old.knows.low ≤ result) × (result ≤ self.now.rows) }
+        ensures taken { MatchBool (result == first)
+            ((seat.new.knows ≡ took result rows seat.old.knows) × BeginsAbove seat.old.knows result × AreApart seat.new.knows)
+            (seat.new.knows ≡ looked result seat.old.knows) }
+    {
+        self.table.shared.compare_exchange::<Take>(
+            &mut seat.inner,
+            0,
+            first as u64,
+            first as u64 + rows as u64,
+        ) as u32
+    }
+
+    /// Claims consecutive rows, 1 to [`MOST_CLAIMED`](crate::MOST_CLAIMED) of them, whose words are 0 until they are
+    /// written. They lie above all rows that the seat has seen or claimed.
+    ///
+    /// Error: `Full` where fewer rows are left. The seat may then know more of the rows that are taken.
+    pub fn claim(&self, seat: &mut Seat, rows: u32) -> Result<Claim, Full>
+        requires own { seat.old.table ≡ self.now.table }
+        requires rows { (1 ≤ rows) × (rows ≤ 255) }
+        ensures table { seat.new.table ≡ seat.old.table }
+        ensures claimed { IfOk result (λ c. seat.new.knows ≡ took c.first rows seat.old.knows) }
+        ensures rows { IfOk result (λ c. (c.rows ≡ rows) × (c.first + rows ≤ self.now.rows)) }
+        ensures held { IfOk result (λ c. Holds seat.new.knows c.first c.rows) }
+        ensures above { IfOk result (λ c. BeginsAbove seat.old.knows c.first) }
+        ensures apart { IfOk result (λ _. AreApart seat.new.knows) }
+        ensures full { IfErr result (λ _. self.now.rows < seat.new.knows.low + rows) }
+        ensures looked { IfErr result (λ _. seat.new.knows ≡ looked seat.new.knows.low seat.old.knows) }
+        ensures rises { seat.old.knows.low ≤ seat.new.knows.low }
+    {
+        let mut first = self.look(seat);
+        while first as usize + rows as usize <= self.rows {
+            let found = self.take(seat, first, rows);
+            if found == first {
+                return Ok(Claim { first, rows });
+            }
+            first = found;
+        }
+        Err(Full)
+    }
+
+    /// Writes one word of a claim, at a place below five times its rows. No seat sees it before the claim is published.
+    pub fn write(&self, seat: &mut Seat, claim: &mut Claim, place: usize, value: u64)
+        requires own { seat.old.table ≡ self.now.table }
+        requires holds { Holds seat.old.knows claim.old.first claim.old.rows }
+        requires place { place < 5 * claim.old.rows }
+        ensures table { seat.new.table ≡ seat.old.table }
+        ensures claim { claim.new ≡ claim.old }
+        ensures held { Holds seat.new.knows claim.new.first claim.new.rows }
+        ensures written { seat.new.knows ≡ wrote claim.old.first place value seat.old.knows }
+    {
+        self.table.shared.store::<Write>(
+            &mut seat.inner,
+            1 + (5 * claim.first as usize + place),
+            value,
+        );
+    }
+
+    /// Publishes the first `len` words of a claim at its first row, and ends it. `len` is from 1 to five times the
+    /// claim's rows; words that were not written are 0. The claim's other rows are never free again.
+    pub fn publish(&self, seat: &mut Seat, claim: Claim, len: usize) -> Receipt
+        requires own { seat.old.table ≡ self.now.table }
+        requires holds { Holds seat.old.knows claim.first claim.rows }
+        requires len { (1 ≤ len) × (len ≤ 5 * claim.rows) }
+        ensures table { seat.new.table ≡ seat.old.table }
+        ensures published { seat.new.knows ≡ published claim.first len seat.old.knows }
+        ensures receipt { (result.row ≡ claim.first) × (result.len ≡ len) }
+    {
+        let Claim { first, rows: _ } = claim;
+        self.table.shared.store::<End>(
+            &mut seat.inner,
+            1 + (5 * self.rows + first as usize),
+            len as u64 + 1,
+        );
+        Receipt { row: first, len }
+    }
+
+    /// Ends a claim with nothing published. Its rows are never free again.
+    pub fn void(&self, seat: &mut Seat, claim: Claim)
+        requires own { seat.old.table ≡ self.now.table }
+        requires holds { Holds seat.old.knows claim.first claim.rows }
+        ensures table { seat.new.table ≡ seat.old.table }
+        ensures voided { seat.new.knows ≡ voided claim.first seat.old.knows }
+    {
+        let Claim { first, rows: _ } = claim;
+        self.table
+            .shared
+            .store::<End>(&mut seat.inner, 1 + (5 * self.rows + first as usize), 1);
+    }
+
+    /// Reads the record of a row into a buffer, whose further places stay as they are. A row that the seat has seen is
+    /// answered with the same mark again. `TooSmall` and `Absent` change neither the buffer nor what the seat has seen.
+    pub fn read(&self, seat: &mut Seat, row: u32, buffer: &mut [u64]) -> Read
+        requires { seat.old.table ≡ self.now.table }
+        ensures table { seat.new.table ≡ seat.old.table }
+        ensures read { Reads seat.old.knows buffer.old row result seat.new.knows buffer.new }
+    {
+        let _ = &seat.inner;
+        let row = row as usize;
+        if row >= self.rows {
+            return Read::Absent;
+        }
+        let status = self
+            .table
+            .shared
+            .load::<Peek>(&mut seat.inner, 1 + (5 * self.rows + row));
+        if status == 0 {
+            return Read::Absent;
+        }
+        if status == 1 {
+            return Read::Void;
+        }
+        let len = (status - 1) as usize;
+        if len > buffer.len() {
+            return Read::TooSmall(len);
+        }
+        for place in 0..len {
+            buffer[place] = self
+                .table
+                .shared
+                .load::<Gather>(&mut seat.inner, 1 + (5 * row + place));
+        }
+        Read::Words(len)
+    }
+}
