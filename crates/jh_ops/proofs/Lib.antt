@@ -7,3 +7,5 @@ pub mod ReadBackLemmas
 pub mod WrittenLemmas
 pub mod HistoryLemmas
 pub mod WithinLemmas
+pub mod RecordLemmas
+pub mod RecordReadLemmas

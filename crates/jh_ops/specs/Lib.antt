@@ -5,3 +5,5 @@ pub mod OperationWritten
 pub mod HistoryText
 pub mod Pairing
 pub mod Stage
+pub mod Words
+pub mod RecordParts

@@ -8,6 +8,8 @@ mod op_written;
 mod operation;
 mod pairing;
 mod pairs;
+mod record;
+mod words;
 
 pub use call::{Call, Request, Workload};
 pub use history::{HistoryError, history_of};
@@ -16,6 +18,7 @@ pub use op_written::{operations_read_back, value_of};
 pub use operation::{Kind, Op, Process};
 pub use pairing::pair;
 pub use pairs::{Pair, PairError};
+pub use words::{WordsError, of_words, recorded_once, to_words};
 
 #[cfg(test)]
 mod tests;

@@ -46,7 +46,7 @@ pub(crate) fn untag(value: Value) -> Value
     value
 }
 
-fn is_keyword(name: &str, value: &Value) -> bool
+pub(crate) fn is_keyword(name: &str, value: &Value) -> bool
     ensures { result ≡ rule.is_keyword name.now (view value.now) }
 {
     match value {
@@ -55,7 +55,7 @@ fn is_keyword(name: &str, value: &Value) -> bool
     }
 }
 
-fn is_integer(value: &Value) -> bool
+pub(crate) fn is_integer(value: &Value) -> bool
     ensures { result ≡ rule.is_integer (view value.now) }
 {
     matches!(value, Value::Int(_))

@@ -23,7 +23,7 @@ fn kind_name(kind: Kind) -> &'static str
     }
 }
 
-fn keyword(alloc: Global, name: &str) -> Result<Value, AllocError>
+pub(crate) fn keyword(alloc: Global, name: &str) -> Result<Value, AllocError>
     ensures { IfOk result (λ value. view value ≡ keyword name.now) }
 {
     Ok(Value::Keyword(Text::of(name.to_string(alloc)?)))

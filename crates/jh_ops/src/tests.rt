@@ -4,8 +4,8 @@
 //! Each test passes, too, where one allocation is refused: the call that answers so is made again.
 
 use crate::{
-    HistoryError, Op, OpError, Pair, PairError, history_of, op_of, operations_read_back, pair,
-    value_of,
+    HistoryError, Op, OpError, Pair, PairError, WordsError, history_of, of_words, op_of,
+    operations_read_back, pair, recorded_once, to_words, value_of,
 };
 use jh_edn::{EdnError, Value, read_all, write};
 use std::alloc::Global;
@@ -299,7 +299,161 @@ fn says_why_there_are_no_pairs(rt: HostRuntime) -> Result<(), Fail> {
     Ok(())
 }
 
+// What recording the operation of a text answers, where there are so many places, and six places that held 7.
+fn record(
+    alloc: Global,
+    text: &str,
+    places: usize,
+) -> Result<(Result<usize, WordsError>, [u64; 6]), Fail> {
+    let op = op(alloc, text)??;
+    let mut words = [7; 6];
+    let answer = to_words(&op, &mut words[..places.min(6)]);
+    Ok((answer, words))
+}
+
+// Prints the operation of these words.
+fn print_words(alloc: Global, words: &[u64]) -> Result<Result<Vec<u8>, WordsError>, Fail> {
+    let answer = match of_words(alloc, words) {
+        Err(WordsError::OutOfMemory) => of_words(alloc, words),
+        answer => answer,
+    };
+    let mut printed = Vec::new(alloc);
+    match answer {
+        Ok(op) => {
+            print(alloc, &op, &mut printed)?;
+            Ok(Ok(printed))
+        }
+        Err(error) => Ok(Err(error)),
+    }
+}
+
+#[test]
+fn operations_are_words(rt: HostRuntime) -> Result<(), Fail> {
+    let cases = [
+        (
+            "{:type :ok, :process 2, :f :cas, :value [0 -1], :event 7}\n",
+            5,
+            [137, 2, 8, 0, u64::MAX, 7],
+        ),
+        (
+            "{:type :invoke, :process 0, :f :read, :value nil}\n",
+            3,
+            [0, 0, 0, 7, 7, 7],
+        ),
+        (
+            "{:type :info, :process :nemesis, :f :step, :value 3}\n",
+            4,
+            [87, u64::MAX, 0, 3, 7, 7],
+        ),
+        (
+            "{:type :fail, :process 1, :f :read, :value []}\n",
+            3,
+            [130, 1, 0, 7, 7, 7],
+        ),
+    ];
+    for (text, len, words) in cases {
+        assert!(rt;
+            record(rt.alloc(), text, 6)? == (Ok(len), words),
+            "at {text}"
+        );
+        assert!(rt;
+            print_words(rt.alloc(), &words[..len])??.as_slice() == text.as_bytes(),
+            "at {text}"
+        );
+    }
+    Ok(())
+}
+
+#[test]
+fn refuses_what_has_no_words(rt: HostRuntime) -> Result<(), Fail> {
+    let cases = [
+        (
+            "{:type :ok, :process 0, :f :read, :time 1}",
+            WordsError::NotRecordable,
+        ),
+        (
+            "{:type :ok, :process 0, :f :read, :index 0}",
+            WordsError::NotRecordable,
+        ),
+        (
+            "{:type :ok, :process 0, :f :read, :error 0}",
+            WordsError::NotRecordable,
+        ),
+        (
+            "{:type :ok, :process 0, :f :read, :event -1}",
+            WordsError::NotRecordable,
+        ),
+        (
+            "{:type :ok, :process 0, :f :read, :value (1)}",
+            WordsError::NotRecordable,
+        ),
+        (
+            "{:type :ok, :process 0, :f :write}",
+            WordsError::NotRecordable,
+        ),
+        (
+            "{:type :ok, :process 0, :f :cas, :value [1]}",
+            WordsError::NotRecordable,
+        ),
+        (
+            "{:type :ok, :process 0, :f :start, :value 1}",
+            WordsError::NotRecordable,
+        ),
+        (
+            "{:type :ok, :process 2, :f :cas, :value [0 -1], :event 7}",
+            WordsError::TooSmall,
+        ),
+    ];
+    for (text, error) in cases {
+        assert!(rt;
+            record(rt.alloc(), text, 4)? == (Err(error), [7; 6]),
+            "at {text}"
+        );
+    }
+    Ok(())
+}
+
+#[test]
+fn refuses_words_of_no_operation(rt: HostRuntime) -> Result<(), Fail> {
+    let cases: [&[u64]; 9] = [
+        &[0, 0],
+        &[1000],
+        // A spare bit, a fourth shape and a function of no number.
+        &[256, 0, 0],
+        &[192, 0, 0],
+        &[24, 0, 0],
+        // A process and an event that are no integers of a text.
+        &[0, 1 << 63, 0],
+        &[0, 0, (1 << 63) + 1],
+        // A read of nil with an integer, and a write of nil.
+        &[0, 0, 0, 1],
+        &[4, 0, 0],
+    ];
+    for words in cases {
+        assert_eq!(rt;
+            print_words(rt.alloc(), words)?.err(),
+            Some(WordsError::BadWords)
+        );
+    }
+    Ok(())
+}
+
+#[test]
+fn says_why_there_are_no_words(rt: HostRuntime) -> Result<(), Fail> {
+    let cases = [
+        (WordsError::NotRecordable, "not recordable"),
+        (WordsError::TooSmall, "too small"),
+        (WordsError::BadWords, "bad words"),
+        (WordsError::OutOfMemory, "out of memory"),
+    ];
+    for (error, text) in cases {
+        assert_eq!(rt; said(rt.alloc(), &error)?.as_str(), text);
+    }
+    Ok(())
+}
+
 #[test]
 fn laws_run(_rt: HostRuntime) {
     operations_read_back();
+    recorded_once();
 }
