@@ -1,6 +1,6 @@
 -- Keys, built one by one.
 use Rattle.std.proofs.Common.{◌≡◌, ℕ, zero, suc, ◌+◌, ◌<◌, List, [], ◌∷◌, ◌++◌, length, take, get_or, map, refl, ap, arith}
-use Rattle.jh_edn.specs.Edn.{items_of, members_of}
+use Rattle.jh_edn.specs.Edn.{Edn, items_of, members_of}
 use Rattle.jh_edn.specs.Key.{KeyPart, key_of, item_keys, pair_keys}
 use Rattle.jh_edn.specs.View.{view, views, view_pairs}
 use Rattle.jh_edn.specs.declared.value.Value.{Value}
@@ -23,7 +23,7 @@ pair_keys_push (p ∷ ps) (suc i) d h =
     let k : suc i + 1 ≡ suc (i + 1) = omega arith in
     rw k (ap (λ (w : List (List KeyPart)). (key_of (view p.0) ++ key_of (view p.1)) ∷ w) (pair_keys_push ps i d (omega arith)))
 
--- the keys of the keys that a program holds
-pub keys_seen : (ps : List (Value × Value)) → map (λ p. key_of (view p.0)) ps ≡ map (λ m. key_of m.0) (view_pairs ps)
-keys_seen [] = refl
-keys_seen (p ∷ ps) = ap (λ (w : List (List KeyPart)). key_of (view p.0) ∷ w) (keys_seen ps)
+-- what is made of the key of each pair that a program holds
+pub keys_seen : {X : Type 0} (f : Edn → X) (ps : List (Value × Value)) → map (λ p. f (view p.0)) ps ≡ map (λ m. f m.0) (view_pairs ps)
+keys_seen f [] = refl
+keys_seen {X} f (p ∷ ps) = ap (λ (w : List X). f (view p.0) ∷ w) (keys_seen f ps)

@@ -8,6 +8,7 @@ pub mod KeyLists
 pub mod Pairing
 pub mod Twice
 pub mod Keys
+pub mod Fingerprints
 pub mod Comparing
 pub mod OrderLemmas
 pub mod NormalLists

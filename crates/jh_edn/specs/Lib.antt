@@ -6,6 +6,7 @@ pub mod Bytes
 pub mod Equality
 pub mod Order
 pub mod Key
+pub mod Fingerprint
 pub mod Spelling
 pub mod Reading
 pub mod Normal

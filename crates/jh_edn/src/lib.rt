@@ -9,6 +9,7 @@ mod copy;
 mod element;
 mod error;
 mod fault;
+mod fingerprint;
 mod is_normal;
 mod key;
 mod laws;

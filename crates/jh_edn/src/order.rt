@@ -12,7 +12,7 @@ use crate::value::{Pairs, Value, Values};
 use std::cmp::Ordering;
 
 /// Where a value's kind stands among the kinds. A list is of the kind of vectors.
-fn kind_of(value: &Value) -> u8
+pub(crate) fn kind_of(value: &Value) -> u8
     ensures { result ≡ order.kind_of (view value.now) }
 {
     match value {

@@ -1,12 +1,17 @@
 //! A map's elements as pairs, and whether two keys are equal.
+//!
+//! Keys whose fingerprints differ are not equal. Only where two fingerprints agree, the keys themselves are looked at.
 
-ghost use Rattle.std.specs.Prelude.{◌≡◌, IfOk, map};
+ghost use Rattle.std.specs.Prelude.{◌≡◌, IfOk, IsTrue, map};
+ghost use Rattle.std.specs.List.Sorted.{IsStrictlyIncreasing};
+ghost use Rattle.jh_edn.specs.Fingerprint.{EachOnce, fingerprint, fingerprints};
 ghost use Rattle.jh_edn.specs.Key as key;
 ghost use Rattle.jh_edn.specs.Key.{keys_in};
 ghost use Rattle.jh_edn.specs.Reading as reading;
 ghost use Rattle.jh_edn.specs.Reading.{pairs_of};
 ghost use Rattle.jh_edn.specs.View.{views};
 
+use crate::fingerprint::fingerprint;
 use crate::key::{Part, item_keys, push_key};
 use crate::value::{Pairs, Value, Values};
 use std::alloc::{AllocError, Global};
@@ -40,10 +45,53 @@ fn has_twice(alloc: Global, keys: &[Vec<Part<'_>>]) -> Result<bool, AllocError>
     Ok(false)
 }
 
-/// Whether two keys of the map are equal. Takes n log n comparisons in a map of n pairs.
-#[tactic(auto, unfolding(crate::specs::Reading::repeats_key))]
-pub(crate) fn repeats_key(alloc: Global, pairs: &Pairs) -> Result<bool, AllocError>
-    ensures { IfOk result (λ b. b ≡ reading.repeats_key pairs.now) }
+/// Whether each number is above the one before it.
+fn ascend(numbers: &[u64]) -> bool
+    ensures { IsTrue result → IsStrictlyIncreasing numbers.now }
+{
+    let mut at = 1;
+    while at < numbers.len() {
+        if numbers[at] <= numbers[at - 1] {
+            return false;
+        }
+        at += 1;
+    }
+    true
+}
+
+/// Whether no number stands twice.
+fn each_once(mut numbers: Vec<u64>) -> bool
+    ensures { IsTrue result → EachOnce numbers.items }
+{
+    numbers.sort_unstable();
+    ascend(&numbers)
+}
+
+/// The fingerprint of each key.
+fn key_numbers(alloc: Global, pairs: &Pairs) -> Result<Vec<u64>, AllocError>
+    ensures { IfOk result (λ ns. ns.items ≡ map (λ m. fingerprint m.0) pairs.now) }
+{
+    let mut numbers = Vec::with_capacity(alloc, pairs.items.len())?;
+    for pair in &pairs.items {
+        numbers.push(fingerprint(&pair.0))?;
+    }
+    Ok(numbers)
+}
+
+/// The fingerprint of each element.
+fn item_numbers(alloc: Global, items: &Values) -> Result<Vec<u64>, AllocError>
+    ensures { IfOk result (λ ns. ns.items ≡ fingerprints items.now) }
+{
+    let mut numbers = Vec::with_capacity(alloc, items.items.len())?;
+    for item in &items.items {
+        numbers.push(fingerprint(item))?;
+    }
+    Ok(numbers)
+}
+
+/// The key of each pair's key.
+fn map_keys(alloc: Global, pairs: &Pairs) -> Result<Vec<Vec<Part<'_>>>, AllocError>
+    ensures { IfOk result (λ codes. keys_in codes.items ≡ map (λ m. key.key_of m.0) pairs.now) }
 {
     let mut keys = Vec::new(alloc);
     for pair in &pairs.items {
@@ -51,13 +99,29 @@ pub(crate) fn repeats_key(alloc: Global, pairs: &Pairs) -> Result<bool, AllocErr
         push_key(alloc, &pair.0, &mut code)?;
         keys.push(code)?;
     }
-    has_twice(alloc, &keys)
+    Ok(keys)
 }
 
-/// Whether two elements of the set are equal. Takes n log n comparisons in a set of n elements.
+/// Whether two keys of the map are equal. Takes n log n comparisons in a map of n pairs: of numbers, and of keys
+/// only where two fingerprints agree.
+#[tactic(auto, unfolding(crate::specs::Reading::repeats_key))]
+pub(crate) fn repeats_key(alloc: Global, pairs: &Pairs) -> Result<bool, AllocError>
+    ensures { IfOk result (λ b. b ≡ reading.repeats_key pairs.now) }
+{
+    if each_once(key_numbers(alloc, pairs)?) {
+        return Ok(false);
+    }
+    has_twice(alloc, &map_keys(alloc, pairs)?)
+}
+
+/// Whether two elements of the set are equal. Takes n log n comparisons in a set of n elements: of numbers, and of keys
+/// only where two fingerprints agree.
 #[tactic(auto, unfolding(crate::specs::Reading::repeats_element))]
 pub(crate) fn repeats_element(alloc: Global, items: &Values) -> Result<bool, AllocError>
     ensures { IfOk result (λ b. b ≡ reading.repeats_element items.now) }
 {
+    if each_once(item_numbers(alloc, items)?) {
+        return Ok(false);
+    }
     has_twice(alloc, &item_keys(alloc, items)?)
 }

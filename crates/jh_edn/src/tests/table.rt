@@ -318,6 +318,10 @@ fn reads_collections(rt: HostRuntime) -> Result<(), Fail> {
         \x1e#{nil nil}\x1fline 1: duplicate key\
         \x1e#{\\u0041 \\A}\x1fline 1: duplicate key\
         \x1e#{1 #_1 2}\x1f#{1 2}\
+        \x1e#{nil 2036462921555450246}\x1f#{nil 2036462921555450246}\
+        \x1e#{[nil] [2036462921555450246]}\x1f#{[nil] [2036462921555450246]}\
+        \x1e{true 1 1018231460777725124 2}\x1f{true 1, 1018231460777725124 2}\
+        \x1e#{\\a -1018231460777725026 \\a}\x1fline 1: duplicate key\
         \x1e#inst \"x\"\x1f#inst \"x\"\
         \x1e#inst\"x\"\x1f#inst \"x\"\
         \x1e#a 1\x1f#a 1\

@@ -1,6 +1,7 @@
 //! The order of values, their normal form and copies: the texts of the format, and that the calls succeed.
 
 use super::read;
+use crate::fingerprint::fingerprint;
 use crate::{EdnError, Tagged, Text, Value, Values, normal_laws, print_laws, write};
 use std::alloc::{AllocError, Global};
 use std::cmp::Ordering;
@@ -45,6 +46,21 @@ fn puts_in_normal_form(rt: HostRuntime) -> Result<(), Fail> {
             Err(_) => normal_text(rt.alloc(), text)?,
         };
         assert_eq!(rt; found.as_slice(), normal.as_bytes(), "at {text}");
+    }
+    Ok(())
+}
+
+/// Values that differ and have one fingerprint, which are told apart by their keys in the table of collections. The
+/// numbers were found by undoing `mix` from the other value's fingerprint.
+#[test]
+fn shares_fingerprints(rt: HostRuntime) -> Result<(), Fail> {
+    let numbers = [
+        (Value::Nil, 2_036_462_921_555_450_246),
+        (Value::Bool(true), 1_018_231_460_777_725_124),
+        (Value::Char('a'), -1_018_231_460_777_725_026),
+    ];
+    for (value, number) in &numbers {
+        assert_eq!(rt; fingerprint(value), fingerprint(&Value::Int(*number)));
     }
     Ok(())
 }
