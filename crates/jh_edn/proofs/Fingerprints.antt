@@ -1,15 +1,16 @@
 -- Equal values have one fingerprint, so values with different ones are not equal.
-use Rattle.std.proofs.Common.{◌≡◌, ℕ, ◌+◌, ◌%◌, ◌^◌, ◌≤◌, inl, inr, true, false, cond, List, [], ◌∷◌, map, refl, sym, ap, subst, ◌∙◌, arith}
+use Rattle.std.proofs.Common.{◌≡◌, ℕ, ◌+◌, ◌%◌, ◌^◌, ◌<◌, ◌≤◌, inl, inr, Bool, true, false, cond, List, [], ◌∷◌, length, take, get_or, map, refl, sym, ap, subst, ◌∙◌, arith}
 use Rattle.std.specs.Prelude.{◌==◌}
+use Rattle.std.specs.Bool.{MatchBool}
 use Rattle.std.specs.List.{AllByRecursion, count_by}
-use Rattle.std.specs.List.Sorted.{IsPermutation, IsStrictlyIncreasing, IsStrictlySortedBy}
+use Rattle.std.specs.List.Sorted.{IsPermutation, IsSorted, IsStrictlyIncreasing, IsStrictlySortedBy}
 use Rattle.std.specs.Ordering.{nat_cmp}
 use Rattle.std.specs.declared.cmp.Ordering.TheVariants.{Less}
 use Rattle.std.proofs.lemmas.Bool.{eqb-true, eqb-false}
 use Rattle.std.proofs.lemmas.Cmp.{nat_cmp_total, tied_itself}
-use Rattle.std.proofs.lemmas.List.Sums.{sum_by-cons}
+use Rattle.std.proofs.lemmas.List.Sums.{sum_by-cons, sum_by-take-le, count_by_more_yes}
 use Rattle.std.proofs.lemmas.List.Sorted.{sum_by-IsPermutation}
-use Rattle.std.proofs.lemmas.Map.Keys.{sorted_from_strictly_increasing}
+use Rattle.std.proofs.lemmas.Map.Keys.{sorted_from_strictly_increasing, ge_from_not_lt}
 use Rattle.jh_edn.specs.Edn.{Edn, nil, boolean, int, char, str, keyword, symbol, list, vector, mapping, set, tagged, Items, no_items, item, items_of, Members, no_members, member, members_of}
 use Rattle.jh_edn.specs.Equality.{IsSequence, Takes, Picks, Equals, EqualItems, EqualElements, EqualMembers, IsNew, Differ, keys_of}
 use Rattle.jh_edn.specs.Fingerprint.{mix, text_number, in_turn, sum_of_items, sum_of_members, fingerprint, fingerprints, EachOnce}
@@ -112,10 +113,37 @@ once z (n ∷ ns) h =
           omega (arith, head, once z ns h.1)
     ] refl
 
-pub once_in_order : (ns ms : List ℕ) → IsPermutation ns ms → IsStrictlyIncreasing ms → EachOnce ns
+once_in_order : (ns ms : List ℕ) → IsPermutation ns ms → IsStrictlyIncreasing ms → EachOnce ns
 once_in_order ns ms moved up z =
     let same : count z ms ≡ count z ns = sum_by-IsPermutation (λ n. cond (n == z) 1 0) ns ms moved in
     omega (arith, same, once z ms (sorted_from_strictly_increasing ms up))
+
+-- neighbours that are equal stand twice
+twice : (z : ℕ) (ns : List ℕ) (k : ℕ) → k + 1 < length ns → get_or ns k 0 ≡ z → get_or ns (k + 1) 0 ≡ z → 2 ≤ count z ns
+twice z ns k h a b =
+    let p : ℕ → Bool = λ n. n == z in
+    let first : count z (take (k + 1) ns) ≡ count z (take k ns) + 1 = count_by_more_yes p ns k 0 (omega arith) (ap p a ∙ itself z) in
+    let second : count z (take (k + 1 + 1) ns) ≡ count z (take (k + 1) ns) + 1 = count_by_more_yes p ns (k + 1) 0 h (ap p b ∙ itself z) in
+    omega (arith, first, second, sum_by-take-le (λ n. cond (n == z) 1 0) ns (k + 1 + 1))
+
+up_where_once : (ns ms : List ℕ) → IsPermutation ns ms → IsSorted nat_cmp ms → EachOnce ns → IsStrictlyIncreasing ms
+up_where_once ns ms moved sorted one k h =
+    let a = get_or ms k 0 in
+    let b = get_or ms (k + 1) 0 in
+    let same : count a ms ≡ count a ns = sum_by-IsPermutation (λ n. cond (n == a) 1 0) ns ms moved in
+    let level : a ≤ b = ge_from_not_lt b a (sorted k 0 (omega arith) h) in
+    elim (b == a) as (λ t. (b == a) ≡ t → a < b) [
+      | true ↦ λ e. absurd (omega (arith, same, one a, twice a ms k h refl (eqb-true b a e)))
+      | false ↦ λ e. (let other : b ≡ a → ⊥ = eqb-false b a e in omega (arith, level, other))
+    ] refl
+
+pub once_exactly : (b : Bool) (ns ms : List ℕ) → IsPermutation ns ms → IsSorted nat_cmp ms → MatchBool b (IsStrictlyIncreasing ms) (IsStrictlyIncreasing ms → ⊥) → MatchBool b (EachOnce ns) (EachOnce ns → ⊥)
+once_exactly true ns ms moved sorted h = once_in_order ns ms moved h
+once_exactly false ns ms moved sorted h = λ one. h (up_where_once ns ms moved sorted one)
+
+pub told_once : (b : Bool) (ns : List ℕ) → b ≡ true → MatchBool b (EachOnce ns) (EachOnce ns → ⊥) → EachOnce ns
+told_once true ns e h = h
+told_once false ns e h = absurd cc
 
 -- ---- values whose fingerprints stand once
 

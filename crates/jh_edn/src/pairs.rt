@@ -2,7 +2,8 @@
 //!
 //! Keys whose fingerprints differ are not equal. Only where two fingerprints agree, the keys themselves are looked at.
 
-ghost use Rattle.std.specs.Prelude.{◌≡◌, IfOk, IsTrue, map};
+ghost use Rattle.std.specs.Prelude.{◌≡◌, IfOk, map};
+ghost use Rattle.std.specs.Bool.{MatchBool};
 ghost use Rattle.std.specs.List.Sorted.{IsStrictlyIncreasing};
 ghost use Rattle.jh_edn.specs.Fingerprint.{EachOnce, fingerprint, fingerprints};
 ghost use Rattle.jh_edn.specs.Key as key;
@@ -47,7 +48,7 @@ fn has_twice(alloc: Global, keys: &[Vec<Part<'_>>]) -> Result<bool, AllocError>
 
 /// Whether each number is above the one before it.
 fn ascend(numbers: &[u64]) -> bool
-    ensures { IsTrue result → IsStrictlyIncreasing numbers.now }
+    ensures { MatchBool result (IsStrictlyIncreasing numbers.now) (IsStrictlyIncreasing numbers.now → ⊥) }
 {
     let mut at = 1;
     while at < numbers.len() {
@@ -61,7 +62,7 @@ fn ascend(numbers: &[u64]) -> bool
 
 /// Whether no number stands twice.
 fn each_once(mut numbers: Vec<u64>) -> bool
-    ensures { IsTrue result → EachOnce numbers.items }
+    ensures { MatchBool result (EachOnce numbers.items) (EachOnce numbers.items → ⊥) }
 {
     numbers.sort_unstable();
     ascend(&numbers)
