@@ -11,13 +11,25 @@ ghost use Rattle.jh_edn.specs.View.{view};
 use crate::order::kind_of;
 use crate::value::{Pairs, Value, Values};
 
+/// An odd number, a product with which spreads the bits of the other over all 64.
+const SPREAD: u64 = 0x9e37_79b9_7f4a_7c15;
+
+/// Another one.
+const SPREAD_AGAIN: u64 = 0xd6e8_feb8_6659_fd93;
+
+/// Where FNV-1a of 64 bits begins.
+const FNV_BASIS: u64 = 0xcbf2_9ce4_8422_2325;
+
+/// What FNV-1a of 64 bits multiplies by at each byte.
+const FNV_PRIME: u64 = 0x0100_0000_01b3;
+
 /// Two numbers made one.
 #[tactic(auto, unfolding(crate::specs::Fingerprint::mix))]
 fn mix(seed: u64, word: u64) -> u64
     ensures { result ≡ number.mix seed word }
 {
-    let spread = seed.wrapping_add(word.wrapping_mul(0x9e37_79b9_7f4a_7c15));
-    let folded = (spread ^ (spread >> 32)).wrapping_mul(0xd6e8_feb8_6659_fd93);
+    let spread = seed.wrapping_add(word.wrapping_mul(SPREAD));
+    let folded = (spread ^ (spread >> 32)).wrapping_mul(SPREAD_AGAIN);
     folded ^ (folded >> 29)
 }
 
@@ -26,9 +38,9 @@ fn mix(seed: u64, word: u64) -> u64
 fn text_number(text: &str) -> u64
     ensures { result ≡ number.text_number text.now }
 {
-    let mut number: u64 = 0xcbf2_9ce4_8422_2325;
+    let mut number = FNV_BASIS;
     for byte in text.as_bytes() {
-        number = (number ^ u64::from(*byte)).wrapping_mul(0x0100_0000_01b3);
+        number = (number ^ u64::from(*byte)).wrapping_mul(FNV_PRIME);
     }
     number
 }

@@ -1,6 +1,6 @@
 //! A map's elements as pairs, and whether two keys are equal.
 //!
-//! Keys whose fingerprints differ are not equal. Only where two fingerprints agree, the keys themselves are looked at.
+//! Keys whose fingerprints differ are not equal. Only where two fingerprints agree are the keys compared.
 
 ghost use Rattle.std.specs.Prelude.{◌≡◌, IfOk, map};
 ghost use Rattle.std.specs.Bool.{MatchBool};
@@ -103,8 +103,8 @@ fn map_keys(alloc: Global, pairs: &Pairs) -> Result<Vec<Vec<Part<'_>>>, AllocErr
     Ok(keys)
 }
 
-/// Whether two keys of the map are equal. Takes n log n comparisons in a map of n pairs: of numbers, and of keys
-/// only where two fingerprints agree.
+/// Whether two keys of the map are equal. Takes n log n comparisons in a map of n pairs: of numbers, and of keys only
+/// where two fingerprints agree.
 #[tactic(auto, unfolding(crate::specs::Reading::repeats_key))]
 pub(crate) fn repeats_key(alloc: Global, pairs: &Pairs) -> Result<bool, AllocError>
     ensures { IfOk result (λ b. b ≡ reading.repeats_key pairs.now) }
@@ -115,8 +115,8 @@ pub(crate) fn repeats_key(alloc: Global, pairs: &Pairs) -> Result<bool, AllocErr
     has_twice(alloc, &map_keys(alloc, pairs)?)
 }
 
-/// Whether two elements of the set are equal. Takes n log n comparisons in a set of n elements: of numbers, and of keys
-/// only where two fingerprints agree.
+/// Whether two elements of the set are equal. Takes n log n comparisons in a set of n elements: of numbers, and of
+/// keys only where two fingerprints agree.
 #[tactic(auto, unfolding(crate::specs::Reading::repeats_element))]
 pub(crate) fn repeats_element(alloc: Global, items: &Values) -> Result<bool, AllocError>
     ensures { IfOk result (λ b. b ≡ reading.repeats_element items.now) }
