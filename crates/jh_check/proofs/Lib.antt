@@ -1,0 +1,4 @@
+pub mod ListLemmas
+pub mod OnceLemmas
+pub mod SearchLemmas
+pub mod FinalLemmas

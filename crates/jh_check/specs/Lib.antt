@@ -1,0 +1,6 @@
+pub mod Verdicts
+pub mod Asked
+pub mod Distinct
+pub mod SetResults
+pub mod IdsInside
+pub mod IdsResults

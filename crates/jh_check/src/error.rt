@@ -1,0 +1,40 @@
+//! Why a history is not judged.
+
+ghost use Rattle.std.specs.Prelude.{◌≡◌};
+ghost use Rattle.jh_check.specs.declared.error.CheckError.TheVariants.{OutOfMemory};
+
+use jh_ops::PairError;
+use std::alloc::{AllocError, AllocFailed};
+use thiserror::Error;
+
+/// Why a history is not judged, with the place of the operation at fault, from 0.
+#[derive(Clone, Copy, Debug, PartialEq, Eq, Error)]
+pub enum CheckError {
+    /// Its invocations and completions do not pair. Never `PairError::OutOfMemory`, which is `OutOfMemory` here.
+    #[error("{0}")]
+    Pair(PairError),
+    /// The value of this operation is none that it can have.
+    #[error("operation {0}: bad value")]
+    BadValue(usize),
+    /// The amount of this add is below zero.
+    #[error("operation {0}: negative add")]
+    NegativeAdd(usize),
+    #[error("out of memory")]
+    OutOfMemory,
+}
+
+impl From<AllocError> for CheckError {
+    ghost from_gives = { λ _ e. e ≡ OutOfMemory };
+
+    fn from(_error: AllocError) -> CheckError {
+        CheckError::OutOfMemory
+    }
+}
+
+impl<T: Drop> From<AllocFailed<T>> for CheckError {
+    ghost from_gives = { λ _ e. e ≡ OutOfMemory };
+
+    fn from(_error: AllocFailed<T>) -> CheckError {
+        CheckError::OutOfMemory
+    }
+}

@@ -1,0 +1,14 @@
+//! Checkers of histories: the elements of a set, the bounds of a counter, and unique ids.
+#![tactic(auto)]
+
+mod asked;
+mod distinct;
+mod error;
+mod ids;
+mod set;
+mod verdict;
+
+pub use error::CheckError;
+pub use ids::{Duplicate, Duplicates, IdsResult, check_unique};
+pub use set::{SetFound, SetResult, check_set};
+pub use verdict::{Verdict, merge};

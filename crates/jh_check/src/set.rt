@@ -1,0 +1,121 @@
+//! The set checker. `specs/SetResults.antt` has the rule.
+
+ghost use Rattle.std.specs.Prelude.{◌≡◌, IfOk, MatchResult, map, option_map};
+ghost use Rattle.jh_edn.specs.Normal.{normal};
+ghost use Rattle.jh_edn.specs.View.{view, views};
+ghost use Rattle.jh_ops.specs.Operation.{operation, operations};
+ghost use Rattle.jh_check.specs.Distinct.{set_of};
+ghost use Rattle.jh_check.specs.SetResults as rule;
+ghost use Rattle.jh_check.specs.SetResults.{IsJudgeable, RefusesSet, found_with, set_result};
+
+use crate::asked::{is_asked, sorted_normal, sorted_values};
+use crate::distinct::{distinct, selected};
+use crate::error::CheckError;
+use crate::verdict::{Verdict, verdict_of};
+use jh_edn::{Value, Values};
+use jh_ops::{Kind, Op};
+use std::alloc::{AllocError, Global};
+
+/// What is found of the elements of a set, each time in normal form, in normal order and each once.
+#[derive(Debug, Drop)]
+pub struct SetFound {
+    /// What the last read shows of what clients tried to add.
+    pub ok: Values,
+    /// What is known to have been added, and the last read does not show.
+    pub lost: Values,
+    /// What the last read shows, and no client tried to add.
+    pub unexpected: Values,
+    /// What is `ok`, and was not known to have been added.
+    pub recovered: Values,
+}
+
+/// What the set checker says of a history.
+#[derive(Debug, Drop)]
+pub struct SetResult {
+    /// `Unknown` where the set was never read, else `True` where nothing is lost or unexpected.
+    pub verdict: Verdict,
+    /// What is found, or nothing where the set was never read.
+    pub found: Option<SetFound>,
+}
+
+// The last read that happened, with its place.
+fn final_read(history: &[Op]) -> Option<(usize, &Op)>
+    ensures { option_map (λ read. (read.0, operation read.1.now)) result
+        ≡ rule.final_read (operations history.now) }
+{
+    let mut found = None;
+    for (place, op) in history.iter().enumerate() {
+        if is_asked(Kind::Ok, "read", op) {
+            found = Some((place, op));
+        }
+    }
+    found
+}
+
+// The elements that a read shows.
+fn elements_shown(value: &Value) -> Option<&[Value]>
+    ensures { option_map (λ items. views items.now) result ≡ rule.elements_shown (view value.now) }
+{
+    match value {
+        Value::Set(items) => Some(items.as_slice()),
+        _ => value.elements(),
+    }
+}
+
+// What is found where the last read shows these elements.
+fn found_in(alloc: Global, history: &[Op], elements: &[Value]) -> Result<SetFound, AllocError>
+    ensures { IfOk result (λ found. found
+        ≡ found_with (operations history.now) (set_of (map normal (views elements.now)))) }
+{
+    let read = distinct(sorted_normal(alloc, elements)?);
+    let attempted = sorted_values(alloc, Kind::Invoke, "add", history)?;
+    let acknowledged = sorted_values(alloc, Kind::Ok, "add", history)?;
+    let ok = selected(alloc, &read, &attempted, true)?;
+    let unexpected = selected(alloc, &read, &attempted, false)?;
+    let recovered = selected(alloc, &ok, &acknowledged, false)?;
+    let lost = selected(alloc, &distinct(acknowledged), &read, false)?;
+    Ok(SetFound {
+        ok: Values::of(ok),
+        lost: Values::of(lost),
+        unexpected: Values::of(unexpected),
+        recovered: Values::of(recovered),
+    })
+}
+
+fn is_whole(found: &SetFound) -> bool
+    ensures { result ≡ rule.is_whole found.now }
+{
+    found.lost.is_empty() && found.unexpected.is_empty()
+}
+
+/// Judges the history of a set, whose clients `:add` an element each and at last `:read` all elements (Jepsen's
+/// checker `set`).
+///
+/// Operations of the nemesis are left out. What clients tried to add are the values of invoked adds, what they know to
+/// be added those of adds that are `:ok`. Where no read is `:ok` the verdict is `Unknown`; else the last such read, a
+/// list, a vector or a set, decides, where an element that it shows twice counts once. Operations are not paired.
+///
+/// Errors: `BadValue` with the place of the last such read, where it is none of these three; then `OutOfMemory`, never
+/// where there is no such read.
+///
+/// Takes O(n log n) comparisons for n operations and elements read.
+pub fn check_set(alloc: Global, history: &[Op]) -> Result<SetResult, CheckError>
+    ensures { MatchResult result
+        (λ found. IsJudgeable (operations history.now) × (found ≡ set_result (operations history.now)))
+        (RefusesSet (operations history.now)) }
+{
+    let Some((place, read)) = final_read(history) else {
+        return Ok(SetResult {
+            verdict: Verdict::Unknown,
+            found: None,
+        });
+    };
+    let Some(elements) = elements_shown(&read.value) else {
+        return Err(CheckError::BadValue(place));
+    };
+    let found = found_in(alloc, history, elements)?;
+    Ok(SetResult {
+        verdict: verdict_of(is_whole(&found)),
+        found: Some(found),
+    })
+}
