@@ -2,3 +2,5 @@ pub mod ListLemmas
 pub mod OnceLemmas
 pub mod SearchLemmas
 pub mod FinalLemmas
+pub mod SumLemmas
+pub mod FaultLemmas

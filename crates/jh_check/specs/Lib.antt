@@ -4,3 +4,5 @@ pub mod Distinct
 pub mod SetResults
 pub mod IdsInside
 pub mod IdsResults
+pub mod CounterResults
+pub mod CounterInside

@@ -23,6 +23,19 @@ pub enum CheckError {
     OutOfMemory,
 }
 
+impl From<PairError> for CheckError {
+    ghost use Rattle.jh_check.specs.CounterResults.{refusal_of};
+
+    ghost from_gives = { λ fault e. e ≡ refusal_of fault };
+
+    fn from(error: PairError) -> CheckError {
+        match error {
+            PairError::OutOfMemory => CheckError::OutOfMemory,
+            _ => CheckError::Pair(error),
+        }
+    }
+}
+
 impl From<AllocError> for CheckError {
     ghost from_gives = { λ _ e. e ≡ OutOfMemory };
 

@@ -2,12 +2,16 @@
 #![tactic(auto)]
 
 mod asked;
+mod calls;
+mod counter;
 mod distinct;
 mod error;
 mod ids;
 mod set;
+mod totals;
 mod verdict;
 
+pub use counter::{CounterResult, ReadBounds, Reads, check_counter};
 pub use error::CheckError;
 pub use ids::{Duplicate, Duplicates, IdsResult, check_unique};
 pub use set::{SetFound, SetResult, check_set};

@@ -1,0 +1,185 @@
+//! The calls of a counter's history, by the pairs of their operations. `specs/CounterResults.antt` has the rule.
+
+ghost use Rattle.std.specs.Prelude.{◌≡◌, ◌^◌, ◌<◌, IfSome, option_map, slice_get};
+ghost use Rattle.jh_edn.specs.View.{view};
+ghost use Rattle.jh_ops.specs.Operation.{operation, operations};
+ghost use Rattle.jh_check.specs.CounterInside as inside;
+ghost use Rattle.jh_check.specs.CounterInside.{IsFirstOf, IsValueFault};
+ghost use Rattle.jh_check.specs.CounterResults as rule;
+ghost use Rattle.jh_check.specs.CounterResults.{faults_in};
+
+use crate::asked::{is_keyword, is_kind};
+use crate::error::CheckError;
+use jh_edn::Value;
+use jh_ops::{Kind, Op, Pair};
+
+fn op_at(history: &[Op], place: usize) -> Option<&Op>
+    ensures { option_map (λ op. operation op.now) result ≡ slice_get (operations history.now) place }
+{
+    history.get(place)
+}
+
+// Whether what the call asks for is the function of this name.
+fn asks(name: &str, history: &[Op], call: Pair) -> bool
+    ensures { result ≡ rule.asks name.now (operations history.now) call }
+{
+    match op_at(history, call.invoke) {
+        Some(op) => is_keyword(name, &op.f),
+        None => false,
+    }
+}
+
+// Whether the call has an outcome of this kind.
+fn has_ended(kind: Kind, history: &[Op], call: Pair) -> bool
+    ensures { result ≡ rule.has_ended kind (operations history.now) call }
+{
+    let Some(place) = call.outcome else {
+        return false;
+    };
+    match op_at(history, place) {
+        Some(op) => is_kind(kind, op.kind),
+        None => false,
+    }
+}
+
+// The value at a place.
+fn value_at(history: &[Op], place: usize) -> Option<&Value>
+    ensures { option_map (λ value. view value.now) result
+        ≡ rule.value_at (operations history.now) place }
+{
+    Some(&op_at(history, place)?.value)
+}
+
+// The place of the call's outcome, or where there is none that of its invocation.
+pub(crate) fn end_of(call: Pair) -> usize
+    ensures { result ≡ rule.end_of call }
+{
+    call.outcome.unwrap_or(call.invoke)
+}
+
+fn natural(value: Option<&Value>) -> u64
+    ensures value { result ≡ rule.natural (option_map (λ v. view v.now) value.entry) }
+    ensures bound { result < 2 ^ 63 }
+{
+    match value {
+        Some(Value::Int(number)) => u64::try_from(*number).unwrap_or(0),
+        _ => 0,
+    }
+}
+
+fn integer(value: Option<&Value>) -> i64
+    ensures { result ≡ rule.integer (option_map (λ v. view v.now) value.entry) }
+{
+    match value {
+        Some(Value::Int(number)) => *number,
+        _ => 0,
+    }
+}
+
+// The amount of an add.
+pub(crate) fn amount(history: &[Op], call: Pair) -> u64
+    ensures value { result ≡ rule.amount (operations history.now) call }
+    ensures bound { result < 2 ^ 63 }
+{
+    natural(value_at(history, call.invoke))
+}
+
+// What a read gave.
+pub(crate) fn value_read(history: &[Op], call: Pair) -> i64
+    ensures { result ≡ rule.integer (rule.value_at (operations history.now) (rule.end_of call)) }
+{
+    integer(value_at(history, end_of(call)))
+}
+
+pub(crate) fn is_surely_added(history: &[Op], call: Pair) -> bool
+    ensures { result ≡ rule.is_surely_added (operations history.now) call }
+{
+    asks("add", history, call) && has_ended(Kind::Ok, history, call)
+}
+
+pub(crate) fn may_be_added(history: &[Op], call: Pair) -> bool
+    ensures { result ≡ rule.may_be_added (operations history.now) call }
+{
+    asks("add", history, call) && !has_ended(Kind::Fail, history, call)
+}
+
+pub(crate) fn is_ok_read(history: &[Op], call: Pair) -> bool
+    ensures { result ≡ rule.is_ok_read (operations history.now) call }
+{
+    asks("read", history, call) && has_ended(Kind::Ok, history, call)
+}
+
+// What is wrong with the amount of an add at a place.
+fn add_fault(place: usize, value: Option<&Value>) -> Option<CheckError>
+    ensures fault { result ≡ rule.add_fault place (option_map (λ v. view v.now) value.entry) }
+    ensures kind { IfSome result IsValueFault }
+{
+    match value {
+        Some(Value::Int(number)) if *number >= 0 => None,
+        Some(Value::Int(_)) => Some(CheckError::NegativeAdd(place)),
+        _ => Some(CheckError::BadValue(place)),
+    }
+}
+
+// What is wrong with what a read gave at a place.
+fn read_fault(place: usize, value: Option<&Value>) -> Option<CheckError>
+    ensures fault { result ≡ rule.read_fault place (option_map (λ v. view v.now) value.entry) }
+    ensures kind { IfSome result IsValueFault }
+{
+    match value {
+        Some(Value::Int(_)) => None,
+        _ => Some(CheckError::BadValue(place)),
+    }
+}
+
+// What is wrong with the values of a call.
+fn call_fault(history: &[Op], call: Pair) -> Option<CheckError>
+    ensures fault { result ≡ rule.call_fault (operations history.now) call }
+    ensures kind { IfSome result IsValueFault }
+{
+    if asks("add", history, call) {
+        add_fault(call.invoke, value_at(history, call.invoke))
+    } else if is_ok_read(history, call) {
+        read_fault(end_of(call), value_at(history, end_of(call)))
+    } else {
+        None
+    }
+}
+
+fn place_of(fault: CheckError) -> usize
+    ensures { result ≡ rule.place_of fault }
+{
+    match fault {
+        CheckError::BadValue(place) => place,
+        CheckError::NegativeAdd(place) => place,
+        _ => 0,
+    }
+}
+
+// The one of two faults that is at the earlier place, where there is one.
+fn earlier(first: Option<CheckError>, next: Option<CheckError>) -> Option<CheckError>
+    ensures { result ≡ inside.earlier first next }
+{
+    match (first, next) {
+        (None, next) => next,
+        (first, None) => first,
+        (Some(first), Some(next)) => {
+            if place_of(next) < place_of(first) {
+                Some(next)
+            } else {
+                Some(first)
+            }
+        }
+    }
+}
+
+// The first fault of the values of calls.
+pub(crate) fn first_fault(history: &[Op], calls: &[Pair]) -> Option<CheckError>
+    ensures { IsFirstOf result (faults_in (operations history.now) calls.now) }
+{
+    let mut first = None;
+    for call in calls {
+        first = earlier(first, call_fault(history, *call));
+    }
+    first
+}
