@@ -4,3 +4,4 @@ pub mod SearchLemmas
 pub mod FinalLemmas
 pub mod SumLemmas
 pub mod FaultLemmas
+pub mod LineLemmas

@@ -6,3 +6,4 @@ pub mod IdsInside
 pub mod IdsResults
 pub mod CounterResults
 pub mod CounterInside
+pub mod Lines
