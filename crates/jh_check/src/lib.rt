@@ -19,3 +19,6 @@ pub use ids::{Duplicate, Duplicates, IdsResult, check_unique};
 pub use lines::{write_counter, write_ids, write_set};
 pub use set::{SetFound, SetResult, check_set};
 pub use verdict::{Verdict, merge};
+
+#[cfg(test)]
+mod tests;
