@@ -1,6 +1,6 @@
--- What the counter checker finds (jepsen.checker, `counter`): each read lies between the sum of what was surely added
--- before it began and the sum of what may have been added before it ended. The two sums are this project's own reading of
--- that page. Calls are the pairs of a history; places are those of the whole history.
+-- What the counter checker finds (jepsen.checker, `counter`): each read lies between the sum of what was surely
+-- added before it began and the sum of what may have been added before it ended. The two sums are this project's
+-- own reading of that page. Calls are the pairs of a history; places are those of the whole history.
 use Rattle.std.specs.Prelude.{◌≡◌, ℕ, ◌≤◌, ◌==◌, ◌&&◌, ◌⊎◌, Bool, false, not, nat_lt, int_le, ℤ, pos, negsuc, List, [], map, filter, length, slice_get, codes, sum_by, Contains, All, Option, Some, None, if◌then◌else◌, option_and_then, unwrap_or}
 use Rattle.std.specs.List.{filter_map}
 use Rattle.std.specs.Option.{option_map_or, option_map}
@@ -122,8 +122,8 @@ abbrev pub read_fault : ℕ → Option Edn → Option CheckError
 read_fault place (Some (int z)) = None
 read_fault place _ = Some (BadValue place)
 
--- what is wrong with the values of a call: of an add at its invocation, whatever its outcome, of a read that happened at
--- its completion
+-- what is wrong with the values of a call: of an add at its invocation, whatever its outcome, of a read that
+-- happened at its completion
 abbrev pub call_fault : List Operation → Pair → Option CheckError
 call_fault history call =
     if asks (codes "add") history call then add_fault call.invoke (value_at history call.invoke)
@@ -152,8 +152,8 @@ abbrev pub refusal_of : PairError → CheckError
 refusal_of fault.OutOfMemory = OutOfMemory
 refusal_of fault = Unpaired fault
 
--- Why there is no result: first for its pairs, then for the first bad value. Memory is wanted where neither is at fault, or
--- for the pairs.
+-- Why there is no result: first for its pairs, then for the first bad value. Memory is wanted where neither is at
+-- fault, or for the pairs.
 abbrev pub RefusesCounter : List Operation → CheckError → Type 0
 RefusesCounter history (Unpaired fault) = (refusal_of fault ≡ Unpaired fault) × RefusesHistory history fault
 RefusesCounter history (BadValue place) = IsWellFormed history × IsFirst (BadValue place) (faults_in history (pairs_of history))

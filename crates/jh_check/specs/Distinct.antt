@@ -1,5 +1,5 @@
--- Sets of values, written in normal order with each value once. All values are in normal form, where two are equal (EDN's
--- format description, "Equality") as they are one.
+-- Sets of values, written in normal order with each value once. All values are in normal form, where two are equal
+-- (EDN's format description, "Equality") as they are one.
 use Rattle.std.specs.Prelude.{◌≡◌, ℕ, Bool, false, not, if◌then◌else◌, List, [], ◌∷◌, filter, count_by}
 use Rattle.std.specs.List.{list_any}
 use Rattle.std.specs.Ordering.{is_eq}

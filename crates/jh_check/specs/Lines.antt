@@ -1,5 +1,5 @@
--- The one line of each result, without its line feed (this project's own; the keys are those of jepsen.checker): the printed
--- text of a map. Its numbers stand in full, also where no integer of 64 bits has them.
+-- The one line of each result, without its line feed (this project's own; the keys are those of jepsen.checker):
+-- the printed text of a map. Its numbers stand in full, also where no integer of 64 bits has them.
 use Rattle.std.specs.Prelude.{ℕ, pos, true, false, List, [], ◌∷◌, ◌++◌, map, codes, Option, Some, None}
 use Rattle.jh_edn.specs.Edn.{Edn, boolean, int, keyword, str, vector, mapping, items_of, members_of}
 use Rattle.jh_edn.specs.Print.{print}

@@ -1,5 +1,5 @@
--- What the set checker finds (jepsen.checker, `set`): of the elements that clients tried to add, those that the last read
--- shows. Operations are not paired here.
+-- What the set checker finds (jepsen.checker, `set`): of the elements that clients tried to add, those that the
+-- last read shows. Operations are not paired here.
 use Rattle.std.specs.Prelude.{◌≡◌, ℕ, ◌-◌, ◌==◌, ◌&&◌, Bool, not, List, map, filter, length, slice_get, codes, Option, Some, None, option_and_then, IsSome, IfSome}
 use Rattle.std.specs.List.{enumerate_from}
 use Rattle.jh_edn.specs.Edn.{Edn, set, list_of, elements_of}

@@ -1,4 +1,5 @@
--- Verdicts, and several of them taken together (jepsen.checker, `merge-valid`: a false one wins, then an unknown one).
+-- Verdicts, and several of them taken together (jepsen.checker, `merge-valid`: a false one wins, then an unknown
+-- one).
 use Rattle.std.specs.Prelude.{Bool, true, false, List, if◌then◌else◌}
 use Rattle.std.specs.List.{list_any}
 use Rattle.jh_check.specs.declared.verdict.Verdict.{Verdict}

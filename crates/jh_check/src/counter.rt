@@ -102,8 +102,9 @@ fn sorted_reads(alloc: Global, history: &[Op], calls: &[Pair]) -> Result<Vec<Pai
 
 // A read with its bounds, by what these are at each place.
 fn bounds_of(history: &[Op], read: Pair, lower: &[u128], upper: &[u128]) -> ReadBounds
-    requires lower { read.invoke < length lower.now }
-    requires upper { rule.end_of read < length upper.now }
+    requires invoke { read.invoke < length lower.now }
+    requires end { rule.end_of read < length lower.now }
+    requires alike { length upper.now ≡ length lower.now }
     requires lower_fits { (place : ℕ) → slice_index lower.now place < 2 ^ 127 }
     requires upper_fits { (place : ℕ) → slice_index upper.now place < 2 ^ 127 }
     ensures { result ≡ bounds_at (operations history.now) read lower.now upper.now }
@@ -168,15 +169,17 @@ fn judged(alloc: Global, history: &[Op], calls: &[Pair]) -> Result<CounterResult
     })
 }
 
-/// Judges the history of a counter from zero, whose clients `:add` amounts and `:read` it (Jepsen's checker `counter`).
+/// Judges the history of a counter from zero, whose clients `:add` amounts and `:read` it (Jepsen's checker
+/// `counter`).
 ///
-/// Operations of the nemesis are left out. A read that is `:ok` lies between two sums, both included: of the amounts of
-/// the adds that were `:ok` before it was invoked, and of those of the adds that were invoked before it completed and do
-/// not fail, also where they fail later. An add's amount is the value of its invocation, from 0 on.
+/// Operations of the nemesis are left out. A read that is `:ok` lies between two sums, both included: of the
+/// amounts of the adds that were `:ok` before it was invoked, and of those of the adds that were invoked before
+/// it completed and do not fail, also where they fail later. An add's amount is the value of its invocation,
+/// from 0 on.
 ///
-/// Errors: `Pair` where the operations do not pair; then, at the least place, `BadValue` for the invocation of an add or
-/// the completion of an `:ok` read whose value is not an integer, and `NegativeAdd` for the invocation of an add below
-/// zero; then `OutOfMemory`.
+/// Errors: `Pair` where the operations do not pair; then, at the least place, `BadValue` for the invocation of
+/// an add or the completion of an `:ok` read whose value is not an integer, and `NegativeAdd` for the
+/// invocation of an add below zero; then `OutOfMemory`.
 ///
 /// Takes O(n log n) for n operations, whatever the number of adds and reads.
 pub fn check_counter(alloc: Global, history: &[Op]) -> Result<CounterResult, CheckError>

@@ -136,10 +136,11 @@ fn repeated(alloc: Global, ids: &[Value]) -> Result<Vec<Duplicate>, AllocError>
     Ok(found)
 }
 
-/// Judges the history of a source of ids, whose clients each time `:generate` one (Jepsen's checker `unique-ids`).
+/// Judges the history of a source of ids, whose clients each time `:generate` one (Jepsen's checker
+/// `unique-ids`).
 ///
-/// Operations of the nemesis are left out. `attempted` counts what was invoked, `acknowledged` what is `:ok`; an id is
-/// the value of an `:ok` operation, and ids are equal as EDN says. Operations are not paired.
+/// Operations of the nemesis are left out. `attempted` counts what was invoked, `acknowledged` what is `:ok`;
+/// an id is the value of an `:ok` operation, and ids are equal as EDN says. Operations are not paired.
 ///
 /// Errors: `OutOfMemory`, and no other.
 ///

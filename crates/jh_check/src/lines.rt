@@ -4,7 +4,8 @@ ghost use Rattle.std.specs.Prelude.{◌≡◌, ◌++◌, IfErr, OnOk, Some, code
 ghost use Rattle.std.specs.Io.KnownBytes.{Appends};
 ghost use Rattle.jh_edn.specs.Edn.{int};
 ghost use Rattle.jh_edn.specs.Print.{print};
-ghost use Rattle.jh_check.specs.Lines.{counter_line, ids_line, part_text, set_line, set_pairs, text_of, verdict_value};
+ghost use Rattle.jh_check.specs.Lines.{counter_line, ids_line, part_text, set_line, set_pairs, text_of};
+ghost use Rattle.jh_check.specs.Lines.{verdict_value};
 
 use crate::counter::CounterResult;
 use crate::elements::{put, write_part};

@@ -91,12 +91,13 @@ fn is_whole(found: &SetFound) -> bool
 /// Judges the history of a set, whose clients `:add` an element each and at last `:read` all elements (Jepsen's
 /// checker `set`).
 ///
-/// Operations of the nemesis are left out. What clients tried to add are the values of invoked adds, what they know to
-/// be added those of adds that are `:ok`. Where no read is `:ok` the verdict is `Unknown`; else the last such read, a
-/// list, a vector or a set, decides, where an element that it shows twice counts once. Operations are not paired.
+/// Operations of the nemesis are left out. What clients tried to add are the values of invoked adds, what they
+/// know to be added those of adds that are `:ok`. Where no read is `:ok` the verdict is `Unknown`; else the
+/// last such read, a list, a vector or a set, decides, where an element that it shows twice counts once.
+/// Operations are not paired.
 ///
-/// Errors: `BadValue` with the place of the last such read, where it is none of these three; then `OutOfMemory`, never
-/// where there is no such read.
+/// Errors: `BadValue` with the place of the last such read, where it is none of these three; then
+/// `OutOfMemory`, never where there is no such read.
 ///
 /// Takes O(n log n) comparisons for n operations and elements read.
 pub fn check_set(alloc: Global, history: &[Op]) -> Result<SetResult, CheckError>

@@ -1,8 +1,10 @@
 //! Sums of a counter's adds up to each place of a history, in one pass each.
 //!
-//! `specs/CounterResults.antt` says which sums a read is bound by; `specs/CounterInside.antt` what is kept here of them.
+//! `specs/CounterResults.antt` says which sums a read is bound by; `specs/CounterInside.antt` what is kept here
+//! of them.
 
-ghost use Rattle.std.specs.Prelude.{◌≡◌, ℕ, ◌+◌, ◌^◌, ◌<◌, ◌≤◌, length, slice_index, sum, take, vec_len, All, IfOk, IfSome};
+ghost use Rattle.std.specs.Prelude.{◌≡◌, ℕ, ◌+◌, ◌^◌, ◌<◌, ◌≤◌, length, slice_index, sum, take, vec_len};
+ghost use Rattle.std.specs.Prelude.{All, IfOk, IfSome};
 ghost use Rattle.jh_ops.specs.Operation.{operations};
 ghost use Rattle.jh_ops.specs.Pairing.{IsWithin};
 ghost use Rattle.jh_check.specs.CounterInside as inside;

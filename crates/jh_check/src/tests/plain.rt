@@ -1,5 +1,5 @@
-//! The definitions of the checkers as plain, slow programs, and random histories beside them. Values are small integers,
-//! so that a set of them is a row of bits.
+//! The definitions of the checkers as plain, slow programs, and random histories beside them. Values are small
+//! integers, so that a set of them is a row of bits.
 
 ghost use Rattle.std.specs.Prelude.{◌<◌};
 
