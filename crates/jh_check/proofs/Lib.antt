@@ -5,3 +5,4 @@ pub mod FinalLemmas
 pub mod SumLemmas
 pub mod FaultLemmas
 pub mod LineLemmas
+pub mod EqualLemmas

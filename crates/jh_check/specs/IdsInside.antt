@@ -1,5 +1,5 @@
 -- What a contract sees of duplicates that a program holds.
-use Rattle.std.specs.Prelude.{ℕ, Bool, nat_lt, List, map}
+use Rattle.std.specs.Prelude.{ℕ, List, map}
 use Rattle.jh_edn.specs.Edn.{Edn}
 use Rattle.jh_edn.specs.View.{view}
 use Rattle.jh_check.specs.declared.ids.Duplicate.{Duplicate}

@@ -5,7 +5,8 @@
 
 use crate::{
     CheckError, CounterResult, Duplicate, Duplicates, IdsResult, ReadBounds, Reads, SetResult,
-    Verdict, check_counter, check_set, check_unique, merge, write_counter, write_ids, write_set,
+    Verdict, check_counter, check_set, check_unique, merge, same_values_are_equal, write_counter,
+    write_ids, write_set,
 };
 use jh_edn::{EdnError, Value, read_all};
 use jh_ops::{HistoryError, Op, Workload, history_of};
@@ -86,6 +87,7 @@ fn merges_verdicts(rt: HostRuntime) {
     for (verdicts, merged) in cases {
         assert_eq!(rt; merge(verdicts), merged);
     }
+    same_values_are_equal();
 }
 
 // The verdicts of the three checkers on the empty history.

@@ -4,7 +4,7 @@ use Rattle.jh_ops.specs.Operation.{operations}
 use Rattle.std.specs.Prelude.{None}
 use Rattle.jh_ops.specs.declared.pairs.Pair.{Pair}
 use Rattle.jh_check.specs.CounterInside.{IsFirstOf, earlier}
-use Rattle.jh_check.specs.CounterResults.{call_fault, faults_in}
+use Rattle.jh_check.specs.CounterResults.{faults_in}
 use Rattle.jh_check.proofs.FaultLemmas.{first_more, faults_more}
 use Rattle.jh_check.proofs.calls.first_fault.Goals as goal
 

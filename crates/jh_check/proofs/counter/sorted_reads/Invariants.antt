@@ -1,4 +1,4 @@
-use Rattle.std.proofs.Common.{◌≡◌, take, length}
+use Rattle.std.proofs.Common.{◌≡◌, take}
 use Rattle.std.specs.List.{filter}
 use Rattle.jh_ops.specs.Operation.{operations}
 use Rattle.jh_check.specs.CounterResults.{is_ok_read}

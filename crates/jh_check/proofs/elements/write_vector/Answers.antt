@@ -1,4 +1,3 @@
-use Rattle.std.proofs.Common.{◌≡◌, ap, append_assoc}
 use Rattle.std.proofs.lemmas.Result.{on_ok_weaker}
 use Rattle.jh_edn.proofs.Printing.{appends_then}
 use Rattle.jh_check.proofs.LineLemmas.{item_texts_map}

@@ -1,11 +1,10 @@
-use Rattle.std.proofs.Common.{◌≡◌, ℕ, List, length, sym, ap, ◌∙◌, map, rules, codes, arith}
+use Rattle.std.proofs.Common.{◌≡◌, length, sym, ap, ◌∙◌, map, rules, codes}
 use Rattle.std.specs.Prelude.{◌==◌}
-use Rattle.std.specs.List.{filter, count_by}
+use Rattle.std.specs.List.{filter}
 use Rattle.std.proofs.lemmas.List.{length-map}
-use Rattle.jh_edn.specs.Edn.{Edn}
 use Rattle.jh_edn.specs.Order.{in_order, is_below}
 use Rattle.jh_edn.specs.View.{views, view}
-use Rattle.jh_ops.specs.Operation.{Operation, operation, operations}
+use Rattle.jh_ops.specs.Operation.{operation, operations}
 use Rattle.jh_ops.specs.declared.operation.Kind.{Kind}
 use Rattle.jh_check.specs.Asked.{is_asked}
 use Rattle.jh_check.specs.Distinct.{count_of, once}

@@ -1,9 +1,8 @@
-use Rattle.std.proofs.Common.{◌≡◌, ◌++◌, List, ℕ, codes, map, subst, ap}
+use Rattle.std.proofs.Common.{codes, subst, ap}
 use Rattle.std.specs.Io.KnownBytes.{Appends}
 use Rattle.std.proofs.lemmas.Result.{on_ok_weaker}
 use Rattle.jh_edn.proofs.Printing.{appends_then}
-use Rattle.jh_edn.specs.Print.{print}
-use Rattle.jh_check.specs.Lines.{part_text, read_value, reads_value, vector_of, verdict_value}
+use Rattle.jh_check.specs.Lines.{reads_value}
 use Rattle.jh_check.proofs.LineLemmas.{three_parts}
 use Rattle.jh_check.proofs.lines.write_counter.Goals as goal
 

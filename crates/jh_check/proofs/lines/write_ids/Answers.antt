@@ -1,12 +1,11 @@
-use Rattle.std.proofs.Common.{◌≡◌, ◌++◌, List, ℕ, codes, map, refl, subst, ap, ◌∙◌}
+use Rattle.std.proofs.Common.{◌≡◌, codes, map, refl, subst, ap, ◌∙◌}
 use Rattle.std.specs.Prelude.{pos}
 use Rattle.std.specs.Io.KnownBytes.{Appends}
 use Rattle.std.proofs.lemmas.Result.{on_ok_weaker}
 use Rattle.jh_edn.proofs.Printing.{appends_then}
 use Rattle.jh_edn.specs.Edn.{Edn, int}
-use Rattle.jh_edn.specs.Print.{print}
 use Rattle.jh_check.specs.IdsInside.{view_duplicate}
-use Rattle.jh_check.specs.Lines.{duplicate_value, part_text, vector_of, verdict_value}
+use Rattle.jh_check.specs.Lines.{duplicate_value, vector_of}
 use Rattle.jh_check.specs.declared.ids.Duplicate.{Duplicate}
 use Rattle.jh_check.proofs.LineLemmas.{four_parts, mapped_twice}
 use Rattle.jh_check.proofs.lines.write_ids.Goals as goal

@@ -1,4 +1,4 @@
-use Rattle.std.proofs.Common.{◌≡◌, ◌+◌, ◌<◌, ◌∙◌, length, take, set, sym, ap, arith}
+use Rattle.std.proofs.Common.{◌+◌, ◌<◌, ◌∙◌, length, take, set, sym, ap, arith}
 use Rattle.std.specs.List.{sum}
 use Rattle.jh_check.specs.CounterInside.{increase_before}
 use Rattle.jh_check.proofs.SumLemmas.{sum_put, sum_whole}

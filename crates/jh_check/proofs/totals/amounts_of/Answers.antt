@@ -1,4 +1,4 @@
-use Rattle.std.proofs.Common.{◌≡◌, ℕ, ◌+◌, ◌≤◌, ◌<◌, ◌++◌, [], ◌∷◌, sym, ap, ◌∙◌, take, get_or, length, arith, rules}
+use Rattle.std.proofs.Common.{◌+◌, sym, ap, ◌∙◌, take, get_or, arith, rules}
 use Rattle.std.proofs.lemmas.List.{take_more}
 use Rattle.jh_ops.specs.Operation.{operations}
 use Rattle.std.specs.Prelude.{None}

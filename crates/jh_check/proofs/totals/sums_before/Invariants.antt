@@ -1,4 +1,4 @@
-use Rattle.std.proofs.Common.{◌≡◌, ℕ, ◌<◌, take, length}
+use Rattle.std.proofs.Common.{◌≡◌, ℕ, ◌<◌, take}
 use Rattle.std.specs.Prelude.{slice_index, vec_len}
 use Rattle.std.specs.List.{sum}
 use Rattle.jh_check.proofs.totals.sums_before.Given as goal
