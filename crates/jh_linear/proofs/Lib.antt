@@ -1,0 +1,13 @@
+pub mod SetLemmas
+pub mod StageLemmas
+pub mod KeyLemmas
+pub mod PairLemmas
+pub mod NoOrderLemmas
+pub mod PlacingLemmas
+pub mod GrowthLemmas
+pub mod GoingOnLemmas
+pub mod PartialLemmas
+pub mod JudgeLemmas
+pub mod EntryLemmas
+pub mod HistoryLemmas
+pub mod OrderLemmas

@@ -1,0 +1,5 @@
+pub mod Checking
+pub mod Order
+pub mod Reached
+pub mod Search
+pub mod Verdict

@@ -1,0 +1,94 @@
+-- The orders in which the operations of a register can have happened: linearizations, as Jepsen's page on its checkers
+-- (`linearizable`) means them, on the model `cas-register`. That a read of nil matches any value is that model's rule too.
+-- Operations go by their places in a list, from 0.
+use Rattle.std.specs.Prelude.{◌≡◌, ◌≢◌, ◌==◌, ◌⊎◌, ℕ, ◌+◌, ◌<◌, ℤ, Bool, true, false, Option, Some, None, List, [], ◌∷◌, ◌++◌, length, slice_index_or}
+use Rattle.std.specs.List.{list_any, All, IsDistinct}
+use Rattle.jh_linear.specs.declared.register.Outcome.{Outcome}
+use Rattle.jh_linear.specs.declared.register.Outcome.TheVariants.{Done, Failed}
+use Rattle.jh_linear.specs.declared.register.RegCall.{RegCall}
+use Rattle.jh_linear.specs.declared.register.RegCall.TheVariants.{Read, Write, Cas}
+use Rattle.jh_linear.specs.declared.register.RegOp.{RegOp}
+
+-- The register: from one value a call may lead to the next one.
+abbrev pub Allows : RegCall → Option ℤ → Option ℤ → Type 0
+Allows (Read None) value next = next ≡ value
+Allows (Read (Some seen)) value next = (value ≡ Some seen) × (next ≡ value)
+Allows (Write new) value next = next ≡ Some new
+Allows (Cas old new) value next = (value ≡ Some old) × (next ≡ Some new)
+
+-- the operation at a place; past the end of the list, one that failed
+abbrev pub no_op : RegOp
+no_op = record { invoked = 0; ended = None; outcome = Failed; call = Read None }
+
+abbrev pub op_at : List RegOp → ℕ → RegOp
+op_at ops place = slice_index_or ops place no_op
+
+-- the operation did not fail
+abbrev pub IsPossible : List RegOp → ℕ → Type 0
+IsPossible ops place = (op_at ops place).outcome ≢ Failed
+
+-- the operation is known to have happened
+abbrev pub IsDone : List RegOp → ℕ → Type 0
+IsDone ops place = (op_at ops place).outcome ≡ Done
+
+abbrev pub EndsBefore : Option ℕ → ℕ → Type 0
+EndsBefore None at = ⊥
+EndsBefore (Some end) at = end < at
+
+-- the first operation happened, and ended before the second was invoked
+abbrev pub IsBefore : List RegOp → ℕ → ℕ → Type 0
+IsBefore ops first second = IsDone ops first × EndsBefore (op_at ops first).ended (op_at ops second).invoked
+
+-- whether a place stands in an order
+abbrev pub has : List ℕ → ℕ → Bool
+has order place = list_any (λ x. x == place) order
+
+-- the first place stands in the order, and the second one after it
+abbrev pub StandBefore : List ℕ → ℕ → ℕ → Type 0
+StandBefore [] first second = ⊥
+StandBefore (x ∷ order) first second = ((x ≡ first) × (has order second ≡ true)) ⊎ StandBefore order first second
+
+-- each place is that of an operation
+abbrev pub AreThere : List RegOp → List ℕ → Type 0
+AreThere ops order = All (λ place. place < length ops) order
+
+-- no place stands there twice
+abbrev pub AreApart : List ℕ → Type 0
+AreApart order = IsDistinct ◌==◌ order
+
+-- no operation failed
+abbrev pub ArePossible : List RegOp → List ℕ → Type 0
+ArePossible ops order = All (IsPossible ops) order
+
+-- all that happened is there
+abbrev pub HasAllDone : List RegOp → List ℕ → Type 0
+HasAllDone ops order = (place : ℕ) → IsDone ops place → has order place ≡ true
+
+-- What happened and ended before another was invoked stands before that one, where that one is there.
+abbrev pub KeepsPrecedence : List RegOp → List ℕ → Type 0
+KeepsPrecedence ops order =
+    (first second : ℕ) → IsBefore ops first second → has order second ≡ true → StandBefore order first second
+
+-- The calls at these places, one after another, lead from the first value to the last.
+abbrev pub Runs : List RegOp → Option ℤ → List ℕ → Option ℤ → Type 0
+Runs ops value [] last = last ≡ value
+Runs ops value (place ∷ order) last =
+    (next : Option ℤ) × Allows (op_at ops place).call value next × Runs ops next order last
+
+-- Some operations in an order in which they can have happened, which leads to this value.
+pub record IsPartialOrder (ops : List RegOp) (initial : Option ℤ) (order : List ℕ) (last : Option ℤ) : Type 0 where
+  pub places : AreThere ops order
+  pub distinct : AreApart order
+  pub possible : ArePossible ops order
+  pub precedence : KeepsPrecedence ops order
+  pub runs : Runs ops initial order last
+
+-- An order in which all that is known to have happened can have happened.
+pub record IsOrder (ops : List RegOp) (initial : Option ℤ) (order : List ℕ) : Type 0 where
+  pub last : Option ℤ
+  pub partial : IsPartialOrder ops initial order last
+  pub whole : HasAllDone ops order
+
+-- each operation ends after its invocation
+abbrev pub EndAfterInvoked : List RegOp → Type 0
+EndAfterInvoked ops = (place end : ℕ) → (op_at ops place).ended ≡ Some end → (op_at ops place).invoked < end

@@ -1,0 +1,28 @@
+-- What the judge's answers say, and why a given order is refused. All of it is this project's own; what an order is
+-- stands in Order.antt.
+use Rattle.std.specs.Prelude.{ℕ, ℤ, Option, List}
+use Rattle.jh_linear.specs.declared.order_check.OrderFault.{OrderFault}
+use Rattle.jh_linear.specs.declared.order_check.OrderFault.TheVariants.{NoSuch, Repeat, Failed, Missing, Precedence, Illegal}
+use Rattle.jh_linear.specs.declared.register.RegOp.{RegOp}
+use Rattle.jh_linear.specs.declared.verdict.LinVerdict.{LinVerdict}
+use Rattle.jh_linear.specs.declared.verdict.LinVerdict.TheVariants.{Valid, Invalid, Unknown}
+use Rattle.jh_linear.specs.Order.{IsOrder, AreThere, AreApart, ArePossible, HasAllDone, KeepsPrecedence, Runs}
+use Rattle.jh_linear.specs.Reached.{AreReached}
+
+-- Valid: it carries an order. Invalid: there is none. Unknown: it carries what was reached until the budget was used up.
+abbrev pub IsJudged : List RegOp → Option ℤ → ℕ → LinVerdict → Type 0
+IsJudged ops initial budget (Valid order) = IsOrder ops initial order
+IsJudged ops initial budget Invalid = (order : List ℕ) → IsOrder ops initial order → ⊥
+IsJudged ops initial budget (Unknown steps) = AreReached ops initial budget steps
+
+-- Why places are refused as an order: the first of its parts, in this order, that does not hold.
+abbrev pub RefusesOrder : List RegOp → Option ℤ → List ℕ → OrderFault → Type 0
+RefusesOrder ops initial order NoSuch = ¬ AreThere ops order
+RefusesOrder ops initial order Repeat = AreThere ops order × (¬ AreApart order)
+RefusesOrder ops initial order Failed = AreThere ops order × AreApart order × (¬ ArePossible ops order)
+RefusesOrder ops initial order Missing = AreThere ops order × AreApart order × ArePossible ops order × (¬ HasAllDone ops order)
+RefusesOrder ops initial order Precedence =
+    AreThere ops order × AreApart order × ArePossible ops order × HasAllDone ops order × (¬ KeepsPrecedence ops order)
+RefusesOrder ops initial order Illegal =
+    AreThere ops order × AreApart order × ArePossible ops order × HasAllDone ops order × KeepsPrecedence ops order
+    × ((last : Option ℤ) → Runs ops initial order last → ⊥)

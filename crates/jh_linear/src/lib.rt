@@ -1,0 +1,18 @@
+//! Whether the operations of a register can have happened one after another: a judge whose yes carries an order, and whose
+//! no is proved.
+#![tactic(auto)]
+
+mod config;
+mod history;
+mod judge;
+mod order_check;
+mod register;
+mod search;
+mod verdict;
+#[cfg(test)]
+mod tests;
+
+pub use judge::check;
+pub use order_check::{OrderFault, check_order};
+pub use register::{Outcome, RegCall, RegOp};
+pub use verdict::{LinVerdict, Order, Reached};

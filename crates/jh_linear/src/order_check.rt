@@ -1,0 +1,230 @@
+//! A given order, checked without memory.
+//!
+//! `specs/Order.antt` says what an order is, part by part, and `specs/Verdict.antt` which part each refusal stands for. How
+//! a part is looked at may be changed; each part has a function with its exact clause.
+
+ghost use Rattle.std.specs.Prelude.{◌≡◌, ◌+◌, ◌<◌, ℤ, ◌↔◌, ◌∷◌, Option, length, drop, filter, IsTrue, MatchResult, true};
+ghost use Rattle.jh_linear.specs.Checking.{NoneLate, is_done_at, done_below};
+ghost use Rattle.jh_linear.specs.Order.{IsOrder, EndAfterInvoked, EndsBefore, IsBefore, IsPossible, IsDone, AreThere, AreApart, ArePossible, HasAllDone, Runs, has};
+ghost use Rattle.jh_linear.specs.Order as rule;
+ghost use Rattle.jh_linear.specs.Verdict.{RefusesOrder};
+ghost use Rattle.jh_linear.specs.declared.register.Outcome.TheVariants.{Done};
+
+use crate::register::{Outcome, RegCall, RegOp, after};
+use thiserror::Error;
+
+/// Why places are no order, the first of these that applies.
+#[derive(Clone, Copy, Debug, PartialEq, Eq, Error)]
+pub enum OrderFault {
+    /// A place is that of no operation.
+    #[error("no such operation")]
+    NoSuch,
+    /// A place stands there twice.
+    #[error("repeated operation")]
+    Repeat,
+    /// One of the operations failed.
+    #[error("failed operation")]
+    Failed,
+    /// An operation that happened is not there.
+    #[error("missing operation")]
+    Missing,
+    /// One that ended before another was invoked stands behind that one.
+    #[error("precedence")]
+    Precedence,
+    /// The calls do not run on a register, one after another, from the initial value.
+    #[error("illegal")]
+    Illegal,
+}
+
+/// Whether these places are an order in which the operations can have happened, on a register with this initial value.
+/// Each operation has to end after its invocation.
+///
+/// Errors, in this order: `NoSuch`, `Repeat`, `Failed`, `Missing`, `Precedence`, `Illegal`.
+///
+/// Takes no memory. Takes time linear in the operations and the places, but for `Repeat`: there each place is looked for
+/// among those behind it up to the first one that was invoked after its end, so an order of m places with w of them in
+/// flight at once takes m * w steps, and one of an operation that is not known to have happened up to m. Places that
+/// break precedence are compared each with each.
+pub fn check_order(
+    ops: &[RegOp],
+    initial: Option<i64>,
+    order: &[usize],
+) -> Result<(), OrderFault>
+    requires ends { EndAfterInvoked ops.now }
+    ensures judged { MatchResult result (λ _. IsOrder ops.now initial order.now) (RefusesOrder ops.now initial order.now) }
+{
+    if !are_there(ops, order) {
+        return Err(OrderFault::NoSuch);
+    }
+    if !are_apart(ops, order) {
+        return Err(OrderFault::Repeat);
+    }
+    if !are_possible(ops, order) {
+        return Err(OrderFault::Failed);
+    }
+    if !has_all_done(ops, order) {
+        return Err(OrderFault::Missing);
+    }
+    if !none_late(ops, order) {
+        return Err(OrderFault::Precedence);
+    }
+    if !runs(ops, initial, order) {
+        return Err(OrderFault::Illegal);
+    }
+    Ok(())
+}
+
+/// The operation at a place; past the end, one that failed.
+pub(crate) fn op_at(ops: &[RegOp], place: usize) -> RegOp
+    ensures { result ≡ rule.op_at ops.now place }
+{
+    match ops.get(place) {
+        Some(op) => *op,
+        None => RegOp {
+            invoked: 0,
+            ended: None,
+            outcome: Outcome::Failed,
+            call: RegCall::Read(None),
+        },
+    }
+}
+
+fn are_there(ops: &[RegOp], order: &[usize]) -> bool
+    ensures { IsTrue result ↔ AreThere ops.now order.now }
+{
+    order.iter().all(|place| *place < ops.len())
+}
+
+fn is_possible(ops: &[RegOp], place: usize) -> bool
+    ensures { IsTrue result ↔ IsPossible ops.now place }
+{
+    match op_at(ops, place).outcome {
+        Outcome::Failed => false,
+        _ => true,
+    }
+}
+
+fn are_possible(ops: &[RegOp], order: &[usize]) -> bool
+    ensures { IsTrue result ↔ ArePossible ops.now order.now }
+{
+    order.iter().all(|place| is_possible(ops, *place))
+}
+
+fn is_done(ops: &[RegOp], place: usize) -> bool
+    ensures { result ≡ is_done_at ops.now place }
+{
+    match op_at(ops, place).outcome {
+        Outcome::Done => true,
+        _ => false,
+    }
+}
+
+/// How many of the places are those of what happened.
+fn count_done(ops: &[RegOp], order: &[usize]) -> usize
+    ensures { result ≡ length (filter (is_done_at ops.now) order.now) }
+{
+    let mut count = 0;
+    for place in order {
+        if is_done(ops, *place) {
+            count += 1;
+        }
+    }
+    count
+}
+
+/// How many operations happened.
+fn count_all_done(ops: &[RegOp]) -> usize
+    ensures { result ≡ length (done_below ops.now (length ops.now)) }
+{
+    let mut count = 0;
+    for place in 0..ops.len() {
+        if is_done(ops, place) {
+            count += 1;
+        }
+    }
+    count
+}
+
+/// Whether all that happened is among the places, which are apart: then it is enough to count.
+fn has_all_done(ops: &[RegOp], order: &[usize]) -> bool
+    requires apart { AreApart order.now }
+    ensures { IsTrue result ↔ HasAllDone ops.now order.now }
+{
+    count_done(ops, order) == count_all_done(ops)
+}
+
+/// Whether an operation happened, and ended before this place in the history.
+fn is_over(op: RegOp, at: usize) -> bool
+    ensures { IsTrue result ↔ ((op.outcome ≡ Done) × EndsBefore op.ended at) }
+{
+    match (op.outcome, op.ended) {
+        (Outcome::Done, Some(end)) => end < at,
+        _ => false,
+    }
+}
+
+/// Whether none stands behind one that was invoked after its end. It is enough to know the latest invocation so far.
+fn none_late(ops: &[RegOp], order: &[usize]) -> bool
+    ensures { IsTrue result ↔ NoneLate ops.now order.now }
+{
+    let mut latest = 0;
+    for place in order {
+        let op = op_at(ops, *place);
+        if is_over(op, latest) {
+            return false;
+        }
+        latest = latest.max(op.invoked);
+    }
+    true
+}
+
+/// Whether a place is among those behind it. Where none of them is late, it can stand only before the first that was
+/// invoked after its end.
+fn stands_again(ops: &[RegOp], place: usize, behind: &[usize], in_time: bool) -> bool
+    requires in_time { in_time ≡ true → NoneLate ops.now (place ∷ behind.now) }
+    ensures { result ≡ has behind.now place }
+{
+    let op = op_at(ops, place);
+    for other in behind {
+        if *other == place {
+            return true;
+        }
+        if in_time && is_over(op, op_at(ops, *other).invoked) {
+            return false;
+        }
+    }
+    false
+}
+
+fn behind(order: &[usize], index: usize) -> &[usize]
+    requires { index < length order.now }
+    ensures { result.now ≡ drop (index + 1) order.now }
+{
+    &order[index + 1..]
+}
+
+fn are_apart(ops: &[RegOp], order: &[usize]) -> bool
+    ensures { IsTrue result ↔ AreApart order.now }
+{
+    let in_time = none_late(ops, order);
+    for (index, place) in order.iter().enumerate() {
+        if stands_again(ops, *place, behind(order, index), in_time) {
+            return false;
+        }
+    }
+    true
+}
+
+/// Whether the calls lead from the initial value to some value.
+fn runs(ops: &[RegOp], initial: Option<i64>, order: &[usize]) -> bool
+    ensures { IsTrue result ↔ ((last : Option ℤ) × Runs ops.now initial order.now last) }
+{
+    let mut value = initial;
+    for place in order {
+        let Some(next) = after(op_at(ops, *place).call, value) else {
+            return false;
+        };
+        value = next;
+    }
+    true
+}
