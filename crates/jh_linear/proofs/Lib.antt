@@ -11,3 +11,4 @@ pub mod JudgeLemmas
 pub mod EntryLemmas
 pub mod HistoryLemmas
 pub mod OrderLemmas
+pub mod CallLemmas

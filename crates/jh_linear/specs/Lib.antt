@@ -1,3 +1,4 @@
+pub mod Calls
 pub mod Checking
 pub mod Order
 pub mod Reached

@@ -2,6 +2,7 @@
 //! no is proved.
 #![tactic(auto)]
 
+mod calls;
 mod config;
 mod history;
 mod judge;
@@ -12,6 +13,7 @@ mod verdict;
 #[cfg(test)]
 mod tests;
 
+pub use calls::{RegOpsError, reg_ops};
 pub use judge::check;
 pub use order_check::{OrderFault, check_order};
 pub use register::{Outcome, RegCall, RegOp};

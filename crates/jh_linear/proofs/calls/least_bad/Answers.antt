@@ -1,0 +1,16 @@
+use Rattle.std.proofs.Common.{◌≡◌, ◌+◌, ◌<◌, length, take, get_or, sym, subst, arith}
+use Rattle.std.proofs.lemmas.List.{take_more}
+use Rattle.jh_ops.specs.Operation.{operations}
+use Rattle.jh_linear.specs.Calls.{IsLeastBad, lesser}
+use Rattle.jh_linear.proofs.CallLemmas.{least_more}
+use Rattle.jh_linear.proofs.calls.least_bad.Goals as goal
+
+pub loop-pair-preserved : goal.loop-pair-preserved
+loop-pair-preserved c =
+    let history = operations c.args.ops.now in
+    let pairs = c.args.pairs.now in
+    let l = c.loop-pair in
+    let low : l.pair-index < length pairs = omega arith in
+    subst (λ least. IsLeastBad history (take (l.pair-index + 1) pairs) least) (sym c.lesser-least.ensures)
+    (subst (λ xs. IsLeastBad history xs (lesser l.least c.bad_place.result)) (sym (take_more pairs l.pair-index _ low))
+    (least_more history (take l.pair-index pairs) _ l.least c.bad_place.result (sym c.bad_place.ensures) l.invariant))

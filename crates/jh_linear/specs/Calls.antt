@@ -1,0 +1,110 @@
+-- The operations of a register that a history tells (Jepsen's register workloads: `:read`, `:write` with a value, `:cas` with
+-- `[old new]`). That a read which did not complete `:ok` tells no value, that a missing completion is one that tells nothing,
+-- and where a bad value is told, are this project's own. Places count from 0 in the whole history.
+use Rattle.std.specs.Prelude.{◌≡◌, ℕ, ◌≤◌, min, ℤ, Bool, true, false, List, [], ◌∷◌, map, codes, if◌then◌else◌, slice_get, Option, Some, None, IfSome, is_some, unwrap_or, option_map, option_and_then}
+use Rattle.std.specs.List.{All, Contains}
+use Rattle.jh_edn.specs.Edn.{Edn, nil, int, elements_of}
+use Rattle.jh_ops.specs.Operation.{Operation}
+use Rattle.jh_ops.specs.OperationText.{is_keyword, integer_of}
+use Rattle.jh_ops.specs.declared.operation.Kind.{Kind}
+use Rattle.jh_ops.specs.declared.pairs.Pair.{Pair}
+use Rattle.jh_linear.specs.declared.calls.RegOpsError.{RegOpsError}
+use Rattle.jh_linear.specs.declared.calls.RegOpsError.TheVariants.{BadValue, OutOfMemory}
+use Rattle.jh_linear.specs.declared.register.Outcome.{Outcome}
+use Rattle.jh_linear.specs.declared.register.Outcome.TheVariants.{Done, Failed, Unsure}
+use Rattle.jh_linear.specs.declared.register.RegCall.{RegCall}
+use Rattle.jh_linear.specs.declared.register.RegCall.TheVariants.{Read, Write, Cas}
+use Rattle.jh_linear.specs.declared.register.RegOp.{RegOp}
+
+-- what a read answers: an integer, or nil, which tells no value
+abbrev pub read_of : Edn → Option RegCall
+read_of nil = Some (Read None)
+read_of (int seen) = Some (Read (Some seen))
+read_of _ = None
+
+abbrev pub write_of : Edn → Option RegCall
+write_of value = option_map Write (integer_of value)
+
+-- two integers, and nothing else
+abbrev pub swap_of : List Edn → Option RegCall
+swap_of (int old ∷ int new ∷ []) = Some (Cas old new)
+swap_of _ = None
+
+-- two integers in a vector or a list
+abbrev pub cas_of : Edn → Option RegCall
+cas_of value = option_and_then swap_of (elements_of value)
+
+abbrev pub is_read : Edn → Bool
+is_read f = is_keyword (codes "read") f
+
+-- a read by what it answered; a write and a compare and set by what they were invoked with
+abbrev pub call_of : Edn → Edn → Option Edn → Option RegCall
+call_of f value answered =
+    if is_read f then read_of (unwrap_or answered nil)
+    else if is_keyword (codes "write") f then write_of value
+    else if is_keyword (codes "cas") f then cas_of value
+    else None
+
+-- how an operation with this completion ended; one with none may have happened
+abbrev pub outcome_of : Option Kind → Outcome
+outcome_of (Some Kind.Ok) = Done
+outcome_of (Some Kind.Fail) = Failed
+outcome_of _ = Unsure
+
+-- the value of a completion, where it is `:ok`
+abbrev pub answer_in : Kind → Edn → Option Edn
+answer_in Kind.Ok value = Some value
+answer_in _ value = None
+
+abbrev pub answer_of : Option Operation → Option Edn
+answer_of completion = option_and_then (λ op. answer_in op.kind op.value) completion
+
+-- the completion of a pair, if there is one
+abbrev pub completion_of : List Operation → Pair → Option Operation
+completion_of history pair = option_and_then (λ place. slice_get history place) pair.outcome
+
+abbrev pub with_call : List Operation → Pair → RegCall → RegOp
+with_call history pair call = record {
+  invoked = pair.invoke;
+  ended = pair.outcome;
+  outcome = outcome_of (option_map (λ op. op.kind) (completion_of history pair));
+  call = call;
+}
+
+-- the operation of a pair, where its call can be told
+abbrev pub reg_op_of : List Operation → Pair → Option RegOp
+reg_op_of history pair =
+    option_map (with_call history pair)
+    (option_and_then (λ invocation. call_of invocation.f invocation.value (answer_of (completion_of history pair))) (slice_get history pair.invoke))
+
+-- a read is invoked there
+abbrev pub reads_at : List Operation → ℕ → Bool
+reads_at history place = unwrap_or (option_map (λ op. is_read op.f) (slice_get history place)) false
+
+-- where a bad value would be told: of a read at its completion, of any other at its invocation
+abbrev pub told_at : List Operation → Pair → ℕ
+told_at history pair = if reads_at history pair.invoke then unwrap_or pair.outcome pair.invoke else pair.invoke
+
+-- where a bad value is told, if one is
+abbrev pub bad_place : List Operation → Pair → Option ℕ
+bad_place history pair = if is_some (reg_op_of history pair) then None else Some (told_at history pair)
+
+abbrev pub lesser : Option ℕ → Option ℕ → Option ℕ
+lesser None other = other
+lesser (Some one) None = Some one
+lesser (Some one) (Some other) = Some (min one other)
+
+-- one operation for each pair, in order
+abbrev pub AreRegOps : List Operation → List Pair → List RegOp → Type 0
+AreRegOps history pairs ops = map (reg_op_of history) pairs ≡ map Some ops
+
+-- The least place of a bad value, or none where there is none.
+abbrev pub IsLeastBad : List Operation → List Pair → Option ℕ → Type 0
+IsLeastBad history pairs None = All (λ pair. bad_place history pair ≡ None) pairs
+IsLeastBad history pairs (Some place) =
+    Contains (map (bad_place history) pairs) (Some place) × All (λ pair. IfSome (bad_place history pair) (λ other. place ≤ other)) pairs
+
+-- Why the pairs of a history are refused: at the least place of a bad value, and for want of memory only where there is none.
+abbrev pub RefusesPairs : List Operation → List Pair → RegOpsError → Type 0
+RefusesPairs history pairs (BadValue place) = IsLeastBad history pairs (Some place)
+RefusesPairs history pairs OutOfMemory = IsLeastBad history pairs None

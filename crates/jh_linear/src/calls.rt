@@ -1,0 +1,233 @@
+//! The operations of a register that the pairs of a history tell.
+//!
+//! `specs/Calls.antt` says which call each pair tells, and where a bad value is told.
+
+ghost use Rattle.std.specs.Prelude.{◌≡◌, ℕ, List, All, IfOk, MatchResult, length, map, slice_get, Option, Some, None, option_map, min};
+ghost use Rattle.jh_edn.specs.View.{view};
+ghost use Rattle.jh_ops.specs.Operation.{operation, operations};
+ghost use Rattle.jh_ops.specs.OperationText as text;
+ghost use Rattle.jh_ops.specs.Pairing.{IsWithin};
+ghost use Rattle.jh_linear.specs.Calls as rule;
+ghost use Rattle.jh_linear.specs.Calls.{AreRegOps, IsLeastBad, RefusesPairs, bad_place};
+ghost use Rattle.jh_linear.specs.Order.{EndAfterInvoked};
+ghost use Rattle.jh_linear.specs.declared.calls.RegOpsError.TheVariants.{OutOfMemory};
+
+use crate::register::{Outcome, RegCall, RegOp};
+use jh_edn::Value;
+use jh_ops::{Kind, Op, Pair};
+use std::alloc::{AllocError, AllocFailed, Global};
+use thiserror::Error;
+
+/// Why the pairs of a history tell no operations of a register.
+#[derive(Clone, Copy, Debug, PartialEq, Eq, Error)]
+pub enum RegOpsError {
+    /// The operation at this place of the history, from 0, has a value that its function does not take, or a function that
+    /// no register has.
+    #[error("operation {0}: bad value")]
+    BadValue(usize),
+    #[error("out of memory")]
+    OutOfMemory,
+}
+
+impl From<AllocError> for RegOpsError {
+    ghost from_gives = { λ _ e. e ≡ OutOfMemory };
+
+    fn from(_error: AllocError) -> RegOpsError {
+        RegOpsError::OutOfMemory
+    }
+}
+
+impl<T: Drop> From<AllocFailed<T>> for RegOpsError {
+    ghost from_gives = { λ _ e. e ≡ OutOfMemory };
+
+    fn from(_error: AllocFailed<T>) -> RegOpsError {
+        RegOpsError::OutOfMemory
+    }
+}
+
+/// The operations of a register that pairs tell, one each, in the order of the pairs: those that `jh_ops::pair` gives for
+/// the history. Only client operations are in pairs.
+///
+/// A `:read` has the value that its `:ok` completion tells, an integer or nil; one that did not complete `:ok` has nil. A
+/// `:write` has the integer, a `:cas` the two integers `[old new]`, as a vector or a list, that it was invoked with. The
+/// function is that of the invocation. `:ok` happened, `:fail` did not; `:info`, or no completion, is not known. An operation
+/// ended at the place of its completion, whatever that was.
+///
+/// The operations meet the condition of `check` and `check_order`.
+///
+/// Errors: `BadValue` at the least place of one: of a `:read` at its completion, of any other, also one with another
+/// function, at its invocation. `OutOfMemory` only where no value is bad.
+///
+/// Takes time linear in the pairs.
+pub fn reg_ops(alloc: Global, ops: &[Op], pairs: &[Pair]) -> Result<Vec<RegOp>, RegOpsError>
+    requires within { All (IsWithin (length ops.now)) pairs.now }
+    ensures told { MatchResult result
+        (λ calls. AreRegOps (operations ops.now) pairs.now calls.items)
+        (RefusesPairs (operations ops.now) pairs.now) }
+    ensures ends { IfOk result (λ calls. EndAfterInvoked calls.items) }
+{
+    if let Some(place) = least_bad(ops, pairs) {
+        return Err(RegOpsError::BadValue(place));
+    }
+    let mut calls = Vec::with_capacity(alloc, pairs.len())?;
+    for pair in pairs {
+        if let Some(call) = reg_op(ops, *pair) {
+            calls.push(call)?;
+        }
+    }
+    Ok(calls)
+}
+
+fn op_at(ops: &[Op], place: usize) -> Option<&Op>
+    ensures { option_map (λ op. operation op.now) result ≡ slice_get (operations ops.now) place }
+{
+    ops.get(place)
+}
+
+fn is_keyword(name: &str, value: &Value) -> bool
+    ensures { result ≡ text.is_keyword name.now (view value.now) }
+{
+    match value {
+        Value::Keyword(text) => text.as_str() == name,
+        _ => false,
+    }
+}
+
+fn integer_of(value: &Value) -> Option<i64>
+    ensures { result ≡ text.integer_of (view value.now) }
+{
+    match value {
+        Value::Int(number) => Some(*number),
+        _ => None,
+    }
+}
+
+fn read_of(value: &Value) -> Option<RegCall>
+    ensures { result ≡ rule.read_of (view value.now) }
+{
+    match value {
+        Value::Nil => Some(RegCall::Read(None)),
+        Value::Int(seen) => Some(RegCall::Read(Some(*seen))),
+        _ => None,
+    }
+}
+
+fn write_of(value: &Value) -> Option<RegCall>
+    ensures { result ≡ rule.write_of (view value.now) }
+{
+    let new = integer_of(value)?;
+    Some(RegCall::Write(new))
+}
+
+fn cas_of(value: &Value) -> Option<RegCall>
+    ensures { result ≡ rule.cas_of (view value.now) }
+{
+    match value.elements()? {
+        [Value::Int(old), Value::Int(new)] => Some(RegCall::Cas(*old, *new)),
+        _ => None,
+    }
+}
+
+fn call_of(invocation: &Op, answer: Option<&Value>) -> Option<RegCall>
+    ensures { result ≡ rule.call_of (view invocation.now.f) (view invocation.now.value) (option_map (λ v. view v.now) answer.entry) }
+{
+    if is_keyword("read", &invocation.f) {
+        match answer {
+            Some(value) => read_of(value),
+            None => Some(RegCall::Read(None)),
+        }
+    } else if is_keyword("write", &invocation.f) {
+        write_of(&invocation.value)
+    } else if is_keyword("cas", &invocation.f) {
+        cas_of(&invocation.value)
+    } else {
+        None
+    }
+}
+
+fn completion_of(ops: &[Op], pair: Pair) -> Option<&Op>
+    ensures { option_map (λ op. operation op.now) result ≡ rule.completion_of (operations ops.now) pair }
+{
+    let place = pair.outcome?;
+    op_at(ops, place)
+}
+
+fn outcome_of(completion: Option<&Op>) -> Outcome
+    ensures { result ≡ rule.outcome_of (option_map (λ op. op.now.kind) completion.entry) }
+{
+    let Some(op) = completion else {
+        return Outcome::Unsure;
+    };
+    match op.kind {
+        Kind::Ok => Outcome::Done,
+        Kind::Fail => Outcome::Failed,
+        _ => Outcome::Unsure,
+    }
+}
+
+fn answer_of(completion: Option<&Op>) -> Option<&Value>
+    ensures { option_map (λ v. view v.now) result ≡ rule.answer_of (option_map (λ op. operation op.now) completion.entry) }
+{
+    let op = completion?;
+    match op.kind {
+        Kind::Ok => Some(&op.value),
+        _ => None,
+    }
+}
+
+fn reg_op(ops: &[Op], pair: Pair) -> Option<RegOp>
+    ensures { result ≡ rule.reg_op_of (operations ops.now) pair }
+{
+    let invocation = op_at(ops, pair.invoke)?;
+    let completion = completion_of(ops, pair);
+    let call = call_of(invocation, answer_of(completion))?;
+    Some(RegOp {
+        invoked: pair.invoke,
+        ended: pair.outcome,
+        outcome: outcome_of(completion),
+        call,
+    })
+}
+
+fn reads_at(ops: &[Op], place: usize) -> bool
+    ensures { result ≡ rule.reads_at (operations ops.now) place }
+{
+    match op_at(ops, place) {
+        Some(op) => is_keyword("read", &op.f),
+        None => false,
+    }
+}
+
+fn bad_place(ops: &[Op], pair: Pair) -> Option<usize>
+    ensures { result ≡ rule.bad_place (operations ops.now) pair }
+{
+    if reg_op(ops, pair).is_some() {
+        return None;
+    }
+    if reads_at(ops, pair.invoke) {
+        Some(pair.outcome.unwrap_or(pair.invoke))
+    } else {
+        Some(pair.invoke)
+    }
+}
+
+/// The lesser of two places, of which one or both may be missing.
+fn lesser(first: Option<usize>, second: Option<usize>) -> Option<usize>
+    ensures { result ≡ rule.lesser first second }
+{
+    match (first, second) {
+        (Some(one), Some(other)) => Some(one.min(other)),
+        (None, other) => other,
+        (one, None) => one,
+    }
+}
+
+fn least_bad(ops: &[Op], pairs: &[Pair]) -> Option<usize>
+    ensures { IsLeastBad (operations ops.now) pairs.now result }
+{
+    let mut least = None;
+    for pair in pairs {
+        least = lesser(least, bad_place(ops, *pair));
+    }
+    least
+}
