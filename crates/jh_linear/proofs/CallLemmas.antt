@@ -1,5 +1,5 @@
 -- The operations that pairs tell, and the least place of a bad value.
-use Rattle.std.proofs.Common.{◌≡◌, ℕ, zero, suc, ◌+◌, ◌<◌, ◌≤◌, min, Option, Some, None, List, [], ◌∷◌, ◌++◌, length, get_or, map, option_map, refl, sym, ap, subst, ◌∙◌, inl, inr, arith}
+use Rattle.std.proofs.Common.{◌≡◌, ℕ, zero, suc, ◌<◌, ◌≤◌, min, Option, Some, None, List, [], ◌∷◌, ◌++◌, get_or, map, option_map, sym, ap, subst, ◌∙◌, inl, inr, arith}
 use Rattle.std.specs.Prelude.{IfSome}
 use Rattle.std.specs.List.{All, Contains}
 use Rattle.std.proofs.lemmas.Bool.{cases_lt}
@@ -9,7 +9,7 @@ use Rattle.jh_ops.specs.Operation.{Operation}
 use Rattle.jh_ops.specs.Pairing.{IsWithin}
 use Rattle.jh_ops.specs.declared.pairs.Pair.{Pair}
 use Rattle.jh_linear.specs.declared.register.RegOp.{RegOp}
-use Rattle.jh_linear.specs.Order.{EndAfterInvoked, op_at}
+use Rattle.jh_linear.specs.Order.{EndAfterInvoked}
 use Rattle.jh_linear.specs.Calls.{AreRegOps, IsLeastBad, bad_place, lesser, reg_op_of, with_call}
 
 module _ (history : List Operation) (pairs : List Pair) (pair : Pair) where

@@ -1,10 +1,9 @@
 -- Pairs of a number and a place, which are sorted.
-use Rattle.std.proofs.Common.{◌≡◌, ℕ, zero, suc, ◌+◌, ◌<◌, ◌≤◌, Bool, true, false, eqb, ltb, cond, List, [], ◌∷◌, ◌++◌, length, get_or, map, refl, sym, ap, subst, ◌∙◌, inl, inr, arith, rules, ne_eqb, Ordering}
-use Rattle.std.specs.Prelude.{◌⊎◌}
-use Rattle.std.specs.List.{All, IsDistinct, Contains, list_any, AllAdjacentBelow}
+use Rattle.std.proofs.Common.{◌≡◌, ℕ, ◌+◌, ◌<◌, ◌≤◌, true, false, eqb, List, [], ◌∷◌, ◌++◌, get_or, map, sym, ap, subst, ◌∙◌, inl, inr, arith, ne_eqb}
+use Rattle.std.specs.List.{All, IsDistinct, Contains}
 use Rattle.std.specs.List.Sorted.{IsPermutation, IsSorted}
 use Rattle.std.specs.Ordering.{nat_cmp, is_lt, ordering_then}
-use Rattle.std.proofs.lemmas.Bool.{false≢true, cases_lt, eqb-true}
+use Rattle.std.proofs.lemmas.Bool.{cases_lt, eqb-true}
 use Rattle.std.proofs.lemmas.Bool.Decides.{nat_tests}
 use Rattle.std.proofs.lemmas.List.{map-append}
 use Rattle.std.proofs.lemmas.Cmp.{nat_eq_equiv}
@@ -12,9 +11,8 @@ use Rattle.std.proofs.lemmas.List.Folds.{list_any_none}
 use Rattle.std.proofs.lemmas.List.Elements.{All-nil, All-push, All-map, Contains-append_left, Contains-push}
 use Rattle.std.proofs.lemmas.List.Sorted.{All-permutation, Contains-permutation, IsPermutation-map, IsNonDecreasingBy-from_all_adjacent}
 use Rattle.std.proofs.lemmas.Map.Keys.{IsDistinct-IsPermutation, IsDistinct-from_apart, IsDistinct-push}
-use Rattle.jh_linear.specs.Order.{has}
 use Rattle.jh_linear.specs.Search.{AreEntries, DoNotFall}
-use Rattle.jh_linear.proofs.SetLemmas.{not_true, false_if, same_tests, eqb_self, place_of, has_append, or_left, or_right, or_cases}
+use Rattle.jh_linear.proofs.SetLemmas.{same_tests, eqb_self}
 
 flips : (x y : ℕ) → eqb x y ≡ eqb y x
 flips x y = same_tests (eqb x y) (eqb y x) (λ e. subst (λ z. eqb z x ≡ true) (eqb-true x y e) (eqb_self x)) (λ e. subst (λ z. eqb z y ≡ true) (eqb-true y x e) (eqb_self y))

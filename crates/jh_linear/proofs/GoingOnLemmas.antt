@@ -1,5 +1,5 @@
 -- A search that goes on.
-use Rattle.std.proofs.Common.{◌≡◌, ℕ, zero, suc, ◌+◌, ◌-◌, ◌<◌, ◌≤◌, ℤ, Bool, true, false, Option, Some, None, List, [], ◌∷◌, ◌++◌, length, get_or, slice_get, refl, sym, ap, subst, ◌∙◌, inl, inr, arith}
+use Rattle.std.proofs.Common.{◌≡◌, ℕ, ◌+◌, ◌-◌, ◌<◌, ◌≤◌, ℤ, true, false, Option, Some, List, [], ◌∷◌, ◌++◌, length, get_or, slice_get, refl, sym, ap, subst, ◌∙◌, inl, inr, arith}
 use Rattle.std.specs.Prelude.{◌⊎◌}
 use Rattle.std.proofs.lemmas.Bool.{cases_lt}
 use Rattle.std.proofs.lemmas.List.{length_push, get_or_read}
@@ -10,14 +10,14 @@ use Rattle.jh_linear.specs.declared.search.Search.{Search}
 use Rattle.jh_linear.specs.declared.judge.Problem.{Problem}
 use Rattle.jh_linear.specs.declared.judge.Progress.{Progress}
 use Rattle.jh_linear.specs.declared.judge.Progress.TheVariants.{More, Complete, Full as NoRoom}
-use Rattle.jh_linear.specs.Order.{no_op, EndAfterInvoked, op_at, has, Allows, IsDone}
-use Rattle.jh_linear.specs.Search.{MayFollow, Follows, stage_at, IsHistory, IsAt, StandsFor, IsSearch, IsReached, IsSpread, IsReadOn, IsGoneOn, IsSettled, AreSame, Grows, IsNext, IsProblem, IsBegun, IsThere, Tried, Expanded}
+use Rattle.jh_linear.specs.Order.{no_op, EndAfterInvoked, op_at, has, Allows}
+use Rattle.jh_linear.specs.Search.{MayFollow, Follows, stage_at, IsHistory, IsAt, StandsFor, IsSearch, IsReached, IsSpread, IsSettled, AreSame, Grows, IsNext, IsProblem, IsBegun, IsThere, Tried, Expanded}
 use Rattle.jh_linear.specs.Order.{HasAllDone}
 use Rattle.jh_linear.specs.Reached.{order_at}
-use Rattle.jh_linear.proofs.SetLemmas.{place_of, has_here, has_append, has_self, has_kept, has_push_cases}
+use Rattle.jh_linear.proofs.SetLemmas.{place_of, has_here, has_self, has_kept, has_push_cases}
 use Rattle.std.proofs.lemmas.Option.{slice_get_within}
 use Rattle.jh_linear.proofs.StageLemmas.{may_follow, is_pending}
-use Rattle.jh_linear.proofs.PairLemmas.{order_kept, order_new}
+use Rattle.jh_linear.proofs.PairLemmas.{order_kept}
 use Rattle.jh_linear.proofs.GrowthLemmas.{get_kept, get_cases, reached_kept, reached_new, reached_known, search_push}
 
 -- a copy of a configuration stands for the same orders
@@ -202,8 +202,7 @@ settled_on problem old new at config place stood begun there inside settled More
     let order : List ℕ = order_at old.steps.items at in
     let stands = stands_at ops problem.initial arrivals stages stood.history old.configs.keys old.steps.items begun.known at there.0 config there.1 there.2 in
     let low = stage_at_low ops problem.initial arrivals stages stood.history old.configs.keys old.steps.items begun.known at there.0 config there.1 there.2 in
-    let may = may_follow ops problem.initial arrivals stages stood.history order config.stage config.pending.items place stands.known low inside in
-    (
+    let may = may_follow ops problem.initial arrivals stages stood.history order config.stage config.pending.items place stands.known low inside in (
       tried.0,
       λ other is.
           let found : Config = there.0 in

@@ -1,5 +1,5 @@
 -- One more configuration that was reached.
-use Rattle.std.proofs.Common.{◌≡◌, ℕ, zero, suc, ◌+◌, ◌<◌, ◌≤◌, ℤ, Bool, true, false, Option, Some, None, List, [], ◌∷◌, ◌++◌, length, get_or, slice_get, refl, sym, ap, subst, ◌∙◌, inl, inr, arith}
+use Rattle.std.proofs.Common.{◌≡◌, ℕ, zero, suc, ◌<◌, ℤ, true, Option, Some, List, [], ◌∷◌, ◌++◌, length, get_or, slice_get, refl, sym, ap, subst, ◌∙◌, inl, inr, arith}
 use Rattle.std.specs.Prelude.{◌⊎◌}
 use Rattle.std.proofs.lemmas.Bool.{cases_lt}
 use Rattle.std.proofs.lemmas.List.{length_push, get_or_append_left, get_or_push}
@@ -7,10 +7,10 @@ use Rattle.std.proofs.lemmas.Option.{slice_get_within}
 use Rattle.jh_linear.specs.declared.register.RegOp.{RegOp}
 use Rattle.jh_linear.specs.declared.history.Stage.{Stage}
 use Rattle.jh_linear.specs.declared.config.Config.{Config}
-use Rattle.jh_linear.specs.Order.{op_at, has, Allows}
-use Rattle.jh_linear.specs.Search.{MayFollow, stage_at, arrived_by, without, IsHistory, IsAt, StandsFor, IsSearch, IsReached, IsGoneOn, AreSame}
+use Rattle.jh_linear.specs.Order.{has}
+use Rattle.jh_linear.specs.Search.{arrived_by, without, StandsFor, IsSearch, IsReached, IsGoneOn, AreSame}
 use Rattle.jh_linear.specs.Reached.{order_at, root}
-use Rattle.jh_linear.proofs.SetLemmas.{has_push_same, has_without, in_without, not_true, true_if, false_if, same_tests}
+use Rattle.jh_linear.proofs.SetLemmas.{has_without, in_without, not_true, true_if, same_tests}
 use Rattle.jh_linear.proofs.PairLemmas.{order_kept, order_new}
 
 pub get_kept : {X : Type 0} (xs : List X) (y x : X) (i : ℕ) → slice_get xs i ≡ Some x → slice_get (xs ++ y ∷ []) i ≡ Some x

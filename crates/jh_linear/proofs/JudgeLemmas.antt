@@ -1,14 +1,14 @@
 -- The search at its start and at its end.
-use Rattle.std.proofs.Common.{◌≡◌, ℕ, zero, suc, ◌+◌, ◌-◌, ◌<◌, ◌≤◌, ℤ, Bool, true, false, not, eqb, Option, Some, None, List, [], ◌∷◌, ◌++◌, length, get_or, slice_get, refl, sym, ap, subst, ◌∙◌, inl, inr, arith}
+use Rattle.std.proofs.Common.{◌≡◌, ℕ, zero, suc, ◌<◌, ℤ, true, not, Option, Some, List, [], ◌∷◌, ◌++◌, length, slice_get, refl, sym, ap, subst, ◌∙◌, inl, inr, arith}
 use Rattle.std.specs.Prelude.{◌⊎◌}
 use Rattle.std.proofs.lemmas.Bool.{cases_lt, false≢true}
 use Rattle.std.proofs.lemmas.Option.{slice_get_within}
 use Rattle.jh_linear.specs.declared.register.RegOp.{RegOp}
 use Rattle.jh_linear.specs.declared.history.Stage.{Stage}
 use Rattle.jh_linear.specs.declared.config.Config.{Config}
-use Rattle.jh_linear.specs.Order.{op_at, has, Allows, IsDone, IsPartialOrder, IsOrder}
+use Rattle.jh_linear.specs.Order.{has, IsOrder}
 use Rattle.jh_linear.specs.Reached.{AreReached, order_at, root}
-use Rattle.jh_linear.specs.Search.{Follows, stage_at, arrived_by, without, IsHistory, IsAt, StandsFor, IsSearch, IsReached, IsGoneOn, AreSame, AreSteps, IsKept, Grows}
+use Rattle.jh_linear.specs.Search.{Follows, arrived_by, without, IsHistory, StandsFor, IsSearch, IsReached, IsGoneOn, AreSame, AreSteps, IsKept, Grows}
 use Rattle.jh_linear.specs.Order.{HasAllDone}
 use Rattle.jh_linear.proofs.SetLemmas.{not_true, has_one, has_kept, has_push_cases}
 use Rattle.jh_linear.proofs.GrowthLemmas.{get_cases, gone_more}

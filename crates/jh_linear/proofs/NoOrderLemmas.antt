@@ -1,13 +1,13 @@
 -- Where each configuration that was reached has been gone on from, there is no order.
-use Rattle.std.proofs.Common.{◌≡◌, ℕ, zero, suc, ◌+◌, ◌<◌, ◌≤◌, ℤ, Bool, true, false, eqb, cond, Option, Some, None, List, [], ◌∷◌, ◌++◌, length, get_or, slice_get, filter, refl, sym, ap, subst, ◌∙◌, inl, inr, arith}
+use Rattle.std.proofs.Common.{◌≡◌, ℕ, zero, suc, ℤ, Bool, true, false, eqb, cond, Option, Some, List, [], ◌∷◌, ◌++◌, length, slice_get, filter, refl, sym, ap, subst, ◌∙◌, inl, inr, arith}
 use Rattle.std.specs.Prelude.{◌⊎◌, ◌||◌}
 use Rattle.std.proofs.lemmas.Bool.{false≢true, eqb-true}
 use Rattle.jh_linear.specs.declared.register.RegOp.{RegOp}
 use Rattle.jh_linear.specs.declared.history.Stage.{Stage}
 use Rattle.jh_linear.specs.declared.config.Config.{Config}
-use Rattle.jh_linear.specs.Order.{op_at, IsPossible, IsDone, IsBefore, has, Allows, HasAllDone}
+use Rattle.jh_linear.specs.Order.{op_at, IsDone, has, Allows, HasAllDone}
 use Rattle.jh_linear.specs.Reached.{order_at}
-use Rattle.jh_linear.specs.Search.{is_worth, IsSearched, LeavesValue, MayFollow, Follows, stage_at, IsHistory, StandsFor, IsSearch, IsReached, IsSpread, IsReadOn, IsGoneOn}
+use Rattle.jh_linear.specs.Search.{is_worth, IsSearched, LeavesValue, MayFollow, Follows, IsHistory, IsSearch, IsReached, IsGoneOn}
 use Rattle.jh_linear.proofs.SetLemmas.{eqb_self, has_self, has_append, has_kept, has_push_same, has_push_cases, has_filter, passes_filter, or_left, or_right, or_cases, not_true, false_if, same_tests, test_cases}
 use Rattle.jh_linear.proofs.StageLemmas.{done_searched, left_out}
 

@@ -1,6 +1,6 @@
 -- The parts of an order, as they are looked at without memory.
-use Rattle.std.proofs.Common.{◌≡◌, ℕ, zero, suc, ◌+◌, ◌-◌, ◌<◌, ◌≤◌, ℤ, Bool, true, false, cond, not, eqb, Option, Some, None, List, [], ◌∷◌, ◌++◌, length, get_or, take, drop, filter, refl, sym, ap, subst, ◌∙◌, inl, inr, arith, max, eq-eqb, ne_eqb, add-one}
-use Rattle.std.specs.Prelude.{◌⊎◌, ◌||◌, ◌↔◌}
+use Rattle.std.proofs.Common.{◌≡◌, ℕ, zero, suc, ◌+◌, ◌-◌, ◌<◌, ◌≤◌, true, false, cond, eqb, Option, Some, None, List, [], ◌∷◌, length, get_or, drop, filter, refl, sym, ap, subst, ◌∙◌, inl, inr, arith, max, eq-eqb, ne_eqb, add-one}
+use Rattle.std.specs.Prelude.{◌||◌}
 use Rattle.std.specs.List.{IsDistinct, AllByRecursion}
 use Rattle.std.specs.Set.{is_member}
 use Rattle.std.proofs.lemmas.Bool.{false≢true, eqb-true, cases_lt}
@@ -13,7 +13,7 @@ use Rattle.jh_linear.specs.declared.register.Outcome.TheVariants.{Done, Failed, 
 use Rattle.jh_linear.specs.declared.register.RegOp.{RegOp}
 use Rattle.jh_linear.specs.Order.{op_at, IsDone, IsBefore, EndsBefore, has, StandBefore, AreApart, HasAllDone, KeepsPrecedence, EndAfterInvoked}
 use Rattle.jh_linear.specs.Checking.{NoneLate, is_done, is_done_at, done_below}
-use Rattle.jh_linear.proofs.SetLemmas.{eqb_self, or_left, or_right, or_cases, not_true, true_if, false_if, same_tests, test_cases, has_here, place_of, has_filter, passes_filter, distinct_filter}
+use Rattle.jh_linear.proofs.SetLemmas.{eqb_self, or_left, or_right, or_cases, not_true, true_if, false_if, same_tests, has_here, place_of, has_filter, passes_filter, distinct_filter}
 use Rattle.jh_linear.proofs.StageLemmas.{not_before_itself, done_there}
 
 pub ends_later : (end : Option ℕ) (a b : ℕ) → EndsBefore end a → a ≤ b → EndsBefore end b

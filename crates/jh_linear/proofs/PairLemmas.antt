@@ -1,6 +1,6 @@
 -- The orders that pairs stand for.
-use Rattle.std.proofs.Common.{◌≡◌, ℕ, zero, suc, ◌+◌, ◌<◌, ◌≤◌, List, [], ◌∷◌, ◌++◌, length, get_or, refl, sym, ap, subst, ◌∙◌, arith}
-use Rattle.std.proofs.lemmas.List.{length-append, get_or_append_left, get_or_push, length_push}
+use Rattle.std.proofs.Common.{◌≡◌, ℕ, zero, suc, ◌+◌, ◌<◌, List, [], ◌∷◌, ◌++◌, length, get_or, refl, sym, ap, ◌∙◌, arith}
+use Rattle.std.proofs.lemmas.List.{get_or_append_left, get_or_push, length_push}
 use Rattle.jh_linear.specs.Reached.{orders_from, orders_of, order_at, root, NameEarlier}
 
 pub orders_push : (known : List (List ℕ)) (steps : List (ℕ × ℕ)) (step : ℕ × ℕ) → orders_from known (steps ++ step ∷ []) ≡ orders_from known steps ++ (get_or (orders_from known steps) step.0 [] ++ step.1 ∷ []) ∷ []

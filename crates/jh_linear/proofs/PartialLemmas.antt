@@ -1,5 +1,5 @@
 -- Partial orders, place by place.
-use Rattle.std.proofs.Common.{◌≡◌, ℕ, zero, suc, ◌+◌, ◌<◌, ◌≤◌, ℤ, Bool, true, false, eqb, Option, Some, None, List, [], ◌∷◌, ◌++◌, length, get_or, slice_get, refl, sym, ap, subst, ◌∙◌, inl, inr, arith, eq-eqb, ne_eqb}
+use Rattle.std.proofs.Common.{◌≡◌, ℕ, ◌<◌, ℤ, true, false, eqb, Option, Some, None, List, [], ◌∷◌, ◌++◌, length, refl, sym, subst, ◌∙◌, inl, inr, arith, eq-eqb, ne_eqb}
 use Rattle.std.specs.Prelude.{◌⊎◌}
 use Rattle.std.specs.List.{All, IsDistinct, AllByRecursion}
 use Rattle.std.proofs.lemmas.Bool.{false≢true, eqb-true}
@@ -8,9 +8,9 @@ use Rattle.std.proofs.lemmas.Map.Keys.{IsDistinct-head, IsDistinct-tail, IsDisti
 use Rattle.jh_linear.specs.declared.register.RegOp.{RegOp}
 use Rattle.jh_linear.specs.declared.register.RegCall.{RegCall}
 use Rattle.jh_linear.specs.declared.register.RegCall.TheVariants.{Read, Write, Cas}
-use Rattle.jh_linear.specs.Order.{op_at, IsPossible, IsDone, IsBefore, has, Allows, Runs, StandBefore, IsPartialOrder}
-use Rattle.jh_linear.specs.Search.{MayFollow, Follows}
-use Rattle.jh_linear.proofs.SetLemmas.{has_append, has_self, has_kept, has_push_cases, or_left, or_right, or_cases, eqb_self, not_true, false_if, apart_head}
+use Rattle.jh_linear.specs.Order.{op_at, IsPossible, IsBefore, has, Allows, Runs, StandBefore, IsPartialOrder}
+use Rattle.jh_linear.specs.Search.{Follows}
+use Rattle.jh_linear.proofs.SetLemmas.{has_self, has_kept, has_push_cases, or_left, or_right, or_cases, eqb_self, not_true, false_if, apart_head}
 
 pub second_there : (order : List ℕ) (a b : ℕ) → StandBefore order a b → has order b ≡ true
 second_there [] a b h = absurd h

@@ -1,12 +1,12 @@
 -- One more place in an order.
-use Rattle.std.proofs.Common.{◌≡◌, ℕ, zero, suc, ◌+◌, ◌<◌, ◌≤◌, ℤ, Bool, true, false, Option, Some, None, List, [], ◌∷◌, ◌++◌, ◌-◌, take, drop, length, get_or, refl, sym, ap, subst, ◌∙◌, inl, inr, arith}
+use Rattle.std.proofs.Common.{◌≡◌, ℕ, ◌+◌, ◌<◌, ◌≤◌, ℤ, Bool, true, false, Option, None, List, [], ◌∷◌, ◌++◌, length, get_or, refl, sym, ap, subst, ◌∙◌}
 use Rattle.std.specs.List.{remove}
-use Rattle.std.proofs.lemmas.List.{append_assoc, append-nil, get_or_read}
+use Rattle.std.proofs.lemmas.List.{append_assoc, append-nil}
 use Rattle.jh_linear.specs.declared.register.RegOp.{RegOp}
 use Rattle.jh_linear.specs.declared.history.Stage.{Stage}
 use Rattle.jh_linear.specs.declared.config.Config.{Config}
-use Rattle.jh_linear.specs.Order.{op_at, IsPossible, IsDone, IsBefore, has, Allows, EndAfterInvoked}
-use Rattle.jh_linear.specs.Search.{MayFollow, Follows, stage_at, IsHistory, IsAt, StandsFor, IsStep, IsNext, coming_after}
+use Rattle.jh_linear.specs.Order.{op_at, has, Allows}
+use Rattle.jh_linear.specs.Search.{MayFollow, Follows, stage_at, IsAt, IsStep, IsNext, coming_after}
 use Rattle.jh_linear.proofs.SetLemmas.{has_here, in_without}
 use Rattle.jh_linear.proofs.StageLemmas.{may_follow, at_placed, is_placed, at_next}
 

@@ -1,21 +1,19 @@
 -- What a configuration knows of an order, and how it changes when one more operation is placed.
-use Rattle.std.proofs.Common.{◌≡◌, ℕ, zero, suc, ◌+◌, ◌-◌, ◌<◌, ◌≤◌, ℤ, Bool, true, false, cond, not, eqb, Option, Some, None, List, [], ◌∷◌, ◌++◌, length, take, drop, get_or, filter, refl, sym, ap, subst, ◌∙◌, inl, inr, arith, rules}
-use Rattle.std.specs.Prelude.{◌||◌, ◌&&◌, ◌⊎◌, ◌==◌}
-use Rattle.std.specs.List.{All, IsDistinct, remove}
+use Rattle.std.proofs.Common.{◌≡◌, ℕ, ◌+◌, ◌-◌, ◌<◌, ◌≤◌, ℤ, true, false, not, eqb, Option, Some, None, List, [], ◌∷◌, ◌++◌, length, take, drop, get_or, refl, sym, ap, subst, ◌∙◌, inl, inr, arith}
+use Rattle.std.specs.List.{IsDistinct, remove}
 use Rattle.std.proofs.lemmas.Bool.{false≢true, cases_lt}
 use Rattle.std.proofs.lemmas.Map.Keys.{IsDistinct-from_apart, apart_from_distinct}
 use Rattle.std.proofs.lemmas.List.{drop-take, take-append-drop, take-take, get_or_past, get_or-take, length-take}
 use Rattle.std.proofs.lemmas.List.Elements.{filter-append}
 use Rattle.jh_linear.specs.declared.register.RegOp.{RegOp}
 use Rattle.jh_linear.specs.declared.history.Stage.{Stage}
-use Rattle.jh_linear.specs.declared.config.Config.{Config}
-use Rattle.jh_linear.specs.Order.{no_op, op_at, IsPossible, IsDone, IsBefore, EndsBefore, has, Allows, EndAfterInvoked}
+use Rattle.jh_linear.specs.Order.{no_op, op_at, IsPossible, IsDone, IsBefore, EndsBefore, has, EndAfterInvoked}
 use Rattle.jh_linear.specs.declared.register.Outcome.{Outcome}
 use Rattle.jh_linear.specs.declared.register.Outcome.TheVariants.{Done, Failed, Unsure}
 use Rattle.jh_linear.specs.declared.register.RegCall.{RegCall}
 use Rattle.jh_linear.specs.declared.register.RegCall.TheVariants.{Read, Write, Cas}
-use Rattle.jh_linear.specs.Search.{is_worth, IsSearched, LeavesValue, MayFollow, Follows, stage_at, arrived_by, IsHistory, without, IsAt, StandsFor}
-use Rattle.jh_linear.proofs.SetLemmas.{has_append, has_self, has_kept, has_push_cases, has_push_same, has_here, place_of, has_without, in_without, apart_halves, has_taken, has_dropped, without_none, without_push, not_true, true_if, false_if, same_tests, or_left, or_right}
+use Rattle.jh_linear.specs.Search.{is_worth, IsSearched, LeavesValue, MayFollow, stage_at, arrived_by, IsHistory, without, IsAt}
+use Rattle.jh_linear.proofs.SetLemmas.{has_append, has_kept, has_push_cases, has_here, place_of, has_without, in_without, apart_halves, has_taken, without_none, without_push, not_true, true_if, false_if, or_left}
 
 -- nothing is before itself
 pub not_before_itself : (ops : List RegOp) → EndAfterInvoked ops → (p : ℕ) → IsBefore ops p p → ⊥

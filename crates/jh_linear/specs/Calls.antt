@@ -1,7 +1,7 @@
--- The operations of a register that a history tells (Jepsen's register workloads: `:read`, `:write` with a value, `:cas` with
--- `[old new]`). That a read which did not complete `:ok` tells no value, that a missing completion is one that tells nothing,
--- and where a bad value is told, are this project's own. Places count from 0 in the whole history.
-use Rattle.std.specs.Prelude.{◌≡◌, ℕ, ◌≤◌, min, ℤ, Bool, true, false, List, [], ◌∷◌, map, codes, if◌then◌else◌, slice_get, Option, Some, None, IfSome, is_some, unwrap_or, option_map, option_and_then}
+-- The operations of a register that a history tells (Jepsen's register workloads: `:read`, `:write` with a value, and
+-- `:cas` with `[old new]`). That a read which did not complete `:ok` tells no value, that a missing completion tells as
+-- little as an `:info`, and where a bad value is told, are this project's own. Places count from 0 in the whole history.
+use Rattle.std.specs.Prelude.{◌≡◌, ℕ, ◌≤◌, min, Bool, false, List, [], ◌∷◌, map, codes, if◌then◌else◌, slice_get, Option, Some, None, IfSome, is_some, unwrap_or, option_map, option_and_then}
 use Rattle.std.specs.List.{All, Contains}
 use Rattle.jh_edn.specs.Edn.{Edn, nil, int, elements_of}
 use Rattle.jh_ops.specs.Operation.{Operation}
@@ -75,7 +75,8 @@ with_call history pair call = record {
 abbrev pub reg_op_of : List Operation → Pair → Option RegOp
 reg_op_of history pair =
     option_map (with_call history pair)
-    (option_and_then (λ invocation. call_of invocation.f invocation.value (answer_of (completion_of history pair))) (slice_get history pair.invoke))
+    (option_and_then (λ invocation. call_of invocation.f invocation.value (answer_of (completion_of history pair)))
+    (slice_get history pair.invoke))
 
 -- a read is invoked there
 abbrev pub reads_at : List Operation → ℕ → Bool
@@ -89,6 +90,7 @@ told_at history pair = if reads_at history pair.invoke then unwrap_or pair.outco
 abbrev pub bad_place : List Operation → Pair → Option ℕ
 bad_place history pair = if is_some (reg_op_of history pair) then None else Some (told_at history pair)
 
+-- the lesser of two places, of which one or both may be missing
 abbrev pub lesser : Option ℕ → Option ℕ → Option ℕ
 lesser None other = other
 lesser (Some one) None = Some one
@@ -102,9 +104,10 @@ AreRegOps history pairs ops = map (reg_op_of history) pairs ≡ map Some ops
 abbrev pub IsLeastBad : List Operation → List Pair → Option ℕ → Type 0
 IsLeastBad history pairs None = All (λ pair. bad_place history pair ≡ None) pairs
 IsLeastBad history pairs (Some place) =
-    Contains (map (bad_place history) pairs) (Some place) × All (λ pair. IfSome (bad_place history pair) (λ other. place ≤ other)) pairs
+    Contains (map (bad_place history) pairs) (Some place)
+    × All (λ pair. IfSome (bad_place history pair) (λ other. place ≤ other)) pairs
 
--- Why the pairs of a history are refused: at the least place of a bad value, and for want of memory only where there is none.
+-- Why the pairs of a history are refused: at the least place of a bad value; for want of memory only where there is none.
 abbrev pub RefusesPairs : List Operation → List Pair → RegOpsError → Type 0
 RefusesPairs history pairs (BadValue place) = IsLeastBad history pairs (Some place)
 RefusesPairs history pairs OutOfMemory = IsLeastBad history pairs None

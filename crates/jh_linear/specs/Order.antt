@@ -1,9 +1,8 @@
 -- The orders in which the operations of a register can have happened: linearizations, as Jepsen's page on its checkers
--- (`linearizable`) means them, on the model `cas-register`. That a read of nil matches any value is that model's rule too.
--- Operations go by their places in a list, from 0.
-use Rattle.std.specs.Prelude.{◌≡◌, ◌≢◌, ◌==◌, ◌⊎◌, ℕ, ◌+◌, ◌<◌, ℤ, Bool, true, false, Option, Some, None, List, [], ◌∷◌, ◌++◌, length, slice_index_or}
+-- means them (`linearizable`), on the model `cas-register`, where a read of nil matches any value. Operations go by their
+-- places in a list, from 0.
+use Rattle.std.specs.Prelude.{◌≡◌, ◌≢◌, ◌==◌, ◌⊎◌, ℕ, ◌<◌, ℤ, Bool, true, Option, Some, None, List, [], ◌∷◌, length, slice_index_or}
 use Rattle.std.specs.List.{list_any, All, IsDistinct}
-use Rattle.jh_linear.specs.declared.register.Outcome.{Outcome}
 use Rattle.jh_linear.specs.declared.register.Outcome.TheVariants.{Done, Failed}
 use Rattle.jh_linear.specs.declared.register.RegCall.{RegCall}
 use Rattle.jh_linear.specs.declared.register.RegCall.TheVariants.{Read, Write, Cas}

@@ -1,6 +1,6 @@
--- What the judge hands over where its budget was used up: pairs, each of which stands for some operations in an order in
--- which they can have happened. All of it is this project's own; what an order is stands in Order.antt.
-use Rattle.std.specs.Prelude.{◌≡◌, ◌+◌, ◌<◌, ℕ, ℤ, Option, List, [], ◌∷◌, ◌++◌, length, slice_index_or}
+-- What the judge hands over where its budget was used up: pairs, each of which stands for some operations in an order
+-- in which they can have happened. All of it is this project's own; what an order is stands in Order.antt.
+use Rattle.std.specs.Prelude.{◌≡◌, ◌<◌, ℕ, ℤ, Option, List, [], ◌∷◌, ◌++◌, length, slice_index_or}
 use Rattle.jh_linear.specs.declared.register.RegOp.{RegOp}
 use Rattle.jh_linear.specs.Order.{IsPartialOrder, has}
 
@@ -24,11 +24,12 @@ root = (0, 0)
 abbrev pub NameEarlier : List (ℕ × ℕ) → Type 0
 NameEarlier steps = (i : ℕ) → 0 < i → i < length steps → (slice_index_or steps i root).0 < i
 
--- As many pairs as the budget, which stand for partial orders, no two of them with the same places and the same last value.
+-- As many pairs as the budget, which stand for partial orders, no two of them with the same places and last value.
 pub record AreReached (ops : List RegOp) (initial : Option ℤ) (budget : ℕ) (steps : List (ℕ × ℕ)) : Type 0 where
   pub count : length steps ≡ budget
   pub begins : 0 < length steps → slice_index_or steps 0 root ≡ root
   pub earlier : NameEarlier steps
   pub partial : (i : ℕ) → i < length steps → (last : Option ℤ) × IsPartialOrder ops initial (order_at steps i) last
-  pub apart : (i j : ℕ) (last : Option ℤ) → i < j → j < length steps → IsPartialOrder ops initial (order_at steps i) last → IsPartialOrder ops initial (order_at steps j) last
+  pub apart : (i j : ℕ) (last : Option ℤ) → i < j → j < length steps
+      → IsPartialOrder ops initial (order_at steps i) last → IsPartialOrder ops initial (order_at steps j) last
       → ((place : ℕ) → has (order_at steps i) place ≡ has (order_at steps j) place) → ⊥

@@ -1,6 +1,6 @@
 -- What the search for an order keeps: proofs rest on it, and no public clause names it.
-use Rattle.std.specs.Prelude.{◌⊎◌, ◌≡◌, ◌==◌, ℕ, zero, suc, ◌+◌, ◌<◌, ◌≤◌, ℤ, Bool, true, false, not, Option, Some, None, List, [], ◌∷◌, ◌++◌, length, take, drop, ◌-◌, slice_index_or, slice_get}
-use Rattle.std.specs.List.{list_any, All, IsDistinct, filter, Contains}
+use Rattle.std.specs.Prelude.{◌⊎◌, ◌≡◌, ◌==◌, ℕ, ◌+◌, ◌<◌, ◌≤◌, ℤ, Bool, true, false, not, Option, Some, List, [], ◌∷◌, ◌++◌, length, take, drop, ◌-◌, slice_index_or, slice_get}
+use Rattle.std.specs.List.{All, IsDistinct, filter, Contains}
 use Rattle.std.specs.Prelude.{map, unwrap_or, ◌^◌}
 use Rattle.jh_linear.specs.declared.register.Outcome.{Outcome}
 use Rattle.jh_linear.specs.declared.register.Outcome.TheVariants.{Done, Failed, Unsure}
@@ -16,7 +16,7 @@ use Rattle.jh_linear.specs.declared.judge.Progress.TheVariants.{More, Complete, 
 use Rattle.jh_linear.specs.declared.search.Added.{Added}
 use Rattle.jh_linear.specs.declared.search.Added.TheVariants.{Known, New, Full}
 use Rattle.jh_linear.specs.Order.{op_at, HasAllDone, IsPossible, IsDone, IsBefore, has, Allows, EndAfterInvoked}
-use Rattle.jh_linear.specs.Reached.{order_at, root, NameEarlier}
+use Rattle.jh_linear.specs.Reached.{order_at, root}
 
 -- The place may come next after those in front.
 pub record MayFollow (ops : List RegOp) (front : List ℕ) (place : ℕ) : Type 0 where

@@ -9,7 +9,7 @@ use Rattle.jh_linear.specs.declared.verdict.LinVerdict.TheVariants.{Valid, Inval
 use Rattle.jh_linear.specs.Order.{IsOrder, AreThere, AreApart, ArePossible, HasAllDone, KeepsPrecedence, Runs}
 use Rattle.jh_linear.specs.Reached.{AreReached}
 
--- Valid: it carries an order. Invalid: there is none. Unknown: it carries what was reached until the budget was used up.
+-- Valid: it carries an order. Invalid: there is none. Unknown: it carries as much as the budget of what was reached.
 abbrev pub IsJudged : List RegOp → Option ℤ → ℕ → LinVerdict → Type 0
 IsJudged ops initial budget (Valid order) = IsOrder ops initial order
 IsJudged ops initial budget Invalid = (order : List ℕ) → IsOrder ops initial order → ⊥
@@ -20,7 +20,8 @@ abbrev pub RefusesOrder : List RegOp → Option ℤ → List ℕ → OrderFault 
 RefusesOrder ops initial order NoSuch = ¬ AreThere ops order
 RefusesOrder ops initial order Repeat = AreThere ops order × (¬ AreApart order)
 RefusesOrder ops initial order Failed = AreThere ops order × AreApart order × (¬ ArePossible ops order)
-RefusesOrder ops initial order Missing = AreThere ops order × AreApart order × ArePossible ops order × (¬ HasAllDone ops order)
+RefusesOrder ops initial order Missing =
+    AreThere ops order × AreApart order × ArePossible ops order × (¬ HasAllDone ops order)
 RefusesOrder ops initial order Precedence =
     AreThere ops order × AreApart order × ArePossible ops order × HasAllDone ops order × (¬ KeepsPrecedence ops order)
 RefusesOrder ops initial order Illegal =

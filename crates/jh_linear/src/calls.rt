@@ -2,13 +2,13 @@
 //!
 //! `specs/Calls.antt` says which call each pair tells, and where a bad value is told.
 
-ghost use Rattle.std.specs.Prelude.{◌≡◌, ℕ, List, All, IfOk, MatchResult, length, map, slice_get, Option, Some, None, option_map, min};
+ghost use Rattle.std.specs.Prelude.{◌≡◌, All, IfOk, MatchResult, length, slice_get, option_map};
 ghost use Rattle.jh_edn.specs.View.{view};
 ghost use Rattle.jh_ops.specs.Operation.{operation, operations};
 ghost use Rattle.jh_ops.specs.OperationText as text;
 ghost use Rattle.jh_ops.specs.Pairing.{IsWithin};
 ghost use Rattle.jh_linear.specs.Calls as rule;
-ghost use Rattle.jh_linear.specs.Calls.{AreRegOps, IsLeastBad, RefusesPairs, bad_place};
+ghost use Rattle.jh_linear.specs.Calls.{AreRegOps, IsLeastBad, RefusesPairs};
 ghost use Rattle.jh_linear.specs.Order.{EndAfterInvoked};
 ghost use Rattle.jh_linear.specs.declared.calls.RegOpsError.TheVariants.{OutOfMemory};
 
@@ -21,8 +21,8 @@ use thiserror::Error;
 /// Why the pairs of a history tell no operations of a register.
 #[derive(Clone, Copy, Debug, PartialEq, Eq, Error)]
 pub enum RegOpsError {
-    /// The operation at this place of the history, from 0, has a value that its function does not take, or a function that
-    /// no register has.
+    /// The operation at this place of the history, from 0, has a value that its function does not take, or a function
+    /// that no register has.
     #[error("operation {0}: bad value")]
     BadValue(usize),
     #[error("out of memory")]
@@ -45,13 +45,13 @@ impl<T: Drop> From<AllocFailed<T>> for RegOpsError {
     }
 }
 
-/// The operations of a register that pairs tell, one each, in the order of the pairs: those that `jh_ops::pair` gives for
-/// the history. Only client operations are in pairs.
+/// The operations of a register that pairs tell, one each, in the order of the pairs: those that `jh_ops::pair` gives
+/// for the history. Only client operations are in pairs.
 ///
-/// A `:read` has the value that its `:ok` completion tells, an integer or nil; one that did not complete `:ok` has nil. A
-/// `:write` has the integer, a `:cas` the two integers `[old new]`, as a vector or a list, that it was invoked with. The
-/// function is that of the invocation. `:ok` happened, `:fail` did not; `:info`, or no completion, is not known. An operation
-/// ended at the place of its completion, whatever that was.
+/// A `:read` has the value that its `:ok` completion tells, an integer or nil; one that did not complete `:ok` has nil.
+/// A `:write` has the integer, a `:cas` the two integers `[old new]`, in a vector or a list, that it was invoked with.
+/// The function is that of the invocation. `:ok` happened, `:fail` did not; `:info`, or no completion, is not known. An
+/// operation ended at the place of its completion, whatever that was.
 ///
 /// The operations meet the condition of `check` and `check_order`.
 ///
@@ -77,6 +77,8 @@ pub fn reg_ops(alloc: Global, ops: &[Op], pairs: &[Pair]) -> Result<Vec<RegOp>, 
     }
     Ok(calls)
 }
+
+// What stands at a place, and what it tells, each as the definition of the same name has it.
 
 fn op_at(ops: &[Op], place: usize) -> Option<&Op>
     ensures { option_map (λ op. operation op.now) result ≡ slice_get (operations ops.now) place }
@@ -129,7 +131,8 @@ fn cas_of(value: &Value) -> Option<RegCall>
 }
 
 fn call_of(invocation: &Op, answer: Option<&Value>) -> Option<RegCall>
-    ensures { result ≡ rule.call_of (view invocation.now.f) (view invocation.now.value) (option_map (λ v. view v.now) answer.entry) }
+    ensures { result
+        ≡ rule.call_of (view invocation.now.f) (view invocation.now.value) (option_map (λ v. view v.now) answer.entry) }
 {
     if is_keyword("read", &invocation.f) {
         match answer {
@@ -166,7 +169,8 @@ fn outcome_of(completion: Option<&Op>) -> Outcome
 }
 
 fn answer_of(completion: Option<&Op>) -> Option<&Value>
-    ensures { option_map (λ v. view v.now) result ≡ rule.answer_of (option_map (λ op. operation op.now) completion.entry) }
+    ensures { option_map (λ v. view v.now) result
+        ≡ rule.answer_of (option_map (λ op. operation op.now) completion.entry) }
 {
     let op = completion?;
     match op.kind {

@@ -1,4 +1,5 @@
-//! A history, sorted for the search.
+//! A history, sorted for the search: invocations by their places, and the stages by the ends of what happened.
+//! `specs/Search.antt` says what it keeps of the operations.
 
 ghost use Rattle.std.specs.Prelude.{◌≡◌, ℕ, ◌<◌, ◌≤◌, ◌-◌, ◌^◌, IfOk, length, map, slice_index_or};
 ghost use Rattle.jh_linear.specs.Search.{IsHistory, AreEntries, DoNotFall, AreStages, IsSearched, invoked_at, end_at};
@@ -17,6 +18,7 @@ pub(crate) struct Stage {
     pub(crate) arrived: usize,
 }
 
+/// The operations in the two orders that the search goes by.
 #[derive(Drop)]
 pub(crate) struct History {
     /// The operations that are searched, in the order of invocation.
@@ -27,7 +29,8 @@ pub(crate) struct History {
 
 /// The places of the operations that are searched, each with that of its invocation, which do not fall.
 fn arrivals_of(alloc: Global, ops: &[RegOp]) -> Result<Vec<(usize, usize)>, AllocError>
-    ensures entries { IfOk result (λ pairs. AreEntries (IsSearched ops.now) (invoked_at ops.now) (length ops.now) pairs.items) }
+    ensures entries { IfOk result (λ pairs.
+        AreEntries (IsSearched ops.now) (invoked_at ops.now) (length ops.now) pairs.items) }
     ensures rises { IfOk result (λ pairs. DoNotFall pairs.items) }
 {
     let mut arrivals = Vec::new(alloc);
@@ -42,7 +45,8 @@ fn arrivals_of(alloc: Global, ops: &[RegOp]) -> Result<Vec<(usize, usize)>, Allo
 
 /// The places of the operations that are done, each with that of its end, which do not fall.
 fn ends_of(alloc: Global, ops: &[RegOp]) -> Result<Vec<(usize, usize)>, AllocError>
-    ensures entries { IfOk result (λ pairs. AreEntries (IsDone ops.now) (end_at ops.now) (length ops.now) pairs.items) }
+    ensures entries { IfOk result (λ pairs.
+        AreEntries (IsDone ops.now) (end_at ops.now) (length ops.now) pairs.items) }
     ensures rises { IfOk result (λ pairs. DoNotFall pairs.items) }
 {
     let mut ends = Vec::new(alloc);
@@ -73,7 +77,8 @@ fn arrived_by(invocations: &[(usize, usize)], end: usize, from: usize) -> usize
     requires before { (i : ℕ) → i < from → (slice_index_or invocations.now i root).0 ≤ end }
     ensures bounded { result ≤ length invocations.now }
     ensures before { (i : ℕ) → i < result → (slice_index_or invocations.now i root).0 ≤ end }
-    ensures after { result < length invocations.now → (end < (slice_index_or invocations.now result root).0) × (end < 2 ^ 64 - 1) }
+    ensures after { result < length invocations.now
+        → (end < (slice_index_or invocations.now result root).0) × (end < 2 ^ 64 - 1) }
 {
     let mut arrived = from;
     'arriving: while arrived < invocations.len() && invocations[arrived].0 <= end {

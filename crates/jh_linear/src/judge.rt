@@ -1,6 +1,12 @@
 //! The search for an order.
+//!
+//! It goes through configurations, each reached once, with the one that it was reached from. `specs/Search.antt` says what
+//! it keeps: each configuration that was reached waits, or all that may come next was reached. Where none waits, there is
+//! no order. Which one is taken next may be changed, and so may what is left out, where no order is lost by it: here the
+//! deepest is taken first, a read that happened and matches the value is placed at once and alone, and a read that is not
+//! known to have happened is never placed.
 
-ghost use Rattle.std.specs.Prelude.{◌≡◌, ℕ, ◌+◌, ◌<◌, length, slice_index, slice_get, Some, vec_len, IfOk, IfSome};
+ghost use Rattle.std.specs.Prelude.{◌≡◌, ◌<◌, length, slice_index, slice_get, Some, vec_len, IfOk, IfSome};
 ghost use Rattle.jh_linear.specs.declared.config.Config.{Config};
 ghost use Rattle.jh_linear.specs.Order.{EndAfterInvoked};
 ghost use Rattle.jh_linear.specs.Order as rule;
@@ -26,6 +32,7 @@ pub(crate) struct Problem<'a> {
     pub(crate) budget: u64,
 }
 
+/// What came of going on.
 pub(crate) enum Progress {
     More,
     /// With this operation the order is complete.
@@ -46,7 +53,8 @@ fn place_one(
     requires begun { IsBegun problem.now search.old }
     requires there { IsThere search.old at config.now }
     requires index { index < vec_len config.now.pending }
-    ensures { IfOk result (λ progress. Tried problem.now search.old search.new at (slice_index config.now.pending.items index) progress) }
+    ensures { IfOk result (λ progress.
+        Tried problem.now search.old search.new at (slice_index config.now.pending.items index) progress) }
 {
     let place = config.pending[index];
     let Some(value) = after(problem.ops[place].call, config.value) else {
@@ -68,7 +76,9 @@ fn place_one(
 
 /// The first of the pending operations that may be placed at once and alone.
 fn settled(ops: &[RegOp], config: &Config) -> Option<usize>
-    ensures { IfSome result (λ index. (index < vec_len config.now.pending) × IsSettled (rule.op_at ops.now (slice_index config.now.pending.items index)) config.now.value) }
+    ensures { IfSome result (λ index.
+        (index < vec_len config.now.pending)
+        × IsSettled (rule.op_at ops.now (slice_index config.now.pending.items index)) config.now.value) }
 {
     for (index, place) in config.pending.iter().enumerate() {
         if is_settled(op_at(ops, *place), config.value) {
@@ -78,8 +88,8 @@ fn settled(ops: &[RegOp], config: &Config) -> Option<usize>
     None
 }
 
-/// Goes on from a configuration: by a settled operation alone, where there is one, else by each of those pending, the one
-/// that was invoked first at last.
+/// Goes on from a configuration: by a settled operation alone, where there is one, else by each of those pending, at last
+/// by the one that was invoked first, so that its configuration is taken first.
 fn expand(
     alloc: Global,
     problem: &Problem,
@@ -142,15 +152,26 @@ fn start(alloc: Global, problem: &Problem) -> Result<Search, AllocError>
     })
 }
 
-/// Looks for an order. The budget is the number of configurations that may be taken up.
+/// Whether the operations can have happened one after another on a register with this initial value. `Valid` carries an
+/// order, `Invalid` says that there is none, and `Unknown` that the budget was used up. Each operation has to end after
+/// its invocation.
+///
+/// The budget counts configurations: a set of operations that are placed, with the register's value, counts once, when it
+/// is reached. `Unknown` carries as many of them as the budget. With a budget of 0 the answer is `Unknown` of none.
+///
+/// Errors: want of memory.
+///
+/// Let w be how many operations may be pending at once: those in flight, and all writes and compare-and-sets so far that
+/// are not known to have happened. Takes O(n log n) for n operations, and for each configuration w words of memory and up
+/// to w * w steps. Between two ends of operations there are at most v * 2^w configurations, for v different values.
 pub fn check(
     alloc: Global,
     ops: &[RegOp],
     initial: Option<i64>,
     budget: u64,
 ) -> Result<LinVerdict, AllocError>
-    requires { EndAfterInvoked ops.now }
-    ensures { IfOk result (λ verdict. IsJudged ops.now initial budget verdict) }
+    requires ends { EndAfterInvoked ops.now }
+    ensures judged { IfOk result (λ verdict. IsJudged ops.now initial budget verdict) }
 {
     if budget == 0 {
         return Ok(LinVerdict::Unknown(Reached::of(Vec::new(alloc))));
@@ -184,7 +205,8 @@ pub fn check(
 /// A copy of the configuration at a place.
 fn copy_config(alloc: Global, configs: &IndexSet<Config>, at: usize) -> Result<Config, AllocError>
     requires { at < length configs.now.keys }
-    ensures { IfOk result (λ config. (found : Config) × (slice_get configs.now.keys at ≡ Some found) × AreSame found config) }
+    ensures { IfOk result (λ config.
+        (found : Config) × (slice_get configs.now.keys at ≡ Some found) × AreSame found config) }
 {
     let config = &configs.as_slice()[at];
     let pending = Vec::from_slice(alloc, config.pending.as_slice())?;

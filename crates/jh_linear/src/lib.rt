@@ -1,5 +1,5 @@
-//! Whether the operations of a register can have happened one after another: a judge whose yes carries an order, and whose
-//! no is proved.
+//! Whether the operations of a register can have happened one after another: a judge whose yes carries an order, and
+//! whose no is proved.
 #![tactic(auto)]
 
 mod calls;
@@ -9,9 +9,9 @@ mod judge;
 mod order_check;
 mod register;
 mod search;
-mod verdict;
 #[cfg(test)]
 mod tests;
+mod verdict;
 
 pub use calls::{RegOpsError, reg_ops};
 pub use judge::check;

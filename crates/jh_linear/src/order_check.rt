@@ -1,11 +1,13 @@
 //! A given order, checked without memory.
 //!
-//! `specs/Order.antt` says what an order is, part by part, and `specs/Verdict.antt` which part each refusal stands for. How
-//! a part is looked at may be changed; each part has a function with its exact clause.
+//! `specs/Order.antt` says what an order is, part by part, and `specs/Verdict.antt` which part each refusal stands for.
+//! How a part is looked at may be changed; each part has a function with its exact clause.
 
-ghost use Rattle.std.specs.Prelude.{◌≡◌, ◌+◌, ◌<◌, ℤ, ◌↔◌, ◌∷◌, Option, length, drop, filter, IsTrue, MatchResult, true};
+ghost use Rattle.std.specs.Prelude.{◌≡◌, ◌+◌, ◌<◌, ◌↔◌, ◌∷◌, ℤ, Option, length, drop, filter, true};
+ghost use Rattle.std.specs.Prelude.{IsTrue, MatchResult};
 ghost use Rattle.jh_linear.specs.Checking.{NoneLate, is_done_at, done_below};
-ghost use Rattle.jh_linear.specs.Order.{IsOrder, EndAfterInvoked, EndsBefore, IsBefore, IsPossible, IsDone, AreThere, AreApart, ArePossible, HasAllDone, Runs, has};
+ghost use Rattle.jh_linear.specs.Order.{IsOrder, AreThere, AreApart, ArePossible, HasAllDone, Runs};
+ghost use Rattle.jh_linear.specs.Order.{IsPossible, EndAfterInvoked, EndsBefore, has};
 ghost use Rattle.jh_linear.specs.Order as rule;
 ghost use Rattle.jh_linear.specs.Verdict.{RefusesOrder};
 ghost use Rattle.jh_linear.specs.declared.register.Outcome.TheVariants.{Done};
@@ -36,22 +38,20 @@ pub enum OrderFault {
     Illegal,
 }
 
-/// Whether these places are an order in which the operations can have happened, on a register with this initial value.
-/// Each operation has to end after its invocation.
+/// Whether these places are an order in which the operations can have happened, on a register with this initial
+/// value. Each operation has to end after its invocation.
 ///
 /// Errors, in this order: `NoSuch`, `Repeat`, `Failed`, `Missing`, `Precedence`, `Illegal`.
 ///
-/// Takes no memory. Takes time linear in the operations and the places, but for `Repeat`: there each place is looked for
-/// among those behind it up to the first one that was invoked after its end, so an order of m places with w of them in
-/// flight at once takes m * w steps, and one of an operation that is not known to have happened up to m. Places that
-/// break precedence are compared each with each.
-pub fn check_order(
-    ops: &[RegOp],
-    initial: Option<i64>,
-    order: &[usize],
-) -> Result<(), OrderFault>
+/// Takes no memory. Takes time linear in the operations and the places, but for `Repeat`: there each place is looked
+/// for among those behind it up to the first that was invoked after its end. So an order of m places with w in flight
+/// at once takes m * w steps, and up to m more for each operation that is not known to have happened. Places that break
+/// precedence are compared each with each: m * m steps.
+pub fn check_order(ops: &[RegOp], initial: Option<i64>, order: &[usize]) -> Result<(), OrderFault>
     requires ends { EndAfterInvoked ops.now }
-    ensures judged { MatchResult result (λ _. IsOrder ops.now initial order.now) (RefusesOrder ops.now initial order.now) }
+    ensures judged { MatchResult result
+        (λ _. IsOrder ops.now initial order.now)
+        (RefusesOrder ops.now initial order.now) }
 {
     if !are_there(ops, order) {
         return Err(OrderFault::NoSuch);
@@ -196,6 +196,7 @@ fn stands_again(ops: &[RegOp], place: usize, behind: &[usize], in_time: bool) ->
     false
 }
 
+/// What stands behind a place.
 fn behind(order: &[usize], index: usize) -> &[usize]
     requires { index < length order.now }
     ensures { result.now ≡ drop (index + 1) order.now }

@@ -43,7 +43,7 @@ impl Order {
     }
 }
 
-/// What the judge reached, as pairs. The first is (0, 0) and stands for the empty order; the pair (j, p) behind it stands
+/// What the judge reached, as pairs. The first is (0, 0) and stands for the empty order; a pair (j, p) after it stands
 /// for the order of pair j with the place p behind it. A contract sees a list of pairs.
 #[derive(Debug, Drop)]
 pub struct Reached {

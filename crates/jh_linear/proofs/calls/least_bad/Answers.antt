@@ -1,4 +1,4 @@
-use Rattle.std.proofs.Common.{◌≡◌, ◌+◌, ◌<◌, length, take, get_or, sym, subst, arith}
+use Rattle.std.proofs.Common.{◌+◌, ◌<◌, length, take, sym, subst, arith}
 use Rattle.std.proofs.lemmas.List.{take_more}
 use Rattle.jh_ops.specs.Operation.{operations}
 use Rattle.jh_linear.specs.Calls.{IsLeastBad, lesser}

@@ -1,4 +1,4 @@
-use Rattle.std.proofs.Common.{◌≡◌, ℕ, ◌<◌, None, [], length, take, ap, sym, ◌∙◌, refl, subst, arith}
+use Rattle.std.proofs.Common.{None, [], take, ap, sym, ◌∙◌, refl, subst, arith}
 use Rattle.std.proofs.lemmas.List.{get_or_read}
 use Rattle.jh_linear.specs.Search.{IsAt, no_stage}
 use Rattle.jh_linear.proofs.StageLemmas.{at_first}

@@ -1,6 +1,5 @@
-use Rattle.std.proofs.Common.{◌≡◌, ℕ, ◌+◌, ◌<◌, ◌++◌, length, get_or, ap, sym, ◌∙◌, refl, subst, arith}
+use Rattle.std.proofs.Common.{◌<◌, ◌++◌, length, get_or, ap, sym, ◌∙◌, refl, subst, arith}
 use Rattle.std.specs.List.{remove}
-use Rattle.jh_linear.specs.Search.{stage_at, coming_after}
 use Rattle.jh_linear.proofs.PlacingLemmas.{first_step, on_step, seen_at, coming_same, stands_next}
 use Rattle.jh_linear.proofs.config.next_config.Goals as goal
 use Rattle.jh_linear.proofs.config.next_config.Goals.{then-stage-len+in_ok-extend_from_slice, else-stage-len}

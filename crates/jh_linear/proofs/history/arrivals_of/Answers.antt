@@ -1,7 +1,5 @@
-use Rattle.std.proofs.Common.{◌≡◌, ℕ, ◌+◌, ◌<◌, length, get_or, refl, sym, ap, subst, ◌∙◌, arith}
+use Rattle.std.proofs.Common.{◌≡◌, ℕ, ◌+◌, ◌<◌, length, refl, sym, ap, subst, ◌∙◌, arith}
 use Rattle.std.proofs.lemmas.List.{get_or_default}
-use Rattle.jh_linear.specs.declared.register.RegOp.{RegOp}
-use Rattle.jh_linear.specs.declared.register.Outcome.TheVariants.{Done, Failed}
 use Rattle.jh_linear.specs.Order.{no_op, op_at}
 use Rattle.jh_linear.specs.Search.{is_worth, AreEntries, IsSearched, invoked_at}
 use Rattle.jh_linear.proofs.SetLemmas.{not_true}

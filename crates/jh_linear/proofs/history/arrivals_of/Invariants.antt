@@ -1,4 +1,3 @@
-
 use Rattle.jh_linear.specs.Search.{AreEntries, IsSearched, invoked_at}
 use Rattle.jh_linear.proofs.history.arrivals_of.Given as goal
 

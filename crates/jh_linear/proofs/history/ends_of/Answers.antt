@@ -1,8 +1,6 @@
-use Rattle.std.proofs.Common.{◌≡◌, ℕ, ◌+◌, ◌-◌, ◌^◌, ◌<◌, unwrap_or, length, get_or, refl, sym, ap, subst, ◌∙◌, arith}
+use Rattle.std.proofs.Common.{◌≡◌, ℕ, ◌+◌, ◌-◌, ◌^◌, ◌<◌, unwrap_or, length, refl, sym, ap, subst, ◌∙◌, arith}
 use Rattle.std.proofs.lemmas.List.{get_or_default}
-use Rattle.jh_linear.specs.declared.register.RegOp.{RegOp}
-use Rattle.jh_linear.specs.declared.register.Outcome.TheVariants.{Done, Failed}
-use Rattle.jh_linear.specs.Order.{no_op, op_at, IsDone}
+use Rattle.jh_linear.specs.Order.{no_op, IsDone}
 use Rattle.jh_linear.specs.Search.{AreEntries, end_at}
 use Rattle.jh_linear.proofs.EntryLemmas.{entries_none, entries_skip, entries_push, entries_moved, do_not_fall}
 use Rattle.jh_linear.proofs.history.ends_of.Goals as goal

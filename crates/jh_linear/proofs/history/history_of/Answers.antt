@@ -1,4 +1,4 @@
-use Rattle.std.proofs.Common.{◌≡◌, ℕ, List, map, sym, ap, subst, ◌∙◌}
+use Rattle.std.proofs.Common.{map, sym, ap, subst, ◌∙◌}
 use Rattle.jh_linear.specs.Search.{IsHistory, AreStages}
 use Rattle.jh_linear.proofs.HistoryLemmas.{is_history}
 use Rattle.jh_linear.proofs.history.history_of.Goals as goal

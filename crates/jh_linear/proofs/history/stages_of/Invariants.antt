@@ -1,4 +1,4 @@
-use Rattle.std.proofs.Common.{ℕ, ◌<◌, ◌≤◌, take, length, get_or, ◌≡◌}
+use Rattle.std.proofs.Common.{ℕ, ◌<◌, ◌≤◌, take, length, get_or}
 use Rattle.jh_linear.specs.Reached.{root}
 use Rattle.jh_linear.specs.Search.{AreStages}
 use Rattle.jh_linear.proofs.history.stages_of.Given as goal

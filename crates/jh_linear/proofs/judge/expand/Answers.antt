@@ -1,4 +1,4 @@
-use Rattle.std.proofs.Common.{rules, ◌≡◌, ℕ, ◌+◌, ◌-◌, ◌<◌, ◌≤◌, List, length, get_or, Some, refl, sym, ap, subst, ◌∙◌, inl, arith}
+use Rattle.std.proofs.Common.{◌≡◌, ℕ, ◌-◌, ◌<◌, ◌≤◌, List, length, subst, inl, arith}
 use Rattle.std.specs.Prelude.{slice_index, Result, Ok, Err, IfOk}
 use Rattle.jh_linear.specs.declared.judge.Progress.TheVariants.{More}
 use Rattle.jh_linear.specs.Search.{Tried}

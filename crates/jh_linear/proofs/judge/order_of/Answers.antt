@@ -1,4 +1,4 @@
-use Rattle.std.proofs.Common.{◌≡◌, ℕ, zero, ◌<◌, ◌++◌, [], ◌∷◌, length, get_or, reverse, refl, sym, ap, subst, ◌∙◌, arith}
+use Rattle.std.proofs.Common.{◌≡◌, ◌++◌, [], ◌∷◌, get_or, reverse, sym, ap, ◌∙◌, arith}
 use Rattle.std.proofs.lemmas.List.{append_assoc, reverse-append}
 use Rattle.jh_linear.specs.Reached.{order_at, root}
 use Rattle.jh_linear.proofs.PairLemmas.{order_step, order_first}

@@ -1,6 +1,6 @@
-use Rattle.std.proofs.Common.{◌≡◌, List, [], ◌∷◌, refl, sym, ap, subst, ◌∙◌, arith}
+use Rattle.std.proofs.Common.{◌≡◌, [], ◌∷◌, arith}
 use Rattle.jh_linear.specs.declared.config.Config.{Config}
-use Rattle.jh_linear.proofs.JudgeLemmas.{kept_start, kept_on, no_order_left}
+use Rattle.jh_linear.proofs.JudgeLemmas.{kept_start}
 use Rattle.jh_linear.proofs.judge.start.Goals as goal
 
 pub returns : goal.returns

@@ -1,4 +1,4 @@
-use Rattle.std.proofs.Common.{◌≡◌, ℕ, ◌+◌, ◌<◌, List, ◌∷◌, true, drop, length, get_or, refl, sym, ap, subst, ◌∙◌, arith}
+use Rattle.std.proofs.Common.{◌≡◌, ℕ, ◌+◌, List, ◌∷◌, true, drop, length, get_or, refl, sym, subst, ◌∙◌, arith}
 use Rattle.jh_linear.specs.Order.{has}
 use Rattle.jh_linear.specs.Checking.{NoneLate}
 use Rattle.std.proofs.lemmas.Bool.{false≢true}

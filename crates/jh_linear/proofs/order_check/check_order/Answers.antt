@@ -1,6 +1,3 @@
-use Rattle.std.proofs.Common.{◌≡◌, ℤ, Option}
-use Rattle.std.proofs.lemmas.Bool.{false≢true}
-use Rattle.jh_linear.specs.Order.{AreThere, AreApart, ArePossible, HasAllDone, KeepsPrecedence, Runs}
 use Rattle.jh_linear.proofs.SetLemmas.{not_true}
 use Rattle.jh_linear.proofs.OrderLemmas.{late_if, keeps_if}
 use Rattle.jh_linear.proofs.order_check.check_order.Goals as goal

@@ -1,5 +1,4 @@
-use Rattle.std.proofs.Common.{◌≡◌, ℕ, ◌+◌, ◌<◌, length, get_or, sym, ap, subst, ◌∙◌, arith}
-use Rattle.jh_linear.specs.Order.{op_at, IsBefore}
+use Rattle.std.proofs.Common.{◌≡◌, length, get_or, sym, arith}
 use Rattle.jh_linear.proofs.SetLemmas.{false_if, place_of}
 use Rattle.jh_linear.proofs.OrderLemmas.{not_behind, before_if, each_more}
 use Rattle.jh_linear.proofs.order_check.stands_again.Goals as goal

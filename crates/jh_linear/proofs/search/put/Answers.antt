@@ -1,4 +1,4 @@
-use Rattle.std.proofs.Common.{rules, ◌≡◌, ◌≢◌, ℕ, ◌+◌, ◌<◌, List, [], ◌∷◌, ◌++◌, length, slice_get, Some, true, false, Bool, cond, ◌∙◌, ap, refl}
+use Rattle.std.proofs.Common.{◌≡◌, List, [], ◌∷◌, ◌++◌, true, false, cond, ◌∙◌, ap}
 use Rattle.std.specs.List.{list_any}
 use Rattle.jh_linear.specs.declared.config.Config.{Config}
 use Rattle.jh_linear.proofs.KeyLemmas.{same_config, are_same, none_same, was_there, was_not, position_none}
