@@ -36,7 +36,12 @@ fn none_failed(ops: &[RegOp], order: &[usize]) -> bool {
 }
 
 fn all_done(ops: &[RegOp], order: &[usize]) -> bool {
-    ops.iter().enumerate().all(|(place, op)| op.outcome != Outcome::Done || order.contains(&place))
+    for (place, op) in ops.iter().enumerate() {
+        if op.outcome == Outcome::Done && !order.contains(&place) {
+            return false;
+        }
+    }
+    true
 }
 
 /// Whether what ended before another was invoked stands before that one, of any two in the order.
@@ -124,16 +129,15 @@ impl Places {
 
 /// Whether there is an order that begins with these places and has at most this many more.
 pub(super) fn is_possible(ops: &[RegOp], initial: Option<i64>, begun: Places, more: usize) -> bool {
-    if judged_slowly(ops, initial, begun.as_slice()).is_ok() {
+    let order = begun.as_slice();
+    if all_done(ops, order) && judged_slowly(ops, initial, order).is_ok() {
         return true;
     }
     if more == 0 {
         return false;
     }
     for place in 0..ops.len() {
-        if !begun.as_slice().contains(&place)
-            && is_possible(ops, initial, begun.with(place), more - 1)
-        {
+        if !order.contains(&place) && is_possible(ops, initial, begun.with(place), more - 1) {
             return true;
         }
     }
