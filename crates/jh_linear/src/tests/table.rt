@@ -6,6 +6,7 @@
 ghost use Rattle.std.specs.Prelude.{IfOk};
 ghost use Rattle.jh_linear.specs.Order.{EndAfterInvoked};
 
+use super::slow::Places;
 use super::{add_line, calls, judged, said};
 use crate::{LinVerdict, RegOp, check_order};
 use std::alloc::Global;
@@ -143,11 +144,11 @@ fn finds_an_order_of_two_swaps(rt: HostRuntime) -> Result<(), Fail> {
     }
 }
 
-/// The places that a text tells.
-fn places(alloc: Global, text: &str) -> Result<Vec<usize>, Fail> {
-    let mut places = Vec::with_capacity(alloc, 8)?;
+/// The places that a text tells, up to six.
+fn places(text: &str) -> Result<Places, Fail> {
+    let mut places = Places::none();
     for word in text.split_whitespace() {
-        places.push(word.parse()?)?;
+        places = places.with(word.parse()?);
     }
     Ok(places)
 }
@@ -162,7 +163,7 @@ fn first_wrong_order<'a>(
 {
     for row in rows.lines() {
         let (order, expected) = row.split_once("=> ").ok_or("no answer")?;
-        let is_right = match check_order(calls, Some(0), &places(alloc, order)?) {
+        let is_right = match check_order(calls, Some(0), places(order)?.as_slice()) {
             Ok(()) => expected == "order",
             Err(fault) => said(alloc, &fault)?.as_str() == expected,
         };
