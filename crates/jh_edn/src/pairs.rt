@@ -22,8 +22,8 @@ use std::collections::BTreeSet;
 pub(crate) fn make_pairs(alloc: Global, items: Vec<Value>) -> Result<Option<Pairs>, AllocError>
     ensures { IfOk result (λ o. o ≡ pairs_of (views items.items)) }
 {
+    let mut pairs = Vec::with_capacity(alloc, items.len() / 2)?;
     let mut rest = items.into_iter();
-    let mut pairs = Vec::new(alloc);
     while let Some(key) = rest.next() {
         let Some(value) = rest.next() else {
             return Ok(None);
