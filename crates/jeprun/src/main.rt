@@ -5,7 +5,7 @@
 
 mod words;
 
-use crate::words::{parse, status_of_refusal};
+use crate::words::{Question, parse, status_of_refusal};
 use clap::ArgMatches;
 use jh_cli::CliError;
 use std::process::ExitCode;
@@ -28,10 +28,32 @@ fn refused(rt: &(impl Print + Eprint), error: &clap::Error) -> u8 {
     }
 }
 
+/// Judges a history.
+fn check(rt: &HostRuntime, words: &ArgMatches<'_>) -> Result<u8, CliError> {
+    match words::question_of(words) {
+        Some(
+            Question {
+                workload,
+                initial,
+                budget,
+            },
+        ) => jh_cli::check_run(
+            rt.alloc(),
+            &mut rt.reader(),
+            &mut io::writer(rt),
+            workload,
+            initial,
+            budget,
+        ),
+        None => Ok(words::REFUSED),
+    }
+}
+
 /// Does what the words ask for, and gives the exit status.
 fn run(rt: &HostRuntime, matches: &ArgMatches<'_>) -> u8 {
     let done = match matches.subcommand() {
         Some(("env", _)) => jh_cli::env_run(rt.alloc(), &mut rt.reader(), &mut io::writer(rt)),
+        Some(("check", words)) => check(rt, words),
         _ => Ok(words::REFUSED),
     };
     match done {

@@ -1,3 +1,5 @@
 pub mod Status
 pub mod EnvText
 pub mod Refusals
+pub mod CheckText
+pub mod CheckRefusals

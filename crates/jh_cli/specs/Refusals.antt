@@ -13,7 +13,7 @@ use Rattle.jh_nemesis.specs.declared.texts.StepTextError.{StepTextError}
 use Rattle.jh_cli.specs.EnvText.{IsEnvTextOf}
 use Rattle.jh_cli.specs.Status.{edn_fault, environment_fault}
 use Rattle.jh_cli.specs.declared.error.CliError.{CliError}
-use Rattle.jh_cli.specs.declared.error.CliError.TheVariants.{Input, EnvironmentMissing, Environment, Element, Read, Write, OutOfMemory}
+use Rattle.jh_cli.specs.declared.error.CliError.TheVariants.{Input, EnvironmentMissing, Environment, Element, History, Check, OnlyForRegister, Read, Write, OutOfMemory}
 
 -- the place of the first step among the elements, which count from 1
 abbrev pub first_step : ℕ
@@ -46,6 +46,9 @@ RefusesValues values (Environment fault) =
 RefusesValues values (Element place fault) =
     (first : Edn) × (others : List Edn) × (names : List (List ℕ)) × (start : Table) × (values ≡ first ∷ others)
     × IsTextOf first names start × HasFault names others place fault
+RefusesValues values (History fault) = ⊥
+RefusesValues values (Check fault) = ⊥
+RefusesValues values OnlyForRegister = ⊥
 RefusesValues values Read = ⊥
 RefusesValues values Write = ⊥
 RefusesValues values OutOfMemory = Unit {0}
@@ -57,6 +60,9 @@ RefusesInput input (Input fault) = (edn_fault fault ≡ Input fault) × edn.Refu
 RefusesInput input EnvironmentMissing = (values : List Edn) × SpellsAll values input × RefusesValues values EnvironmentMissing
 RefusesInput input (Environment fault) = (values : List Edn) × SpellsAll values input × RefusesValues values (Environment fault)
 RefusesInput input (Element place fault) = (values : List Edn) × SpellsAll values input × RefusesValues values (Element place fault)
+RefusesInput input (History fault) = ⊥
+RefusesInput input (Check fault) = ⊥
+RefusesInput input OnlyForRegister = ⊥
 RefusesInput input Read = Unit {0}
 RefusesInput input Write = (output : List ℕ) × IsEnvTextOf input output
 RefusesInput input OutOfMemory = Unit {0}

@@ -1,16 +1,22 @@
--- How a command ends early (this project's own): refusals of the input have status 3, faults of the machine 4.
+-- How a command ends early (this project's own): refusals of the words and of the input have status 3, faults of the machine 4.
 use Rattle.std.specs.Prelude.{ℕ}
 use Rattle.jh_edn.specs.declared.error.EdnError.TheVariants as EdnError
 use Rattle.jh_env.specs.declared.texts.EnvTextError.TheVariants as EnvTextError
+use Rattle.jh_ops.specs.declared.history.HistoryError.TheVariants as HistoryError
+use Rattle.jh_check.specs.declared.error.CheckError.TheVariants as CheckError
+use Rattle.jh_linear.specs.declared.calls.RegOpsError.TheVariants as RegOpsError
 use Rattle.jh_nemesis.specs.declared.texts.StepTextError.TheVariants as StepTextError
 use Rattle.jh_cli.specs.declared.error.CliError.{CliError}
-use Rattle.jh_cli.specs.declared.error.CliError.TheVariants.{Input, EnvironmentMissing, Environment, Element, Read, Write, OutOfMemory}
+use Rattle.jh_cli.specs.declared.error.CliError.TheVariants.{Input, EnvironmentMissing, Environment, Element, History, Check, OnlyForRegister, Read, Write, OutOfMemory}
 
 abbrev pub status_of : CliError → ℕ
 status_of (Input fault) = 3
 status_of EnvironmentMissing = 3
 status_of (Environment fault) = 3
 status_of (Element place fault) = 3
+status_of (History fault) = 3
+status_of (Check fault) = 3
+status_of OnlyForRegister = 3
 status_of Read = 4
 status_of Write = 4
 status_of OutOfMemory = 4
@@ -31,3 +37,18 @@ environment_fault fault = Environment fault
 abbrev pub element_fault : ℕ → StepTextError.the_data → CliError
 element_fault place StepTextError.OutOfMemory = OutOfMemory
 element_fault place fault = Element place fault
+
+-- what a refusal of a history means to a command
+abbrev pub history_fault : HistoryError.the_data → CliError
+history_fault HistoryError.OutOfMemory = OutOfMemory
+history_fault fault = History fault
+
+-- what a refusal by a checker means to a command
+abbrev pub check_fault : CheckError.the_data → CliError
+check_fault CheckError.OutOfMemory = OutOfMemory
+check_fault fault = Check fault
+
+-- what a refusal of the calls of a register means to a command
+abbrev pub register_fault : RegOpsError.the_data → CliError
+register_fault (RegOpsError.BadValue place) = Check (CheckError.BadValue place)
+register_fault RegOpsError.OutOfMemory = OutOfMemory

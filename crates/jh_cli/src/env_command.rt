@@ -21,7 +21,7 @@ use std::alloc::{AllocError, Global};
 use std::io::{Read, Write};
 
 /// The most reads that an input may take.
-const MOST_READS: u32 = 16_777_216;
+pub(crate) const MOST_READS: u32 = 16_777_216;
 
 /// Exit status of a command that did its work.
 const DONE: u8 = 0;

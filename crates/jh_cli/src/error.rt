@@ -3,15 +3,18 @@
 ghost use Rattle.std.specs.Prelude.{◌≡◌};
 ghost use Rattle.jh_cli.specs.Status.{status_of};
 
+use jh_check::CheckError;
 use jh_edn::EdnError;
 use jh_env::EnvTextError;
+use jh_linear::RegOpsError;
 use jh_nemesis::StepTextError;
+use jh_ops::{HistoryError, PairError};
 use std::alloc::{AllocError, AllocFailed};
 use std::io::{self, Write};
 use thiserror::Error;
 
-/// Why a command ended early. `Input`, `EnvironmentMissing`, `Environment` and `Element` refuse what was read;
-/// `Read`, `Write` and `OutOfMemory` are faults of the machine.
+/// Why a command ended early. `Read`, `Write` and `OutOfMemory` are faults of the machine, `OnlyForRegister` refuses the
+/// words, and all others what was read.
 #[derive(Clone, Copy, Debug, PartialEq, Eq, Error)]
 pub enum CliError {
     /// The input is no text of EDN values.
@@ -26,6 +29,15 @@ pub enum CliError {
     /// The element at this place, the environment's being 1, is no step.
     #[error("element {place}: {fault}")]
     Element { place: u64, fault: StepTextError },
+    /// An element is no operation.
+    #[error("{0}")]
+    History(HistoryError),
+    /// The history is none that its checker can judge.
+    #[error("{0}")]
+    Check(CheckError),
+    /// There is an initial value, and no register.
+    #[error("--initial: only for register")]
+    OnlyForRegister,
     #[error("read failed")]
     Read,
     #[error("write failed")]
@@ -35,7 +47,7 @@ pub enum CliError {
 }
 
 impl CliError {
-    /// The exit status: 3 where the input is refused, 4 where the machine failed.
+    /// The exit status: 3 where the input or the words are refused, 4 where the machine failed.
     pub fn status(&self) -> u8
         ensures { result ≡ status_of self.now }
     {
@@ -43,7 +55,10 @@ impl CliError {
             CliError::Input(_)
             | CliError::EnvironmentMissing
             | CliError::Environment(_)
-            | CliError::Element { .. } => 3,
+            | CliError::Element { .. }
+            | CliError::History(_)
+            | CliError::Check(_)
+            | CliError::OnlyForRegister => 3,
             CliError::Read | CliError::Write | CliError::OutOfMemory => 4,
         }
     }
@@ -78,6 +93,56 @@ impl From<EnvTextError> for CliError {
         match fault {
             EnvTextError::OutOfMemory => CliError::OutOfMemory,
             _ => CliError::Environment(fault),
+        }
+    }
+}
+
+impl From<HistoryError> for CliError {
+    ghost use Rattle.jh_cli.specs.Status.{history_fault};
+
+    ghost from_gives = { λ fault e. e ≡ history_fault fault };
+
+    fn from(fault: HistoryError) -> CliError {
+        match fault {
+            HistoryError::OutOfMemory => CliError::OutOfMemory,
+            _ => CliError::History(fault),
+        }
+    }
+}
+
+impl From<CheckError> for CliError {
+    ghost use Rattle.jh_cli.specs.Status.{check_fault};
+
+    ghost from_gives = { λ fault e. e ≡ check_fault fault };
+
+    fn from(fault: CheckError) -> CliError {
+        match fault {
+            CheckError::OutOfMemory => CliError::OutOfMemory,
+            _ => CliError::Check(fault),
+        }
+    }
+}
+
+impl From<PairError> for CliError {
+    ghost use Rattle.jh_check.specs.CounterResults.{refusal_of};
+    ghost use Rattle.jh_cli.specs.Status.{check_fault};
+
+    ghost from_gives = { λ fault e. e ≡ check_fault (refusal_of fault) };
+
+    fn from(fault: PairError) -> CliError {
+        CliError::from(CheckError::from(fault))
+    }
+}
+
+impl From<RegOpsError> for CliError {
+    ghost use Rattle.jh_cli.specs.Status.{register_fault};
+
+    ghost from_gives = { λ fault e. e ≡ register_fault fault };
+
+    fn from(fault: RegOpsError) -> CliError {
+        match fault {
+            RegOpsError::BadValue(place) => CliError::Check(CheckError::BadValue(place)),
+            RegOpsError::OutOfMemory => CliError::OutOfMemory,
         }
     }
 }

@@ -8,6 +8,7 @@ use std::alloc::{AllocError, Global};
 use std::io::{self, Read, Write};
 use std::test::Fail;
 
+mod check;
 mod table;
 
 /// What the command answers, and what it writes.

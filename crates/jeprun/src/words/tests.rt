@@ -1,5 +1,6 @@
-use super::{REFUSED, parse, status_of_refusal};
+use super::{Question, REFUSED, parse, question_of, status_of_refusal};
 use clap::Error;
+use jh_ops::Workload;
 use std::alloc::Global;
 use std::process::Abort;
 use std::test::Fail;
@@ -18,8 +19,9 @@ A test harness for databases, over a simulated cluster under faults
 Usage: jeprun <COMMAND>
 
 Commands:
-  env   Applies fault steps to an environment, both read from standard input as EDN
-  help  Print this message or the help of the given subcommand(s)
+  env    Applies fault steps to an environment, both read from standard input as EDN
+  check  Judges a history of operations, read from standard input as EDN
+  help   Print this message or the help of the given subcommand(s)
 
 Options:
   -h, --help  Print help
@@ -34,9 +36,43 @@ Options:
   -h, --help  Print help
 ";
 
+const CHECK_HELP: &str = "\
+Judges a history of operations, read from standard input as EDN
+
+Usage: jeprun check [OPTIONS] --workload <NAME>
+
+Options:
+      --workload <NAME>  What the database was to be [possible values: register, set, counter, unique-ids]
+      --initial <N>      The register's first value; nil where it is left out
+      --budget <N>       How many configurations the judge of a register may reach [default: 100000]
+  -h, --help             Print help
+";
+
+const NO_WORKLOAD: &str = "\
+error: the following required arguments were not provided:
+  --workload <NAME>
+
+Usage: jeprun check --workload <NAME>
+
+For more information, try '--help'.
+";
+
+const UNKNOWN_WORKLOAD: &str = "\
+error: invalid value 'lock' for '--workload <NAME>'
+  [possible values: register, set, counter, unique-ids]
+
+For more information, try '--help'.
+";
+
+const BUDGET_TOO_LARGE: &str = "\
+error: invalid value '10000001' for '--budget <N>': 10000001 is not in 0..=10000000
+
+For more information, try '--help'.
+";
+
 const NO_WORDS: &str = "\
 error: 'jeprun' requires a subcommand but one was not provided
-  [subcommands: env, help]
+  [subcommands: env, check, help]
 
 Usage: jeprun <COMMAND>
 
@@ -67,9 +103,60 @@ fn takes_the_command_env(rt: HostRuntime) -> Result<(), Fail> {
 }
 
 #[test]
+fn takes_the_command_check(rt: HostRuntime) -> Result<(), Fail> {
+    let rows: [(&[&str], Question); 3] = [
+        (
+            &["jeprun", "check", "--workload", "set"],
+            Question {
+                workload: Workload::Set,
+                initial: None,
+                budget: 100_000,
+            },
+        ),
+        (
+            &["jeprun", "check", "--workload=unique-ids", "--budget", "0"],
+            Question {
+                workload: Workload::Ids,
+                initial: None,
+                budget: 0,
+            },
+        ),
+        (
+            &["jeprun", "check", "--workload", "register", "--initial=-5"],
+            Question {
+                workload: Workload::Register,
+                initial: Some(-5),
+                budget: 100_000,
+            },
+        ),
+    ];
+    for (words, question) in rows {
+        let matches = parse(rt.alloc(), words)?;
+        let Some(("check", check)) = matches.subcommand() else {
+            return Err("no check")?;
+        };
+        assert_eq!(rt; question_of(check), Some(question));
+    }
+    Ok(())
+}
+
+#[test]
 fn wrong_words_have_status_3(rt: HostRuntime) -> Result<(), Fail> {
-    let rows: [(&[&str], &str); 3] = [
+    let rows: [(&[&str], &str); 6] = [
         (&["jeprun"], NO_WORDS),
+        (&["jeprun", "check"], NO_WORKLOAD),
+        (&["jeprun", "check", "--workload", "lock"], UNKNOWN_WORKLOAD),
+        (
+            &[
+                "jeprun",
+                "check",
+                "--workload",
+                "set",
+                "--budget",
+                "10000001",
+            ],
+            BUDGET_TOO_LARGE,
+        ),
         (&["jeprun", "bogus"], UNKNOWN_COMMAND),
         (&["jeprun", "env", "extra"], WORD_TOO_MANY),
     ];
@@ -83,8 +170,9 @@ fn wrong_words_have_status_3(rt: HostRuntime) -> Result<(), Fail> {
 
 #[test]
 fn help_has_status_0(rt: HostRuntime) -> Result<(), Fail> {
-    let rows: [(&[&str], &str); 3] = [
+    let rows: [(&[&str], &str); 4] = [
         (&["jeprun", "help"], HELP),
+        (&["jeprun", "check", "--help"], CHECK_HELP),
         (&["jeprun", "--help"], HELP),
         (&["jeprun", "env", "--help"], ENV_HELP),
     ];
