@@ -10,7 +10,8 @@ use Rattle.jh_ops.specs.Pairing.{IsWithin}
 use Rattle.jh_ops.specs.declared.pairs.Pair.{Pair}
 use Rattle.jh_linear.specs.declared.register.RegOp.{RegOp}
 use Rattle.jh_linear.specs.Order.{EndAfterInvoked}
-use Rattle.jh_linear.specs.Calls.{AreRegOps, IsLeastBad, bad_place, lesser, reg_op_of, with_call}
+use Rattle.jh_linear.specs.Calls.{AreRegOps, IsLeastBad, bad_place, reg_op_of, with_call}
+use Rattle.jh_linear.specs.Checking.{lesser}
 
 module _ (history : List Operation) (pairs : List Pair) (pair : Pair) where
   abbrev Above : ℕ → Pair → Type 0

@@ -1,7 +1,7 @@
 -- The operations of a register that a history tells (Jepsen's register workloads: `:read`, `:write` with a value, and
 -- `:cas` with `[old new]`). That a read which did not complete `:ok` tells no value, that a missing completion tells as
 -- little as an `:info`, and where a bad value is told, are this project's own. Places count from 0 in the whole history.
-use Rattle.std.specs.Prelude.{◌≡◌, ℕ, ◌≤◌, min, Bool, false, List, [], ◌∷◌, map, codes, if◌then◌else◌, slice_get, Option, Some, None, IfSome, is_some, unwrap_or, option_map, option_and_then}
+use Rattle.std.specs.Prelude.{◌≡◌, ℕ, ◌≤◌, Bool, false, List, [], ◌∷◌, map, codes, if◌then◌else◌, slice_get, Option, Some, None, IfSome, is_some, unwrap_or, option_map, option_and_then}
 use Rattle.std.specs.List.{All, Contains}
 use Rattle.jh_edn.specs.Edn.{Edn, nil, int, elements_of}
 use Rattle.jh_ops.specs.Operation.{Operation}
@@ -89,12 +89,6 @@ told_at history pair = if reads_at history pair.invoke then unwrap_or pair.outco
 -- where a bad value is told, if one is
 abbrev pub bad_place : List Operation → Pair → Option ℕ
 bad_place history pair = if is_some (reg_op_of history pair) then None else Some (told_at history pair)
-
--- the lesser of two places, of which one or both may be missing
-abbrev pub lesser : Option ℕ → Option ℕ → Option ℕ
-lesser None other = other
-lesser (Some one) None = Some one
-lesser (Some one) (Some other) = Some (min one other)
 
 -- one operation for each pair, in order
 abbrev pub AreRegOps : List Operation → List Pair → List RegOp → Type 0

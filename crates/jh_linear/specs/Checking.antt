@@ -1,5 +1,6 @@
--- What the parts of checking an order look at: proofs rest on it, and no public clause names it.
-use Rattle.std.specs.Prelude.{ℕ, zero, suc, ◌<◌, Bool, true, false, if◌then◌else◌, List, [], ◌∷◌, length, slice_index_or}
+-- What the parts of checking an order, and of looking for a bad value, go by: proofs rest on it, and no public clause
+-- names it.
+use Rattle.std.specs.Prelude.{ℕ, zero, suc, ◌<◌, min, Bool, true, false, if◌then◌else◌, Option, Some, None, List, [], ◌∷◌, length, slice_index_or}
 use Rattle.jh_linear.specs.declared.register.Outcome.{Outcome}
 use Rattle.jh_linear.specs.declared.register.Outcome.TheVariants.{Done, Failed, Unsure}
 use Rattle.jh_linear.specs.declared.register.RegOp.{RegOp}
@@ -22,3 +23,9 @@ is_done_at ops place = is_done (op_at ops place).outcome
 abbrev pub done_below : List RegOp → ℕ → List ℕ
 done_below ops zero = []
 done_below ops (suc n) = if is_done_at ops n then n ∷ done_below ops n else done_below ops n
+
+-- the lesser of two places, of which one or both may be missing
+abbrev pub lesser : Option ℕ → Option ℕ → Option ℕ
+lesser None other = other
+lesser (Some one) None = Some one
+lesser (Some one) (Some other) = Some (min one other)

@@ -8,6 +8,7 @@ ghost use Rattle.jh_ops.specs.Operation.{operation, operations};
 ghost use Rattle.jh_ops.specs.OperationText as text;
 ghost use Rattle.jh_ops.specs.Pairing.{IsWithin};
 ghost use Rattle.jh_linear.specs.Calls as rule;
+ghost use Rattle.jh_linear.specs.Checking as place;
 ghost use Rattle.jh_linear.specs.Calls.{AreRegOps, IsLeastBad, RefusesPairs};
 ghost use Rattle.jh_linear.specs.Order.{EndAfterInvoked};
 ghost use Rattle.jh_linear.specs.declared.calls.RegOpsError.TheVariants.{OutOfMemory};
@@ -217,7 +218,7 @@ fn bad_place(ops: &[Op], pair: Pair) -> Option<usize>
 
 /// The lesser of two places, of which one or both may be missing.
 fn lesser(first: Option<usize>, second: Option<usize>) -> Option<usize>
-    ensures { result ≡ rule.lesser first second }
+    ensures { result ≡ place.lesser first second }
 {
     match (first, second) {
         (Some(one), Some(other)) => Some(one.min(other)),
