@@ -15,6 +15,12 @@ import sys
 import tempfile
 
 ROWS = 65_536
+# The program's files end in .txt here, since the gate wants each source in a crate of its own.
+SOURCES = {
+    "main.rt": "src/main.rt",
+    "proofs/fill/Invariants.antt": "proofs/fill/Invariants.antt",
+    "proofs/read_all/Invariants.antt": "proofs/read_all/Invariants.antt",
+}
 CRATES = "jh_slots tests_may=Threads: atomic_table thiserror\nslots_bench: jh_slots\n"
 
 
@@ -25,9 +31,9 @@ def main():
             crates.write(CRATES)
         shutil.copytree("crates/jh_slots", f"{top}/crates/jh_slots", ignore=shutil.ignore_patterns("out"))
         bench = f"{top}/crates/slots_bench"
-        shutil.copytree("bench/slots/proofs", f"{bench}/proofs")
-        os.makedirs(f"{bench}/src")
-        shutil.copy("bench/slots/main.rt", f"{bench}/src/main.rt")
+        for source, place in SOURCES.items():
+            os.makedirs(os.path.dirname(f"{bench}/{place}"))
+            shutil.copy(f"bench/slots/{source}.txt", f"{bench}/{place}")
         subprocess.run(["git", "init", "-q"], cwd=top, check=True)
         said = subprocess.run(["rt", "run"], cwd=bench, capture_output=True, text=True)
         if said.returncode != 0:
