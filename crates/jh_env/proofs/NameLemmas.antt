@@ -1,6 +1,6 @@
 use Rattle.std.proofs.Common.{◌≡◌, ℕ, ◌+◌, ◌<◌, ◌≤◌, Bool, false, cond, List, [], ◌∷◌, ◌++◌, length, map, take, drop, get_or, refl, ap, ◌∙◌, sym, arith, suc, inl, inr, append_assoc, length-append, drop-cons, String}
 use Rattle.std.proofs.Math.Seq.{get_or-append_seam, take-append_seam}
-use Rattle.std.specs.List.{list_any, prefix_len, position}
+use Rattle.std.specs.List.{list_any, prefix_len, position, AllZip}
 use Rattle.std.specs.Prelude.{not, ◌||◌, ◌==◌, if◌then◌else◌}
 use Rattle.std.specs.Str.{bytes_eq}
 use Rattle.std.specs.String.{string_bytes, string_eq}
@@ -64,3 +64,14 @@ refused_at names i e few below good refuses =
 -- a number that is not nought
 pub above_nought : (n : ℕ) → false ≡ (n == 0) → 0 < n
 above_nought n h = elim (cases_lt 0 n) [ inl lt ↦ lt | inr ge ↦ absurd (let e : n ≡ 0 = omega arith in false≢true (h ∙ eq-eqb n 0 e)) ]
+
+-- what is cloned one by one has the same texts
+pub same_texts : {Z : Type 0} (keys copies : List (String Z)) → AllZip (λ s t. string_bytes t ≡ string_bytes s) keys copies → map string_bytes copies ≡ map string_bytes keys
+same_texts [] [] h = refl
+same_texts [] (y ∷ ys) h = absurd h
+same_texts (x ∷ xs) [] h = absurd h
+same_texts (x ∷ xs) (y ∷ ys) h = rw (h.0, same_texts xs ys h.1) refl
+
+-- and is as long
+pub as_many_texts : {Z : Type 0} (keys copies : List (String Z)) → AllZip (λ s t. string_bytes t ≡ string_bytes s) keys copies → length copies ≡ length keys
+as_many_texts keys copies h = sym (length-map copies string_bytes) ∙ ap length (same_texts keys copies h) ∙ length-map keys string_bytes

@@ -71,6 +71,21 @@ impl Env {
         })
     }
 
+    /// An environment with the same names and start, and in which the same faults are laid. Takes time and memory
+    /// for every cell.
+    pub fn copy(&self, alloc: Global) -> Result<Env, AllocError>
+        ensures { IfOk result (λ copy. copy ≡ self.now) }
+    {
+        Ok(Env {
+            names: self.names.copy()?,
+            start_links: Vec::from_slice(alloc, &self.start_links)?,
+            start_cells: Vec::from_slice(alloc, &self.start_cells)?,
+            links: Vec::from_slice(alloc, &self.links)?,
+            cells: Vec::from_slice(alloc, &self.cells)?,
+            laid: self.laid,
+        })
+    }
+
     /// The nodes, with their names.
     pub fn nodes(&self) -> &Nodes
         ensures names { result.now ≡ self.now.names }

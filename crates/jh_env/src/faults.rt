@@ -334,6 +334,22 @@ impl Fault {
         }
     }
 
+    /// A fault that does the same to the same links or nodes.
+    pub fn copy(&self, alloc: Global) -> Result<Fault, AllocError>
+        ensures { IfOk result (λ copy. copy ≡ self.now) }
+    {
+        let effect = match &self.effect {
+            Effect::OnLinks(effect, links) => {
+                Effect::OnLinks(*effect, Vec::from_slice(alloc, links)?)
+            }
+            Effect::OnNodes(down, nodes) => {
+                Effect::OnNodes(*down, Vec::from_slice(alloc, nodes)?)
+            }
+            Effect::Bump(bumps) => Effect::Bump(Vec::from_slice(alloc, bumps)?),
+        };
+        Ok(Fault { effect })
+    }
+
     /// Whether each node that it names is one of these.
     pub fn fits_nodes(&self, nodes: &Nodes) -> bool
         ensures { IsTrue result ↔ FitsCount (length nodes.now) self.now }

@@ -1,6 +1,6 @@
 //! Nodes and their names. `specs/Names.antt` says which lists of names an environment may have.
 
-ghost use Rattle.std.specs.Prelude.{◌≡◌, ◌<◌, ◌≤◌, ◌++◌, ◌∷◌, [], map, length, slice_get, position, option_map, MatchResult, MatchOption};
+ghost use Rattle.std.specs.Prelude.{◌≡◌, ◌<◌, ◌≤◌, ◌++◌, ◌∷◌, [], map, length, slice_get, position, option_map, IfOk, MatchResult, MatchOption};
 ghost use Rattle.std.specs.List.{list_all};
 ghost use Rattle.std.specs.Str.{bytes_eq};
 ghost use Rattle.std.specs.String.{string_bytes};
@@ -8,7 +8,7 @@ ghost use Rattle.jh_env.specs.Names as rule;
 ghost use Rattle.jh_env.specs.Names.{AreNodeNames, AreFew, MayFollow, RefusesName, RefusesNames, is_name_byte};
 
 use indexmap::IndexSet;
-use std::alloc::Global;
+use std::alloc::{AllocError, Global};
 use std::marker::Model;
 use thiserror::Error;
 
@@ -116,6 +116,16 @@ fn add_name(alloc: Global, set: &mut IndexSet<String>, name: &str) -> Result<(),
     }
 }
 
+// The same names, in a set of their own.
+#[tactic(auto, using(crate::proofs::NameLemmas::same_texts, crate::proofs::NameLemmas::as_many_texts))]
+fn copied(names: &IndexSet<String>) -> Result<IndexSet<String>, AllocError>
+    ensures names { IfOk result (λ copy. map string_bytes copy.keys ≡ map string_bytes names.now.keys) }
+    ensures count { IfOk result (λ copy. length copy.keys ≡ length names.now.keys) }
+{
+    let copy = names.clone()?;
+    Ok(copy)
+}
+
 impl Nodes {
     /// The nodes of these names, 1 to 32, each 1 to 64 ASCII letters, digits, `.`, `-` or `_`.
     ///
@@ -137,6 +147,15 @@ impl Nodes {
             add_name(alloc, &mut set, name)?;
         }
         Ok(Nodes { names: set })
+    }
+
+    // The same names.
+    pub(crate) fn copy(&self) -> Result<Nodes, AllocError>
+        ensures { IfOk result (λ copy. copy ≡ self.now) }
+    {
+        Ok(Nodes {
+            names: copied(&self.names)?,
+        })
     }
 
     /// How many nodes there are, 1 to 32.

@@ -196,6 +196,39 @@ fn fits_known_nodes(rt: HostRuntime) -> Result<(), Fail> {
     Ok(())
 }
 
+// Copies of an environment and of a fault, once more where memory was refused.
+fn env_copy(alloc: Global, env: &Env) -> Result<Env, AllocError> {
+    match env.copy(alloc) {
+        Err(_) => env.copy(alloc),
+        answer => answer,
+    }
+}
+
+fn fault_copy(alloc: Global, fault: &Fault) -> Result<Fault, AllocError> {
+    match fault.copy(alloc) {
+        Err(_) => fault.copy(alloc),
+        answer => answer,
+    }
+}
+
+#[test]
+fn copies_stand_alone(rt: HostRuntime) -> Result<(), Fail> {
+    let Some(env) = started(rt.alloc(), &[]) else {
+        panic!(rt; "no environment");
+    };
+    let Some((first, second)) = two(env.nodes()) else {
+        panic!(rt; "no nodes");
+    };
+    let fault = cut(rt.alloc(), env.nodes(), &[(first, second)])?;
+    let again = fault_copy(rt.alloc(), &fault)?;
+    let mut copy = env_copy(rt.alloc(), &env)?;
+    assert!(rt; again.fits(&copy) && copy.laid() < MOST_LAID);
+    copy.lay(&again);
+    assert_eq!(rt; copy.link(first, second), Some(CUT));
+    assert_eq!(rt; env.link(first, second), Some(Link::calm()));
+    Ok(())
+}
+
 #[test]
 fn cuts_until_reset(rt: HostRuntime) -> Result<(), Fail> {
     let Some(mut env) = started(rt.alloc(), &[]) else {
