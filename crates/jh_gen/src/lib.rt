@@ -3,6 +3,7 @@
 
 mod answers;
 mod build;
+mod copy;
 mod driver;
 mod generator;
 mod node;

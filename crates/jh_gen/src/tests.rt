@@ -9,7 +9,7 @@ use crate::{
 };
 use jh_edn::{EdnError, Value, read_all};
 use jh_ops::{Call, Process, Request};
-use std::alloc::Global;
+use std::alloc::{AllocError, Global};
 use std::test::Fail;
 
 mod plain;
@@ -315,5 +315,24 @@ fn errors_have_words(rt: HostRuntime) -> Result<(), Fail> {
     if let Ok(words) = words {
         assert_eq!(rt; words.as_str(), expected);
     }
+    Ok(())
+}
+
+// A copy, once more where memory was refused.
+fn copy(alloc: Global, source: &Gen) -> Result<Gen, AllocError> {
+    match source.copy(alloc) {
+        Err(_) => source.copy(alloc),
+        answer => answer,
+    }
+}
+
+#[test]
+fn copies_a_generator(rt: HostRuntime) -> Result<(), Fail> {
+    let source = read(rt.alloc(), "[:reserve 1 [:mix [:once :read]] [:rising 7]]")??;
+    let Gen::Reserve(shares, last) = copy(rt.alloc(), &source)? else {
+        panic!(rt; "no reserve");
+    };
+    assert!(rt; matches!(shares.as_slice(), [(1, Gen::Mix(_))]));
+    assert!(rt; matches!(last.as_gen(), Gen::Rising(7)));
     Ok(())
 }
