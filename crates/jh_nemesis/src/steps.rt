@@ -1,7 +1,10 @@
 //! Steps and the answers to them. `specs/Steps.antt` says which answer a step has; a new kind of step begins
 //! there.
 
+ghost use Rattle.std.specs.Prelude.{◌≡◌, IfOk};
+
 use jh_env::Fault;
+use std::alloc::{AllocError, Global};
 use thiserror::Error;
 
 /// The most faults that are active at once.
@@ -23,6 +26,21 @@ pub enum Step {
     Undo,
     /// Goes forth again to the moment before the last step back.
     Redo,
+}
+
+impl Step {
+    /// The same step once more, with a copy of its fault.
+    pub fn copy(&self, alloc: Global) -> Result<Step, AllocError>
+        ensures { IfOk result (λ copy. copy ≡ self.now) }
+    {
+        match self {
+            Step::Begin(id, fault) => Ok(Step::Begin(*id, fault.copy(alloc)?)),
+            Step::Withdraw(id) => Ok(Step::Withdraw(*id)),
+            Step::WithdrawAll => Ok(Step::WithdrawAll),
+            Step::Undo => Ok(Step::Undo),
+            Step::Redo => Ok(Step::Redo),
+        }
+    }
 }
 
 /// The answer to a step.

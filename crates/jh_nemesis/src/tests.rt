@@ -284,3 +284,24 @@ fn says_why_not_all(rt: HostRuntime) -> Result<(), Fail> {
     );
     Ok(())
 }
+
+// A copy, once more where memory was refused.
+fn step_copy(alloc: Global, step: &Step) -> Result<Step, AllocError> {
+    match step.copy(alloc) {
+        Err(_) => step.copy(alloc),
+        answer => answer,
+    }
+}
+
+#[test]
+fn copies_a_step(rt: HostRuntime) -> Result<(), Fail> {
+    let nemesis = calm(rt.alloc())?;
+    let step = Step::Begin(7, cut(rt.alloc(), nemesis.env().nodes())?);
+    let copy = step_copy(rt.alloc(), &step)?;
+    let Step::Begin(id, fault) = copy else {
+        panic!(rt; "no begin");
+    };
+    assert_eq!(rt; id, 7);
+    assert!(rt; fault.fits(nemesis.env()));
+    Ok(())
+}
