@@ -1,0 +1,112 @@
+use Rattle.std.proofs.Common.{◌≡◌, ℕ, ◌+◌, ◌≤◌, ◌<◌, ◌⊎◌, Bool, true, false, List, [], ◌∷◌, length, get_or, set, refl, ap, sym, ◌∙◌, arith, subst, not, inl, inr}
+use Rattle.std.specs.Prelude.{ℤ, Option, Some, None, if◌then◌else◌, slice_set}
+use Rattle.std.specs.List.{fold}
+use Rattle.std.proofs.lemmas.Bool.{cases_eq, cases_lt}
+use Rattle.std.proofs.lemmas.List.{get_or-set_same, get_or-set_other, set_past, length-set}
+use Rattle.jh_env.specs.declared.cells.Life.{Life}
+use Rattle.jh_env.specs.declared.cells.Life.TheVariants.{Running, Paused, Killed}
+use Rattle.jh_env.specs.declared.cells.NodeCell.{NodeCell}
+use Rattle.jh_simnode.specs.declared.copies.NodeCopy.{NodeCopy}
+use Rattle.jh_simnode.specs.declared.copies.Mark.{Mark}
+use Rattle.jh_simnode.specs.declared.copies.Mark.TheVariants.{First, Version, Stamp}
+use Rattle.jh_simnode.specs.declared.settings.Settings.{Settings}
+use Rattle.jh_simnode.specs.declared.settings.Store.{Store}
+use Rattle.jh_simnode.specs.declared.settings.Store.TheVariants.{Quorum, Lww, Local}
+use Rattle.jh_ops.specs.declared.call.Request.{Request}
+use Rattle.jh_simnode.specs.Requests.{is_of, is_read}
+use Rattle.jh_simnode.specs.Copies.{blank, copy_at, version, first_copy, is_lower}
+use Rattle.jh_simnode.specs.Effects.{effect}
+use Rattle.jh_simnode.specs.declared.effects.Change.{Change}
+use Rattle.jh_simnode.specs.Reach.{Cells, places, touched, heard, runs, is_killed}
+use Rattle.jh_simnode.specs.Stores.{Served, serve, serve_at, serve_in, serve_running, serve_local, serve_lww, serve_quorum, local_served, lww_served, quorum_changed, quorum_read, quorum_write, quorum, newest, served, version_at, give, give_all, offer, offer_all, ticked, tell, tell_all, is_open, forgotten, forget_one}
+use Rattle.jh_simnode.specs.Events.{AreTidy}
+
+-- what each step of a fold keeps is kept by the fold
+pub fold_keeps : {A B : Type 0} (P : A → Type 0) (f : A → B → A) → ((a : A) (b : B) → P a → P (f a b)) → (a : A) (bs : List B) → P a → P (fold f a bs)
+fold_keeps P f step a [] h = h
+fold_keeps P f step a (b ∷ bs) h = fold_keeps P f step (f a b) bs (step a b h)
+
+-- what both cases keep is kept
+either : {A : Type 0} (P : A → Type 0) (b : Bool) (x y : A) → P x → P y → P (if b then x else y)
+either P true x y p q = p
+either P false x y p q = q
+
+version_set : (n : ℕ) (all : List NodeCopy) (p : ℕ) (new : NodeCopy) (q : ℕ) → ((place : ℕ) → version_at all place ≤ n) → version new.mark ≤ n → version_at (set all p new) q ≤ n
+version_set n all p new q low h = elim (cases_lt p (length all)) as (λ s. version_at (set all p new) q ≤ n) [
+  | inl within ↦ elim (cases_eq q p) as (λ s. version_at (set all p new) q ≤ n) [
+    | inl same ↦ rw (same, get_or-set_same all p new blank within) h
+    | inr other ↦ rw (get_or-set_other all p q new blank other) (low q)
+  ]
+  | inr past ↦ rw (set_past all p new past) (low q)
+]
+
+pub set_tidy : (c n : ℕ) (all : List NodeCopy) (p : ℕ) (new : NodeCopy) → AreTidy c n all → version new.mark ≤ n → AreTidy c n (set all p new)
+set_tidy c n all p new t h = record { sized = length-set all p new ∙ t.sized; low = λ q. version_set n all p new q t.low h }
+
+pub later_tidy : (c n : ℕ) (all : List NodeCopy) → AreTidy c n all → AreTidy c (n + 1) all
+later_tidy c n all t = record { sized = t.sized; low = λ q. let h = t.low q in omega arith }
+
+give_tidy : (c n : ℕ) (new : NodeCopy) (all : List NodeCopy) (these : List ℕ) → version new.mark ≤ n → AreTidy c n all → AreTidy c n (give_all new all these)
+give_tidy c n new all these h t = fold_keeps (AreTidy c n) (give new) (λ a p k. set_tidy c n a p new k h) all these t
+
+offer_tidy : (c n : ℕ) (new : NodeCopy) (all : List NodeCopy) (these : List ℕ) → version new.mark ≤ n → AreTidy c n all → AreTidy c n (offer_all new all these)
+offer_tidy c n new all these h t =
+    fold_keeps (AreTidy c n) (offer new) (λ a p k. either (AreTidy c n) (is_lower (copy_at a p).mark new.mark) (set a p new) a (set_tidy c n a p new k h) k) all these t
+
+local_tidy : (c n : ℕ) (all : List NodeCopy) (node : ℕ) (e : Option Change) → AreTidy c n all → AreTidy c (n + 1) (local_served all node e).copies
+local_tidy c n all node None t = later_tidy c n all t
+local_tidy c n all node (Some e) t = later_tidy c n _ (set_tidy c n all node (record { mark = (copy_at all node).mark; contents = e.after }) t (t.low node))
+
+lww_tidy : (c n : ℕ) (all : List NodeCopy) (at : ℤ) (node : ℕ) (these : List ℕ) (e : Option Change) → AreTidy c n all → AreTidy c (n + 1) (lww_served all (Stamp at node) these e).copies
+lww_tidy c n all at node these None t = later_tidy c n all t
+lww_tidy c n all at node these (Some e) t = later_tidy c n _ (offer_tidy c n (record { mark = Stamp at node; contents = e.after }) all these (omega arith) t)
+
+changed_tidy : (c n : ℕ) (all : List NodeCopy) (best : ℕ) (these : List ℕ) (k : ℕ) (e : Option Change) → AreTidy c n all → AreTidy c (n + 1) (quorum_changed all best these k e).copies
+changed_tidy c n all best these k None t = later_tidy c n all t
+changed_tidy c n all best these k (Some e) t =
+    let h = t.low best in
+    give_tidy c (n + 1) (record { mark = Version (version (copy_at all best).mark + 1); contents = e.after }) all these (omega arith) (later_tidy c n all t)
+
+running_tidy : (store : Store) (env : Cells) (c n : ℕ) (all : List NodeCopy) (clock : ℤ) (node : ℕ) (r : Request) (draw : ℕ) → AreTidy c n all
+    → AreTidy c (n + 1) (serve_running store env all n clock node r draw).copies
+running_tidy Quorum env c n all clock node r draw t =
+    let l = later_tidy c n all t in
+    let reached = touched env (length all) draw node in
+    either (λ (s : Served). AreTidy c (n + 1) s.copies) (is_read r) _ _
+    (either (λ (s : Served). AreTidy c (n + 1) s.copies) _ _ _ l l)
+    (either (λ (s : Served). AreTidy c (n + 1) s.copies) _ _ _ l (changed_tidy c n all (newest all reached) reached (length (heard env node reached)) (effect r (copy_at all (newest all reached)).contents) t))
+running_tidy Lww env c n all clock node r draw t =
+    either (λ (s : Served). AreTidy c (n + 1) s.copies) (is_read r) _ _ (later_tidy c n all t) (lww_tidy c n all _ node (touched env (length all) draw node) (effect r (copy_at all node).contents) t)
+running_tidy Local env c n all clock node r draw t = local_tidy c n all node (effect r (copy_at all node).contents) t
+
+in_tidy : (life : Life) (s : Settings) (env : Cells) (c n : ℕ) (all : List NodeCopy) (clock : ℤ) (node : ℕ) (r : Request) (draw : ℕ) → AreTidy c n all
+    → AreTidy c (n + 1) (serve_in life s env all n clock node r draw).copies
+in_tidy Running s env c n all clock node r draw t = running_tidy s.store env c n all clock node r draw t
+in_tidy Paused s env c n all clock node r draw t = later_tidy c n all t
+in_tidy Killed s env c n all clock node r draw t = later_tidy c n all t
+
+at_tidy : (s : Settings) (env : Cells) (c n : ℕ) (all : List NodeCopy) (node : ℕ) (r : Request) (draw : ℕ) (cell : Option NodeCell) → AreTidy c n all
+    → AreTidy c (n + 1) (serve_at s env all n node r draw cell).copies
+at_tidy s env c n all node r draw None t = later_tidy c n all t
+at_tidy s env c n all node r draw (Some cell) t = in_tidy cell.process s env c n all cell.clock node r draw t
+
+pub serve_tidy : (s : Settings) (env : Cells) (c n : ℕ) (all : List NodeCopy) (node : ℕ) (r : Request) (draw : ℕ) → AreTidy c n all → AreTidy c (n + 1) (serve s env all n node r draw).copies
+unfolding serve
+serve_tidy s env c n all node r draw t =
+    either (λ (s : Served). AreTidy c (n + 1) s.copies) (is_of r s.workload) _ _ (at_tidy s env c n all node r draw (env.node node) t) (later_tidy c n all t)
+
+tell_tidy : (c n : ℕ) (env : Cells) (from : ℕ) (all : List NodeCopy) (to : ℕ) → AreTidy c n all → AreTidy c n (tell env from all to)
+tell_tidy c n env from all to t = either (AreTidy c n) _ (set all to (copy_at all from)) all (set_tidy c n all to (copy_at all from) t (t.low from)) t
+
+pub ticked_tidy : (store : Store) (env : Cells) (c n : ℕ) (all : List NodeCopy) → AreTidy c n all → AreTidy c (n + 1) (ticked store env all)
+unfolding ticked
+ticked_tidy Quorum env c n all t = later_tidy c n all t
+ticked_tidy Lww env c n all t =
+    later_tidy c n _ (fold_keeps (AreTidy c n) (tell_all env (length all)) (λ a from k. fold_keeps (AreTidy c n) (tell env from) (λ b to h. tell_tidy c n env from b to h) a (places (length all)) k) all (places (length all)) t)
+ticked_tidy Local env c n all t = later_tidy c n all t
+
+pub forgotten_tidy : (s : Settings) (before : List Bool) (after : Cells) (c n : ℕ) (all : List NodeCopy) → AreTidy c n all → AreTidy c (n + 1) (forgotten s before after all)
+unfolding forgotten
+forgotten_tidy s before after c n all t =
+    later_tidy c n _ (either (AreTidy c n) s.volatile _ _
+    (fold_keeps (AreTidy c n) (forget_one s before after) (λ a p k. either (AreTidy c n) _ (set a p (first_copy s)) a (set_tidy c n a p (first_copy s) k (omega arith)) k) all (places (length all)) t) t)

@@ -1,0 +1,15 @@
+use Rattle.std.proofs.Common.{◌≡◌, ℕ, ◌<◌, length, arith, rules}
+use Rattle.jh_simnode.specs.Stores.{changed}
+use Rattle.jh_simnode.proofs.Journals.{call_goes_on}
+use Rattle.jh_simnode.proofs.world.World.call.Goals as goal
+
+pub invariant_of-self-2 : goal.invariant_of-self-2
+invariant_of-self-2 c =
+    let i = c.self.inside in
+    let few : length i.journal.items < 65536 = search rules in
+    let number : c.len-number.result ≡ length i.journal.items = search rules in
+    let known : c.args.node < length i.nemesis.names = search rules in
+    let told = rw c.deref.ensures.value at c.in_ok-served.ensures in
+    rw (c.push_reserved.ensures.items, c.reserve.ensures.items, c.take_over.ensures)
+    (call_goes_on i.nemesis i.settings i.copies.items (changed i.copies.items c.in_ok-served.served.copies) i.journal.items c.env.result.now c.len-number.result c.args.process c.args.node c.args.request c.args.draw c.in_ok-served.served.reply
+    c.self.invariant few c.env.ensures.overlay c.env.ensures.start number known (told.reply, told.copies))

@@ -1,0 +1,12 @@
+use Rattle.std.proofs.Common.{◌≡◌, ℕ, ◌<◌, length, arith, rules}
+use Rattle.jh_simnode.specs.Stores.{changed}
+use Rattle.jh_simnode.proofs.Journals.{tick_goes_on}
+use Rattle.jh_simnode.proofs.world.World.tick.Goals as goal
+
+pub invariant_of-self-2 : goal.invariant_of-self-2
+invariant_of-self-2 c =
+    let i = c.self.inside in
+    let few : length i.journal.items < 65536 = search rules in
+    rw (c.push_reserved.ensures.items, c.reserve.ensures.items, c.take_over.ensures)
+    (tick_goes_on i.nemesis i.settings i.copies.items (changed i.copies.items c.in_ok-copies.copies) i.journal.items c.env.result.now
+    c.self.invariant few c.env.ensures.overlay c.env.ensures.start (rw c.deref.ensures.value at c.in_ok-copies.ensures))

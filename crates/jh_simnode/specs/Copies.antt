@@ -1,0 +1,54 @@
+-- What a node keeps of the database: a mark that says how new it is, and the contents (this project's own).
+use Rattle.std.specs.Prelude.{ℕ, ℤ, pos, ◌==◌, ◌&&◌, ◌||◌, Bool, true, false, List, [], Option, Some, None, nat_lt, int_lt, slice_index_or}
+use Rattle.std.specs.Ordering.{int_eq}
+use Rattle.jh_ops.specs.declared.call.Workload.{Workload}
+use Rattle.jh_ops.specs.declared.call.Workload.TheVariants.{Register, Counter, Set, Ids}
+use Rattle.jh_simnode.specs.declared.settings.Settings.{Settings}
+use Rattle.jh_simnode.specs.declared.copies.Contents.{Contents}
+use Rattle.jh_simnode.specs.declared.copies.Contents.TheVariants.{One, Many}
+use Rattle.jh_simnode.specs.declared.copies.Got.{Got}
+use Rattle.jh_simnode.specs.declared.copies.Got.TheVariants as Got
+use Rattle.jh_simnode.specs.declared.copies.Mark.{Mark}
+use Rattle.jh_simnode.specs.declared.copies.Mark.TheVariants.{First, Version, Stamp}
+use Rattle.jh_simnode.specs.declared.copies.NodeCopy.{NodeCopy}
+
+-- what a copy holds at first
+abbrev pub contents_of : Workload → Option ℤ → Contents
+contents_of Register initial = One initial
+contents_of Counter initial = One (Some (pos 0))
+contents_of Set initial = Many []
+contents_of Ids initial = One (Some (pos 0))
+
+abbrev pub first_contents : Settings → Contents
+first_contents s = contents_of s.workload s.initial
+
+abbrev pub first_copy : Settings → NodeCopy
+first_copy s = record { mark = First; contents = first_contents s }
+
+-- what a read of the contents gets
+abbrev pub got_of : Contents → Got
+got_of (One x) = Got.One x
+got_of (Many xs) = Got.Many xs
+
+-- the version of a mark; at first 0
+abbrev pub version : Mark → ℕ
+version First = 0
+version (Version v) = v
+version (Stamp at place) = 0
+
+-- the lower of two stamps; no stamp is below each stamp
+abbrev pub is_lower : Mark → Mark → Bool
+is_lower First First = false
+is_lower First (Version v) = false
+is_lower First (Stamp at place) = true
+is_lower (Version v) m = false
+is_lower (Stamp at place) First = false
+is_lower (Stamp at place) (Version v) = false
+is_lower (Stamp at place) (Stamp at' place') = int_lt at at' || (int_eq at at' && nat_lt place place')
+
+abbrev pub blank : NodeCopy
+blank = record { mark = First; contents = One None }
+
+-- the copy of the node at a place
+abbrev pub copy_at : List NodeCopy → ℕ → NodeCopy
+copy_at copies place = slice_index_or copies place blank

@@ -1,0 +1,47 @@
+-- What a request does to the contents of a copy: the objects that Jepsen's pages on checkers name, a register, a counter, a set and ids.
+use Rattle.std.specs.Prelude.{ℕ, ℤ, pos, negsuc, ◌+ℤ◌, ◌==◌, ◌^◌, ◌-◌, Bool, true, false, List, [], ◌∷◌, Option, Some, None, nat_lt, int_lt, if◌then◌else◌}
+use Rattle.std.specs.Ordering.{int_eq}
+use Rattle.jh_ops.specs.declared.call.Request.{Request}
+use Rattle.jh_ops.specs.declared.call.Request.TheVariants.{Read, Write, Cas, Add, Generate}
+use Rattle.jh_simnode.specs.declared.copies.Contents.{Contents}
+use Rattle.jh_simnode.specs.declared.copies.Contents.TheVariants.{One, Many}
+use Rattle.jh_simnode.specs.declared.copies.Got.{Got}
+use Rattle.jh_simnode.specs.declared.copies.Got.TheVariants as Got
+use Rattle.jh_simnode.specs.declared.effects.Change.{Change}
+use Rattle.jh_simnode.specs.Copies.{got_of}
+
+-- a number of 64 bits with a sign
+abbrev pub is_small : ℤ → Bool
+is_small (pos n) = nat_lt n (2 ^ 63)
+is_small (negsuc n) = nat_lt n (2 ^ 63)
+
+-- the number at its place in an ascending list, once
+abbrev pub put_in : ℤ → List ℤ → List ℤ
+put_in v [] = v ∷ []
+put_in v (x ∷ xs) = if int_lt v x then v ∷ x ∷ xs else (if int_eq v x then x ∷ xs else x ∷ put_in v xs)
+
+abbrev pub wrote : Contents → Option Change
+wrote c = Some (record { got = Got.Nothing; after = c })
+
+abbrev pub after_cas : ℤ → ℤ → Option ℤ → Option Change
+after_cas a b None = None
+after_cas a b (Some x) = if int_eq x a then wrote (One (Some b)) else None
+
+abbrev pub after_add : ℤ → Option ℤ → Option Change
+after_add v None = None
+after_add v (Some x) = if is_small (x +ℤ v) then wrote (One (Some (x +ℤ v))) else None
+
+abbrev pub after_generate : Option ℤ → Option Change
+after_generate None = None
+after_generate (Some x) = if is_small (x +ℤ pos 1) then Some (record { got = Got.One (Some x); after = One (Some (x +ℤ pos 1)) }) else None
+
+-- what a request makes of contents, where it doesn't fail
+abbrev pub effect : Request → Contents → Option Change
+effect Read c = Some (record { got = got_of c; after = c })
+effect (Write v) c = wrote (One (Some v))
+effect (Cas a b) (One x) = after_cas a b x
+effect (Cas a b) (Many xs) = None
+effect (Add v) (One x) = after_add v x
+effect (Add v) (Many xs) = wrote (Many (put_in v xs))
+effect Generate (One x) = after_generate x
+effect Generate (Many xs) = None

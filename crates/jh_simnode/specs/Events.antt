@@ -1,0 +1,113 @@
+-- What happens in a world, one event after another: where it stands after each, and which events are due (this project's own).
+use Rattle.std.specs.Prelude.{◌≡◌, ℕ, ◌+◌, ◌<◌, ◌≤◌, List, [], ◌∷◌, ◌++◌, length, replicate, slice_index, take}
+use Rattle.jh_env.specs.Cells.{Table}
+use Rattle.jh_env.specs.Overlay.{EnvValue}
+use Rattle.jh_nemesis.specs.State.{State, Active, faults_in}
+use Rattle.jh_nemesis.specs.Steps.{answer_of, state_after, FitsNodes}
+use Rattle.jh_nemesis.specs.declared.steps.Step.{Step}
+use Rattle.jh_simnode.specs.declared.settings.Settings.{Settings}
+use Rattle.jh_simnode.specs.declared.copies.NodeCopy.{NodeCopy}
+use Rattle.jh_simnode.specs.declared.copies.Reply.{Reply}
+use Rattle.jh_simnode.specs.declared.events.TheConstants.{MOST_EVENTS}
+use Rattle.jh_simnode.specs.declared.events.Event.{Event}
+use Rattle.jh_simnode.specs.declared.events.Event.TheVariants as Event
+use Rattle.jh_simnode.specs.declared.events.WorldError.{WorldError}
+use Rattle.jh_simnode.specs.declared.events.WorldError.TheVariants.{UnknownNode, TooManyEvents, OutOfMemory}
+use Rattle.jh_simnode.specs.Copies.{first_copy}
+use Rattle.jh_simnode.specs.Reach.{Cells, cells_over}
+use Rattle.jh_simnode.specs.Stores.{serve, ticked, dead, forgotten, version_at}
+
+-- what a world keeps for good: the nodes, their starting cells, and the settings
+pub record Setup : Type 0 where
+  pub names : List (List ℕ)
+  pub start : Table
+  pub settings : Settings
+
+-- where a world stands: the number of events so far, the faults with their past and future, and the copies
+pub record Moment : Type 0 where
+  pub number : ℕ
+  pub faults : State
+  pub copies : List NodeCopy
+
+abbrev pub calm_state : Setup → State
+calm_state u = record { names = u.names; start = u.start; past = []; now = []; future = [] }
+
+abbrev pub opening : Setup → Moment
+opening u = record { number = 0; faults = calm_state u; copies = replicate (length u.names) (first_copy u.settings) }
+
+-- the environment: what the active faults make of the starting one
+abbrev pub env_of : State → Cells
+env_of s = cells_over s.start (faults_in s.now)
+
+abbrev pub faults_after : State → Event → State
+faults_after s (Event.Call process node request draw reply) = s
+faults_after s (Event.Step step answer) = state_after s step
+faults_after s Event.Tick = s
+
+abbrev pub copies_after : Setup → Moment → Event → List NodeCopy
+copies_after u m (Event.Call process node request draw reply) = (serve u.settings (env_of m.faults) m.copies m.number node request draw).copies
+copies_after u m (Event.Step step answer) = forgotten u.settings (dead (env_of m.faults) (length u.names)) (env_of (state_after m.faults step)) m.copies
+copies_after u m Event.Tick = ticked u.settings.store (env_of m.faults) m.copies
+
+-- the moment after an event
+abbrev pub next : Setup → Moment → Event → Moment
+next u m e = record { number = m.number + 1; faults = faults_after m.faults e; copies = copies_after u m e }
+
+abbrev pub after_all : Setup → Moment → List Event → Moment
+after_all u m [] = m
+after_all u m (e ∷ es) = after_all u (next u m e) es
+
+-- the moment after a journal
+abbrev pub moment_at : Setup → List Event → Moment
+moment_at u journal = after_all u (opening u) journal
+
+-- the answer or the reply is the one that is due, and the nodes named are there
+abbrev pub IsDue : Setup → Moment → Event → Type 0
+IsDue u m (Event.Call process node request draw reply) = (node < length u.names) × (reply ≡ (serve u.settings (env_of m.faults) m.copies m.number node request draw).reply)
+IsDue u m (Event.Step step answer) = FitsNodes (length u.names) step × (answer ≡ answer_of m.faults step)
+IsDue u m Event.Tick = Unit {0}
+
+abbrev pub AreDue : Setup → Moment → List Event → Type 0
+AreDue u m [] = Unit {0}
+AreDue u m (e ∷ es) = IsDue u m e × AreDue u (next u m e) es
+
+-- each event of the journal is the one that is due at its place
+abbrev pub IsLegal : Setup → List Event → Type 0
+IsLegal u journal = AreDue u (opening u) journal
+
+-- what callers see of a world: what it keeps for good, and all that happened
+pub record WorldValue : Type 0 where
+  pub setup : Setup
+  pub journal : List Event
+
+-- nothing has happened in the world, over this environment, with these settings
+pub record IsNew (env : EnvValue) (chosen : Settings) (new : WorldValue) : Type 0 where
+  pub journal : new.journal ≡ []
+  pub names : new.setup.names ≡ env.names
+  pub start : new.setup.start ≡ env.start
+  pub settings : new.setup.settings ≡ chosen
+
+-- a copy for each of so many nodes, and no version above a number
+pub record AreTidy (count number : ℕ) (all : List NodeCopy) : Type 0 where
+  pub sized : length all ≡ count
+  pub low : (place : ℕ) → version_at all place ≤ number
+
+-- the nemesis and the copies of a world are those that its journal leads to
+pub record IsWorldOf (u : Setup) (state : State) (all : List NodeCopy) (events : List Event) : Type 0 where
+  pub legal : IsLegal u events
+  pub faults : state ≡ (moment_at u events).faults
+  pub copies : all ≡ (moment_at u events).copies
+  pub tidy : AreTidy (length u.names) (length events) all
+  pub few : length events ≤ MOST_EVENTS
+
+-- the event is the last, its number is told, and nothing else changed
+pub record Adds (old : WorldValue) (event : Event) (told : ℕ) (new : WorldValue) : Type 0 where
+  pub number : told ≡ length old.journal
+  pub setup : new.setup ≡ old.setup
+  pub journal : new.journal ≡ old.journal ++ event ∷ []
+
+-- why an event is refused, whose nodes are there if the fact `known` holds
+abbrev pub Refuses : Type 0 → List Event → WorldError → Type 0
+Refuses known journal UnknownNode = known → ⊥
+Refuses known journal TooManyEvents = known × (MOST_EVENTS ≤ length journal)
+Refuses known journal OutOfMemory = known × (length journal < MOST_EVENTS)

@@ -1,0 +1,72 @@
+-- Whom a call of a node reaches, and whom it hears in time (this project's own).
+use Rattle.std.specs.Prelude.{ℕ, zero, suc, ◌+◌, ◌%◌, ◌/◌, ◌==◌, ◌&&◌, ◌||◌, Bool, true, false, not, List, [], ◌∷◌, ◌++◌, Option, Some, None, nat_lt, nat_le, filter, option_map}
+use Rattle.jh_env.specs.declared.cells.Life.{Life}
+use Rattle.jh_env.specs.declared.cells.Life.TheVariants.{Running, Paused, Killed}
+use Rattle.jh_env.specs.declared.cells.Link.{Link}
+use Rattle.jh_env.specs.declared.cells.NodeCell.{NodeCell}
+use Rattle.jh_env.specs.Faults.{FaultValue}
+use Rattle.jh_env.specs.Cells.{Table, link_at, node_at}
+use Rattle.jh_env.specs.Overlay.{EnvValue, link_over, node_over}
+
+-- an environment as a client meets it: the link between two places, and the node at a place, where there is one
+pub record Cells : Type 0 where
+  pub link : ℕ → ℕ → Option Link
+  pub node : ℕ → Option NodeCell
+
+abbrev pub cells_of : EnvValue → Cells
+cells_of env = record { link = link_at env.now; node = node_at env.now }
+
+-- what faults make of starting cells
+abbrev pub cells_over : Table → List FaultValue → Cells
+cells_over start faults = record {
+  link = λ a b. option_map (link_over faults a b) (link_at start a b);
+  node = λ a. option_map (node_over faults a) (node_at start a);
+}
+
+abbrev pub is_running : Life → Bool
+is_running Running = true
+is_running Paused = false
+is_running Killed = false
+
+abbrev pub is_dead : Life → Bool
+is_dead Running = false
+is_dead Paused = false
+is_dead Killed = true
+
+abbrev pub runs : Option NodeCell → Bool
+runs None = false
+runs (Some n) = is_running n.process
+
+abbrev pub is_killed : Option NodeCell → Bool
+is_killed None = false
+is_killed (Some n) = is_dead n.process
+
+-- the link is there, uncut, and doesn't lose a call of this draw
+abbrev pub carries : ℕ → Option Link → Bool
+carries draw None = false
+carries draw (Some l) = not l.cut && nat_le l.loss (draw % 20)
+
+abbrev pub delay_of : Option Link → ℕ
+delay_of None = 0
+delay_of (Some l) = l.delay
+
+-- the places below a number, in order
+abbrev pub places : ℕ → List ℕ
+places zero = []
+places (suc n) = places n ++ n ∷ []
+
+-- a call of a node reaches another, and its answer comes back
+abbrev pub is_touched : Cells → ℕ → ℕ → ℕ → Bool
+is_touched env draw node other =
+    (other == node) || (runs (env.node other) && (carries draw (env.link node other) && carries draw (env.link other node)))
+
+-- it comes back in time
+abbrev pub is_timely : Cells → ℕ → ℕ → Bool
+is_timely env node other = (other == node) || nat_le (delay_of (env.link node other) + delay_of (env.link other node)) 1000
+
+-- the nodes, of so many, that a call of a node touches, and those that are heard in time
+abbrev pub touched : Cells → ℕ → ℕ → ℕ → List ℕ
+touched env count draw node = filter (is_touched env draw node) (places count)
+
+abbrev pub heard : Cells → ℕ → List ℕ → List ℕ
+heard env node reached = filter (is_timely env node) reached

@@ -1,0 +1,220 @@
+//! What nodes keep of the database, and what they answer. `specs/Copies.antt` has the rules of marks and of first copies.
+
+ghost use Rattle.std.specs.Prelude.{◌≡◌, ℕ, List, [], length, IfOk, slice_index_or, replicate};
+ghost use Rattle.jh_simnode.specs.Copies.{first_contents, first_copy, is_lower, version, got_of};
+
+use crate::settings::Settings;
+use jh_ops::Workload;
+use std::alloc::{AllocError, Global};
+use std::marker::Model;
+
+/// Numbers in order. A contract sees a list. Those of a set ascend.
+#[derive(Debug, Drop)]
+pub struct Numbers {
+    pub(crate) items: Vec<i64>,
+}
+
+impl Model for Numbers {
+    ghost use Rattle.std.specs.Prelude.{List, ℤ};
+
+    ghost Value = { List ℤ };
+
+    ghost view = { λ a. a.items.items };
+}
+
+/// What a copy holds: one value, none at all, or the elements of a set.
+#[derive(Debug, Drop)]
+pub enum Contents {
+    One(Option<i64>),
+    Many(Numbers),
+}
+
+/// What a request got: nothing, one value if there is one, or all elements of a set in ascending order.
+#[derive(Debug, Drop)]
+pub enum Got {
+    Nothing,
+    One(Option<i64>),
+    Many(Numbers),
+}
+
+/// A node's reply to a request.
+#[derive(Debug, Drop)]
+pub enum Reply {
+    /// It was done, and got this.
+    Ok(Got),
+    /// It was not done.
+    Fail,
+    /// It may have been done.
+    Info,
+}
+
+/// How new a copy is.
+#[derive(Clone, Copy, Debug, PartialEq, Eq)]
+pub enum Mark {
+    /// As at first.
+    First,
+    /// The number of changes, in a store of quorums.
+    Version(u64),
+    /// The time of the last change, the event's number and the clock of its node together, and the place of that node.
+    Stamp(i128, u8),
+}
+
+/// A node's copy of the store.
+#[derive(Debug, Drop)]
+pub struct NodeCopy {
+    pub mark: Mark,
+    pub contents: Contents,
+}
+
+impl Numbers {
+    pub(crate) fn new(alloc: Global) -> Numbers
+        ensures { result ≡ [] }
+    {
+        Numbers {
+            items: Vec::new(alloc),
+        }
+    }
+
+    pub fn as_slice(&self) -> &[i64]
+        ensures { result.now ≡ self.now }
+    {
+        &self.items
+    }
+
+    pub(crate) fn copy(&self, alloc: Global) -> Result<Numbers, AllocError>
+        ensures { IfOk result (λ copy. copy ≡ self.now) }
+    {
+        let mut items = Vec::new(alloc);
+        items.extend_from_slice(&self.items)?;
+        Ok(Numbers { items })
+    }
+}
+
+impl Contents {
+    /// What a copy holds at first.
+    pub(crate) fn first(alloc: Global, settings: &Settings) -> Contents
+        ensures { result ≡ first_contents settings.now }
+    {
+        match settings.workload {
+            Workload::Register => Contents::One(settings.initial),
+            Workload::Counter => Contents::One(Some(0)),
+            Workload::Set => Contents::Many(Numbers::new(alloc)),
+            Workload::Ids => Contents::One(Some(0)),
+        }
+    }
+
+    pub(crate) fn copy(&self, alloc: Global) -> Result<Contents, AllocError>
+        ensures { IfOk result (λ copy. copy ≡ self.now) }
+    {
+        match self {
+            Contents::One(value) => Ok(Contents::One(*value)),
+            Contents::Many(numbers) => Ok(Contents::Many(numbers.copy(alloc)?)),
+        }
+    }
+
+    /// What a read of it gets.
+    pub(crate) fn got(&self, alloc: Global) -> Result<Got, AllocError>
+        ensures { IfOk result (λ got. got ≡ got_of self.now) }
+    {
+        match self {
+            Contents::One(value) => Ok(Got::One(*value)),
+            Contents::Many(numbers) => Ok(Got::Many(numbers.copy(alloc)?)),
+        }
+    }
+}
+
+impl Got {
+    pub(crate) fn copy(&self, alloc: Global) -> Result<Got, AllocError>
+        ensures { IfOk result (λ copy. copy ≡ self.now) }
+    {
+        match self {
+            Got::Nothing => Ok(Got::Nothing),
+            Got::One(value) => Ok(Got::One(*value)),
+            Got::Many(numbers) => Ok(Got::Many(numbers.copy(alloc)?)),
+        }
+    }
+}
+
+impl Reply {
+    pub(crate) fn copy(&self, alloc: Global) -> Result<Reply, AllocError>
+        ensures { IfOk result (λ copy. copy ≡ self.now) }
+    {
+        match self {
+            Reply::Ok(got) => Ok(Reply::Ok(got.copy(alloc)?)),
+            Reply::Fail => Ok(Reply::Fail),
+            Reply::Info => Ok(Reply::Info),
+        }
+    }
+}
+
+impl Mark {
+    /// The version; at first 0.
+    pub(crate) fn version(self) -> u64
+        ensures { result ≡ version self }
+    {
+        match self {
+            Mark::Version(version) => version,
+            _ => 0,
+        }
+    }
+
+    /// Whether it is the lower of two stamps; no stamp is below each.
+    pub(crate) fn is_lower(self, other: Mark) -> bool
+        ensures { result ≡ is_lower self other }
+    {
+        match (self, other) {
+            (Mark::First, Mark::Stamp(_, _)) => true,
+            (Mark::Stamp(at, place), Mark::Stamp(other_at, other_place)) => {
+                at < other_at || at == other_at && place < other_place
+            }
+            _ => false,
+        }
+    }
+}
+
+impl NodeCopy {
+    /// A node's copy at first.
+    pub(crate) fn first(alloc: Global, settings: &Settings) -> NodeCopy
+        ensures { result ≡ first_copy settings.now }
+    {
+        NodeCopy {
+            mark: Mark::First,
+            contents: Contents::first(alloc, settings),
+        }
+    }
+
+    pub(crate) fn copy(&self, alloc: Global) -> Result<NodeCopy, AllocError>
+        ensures { IfOk result (λ copy. copy ≡ self.now) }
+    {
+        Ok(NodeCopy {
+            mark: self.mark,
+            contents: self.contents.copy(alloc)?,
+        })
+    }
+}
+
+/// Equal copies.
+pub(crate) fn copies_of(alloc: Global, copies: &[NodeCopy]) -> Result<Vec<NodeCopy>, AllocError>
+    ensures { IfOk result (λ all. all.items ≡ copies.now) }
+{
+    let mut all = Vec::new(alloc);
+    for copy in copies {
+        all.push(copy.copy(alloc)?)?;
+    }
+    Ok(all)
+}
+
+/// So many copies as they are at first.
+pub(crate) fn first_copies(
+    alloc: Global,
+    settings: &Settings,
+    count: usize,
+) -> Result<Vec<NodeCopy>, AllocError>
+    ensures { IfOk result (λ all. all.items ≡ replicate count (first_copy settings.now)) }
+{
+    let mut all = Vec::new(alloc);
+    for _place in 0..count {
+        all.push(NodeCopy::first(alloc, settings))?;
+    }
+    Ok(all)
+}

@@ -1,0 +1,119 @@
+//! What a request does to the contents of a copy. `specs/Effects.antt` has the rule.
+
+ghost use Rattle.std.specs.Prelude.{◌≡◌, Some, None, ℤ, List, IfOk, option_map, take, drop, ◌++◌};
+ghost use Rattle.jh_simnode.specs.Effects.{effect, wrote, put_in, after_cas, after_add, after_generate};
+ghost use Rattle.jh_ops.specs.declared.call.Request.TheVariants.{Read, Write, Cas, Add, Generate};
+
+use crate::copies::{Contents, Got, Numbers};
+use jh_ops::Request;
+use std::alloc::{AllocError, Global};
+
+/// What a request got, and the contents after it.
+#[derive(Drop)]
+pub(crate) struct Change {
+    pub(crate) got: Got,
+    pub(crate) after: Contents,
+}
+
+/// The number at its place among ascending numbers, once.
+fn put_in(alloc: Global, numbers: &Numbers, value: i64) -> Result<Numbers, AllocError>
+    ensures { IfOk result (λ all. all ≡ put_in value numbers.now) }
+{
+    let old = numbers.as_slice();
+    let mut items = Vec::new(alloc);
+    for number in old {
+        if value < *number {
+            let place = items.len();
+            items.push(value)?;
+            items.extend_from_slice(&old[place..])?;
+            return Ok(Numbers { items });
+        }
+        if value == *number {
+            let place = items.len();
+            items.extend_from_slice(&old[place..])?;
+            return Ok(Numbers { items });
+        }
+        items.push(*number)?;
+    }
+    items.push(value)?;
+    Ok(Numbers { items })
+}
+
+/// A change that got nothing.
+fn wrote(after: Contents) -> Option<Change>
+    ensures { result ≡ wrote after }
+{
+    Some(Change {
+        got: Got::Nothing,
+        after,
+    })
+}
+
+/// What a compare-and-set makes of a register.
+fn cas(from: i64, to: i64, value: Option<i64>) -> Option<Change>
+    ensures { result ≡ after_cas from to value }
+{
+    match value {
+        Some(current) => {
+            if current == from {
+                wrote(Contents::One(Some(to)))
+            } else {
+                None
+            }
+        }
+        None => None,
+    }
+}
+
+/// What an addition makes of a counter.
+fn add(amount: i64, value: Option<i64>) -> Option<Change>
+    ensures { result ≡ after_add amount value }
+{
+    match value {
+        Some(current) => match current.checked_add(amount) {
+            Some(sum) => wrote(Contents::One(Some(sum))),
+            None => None,
+        },
+        None => None,
+    }
+}
+
+/// What the next number makes of the numbers that are left.
+fn generate(value: Option<i64>) -> Option<Change>
+    ensures { result ≡ after_generate value }
+{
+    match value {
+        Some(current) => match current.checked_add(1) {
+            Some(next) => Some(Change {
+                got: Got::One(Some(current)),
+                after: Contents::One(Some(next)),
+            }),
+            None => None,
+        },
+        None => None,
+    }
+}
+
+/// What a request makes of contents, where it doesn't fail.
+pub(crate) fn effect(
+    alloc: Global,
+    request: Request,
+    contents: &Contents,
+) -> Result<Option<Change>, AllocError>
+    ensures { IfOk result (λ told. told ≡ effect request contents.now) }
+{
+    match (request, contents) {
+        (Request::Read, _) => Ok(Some(Change {
+            got: contents.got(alloc)?,
+            after: contents.copy(alloc)?,
+        })),
+        (Request::Write(value), _) => Ok(wrote(Contents::One(Some(value)))),
+        (Request::Cas(from, to), Contents::One(value)) => Ok(cas(from, to, *value)),
+        (Request::Add(amount), Contents::One(value)) => Ok(add(amount, *value)),
+        (Request::Add(amount), Contents::Many(numbers)) => {
+            Ok(wrote(Contents::Many(put_in(alloc, numbers, amount)?)))
+        }
+        (Request::Generate, Contents::One(value)) => Ok(generate(*value)),
+        _ => Ok(None),
+    }
+}

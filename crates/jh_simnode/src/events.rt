@@ -1,0 +1,69 @@
+//! What happens in a world, and why a world refuses it. `specs/Events.antt` says which events are due.
+
+ghost use Rattle.std.specs.Prelude.{◌≡◌, ◌↔◌, length, IsTrue};
+ghost use Rattle.jh_nemesis.specs.Steps.{FitsNodes};
+
+use crate::copies::Reply;
+use jh_env::{Env, Node};
+use jh_nemesis::{Step, StepAnswer};
+use jh_ops::Request;
+use std::alloc::AllocError;
+use thiserror::Error;
+
+/// The most events of a world.
+pub const MOST_EVENTS: usize = 65_536;
+
+/// What happened in a world.
+#[derive(Debug, Drop)]
+pub enum Event {
+    /// A client's process asked a node for something, with a draw that decided about losses.
+    Call {
+        process: u64,
+        node: Node,
+        request: Request,
+        draw: u64,
+        reply: Reply,
+    },
+    /// The nemesis took a step, or refused it.
+    Step {
+        step: Step,
+        answer: StepAnswer,
+    },
+    /// The nodes told each other what they have.
+    Tick,
+}
+
+/// Why a world refuses an event.
+#[derive(Clone, Copy, Debug, PartialEq, Eq, Error)]
+pub enum WorldError {
+    #[error("unknown node")]
+    UnknownNode,
+    #[error("too many events")]
+    TooManyEvents,
+    #[error("out of memory")]
+    OutOfMemory,
+}
+
+impl From<AllocError> for WorldError {
+    ghost use Rattle.std.specs.Prelude.{◌≡◌};
+    ghost use Rattle.jh_simnode.specs.declared.events.WorldError.TheVariants.{OutOfMemory};
+
+    ghost from_gives = { λ _ e. e ≡ OutOfMemory };
+
+    fn from(_error: AllocError) -> WorldError {
+        WorldError::OutOfMemory
+    }
+}
+
+/// Whether each node that the fault of a step names is in the environment.
+pub(crate) fn fits(step: &Step, env: &Env) -> bool
+    ensures { IsTrue result ↔ FitsNodes (length env.now.names) step.now }
+{
+    match step {
+        Step::Begin(_, fault) => fault.fits(env),
+        Step::Withdraw(_) => true,
+        Step::WithdrawAll => true,
+        Step::Undo => true,
+        Step::Redo => true,
+    }
+}

@@ -1,0 +1,19 @@
+//! A simulated cluster: copies of a database on the nodes of an environment, kept by one of three stores, under the faults of a
+//! nemesis. A world has a journal of all that happened, and stands where its journal leads to.
+#![tactic(auto)]
+
+mod copies;
+mod effects;
+mod events;
+mod laws;
+mod reach;
+mod requests;
+mod settings;
+mod stores;
+mod world;
+
+pub use copies::{Contents, Got, Mark, NodeCopy, Numbers, Reply};
+pub use events::{Event, MOST_EVENTS, WorldError};
+pub use laws::world_laws;
+pub use settings::{Settings, Store};
+pub use world::World;

@@ -1,0 +1,140 @@
+//! Whom a call of a node reaches. `specs/Reach.antt` has the rule.
+
+ghost use Rattle.std.specs.Prelude.{◌≡◌, ◌<◌, ◌≤◌, length, IfOk, take};
+ghost use Rattle.std.specs.List.{All};
+ghost use Rattle.jh_simnode.specs.Reach.{cells_of, runs, is_killed, is_touched, is_timely, touched, heard, places, carries, delay_of};
+ghost use Rattle.jh_simnode.specs.Stores.{dead, is_open};
+
+use arrayvec::ArrayVec;
+use jh_env::{Env, Life, Link, Node};
+use std::alloc::{AllocError, Global};
+
+/// Places of nodes, in order.
+pub(crate) type NodePlaces = ArrayVec<usize, 64>;
+
+/// Whether a node runs.
+pub(crate) fn is_up(env: &Env, node: Node) -> bool
+    ensures { result ≡ runs ((cells_of env.now).node node) }
+{
+    match env.node(node) {
+        Some(cell) => cell.process == Life::Running,
+        None => false,
+    }
+}
+
+/// Whether a node is killed.
+pub(crate) fn is_down(env: &Env, node: Node) -> bool
+    ensures { result ≡ is_killed ((cells_of env.now).node node) }
+{
+    match env.node(node) {
+        Some(cell) => cell.process == Life::Killed,
+        None => false,
+    }
+}
+
+/// Whether the link carries a call of this draw.
+fn is_carried(link: Option<Link>, draw: u64) -> bool
+    ensures { result ≡ carries draw link }
+{
+    match link {
+        Some(link) => !link.cut && link.loss as u64 <= draw % 20,
+        None => false,
+    }
+}
+
+/// Whether the link is there and uncut.
+pub(crate) fn is_open(link: Option<Link>) -> bool
+    ensures { result ≡ is_open link }
+{
+    match link {
+        Some(link) => !link.cut,
+        None => false,
+    }
+}
+
+/// How long a message takes on the link.
+fn delay_on(link: Option<Link>) -> u64
+    ensures { result ≡ delay_of link }
+{
+    match link {
+        Some(link) => link.delay,
+        None => 0,
+    }
+}
+
+/// Whether a call of a node reaches another, and its answer comes back.
+fn is_touched(env: &Env, draw: u64, node: Node, other: Node) -> bool
+    ensures { result ≡ is_touched (cells_of env.now) draw node other }
+{
+    if other.place() == node.place() {
+        return true;
+    }
+    is_up(env, other)
+        && is_carried(env.link(node, other), draw)
+        && is_carried(env.link(other, node), draw)
+}
+
+/// Whether a call of a node touches the node at a place.
+fn touches(env: &Env, draw: u64, node: Node, place: usize) -> bool
+    requires { place < length env.now.names }
+    ensures { result ≡ is_touched (cells_of env.now) draw node place }
+{
+    let _count = env.nodes().len();
+    match env.nodes().at(place as u8) {
+        Some(other) => is_touched(env, draw, node, other),
+        None => false,
+    }
+}
+
+/// The nodes that a call of a node touches.
+#[tactic(auto, using(crate::proofs::Places::filter_places_kept, crate::proofs::Places::filter_places_dropped, crate::proofs::Places::filter_below))]
+pub(crate) fn touched(env: &Env, draw: u64, node: Node) -> NodePlaces
+    ensures places { result.items ≡ touched (cells_of env.now) (length env.now.names) draw node }
+    ensures known { All (λ p. p < length env.now.names) result.items }
+{
+    let mut these = NodePlaces::new();
+    for place in 0..env.nodes().len() {
+        if touches(env, draw, node, place) {
+            these.push(place);
+        }
+    }
+    these
+}
+
+/// Whether the answer of a node that was touched comes in time.
+fn is_timely(env: &Env, node: Node, other: Node) -> bool
+    ensures { result ≡ is_timely (cells_of env.now) node other }
+{
+    if other.place() == node.place() {
+        return true;
+    }
+    delay_on(env.link(node, other)) as u128 + delay_on(env.link(other, node)) as u128 <= 1000
+}
+
+/// Whether the answer of the node at a place comes in time.
+fn comes_in_time(env: &Env, node: Node, place: usize) -> bool
+    requires { place < length env.now.names }
+    ensures { result ≡ is_timely (cells_of env.now) node place }
+{
+    let _count = env.nodes().len();
+    match env.nodes().at(place as u8) {
+        Some(other) => is_timely(env, node, other),
+        None => false,
+    }
+}
+
+/// Those of the nodes reached whose answers come in time.
+pub(crate) fn heard(env: &Env, node: Node, reached: &[usize]) -> NodePlaces
+    requires known { All (λ p. p < length env.now.names) reached.now }
+    requires few { length reached.now ≤ 64 }
+    ensures places { result.items ≡ heard (cells_of env.now) node reached.now }
+    ensures known { All (λ p. p < length env.now.names) result.items }
+{
+    let mut these = NodePlaces::new();
+    for place in reached {
+        if comes_in_time(env, node, *place) {
+            these.push(*place);
+        }
+    }
+    these
+}

@@ -1,0 +1,194 @@
+//! A world: one environment, one nemesis and one copy for each node, changed in place, with the journal of all that
+//! happened. `specs/Events.antt` recomputes where a world stands from its journal.
+
+ghost use Rattle.std.specs.Prelude.{◌≡◌, ◌<◌, ◌≤◌, [], length, IfOk, OnErr, MatchResult, replicate, ⊤};
+ghost use Rattle.jh_env.specs.Overlay.{StandsFor};
+ghost use Rattle.jh_nemesis.specs.Steps.{FitsNodes};
+ghost use Rattle.jh_simnode.specs.Events.{Adds, Refuses, IsLegal, IsNew, moment_at};
+ghost use Rattle.jh_simnode.specs.declared.events.Event.TheVariants as Event;
+
+use crate::copies::{NodeCopy, Reply, first_copies};
+use crate::events::{Event, MOST_EVENTS, WorldError, fits};
+use crate::settings::{Settings, Store};
+use crate::stores::{dead_nodes, forget, serve, take_over, tick_copies};
+use jh_env::{Env, Node};
+use jh_nemesis::{Nemesis, Step, StepAnswer};
+use jh_ops::{Request, Workload};
+use std::alloc::{AllocError, Global};
+use std::marker::Model;
+
+/// An environment under faults, the copies of a database on its nodes, and a journal of all that happened. A contract
+/// sees what the world keeps for good, its names, starting cells and settings, and the journal.
+#[derive(Debug, Drop)]
+pub struct World {
+    alloc: Global,
+    settings: Settings,
+    nemesis: Nemesis,
+    copies: Vec<NodeCopy>,
+    journal: Vec<Event>,
+}
+
+impl Model for World {
+    ghost use Rattle.jh_simnode.specs.Events.{WorldValue};
+
+    ghost Value = { WorldValue };
+
+    ghost use Rattle.jh_simnode.specs.Inside.{world_of, IsSound};
+
+    ghost view = { world_of };
+
+    ghost invariant = { IsSound };
+}
+
+impl World {
+    /// A world in which nothing has happened, over an environment in which no fault is laid. `initial` is what a register
+    /// holds at first, and matters to no other workload.
+    pub fn new(
+        alloc: Global,
+        env: Env,
+        store: Store,
+        volatile: bool,
+        workload: Workload,
+        initial: Option<i64>,
+    ) -> Result<World, AllocError>
+        requires { StandsFor env [] }
+        ensures { IfOk result (IsNew env (record { store = store; volatile = volatile; workload = workload; initial = initial })) }
+    {
+        let settings = Settings {
+            store,
+            volatile,
+            workload,
+            initial,
+        };
+        let copies = first_copies(alloc, &settings, env.nodes().len())?;
+        Ok(World {
+            alloc,
+            settings,
+            nemesis: Nemesis::new(alloc, env),
+            copies,
+            journal: Vec::new(alloc),
+        })
+    }
+
+    /// All that happened, in order, at most 65,536 events.
+    pub fn journal(&self) -> &[Event]
+        ensures events { result.now ≡ self.now.journal }
+        ensures legal { IsLegal self.now.setup self.now.journal }
+        ensures few { length self.now.journal ≤ MOST_EVENTS }
+    {
+        &self.journal
+    }
+
+    /// The faults, with their past and future: those that the journal leads to.
+    pub fn nemesis(&self) -> &Nemesis
+        ensures { result.now ≡ (moment_at self.now.setup self.now.journal).faults }
+    {
+        &self.nemesis
+    }
+
+    /// A client's call of a node. Answers the number of the event and the reply, which is the one that is due. `draw`
+    /// decides whether a message of the call is lost: on a link of loss n it is where draw mod 20 is below n.
+    ///
+    /// Takes time for the nodes, and for all copies where one of them changes.
+    ///
+    /// Errors, which change nothing: `UnknownNode`; `TooManyEvents` after 65,536 events; `OutOfMemory`.
+    pub fn call(
+        &mut self,
+        process: u64,
+        node: Node,
+        request: Request,
+        draw: u64,
+    ) -> Result<(u64, Reply), WorldError>
+        ensures { MatchResult result
+            (λ told. Adds self.old (Event.Call process node request draw told.1) told.0 self.new)
+            (λ e. (self.new ≡ self.old) × Refuses (node < length self.old.setup.names) self.old.journal e) }
+    {
+        if node.place() as usize >= self.copies.len() {
+            return Err(WorldError::UnknownNode);
+        }
+        if self.journal.len() >= MOST_EVENTS {
+            return Err(WorldError::TooManyEvents);
+        }
+        let number = self.journal.len() as u64;
+        self.journal.reserve(1)?;
+        let served = serve(
+            self.alloc,
+            &self.settings,
+            self.nemesis.env(),
+            &self.copies,
+            number,
+            node,
+            request,
+            draw,
+        )?;
+        let reply = served.reply.copy(self.alloc)?;
+        take_over(&mut self.copies, served.copies);
+        self.journal.push_reserved(Event::Call {
+            process,
+            node,
+            request,
+            draw,
+            reply: served.reply,
+        });
+        Ok((number, reply))
+    }
+
+    /// A step of the nemesis. Answers the number of the event and the answer of the nemesis; a step that it refuses is an
+    /// event too. Where the settings say so, a node that is killed by it loses its copy. A step back or forth takes
+    /// memory for its event only.
+    ///
+    /// Errors, which change nothing: `UnknownNode` where the fault of a begin names one; `TooManyEvents` after 65,536
+    /// events; `OutOfMemory`.
+    pub fn step(&mut self, step: Step) -> Result<(u64, StepAnswer), WorldError>
+        ensures { MatchResult result
+            (λ told. Adds self.old (Event.Step step told.1) told.0 self.new)
+            (λ e. (self.new ≡ self.old) × Refuses (FitsNodes (length self.old.setup.names) step) self.old.journal e) }
+    {
+        if !fits(&step, self.nemesis.env()) {
+            return Err(WorldError::UnknownNode);
+        }
+        if self.journal.len() >= MOST_EVENTS {
+            return Err(WorldError::TooManyEvents);
+        }
+        let number = self.journal.len() as u64;
+        self.journal.reserve(1)?;
+        let kept = step.copy(self.alloc)?;
+        let before = dead_nodes(self.nemesis.env());
+        let answer = self.nemesis.apply(step)?;
+        forget(
+            self.alloc,
+            &self.settings,
+            before.as_slice(),
+            self.nemesis.env(),
+            &mut self.copies,
+        );
+        self.journal
+            .push_reserved(Event::Step { step: kept, answer });
+        Ok((number, answer))
+    }
+
+    /// A moment in which the nodes of a last-writer-wins store tell each other what they have. Answers the number of the
+    /// event.
+    ///
+    /// Errors, which change nothing: `TooManyEvents` after 65,536 events; `OutOfMemory`.
+    pub fn tick(&mut self) -> Result<u64, WorldError>
+        ensures { MatchResult result
+            (λ told. Adds self.old Event.Tick told self.new)
+            (λ e. (self.new ≡ self.old) × Refuses ⊤ self.old.journal e) }
+    {
+        if self.journal.len() >= MOST_EVENTS {
+            return Err(WorldError::TooManyEvents);
+        }
+        let number = self.journal.len() as u64;
+        self.journal.reserve(1)?;
+        let copies = tick_copies(
+            self.alloc,
+            self.settings.store,
+            self.nemesis.env(),
+            &self.copies,
+        )?;
+        take_over(&mut self.copies, copies);
+        self.journal.push_reserved(Event::Tick);
+        Ok(number)
+    }
+}
