@@ -17,3 +17,6 @@ pub use events::{Event, MOST_EVENTS, WorldError};
 pub use laws::world_laws;
 pub use settings::{Settings, Store};
 pub use world::World;
+
+#[cfg(test)]
+mod tests;
