@@ -18,11 +18,13 @@ struct Run {
     output: Vec<u8>,
 }
 
-// Runs the command, and once more where memory was refused, so that the tests stand one refused allocation.
+// Runs the command, and once more where memory was refused, also to what is written into, so that the tests stand one
+// refused allocation.
 fn env_on(alloc: Global, input: &[u8]) -> Run {
     let first = env_once(alloc, input);
     match first.answer {
         Err(CliError::OutOfMemory) => env_once(alloc, input),
+        Err(CliError::Write) => env_once(alloc, input),
         _ => first,
     }
 }

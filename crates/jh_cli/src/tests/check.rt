@@ -37,11 +37,12 @@ fn check_once(alloc: Global, question: Question, mut input: &[u8]) -> Run {
     Run { answer, output }
 }
 
-// Runs the command, and once more where memory was refused.
+// Runs the command, and once more where memory was refused, also to what is written into.
 fn check_on(alloc: Global, question: Question, input: &[u8]) -> Run {
     let first = check_once(alloc, question, input);
     match first.answer {
         Err(CliError::OutOfMemory) => check_once(alloc, question, input),
+        Err(CliError::Write) => check_once(alloc, question, input),
         _ => first,
     }
 }
