@@ -2,6 +2,7 @@ pub mod Operation
 pub mod OperationText
 pub mod Parts
 pub mod OperationWritten
+pub mod Requests
 pub mod HistoryText
 pub mod Pairing
 pub mod Stage

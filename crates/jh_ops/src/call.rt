@@ -1,4 +1,7 @@
-//! What clients and the nemesis are asked to do.
+//! What clients and the nemesis are asked to do. `specs/Requests.antt` says which workload has which requests.
+
+ghost use Rattle.std.specs.Prelude.{◌≡◌};
+ghost use Rattle.jh_ops.specs.Requests.{is_request_of};
 
 /// What a client asks of the database: the functions `:read`, `:write`, `:cas`, `:add` and `:generate` of Jepsen's
 /// workloads, each with its argument.
@@ -36,4 +39,20 @@ pub enum Workload {
     Set,
     /// Ids, each made once.
     Ids,
+}
+
+impl Request {
+    /// Whether it is a request of the workload: a register is read, written, and compared and set; counters and sets
+    /// are added to and read; ids are generated.
+    pub fn is_of(self, workload: Workload) -> bool
+        ensures { result ≡ is_request_of self workload }
+    {
+        match (self, workload) {
+            (Request::Read, Workload::Register | Workload::Counter | Workload::Set) => true,
+            (Request::Write(_) | Request::Cas(_, _), Workload::Register) => true,
+            (Request::Add(_), Workload::Counter | Workload::Set) => true,
+            (Request::Generate, Workload::Ids) => true,
+            _ => false,
+        }
+    }
 }

@@ -4,8 +4,8 @@
 //! Each test passes, too, where one allocation is refused: the call that answers so is made again.
 
 use crate::{
-    HistoryError, Op, OpError, Pair, PairError, WordsError, history_of, of_words, op_of,
-    operations_read_back, pair, recorded_once, to_words, value_of,
+    HistoryError, Op, OpError, Pair, PairError, Request, WordsError, Workload, history_of,
+    of_words, op_of, operations_read_back, pair, recorded_once, to_words, value_of,
 };
 use jh_edn::{EdnError, Value, read_all, write};
 use std::alloc::Global;
@@ -456,4 +456,27 @@ fn says_why_there_are_no_words(rt: HostRuntime) -> Result<(), Fail> {
 fn laws_run(_rt: HostRuntime) {
     operations_read_back();
     recorded_once();
+}
+
+// The requests of each workload, as docs/generators.md has them, in the order read, write, compare and set, add,
+// generate.
+#[test]
+fn each_workload_has_its_requests(rt: HostRuntime) -> Result<(), Fail> {
+    let requests = [
+        Request::Read,
+        Request::Write(i64::MIN),
+        Request::Cas(0, -1),
+        Request::Add(i64::MAX),
+        Request::Generate,
+    ];
+    let cases = [
+        (Workload::Register, [true, true, true, false, false]),
+        (Workload::Counter, [true, false, false, true, false]),
+        (Workload::Set, [true, false, false, true, false]),
+        (Workload::Ids, [false, false, false, false, true]),
+    ];
+    for (workload, expected) in cases {
+        assert_eq!(rt; requests.map(|request| request.is_of(workload)), expected);
+    }
+    Ok(())
 }
