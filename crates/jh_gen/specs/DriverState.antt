@@ -102,6 +102,7 @@ RefusesDriver clients g OutOfMemory = CanDrive clients g
 pub record IsFresh (d : DriverState) (clients : ℕ) : Type 0 where
   pub clients_is : d.clients ≡ clients
   pub idle : d.busy ≡ replicate (clients + 1) false
+  pub long : length d.processes ≡ clients + 1
   pub numbered : (n : ℕ) → n < clients → slice_index d.processes (n + 1) ≡ n
 
 -- Asking.

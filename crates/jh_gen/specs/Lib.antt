@@ -8,6 +8,7 @@ pub mod Tally
 pub mod Scope
 pub mod Offers
 pub mod Fits
+pub mod Suits
 pub mod State
 pub mod StateCode
 pub mod NodeView

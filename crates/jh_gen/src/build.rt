@@ -16,8 +16,7 @@ use std::alloc::{AllocError, Global};
 
 /// Whether each reserve's numbers sum to at most the number of client threads.
 #[cycle(fits)]
-pub(crate) fn fits(source: &Gen, clients: u64) -> bool
-    requires { clients ≤ 16 }
+pub(crate) fn fits(source: &Gen, clients: u32) -> bool
     ensures { result ≡ rule.fits clients (generator_of source.now) }
 {
     match source {
@@ -40,8 +39,7 @@ pub(crate) fn fits(source: &Gen, clients: u64) -> bool
 
 impl Gens {
     #[cycle(fits)]
-    fn all_fit(&self, clients: u64) -> bool
-        requires { clients ≤ 16 }
+    fn all_fit(&self, clients: u32) -> bool
         ensures { result ≡ rule.all_fit clients (row_of self.now) }
     {
         for member in &self.items {
@@ -55,8 +53,7 @@ impl Gens {
 
 impl Shares {
     #[cycle(fits)]
-    fn all_fit(&self, clients: u64) -> bool
-        requires { clients ≤ 16 }
+    fn all_fit(&self, clients: u32) -> bool
         ensures { result ≡ rule.shares_fit clients (shared_of self.now) }
     {
         for (_, member) in &self.items {
@@ -67,14 +64,13 @@ impl Shares {
         true
     }
 
-    fn is_at_most(&self, clients: u64) -> bool
-        requires { clients ≤ 16 }
+    fn is_at_most(&self, clients: u32) -> bool
         ensures { result ≡ nat_le (shares_sum (shared_of self.now)) clients }
     {
         let mut sum = 0;
         for (count, _) in &self.items {
-            sum += *count as u64;
-            if sum > clients {
+            sum += u64::from(*count);
+            if sum > u64::from(clients) {
                 return false;
             }
         }

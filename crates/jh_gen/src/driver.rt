@@ -108,7 +108,7 @@ impl Driver {
         if clients < 1 || clients > MOST_CLIENTS {
             return Err(DriverError::BadClients);
         }
-        if !fits(&source, u64::from(clients)) {
+        if !fits(&source, clients) {
             return Err(DriverError::BadReserve);
         }
         let clients = clients as usize;

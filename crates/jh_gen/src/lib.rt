@@ -7,6 +7,7 @@ mod copy;
 mod driver;
 mod generator;
 mod node;
+mod suits;
 mod text;
 
 pub use answers::{DriverError, Ended, GenAnswer, GenError, Thread};

@@ -13,6 +13,7 @@ use std::alloc::{AllocError, Global};
 use std::test::Fail;
 
 mod plain;
+mod suits;
 
 // The value of a text, once more where memory was refused.
 fn value(alloc: Global, text: &str) -> Result<Value, Fail> {
@@ -326,21 +327,57 @@ fn copy(alloc: Global, source: &Gen) -> Result<Gen, AllocError> {
     }
 }
 
-// The number from which a generator rises, of one that does.
-fn first_of(generator: &Gen) -> Option<i64> {
-    match generator {
-        Gen::Rising(first) => Some(*first),
-        _ => None,
+// A generator as its derived `Debug` prints it, which shows all that it holds; once more where memory was refused.
+fn printed(alloc: Global, source: &Gen) -> Result<String, Fail> {
+    match format!(in alloc; "{source:?}") {
+        Ok(text) => Ok(text),
+        Err(_) => Ok(format!(in alloc; "{source:?}")?),
     }
 }
 
 #[test]
-fn copies_a_generator(rt: HostRuntime) -> Result<(), Fail> {
-    let source = read(rt.alloc(), "[:reserve 1 [:mix [:once :read]] [:rising 7]]")??;
-    let Gen::Reserve(shares, last) = copy(rt.alloc(), &source)? else {
-        panic!(rt; "no reserve");
-    };
-    assert_eq!(rt; shares.as_slice().len(), 1);
-    assert_eq!(rt; first_of(last.as_gen()), Some(7));
+fn copies_each_kind(rt: HostRuntime) -> Result<(), Fail> {
+    let cases = [
+        ("[:nil]", "Nil"),
+        ("[:once [:cas 1 -2]]", "Once(Client(Cas(1, -2)))"),
+        ("[:rising -7]", "Rising(-7)"),
+        ("[:forever [:step 4294967295]]", "Forever(Step(4294967295))"),
+        (
+            "[:seq [:nil] [:once :read] [:seq]]",
+            "Seq(Gens { items: [Nil, Once(Client(Read)), Seq(Gens { items: [] })] })",
+        ),
+        (
+            "[:limit 3 [:forever :generate]]",
+            "Limit(3, Inner { boxed: Forever(Client(Generate)) })",
+        ),
+        (
+            "[:mix [:once [:add 5]] [:rising 7]]",
+            "Mix(Gens { items: [Once(Client(Add(5))), Rising(7)] })",
+        ),
+        (
+            "[:phases [:once [:write 0]] [:mix]]",
+            "Phases(Gens { items: [Once(Client(Write(0))), Mix(Gens { items: [] })] })",
+        ),
+        (
+            "[:reserve 1 [:rising 2] 0 [:nil] [:once :read]]",
+            "Reserve(Shares { items: [(1, Rising(2)), (0, Nil)] }, Inner { boxed: Once(Client(Read)) })",
+        ),
+        (
+            "[:each-thread [:limit 0 [:nil]]]",
+            "EachThread(Inner { boxed: Limit(0, Inner { boxed: Nil }) })",
+        ),
+        (
+            "[:clients [:each-thread [:nil]]]",
+            "Clients(Inner { boxed: EachThread(Inner { boxed: Nil }) })",
+        ),
+        (
+            "[:nemesis [:phases [:once [:step 0]]]]",
+            "NemesisOnly(Inner { boxed: Phases(Gens { items: [Once(Step(0))] }) })",
+        ),
+    ];
+    for (text, expected) in cases {
+        let copied = copy(rt.alloc(), &read(rt.alloc(), text)??)?;
+        assert_eq!(rt; printed(rt.alloc(), &copied)?.as_str(), expected);
+    }
     Ok(())
 }

@@ -4,3 +4,10 @@ pub mod Tidy
 pub mod Journals
 pub mod Standing
 pub mod Redone
+pub mod Counting
+pub mod Turning
+pub mod Moving
+pub mod Once
+pub mod Asking
+pub mod Going
+pub mod Writing

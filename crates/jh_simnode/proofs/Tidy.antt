@@ -13,7 +13,8 @@ use Rattle.jh_simnode.specs.declared.settings.Settings.{Settings}
 use Rattle.jh_simnode.specs.declared.settings.Store.{Store}
 use Rattle.jh_simnode.specs.declared.settings.Store.TheVariants.{Quorum, Lww, Local}
 use Rattle.jh_ops.specs.declared.call.Request.{Request}
-use Rattle.jh_simnode.specs.Requests.{is_of, is_read}
+use Rattle.jh_ops.specs.Requests.{is_request_of}
+use Rattle.jh_simnode.specs.Requests.{is_read}
 use Rattle.jh_simnode.specs.Copies.{blank, copy_at, version, first_copy, is_lower}
 use Rattle.jh_simnode.specs.Effects.{effect}
 use Rattle.jh_simnode.specs.declared.effects.Change.{Change}
@@ -93,7 +94,7 @@ at_tidy s env c n all node r draw (Some cell) t = in_tidy cell.process s env c n
 pub serve_tidy : (s : Settings) (env : Cells) (c n : ℕ) (all : List NodeCopy) (node : ℕ) (r : Request) (draw : ℕ) → AreTidy c n all → AreTidy c (n + 1) (serve s env all n node r draw).copies
 unfolding serve
 serve_tidy s env c n all node r draw t =
-    either (λ (s : Served). AreTidy c (n + 1) s.copies) (is_of r s.workload) _ _ (at_tidy s env c n all node r draw (env.node node) t) (later_tidy c n all t)
+    either (λ (s : Served). AreTidy c (n + 1) s.copies) (is_request_of r s.workload) _ _ (at_tidy s env c n all node r draw (env.node node) t) (later_tidy c n all t)
 
 tell_tidy : (c n : ℕ) (env : Cells) (from : ℕ) (all : List NodeCopy) (to : ℕ) → AreTidy c n all → AreTidy c n (tell env from all to)
 tell_tidy c n env from all to t = either (AreTidy c n) _ (set all to (copy_at all from)) all (set_tidy c n all to (copy_at all from) t (t.low from)) t

@@ -1,8 +1,10 @@
--- What a contract sees of a world's fields, and what holds of them.
+-- What a contract sees of the fields of a world and of a plan, and what holds of them.
 use Rattle.std.specs.Prelude.{◌≡◌}
 use Rattle.jh_nemesis.specs.State.{State}
 use Rattle.jh_simnode.specs.declared.settings.Settings.{Settings}
 use Rattle.jh_simnode.specs.Events.{Setup, WorldValue, IsWorldOf}
+use Rattle.jh_simnode.specs.Plans.{PlanValue, IsKept}
+use Rattle.jh_simnode.specs.declared.plan.Plan.TheInside as plan
 use Rattle.jh_simnode.specs.declared.world.World.TheInside.{Inside}
 
 abbrev pub setup_of : State → Settings → Setup
@@ -13,3 +15,19 @@ world_of a = record { setup = setup_of a.nemesis a.settings; journal = a.journal
 
 abbrev pub IsSound : Inside → Type 0
 IsSound a = IsWorldOf (setup_of a.nemesis a.settings) a.nemesis a.copies.items a.journal.items
+
+abbrev pub plan_of : plan.Inside → PlanValue
+plan_of a = record {
+  env = a.environment;
+  settings = a.settings;
+  clients = a.clients;
+  ops = a.ops;
+  generator = a.generator;
+  schedule = a.schedule;
+  tick_every = a.tick_every;
+  rows = a.rows;
+  seed = a.seed;
+}
+
+abbrev pub IsKeptInside : plan.Inside → Type 0
+IsKeptInside a = IsKept (plan_of a)

@@ -4,5 +4,10 @@ pub mod Effects
 pub mod Reach
 pub mod Stores
 pub mod Events
+pub mod Plans
+pub mod Counts
+pub mod Histories
+pub mod Runs
+pub mod Running
 pub mod Inside
 pub mod Laws

@@ -17,7 +17,8 @@ use Rattle.jh_simnode.specs.declared.copies.NodeCopy.{NodeCopy}
 use Rattle.jh_simnode.specs.declared.copies.Reply.{Reply}
 use Rattle.jh_simnode.specs.declared.copies.Reply.TheVariants.{Ok, Fail, Info}
 use Rattle.jh_simnode.specs.declared.stores.Outcome.{Outcome}
-use Rattle.jh_simnode.specs.Requests.{is_of, only_asks, is_read}
+use Rattle.jh_ops.specs.Requests.{is_request_of}
+use Rattle.jh_simnode.specs.Requests.{only_asks, is_read}
 use Rattle.jh_simnode.specs.Copies.{version, is_lower, copy_at, got_of, first_copy}
 use Rattle.jh_simnode.specs.Effects.{effect}
 use Rattle.jh_simnode.specs.declared.effects.Change.{Change}
@@ -128,7 +129,7 @@ serve_at s env copies number node request draw (Some n) = serve_in n.process s e
 -- the reply of a node to a request, at this event number with this draw, and the copies after it
 unfoldable pub serve : Settings → Cells → List NodeCopy → ℕ → ℕ → Request → ℕ → Served
 serve s env copies number node request draw =
-    if is_of request s.workload then serve_at s env copies number node request draw (env.node node) else served copies Fail
+    if is_request_of request s.workload then serve_at s env copies number node request draw (env.node node) else served copies Fail
 
 abbrev pub is_open : Option Link → Bool
 is_open None = false
@@ -143,7 +144,7 @@ tell env from copies to =
 abbrev pub tell_all : Cells → ℕ → List NodeCopy → ℕ → List NodeCopy
 tell_all env count copies from = fold (tell env from) copies (places count)
 
--- each node in turn only_asks all, in order
+-- each node in turn tells all, in order
 abbrev pub spread : Cells → ℕ → List NodeCopy → List NodeCopy
 spread env count copies = fold (tell_all env count) copies (places count)
 

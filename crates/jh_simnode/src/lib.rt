@@ -5,16 +5,24 @@
 mod copies;
 mod effects;
 mod events;
+mod history;
 mod laws;
+mod plan;
 mod reach;
 mod requests;
+mod schedule;
+mod serial;
 mod settings;
 mod stores;
+mod turns;
 mod world;
 
 pub use copies::{Contents, Got, Mark, NodeCopy, Numbers, Reply};
 pub use events::{Event, MOST_EVENTS, WorldError};
 pub use laws::world_laws;
+pub use plan::{MOST_ROWS, Plan, PlanError};
+pub use schedule::{Entry, MOST_ENTRIES, Schedule, TooLong};
+pub use serial::{RunError, one_run, run_serial};
 pub use settings::{Settings, Store};
 pub use world::World;
 

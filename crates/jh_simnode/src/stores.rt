@@ -8,7 +8,7 @@ ghost use Rattle.jh_simnode.specs.Stores.{Gives, served, serve, serve_local, ser
 use crate::copies::{Mark, NodeCopy, Reply, copies_of};
 use crate::effects::effect;
 use crate::reach::{heard, is_down, is_open, is_up, touched};
-use crate::requests::{is_of, is_read, only_asks};
+use crate::requests::{is_read, only_asks};
 use crate::settings::{Settings, Store};
 use arrayvec::ArrayVec;
 use jh_env::{Env, Life, Node};
@@ -406,7 +406,7 @@ pub(crate) fn serve(
     requires few { number < 65536 }
     ensures { IfOk result (λ told. Gives copies.now told (serve settings.now (cells_of env.now) copies.now number node request draw)) }
 {
-    if !is_of(request, settings.workload) {
+    if !request.is_of(settings.workload) {
         return Ok(unchanged(Reply::Fail));
     }
     let Some(cell) = env.node(node) else {

@@ -1,0 +1,5 @@
+use Rattle.jh_simnode.proofs.Once.{only_run}
+use Rattle.jh_simnode.proofs.serial.one_run.Goals as goal
+
+pub returns : goal.returns
+returns c = only_run

@@ -1,0 +1,14 @@
+use Rattle.std.proofs.Common.{◌≡◌, ◌∙◌, All, ap, sym, subst, rules}
+use Rattle.jh_ops.specs.OperationWritten.{IsWritable}
+use Rattle.jh_simnode.specs.Histories.{history_of}
+use Rattle.jh_simnode.proofs.Writing.{writable_from}
+use Rattle.jh_simnode.proofs.serial.run_serial.Goals as goal
+
+pub returns-clause-judged : goal.returns-clause-judged
+returns-clause-judged c =
+    let o = c.in_ok-run_turns.ensures.over in
+    (c.in_ok-run_turns.ensures.setup, record { turns = o.turns; reached = o.reached; ended = o.ended; over = o.rests; told = c.in_ok-history.ensures ∙ ap history_of c.journal.ensures.events })
+
+pub returns-clause-writable : goal.returns-clause-writable
+returns-clause-writable c =
+    subst (All (λ op. IsWritable op.process)) (sym (c.in_ok-history.ensures ∙ ap history_of c.journal.ensures.events)) (writable_from c.run_turns.new.world.journal 0 0 0 c.in_ok-run_turns.ensures.small)

@@ -1,0 +1,260 @@
+//! What a run does. `specs/Plans.antt` says which plans can be run; a new part is a field here and of `PlanValue` there.
+
+ghost use Rattle.std.specs.Prelude.{◌≡◌, ◌↔◌, ◌≤◌, ◌<◌, [], All, IsTrue, MatchResult, length};
+ghost use Rattle.jh_env.specs.Overlay.{StandsFor};
+ghost use Rattle.jh_nemesis.specs.Steps.{FitsNodes};
+ghost use Rattle.jh_gen.specs.View.{generator_of};
+ghost use Rattle.jh_simnode.specs.Plans as rule;
+ghost use Rattle.jh_simnode.specs.Plans.{IsFit, RefusesPlan};
+ghost use Rattle.jh_simnode.specs.declared.plan.PlanError.TheVariants.{OutOfMemory};
+
+use crate::events::fits;
+use crate::schedule::{Entry, Schedule};
+use crate::settings::{Settings, Store};
+use jh_env::Env;
+use jh_gen::{Gen, Inner, MOST_CLIENTS};
+use jh_ops::Workload;
+use std::alloc::{AllocError, Global};
+use std::marker::Model;
+use thiserror::Error;
+
+/// The most rows of the log of a run on threads.
+pub const MOST_ROWS: u32 = 65_536;
+
+/// What a run does: on which environment and store, by how many clients, which calls, which steps of the nemesis. A
+/// contract sees its parts, which are those that it was made of.
+#[derive(Debug, Drop)]
+pub struct Plan {
+    environment: Env,
+    settings: Settings,
+    clients: u32,
+    ops: u32,
+    generator: Inner,
+    schedule: Schedule,
+    tick_every: u32,
+    rows: u32,
+    seed: u64,
+}
+
+impl Model for Plan {
+    ghost use Rattle.jh_simnode.specs.Plans.{PlanValue};
+
+    ghost Value = { PlanValue };
+
+    ghost use Rattle.std.specs.Coded.{codes};
+    ghost use Rattle.jh_gen.specs.Code.{generator_coded};
+
+    ghost coded = { Prim.hlevel (codes, generator_coded) };
+
+    ghost use Rattle.jh_simnode.specs.Inside.{plan_of, IsKeptInside};
+
+    ghost view = { plan_of };
+
+    ghost invariant = { IsKeptInside };
+}
+
+/// Why a plan is refused.
+#[derive(Clone, Copy, Debug, PartialEq, Eq, Error)]
+pub enum PlanError {
+    /// The number of clients is not from 1 to 16.
+    #[error("bad clients")]
+    BadClients,
+    /// The number of calls is not from 1 to 10,000, or to 1,000 for a set.
+    #[error("bad ops")]
+    BadOps,
+    /// The number of rows is not from 1 to 65,536.
+    #[error("bad rows")]
+    BadRows,
+    /// The generator does not suit the workload and the number of clients.
+    #[error("bad generator")]
+    BadGenerator,
+    /// A fault of the schedule names a node that is not in the environment.
+    #[error("bad step")]
+    BadStep,
+    #[error("out of memory")]
+    OutOfMemory,
+}
+
+impl From<AllocError> for PlanError {
+    ghost use Rattle.std.specs.Prelude.{◌≡◌};
+    ghost use Rattle.jh_simnode.specs.declared.plan.PlanError.TheVariants.{OutOfMemory};
+
+    ghost from_gives = { λ _ e. e ≡ OutOfMemory };
+
+    fn from(_error: AllocError) -> PlanError {
+        PlanError::OutOfMemory
+    }
+}
+
+// How many calls a run of the workload may make.
+fn most_ops(workload: Workload) -> u32
+    ensures { result ≡ rule.most_ops workload }
+{
+    match workload {
+        Workload::Set => 1_000,
+        Workload::Register | Workload::Counter | Workload::Ids => 10_000,
+    }
+}
+
+fn all_fit(schedule: &[Entry], environment: &Env) -> bool
+    ensures { IsTrue result ↔ All (λ entry. FitsNodes (length environment.now.names) entry.step) schedule.now }
+{
+    for entry in schedule {
+        if !fits(&entry.step, environment) {
+            return false;
+        }
+    }
+    true
+}
+
+impl Plan {
+    /// The plan of these parts. The environment has no fault laid on it. `initial` is what a register holds at first and
+    /// matters to no other workload; each client thread makes a tick after every `tick_every` of its calls, and none
+    /// where that is 0; `rows` is the size of the log of a run on threads. Memory is taken for the place of the generator.
+    ///
+    /// Errors, in this order: `BadClients` where there are not 1 to 16; `BadOps` where `ops` is not from 1 to 10,000, or
+    /// to 1,000 for a set; `BadRows` where there are not 1 to 65,536; `BadGenerator` where the generator does not suit
+    /// the workload and the number of clients (`Gen::suits`); `BadStep` where a fault of the schedule names a node that
+    /// is not in the environment; `OutOfMemory`.
+    pub fn new(
+        alloc: Global,
+        environment: Env,
+        store: Store,
+        volatile: bool,
+        workload: Workload,
+        initial: Option<i64>,
+        clients: u32,
+        ops: u32,
+        generator: Gen,
+        schedule: Schedule,
+        tick_every: u32,
+        rows: u32,
+        seed: u64,
+    ) -> Result<Plan, PlanError>
+        requires { StandsFor environment [] }
+        ensures { MatchResult result
+            (λ plan. (plan ≡ rule.plan environment store volatile workload initial clients ops (generator_of generator) schedule tick_every rows seed)
+                × IsFit plan)
+            (RefusesPlan (rule.plan environment store volatile workload initial clients ops (generator_of generator) schedule tick_every rows seed)) }
+    {
+        if clients < 1 || clients > MOST_CLIENTS {
+            return Err(PlanError::BadClients);
+        }
+        if ops < 1 || ops > most_ops(workload) {
+            return Err(PlanError::BadOps);
+        }
+        if rows < 1 || rows > MOST_ROWS {
+            return Err(PlanError::BadRows);
+        }
+        if !generator.suits(workload, clients) {
+            return Err(PlanError::BadGenerator);
+        }
+        if !all_fit(schedule.entries(), &environment) {
+            return Err(PlanError::BadStep);
+        }
+        let generator = Inner::of(alloc, generator)?;
+        let settings = Settings {
+            store,
+            volatile,
+            workload,
+            initial,
+        };
+        Ok(Plan {
+            environment,
+            settings,
+            clients,
+            ops,
+            generator,
+            schedule,
+            tick_every,
+            rows,
+            seed,
+        })
+    }
+
+    /// The environment that the run starts from.
+    pub fn environment(&self) -> &Env
+        ensures environment { result.now ≡ self.now.env }
+        ensures calm { StandsFor self.now.env [] }
+    {
+        &self.environment
+    }
+
+    pub fn store(&self) -> Store
+        ensures { result ≡ self.now.settings.store }
+    {
+        self.settings.store
+    }
+
+    /// Whether a node that is killed loses its copy.
+    pub fn volatile(&self) -> bool
+        ensures { result ≡ self.now.settings.volatile }
+    {
+        self.settings.volatile
+    }
+
+    pub fn workload(&self) -> Workload
+        ensures { result ≡ self.now.settings.workload }
+    {
+        self.settings.workload
+    }
+
+    /// What a register holds at first.
+    pub fn initial(&self) -> Option<i64>
+        ensures { result ≡ self.now.settings.initial }
+    {
+        self.settings.initial
+    }
+
+    /// The number of client threads, from 1 to 16.
+    pub fn clients(&self) -> u32
+        ensures clients { result ≡ self.now.clients }
+        ensures few { rule.HasClients self.now }
+    {
+        self.clients
+    }
+
+    /// How many calls the run makes at most.
+    pub fn ops(&self) -> u32
+        ensures ops { result ≡ self.now.ops }
+        ensures few { rule.HasOps self.now }
+    {
+        self.ops
+    }
+
+    pub fn generator(&self) -> &Gen
+        ensures generator { generator_of result.now ≡ self.now.generator }
+        ensures suits { rule.HasGenerator self.now }
+    {
+        self.generator.as_gen()
+    }
+
+    pub fn schedule(&self) -> &Schedule
+        ensures schedule { result.now ≡ self.now.schedule }
+        ensures steps { rule.HasSteps self.now }
+    {
+        &self.schedule
+    }
+
+    /// After how many of its calls a client thread ticks, and 0 where none does.
+    pub fn tick_every(&self) -> u32
+        ensures { result ≡ self.now.tick_every }
+    {
+        self.tick_every
+    }
+
+    /// The rows of the log of a run on threads.
+    pub fn rows(&self) -> u32
+        ensures rows { result ≡ self.now.rows }
+        ensures few { rule.HasRows self.now }
+    {
+        self.rows
+    }
+
+    /// The seed of the words by which mixtures choose and messages are lost.
+    pub fn seed(&self) -> u64
+        ensures { result ≡ self.now.seed }
+    {
+        self.seed
+    }
+}

@@ -1,0 +1,252 @@
+//! The turns of a serial run: who is asked, what comes of it, and which entries of the schedule are due. `specs/Runs.antt` has
+//! the rules, `specs/Running.antt` what holds between two turns.
+
+ghost use Rattle.std.specs.Prelude.{◌≡◌, ◌%◌, ◌<◌, ◌≤◌, List, length, IfOk, IfErr, OnOk, OnErr, false};
+ghost use Rattle.jh_simnode.specs.Runs as rule;
+ghost use Rattle.jh_simnode.specs.Runs.{Stops, Turns};
+ghost use Rattle.jh_simnode.specs.Running as running;
+ghost use Rattle.jh_simnode.specs.Running.{Asks, HasCalled, IsFirst, Keeps, MayCall, Settled, Stands};
+ghost use Rattle.jh_simnode.specs.declared.events.Event.{Event};
+
+use crate::copies::Reply;
+use crate::events::MOST_EVENTS;
+use crate::plan::Plan;
+use crate::schedule::Entry;
+use crate::serial::RunError;
+use crate::world::World;
+use jh_env::Node;
+use jh_gen::{Driver, Ended, Gen, GenAnswer, Inner, Thread};
+use jh_ops::{Call, Process, Request};
+use rand_core::utils::NextWord;
+use rand_pcg::Lcg128Xsl64;
+use std::alloc::{AllocError, Global};
+
+/// Where a run stands, beside its world.
+#[derive(Drop)]
+pub(crate) struct Run {
+    driver: Driver,
+    words: Lcg128Xsl64,
+    /// How many calls of each client thread were answered, and of all.
+    calls: Vec<u32>,
+    answered: u32,
+    /// How many entries of the schedule were applied.
+    applied: usize,
+    asks: u64,
+    /// How many of the last asks got nothing.
+    pub(crate) waits: u32,
+    pub(crate) has_ended: bool,
+}
+
+/// What a thread is told to do.
+#[derive(Clone, Copy)]
+enum Asked {
+    /// To make a request, as an operation of this process.
+    Calls(u64, Request),
+    Waits,
+    Ends,
+}
+
+fn ended_of(reply: &Reply) -> Ended
+    ensures { result ≡ running.ended_of reply.now }
+{
+    match reply {
+        Reply::Ok(_) => Ended::Ok,
+        Reply::Fail => Ended::Fail,
+        Reply::Info => Ended::Info,
+    }
+}
+
+// The number of a client's process.
+fn number_of(process: Process) -> u64
+    ensures { result ≡ running.number_of process }
+{
+    match process {
+        Process::Client(number) => number,
+        Process::Nemesis => 0,
+    }
+}
+
+/// Whether a thread that has made so many calls ticks now.
+fn ticks_at(plan: &Plan, calls: u32) -> bool
+    ensures { result ≡ rule.ticks_at plan.now calls }
+{
+    plan.tick_every() != 0 && calls % plan.tick_every() == 0
+}
+
+/// The node that a thread calls.
+fn node_of(plan: &Plan, thread: u32) -> Node
+    ensures node { result ≡ thread % length plan.now.env.names }
+    ensures within { result < length plan.now.env.names }
+{
+    let nodes = plan.environment().nodes();
+    let place = thread as usize % nodes.len();
+    match nodes.at(place as u8) {
+        Some(node) => node,
+        None => unreachable!(),
+    }
+}
+
+fn driver_of(alloc: Global, plan: &Plan) -> Result<Driver, RunError>
+    ensures driver { IfOk result (running.IsFirstDriver plan.now) }
+    ensures stopped { IfErr result (Stops plan.now) }
+{
+    let limited = Gen::Limit(plan.ops(), Inner::of(alloc, plan.generator().copy(alloc)?)?);
+    let source = Gen::Clients(Inner::of(alloc, limited)?);
+    match Driver::new(alloc, source, plan.clients()) {
+        Ok(driver) => Ok(driver),
+        Err(_) => Err(RunError::OutOfMemory),
+    }
+}
+
+impl Run {
+    /// A run of a plan before its first turn.
+    pub(crate) fn new(alloc: Global, plan: &Plan) -> Result<Run, RunError>
+        ensures first { IfOk result (IsFirst plan.now) }
+        ensures stopped { IfErr result (Stops plan.now) }
+    {
+        Ok(Run {
+            driver: driver_of(alloc, plan)?,
+            words: Lcg128Xsl64::new(u128::from(plan.seed()), 0),
+            calls: vec![in alloc; 0; plan.clients() as usize]?,
+            answered: 0,
+            applied: 0,
+            asks: 0,
+            waits: 0,
+            has_ended: false,
+        })
+    }
+
+    fn is_due(&self, entry: &Entry) -> bool
+        ensures { result ≡ running.is_run_due self.now entry.now }
+    {
+        self.has_ended || entry.at <= self.answered
+    }
+
+    /// Applies the entries of the schedule that are due, in order.
+    pub(crate) fn apply_due(
+        &mut self,
+        alloc: Global,
+        plan: &Plan,
+        world: &mut World,
+    ) -> Result<(), RunError>
+        requires { Stands plan.now self.old world.old }
+        ensures settled { OnOk result (Settled plan.now self.new world.new) }
+        ensures turns { OnOk result ((self.new.waits ≡ self.old.waits) × (self.new.has_ended ≡ self.old.has_ended)) }
+        ensures grown { OnOk result (length world.old.journal ≤ length world.new.journal) }
+        ensures stopped { IfErr result (Stops plan.now) }
+    {
+        let entries = plan.schedule().entries();
+        while self.applied < entries.len() {
+            let entry = &entries[self.applied];
+            if !self.is_due(entry) {
+                break;
+            }
+            let step = entry.step.copy(alloc)?;
+            // What the world promises of its journal holds before each step.
+            let _events = world.journal().len();
+            world.step(step)?;
+            self.applied += 1;
+        }
+        Ok(())
+    }
+
+    /// The thread whose turn it is.
+    fn next_thread(&self, plan: &Plan) -> u32
+        ensures turn { result ≡ self.now.asks % plan.now.clients }
+        ensures within { result < plan.now.clients }
+    {
+        (self.asks % u64::from(plan.clients())) as u32
+    }
+
+    /// Asks for the call of the thread whose turn it is.
+    fn ask(&mut self, plan: &Plan, thread: u32) -> Asked
+        requires { running.MayAsk self.old thread }
+        ensures { (r : Turns) (journal : List Event) → running.IsAsking plan.now r journal self.old thread
+            → Asks plan.now r journal result self.new }
+    {
+        let word = self.words.next_word();
+        self.asks += 1;
+        match self.driver.ask(Thread::Client(thread), word) {
+            Ok(GenAnswer::Call(process, Call::Client(request))) => {
+                Asked::Calls(number_of(process), request)
+            }
+            Ok(GenAnswer::Call(_, Call::Step(_))) => {
+                self.has_ended = true;
+                Asked::Ends
+            }
+            Ok(GenAnswer::Pending) => {
+                self.waits += 1;
+                Asked::Waits
+            }
+            Ok(GenAnswer::Done) => {
+                self.has_ended = true;
+                Asked::Ends
+            }
+            Err(_) => unreachable!(),
+        }
+    }
+
+    /// Makes the call that a thread was given.
+    fn call(
+        &mut self,
+        plan: &Plan,
+        world: &mut World,
+        thread: u32,
+        process: u64,
+        request: Request,
+    ) -> Result<(), RunError>
+        requires { MayCall plan.now self.old world.old thread process request }
+        ensures called { OnOk result (HasCalled plan.now self.new world.new thread) }
+        ensures grown { OnOk result (length world.old.journal < length world.new.journal) }
+        ensures turns { OnOk result ((self.new.waits ≡ 0) × (self.new.has_ended ≡ false)) }
+        ensures stopped { IfErr result (Stops plan.now) }
+    {
+        let draw = self.words.next_word();
+        let (_, reply) = world.call(process, node_of(plan, thread), request, draw)?;
+        match self.driver.complete(Thread::Client(thread), ended_of(&reply)) {
+            Ok(()) => {}
+            Err(_) => unreachable!(),
+        }
+        self.calls[thread as usize] += 1;
+        self.answered += 1;
+        self.waits = 0;
+        Ok(())
+    }
+
+    /// Ticks where the thread's last call is followed by a tick.
+    fn tick_if_due(&self, plan: &Plan, world: &mut World, thread: u32) -> Result<(), RunError>
+        requires { HasCalled plan.now self.now world.old thread }
+        ensures stands { OnOk result (Stands plan.now self.now world.new) }
+        ensures grown { OnOk result (length world.old.journal ≤ length world.new.journal) }
+        ensures few { length world.old.journal ≤ MOST_EVENTS }
+        ensures stopped { IfErr result (Stops plan.now) }
+    {
+        let _events = world.journal().len();
+        if ticks_at(plan, self.calls[thread as usize]) {
+            world.tick()?;
+        }
+        Ok(())
+    }
+
+    /// Asks the next thread, and makes the call that it is given.
+    pub(crate) fn take_turn(&mut self, plan: &Plan, world: &mut World) -> Result<(), RunError>
+        requires settled { Settled plan.now self.old world.old }
+        requires going { self.old.has_ended ≡ false }
+        requires patient { self.old.waits < plan.now.clients }
+        requires crowd { plan.now.clients ≤ 16 }
+        ensures stands { OnOk result (Stands plan.now self.new world.new) }
+        ensures falls { OnOk result (running.Falls self.old world.old self.new world.new) }
+        ensures stopped { IfErr result (Stops plan.now) }
+    {
+        let _events = world.journal().len();
+        let thread = self.next_thread(plan);
+        match self.ask(plan, thread) {
+            Asked::Calls(process, request) => {
+                self.call(plan, world, thread, process, request)?;
+                self.tick_if_due(plan, world, thread)
+            }
+            Asked::Waits => Ok(()),
+            Asked::Ends => Ok(()),
+        }
+    }
+}
