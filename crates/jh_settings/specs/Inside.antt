@@ -1,0 +1,121 @@
+-- What the parts of the code say to each other.
+use Rattle.std.specs.Prelude.{◌≡◌, ℕ, List, [], ◌∷◌, Option, Some, None, Result, MatchResult, MatchOption}
+use Rattle.toml.specs.Data.{Data, Members}
+use Rattle.jh_edn.specs.Edn.{Edn}
+use Rattle.jh_edn.specs.Spelling.{SpellsAll}
+use Rattle.jh_edn.specs.View.{view}
+use Rattle.jh_edn.specs.declared.value.Value.{Value}
+use Rattle.jh_env.specs.declared.texts.EnvTextError.{EnvTextError}
+use Rattle.jh_settings.specs.declared.keys.Key.{Key}
+use Rattle.jh_simnode.specs.declared.schedule.Entry.{Entry}
+use Rattle.jh_settings.specs.declared.error.SettingsError.{SettingsError}
+use Rattle.jh_settings.specs.declared.error.SettingsError.TheVariants.{NotToml, Unknown, Missing, BadValue, OutOfMemory}
+use Rattle.jh_settings.specs.Kinds.{IsElement}
+use Rattle.jh_settings.specs.Told.{TellsEntry, TellsStart, store_told, workload_told, TellsGenerator, clients_told, ops_told, IsSerial, volatile_told, initial_told, tick_every_told, rows_told, seed_told, budget_told}
+use Rattle.jh_settings.specs.Refusals.{IsFirstBad}
+use Rattle.jh_settings.specs.Settings.{IsBadValue}
+use Rattle.jh_settings.specs.Keys.{IsDocument, HasKnownKeys, IsFirstUnknown, first_missing}
+use Rattle.jh_settings.specs.declared.settings.Cluster.{Cluster}
+use Rattle.jh_settings.specs.declared.settings.Load.{Load}
+use Rattle.jh_settings.specs.declared.settings.Limits.{Limits}
+use Rattle.jh_gen.specs.View.{generator_of}
+use Rattle.jh_simnode.specs.Plans.{PlanValue, plan, RefusesPlan}
+use Rattle.jh_simnode.specs.declared.plan.PlanError.{PlanError}
+
+-- what is told, or a bad value under the key
+abbrev pub Answers : {A : Type 0} → Result A SettingsError → Key → Option A → Type 0
+Answers answer key told = MatchResult answer (λ x. told ≡ Some x) (λ e. (e ≡ BadValue key) × (told ≡ None))
+
+-- such a value is bad under the key, or memory was refused
+abbrev pub RefusesValue : Type 0 → Key → SettingsError → Type 0
+RefusesValue Good key (BadValue other) = (key ≡ other) × (Good → ⊥)
+RefusesValue Good key OutOfMemory = Unit {0}
+RefusesValue Good key _ = ⊥
+
+-- one of these keys is the first with a bad value, or memory was refused
+abbrev pub Refuses : Members → List Key → SettingsError → Type 0
+Refuses document some (BadValue key) = IsFirstBad document some key
+Refuses document some OutOfMemory = Unit {0}
+Refuses document some _ = ⊥
+
+-- no value is all that the text spells
+abbrev pub IsNoElement : List ℕ → Type 0
+IsNoElement text = (x : Edn) → SpellsAll (x ∷ []) text → ⊥
+
+-- what is found is the one element that a value, which is a text, spells
+abbrev pub IsElementIn : Data → Option Value → Type 0
+IsElementIn value found = MatchOption found ((x : Edn) → IsElement value x → ⊥) (λ element. IsElement value (view element))
+
+-- what is found is the entry that a value tells
+abbrev pub IsEntryIn : List (List ℕ) → Data → Option Entry → Type 0
+IsEntryIn names value found = MatchOption found ((entry : Entry) → TellsEntry names value entry → ⊥) (TellsEntry names value)
+
+-- what a refusal of the environment makes of the settings
+abbrev pub start_fault : EnvTextError → SettingsError
+start_fault EnvTextError.OutOfMemory = OutOfMemory
+start_fault _ = BadValue Key.Start
+
+-- the parts of a plan
+abbrev pub cluster_keys : List Key
+cluster_keys = Key.Start ∷ Key.Store ∷ Key.Workload ∷ Key.Generator ∷ []
+
+pub record TellsCluster (document : Members) (cluster : Cluster) : Type 0 where
+  pub start : TellsStart document cluster.environment
+  pub store : store_told document ≡ Some cluster.store
+  pub workload : workload_told document ≡ Some cluster.workload
+  pub generator : TellsGenerator document (generator_of cluster.generator)
+
+abbrev pub load_keys : List Key
+load_keys = Key.Clients ∷ Key.Ops ∷ Key.Mode ∷ Key.Volatile ∷ Key.Initial ∷ []
+
+pub record TellsLoad (document : Members) (load : Load) : Type 0 where
+  pub clients : clients_told document ≡ Some load.clients
+  pub ops : ops_told document ≡ Some load.ops
+  pub mode : IsSerial document
+  pub volatile : volatile_told document ≡ Some load.volatile
+  pub initial : initial_told document ≡ Some load.initial
+
+abbrev pub limit_keys : List Key
+limit_keys = Key.TickEvery ∷ Key.Rows ∷ Key.Seed ∷ Key.Budget ∷ []
+
+pub record TellsLimits (document : Members) (limits : Limits) : Type 0 where
+  pub tick_every : tick_every_told document ≡ Some limits.tick_every
+  pub rows : rows_told document ≡ Some limits.rows
+  pub seed : seed_told document ≡ Some limits.seed
+  pub budget : budget_told document ≡ Some limits.budget
+
+-- why bytes are no table
+abbrev pub RefusesBytes : List ℕ → SettingsError → Type 0
+RefusesBytes bytes NotToml = (document : Members) → IsDocument bytes document → ⊥
+RefusesBytes bytes OutOfMemory = Unit {0}
+RefusesBytes bytes _ = ⊥
+
+-- why keys are refused
+abbrev pub RefusesKeys : Members → SettingsError → Type 0
+RefusesKeys document (Unknown word) = IsFirstUnknown document word
+RefusesKeys document (Missing key) = HasKnownKeys document × (first_missing document ≡ Some key)
+RefusesKeys document OutOfMemory = Unit {0}
+RefusesKeys document _ = ⊥
+
+-- why values are refused
+abbrev pub RefusesValues : Members → SettingsError → Type 0
+RefusesValues document (BadValue key) = IsBadValue document key
+RefusesValues document OutOfMemory = Unit {0}
+RefusesValues document _ = ⊥
+
+-- what a refusal of the plan makes of the settings
+abbrev pub plan_fault : PlanError → SettingsError
+plan_fault PlanError.BadClients = BadValue Key.Clients
+plan_fault PlanError.BadOps = BadValue Key.Ops
+plan_fault PlanError.BadRows = BadValue Key.Rows
+plan_fault PlanError.BadGenerator = BadValue Key.Generator
+plan_fault PlanError.BadStep = BadValue Key.Schedule
+plan_fault PlanError.OutOfMemory = OutOfMemory
+
+abbrev pub plan_with : Cluster → Load → Limits → List Entry → PlanValue
+plan_with cluster load limits schedule =
+    plan cluster.environment cluster.store load.volatile cluster.workload load.initial load.clients load.ops
+        (generator_of cluster.generator) schedule limits.tick_every limits.rows limits.seed
+
+abbrev pub RefusesWith : PlanValue → SettingsError → Type 0
+RefusesWith plan e = (fault : PlanError) × RefusesPlan plan fault × (e ≡ plan_fault fault)

@@ -1,0 +1,38 @@
+-- What the value of a setting may be: a text, a word, a number in a range, an element of EDN (this project's own; the kinds of
+-- value are TOML's). A truth value is TOML's.
+use Rattle.std.specs.Prelude.{◌≡◌, ℕ, pos, ◌&&◌, List, [], ◌∷◌, nat_le, if◌then◌else◌, Option, Some, None, option_and_then}
+use Rattle.std.specs.Option.{option_map_or}
+use Rattle.toml.specs.Data.{Data, integer, Members, as_str}
+use Rattle.jh_edn.specs.Edn.{Edn}
+use Rattle.jh_edn.specs.Spelling.{SpellsAll}
+use Rattle.jh_settings.specs.declared.keys.Key.{Key}
+use Rattle.jh_settings.specs.Keys.{value_under}
+
+-- what is told by the value under a key, which has to be there
+abbrev pub needed : {A : Type 0} → (Data → Option A) → Key → Members → Option A
+needed told key document = option_and_then told (value_under key document)
+
+-- what is told by the value under a key, and a default where there is none
+abbrev pub or_default : {A : Type 0} → A → (Data → Option A) → Key → Members → Option A
+or_default default told key document = option_map_or told (value_under key document) (Some default)
+
+-- the text under a key
+abbrev pub text_under : Key → Members → Option (List ℕ)
+text_under key document = needed as_str key document
+
+-- what is told by the text under a key, which is one of some words
+abbrev pub word_under : {A : Type 0} → (List ℕ → Option A) → Key → Members → Option A
+word_under told key document = option_and_then told (text_under key document)
+
+-- a whole number from the least to the most
+abbrev pub whole_in : ℕ → ℕ → Data → Option ℕ
+whole_in least most (integer (pos n)) = if nat_le least n && nat_le n most then Some n else None
+whole_in least most _ = None
+
+-- a text that is one element of EDN, with gaps around it and nothing else
+abbrev pub IsElement : Data → Edn → Type 0
+IsElement value x = (text : List ℕ) × (as_str value ≡ Some text) × SpellsAll (x ∷ []) text
+
+-- the value under a key, which has to be there, is such a text
+abbrev pub HoldsElement : Key → Members → Edn → Type 0
+HoldsElement key document x = (value : Data) × (value_under key document ≡ Some value) × IsElement value x

@@ -1,0 +1,6 @@
+pub mod Keys
+pub mod Kinds
+pub mod Told
+pub mod Refusals
+pub mod Settings
+pub mod Inside

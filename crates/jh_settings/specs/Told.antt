@@ -1,0 +1,123 @@
+-- What each setting tells, key by key (this project's own). A new setting is a new definition here, a key in Keys and a line of
+-- `IsGood`.
+use Rattle.std.specs.Prelude.{◌≡◌, ℕ, ◌≤◌, ℤ, pos, Bool, false, List, [], ◌∷◌, length, codes, nat_le, if◌then◌else◌, Option, Some, None, IsSome, option_map, option_and_then, Result, Ok, Err}
+use Rattle.std.specs.Str.{bytes_eq}
+use Rattle.toml.specs.Data.{Data, array, Items, no_items, item, Members, as_bool, as_integer}
+use Rattle.jh_edn.specs.Edn.{Edn, int, elements_of}
+use Rattle.jh_env.specs.Overlay.{EnvValue, StandsFor}
+use Rattle.jh_env.specs.TextCells.{IsTextOf}
+use Rattle.jh_nemesis.specs.StepText.{step_told}
+use Rattle.jh_nemesis.specs.declared.steps.Step.{Step}
+use Rattle.jh_ops.specs.declared.call.Workload.{Workload}
+use Rattle.jh_gen.specs.Generator.{Generator}
+use Rattle.jh_gen.specs.GeneratorText.{generator_told}
+use Rattle.jh_simnode.specs.Plans.{most_ops}
+use Rattle.jh_simnode.specs.declared.settings.Store.{Store}
+use Rattle.jh_simnode.specs.declared.schedule.Entry.{Entry}
+use Rattle.jh_settings.specs.declared.keys.Key.{Key}
+use Rattle.jh_settings.specs.Keys.{value_under}
+use Rattle.jh_settings.specs.Kinds.{needed, or_default, text_under, word_under, whole_in, IsElement, HoldsElement}
+
+-- an environment on which no fault is laid
+abbrev pub TellsStart : Members → EnvValue → Type 0
+TellsStart document env = (x : Edn) × HoldsElement Key.Start document x × IsTextOf x env.names env.start × StandsFor env []
+
+abbrev pub store_of : List ℕ → Option Store
+store_of word =
+    if bytes_eq word (codes "quorum") then Some Store.Quorum
+    else if bytes_eq word (codes "lww") then Some Store.Lww
+    else if bytes_eq word (codes "local") then Some Store.Local
+    else None
+
+abbrev pub store_told : Members → Option Store
+store_told document = word_under store_of Key.Store document
+
+abbrev pub workload_of : List ℕ → Option Workload
+workload_of word =
+    if bytes_eq word (codes "register") then Some Workload.Register
+    else if bytes_eq word (codes "counter") then Some Workload.Counter
+    else if bytes_eq word (codes "set") then Some Workload.Set
+    else if bytes_eq word (codes "unique-ids") then Some Workload.Ids
+    else None
+
+abbrev pub workload_told : Members → Option Workload
+workload_told document = word_under workload_of Key.Workload document
+
+abbrev pub TellsGenerator : Members → Generator → Type 0
+TellsGenerator document g = (x : Edn) × HoldsElement Key.Generator document x × (generator_told x ≡ Some g)
+
+abbrev pub clients_told : Members → Option ℕ
+clients_told document = needed (whole_in 1 16) Key.Clients document
+
+-- how many calls: a set may have fewer than the others
+abbrev pub ops_told : Members → Option ℕ
+ops_told document = option_and_then (λ workload. needed (whole_in 1 (most_ops workload)) Key.Ops document) (workload_told document)
+
+-- The mode is serial, and nothing else yet. The default is another mode, so that it has to be there.
+abbrev pub IsSerial : Members → Type 0
+IsSerial document = text_under Key.Mode document ≡ Some (codes "serial")
+
+abbrev pub volatile_told : Members → Option Bool
+volatile_told document = or_default false as_bool Key.Volatile document
+
+-- what a register holds at first: an integer, or nothing; of another workload it may not be said
+abbrev pub initial_of : Workload → Option Data → Option (Option ℤ)
+initial_of workload None = Some None
+initial_of Workload.Register (Some value) = option_map Some (as_integer value)
+initial_of _ (Some value) = None
+
+abbrev pub initial_told : Members → Option (Option ℤ)
+initial_told document = option_and_then (λ workload. initial_of workload (value_under Key.Initial document)) (workload_told document)
+
+abbrev pub tick_every_told : Members → Option ℕ
+tick_every_told document = or_default 0 (whole_in 0 10000) Key.TickEvery document
+
+abbrev pub rows_told : Members → Option ℕ
+rows_told document = or_default 4096 (whole_in 1 65536) Key.Rows document
+
+abbrev pub seed_told : Members → Option ℕ
+seed_told document = or_default 0 (whole_in 0 9223372036854775807) Key.Seed document
+
+abbrev pub budget_told : Members → Option ℕ
+budget_told document = or_default 100000 (whole_in 0 10000000) Key.Budget document
+
+-- after how many calls a step is due: from 0 to 10,000
+abbrev pub due_of : ℤ → Option ℕ
+due_of (pos n) = if nat_le n 10000 then Some n else None
+due_of _ = None
+
+-- an entry, where its step tells one
+abbrev pub entry_at : {E : Type 0} → ℕ → Result Step E → Option Entry
+entry_at at (Ok step) = Some (record { at = at; step = step })
+entry_at at (Err refusal) = None
+
+-- AT and STEP, over nodes with these names
+abbrev pub entry_in : List (List ℕ) → List Edn → Option Entry
+entry_in names (int z ∷ step ∷ []) = option_and_then (λ at. entry_at at (step_told names step)) (due_of z)
+entry_in names _ = None
+
+-- the entry that a value tells: a vector or a list of the two
+abbrev pub entry_told : List (List ℕ) → Edn → Option Entry
+entry_told names x = option_and_then (entry_in names) (elements_of x)
+
+abbrev pub TellsEntry : List (List ℕ) → Data → Entry → Type 0
+TellsEntry names value entry = (x : Edn) × IsElement value x × (entry_told names x ≡ Some entry)
+
+-- each value tells an entry, in order
+abbrev pub TellEntries : List (List ℕ) → Items → List Entry → Type 0
+TellEntries names no_items [] = Unit {0}
+TellEntries names (item value values) (entry ∷ entries) = TellsEntry names value entry × TellEntries names values entries
+TellEntries names _ _ = ⊥
+
+-- and there are at most 1,024
+abbrev pub TellAll : List (List ℕ) → Items → List Entry → Type 0
+TellAll names values entries = TellEntries names values entries × (length entries ≤ 1024)
+
+-- none by default
+abbrev pub ScheduleOf : List (List ℕ) → Option Data → List Entry → Type 0
+ScheduleOf names None entries = entries ≡ []
+ScheduleOf names (Some (array values)) entries = TellAll names values entries
+ScheduleOf names (Some _) entries = ⊥
+
+abbrev pub TellsSchedule : List (List ℕ) → Members → List Entry → Type 0
+TellsSchedule names document entries = ScheduleOf names (value_under Key.Schedule document) entries

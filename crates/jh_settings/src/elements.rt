@@ -1,0 +1,235 @@
+//! Settings whose values are texts of EDN: the start, the generator and the entries of the schedule.
+
+ghost use Rattle.std.specs.Prelude.{◌≡◌, ◌≢◌, ◌<◌, ◌∷◌, [], drop, MatchBool, IfOk, IfSome, List, All, MatchOption, MatchResult, length};
+ghost use Rattle.std.specs.Str.{IsCharBoundary};
+ghost use Rattle.toml.specs.View as toml;
+ghost use Rattle.toml.specs.View.{table_view};
+ghost use Rattle.jh_edn.specs.Edn.{Edn};
+ghost use Rattle.jh_edn.specs.Spelling.{IsGap, Reads, SpellsAll};
+ghost use Rattle.jh_edn.specs.View.{view};
+ghost use Rattle.jh_env.specs.Overlay.{EnvValue};
+ghost use Rattle.jh_nemesis.specs.Steps.{FitsNodes};
+ghost use Rattle.jh_gen.specs.Generator.{Generator};
+ghost use Rattle.jh_gen.specs.View.{generator_of};
+ghost use Rattle.jh_settings.specs.Inside.{IsElementIn, IsEntryIn, IsNoElement, RefusesValue, start_fault};
+ghost use Rattle.jh_simnode.specs.declared.schedule.Entry.{Entry};
+ghost use Rattle.jh_settings.specs.Kinds.{HoldsElement};
+ghost use Rattle.jh_settings.specs.Told as rule;
+ghost use Rattle.jh_settings.specs.Told.{TellAll, TellsGenerator, TellsSchedule, TellsStart};
+
+use crate::error::SettingsError;
+use crate::keys::Key;
+use crate::table::value_under;
+use jh_edn::{EdnError, Value, read_one};
+use jh_gen::{Gen, GenTextError, gen_of_value};
+use jh_env::{Env, EnvTextError, Nodes, env_of_value};
+use jh_simnode::{Entry, MOST_ENTRIES, Schedule};
+use jh_nemesis::{StepTextError, step_of_value};
+use std::alloc::{AllocError, Global};
+use toml::Table;
+
+/// The latest moment at which a step is due, in answered client calls.
+const LATEST: u32 = 10_000;
+
+// Passes want of memory on.
+fn unless_memory(error: EdnError) -> Result<(), AllocError>
+    ensures { MatchResult result (λ _. error ≢ EdnError.OutOfMemory) (λ _. error ≡ EdnError.OutOfMemory) }
+{
+    match error {
+        EdnError::OutOfMemory => Err(AllocError),
+        _ => Ok(()),
+    }
+}
+
+// The element that a text begins with, behind a gap, and the place behind it.
+fn first_element(alloc: Global, text: &str) -> Result<Option<(Value, usize)>, AllocError>
+    ensures element { IfOk result (λ found. MatchOption found
+        (IsNoElement text.now)
+        (λ read. Reads text.now 0 (view read.0) read.1)) }
+    ensures place { IfOk result (λ found. IfSome found (λ read. IsCharBoundary text.now read.1)) }
+{
+    match read_one(alloc, text, 0) {
+        Ok(found) => Ok(found),
+        Err(error) => {
+            unless_memory(error)?;
+            Ok(None)
+        }
+    }
+}
+
+// Whether only a gap stands from there on.
+fn ends_at(alloc: Global, text: &str, at: usize) -> Result<bool, AllocError>
+    requires { IsCharBoundary text.now at }
+    ensures { IfOk result (λ ends. MatchBool ends (IsGap (drop at text.now)) (IsGap (drop at text.now) → ⊥)) }
+{
+    match read_one(alloc, text, at) {
+        Ok(found) => Ok(found.is_none()),
+        Err(error) => {
+            unless_memory(error)?;
+            Ok(false)
+        }
+    }
+}
+
+// The one element that a text spells, with gaps around it.
+fn only_element(alloc: Global, text: &str) -> Result<Option<Value>, AllocError>
+    ensures { IfOk result (λ found. MatchOption found
+        (IsNoElement text.now)
+        (λ element. SpellsAll (view element ∷ []) text.now)) }
+{
+    let Some((element, end)) = first_element(alloc, text)? else {
+        return Ok(None);
+    };
+    if ends_at(alloc, text, end)? {
+        Ok(Some(element))
+    } else {
+        Ok(None)
+    }
+}
+
+// The one element that a value, which is a text, spells.
+fn element_in(alloc: Global, value: &toml::Value) -> Result<Option<Value>, AllocError>
+    ensures { IfOk result (IsElementIn (toml.view value.now)) }
+{
+    match value.as_str() {
+        Some(text) => only_element(alloc, text),
+        None => Ok(None),
+    }
+}
+
+// The one element under a key.
+fn element_under(alloc: Global, table: &Table, key: Key) -> Result<Value, SettingsError>
+    ensures { MatchResult result
+        (λ element. HoldsElement key (table_view table.now) (view element))
+        (RefusesValue ((x : Edn) × HoldsElement key (table_view table.now) x) key) }
+{
+    let Some(value) = value_under(table, key) else {
+        return Err(SettingsError::BadValue(key));
+    };
+    match element_in(alloc, value)? {
+        Some(element) => Ok(element),
+        None => Err(SettingsError::BadValue(key)),
+    }
+}
+
+fn start_error(error: EnvTextError) -> SettingsError
+    ensures { result ≡ start_fault error }
+{
+    match error {
+        EnvTextError::OutOfMemory => SettingsError::OutOfMemory,
+        _ => SettingsError::BadValue(Key::Start),
+    }
+}
+
+/// The environment under `start`.
+pub(crate) fn start_under(alloc: Global, table: &Table) -> Result<Env, SettingsError>
+    ensures { MatchResult result
+        (TellsStart (table_view table.now))
+        (RefusesValue ((env : EnvValue) × TellsStart (table_view table.now) env) Key.Start) }
+{
+    let element = element_under(alloc, table, Key::Start)?;
+    match env_of_value(alloc, &element) {
+        Ok(env) => Ok(env),
+        Err(error) => Err(start_error(error)),
+    }
+}
+
+/// The generator under `generator`.
+pub(crate) fn generator_under(alloc: Global, table: &Table) -> Result<Gen, SettingsError>
+    ensures { MatchResult result
+        (λ source. TellsGenerator (table_view table.now) (generator_of source))
+        (RefusesValue ((g : Generator) × TellsGenerator (table_view table.now) g) Key.Generator) }
+{
+    let element = element_under(alloc, table, Key::Generator)?;
+    match gen_of_value(alloc, &element) {
+        Ok(source) => Ok(source),
+        Err(GenTextError::BadGenerator) => Err(SettingsError::BadValue(Key::Generator)),
+        Err(GenTextError::OutOfMemory) => Err(SettingsError::OutOfMemory),
+    }
+}
+
+fn due_of(at: i64) -> Option<u32>
+    ensures { result ≡ rule.due_of at }
+{
+    match u32::try_from(at) {
+        Ok(at) if at <= LATEST => Some(at),
+        _ => None,
+    }
+}
+
+// The entry that an element tells.
+fn entry_told(alloc: Global, nodes: &Nodes, element: &Value) -> Result<Option<Entry>, AllocError>
+    ensures told { IfOk result (λ entry. entry ≡ rule.entry_told nodes.now (view element.now)) }
+    ensures fits { IfOk result (λ found. IfSome found (λ entry. FitsNodes (length nodes.now) entry.step)) }
+{
+    let Some([Value::Int(at), step]) = element.elements() else {
+        return Ok(None);
+    };
+    let Some(at) = due_of(*at) else {
+        return Ok(None);
+    };
+    match step_of_value(alloc, nodes, step) {
+        Ok(step) => Ok(Some(Entry { at, step })),
+        Err(StepTextError::OutOfMemory) => Err(AllocError),
+        Err(_) => Ok(None),
+    }
+}
+
+// The entry that a value, which is a text, tells.
+fn entry_of(alloc: Global, nodes: &Nodes, value: &toml::Value) -> Result<Option<Entry>, AllocError>
+    ensures told { IfOk result (IsEntryIn nodes.now (toml.view value.now)) }
+    ensures fits { IfOk result (λ found. IfSome found (λ entry. FitsNodes (length nodes.now) entry.step)) }
+{
+    match element_in(alloc, value)? {
+        Some(element) => entry_told(alloc, nodes, &element),
+        None => Ok(None),
+    }
+}
+
+// The entries that these values tell.
+fn entries_in(alloc: Global, values: &[toml::Value], nodes: &Nodes) -> Result<Vec<Entry>, SettingsError>
+    ensures told { MatchResult result
+        (λ entries. TellAll nodes.now (toml.items_view values.now) entries.items)
+        (RefusesValue ((entries : List Entry) × TellAll nodes.now (toml.items_view values.now) entries) Key.Schedule) }
+    ensures fit { IfOk result (λ entries. All (λ entry. FitsNodes (length nodes.now) entry.step) entries.items) }
+{
+    if values.len() > MOST_ENTRIES {
+        return Err(SettingsError::BadValue(Key::Schedule));
+    }
+    let mut entries = Vec::new(alloc);
+    for value in values {
+        match entry_of(alloc, nodes, value)? {
+            Some(entry) => entries.push(entry)?,
+            None => return Err(SettingsError::BadValue(Key::Schedule)),
+        }
+    }
+    Ok(entries)
+}
+
+// The entries under `schedule`, over the nodes of the start.
+fn entries_under(alloc: Global, table: &Table, nodes: &Nodes) -> Result<Vec<Entry>, SettingsError>
+    ensures told { MatchResult result
+        (λ entries. TellsSchedule nodes.now (table_view table.now) entries.items)
+        (RefusesValue ((entries : List Entry) × TellsSchedule nodes.now (table_view table.now) entries) Key.Schedule) }
+    ensures fit { IfOk result (λ entries. All (λ entry. FitsNodes (length nodes.now) entry.step) entries.items) }
+{
+    match value_under(table, Key::Schedule) {
+        Some(toml::Value::Array(values)) => entries_in(alloc, values.as_slice(), nodes),
+        Some(_) => Err(SettingsError::BadValue(Key::Schedule)),
+        None => Ok(Vec::new(alloc)),
+    }
+}
+
+/// The schedule under `schedule`, over the nodes of the start.
+pub(crate) fn schedule_under(alloc: Global, table: &Table, nodes: &Nodes) -> Result<Schedule, SettingsError>
+    ensures told { MatchResult result
+        (TellsSchedule nodes.now (table_view table.now))
+        (RefusesValue ((entries : List Entry) × TellsSchedule nodes.now (table_view table.now) entries) Key.Schedule) }
+    ensures fit { IfOk result (λ schedule. All (λ entry. FitsNodes (length nodes.now) entry.step) schedule) }
+{
+    let entries = entries_under(alloc, table, nodes)?;
+    match Schedule::of(entries) {
+        Ok(schedule) => Ok(schedule),
+        Err(_) => Err(SettingsError::BadValue(Key::Schedule)),
+    }
+}

@@ -1,0 +1,234 @@
+//! The settings of a run. `specs/Settings.antt` says which settings a document tells, and why others are refused.
+
+ghost use Rattle.std.specs.Prelude.{◌≡◌, Some, None, [], All, MatchResult, IfOk, length};
+ghost use Rattle.toml.specs.View.{table_view};
+ghost use Rattle.jh_settings.specs.Inside.{RefusesBytes, RefusesKeys, RefusesValues, Refuses};
+ghost use Rattle.jh_settings.specs.Inside.{TellsCluster, TellsLimits, TellsLoad};
+ghost use Rattle.jh_settings.specs.Inside.{RefusesWith, cluster_keys, limit_keys, load_keys, plan_fault, plan_with};
+ghost use Rattle.jh_env.specs.Overlay.{StandsFor};
+ghost use Rattle.jh_simnode.specs.Plans.{IsFit};
+ghost use Rattle.jh_settings.specs.Keys as rule;
+ghost use Rattle.jh_settings.specs.Keys.{HasKnownKeys, IsDocument};
+ghost use Rattle.jh_settings.specs.Settings.{AreSettings, AreSettingsOf, RefusesSettings};
+ghost use Rattle.jh_settings.specs.Told.{workload_told};
+
+use crate::elements::{generator_under, schedule_under, start_under};
+use crate::error::{KeyText, SettingsError};
+use crate::keys::{Key, first_missing, first_unknown};
+use crate::table::{number_or, number_under, truth_or};
+use crate::words::{initial_under, is_serial, most_ops, store_under, workload_under};
+use jh_env::Env;
+use jh_gen::{Gen, MOST_CLIENTS};
+use jh_ops::Workload;
+use jh_simnode::{MOST_ROWS, Plan, PlanError, Schedule, Store};
+use std::alloc::Global;
+use toml::Table;
+
+/// After how many of its calls a client thread ticks at most.
+const MOST_TICK_EVERY: u64 = 10_000;
+
+/// The greatest budget of a judgement.
+const MOST_BUDGET: u64 = 10_000_000;
+
+/// What is run, and how much may be spent on the judgement of its history.
+#[derive(Debug, Drop)]
+pub struct RunSettings {
+    pub plan: Plan,
+    /// How many orders of calls the judge of a register tries at most.
+    pub budget: u64,
+}
+
+/// The database, what is asked of it, and where it stands.
+#[derive(Drop)]
+pub(crate) struct Cluster {
+    environment: Env,
+    store: Store,
+    workload: Workload,
+    generator: Gen,
+}
+
+/// How much is asked of it, and how it begins.
+#[derive(Clone, Copy)]
+pub(crate) struct Load {
+    clients: u32,
+    ops: u32,
+    volatile: bool,
+    initial: Option<i64>,
+}
+
+/// Numbers that have defaults.
+#[derive(Clone, Copy)]
+pub(crate) struct Limits {
+    tick_every: u32,
+    rows: u32,
+    seed: u64,
+    budget: u64,
+}
+
+fn cluster_of(alloc: Global, table: &Table) -> Result<Cluster, SettingsError>
+    ensures { MatchResult result
+        (TellsCluster (table_view table.now))
+        (Refuses (table_view table.now) cluster_keys) }
+{
+    let environment = start_under(alloc, table)?;
+    let store = store_under(table)?;
+    let workload = workload_under(table)?;
+    let generator = generator_under(alloc, table)?;
+    Ok(Cluster {
+        environment,
+        store,
+        workload,
+        generator,
+    })
+}
+
+fn load_of(table: &Table, workload: Workload) -> Result<Load, SettingsError>
+    requires { workload_told (table_view table.now) ≡ Some workload }
+    ensures { MatchResult result
+        (TellsLoad (table_view table.now))
+        (Refuses (table_view table.now) load_keys) }
+{
+    let clients = number_under(table, Key::Clients, 1, u64::from(MOST_CLIENTS))?;
+    let ops = number_under(table, Key::Ops, 1, most_ops(workload))?;
+    if !is_serial(table) {
+        return Err(SettingsError::BadValue(Key::Mode));
+    }
+    let volatile = truth_or(table, Key::Volatile, false)?;
+    let initial = initial_under(table, workload)?;
+    Ok(Load {
+        clients: clients as u32,
+        ops: ops as u32,
+        volatile,
+        initial,
+    })
+}
+
+fn limits_of(table: &Table) -> Result<Limits, SettingsError>
+    ensures { MatchResult result
+        (TellsLimits (table_view table.now))
+        (Refuses (table_view table.now) limit_keys) }
+{
+    let tick_every = number_or(table, Key::TickEvery, 0, 0, MOST_TICK_EVERY)?;
+    let rows = number_or(table, Key::Rows, 4_096, 1, u64::from(MOST_ROWS))?;
+    let seed = number_or(table, Key::Seed, 0, 0, i64::MAX as u64)?;
+    let budget = number_or(table, Key::Budget, 100_000, 0, MOST_BUDGET)?;
+    Ok(Limits {
+        tick_every: tick_every as u32,
+        rows: rows as u32,
+        seed,
+        budget,
+    })
+}
+
+// What the refusal of a plan means, whose parts are good by themselves.
+fn plan_error(error: PlanError) -> SettingsError
+    ensures { result ≡ plan_fault error }
+{
+    match error {
+        PlanError::BadClients => SettingsError::BadValue(Key::Clients),
+        PlanError::BadOps => SettingsError::BadValue(Key::Ops),
+        PlanError::BadRows => SettingsError::BadValue(Key::Rows),
+        PlanError::BadGenerator => SettingsError::BadValue(Key::Generator),
+        PlanError::BadStep => SettingsError::BadValue(Key::Schedule),
+        PlanError::OutOfMemory => SettingsError::OutOfMemory,
+    }
+}
+
+// The settings of these parts.
+fn settings_with(
+    alloc: Global,
+    cluster: Cluster,
+    load: Load,
+    limits: Limits,
+    schedule: Schedule,
+) -> Result<RunSettings, SettingsError>
+    requires { StandsFor cluster.environment [] }
+    ensures { MatchResult result
+        (λ settings. (settings.plan ≡ plan_with cluster load limits schedule) × (settings.budget ≡ limits.budget) × IsFit settings.plan)
+        (RefusesWith (plan_with cluster load limits schedule)) }
+{
+    let Cluster { environment, store, workload, generator } = cluster;
+    match Plan::new(
+        alloc,
+        environment,
+        store,
+        load.volatile,
+        workload,
+        load.initial,
+        load.clients,
+        load.ops,
+        generator,
+        schedule,
+        limits.tick_every,
+        limits.rows,
+        limits.seed,
+    ) {
+        Ok(plan) => Ok(RunSettings { plan, budget: limits.budget }),
+        Err(error) => Err(plan_error(error)),
+    }
+}
+
+// The settings that the values of a table tell.
+fn settings_in(alloc: Global, table: &Table) -> Result<RunSettings, SettingsError>
+    requires { HasKnownKeys (table_view table.now) }
+    ensures { MatchResult result
+        (λ settings. AreSettings (table_view table.now) settings.plan settings.budget)
+        (RefusesValues (table_view table.now)) }
+{
+    let cluster = cluster_of(alloc, table)?;
+    let load = load_of(table, cluster.workload)?;
+    let limits = limits_of(table)?;
+    let schedule = schedule_under(alloc, table, cluster.environment.nodes())?;
+    settings_with(alloc, cluster, load, limits, schedule)
+}
+
+fn table_of(alloc: Global, bytes: &[u8]) -> Result<Table, SettingsError>
+    ensures { MatchResult result
+        (λ table. IsDocument bytes.now (table_view table))
+        (RefusesBytes bytes.now) }
+{
+    match toml::table_from_slice(alloc, bytes) {
+        Ok(table) => Ok(table),
+        Err(error) => {
+            if error.is_memory() {
+                Err(SettingsError::OutOfMemory)
+            } else {
+                Err(SettingsError::NotToml)
+            }
+        }
+    }
+}
+
+// Looks at the keys of a table alone.
+fn judge_keys(alloc: Global, table: &Table) -> Result<(), SettingsError>
+    ensures { MatchResult result
+        (λ _. HasKnownKeys (table_view table.now) × (rule.first_missing (table_view table.now) ≡ None))
+        (RefusesKeys (table_view table.now)) }
+{
+    if let Some(word) = first_unknown(table) {
+        return Err(SettingsError::Unknown(KeyText::of(alloc, word)?));
+    }
+    match first_missing(table) {
+        Some(key) => Err(SettingsError::Missing(key)),
+        None => Ok(()),
+    }
+}
+
+/// The settings that bytes tell, a TOML document in UTF-8.
+///
+/// Takes time and memory in proportion to the bytes.
+///
+/// Errors, in this order: `NotToml`; `Unknown` with the first key, in byte order, that no setting has; `Missing` with the
+/// first needed key that does not stand there; `BadValue` with the first key, in the order of `Key`, whose value is bad by
+/// itself, and then with `Generator` where it does not suit the workload and the number of clients (`Gen::suits`). Runs on
+/// threads do not come yet: the mode has to be `serial`. `OutOfMemory` where memory was refused before another error was
+/// found.
+pub fn settings_of(alloc: Global, bytes: &[u8]) -> Result<RunSettings, SettingsError>
+    ensures { MatchResult result
+        (λ settings. AreSettingsOf bytes.now settings.plan settings.budget)
+        (RefusesSettings bytes.now) }
+{
+    let table = table_of(alloc, bytes)?;
+    judge_keys(alloc, &table)?;
+    settings_in(alloc, &table)
+}

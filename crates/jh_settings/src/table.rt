@@ -1,0 +1,92 @@
+//! Reading the values of a TOML table. `specs/Kinds.antt` says what each kind of value may be.
+//!
+//! Each reader answers what the value under its key tells, and `BadValue` with that key where it tells nothing.
+
+ghost use Rattle.std.specs.Prelude.{◌≡◌, ◌≤◌, option_map, IfSome, IfOk, MatchResult};
+ghost use Rattle.toml.specs.Data.{as_bool};
+ghost use Rattle.toml.specs.View.{table_view, view};
+ghost use Rattle.jh_settings.specs.Inside.{Answers};
+ghost use Rattle.jh_settings.specs.Keys.{value_under};
+ghost use Rattle.jh_settings.specs.Kinds.{needed, or_default, text_under, whole_in};
+
+use crate::error::SettingsError;
+use crate::keys::Key;
+use toml::{Table, Value};
+
+/// The value under a key.
+pub(crate) fn value_under<'a>(table: &'a Table, key: Key) -> Option<&'a Value>
+    ensures { option_map (λ value. view value.now) result ≡ value_under key (table_view table.now) }
+{
+    table.get(key.as_str())
+}
+
+/// The text under a key.
+pub(crate) fn text_under<'a>(table: &'a Table, key: Key) -> Option<&'a str>
+    ensures { option_map (λ text. text.now) result ≡ text_under key (table_view table.now) }
+{
+    match value_under(table, key) {
+        Some(value) => value.as_str(),
+        None => None,
+    }
+}
+
+// The number, where it is from the least to the most.
+fn whole_in(value: &Value, least: u64, most: u64) -> Option<u64>
+    ensures number { result ≡ whole_in least most (view value.now) }
+    ensures within { IfSome result (λ number. number ≤ most) }
+{
+    let number = u64::try_from(value.as_integer()?).ok()?;
+    if least <= number && number <= most {
+        Some(number)
+    } else {
+        None
+    }
+}
+
+/// The number under a key, from the least to the most.
+pub(crate) fn number_under(table: &Table, key: Key, least: u64, most: u64) -> Result<u64, SettingsError>
+    ensures told { Answers result key (needed (whole_in least most) key (table_view table.now)) }
+    ensures within { IfOk result (λ number. number ≤ most) }
+{
+    let Some(value) = value_under(table, key) else {
+        return Err(SettingsError::BadValue(key));
+    };
+    match whole_in(value, least, most) {
+        Some(number) => Ok(number),
+        None => Err(SettingsError::BadValue(key)),
+    }
+}
+
+/// The same, and a default where nothing stands under the key.
+pub(crate) fn number_or(
+    table: &Table,
+    key: Key,
+    default: u64,
+    least: u64,
+    most: u64,
+) -> Result<u64, SettingsError>
+    requires { default ≤ most }
+    ensures told { Answers result key (or_default default (whole_in least most) key (table_view table.now)) }
+    ensures within { IfOk result (λ number. number ≤ most) }
+{
+    let Some(value) = value_under(table, key) else {
+        return Ok(default);
+    };
+    match whole_in(value, least, most) {
+        Some(number) => Ok(number),
+        None => Err(SettingsError::BadValue(key)),
+    }
+}
+
+/// The truth value under a key, and a default where nothing stands there.
+pub(crate) fn truth_or(table: &Table, key: Key, default: bool) -> Result<bool, SettingsError>
+    ensures { Answers result key (or_default default as_bool key (table_view table.now)) }
+{
+    let Some(value) = value_under(table, key) else {
+        return Ok(default);
+    };
+    match value.as_bool() {
+        Some(truth) => Ok(truth),
+        None => Err(SettingsError::BadValue(key)),
+    }
+}

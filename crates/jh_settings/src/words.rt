@@ -1,0 +1,98 @@
+//! Settings whose values are words, numbers and truth values. `specs/Told.antt` says what each tells.
+
+ghost use Rattle.std.specs.Prelude.{◌≡◌, ◌↔◌, IsTrue, MatchResult};
+ghost use Rattle.toml.specs.View.{table_view};
+ghost use Rattle.jh_simnode.specs.Plans as plan;
+ghost use Rattle.jh_settings.specs.Inside.{Answers};
+ghost use Rattle.jh_settings.specs.Keys.{value_under};
+ghost use Rattle.jh_settings.specs.Told as rule;
+ghost use Rattle.jh_settings.specs.Told.{IsSerial, initial_of, store_told, workload_told};
+
+use crate::error::SettingsError;
+use crate::keys::Key;
+use crate::table::{text_under, value_under};
+use jh_ops::Workload;
+use jh_simnode::Store;
+use toml::Table;
+
+fn store_of(word: &str) -> Option<Store>
+    ensures { result ≡ rule.store_of word.now }
+{
+    match word {
+        "quorum" => Some(Store::Quorum),
+        "lww" => Some(Store::Lww),
+        "local" => Some(Store::Local),
+        _ => None,
+    }
+}
+
+/// The store under `store`.
+pub(crate) fn store_under(table: &Table) -> Result<Store, SettingsError>
+    ensures { Answers result Key.Store (store_told (table_view table.now)) }
+{
+    let Some(word) = text_under(table, Key::Store) else {
+        return Err(SettingsError::BadValue(Key::Store));
+    };
+    match store_of(word) {
+        Some(store) => Ok(store),
+        None => Err(SettingsError::BadValue(Key::Store)),
+    }
+}
+
+fn workload_of(word: &str) -> Option<Workload>
+    ensures { result ≡ rule.workload_of word.now }
+{
+    match word {
+        "register" => Some(Workload::Register),
+        "counter" => Some(Workload::Counter),
+        "set" => Some(Workload::Set),
+        "unique-ids" => Some(Workload::Ids),
+        _ => None,
+    }
+}
+
+/// The workload under `workload`.
+pub(crate) fn workload_under(table: &Table) -> Result<Workload, SettingsError>
+    ensures { Answers result Key.Workload (workload_told (table_view table.now)) }
+{
+    let Some(word) = text_under(table, Key::Workload) else {
+        return Err(SettingsError::BadValue(Key::Workload));
+    };
+    match workload_of(word) {
+        Some(workload) => Ok(workload),
+        None => Err(SettingsError::BadValue(Key::Workload)),
+    }
+}
+
+/// How many calls a run of the workload may make.
+pub(crate) fn most_ops(workload: Workload) -> u64
+    ensures { result ≡ plan.most_ops workload }
+{
+    match workload {
+        Workload::Set => 1_000,
+        Workload::Register | Workload::Counter | Workload::Ids => 10_000,
+    }
+}
+
+/// Whether the run is a serial one.
+pub(crate) fn is_serial(table: &Table) -> bool
+    ensures { IsTrue result ↔ IsSerial (table_view table.now) }
+{
+    match text_under(table, Key::Mode) {
+        Some(word) => word == "serial",
+        None => false,
+    }
+}
+
+/// What a register holds at first, under `initial`.
+pub(crate) fn initial_under(table: &Table, workload: Workload) -> Result<Option<i64>, SettingsError>
+    ensures { Answers result Key.Initial (initial_of workload (value_under Key.Initial (table_view table.now))) }
+{
+    let Some(value) = value_under(table, Key::Initial) else {
+        return Ok(None);
+    };
+    match (workload, value.as_integer()) {
+        (Workload::Register, Some(number)) => Ok(Some(number)),
+        _ => Err(SettingsError::BadValue(Key::Initial)),
+    }
+}
