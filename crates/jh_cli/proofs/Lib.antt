@@ -1,3 +1,4 @@
 pub mod RefusalLemmas
 pub mod StepLemmas
 pub mod WritingLemmas
+pub mod RunLemmas

@@ -3,3 +3,5 @@ pub mod EnvText
 pub mod Refusals
 pub mod CheckText
 pub mod CheckRefusals
+pub mod RunText
+pub mod RunRefusals

@@ -13,7 +13,7 @@ use Rattle.jh_nemesis.specs.declared.texts.StepTextError.{StepTextError}
 use Rattle.jh_cli.specs.EnvText.{IsEnvTextOf}
 use Rattle.jh_cli.specs.Status.{edn_fault, environment_fault}
 use Rattle.jh_cli.specs.declared.error.CliError.{CliError}
-use Rattle.jh_cli.specs.declared.error.CliError.TheVariants.{Input, EnvironmentMissing, Environment, Element, History, Check, OnlyForRegister, Read, Write, OutOfMemory}
+use Rattle.jh_cli.specs.declared.error.CliError.TheVariants.{Input, EnvironmentMissing, Environment, Element, History, Check, Settings, Run, OnlyForRegister, Read, Write, OutOfMemory}
 
 -- the place of the first step among the elements, which count from 1
 abbrev pub first_step : ℕ
@@ -48,6 +48,8 @@ RefusesValues values (Element place fault) =
     × IsTextOf first names start × HasFault names others place fault
 RefusesValues values (History fault) = ⊥
 RefusesValues values (Check fault) = ⊥
+RefusesValues values (Settings fault) = ⊥
+RefusesValues values (Run fault) = ⊥
 RefusesValues values OnlyForRegister = ⊥
 RefusesValues values Read = ⊥
 RefusesValues values Write = ⊥
@@ -62,6 +64,8 @@ RefusesInput input (Environment fault) = (values : List Edn) × SpellsAll values
 RefusesInput input (Element place fault) = (values : List Edn) × SpellsAll values input × RefusesValues values (Element place fault)
 RefusesInput input (History fault) = ⊥
 RefusesInput input (Check fault) = ⊥
+RefusesInput input (Settings fault) = ⊥
+RefusesInput input (Run fault) = ⊥
 RefusesInput input OnlyForRegister = ⊥
 RefusesInput input Read = Unit {0}
 RefusesInput input Write = (output : List ℕ) × IsEnvTextOf input output

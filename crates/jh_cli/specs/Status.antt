@@ -1,4 +1,5 @@
--- How a command ends early (this project's own): refusals of the words and of the input have status 3, faults of the machine 4.
+-- How a command ends early (this project's own): refusals of the words and of the input have status 3, faults of the machine and
+-- runs that were not completed 4.
 use Rattle.std.specs.Prelude.{ℕ}
 use Rattle.jh_edn.specs.declared.error.EdnError.TheVariants as EdnError
 use Rattle.jh_env.specs.declared.texts.EnvTextError.TheVariants as EnvTextError
@@ -6,8 +7,11 @@ use Rattle.jh_ops.specs.declared.history.HistoryError.TheVariants as HistoryErro
 use Rattle.jh_check.specs.declared.error.CheckError.TheVariants as CheckError
 use Rattle.jh_linear.specs.declared.calls.RegOpsError.TheVariants as RegOpsError
 use Rattle.jh_nemesis.specs.declared.texts.StepTextError.TheVariants as StepTextError
+use Rattle.jh_settings.specs.declared.error.SettingsError.TheVariants as SettingsError
+use Rattle.jh_simnode.specs.declared.events.WorldError.TheVariants as WorldError
+use Rattle.jh_simnode.specs.declared.serial.RunError.TheVariants as RunError
 use Rattle.jh_cli.specs.declared.error.CliError.{CliError}
-use Rattle.jh_cli.specs.declared.error.CliError.TheVariants.{Input, EnvironmentMissing, Environment, Element, History, Check, OnlyForRegister, Read, Write, OutOfMemory}
+use Rattle.jh_cli.specs.declared.error.CliError.TheVariants.{Input, EnvironmentMissing, Environment, Element, History, Check, Settings, Run, OnlyForRegister, Read, Write, OutOfMemory}
 
 abbrev pub status_of : CliError → ℕ
 status_of (Input fault) = 3
@@ -16,6 +20,8 @@ status_of (Environment fault) = 3
 status_of (Element place fault) = 3
 status_of (History fault) = 3
 status_of (Check fault) = 3
+status_of (Settings fault) = 3
+status_of (Run fault) = 4
 status_of OnlyForRegister = 3
 status_of Read = 4
 status_of Write = 4
@@ -52,3 +58,14 @@ check_fault fault = Check fault
 abbrev pub register_fault : RegOpsError.the_data → CliError
 register_fault (RegOpsError.BadValue place) = Check (CheckError.BadValue place)
 register_fault RegOpsError.OutOfMemory = OutOfMemory
+
+-- what a refusal of settings means to a command
+abbrev pub settings_fault : SettingsError.the_data → CliError
+settings_fault SettingsError.OutOfMemory = OutOfMemory
+settings_fault fault = Settings fault
+
+-- what the end of a run that was not completed means to a command
+abbrev pub run_fault : RunError.the_data → CliError
+run_fault (RunError.World WorldError.OutOfMemory) = OutOfMemory
+run_fault RunError.OutOfMemory = OutOfMemory
+run_fault fault = Run fault

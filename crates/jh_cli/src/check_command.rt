@@ -26,10 +26,10 @@ use std::io::{Read, Write};
 
 /// What a checker finds in a history.
 #[derive(Drop)]
-struct Judgement {
-    verdict: Verdict,
+pub(crate) struct Judgement {
+    pub(crate) verdict: Verdict,
     /// Its line, without the line feed.
-    text: Vec<u8>,
+    pub(crate) text: Vec<u8>,
 }
 
 /// Reads a history as `jh_ops::history_of` does, judges it by the checker of the workload, and writes one line with what
@@ -75,7 +75,7 @@ fn is_register(workload: Workload) -> bool
     matches!(workload, Workload::Register)
 }
 
-fn status_of(verdict: Verdict) -> u8
+pub(crate) fn status_of(verdict: Verdict) -> u8
     ensures { result ≡ text.status_of verdict }
 {
     match verdict {
@@ -103,7 +103,7 @@ fn judge_values(
     Ok(found)
 }
 
-fn judge(
+pub(crate) fn judge(
     alloc: Global,
     history: &[Op],
     workload: Workload,

@@ -9,13 +9,15 @@ use jh_env::EnvTextError;
 use jh_linear::RegOpsError;
 use jh_nemesis::StepTextError;
 use jh_ops::{HistoryError, PairError};
+use jh_settings::SettingsError;
+use jh_simnode::{RunError, WorldError};
 use std::alloc::{AllocError, AllocFailed};
 use std::io::{self, Write};
 use thiserror::Error;
 
-/// Why a command ended early. `Read`, `Write` and `OutOfMemory` are faults of the machine, `OnlyForRegister` refuses the
-/// words, and all others what was read.
-#[derive(Clone, Copy, Debug, PartialEq, Eq, Error)]
+/// Why a command ended early. `Read`, `Write` and `OutOfMemory` are faults of the machine, `Run` says that a run was not
+/// completed, `OnlyForRegister` refuses the words, and all others what was read.
+#[derive(Debug, Drop, Error)]
 pub enum CliError {
     /// The input is no text of EDN values.
     #[error("{0}")]
@@ -35,6 +37,12 @@ pub enum CliError {
     /// The history is none that its checker can judge.
     #[error("{0}")]
     Check(CheckError),
+    /// The input is no settings of a run.
+    #[error("settings: {0}")]
+    Settings(SettingsError),
+    /// The run was not completed.
+    #[error("{0}")]
+    Run(RunError),
     /// There is an initial value, and no register.
     #[error("--initial: only for register")]
     OnlyForRegister,
@@ -58,8 +66,9 @@ impl CliError {
             | CliError::Element { .. }
             | CliError::History(_)
             | CliError::Check(_)
+            | CliError::Settings(_)
             | CliError::OnlyForRegister => 3,
-            CliError::Read | CliError::Write | CliError::OutOfMemory => 4,
+            CliError::Run(_) | CliError::Read | CliError::Write | CliError::OutOfMemory => 4,
         }
     }
 
@@ -143,6 +152,33 @@ impl From<RegOpsError> for CliError {
         match fault {
             RegOpsError::BadValue(place) => CliError::Check(CheckError::BadValue(place)),
             RegOpsError::OutOfMemory => CliError::OutOfMemory,
+        }
+    }
+}
+
+impl From<SettingsError> for CliError {
+    ghost use Rattle.jh_cli.specs.Status.{settings_fault};
+
+    ghost from_gives = { λ fault e. e ≡ settings_fault fault };
+
+    fn from(fault: SettingsError) -> CliError {
+        match fault {
+            SettingsError::OutOfMemory => CliError::OutOfMemory,
+            _ => CliError::Settings(fault),
+        }
+    }
+}
+
+impl From<RunError> for CliError {
+    ghost use Rattle.jh_cli.specs.Status.{run_fault};
+
+    ghost from_gives = { λ fault e. e ≡ run_fault fault };
+
+    fn from(fault: RunError) -> CliError {
+        match fault {
+            RunError::World(WorldError::OutOfMemory) => CliError::OutOfMemory,
+            RunError::OutOfMemory => CliError::OutOfMemory,
+            _ => CliError::Run(fault),
         }
     }
 }
