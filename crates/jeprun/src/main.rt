@@ -54,6 +54,7 @@ fn run(rt: &HostRuntime, matches: &ArgMatches<'_>) -> u8 {
     let done = match matches.subcommand() {
         Some(("env", _)) => jh_cli::env_run(rt.alloc(), &mut rt.reader(), &mut io::writer(rt)),
         Some(("check", words)) => check(rt, words),
+        Some(("run", _)) => jh_cli::run_run(rt.alloc(), &mut rt.reader(), &mut io::writer(rt)),
         _ => Ok(words::REFUSED),
     };
     match done {

@@ -32,11 +32,15 @@ fn command_line<'a>(alloc: Global) -> Result<Command<'a>, Error> {
     let env = Command::new(alloc, "env").about(
         "Applies fault steps to an environment, both read from standard input as EDN",
     );
+    let run = Command::new(alloc, "run").about(
+        "Runs a simulated cluster by settings, read from standard input as TOML, and judges its history",
+    );
     let jeprun = Command::new(alloc, "jeprun")
         .about("A test harness for databases, over a simulated cluster under faults")
         .subcommand_required(true)
         .subcommand(env)?
-        .subcommand(check_command(alloc)?)?;
+        .subcommand(check_command(alloc)?)?
+        .subcommand(run)?;
     Ok(jeprun)
 }
 

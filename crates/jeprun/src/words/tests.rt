@@ -21,6 +21,7 @@ Usage: jeprun <COMMAND>
 Commands:
   env    Applies fault steps to an environment, both read from standard input as EDN
   check  Judges a history of operations, read from standard input as EDN
+  run    Runs a simulated cluster by settings, read from standard input as TOML, and judges its history
   help   Print this message or the help of the given subcommand(s)
 
 Options:
@@ -31,6 +32,15 @@ const ENV_HELP: &str = "\
 Applies fault steps to an environment, both read from standard input as EDN
 
 Usage: jeprun env
+
+Options:
+  -h, --help  Print help
+";
+
+const RUN_HELP: &str = "\
+Runs a simulated cluster by settings, read from standard input as TOML, and judges its history
+
+Usage: jeprun run
 
 Options:
   -h, --help  Print help
@@ -72,7 +82,7 @@ For more information, try '--help'.
 
 const NO_WORDS: &str = "\
 error: 'jeprun' requires a subcommand but one was not provided
-  [subcommands: env, check, help]
+  [subcommands: env, check, run, help]
 
 Usage: jeprun <COMMAND>
 
@@ -99,6 +109,13 @@ For more information, try '--help'.
 fn takes_the_command_env(rt: HostRuntime) -> Result<(), Fail> {
     let matches = parse(rt.alloc(), ["jeprun", "env"].as_slice())?;
     assert!(rt; matches!(matches.subcommand(), Some(("env", _))));
+    Ok(())
+}
+
+#[test]
+fn takes_the_command_run(rt: HostRuntime) -> Result<(), Fail> {
+    let matches = parse(rt.alloc(), ["jeprun", "run"].as_slice())?;
+    assert!(rt; matches!(matches.subcommand(), Some(("run", _))));
     Ok(())
 }
 
