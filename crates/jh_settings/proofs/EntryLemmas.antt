@@ -24,11 +24,11 @@ pub one_told : (names : List (List ℕ)) (values : List Value) (count : ℕ) (en
     → count < length values → value ≡ get_or values count value → TellsEntry names (view value) entry → Told names values (count + 1) (entries ++ entry ∷ [])
 one_told names values count entries value entry told within at is =
     let here : items_view (drop count values) ≡ item (view value) (items_view (drop (count + 1) values)) =
-        items_view-drop values count value within ∙ ap (λ v. item (view v) (items_view (drop (count + 1) values))) (sym at) in
+    items_view-drop values count value within ∙ ap (λ v. item (view v) (items_view (drop (count + 1) values))) (sym at) in
     record {
       before = λ rest h.
           subst (TellEntries names (items_view values)) (sym (append_assoc entries (entry ∷ []) rest))
-            (told.before (entry ∷ rest) (subst (λ items. TellEntries names items (entry ∷ rest)) (sym here) (is, h)));
+          (told.before (entry ∷ rest) (subst (λ items. TellEntries names items (entry ∷ rest)) (sym here) (is, h)));
       behind = λ all h.
           let left = told.behind all h in
           let first = first_told names (view value) (items_view (drop (count + 1) values)) left.0 (subst (λ items. TellEntries names items left.0) here left.1) in
@@ -40,7 +40,7 @@ pub not_told : (names : List (List ℕ)) (values : List Value) (count : ℕ) (en
     → count < length values → value ≡ get_or values count value → ((entry : Entry) → TellsEntry names (view value) entry → ⊥) → ((all : List Entry) × TellAll names (items_view values) all) → ⊥
 not_told names values count entries value told within at none all =
     let here : items_view (drop count values) ≡ item (view value) (items_view (drop (count + 1) values)) =
-        items_view-drop values count value within ∙ ap (λ v. item (view v) (items_view (drop (count + 1) values))) (sym at) in
+    items_view-drop values count value within ∙ ap (λ v. item (view v) (items_view (drop (count + 1) values))) (sym at) in
     let left = told.behind all.0 all.1.0 in
     let first = first_told names (view value) (items_view (drop (count + 1) values)) left.0 (subst (λ items. TellEntries names items left.0) here left.1) in
     none first.0 first.2

@@ -1,5 +1,5 @@
 -- A value that is refused as a generator tells none.
-use Rattle.std.proofs.Common.{◌≡◌, Option, Some, None, sym, ap, ◌∙◌}
+use Rattle.std.proofs.Common.{◌≡◌, None, sym, ap, ◌∙◌}
 use Rattle.toml.specs.Data.{Members}
 use Rattle.jh_edn.specs.Edn.{Edn}
 use Rattle.jh_gen.specs.Generator.{Generator}

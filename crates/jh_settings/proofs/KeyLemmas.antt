@@ -1,11 +1,10 @@
 -- The keys of a table, as words, and the first of them that is unknown.
-use Rattle.std.proofs.Common.{◌≡◌, ℕ, ◌+◌, ◌<◌, Bool, true, false, List, [], ◌∷◌, ◌++◌, map, length, get_or, String, Global, BTreeMap, Ordering, Less, Equal, Greater, refl, sym, ap, subst, ◌∙◌, append_assoc, append-nil, inl, inr, length-append, arith}
+use Rattle.std.proofs.Common.{◌≡◌, ℕ, ◌<◌, Bool, true, false, List, [], ◌∷◌, ◌++◌, map, length, get_or, String, Global, Ordering, Less, Greater, refl, sym, ap, subst, ◌∙◌, append_assoc, append-nil, inl, inr, length-append, arith}
 use Rattle.std.proofs.lemmas.Bool.{cases_order, true≢false, and_from}
 use Rattle.std.proofs.lemmas.List.{get_or-map, get_or_append_left, get_or-append-add, length-map}
 use Rattle.std.proofs.lemmas.List.Folds.{list_all-append, list_all_at}
 use Rattle.std.proofs.lemmas.Map.Keys.{Less-from_sorted}
-use Rattle.std.proofs.lemmas.Cmp.{nat_list_cmp_total, tied_itself}
-use Rattle.std.specs.Prelude.{Contains}
+use Rattle.std.proofs.lemmas.Cmp.{nat_list_cmp_total}
 use Rattle.std.specs.Cmp.Lexicographic.{slice_cmp}
 use Rattle.std.specs.List.{list_all}
 use Rattle.std.specs.List.Sorted.{IsStrictlySortedBy}
@@ -67,13 +66,13 @@ at_place front k rest known ordered i within unknown less =
     elim (cases_order i (length front)) [
       | inl same ↦ less_itself (string_bytes k) (subst (λ t. string_cmp t k ≡ Less) (ap (λ n. get_or all n k) same ∙ here) less)
       | inr apart ↦ elim apart [
-          | inl before ↦
-              let at : get_or all i k ≡ get_or front i k = get_or_append_left front (k ∷ rest) k i before in
-              true≢false (sym known ∙ list_all_at known_text front i k before (sym (ap known_text at) ∙ unknown))
-          | inr behind ↦
-              let more = Less-from_sorted string_cmp all (length front) i k ordered behind within in
-              less_once (string_bytes k) (string_bytes (get_or all i k)) (subst (λ t. string_cmp t (get_or all i k) ≡ Less) here more) less
-        ]
+        | inl before ↦
+            let at : get_or all i k ≡ get_or front i k = get_or_append_left front (k ∷ rest) k i before in
+            true≢false (sym known ∙ list_all_at known_text front i k before (sym (ap known_text at) ∙ unknown))
+        | inr behind ↦
+            let more = Less-from_sorted string_cmp all (length front) i k ordered behind within in
+            less_once (string_bytes k) (string_bytes (get_or all i k)) (subst (λ t. string_cmp t (get_or all i k) ≡ Less) here more) less
+      ]
     ]
 
 pub first_unknown : (es : List Entry) (k : Text) (rest : List Text) → Passed (keys_of es) (k ∷ rest) → IsStrictlySortedBy string_cmp (keys_of es) → is_known (string_bytes k) ≡ false → IsFirstUnknown (members_view es) (string_bytes k)
@@ -83,7 +82,7 @@ first_unknown es k rest p ordered unknown =
     let ordered : IsStrictlySortedBy string_cmp all = subst (IsStrictlySortedBy string_cmp) p.1 ordered in
     let count : length (words_in (members_view es)) ≡ length all = ap length words ∙ length-map all (string_bytes {Z = Global}) in
     let at : (i : ℕ) (d : List ℕ) → i < length all → get_or (words_in (members_view es)) i d ≡ string_bytes (get_or all i k) =
-        λ i d h. ap (λ ws. get_or ws i d) words ∙ get_or-map string_bytes all i k d h in
+    λ i d h. ap (λ ws. get_or ws i d) words ∙ get_or-map string_bytes all i k d h in
     let within : length p.0 < length all = omega (arith, length-append p.0 (k ∷ rest)) in
     let here : get_or all (length p.0) k ≡ k = ap (λ n. get_or all n k) (omega arith) ∙ get_or-append-add p.0 (k ∷ rest) 0 k in
     record {

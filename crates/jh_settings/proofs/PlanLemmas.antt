@@ -1,14 +1,14 @@
 -- The plan of parts that are good by themselves.
-use Rattle.std.proofs.Common.{◌≡◌, ℕ, ◌≤◌, pos, Bool, true, false, ◌&&◌, nat_le, inl, inr, List, [], ◌∷◌, ◌++◌, All, length, Option, Some, None, Result, Ok, Err, refl, sym, ap, subst, ◌∙◌, arith}
+use Rattle.std.proofs.Common.{◌≡◌, ℕ, ◌≤◌, pos, ◌&&◌, nat_le, inl, inr, List, [], ◌∷◌, ◌++◌, All, length, Option, Some, None, Result, Ok, Err, refl, sym, ap, subst, ◌∙◌, arith}
 use Rattle.std.proofs.lemmas.Bool.{cases_Bool, and_parts, leb-true, cond-true, cond-false}
 use Rattle.std.proofs.lemmas.Option.{same_Some}
 use Rattle.std.specs.Option.{option_and_then, option_map_or}
 use Rattle.std.specs.Result.{MatchResult}
-use Rattle.toml.specs.Data.{Data, string, integer, float, boolean, datetime, array, table, Members}
+use Rattle.toml.specs.Data.{Data, integer, Members}
 use Rattle.jh_ops.specs.declared.call.Workload.{Workload}
 use Rattle.jh_nemesis.specs.Steps.{FitsNodes}
 use Rattle.jh_gen.specs.View.{generator_of}
-use Rattle.jh_simnode.specs.Plans.{PlanValue, IsFit, HasClients, HasOps, HasRows, RefusesPlan, most_ops}
+use Rattle.jh_simnode.specs.Plans.{IsFit, RefusesPlan, most_ops}
 use Rattle.jh_simnode.specs.declared.plan.PlanError.{PlanError}
 use Rattle.jh_simnode.specs.declared.schedule.Entry.{Entry}
 use Rattle.jh_settings.specs.Inside.{RefusesValues, RefusesWith, TellsCluster, TellsLoad, TellsLimits, plan_with, plan_fault, cluster_keys, load_keys, limit_keys}
@@ -25,7 +25,6 @@ use Rattle.jh_settings.specs.declared.settings.Load.{Load}
 use Rattle.jh_settings.specs.declared.settings.RunSettings.{RunSettings}
 use Rattle.jh_settings.proofs.ElementLemmas.{none_not}
 use Rattle.jh_settings.proofs.OrderLemmas.{cluster_good, load_good, limits_good, good_append}
-
 
 whole_is : (least most : ℕ) (value : Data) (n : ℕ) → whole_in least most value ≡ Some n → (least ≤ n) × (n ≤ most)
 whole_is least most (integer (pos m)) n e =
@@ -55,7 +54,7 @@ has_rows document n e = default_is 1 65536 4096 (value_under Key.Rows document) 
 has_ops : (document : Members) (workload : Workload) (n : ℕ) → workload_told document ≡ Some workload → ops_told document ≡ Some n → (1 ≤ n) × (n ≤ most_ops workload)
 has_ops document workload n told e =
     let known : needed (whole_in 1 (most_ops workload)) Key.Ops document ≡ Some n =
-        sym (ap (option_and_then (λ w. needed (whole_in 1 (most_ops w)) Key.Ops document)) told) ∙ e in
+    sym (ap (option_and_then (λ w. needed (whole_in 1 (most_ops w)) Key.Ops document)) told) ∙ e in
     needed_is 1 (most_ops workload) (value_under Key.Ops document) n known
 
 -- parts of a plan that a document tells

@@ -1,5 +1,5 @@
 -- A value that is refused as an environment tells none, and its names are told once.
-use Rattle.std.proofs.Common.{◌≡◌, ℕ, ◌<◌, ◌≤◌, List, [], ◌∷◌, ◌++◌, length, true, false, Option, Some, None, Ok, Err, refl, sym, ap, subst, ◌∙◌, arith}
+use Rattle.std.proofs.Common.{◌≡◌, ℕ, List, length, None, Ok, Err, refl, sym, ap, subst, ◌∙◌, arith}
 use Rattle.std.proofs.lemmas.Bool.{true≢false}
 use Rattle.std.proofs.lemmas.Option.{same_Some}
 use Rattle.jh_edn.specs.Edn.{Edn}
@@ -9,7 +9,7 @@ use Rattle.jh_env.specs.Names.{AreFew, AreNodeNames, RefusesNames, RefusesSomeNa
 use Rattle.jh_env.specs.Overlay.{EnvValue}
 use Rattle.jh_env.specs.Text.{Keys, Shape, keys_of, shape_of}
 use Rattle.jh_env.specs.TextCells.{IsTextOf}
-use Rattle.jh_env.specs.TextFaults.{HasShape, HasFault, AreSound, RefusesNodes, RefusesEntry, RefusesText}
+use Rattle.jh_env.specs.TextFaults.{HasShape, HasFault, RefusesNodes, RefusesEntry, RefusesText}
 use Rattle.jh_env.specs.declared.names.NodesError.{NodesError}
 use Rattle.jh_env.specs.declared.names.NodesError.TheVariants as names
 use Rattle.jh_env.specs.declared.texts.EnvTextError.{EnvTextError}

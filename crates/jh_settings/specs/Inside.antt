@@ -115,7 +115,7 @@ plan_fault PlanError.OutOfMemory = OutOfMemory
 abbrev pub plan_with : Cluster → Load → Limits → List Entry → PlanValue
 plan_with cluster load limits schedule =
     plan cluster.environment cluster.store load.volatile cluster.workload load.initial load.clients load.ops
-        (generator_of cluster.generator) schedule limits.tick_every limits.rows limits.seed
+    (generator_of cluster.generator) schedule limits.tick_every limits.rows limits.seed
 
 abbrev pub RefusesWith : PlanValue → SettingsError → Type 0
 RefusesWith plan e = (fault : PlanError) × RefusesPlan plan fault × (e ≡ plan_fault fault)

@@ -1,5 +1,5 @@
 -- The keys of a run's settings, and which keys a document has (this project's own; documents as TOML 1.1 has them).
-use Rattle.std.specs.Prelude.{◌≡◌, ℕ, Bool, true, false, not, List, [], ◌∷◌, codes, Contains, find, Option, Some, None, is_some}
+use Rattle.std.specs.Prelude.{◌≡◌, ℕ, Bool, true, false, not, List, [], ◌∷◌, codes, Contains, find, Option, Some, is_some}
 use Rattle.std.specs.Str.{bytes_eq, IsUtf8}
 use Rattle.std.specs.List.{list_all, list_any}
 use Rattle.std.specs.Ordering.{nat_cmp}

@@ -1,6 +1,6 @@
 -- What each setting tells, key by key (this project's own). A new setting is a new definition here, a key in Keys and a line of
 -- `IsGood`.
-use Rattle.std.specs.Prelude.{◌≡◌, ℕ, ◌≤◌, ℤ, pos, Bool, false, List, [], ◌∷◌, length, codes, nat_le, if◌then◌else◌, Option, Some, None, IsSome, option_map, option_and_then, Result, Ok, Err}
+use Rattle.std.specs.Prelude.{◌≡◌, ℕ, ◌≤◌, ℤ, pos, Bool, false, List, [], ◌∷◌, length, codes, nat_le, if◌then◌else◌, Option, Some, None, option_map, option_and_then, Result, Ok, Err}
 use Rattle.std.specs.Str.{bytes_eq}
 use Rattle.toml.specs.Data.{Data, array, Items, no_items, item, Members, as_bool, as_integer}
 use Rattle.jh_edn.specs.Edn.{Edn, int, elements_of}

@@ -1,6 +1,7 @@
 //! Settings whose values are texts of EDN: the start, the generator and the entries of the schedule.
 
-ghost use Rattle.std.specs.Prelude.{◌≡◌, ◌≢◌, ◌<◌, ◌∷◌, [], drop, MatchBool, IfOk, IfSome, List, All, MatchOption, MatchResult, length};
+ghost use Rattle.std.specs.Prelude.{◌≡◌, ◌≢◌, List, [], ◌∷◌, drop, length, All};
+ghost use Rattle.std.specs.Prelude.{IfOk, IfSome, MatchBool, MatchOption, MatchResult};
 ghost use Rattle.std.specs.Str.{IsCharBoundary};
 ghost use Rattle.toml.specs.View as toml;
 ghost use Rattle.toml.specs.View.{table_view};
@@ -11,8 +12,9 @@ ghost use Rattle.jh_env.specs.Overlay.{EnvValue};
 ghost use Rattle.jh_nemesis.specs.Steps.{FitsNodes};
 ghost use Rattle.jh_gen.specs.Generator.{Generator};
 ghost use Rattle.jh_gen.specs.View.{generator_of};
-ghost use Rattle.jh_settings.specs.Inside.{IsElementIn, IsEntryIn, IsNoElement, RefusesValue, start_fault};
 ghost use Rattle.jh_simnode.specs.declared.schedule.Entry.{Entry};
+ghost use Rattle.jh_settings.specs.Inside.{IsElementIn, IsEntryIn, IsNoElement, RefusesValue};
+ghost use Rattle.jh_settings.specs.Inside.{start_fault};
 ghost use Rattle.jh_settings.specs.Kinds.{HoldsElement};
 ghost use Rattle.jh_settings.specs.Told as rule;
 ghost use Rattle.jh_settings.specs.Told.{TellAll, TellsGenerator, TellsSchedule, TellsStart};
@@ -21,10 +23,10 @@ use crate::error::SettingsError;
 use crate::keys::Key;
 use crate::table::value_under;
 use jh_edn::{EdnError, Value, read_one};
-use jh_gen::{Gen, GenTextError, gen_of_value};
 use jh_env::{Env, EnvTextError, Nodes, env_of_value};
-use jh_simnode::{Entry, MOST_ENTRIES, Schedule};
+use jh_gen::{Gen, GenTextError, gen_of_value};
 use jh_nemesis::{StepTextError, step_of_value};
+use jh_simnode::{Entry, MOST_ENTRIES, Schedule};
 use std::alloc::{AllocError, Global};
 use toml::Table;
 
@@ -187,7 +189,11 @@ fn entry_of(alloc: Global, nodes: &Nodes, value: &toml::Value) -> Result<Option<
 }
 
 // The entries that these values tell.
-fn entries_in(alloc: Global, values: &[toml::Value], nodes: &Nodes) -> Result<Vec<Entry>, SettingsError>
+fn entries_in(
+    alloc: Global,
+    values: &[toml::Value],
+    nodes: &Nodes,
+) -> Result<Vec<Entry>, SettingsError>
     ensures told { MatchResult result
         (λ entries. TellAll nodes.now (toml.items_view values.now) entries.items)
         (RefusesValue ((entries : List Entry) × TellAll nodes.now (toml.items_view values.now) entries) Key.Schedule) }
@@ -221,7 +227,11 @@ fn entries_under(alloc: Global, table: &Table, nodes: &Nodes) -> Result<Vec<Entr
 }
 
 /// The schedule under `schedule`, over the nodes of the start.
-pub(crate) fn schedule_under(alloc: Global, table: &Table, nodes: &Nodes) -> Result<Schedule, SettingsError>
+pub(crate) fn schedule_under(
+    alloc: Global,
+    table: &Table,
+    nodes: &Nodes,
+) -> Result<Schedule, SettingsError>
     ensures told { MatchResult result
         (TellsSchedule nodes.now (table_view table.now))
         (RefusesValue ((entries : List Entry) × TellsSchedule nodes.now (table_view table.now) entries) Key.Schedule) }

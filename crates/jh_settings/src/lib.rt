@@ -11,3 +11,6 @@ mod words;
 pub use error::{KeyText, SettingsError};
 pub use keys::Key;
 pub use settings::{RunSettings, settings_of};
+
+#[cfg(test)]
+mod tests;

@@ -1,12 +1,12 @@
 //! The settings of a run. `specs/Settings.antt` says which settings a document tells, and why others are refused.
 
-ghost use Rattle.std.specs.Prelude.{◌≡◌, Some, None, [], All, MatchResult, IfOk, length};
+ghost use Rattle.std.specs.Prelude.{◌≡◌, Some, None, [], MatchResult};
 ghost use Rattle.toml.specs.View.{table_view};
-ghost use Rattle.jh_settings.specs.Inside.{RefusesBytes, RefusesKeys, RefusesValues, Refuses};
-ghost use Rattle.jh_settings.specs.Inside.{TellsCluster, TellsLimits, TellsLoad};
-ghost use Rattle.jh_settings.specs.Inside.{RefusesWith, cluster_keys, limit_keys, load_keys, plan_fault, plan_with};
 ghost use Rattle.jh_env.specs.Overlay.{StandsFor};
 ghost use Rattle.jh_simnode.specs.Plans.{IsFit};
+ghost use Rattle.jh_settings.specs.Inside.{Refuses, RefusesBytes, RefusesKeys, RefusesValues};
+ghost use Rattle.jh_settings.specs.Inside.{RefusesWith, TellsCluster, TellsLimits, TellsLoad};
+ghost use Rattle.jh_settings.specs.Inside.{cluster_keys, limit_keys, load_keys, plan_fault, plan_with};
 ghost use Rattle.jh_settings.specs.Keys as rule;
 ghost use Rattle.jh_settings.specs.Keys.{HasKnownKeys, IsDocument};
 ghost use Rattle.jh_settings.specs.Settings.{AreSettings, AreSettingsOf, RefusesSettings};
@@ -30,11 +30,11 @@ const MOST_TICK_EVERY: u64 = 10_000;
 /// The greatest budget of a judgement.
 const MOST_BUDGET: u64 = 10_000_000;
 
-/// What is run, and how much may be spent on the judgement of its history.
+/// What is run, and how much the judgement of its history may take.
 #[derive(Debug, Drop)]
 pub struct RunSettings {
     pub plan: Plan,
-    /// How many orders of calls the judge of a register tries at most.
+    /// How many configurations the judge of a register may reach, from 0 to 10,000,000.
     pub budget: u64,
 }
 
@@ -147,7 +147,12 @@ fn settings_with(
         (λ settings. (settings.plan ≡ plan_with cluster load limits schedule) × (settings.budget ≡ limits.budget) × IsFit settings.plan)
         (RefusesWith (plan_with cluster load limits schedule)) }
 {
-    let Cluster { environment, store, workload, generator } = cluster;
+    let Cluster {
+        environment,
+        store,
+        workload,
+        generator,
+    } = cluster;
     match Plan::new(
         alloc,
         environment,
@@ -163,7 +168,10 @@ fn settings_with(
         limits.rows,
         limits.seed,
     ) {
-        Ok(plan) => Ok(RunSettings { plan, budget: limits.budget }),
+        Ok(plan) => Ok(RunSettings {
+            plan,
+            budget: limits.budget,
+        }),
         Err(error) => Err(plan_error(error)),
     }
 }

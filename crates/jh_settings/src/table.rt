@@ -44,7 +44,12 @@ fn whole_in(value: &Value, least: u64, most: u64) -> Option<u64>
 }
 
 /// The number under a key, from the least to the most.
-pub(crate) fn number_under(table: &Table, key: Key, least: u64, most: u64) -> Result<u64, SettingsError>
+pub(crate) fn number_under(
+    table: &Table,
+    key: Key,
+    least: u64,
+    most: u64,
+) -> Result<u64, SettingsError>
     ensures told { Answers result key (needed (whole_in least most) key (table_view table.now)) }
     ensures within { IfOk result (λ number. number ≤ most) }
 {

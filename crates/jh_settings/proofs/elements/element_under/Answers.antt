@@ -1,6 +1,6 @@
 use Rattle.std.proofs.Common.{refl, sym}
 use Rattle.toml.specs.View.{table_view, view}
-use Rattle.jh_settings.proofs.ElementLemmas.{nothing_held, none_held}
+use Rattle.jh_settings.proofs.ElementLemmas.{none_held}
 use Rattle.jh_settings.proofs.elements.element_under.Goals as goal
 
 pub returns-in-None : goal.returns-in-None

@@ -1,8 +1,8 @@
-use Rattle.std.proofs.Common.{refl, length, map, get_or, arith}
+use Rattle.std.proofs.Common.{refl, length}
 use Rattle.std.proofs.lemmas.List.Elements.{All-push}
 use Rattle.jh_nemesis.specs.Steps.{FitsNodes}
 use Rattle.jh_simnode.specs.declared.schedule.Entry.{Entry}
-use Rattle.jh_settings.proofs.EntryLemmas.{none_told, one_told, not_told, all_told, too_many}
+use Rattle.jh_settings.proofs.EntryLemmas.{one_told, not_told, all_told, too_many}
 use Rattle.jh_settings.proofs.elements.entries_in.Goals as goal
 
 pub returns-then-values-gt-MOST_ENTRIES-clause-told : goal.returns-then-values-gt-MOST_ENTRIES-clause-told

@@ -1,6 +1,5 @@
 use Rattle.toml.specs.View.{view}
 use Rattle.jh_edn.specs.View as edn
-use Rattle.jh_settings.specs.Inside.{IsElementIn}
 use Rattle.jh_settings.proofs.ElementLemmas.{entry_from}
 use Rattle.jh_settings.proofs.elements.entry_of.Goals as goal
 

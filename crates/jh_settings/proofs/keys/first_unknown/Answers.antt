@@ -1,4 +1,4 @@
-use Rattle.std.proofs.Common.{◌≡◌, ◌∷◌, List, Global, String, subst, ap, sym, ◌∙◌}
+use Rattle.std.proofs.Common.{◌≡◌, subst, ap, sym, ◌∙◌}
 use Rattle.std.specs.BTreeMap.{keys}
 use Rattle.toml.specs.View.{table_view}
 use Rattle.jh_settings.specs.Keys.{is_known, IsFirstUnknown}

@@ -1,7 +1,7 @@
-use Rattle.std.proofs.Common.{◌∷◌, ◌++◌, [], List, ap, sym, subst}
+use Rattle.std.proofs.Common.{◌∷◌, ◌++◌, []}
 use Rattle.std.proofs.lemmas.Result.{err_from_is_err_and}
 use Rattle.toml.specs.View.{table_view}
-use Rattle.jh_settings.specs.Inside.{Refuses, RefusesValues, cluster_keys, load_keys, limit_keys}
+use Rattle.jh_settings.specs.Inside.{RefusesValues, cluster_keys, load_keys, limit_keys}
 use Rattle.jh_settings.specs.declared.keys.Key.{Key}
 use Rattle.jh_settings.proofs.OrderLemmas.{refused_front, refused_behind, all_refused, cluster_good, load_good, limits_good, schedule_refused}
 use Rattle.jh_settings.proofs.PlanLemmas.{settled}
@@ -47,12 +47,12 @@ pub returns : goal.returns
 returns c =
     let d = table_view c.args.table.now in
     settled d c.in_ok-cluster.cluster c.in_ok-load.load c.in_ok-limits.limits c.in_ok-schedule.schedule
-      (record {
-        known = c.requires;
-        cluster = c.in_ok-cluster.ensures;
-        load = c.in_ok-load.ensures;
-        limits = c.in_ok-limits.ensures;
-        schedule = rw c.nodes.ensures.names at c.in_ok-schedule.ensures.told;
-        fit = rw c.nodes.ensures.names at c.in_ok-schedule.ensures.fit;
-      })
-      c.settings_with.result c.settings_with.ensures
+    (record {
+      known = c.requires;
+      cluster = c.in_ok-cluster.ensures;
+      load = c.in_ok-load.ensures;
+      limits = c.in_ok-limits.ensures;
+      schedule = rw c.nodes.ensures.names at c.in_ok-schedule.ensures.told;
+      fit = rw c.nodes.ensures.names at c.in_ok-schedule.ensures.fit;
+    })
+    c.settings_with.result c.settings_with.ensures
