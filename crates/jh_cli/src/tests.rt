@@ -4,11 +4,14 @@ use crate::{CliError, env_run};
 use jh_edn::EdnError;
 use jh_env::EnvTextError;
 use jh_nemesis::StepTextError;
+use jh_settings::SettingsError;
+use jh_simnode::{RunError, WorldError};
 use std::alloc::{AllocError, Global};
 use std::io::{self, Read, Write};
 use std::test::Fail;
 
 mod check;
+mod run;
 mod table;
 
 /// What the command answers, and what it writes.
@@ -36,7 +39,7 @@ fn env_once(alloc: Global, mut input: &[u8]) -> Run {
 }
 
 // The text of an error, once more where memory was refused.
-fn text_of(alloc: Global, error: CliError) -> Result<Vec<u8>, Fail> {
+fn text_of(alloc: Global, error: &CliError) -> Result<Vec<u8>, Fail> {
     let mut text = Vec::new(alloc);
     if error.text(&mut text).is_err() {
         text.clear();
@@ -56,7 +59,7 @@ fn is_answer(alloc: Global, input: &[u8], expected: &[u8]) -> Result<bool, Fail>
         Err(error) => Ok(
             error.status() == 3
                 && run.output.is_empty()
-                && text_of(alloc, error)?.as_slice() == expected,
+                && text_of(alloc, &error)?.as_slice() == expected,
         ),
     }
 }
@@ -127,7 +130,7 @@ fn stands_many_faults(rt: HostRuntime) {
         panic!(rt; "no memory");
     };
     let run = env_on(rt.alloc(), &long.input);
-    assert_eq!(rt; run.answer, Ok(0));
+    assert!(rt; matches!(run.answer, Ok(0)));
     assert_eq!(rt; run.output.as_slice(), long.output.as_slice());
 }
 
@@ -137,7 +140,7 @@ fn stands_many_steps(rt: HostRuntime) {
         panic!(rt; "no memory");
     };
     let run = env_on(rt.alloc(), &long.input);
-    assert_eq!(rt; run.answer, Ok(0));
+    assert!(rt; matches!(run.answer, Ok(0)));
     assert_eq!(rt; run.output.as_slice(), long.output.as_slice());
 }
 
@@ -157,42 +160,48 @@ fn refuses_other_inputs(rt: HostRuntime) -> Result<(), Fail> {
     Ok(())
 }
 
-/// Errors that no short input meets.
-static OTHER_ERRORS: [(CliError, u8, &[u8]); 5] = [
-    (CliError::Input(EdnError::TooLong), 3, b"input too long"),
-    (
-        CliError::Element {
-            place: 2,
-            fault: StepTextError::BadAmount,
-        },
-        3,
-        b"element 2: bad amount",
-    ),
-    (CliError::Read, 4, b"read failed"),
-    (CliError::Write, 4, b"write failed"),
-    (CliError::OutOfMemory, 4, b"out of memory"),
-];
+// An error that no short input meets has this status and this text.
+fn is_named(alloc: Global, error: CliError, status: u8, text: &[u8]) -> Result<bool, Fail> {
+    Ok(error.status() == status && text_of(alloc, &error)?.as_slice() == text)
+}
 
 #[test]
-fn names_other_errors(rt: HostRuntime) -> Result<(), Fail> {
-    for (error, status, text) in OTHER_ERRORS.iter() {
-        assert_eq!(rt; error.status(), *status);
-        assert_eq!(rt; text_of(rt.alloc(), *error)?.as_slice(), *text);
-    }
+fn names_other_refusals(rt: HostRuntime) -> Result<(), Fail> {
+    let long = CliError::Input(EdnError::TooLong);
+    assert!(rt; is_named(rt.alloc(), long, 3, b"input too long")?);
+    let step = CliError::Element {
+        place: 2,
+        fault: StepTextError::BadAmount,
+    };
+    assert!(rt; is_named(rt.alloc(), step, 3, b"element 2: bad amount")?);
     Ok(())
 }
 
 #[test]
-fn maps_errors_of_the_machine(rt: HostRuntime) {
-    assert_eq!(rt;
-        CliError::from(EdnError::OutOfMemory),
-        CliError::OutOfMemory
-    );
-    assert_eq!(rt;
-        CliError::from(EnvTextError::OutOfMemory),
-        CliError::OutOfMemory
-    );
-    assert_eq!(rt; CliError::from(AllocError), CliError::OutOfMemory);
+fn names_runs_that_were_not_completed(rt: HostRuntime) -> Result<(), Fail> {
+    let events = CliError::from(RunError::World(WorldError::TooManyEvents));
+    assert!(rt; is_named(rt.alloc(), events, 4, b"too many events")?);
+    let stuck = CliError::from(RunError::Stuck);
+    assert!(rt; is_named(rt.alloc(), stuck, 4, b"stuck")?);
+    Ok(())
+}
+
+#[test]
+fn names_errors_of_the_machine(rt: HostRuntime) -> Result<(), Fail> {
+    assert!(rt; is_named(rt.alloc(), CliError::Read, 4, b"read failed")?);
+    assert!(rt; is_named(rt.alloc(), CliError::Write, 4, b"write failed")?);
+    assert!(rt; is_named(rt.alloc(), CliError::OutOfMemory, 4, b"out of memory")?);
+    Ok(())
+}
+
+// Want of memory has one name, wherever it came.
+#[test]
+fn maps_want_of_memory(rt: HostRuntime) {
+    assert!(rt; matches!(CliError::from(EdnError::OutOfMemory), CliError::OutOfMemory));
+    assert!(rt; matches!(CliError::from(EnvTextError::OutOfMemory), CliError::OutOfMemory));
+    assert!(rt; matches!(CliError::from(SettingsError::OutOfMemory), CliError::OutOfMemory));
+    assert!(rt; matches!(CliError::from(RunError::OutOfMemory), CliError::OutOfMemory));
+    assert!(rt; matches!(CliError::from(AllocError), CliError::OutOfMemory));
 }
 
 /// A reader that gives one space at each read, and fails after so many.
@@ -220,7 +229,7 @@ fn a_failing_reader_fails_the_command(rt: HostRuntime) {
     for left in 0..3 {
         let mut output = Vec::new(rt.alloc());
         let answer = env_run(rt.alloc(), &mut Spaces { left }, &mut output);
-        assert!(rt; answer == Err(CliError::Read) || answer == Err(CliError::OutOfMemory));
+        assert!(rt; matches!(answer, Err(CliError::Read | CliError::OutOfMemory)));
         assert!(rt; output.is_empty());
     }
 }
@@ -243,5 +252,5 @@ impl Write for Full {
 fn a_failing_writer_fails_the_command(rt: HostRuntime) {
     let mut input = b"{:nodes [\"n1\"]}".as_slice();
     let answer = env_run(rt.alloc(), &mut input, &mut Full);
-    assert!(rt; answer == Err(CliError::Write) || answer == Err(CliError::OutOfMemory));
+    assert!(rt; matches!(answer, Err(CliError::Write | CliError::OutOfMemory)));
 }

@@ -179,7 +179,7 @@ fn wrong_words_have_status_3(rt: HostRuntime) -> Result<(), Fail> {
     ];
     for (words, text) in rows {
         let error = refusal_of(&rt, rt.alloc(), words);
-        assert_eq!(rt; status_of_refusal(&error), Ok(REFUSED));
+        assert!(rt; matches!(status_of_refusal(&error), Ok(status) if status == REFUSED));
         assert_eq!(rt; error.to_string(rt.alloc())?.as_str(), text);
     }
     Ok(())
@@ -187,15 +187,16 @@ fn wrong_words_have_status_3(rt: HostRuntime) -> Result<(), Fail> {
 
 #[test]
 fn help_has_status_0(rt: HostRuntime) -> Result<(), Fail> {
-    let rows: [(&[&str], &str); 4] = [
+    let rows: [(&[&str], &str); 5] = [
         (&["jeprun", "help"], HELP),
+        (&["jeprun", "run", "--help"], RUN_HELP),
         (&["jeprun", "check", "--help"], CHECK_HELP),
         (&["jeprun", "--help"], HELP),
         (&["jeprun", "env", "--help"], ENV_HELP),
     ];
     for (words, text) in rows {
         let error = refusal_of(&rt, rt.alloc(), words);
-        assert_eq!(rt; status_of_refusal(&error), Ok(0));
+        assert!(rt; matches!(status_of_refusal(&error), Ok(0)));
         assert_eq!(rt; error.to_string(rt.alloc())?.as_str(), text);
     }
     Ok(())

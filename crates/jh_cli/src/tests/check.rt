@@ -58,7 +58,7 @@ fn ends_with(alloc: Global, run: Run, status: &str, text: &[u8]) -> Result<bool,
             error.status() == 3
                 && status == "3"
                 && run.output.is_empty()
-                && text_of(alloc, error)?.as_slice() == text,
+                && text_of(alloc, &error)?.as_slice() == text,
         ),
     }
 }
@@ -289,8 +289,8 @@ fn failing_streams_fail_the_check(rt: HostRuntime) {
     let mut output = Vec::new(rt.alloc());
     let mut spaces = Spaces { left: 1 };
     let answer = check_run(rt.alloc(), &mut spaces, &mut output, Workload::Set, None, 0);
-    assert!(rt; answer == Err(CliError::Read) || answer == Err(CliError::OutOfMemory));
+    assert!(rt; matches!(answer, Err(CliError::Read | CliError::OutOfMemory)));
     let mut input = b"".as_slice();
     let answer = check_run(rt.alloc(), &mut input, &mut Full, Workload::Set, None, 0);
-    assert!(rt; answer == Err(CliError::Write) || answer == Err(CliError::OutOfMemory));
+    assert!(rt; matches!(answer, Err(CliError::Write | CliError::OutOfMemory)));
 }
