@@ -84,10 +84,11 @@ module _ (p : PlanValue) (r : Turns) (journal : List Event) (run : Run) (t word 
 
   pub asks_pending : (d' : DriverState) → Answers (run_generator p) r.tally run.driver (thread.Client t) word answer.Pending d'
       → Asks p r journal asked.Waits (record run { driver = d'; words = words; asks = run.asks + 1; waits = run.waits + 1 })
-  asks_pending d' h =
-      (goes_by None h.0 h.1,
-      subst (λ (d : DriverState). Keeps p (waited r) journal (record run { driver = d; words = words; asks = run.asks + 1; waits = run.waits + 1 })) (sym h.2)
-      (waits_on p r journal run words i.keeps (words_are run.words words word next)))
+  asks_pending d' h = (
+    goes_by None h.0 h.1,
+    subst (λ (d : DriverState). Keeps p (waited r) journal (record run { driver = d; words = words; asks = run.asks + 1; waits = run.waits + 1 })) (sym h.2)
+        (waits_on p r journal run words i.keeps (words_are run.words words word next)),
+  )
 
   pub asks_call : (d' : DriverState) (x : Process) (request : Request) → t < p.clients
       → Answers (run_generator p) r.tally run.driver (thread.Client t) word (answer.Call x (call.Client request)) d'
@@ -96,16 +97,20 @@ module _ (p : PlanValue) (r : Turns) (journal : List Event) (run : Run) (t word 
       let d = i.keeps.driver i.going in
       let path : Path = h.2 in
       let gives = h.4 in
-      let k = i.keeps in
-      (path, goes_by (Some (path, call.Client request)) h.0 h.3, ap number_of h.1 ∙ d.processes t below ∙ ap (λ u. process_of p.clients u journal) i.turn, record {
-        stands = gives.stands;
-        clients = gives.clients ∙ d.clients;
-        busy = gives.busy ∙ ap₂ (λ l s. set l s true) d.idle (ap (λ n. n + 1) i.turn);
-        long = ap length gives.processes ∙ d.long;
-        processes = λ u small. ap (λ l. slice_index l (u + 1)) gives.processes ∙ d.processes u small;
-        given = d.given;
-        words = words_are run.words words word next ∙ ap (λ (g : Lcg). (pcg64 g).1) k.words ∙ next_words p.seed (words_taken r journal);
-        counts = record { long = k.counts.long; calls = k.counts.calls; answered = k.counts.answered; applied = k.counts.applied };
-        asks = ap (λ n. n + 1) k.asks;
-        ended = k.ended;
-      })
+      let k = i.keeps in (
+        path,
+        goes_by (Some (path, call.Client request)) h.0 h.3,
+        ap number_of h.1 ∙ d.processes t below ∙ ap (λ u. process_of p.clients u journal) i.turn,
+        record {
+          stands = gives.stands;
+          clients = gives.clients ∙ d.clients;
+          busy = gives.busy ∙ ap₂ (λ l s. set l s true) d.idle (ap (λ n. n + 1) i.turn);
+          long = ap length gives.processes ∙ d.long;
+          processes = λ u small. ap (λ l. slice_index l (u + 1)) gives.processes ∙ d.processes u small;
+          given = d.given;
+          words = words_are run.words words word next ∙ ap (λ (g : Lcg). (pcg64 g).1) k.words ∙ next_words p.seed (words_taken r journal);
+          counts = record { long = k.counts.long; calls = k.counts.calls; answered = k.counts.answered; applied = k.counts.applied };
+          asks = ap (λ n. n + 1) k.asks;
+          ended = k.ended;
+        },
+      )

@@ -161,14 +161,14 @@ fn push_step(
         ++ begun (length history.old.items) entry
         ∷ answered_by (length history.old.items + 1) number entry answer ∷ []) }
 {
-    let place = history.len() as i64;
+    let first = history.len() as i64;
     history.push(Op {
         kind: Kind::Info,
         f: keyword(alloc, "step")?,
         value: Value::Int(entry as i64),
         process: Process::Nemesis,
         time: None,
-        index: Some(place),
+        index: Some(first),
         rest: event_pairs(alloc, None)?,
     })?;
     history.push(Op {
@@ -177,7 +177,7 @@ fn push_step(
         value: vector_of(alloc, &[entry as i64, code_of(answer)])?,
         process: Process::Nemesis,
         time: None,
-        index: Some(place + 1),
+        index: Some(first + 1),
         rest: event_pairs(alloc, Some(number))?,
     })?;
     Ok(())

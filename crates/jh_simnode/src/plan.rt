@@ -134,7 +134,7 @@ impl Plan {
         requires { StandsFor environment [] }
         ensures { MatchResult result
             (λ plan. (plan ≡ rule.plan environment store volatile workload initial clients ops (generator_of generator) schedule tick_every rows seed)
-                × IsFit plan)
+            × IsFit plan)
             (RefusesPlan (rule.plan environment store volatile workload initial clients ops (generator_of generator) schedule tick_every rows seed)) }
     {
         if clients < 1 || clients > MOST_CLIENTS {

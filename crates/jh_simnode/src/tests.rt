@@ -2,6 +2,7 @@
 //! values that come from outside, and shows that memory suffices where there is some.
 
 mod fixtures;
+mod plain;
 mod plans;
 mod runs;
 mod stores;

@@ -203,7 +203,10 @@ impl Run {
     {
         let draw = self.words.next_word();
         let (_, reply) = world.call(process, node_of(plan, thread), request, draw)?;
-        match self.driver.complete(Thread::Client(thread), ended_of(&reply)) {
+        match self
+            .driver
+            .complete(Thread::Client(thread), ended_of(&reply))
+        {
             Ok(()) => {}
             Err(_) => unreachable!(),
         }

@@ -18,6 +18,7 @@ use jh_gen::{Gen, gen_of_value};
 use jh_nemesis::{StepAnswer, step_of_value};
 use jh_ops::{Op, Request, Workload, value_of};
 use std::alloc::Global;
+use std::fmt::Display;
 use std::io::Write;
 use std::test::Fail;
 
@@ -101,7 +102,7 @@ fn workload_of(map: &Value) -> Workload {
     }
 }
 
-fn env_of(alloc: Global, map: &Value) -> Option<Env>
+pub(super) fn env_of(alloc: Global, map: &Value) -> Option<Env>
     ensures { IfSome result (λ env. StandsFor env []) }
 {
     env_of_value(alloc, under(map, "start")?).ok()
@@ -204,37 +205,42 @@ fn text_once(alloc: Global, run: &Ran) -> Option<Vec<u8>> {
     Some(text)
 }
 
-fn error_once(alloc: Global, error: PlanError) -> Option<Vec<u8>> {
+fn shown_once<E: Display>(alloc: Global, error: &E) -> Option<Vec<u8>> {
     let mut text = Vec::new(alloc);
     write!(&mut text, "{error}").ok()?;
     Some(text)
 }
 
-/// The text of a serial run: how many events its journal has, and its history; or why the plan or the run was refused.
-pub(super) fn run_text(alloc: Global, settings: &str) -> Result<Vec<u8>, Fail> {
-    let text = match plan(alloc, &value(alloc, settings)?)? {
-        Ok(plan) => {
-            let run = run(alloc, &plan);
-            match text_once(alloc, &run) {
-                None => text_once(alloc, &run),
-                text => text,
-            }
-        }
-        Err(error) => match error_once(alloc, error) {
-            None => error_once(alloc, error),
-            text => text,
-        },
+/// The text of an error.
+pub(super) fn shown<E: Display>(alloc: Global, error: &E) -> Result<Vec<u8>, Fail> {
+    let text = match shown_once(alloc, error) {
+        None => shown_once(alloc, error),
+        text => text,
     };
     Ok(text.ok_or("no text")?)
+}
+
+fn text_of_run(alloc: Global, plan: &Plan) -> Option<Vec<u8>> {
+    let run = run(alloc, plan);
+    match text_once(alloc, &run) {
+        None => text_once(alloc, &run),
+        text => text,
+    }
+}
+
+/// The text of a serial run: how many events its journal has, and its history; or why the plan or the run was refused.
+pub(super) fn run_text(alloc: Global, settings: &str) -> Result<Vec<u8>, Fail> {
+    match plan(alloc, &value(alloc, settings)?)? {
+        Ok(plan) => Ok(text_of_run(alloc, &plan).ok_or("no text")?),
+        Err(error) => shown(alloc, &error),
+    }
 }
 
 /// The first example whose run tells another text than stands behind its arrow. White space around its parts is no part of
 /// them.
 pub(super) fn first_other_run(alloc: Global, examples: &str) -> Result<Option<&str>, Fail> {
     for example in examples.split('§') {
-        let Some((settings, expected)) = example.split_once('→') else {
-            return Ok(Some(example));
-        };
+        let (settings, expected) = example.split_once('→').unwrap_or((example, ""));
         if run_text(alloc, settings)?.trim_ascii() != expected.trim().as_bytes() {
             return Ok(Some(example));
         }
@@ -274,18 +280,9 @@ enum Did {
 type Told = Result<(u64, Did), WorldError>;
 
 fn call(world: &mut World, place: i64, request: &Value, draw: i64) -> Option<Told> {
-    let node = world
-        .nemesis()
-        .env()
-        .nodes()
-        .at(u8::try_from(place).ok()?)?;
+    let node = world.nemesis().env().nodes().at(u8::try_from(place).ok()?)?;
     Some(
-        match world.call(
-            0,
-            node,
-            request_of(request)?,
-            u64::try_from(draw).ok()?,
-        ) {
+        match world.call(0, node, request_of(request)?, u64::try_from(draw).ok()?) {
             Ok((number, reply)) => Ok((number, Did::Called(reply))),
             Err(error) => Err(error),
         },
@@ -393,31 +390,36 @@ pub(super) fn world(alloc: Global, settings: &Value) -> Result<World, Fail> {
     Ok(world.ok_or("no world")?)
 }
 
-/// Whether these acts in a new world come to what the words tell, which have a semicolon between each two.
-fn comes_to(alloc: Global, settings: &Value, acts: &[Value], words: &str) -> Result<bool, Fail> {
-    let mut world = world(alloc, settings)?;
+// Whether an act comes to this text.
+fn tells(alloc: Global, world: &mut World, value: &Value, text: &str) -> Option<bool> {
+    let told = act(alloc, world, value)?;
+    Some(did_text(alloc, &told)?.as_slice() == text.as_bytes())
+}
+
+// Whether these acts in a world come to what the words tell, which have a semicolon between each two.
+fn comes_to(alloc: Global, world: &mut World, acts: &[Value], words: &str) -> bool {
     let mut expected = words.split(';');
     for value in acts {
-        let told = act(alloc, &mut world, value).ok_or("no act")?;
-        let text = did_text(alloc, &told).ok_or("no text")?;
-        if expected.next().unwrap_or("").trim().as_bytes() != text.as_slice() {
-            return Ok(false);
+        let text = expected.next().unwrap_or("").trim();
+        if tells(alloc, world, value, text) != Some(true) {
+            return false;
         }
     }
-    Ok(expected.next().is_none())
+    expected.next().is_none()
+}
+
+fn is_right_world(alloc: Global, acts: &str, words: &str) -> Result<bool, Fail> {
+    let values = values(alloc, acts)?;
+    let (settings, acts) = values.as_slice().split_first().ok_or("no settings")?;
+    let mut world = world(alloc, settings)?;
+    Ok(comes_to(alloc, &mut world, acts, words))
 }
 
 /// The first example whose acts come to something else than stands behind its arrow.
 pub(super) fn first_other_world(alloc: Global, examples: &str) -> Result<Option<&str>, Fail> {
     for example in examples.split('§') {
-        let Some((acts, expected)) = example.split_once('→') else {
-            return Ok(Some(example));
-        };
-        let values = values(alloc, acts)?;
-        let Some((settings, acts)) = values.as_slice().split_first() else {
-            return Ok(Some(example));
-        };
-        if !comes_to(alloc, settings, acts, expected)? {
+        let (acts, words) = example.split_once('→').unwrap_or((example, ""));
+        if !is_right_world(alloc, acts, words)? {
             return Ok(Some(example));
         }
     }

@@ -1,7 +1,7 @@
 //! Which plans are refused and why, what a plan answers, and how long a schedule is.
 
-use super::fixtures::{first_other_run, plan, value};
-use crate::{Entry, MOST_ENTRIES, Schedule, Store, TooLong};
+use super::fixtures::{first_other_run, plan, shown, value};
+use crate::{Entry, MOST_ENTRIES, Plan, PlanError, Schedule, Store, TooLong};
 use jh_gen::Gen;
 use jh_nemesis::Step;
 use jh_ops::Workload;
@@ -55,31 +55,51 @@ fn plans_are_refused(rt: HostRuntime) -> Result<(), Fail> {
     Ok(())
 }
 
-const SETTINGS: &str = r#"{:start {:nodes ["a" "b" "c"]}, :store :lww, :volatile true, :workload :counter, :initial 4, :clients 3,
+const SETTINGS: &str =
+    r#"{:start {:nodes ["a" "b" "c"]}, :store :lww, :volatile true, :workload :counter, :initial 4, :clients 3,
     :ops 11, :generator [:once [:add 7]], :schedule [[5 [:undo]] [2 [:redo]]], :tick-every 6, :rows 12, :seed 13}"#;
 
-#[test]
-fn a_plan_has_its_numbers(rt: HostRuntime) -> Result<(), Fail> {
-    let plan = plan(rt.alloc(), &value(rt.alloc(), SETTINGS)?)??;
-    assert_eq!(rt; [plan.clients(), plan.ops(), plan.tick_every(), plan.rows()], [3, 11, 6, 12]);
-    assert_eq!(rt; (plan.seed(), plan.initial()), (13, Some(4)));
-    Ok(())
+fn has_numbers(plan: &Plan) -> bool {
+    plan.clients() == 3
+        && plan.ops() == 11
+        && plan.tick_every() == 6
+        && plan.rows() == 12
+        && plan.seed() == 13
 }
 
-#[test]
-fn a_plan_has_its_settings(rt: HostRuntime) -> Result<(), Fail> {
-    let plan = plan(rt.alloc(), &value(rt.alloc(), SETTINGS)?)??;
-    assert_eq!(rt; (plan.store(), plan.workload()), (Store::Lww, Workload::Counter));
-    assert!(rt; plan.volatile());
-    Ok(())
+fn has_settings(plan: &Plan) -> bool {
+    plan.store() == Store::Lww
+        && plan.volatile()
+        && plan.workload() == Workload::Counter
+        && plan.initial() == Some(4)
+}
+
+fn has_schedule(plan: &Plan) -> bool {
+    match plan.schedule().entries() {
+        [first, second] => {
+            first.at == 5
+                && matches!(first.step, Step::Undo)
+                && second.at == 2
+                && matches!(second.step, Step::Redo)
+        }
+        _ => false,
+    }
+}
+
+fn has_parts(plan: &Plan) -> bool {
+    plan.environment().nodes().len() == 3 && matches!(plan.generator(), Gen::Once(_))
 }
 
 #[test]
 fn a_plan_has_its_parts(rt: HostRuntime) -> Result<(), Fail> {
     let plan = plan(rt.alloc(), &value(rt.alloc(), SETTINGS)?)??;
-    assert_eq!(rt; plan.environment().nodes().len(), 3);
-    assert!(rt; matches!(plan.generator(), Gen::Once(_)));
-    assert!(rt; matches!(plan.schedule().entries(), [Entry { at: _, step: Step::Undo }, Entry { at: _, step: Step::Redo }]));
+    let has = [
+        has_numbers(&plan),
+        has_settings(&plan),
+        has_schedule(&plan),
+        has_parts(&plan),
+    ];
+    assert_eq!(rt; has, [true; 4]);
     Ok(())
 }
 
@@ -87,7 +107,12 @@ fn a_plan_has_its_parts(rt: HostRuntime) -> Result<(), Fail> {
 fn schedule_once(alloc: Global, count: u32) -> Option<Result<Schedule, TooLong>> {
     let mut entries = Vec::new(alloc);
     for at in 0..count {
-        entries.push(Entry { at, step: Step::Undo }).ok()?;
+        entries
+            .push(Entry {
+                at,
+                step: Step::Undo,
+            })
+            .ok()?;
     }
     Some(Schedule::of(entries))
 }
@@ -114,5 +139,14 @@ fn a_schedule_gives_its_entries_back(rt: HostRuntime) -> Result<(), Fail> {
 fn a_schedule_is_too_long(rt: HostRuntime) -> Result<(), Fail> {
     let refused = schedule(rt.alloc(), 1025)?.err();
     assert_eq!(rt; refused, Some(TooLong));
+    Ok(())
+}
+
+#[test]
+fn plans_and_schedules_tell_why_not(rt: HostRuntime) -> Result<(), Fail> {
+    let plan = shown(rt.alloc(), &PlanError::OutOfMemory)?;
+    assert_eq!(rt; plan.as_slice(), b"out of memory".as_slice());
+    let schedule = shown(rt.alloc(), &TooLong)?;
+    assert_eq!(rt; schedule.as_slice(), b"too long".as_slice());
     Ok(())
 }

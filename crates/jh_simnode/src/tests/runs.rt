@@ -1,6 +1,7 @@
 //! Serial runs.
 
-use super::fixtures::first_other_run;
+use super::fixtures::{first_other_run, shown};
+use crate::{RunError, WorldError};
 use std::test::Fail;
 
 // Settings, and behind the arrow how many events the journal of their run has, and its history.
@@ -147,5 +148,23 @@ const RUNS: &str = r#"
 #[test]
 fn runs_tell_their_histories(rt: HostRuntime) -> Result<(), Fail> {
     assert_eq!(rt; first_other_run(rt.alloc(), RUNS)?, None);
+    Ok(())
+}
+
+#[test]
+fn runs_and_worlds_tell_why_not(rt: HostRuntime) -> Result<(), Fail> {
+    let texts = [
+        (RunError::World(WorldError::UnknownNode), "unknown node"),
+        (
+            RunError::World(WorldError::TooManyEvents),
+            "too many events",
+        ),
+        (RunError::World(WorldError::OutOfMemory), "out of memory"),
+        (RunError::Stuck, "stuck"),
+        (RunError::OutOfMemory, "out of memory"),
+    ];
+    for (error, text) in texts {
+        assert_eq!(rt; shown(rt.alloc(), &error)?.as_slice(), text.as_bytes());
+    }
     Ok(())
 }
