@@ -11,7 +11,7 @@ use std::io::{self, Read, Write};
 use std::test::Fail;
 
 mod check;
-mod run;
+mod runs;
 mod table;
 
 /// What the command answers, and what it writes.
@@ -51,14 +51,14 @@ fn text_of(alloc: Global, error: &CliError) -> Result<Vec<u8>, Fail> {
 // Whether these lines are written for the input, at status 0; or, where the input is refused, whether nothing is written
 // and this is the text of the refusal, at status 3.
 fn is_answer(alloc: Global, input: &[u8], expected: &[u8]) -> Result<bool, Fail> {
-    let run = env_on(alloc, input);
-    match run.answer {
+    let Run { answer, output } = env_on(alloc, input);
+    match answer {
         Ok(status) => {
-            Ok(status == 0 && run.output.as_slice().split_last() == Some((&b'\n', expected)))
+            Ok(status == 0 && output.as_slice().split_last() == Some((&b'\n', expected)))
         }
         Err(error) => Ok(
             error.status() == 3
-                && run.output.is_empty()
+                && output.is_empty()
                 && text_of(alloc, &error)?.as_slice() == expected,
         ),
     }

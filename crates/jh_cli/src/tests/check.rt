@@ -49,15 +49,16 @@ fn check_on(alloc: Global, question: Question, input: &[u8]) -> Run {
 
 // Whether the command ends with this status, and this line or refusal.
 fn ends_with(alloc: Global, run: Run, status: &str, text: &[u8]) -> Result<bool, Fail> {
-    match run.answer {
+    let Run { answer, output } = run;
+    match answer {
         Ok(done) => Ok(
             ["0", "1", "2"].get(done as usize) == Some(&status)
-                && run.output.as_slice().split_last() == Some((&b'\n', text)),
+                && output.as_slice().split_last() == Some((&b'\n', text)),
         ),
         Err(error) => Ok(
             error.status() == 3
                 && status == "3"
-                && run.output.is_empty()
+                && output.is_empty()
                 && text_of(alloc, &error)?.as_slice() == text,
         ),
     }

@@ -31,12 +31,12 @@ fn is_run(alloc: Global, settings: &str, status: u8, output: &str) -> bool {
 
 // Whether the settings are refused with this text, and nothing is written.
 fn is_refused(alloc: Global, settings: &str, text: &str) -> Result<bool, Fail> {
-    let run = run_on(alloc, settings);
-    match run.answer {
+    let Run { answer, output } = run_on(alloc, settings);
+    match answer {
         Ok(_) => Ok(false),
         Err(error) => Ok(
             error.status() == 3
-                && run.output.is_empty()
+                && output.is_empty()
                 && text_of(alloc, &error)?.as_slice() == text.as_bytes(),
         ),
     }
