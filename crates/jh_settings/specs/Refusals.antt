@@ -7,8 +7,8 @@ use Rattle.jh_simnode.specs.declared.schedule.Entry.{Entry}
 use Rattle.jh_settings.specs.declared.keys.Key.{Key}
 use Rattle.jh_settings.specs.Told.{TellsStart, store_told, workload_told, TellsGenerator, clients_told, ops_told, IsSerial, volatile_told, initial_told, tick_every_told, rows_told, seed_told, budget_told, TellsSchedule}
 
--- The value under a key is good by itself, or the key may be missing and is. Of two settings others are looked at: how many calls
--- and what is held at first depend on the workload, and the schedule on the nodes of the start.
+-- The value under a key is good by itself; a key that may be missing is good where it is. How many calls there are and what is
+-- held at first is looked at beside the workload, and the schedule beside the nodes of the start.
 abbrev pub IsGood : Members → Key → Type 0
 IsGood document Key.Start = (env : EnvValue) × TellsStart document env
 IsGood document Key.Store = IsSome (store_told document)
@@ -23,7 +23,8 @@ IsGood document Key.TickEvery = IsSome (tick_every_told document)
 IsGood document Key.Rows = IsSome (rows_told document)
 IsGood document Key.Seed = IsSome (seed_told document)
 IsGood document Key.Budget = IsSome (budget_told document)
-IsGood document Key.Schedule = (env : EnvValue) × (entries : List Entry) × TellsStart document env × TellsSchedule env.names document entries
+IsGood document Key.Schedule =
+    (env : EnvValue) × (entries : List Entry) × TellsStart document env × TellsSchedule env.names document entries
 
 -- each of some keys is good
 abbrev pub AreGood : Members → List Key → Type 0

@@ -196,7 +196,8 @@ fn entries_in(
 ) -> Result<Vec<Entry>, SettingsError>
     ensures told { MatchResult result
         (λ entries. TellAll nodes.now (toml.items_view values.now) entries.items)
-        (RefusesValue ((entries : List Entry) × TellAll nodes.now (toml.items_view values.now) entries) Key.Schedule) }
+        (RefusesValue ((entries : List Entry)
+        × TellAll nodes.now (toml.items_view values.now) entries) Key.Schedule) }
     ensures fit { IfOk result (λ entries. All (λ entry. FitsNodes (length nodes.now) entry.step) entries.items) }
 {
     if values.len() > MOST_ENTRIES {
@@ -216,7 +217,8 @@ fn entries_in(
 fn entries_under(alloc: Global, table: &Table, nodes: &Nodes) -> Result<Vec<Entry>, SettingsError>
     ensures told { MatchResult result
         (λ entries. TellsSchedule nodes.now (table_view table.now) entries.items)
-        (RefusesValue ((entries : List Entry) × TellsSchedule nodes.now (table_view table.now) entries) Key.Schedule) }
+        (RefusesValue ((entries : List Entry)
+        × TellsSchedule nodes.now (table_view table.now) entries) Key.Schedule) }
     ensures fit { IfOk result (λ entries. All (λ entry. FitsNodes (length nodes.now) entry.step) entries.items) }
 {
     match value_under(table, Key::Schedule) {
@@ -234,7 +236,8 @@ pub(crate) fn schedule_under(
 ) -> Result<Schedule, SettingsError>
     ensures told { MatchResult result
         (TellsSchedule nodes.now (table_view table.now))
-        (RefusesValue ((entries : List Entry) × TellsSchedule nodes.now (table_view table.now) entries) Key.Schedule) }
+        (RefusesValue ((entries : List Entry)
+        × TellsSchedule nodes.now (table_view table.now) entries) Key.Schedule) }
     ensures fit { IfOk result (λ schedule. All (λ entry. FitsNodes (length nodes.now) entry.step) schedule) }
 {
     let entries = entries_under(alloc, table, nodes)?;

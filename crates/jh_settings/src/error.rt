@@ -11,8 +11,8 @@ use thiserror::Error;
 
 /// The text of a key that no setting has. A contract sees its bytes, which are UTF-8.
 ///
-/// It is shown on one line: control characters are written as `\u{..}` with their number in hexadecimal digits, and all
-/// others as they are.
+/// It is shown on one line: control characters are written as `\u{..}`, with their number in hexadecimal
+/// digits, and all others as they are.
 #[derive(Debug, Drop)]
 pub struct KeyText {
     text: String,

@@ -1,4 +1,5 @@
-//! The settings of a run. `specs/Settings.antt` says which settings a document tells, and why others are refused.
+//! The settings of a run. `specs/Settings.antt` says which settings a document tells, and why others are
+//! refused.
 
 ghost use Rattle.std.specs.Prelude.{◌≡◌, Some, None, [], MatchResult};
 ghost use Rattle.toml.specs.View.{table_view};
@@ -144,7 +145,8 @@ fn settings_with(
 ) -> Result<RunSettings, SettingsError>
     requires { StandsFor cluster.environment [] }
     ensures { MatchResult result
-        (λ settings. (settings.plan ≡ plan_with cluster load limits schedule) × (settings.budget ≡ limits.budget) × IsFit settings.plan)
+        (λ settings. (settings.plan ≡ plan_with cluster load limits schedule)
+        × (settings.budget ≡ limits.budget) × IsFit settings.plan)
         (RefusesWith (plan_with cluster load limits schedule)) }
 {
     let Cluster {
@@ -226,11 +228,11 @@ fn judge_keys(alloc: Global, table: &Table) -> Result<(), SettingsError>
 ///
 /// Takes time and memory in proportion to the bytes.
 ///
-/// Errors, in this order: `NotToml`; `Unknown` with the first key, in byte order, that no setting has; `Missing` with the
-/// first needed key that does not stand there; `BadValue` with the first key, in the order of `Key`, whose value is bad by
-/// itself, and then with `Generator` where it does not suit the workload and the number of clients (`Gen::suits`). Runs on
-/// threads do not come yet: the mode has to be `serial`. `OutOfMemory` where memory was refused before another error was
-/// found.
+/// Errors, in this order: `NotToml`; `Unknown` with the first key, in byte order, that no setting has;
+/// `Missing` with the first needed key that does not stand there; `BadValue` with the first key, in the order
+/// of `Key`, whose value is bad by itself, and then with `Generator` where it does not suit the workload and
+/// the number of clients (`Gen::suits`). Runs on threads do not come yet: the mode has to be `serial`.
+/// `OutOfMemory` where memory was refused before another error was found.
 pub fn settings_of(alloc: Global, bytes: &[u8]) -> Result<RunSettings, SettingsError>
     ensures { MatchResult result
         (λ settings. AreSettingsOf bytes.now settings.plan settings.budget)

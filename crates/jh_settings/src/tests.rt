@@ -94,7 +94,9 @@ fn tells_how_much_is_run(rt: HostRuntime) -> Result<(), Fail> {
     let settings = good(rt.alloc(), KILL_RUN)?;
     assert_eq!(rt; settings.plan.clients(), 1);
     assert_eq!(rt; settings.plan.ops(), 2);
-    assert!(rt; matches!(settings.plan.generator(), Gen::Seq(parts) if parts.as_slice().len() == 2));
+    assert!(rt;
+        matches!(settings.plan.generator(), Gen::Seq(parts) if parts.as_slice().len() == 2)
+    );
     Ok(())
 }
 
@@ -128,7 +130,9 @@ fn tells_defaults(rt: HostRuntime) -> Result<(), Fail> {
 fn long(alloc: Global, count: u32) -> Option<String> {
     let mut document = String::new(alloc);
     document
-        .push_str("start = '{:nodes [\"n1\"]}'\nstore = 'lww'\nworkload = 'set'\ngenerator = '[:nil]'\n")
+        .push_str(
+            "start = '{:nodes [\"n1\"]}'\nstore = 'lww'\nworkload = 'set'\ngenerator = '[:nil]'\n",
+        )
         .ok()?;
     document
         .push_str("clients = 1\nops = 1\nmode = 'serial'\nschedule = [")

@@ -84,7 +84,7 @@ pub(crate) fn is_serial(table: &Table) -> bool
     }
 }
 
-/// What a register holds at first, under `initial`.
+/// What a register holds at first, as `initial` tells it.
 pub(crate) fn initial_under(table: &Table, workload: Workload) -> Result<Option<i64>, SettingsError>
     ensures { Answers result Key.Initial (initial_of workload (value_under Key.Initial (table_view table.now))) }
 {
