@@ -81,6 +81,11 @@ impl Key {
 }
 
 impl Display for Key {
+    ghost use Rattle.std.specs.Prelude.{Some};
+    ghost use Rattle.jh_settings.specs.Keys.{word_of};
+
+    ghost output = { λ key. Some (word_of key) };
+
     fn fmt<W: Write>(&self, f: &mut Formatter<W>) -> fmt::Result {
         f.write_str(self.as_str())
     }
