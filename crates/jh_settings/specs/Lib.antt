@@ -1,4 +1,5 @@
 pub mod Keys
+pub mod Shown
 pub mod Kinds
 pub mod Told
 pub mod Refusals

@@ -44,14 +44,36 @@ impl KeyText {
     }
 }
 
+/// A character of a key, as it is shown.
+#[derive(Clone, Copy)]
+struct Shown(char);
+
+impl Display for Shown {
+    ghost use Rattle.std.specs.Prelude.{Some};
+    ghost use Rattle.jh_settings.specs.Shown.{shown_character};
+
+    ghost output = { λ shown. Some (shown_character shown.0) };
+
+    fn fmt<W: Write>(&self, f: &mut Formatter<W>) -> fmt::Result {
+        let Shown(character) = *self;
+        if character.is_control() {
+            let number = character as u32;
+            write!(f, "\\u{{{number:x}}}")
+        } else {
+            write!(f, "{character}")
+        }
+    }
+}
+
 impl Display for KeyText {
+    ghost use Rattle.std.specs.Prelude.{Some};
+    ghost use Rattle.jh_settings.specs.Shown.{shown};
+
+    ghost output = { λ key. Some (shown key) };
+
     fn fmt<W: Write>(&self, f: &mut Formatter<W>) -> fmt::Result {
         for character in self.text.chars() {
-            if character.is_control() {
-                write!(f, "{}", character.escape_unicode())?;
-            } else {
-                f.write_char(character)?;
-            }
+            write!(f, "{}", Shown(character))?;
         }
         Ok(())
     }
