@@ -19,9 +19,11 @@ contents_of Counter initial = One (Some (pos 0))
 contents_of Set initial = Many []
 contents_of Ids initial = One (Some (pos 0))
 
+-- the contents of each copy at first, by the settings
 abbrev pub first_contents : Settings → Contents
 first_contents s = contents_of s.workload s.initial
 
+-- each copy at first
 abbrev pub first_copy : Settings → NodeCopy
 first_copy s = record { mark = First; contents = first_contents s }
 
@@ -46,6 +48,7 @@ is_lower (Stamp at place) First = false
 is_lower (Stamp at place) (Version v) = false
 is_lower (Stamp at place) (Stamp at' place') = int_lt at at' || (int_eq at at' && nat_lt place place')
 
+-- what stands for the copy of a place that isn't there
 abbrev pub blank : NodeCopy
 blank = record { mark = First; contents = One None }
 

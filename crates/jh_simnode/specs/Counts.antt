@@ -6,11 +6,13 @@ use Rattle.jh_simnode.specs.declared.copies.Reply.TheVariants.{Ok, Fail, Info}
 use Rattle.jh_simnode.specs.declared.events.Event.{Event}
 use Rattle.jh_simnode.specs.declared.events.Event.TheVariants as Event
 
+-- a call was answered
 abbrev pub is_call : Event → Bool
 is_call (Event.Call process node request draw reply) = true
 is_call (Event.Step step answer) = false
 is_call Event.Tick = false
 
+-- a step was taken or refused
 abbrev pub is_step : Event → Bool
 is_step (Event.Call process node request draw reply) = false
 is_step (Event.Step step answer) = true
@@ -23,16 +25,18 @@ answered journal = count_by is_call journal
 abbrev pub applied : List Event → ℕ
 applied journal = count_by is_step journal
 
--- A thread's processes are those that its number is the rest of, by the number of client threads (as in jepsen.generator,
--- where the thread of a process is its number modulo the concurrency).
+-- A thread's processes are those whose number, divided by the number of client threads, leaves its own (as in
+-- jepsen.generator, where the thread of a process is its number modulo the concurrency).
 abbrev pub is_process_of : ℕ → ℕ → ℕ → Bool
 is_process_of clients thread process = (process % clients) == thread
 
+-- the reply doesn't tell whether it was done
 abbrev pub is_info : Reply → Bool
 is_info (Ok got) = false
 is_info Fail = false
 is_info Info = true
 
+-- of so many client threads, this one made the call
 abbrev pub is_call_by : ℕ → ℕ → Event → Bool
 is_call_by clients thread (Event.Call process node request draw reply) = is_process_of clients thread process
 is_call_by clients thread (Event.Step step answer) = false
@@ -40,7 +44,8 @@ is_call_by clients thread Event.Tick = false
 
 -- a call after which its process is crashed (jepsen.history: it isn't known whether the call took effect)
 abbrev pub is_crash_of : ℕ → ℕ → Event → Bool
-is_crash_of clients thread (Event.Call process node request draw reply) = is_info reply && is_process_of clients thread process
+is_crash_of clients thread (Event.Call process node request draw reply) =
+    is_info reply && is_process_of clients thread process
 is_crash_of clients thread (Event.Step step answer) = false
 is_crash_of clients thread Event.Tick = false
 
@@ -48,8 +53,8 @@ is_crash_of clients thread Event.Tick = false
 abbrev pub calls_by : ℕ → ℕ → List Event → ℕ
 calls_by clients thread journal = count_by (is_call_by clients thread) journal
 
--- whose operation a thread's next one is: at first the process of its own number, and after each crash a new one, whose number is
--- greater by the number of client threads
+-- whose operation a thread's next one is: at first the process of its own number, and after each crash a new one,
+-- whose number is greater by the number of client threads
 abbrev pub process_of : ℕ → ℕ → List Event → ℕ
 process_of clients thread journal = thread + count_by (is_crash_of clients thread) journal * clients
 

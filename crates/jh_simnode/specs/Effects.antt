@@ -1,4 +1,5 @@
--- What a request does to the contents of a copy: the objects that Jepsen's pages on checkers name, a register, a counter, a set and ids.
+-- What a request does to the contents of a copy: the objects that Jepsen's pages on checkers name, a register, a
+-- counter, a set and ids.
 use Rattle.std.specs.Prelude.{ℕ, ℤ, pos, negsuc, ◌+ℤ◌, ◌==◌, ◌^◌, ◌-◌, Bool, true, false, List, [], ◌∷◌, Option, Some, None, nat_lt, int_lt, if◌then◌else◌}
 use Rattle.std.specs.Ordering.{int_eq}
 use Rattle.jh_ops.specs.declared.call.Request.{Request}
@@ -20,20 +21,25 @@ abbrev pub put_in : ℤ → List ℤ → List ℤ
 put_in v [] = v ∷ []
 put_in v (x ∷ xs) = if int_lt v x then v ∷ x ∷ xs else (if int_eq v x then x ∷ xs else x ∷ put_in v xs)
 
+-- these contents are held now, and nothing was got
 abbrev pub wrote : Contents → Option Change
 wrote c = Some (record { got = Got.Nothing; after = c })
 
+-- what a compare-and-set of these two numbers makes of a register
 abbrev pub after_cas : ℤ → ℤ → Option ℤ → Option Change
 after_cas a b None = None
 after_cas a b (Some x) = if int_eq x a then wrote (One (Some b)) else None
 
+-- what an addition makes of a counter
 abbrev pub after_add : ℤ → Option ℤ → Option Change
 after_add v None = None
 after_add v (Some x) = if is_small (x +ℤ v) then wrote (One (Some (x +ℤ v))) else None
 
+-- a new id is the number that is held; the next is held after it
 abbrev pub after_generate : Option ℤ → Option Change
 after_generate None = None
-after_generate (Some x) = if is_small (x +ℤ pos 1) then Some (record { got = Got.One (Some x); after = One (Some (x +ℤ pos 1)) }) else None
+after_generate (Some x) =
+    if is_small (x +ℤ pos 1) then Some (record { got = Got.One (Some x); after = One (Some (x +ℤ pos 1)) }) else None
 
 -- what a request makes of contents, where it doesn't fail
 abbrev pub effect : Request → Contents → Option Change

@@ -1,4 +1,5 @@
--- What happens in a world, one event after another: where it stands after each, and which events are due (this project's own).
+-- What happens in a world, one event after another: where it stands after each, and which events are due (this
+-- project's own).
 use Rattle.std.specs.Prelude.{◌≡◌, ℕ, ◌+◌, ◌<◌, ◌≤◌, List, [], ◌∷◌, ◌++◌, length, replicate, slice_index, take}
 use Rattle.jh_env.specs.Cells.{Table}
 use Rattle.jh_env.specs.Overlay.{EnvValue}
@@ -29,9 +30,11 @@ pub record Moment : Type 0 where
   pub faults : State
   pub copies : List NodeCopy
 
+-- no fault was begun so far
 abbrev pub calm_state : Setup → State
 calm_state u = record { names = u.names; start = u.start; past = []; now = []; future = [] }
 
+-- where a world stands at first
 abbrev pub opening : Setup → Moment
 opening u = record { number = 0; faults = calm_state u; copies = replicate (length u.names) (first_copy u.settings) }
 
@@ -39,20 +42,25 @@ opening u = record { number = 0; faults = calm_state u; copies = replicate (leng
 abbrev pub env_of : State → Cells
 env_of s = cells_over s.start (faults_in s.now)
 
+-- the faults, with their past and future, after an event
 abbrev pub faults_after : State → Event → State
 faults_after s (Event.Call process node request draw reply) = s
 faults_after s (Event.Step step answer) = state_after s step
 faults_after s Event.Tick = s
 
+-- the copies after an event
 abbrev pub copies_after : Setup → Moment → Event → List NodeCopy
-copies_after u m (Event.Call process node request draw reply) = (serve u.settings (env_of m.faults) m.copies m.number node request draw).copies
-copies_after u m (Event.Step step answer) = forgotten u.settings (dead (env_of m.faults) (length u.names)) (env_of (state_after m.faults step)) m.copies
+copies_after u m (Event.Call process node request draw reply) =
+    (serve u.settings (env_of m.faults) m.copies m.number node request draw).copies
+copies_after u m (Event.Step step answer) =
+    forgotten u.settings (dead (env_of m.faults) (length u.names)) (env_of (state_after m.faults step)) m.copies
 copies_after u m Event.Tick = ticked u.settings.store (env_of m.faults) m.copies
 
 -- the moment after an event
 abbrev pub next : Setup → Moment → Event → Moment
 next u m e = record { number = m.number + 1; faults = faults_after m.faults e; copies = copies_after u m e }
 
+-- the moment after these events one after another
 abbrev pub after_all : Setup → Moment → List Event → Moment
 after_all u m [] = m
 after_all u m (e ∷ es) = after_all u (next u m e) es
@@ -63,10 +71,12 @@ moment_at u journal = after_all u (opening u) journal
 
 -- the answer or the reply is the one that is due, and the nodes named are there
 abbrev pub IsDue : Setup → Moment → Event → Type 0
-IsDue u m (Event.Call process node request draw reply) = (node < length u.names) × (reply ≡ (serve u.settings (env_of m.faults) m.copies m.number node request draw).reply)
+IsDue u m (Event.Call process node request draw reply) =
+    (node < length u.names) × (reply ≡ (serve u.settings (env_of m.faults) m.copies m.number node request draw).reply)
 IsDue u m (Event.Step step answer) = FitsNodes (length u.names) step × (answer ≡ answer_of m.faults step)
 IsDue u m Event.Tick = Unit {0}
 
+-- each of these events is the one that is due, one after another
 abbrev pub AreDue : Setup → Moment → List Event → Type 0
 AreDue u m [] = Unit {0}
 AreDue u m (e ∷ es) = IsDue u m e × AreDue u (next u m e) es

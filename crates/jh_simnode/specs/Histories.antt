@@ -1,5 +1,6 @@
--- The history that a run tells (jepsen.history: an operation is invoked, and completed as `:ok`, `:fail` or `:info`; the nemesis's
--- operations are `:info` both times). Which value and which event a completion names are this project's own.
+-- The history that a run tells (jepsen.history: an operation is invoked, and completed as `:ok`, `:fail` or `:info`;
+-- the nemesis's operations are `:info` both times). Which value and which event a completion names are this project's
+-- own.
 use Rattle.std.specs.Prelude.{ℕ, ◌+◌, ◌<◌, ◌^◌, pos, List, [], ◌∷◌, codes, Option, Some, None, IfSome}
 use Rattle.jh_ops.specs.Operation.{Operation}
 use Rattle.jh_edn.specs.Edn.{keyword}
@@ -40,11 +41,13 @@ told_with request (Got.One None) = Nothing
 told_with request (Got.One (Some v)) = One v
 told_with request (Got.Many vs) = Several vs
 
+-- the value of a completion
 abbrev pub replied_with : Request → Reply → Content
 replied_with request (reply.Ok got) = told_with request got
 replied_with request reply.Fail = asked_with request
 replied_with request reply.Info = asked_with request
 
+-- the type of a completion
 abbrev pub kind_of : Reply → Kind
 kind_of (reply.Ok got) = Kind.Ok
 kind_of reply.Fail = Kind.Fail
@@ -79,10 +82,13 @@ told_at place kind process name content event = record {
 
 -- a client's operation as it is invoked, and as the event of this number completes it
 abbrev pub invoked : ℕ → ℕ → Request → Operation
-invoked place process request = told_at place Kind.Invoke (Process.Client process) (name_of request) (asked_with request) None
+invoked place process request =
+    told_at place Kind.Invoke (Process.Client process) (name_of request) (asked_with request) None
 
 abbrev pub completed : ℕ → ℕ → ℕ → Request → Reply → Operation
-completed place number process request reply = told_at place (kind_of reply) (Process.Client process) (name_of request) (replied_with request reply) (Some number)
+completed place number process request reply =
+    told_at place (kind_of reply) (Process.Client process) (name_of request)
+    (replied_with request reply) (Some number)
 
 -- an entry of the schedule before the nemesis takes its step, and after it
 abbrev pub begun : ℕ → ℕ → Operation
@@ -90,15 +96,19 @@ begun place entry = told_at place Kind.Info Process.Nemesis (codes "step") (One 
 
 abbrev pub answered_by : ℕ → ℕ → ℕ → StepAnswer → Operation
 answered_by place number entry answer =
-    told_at place Kind.Info Process.Nemesis (codes "step") (Several (pos entry ∷ pos (code_of answer) ∷ [])) (Some number)
+    told_at place Kind.Info Process.Nemesis (codes "step") (Several (pos entry ∷ pos (code_of answer) ∷ []))
+    (Some number)
 
--- what events tell: the first operation at this place, the first event with this number, the first step with this entry
+-- what events tell: the first operation at this place, the first event with this number, the first step with this
+-- entry
 abbrev pub told_from : ℕ → ℕ → ℕ → List Event → List Operation
 told_from place number entry [] = []
 told_from place number entry (Event.Call process node request draw reply ∷ es) =
-    invoked place process request ∷ completed (place + 1) number process request reply ∷ told_from (place + 2) (number + 1) entry es
+    invoked place process request ∷ completed (place + 1) number process request reply ∷
+    told_from (place + 2) (number + 1) entry es
 told_from place number entry (Event.Step step answer ∷ es) =
-    begun place entry ∷ answered_by (place + 1) number entry answer ∷ told_from (place + 2) (number + 1) (entry + 1) es
+    begun place entry ∷ answered_by (place + 1) number entry answer ∷
+    told_from (place + 2) (number + 1) (entry + 1) es
 told_from place number entry (Event.Tick ∷ es) = told_from place (number + 1) entry es
 
 -- the history of a journal: two operations for each call and each step, and none for a tick

@@ -7,15 +7,19 @@ use Rattle.jh_simnode.specs.Plans.{PlanValue, IsKept}
 use Rattle.jh_simnode.specs.declared.plan.Plan.TheInside as plan
 use Rattle.jh_simnode.specs.declared.world.World.TheInside.{Inside}
 
+-- what a world keeps for good
 abbrev pub setup_of : State → Settings → Setup
 setup_of s settings = record { names = s.names; start = s.start; settings = settings }
 
+-- what callers see of what a world is made of
 abbrev pub world_of : Inside → WorldValue
 world_of a = record { setup = setup_of a.nemesis a.settings; journal = a.journal.items }
 
+-- what holds of every world
 abbrev pub IsSound : Inside → Type 0
 IsSound a = IsWorldOf (setup_of a.nemesis a.settings) a.nemesis a.copies.items a.journal.items
 
+-- what callers see of what a plan is made of
 abbrev pub plan_of : plan.Inside → PlanValue
 plan_of a = record {
   env = a.environment;
@@ -29,5 +33,6 @@ plan_of a = record {
   seed = a.seed;
 }
 
+-- what holds of every plan, as it is made
 abbrev pub IsKeptInside : plan.Inside → Type 0
 IsKeptInside a = IsKept (plan_of a)

@@ -17,6 +17,7 @@ use Rattle.jh_simnode.specs.Events.{Setup, Moment, calm_state, env_of, next, mom
 abbrev pub state_at : Setup → List Event → State
 state_at u journal = (moment_at u journal).faults
 
+-- the environment after a journal
 abbrev pub env_at : Setup → List Event → Cells
 env_at u journal = env_of (state_at u journal)
 
@@ -36,24 +37,31 @@ is_quiet Event.Tick = true
 -- the environment is what the active faults make of the starting one, and those are what the steps alone lead to
 abbrev pub OverlayStands : Type 0
 OverlayStands = (u : Setup) (before after : List Event) → IsLegal u (before ++ after)
-    → (env_at u before ≡ cells_over u.start (faults_in (state_at u before).now)) × (state_at u before ≡ state_after_all (calm_state u) (steps_in before))
+    → (env_at u before ≡ cells_over u.start (faults_in (state_at u before).now))
+    × (state_at u before ≡ state_after_all (calm_state u) (steps_in before))
 
--- client calls, ticks and refused steps change neither the environment nor the active faults, nor what can be undone or redone
+-- client calls, ticks and refused steps change neither the environment nor the active faults, nor what can be undone
+-- or redone
 abbrev pub QuietStays : Type 0
-QuietStays = (u : Setup) (before after : List Event) (e : Event) → IsLegal u (before ++ e ∷ [] ++ after) → is_quiet e ≡ true
+QuietStays =
+    (u : Setup) (before after : List Event) (e : Event) → IsLegal u (before ++ e ∷ [] ++ after) → is_quiet e ≡ true
     → (env_at u (before ++ e ∷ []) ≡ env_at u before) × (state_at u (before ++ e ∷ []) ≡ state_at u before)
 
 -- a withdrawal leaves what the other faults make of the starting environment
 abbrev pub WithdrawLeaves : Type 0
-WithdrawLeaves = (u : Setup) (before after : List Event) (id : ℕ) → IsLegal u (before ++ Event.Step (Withdraw id) Ok ∷ [] ++ after)
+WithdrawLeaves =
+    (u : Setup) (before after : List Event) (id : ℕ) → IsLegal u (before ++ Event.Step (Withdraw id) Ok ∷ [] ++ after)
     → (let others = filter (λ f. not (has_id id f)) (state_at u before).now in
-    ((state_at u (before ++ Event.Step (Withdraw id) Ok ∷ [])).now ≡ others) × (env_at u (before ++ Event.Step (Withdraw id) Ok ∷ []) ≡ cells_over u.start (faults_in others)))
+    ((state_at u (before ++ Event.Step (Withdraw id) Ok ∷ [])).now ≡ others)
+    × (env_at u (before ++ Event.Step (Withdraw id) Ok ∷ []) ≡ cells_over u.start (faults_in others)))
 
 -- a withdrawal of all leaves the starting environment
 abbrev pub WithdrawAllLeaves : Type 0
-WithdrawAllLeaves = (u : Setup) (before after : List Event) → IsLegal u (before ++ Event.Step WithdrawAll Ok ∷ [] ++ after)
+WithdrawAllLeaves =
+    (u : Setup) (before after : List Event) → IsLegal u (before ++ Event.Step WithdrawAll Ok ∷ [] ++ after)
     → (let env = env_at u (before ++ Event.Step WithdrawAll Ok ∷ []) in
-    ((state_at u (before ++ Event.Step WithdrawAll Ok ∷ [])).now ≡ []) × ((a b : ℕ) → env.link a b ≡ link_at u.start a b) × ((a : ℕ) → env.node a ≡ node_at u.start a))
+    ((state_at u (before ++ Event.Step WithdrawAll Ok ∷ [])).now ≡ [])
+    × ((a b : ℕ) → env.link a b ≡ link_at u.start a b) × ((a : ℕ) → env.node a ≡ node_at u.start a))
 
 -- through these events there are never fewer than n moments to go back to, and n in the end
 abbrev pub PastReturns : Setup → ℕ → Moment → List Event → Type 0
@@ -70,7 +78,8 @@ UndoRestores = (u : Setup) (before mid after : List Event) (step : Step)
     → IsLegal u (before ++ Event.Step step Ok ∷ [] ++ mid ++ Event.Step Undo Ok ∷ [] ++ after) → is_change step ≡ true
     → PastReturns u (length (state_at u before).past + 1) (moment_at u (before ++ Event.Step step Ok ∷ [])) mid
     → (let end = before ++ Event.Step step Ok ∷ [] ++ mid ++ Event.Step Undo Ok ∷ [] in
-    ((state_at u end).now ≡ (state_at u before).now) × ((state_at u end).past ≡ (state_at u before).past) × (env_at u end ≡ env_at u before))
+    ((state_at u end).now ≡ (state_at u before).now) × ((state_at u end).past ≡ (state_at u before).past)
+    × (env_at u end ≡ env_at u before))
 
 -- redo gives back the active faults, the future and the environment from before the undo
 abbrev pub RedoRestores : Type 0
@@ -78,4 +87,5 @@ RedoRestores = (u : Setup) (before mid after : List Event)
     → IsLegal u (before ++ Event.Step Undo Ok ∷ [] ++ mid ++ Event.Step Redo Ok ∷ [] ++ after)
     → FutureReturns u (length (state_at u before).future + 1) (moment_at u (before ++ Event.Step Undo Ok ∷ [])) mid
     → (let end = before ++ Event.Step Undo Ok ∷ [] ++ mid ++ Event.Step Redo Ok ∷ [] in
-    ((state_at u end).now ≡ (state_at u before).now) × ((state_at u end).future ≡ (state_at u before).future) × (env_at u end ≡ env_at u before))
+    ((state_at u end).now ≡ (state_at u before).now) × ((state_at u end).future ≡ (state_at u before).future)
+    × (env_at u end ≡ env_at u before))

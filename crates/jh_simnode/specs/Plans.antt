@@ -13,8 +13,9 @@ use Rattle.jh_simnode.specs.declared.schedule.TheConstants.{MOST_ENTRIES}
 use Rattle.jh_simnode.specs.declared.plan.PlanError.{PlanError}
 use Rattle.jh_simnode.specs.declared.plan.PlanError.TheVariants.{BadClients, BadOps, BadRows, BadGenerator, BadStep, OutOfMemory}
 
--- an environment at its start, the store with its workload, so many client threads that make so many calls of a generator, the
--- steps of the nemesis, after how many of its calls a thread ticks, the rows of the log of a run on threads, and the seed of the words
+-- an environment at its start, the store with its workload, so many client threads that make so many calls of a
+-- generator, the steps of the nemesis, after how many of its calls a thread ticks, the rows of the log of a run on
+-- threads, and the seed of the words
 pub record PlanValue : Type 0 where
   pub env : EnvValue
   pub settings : Settings
@@ -26,7 +27,9 @@ pub record PlanValue : Type 0 where
   pub rows : ℕ
   pub seed : ℕ
 
-abbrev pub plan : EnvValue → Store → Bool → Workload → Option ℤ → ℕ → ℕ → Generator → List Entry → ℕ → ℕ → ℕ → PlanValue
+-- the plan of these parts, in the order in which a plan is made
+abbrev pub plan : EnvValue → Store → Bool → Workload → Option ℤ → ℕ → ℕ → Generator → List Entry → ℕ → ℕ → ℕ
+    → PlanValue
 plan env store volatile workload initial clients ops generator schedule tick_every rows seed =
     record {
       env = env;
@@ -40,6 +43,7 @@ plan env store volatile workload initial clients ops generator schedule tick_eve
       seed = seed;
     }
 
+-- from 1 to 16 client threads
 abbrev pub HasClients : PlanValue → Type 0
 HasClients p = (1 ≤ p.clients) × (p.clients ≤ 16)
 
@@ -48,9 +52,11 @@ abbrev pub most_ops : Workload → ℕ
 most_ops Set = 1000
 most_ops _ = 10000
 
+-- how many calls are allowed
 abbrev pub HasOps : PlanValue → Type 0
 HasOps p = (1 ≤ p.ops) × (p.ops ≤ most_ops p.settings.workload)
 
+-- how many rows are allowed
 abbrev pub HasRows : PlanValue → Type 0
 HasRows p = (1 ≤ p.rows) × (p.rows ≤ 65536)
 
@@ -58,6 +64,7 @@ HasRows p = (1 ≤ p.rows) × (p.rows ≤ 65536)
 abbrev pub HasSteps : PlanValue → Type 0
 HasSteps p = All (λ entry. FitsNodes (length p.env.names) entry.step) p.schedule
 
+-- the generator's calls are requests of the workload, and none is the nemesis's
 abbrev pub HasGenerator : PlanValue → Type 0
 HasGenerator p = suits p.settings.workload p.clients p.generator ≡ true
 

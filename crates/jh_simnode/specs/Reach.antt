@@ -13,6 +13,7 @@ pub record Cells : Type 0 where
   pub link : ℕ → ℕ → Option Link
   pub node : ℕ → Option NodeCell
 
+-- an environment as it is now
 abbrev pub cells_of : EnvValue → Cells
 cells_of env = record { link = link_at env.now; node = node_at env.now }
 
@@ -23,20 +24,24 @@ cells_over start faults = record {
   node = λ a. option_map (node_over faults a) (node_at start a);
 }
 
+-- a node's process runs
 abbrev pub is_running : Life → Bool
 is_running Running = true
 is_running Paused = false
 is_running Killed = false
 
+-- it is killed
 abbrev pub is_dead : Life → Bool
 is_dead Running = false
 is_dead Paused = false
 is_dead Killed = true
 
+-- there is such a node, and it runs
 abbrev pub runs : Option NodeCell → Bool
 runs None = false
 runs (Some n) = is_running n.process
 
+-- there is such a node, and it is killed
 abbrev pub is_killed : Option NodeCell → Bool
 is_killed None = false
 is_killed (Some n) = is_dead n.process
@@ -46,6 +51,7 @@ abbrev pub carries : ℕ → Option Link → Bool
 carries draw None = false
 carries draw (Some l) = not l.cut && nat_le l.loss (draw % 20)
 
+-- the delay of a link in milliseconds
 abbrev pub delay_of : Option Link → ℕ
 delay_of None = 0
 delay_of (Some l) = l.delay
@@ -58,11 +64,13 @@ places (suc n) = places n ++ n ∷ []
 -- a call of a node reaches another, and its answer comes back
 abbrev pub is_touched : Cells → ℕ → ℕ → ℕ → Bool
 is_touched env draw node other =
-    (other == node) || (runs (env.node other) && (carries draw (env.link node other) && carries draw (env.link other node)))
+    (other == node)
+    || (runs (env.node other) && (carries draw (env.link node other) && carries draw (env.link other node)))
 
 -- it comes back in time
 abbrev pub is_timely : Cells → ℕ → ℕ → Bool
-is_timely env node other = (other == node) || nat_le (delay_of (env.link node other) + delay_of (env.link other node)) 1000
+is_timely env node other =
+    (other == node) || nat_le (delay_of (env.link node other) + delay_of (env.link other node)) 1000
 
 -- the nodes, of so many, that a call of a node touches, and those that are heard in time
 abbrev pub touched : Cells → ℕ → ℕ → ℕ → List ℕ

@@ -11,6 +11,7 @@ only_asks (Cas a b) = false
 only_asks (Add v) = false
 only_asks Generate = true
 
+-- it reads
 abbrev pub is_read : Request → Bool
 is_read Read = true
 is_read (Write v) = false

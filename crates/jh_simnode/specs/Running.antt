@@ -24,11 +24,13 @@ use Rattle.jh_simnode.specs.Plans.{PlanValue}
 use Rattle.jh_simnode.specs.Runs.{Turns, Reached, Runs, ask_move, called, ended, is_due, move_of, run_generator, setup_of, thread_of, first_turns, ticks_after, ticks_at, waited, words_after, words_taken}
 use Rattle.jh_simnode.specs.Runs.Move.{Calls, Waits, Ends, Rests}
 
+-- how an operation ends by a reply
 abbrev pub ended_of : Reply → Ended
 ended_of (Ok got) = ends.Ok
 ended_of Fail = ends.Fail
 ended_of Info = ends.Info
 
+-- the number of a client's process
 abbrev pub number_of : Process → ℕ
 number_of (process.Client number) = number
 number_of process.Nemesis = 0
@@ -96,12 +98,14 @@ pub record HasCall (p : PlanValue) (r : Turns) (journal : List Event) (path : Pa
 -- what comes of asking
 abbrev pub Asks : PlanValue → Turns → List Event → Asked → Run → Type 0
 Asks p r journal (asked.Calls process request) run =
-    (path : Path) × (ask_move p r journal ≡ Calls path request) × (process ≡ process_of p.clients (thread_of p r) journal) × HasCall p r journal path run
+    (path : Path) × (ask_move p r journal ≡ Calls path request)
+    × (process ≡ process_of p.clients (thread_of p r) journal) × HasCall p r journal path run
 Asks p r journal asked.Waits run = (ask_move p r journal ≡ Waits) × Keeps p (waited r) journal run
 Asks p r journal asked.Ends run = (ask_move p r journal ≡ Ends) × Keeps p (ended r) journal run
 
 -- a thread has a call to make
-pub record MayCall (p : PlanValue) (run : Run) (w : WorldValue) (thread process : ℕ) (request : Request) : Type 0 where
+pub record MayCall (p : PlanValue) (run : Run) (w : WorldValue) (thread process : ℕ) (request : Request)
+    : Type 0 where
   pub turns : Turns
   pub path : Path
   pub settled : IsSettled p turns w.journal
@@ -165,6 +169,7 @@ pub record IsAsking (p : PlanValue) (r : Turns) (journal : List Event) (run : Ru
 abbrev pub left : Run → WorldValue → ℕ
 left run w = (MOST_EVENTS - length w.journal) * 17 + (16 - run.waits) + (if run.has_ended then 0 else 1)
 
+-- less is left than before
 abbrev pub Falls : Run → WorldValue → Run → WorldValue → Type 0
 Falls run w run' w' = left run' w' < left run w
 

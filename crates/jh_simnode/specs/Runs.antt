@@ -1,6 +1,6 @@
--- What a serial run is: the calls of a generator, the steps of a schedule and the ticks of a store, one after the other
--- (jepsen.generator: threads ask for operations, and a thread whose process crashed goes on as another; turns, words, when a
--- step is due and ticks are this project's own).
+-- What a serial run is: the calls of a generator, the steps of a schedule and the ticks of a store, one after the
+-- other (jepsen.generator: threads ask for operations, and a thread whose process crashed goes on as another; turns,
+-- words, when a step is due and ticks are this project's own).
 --
 -- Nothing here computes a reply or an answer: that the journal is legal says what they are.
 use Rattle.std.specs.Prelude.{◌≡◌, ℕ, zero, suc, ◌+◌, ◌%◌, ◌≤◌, ◌==◌, ◌||◌, ◌&&◌, not, Bool, true, false, List, [], ◌∷◌, ◌++◌, length, nat_le, Option, Some, None, slice_get, replicate, if◌then◌else◌}
@@ -46,14 +46,15 @@ words_after seed (suc n) = (pcg64 (words_after seed n)).1
 abbrev pub word : ℕ → ℕ → ℕ
 word seed n = (pcg64 (words_after seed n)).0
 
--- Where the turns of a run stand, beside its journal: the calls that the generator gave, how many asks were made, how many of
--- the last ones got nothing, and whether the calls have ended.
+-- Where the turns of a run stand, beside its journal: the calls that the generator gave, how many asks were made, how
+-- many of the last ones got nothing, and whether the calls have ended.
 pub record Turns : Type 0 where
   pub tally : Tally
   pub asks : ℕ
   pub waits : ℕ
   pub has_ended : Bool
 
+-- before the first ask
 abbrev pub first_turns : Turns
 first_turns = record { tally = []; asks = 0; waits = 0; has_ended = false }
 
@@ -89,11 +90,13 @@ ticks_at p calls = not (p.tick_every == 0) && ((calls % p.tick_every) == 0)
 -- a tick is due after this last event: one follows every so many calls of a thread
 abbrev pub ticks_after : PlanValue → List Event → Option Event → Bool
 ticks_after p journal None = false
-ticks_after p journal (Some (Event.Call process node request draw reply)) = ticks_at p (calls_by p.clients (process % p.clients) journal)
+ticks_after p journal (Some (Event.Call process node request draw reply)) =
+    ticks_at p (calls_by p.clients (process % p.clients) journal)
 ticks_after p journal (Some (Event.Step step answer)) = false
 ticks_after p journal (Some Event.Tick) = false
 
--- An entry is due once those before it were applied and as many calls were answered as it says, or the calls have ended.
+-- An entry is due once those before it were applied and as many calls were answered as it says, or the calls have
+-- ended.
 abbrev pub is_due : Turns → List Event → Entry → Bool
 is_due r journal entry = r.has_ended || nat_le entry.at (answered journal)
 
@@ -103,6 +106,7 @@ move_offered None = Waits
 move_offered (Some (path, call.Client request)) = Calls path request
 move_offered (Some (path, call.Step entry)) = Ends
 
+-- the move of the thread whose turn it is
 abbrev pub ask_move : PlanValue → Turns → List Event → Move
 ask_move p r journal =
     if spent (run_generator p) r.tally (all_seats p.clients) then Ends
@@ -112,6 +116,7 @@ ask_move p r journal =
 abbrev pub turn_move : PlanValue → Turns → List Event → Move
 turn_move p r journal = if r.has_ended || nat_le p.clients r.waits then Rests else ask_move p r journal
 
+-- the next entry if it is due, else the next turn
 abbrev pub entry_move : PlanValue → Turns → List Event → Option Entry → Move
 entry_move p r journal None = turn_move p r journal
 entry_move p r journal (Some entry) = if is_due r journal entry then Applies entry else turn_move p r journal
@@ -119,7 +124,8 @@ entry_move p r journal (Some entry) = if is_due r journal entry then Applies ent
 -- a tick that is due, then an entry that is due, then the next ask
 abbrev pub move_of : PlanValue → Turns → List Event → Move
 move_of p r journal =
-    if ticks_after p journal (last journal) then Ticks else entry_move p r journal (slice_get p.schedule (applied journal))
+    if ticks_after p journal (last journal) then Ticks
+    else entry_move p r journal (slice_get p.schedule (applied journal))
 
 -- the turns after an ask that got nothing, after a call by this path, and after the end
 abbrev pub waited : Turns → Turns
@@ -134,12 +140,14 @@ ended r = record r { asks = r.asks + 1; has_ended = true }
 -- the event of a thread's call: of the node at the thread's number, around, with the next word as its draw
 abbrev pub call_event : PlanValue → Turns → List Event → Request → Reply → Event
 call_event p r journal request reply =
-    Event.Call (process_of p.clients (thread_of p r) journal) (thread_of p r % length p.env.names) request (word p.seed (words_taken r journal + 1)) reply
+    Event.Call (process_of p.clients (thread_of p r) journal) (thread_of p r % length p.env.names) request
+    (word p.seed (words_taken r journal + 1)) reply
 
 -- what comes of a move
 abbrev pub Comes : PlanValue → Turns → List Event → Turns → List Event → Move → Type 0
 Comes p r journal r' journal' Ticks = (r' ≡ r) × (journal' ≡ journal ++ Event.Tick ∷ [])
-Comes p r journal r' journal' (Applies entry) = (r' ≡ r) × ((answer : StepAnswer) × (journal' ≡ journal ++ Event.Step entry.step answer ∷ []))
+Comes p r journal r' journal' (Applies entry) =
+    (r' ≡ r) × ((answer : StepAnswer) × (journal' ≡ journal ++ Event.Step entry.step answer ∷ []))
 Comes p r journal r' journal' Waits = (r' ≡ waited r) × (journal' ≡ journal)
 Comes p r journal r' journal' (Calls path request) =
     (r' ≡ called r path) × ((reply : Reply) × (journal' ≡ journal ++ call_event p r journal request reply ∷ []))
@@ -150,7 +158,8 @@ Comes p r journal r' journal' Rests = ⊥
 abbrev pub Reaches : PlanValue → ℕ → Turns → List Event → Type 0
 Reaches p zero r' journal' = (r' ≡ first_turns) × (journal' ≡ [])
 Reaches p (suc n) r' journal' =
-    (r : Turns) × ((journal : List Event) × (Reaches p n r journal × Comes p r journal r' journal' (move_of p r journal)))
+    (r : Turns) × ((journal : List Event)
+    × (Reaches p n r journal × Comes p r journal r' journal' (move_of p r journal)))
 
 -- the turns and the journal to which some moves may lead
 abbrev pub Runs : PlanValue → Turns → List Event → Type 0
@@ -172,11 +181,14 @@ pub record Serial (p : PlanValue) (journal : List Event) (history : List Operati
 -- why a run of a plan is not completed
 abbrev pub Stops : PlanValue → RunError → Type 0
 Stops p (error.World world.UnknownNode) = ⊥
-Stops p (error.World world.TooManyEvents) = (r : Turns) × (journal : List Event) × Reached p r journal × (MOST_EVENTS ≤ length journal)
+Stops p (error.World world.TooManyEvents) =
+    (r : Turns) × (journal : List Event) × Reached p r journal × (MOST_EVENTS ≤ length journal)
 Stops p (error.World world.OutOfMemory) = Unit {0}
 Stops p error.Stuck = (r : Turns) × (journal : List Event) × Reached p r journal × (p.clients ≤ r.waits)
 Stops p error.OutOfMemory = Unit {0}
 
 -- a plan has one run and one history at most
 abbrev pub OneRun : Type 0
-OneRun = (p : PlanValue) (ja jb : List Event) (ha hb : List Operation) → Serial p ja ha → Serial p jb hb → (ja ≡ jb) × (ha ≡ hb)
+OneRun =
+    (p : PlanValue) (ja jb : List Event) (ha hb : List Operation) → Serial p ja ha → Serial p jb hb
+    → (ja ≡ jb) × (ha ≡ hb)
