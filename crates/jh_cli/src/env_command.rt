@@ -158,7 +158,11 @@ fn answer_line(answer: StepAnswer) -> &'static str
 }
 
 // Writes the ids of the active faults, in order.
-pub(crate) fn write_active(alloc: Global, nemesis: &Nemesis, output: &mut Vec<u8>) -> Result<(), AllocError>
+pub(crate) fn write_active(
+    alloc: Global,
+    nemesis: &Nemesis,
+    output: &mut Vec<u8>,
+) -> Result<(), AllocError>
     ensures { OnOk result (output.new.items ≡ output.old.items ++ text.active_line nemesis.now.now) }
 {
     let ids = active_ids(alloc, nemesis)?;
@@ -185,7 +189,11 @@ fn active_ids(alloc: Global, nemesis: &Nemesis) -> Result<Value, AllocError>
     Ok(Value::Vector(Values::of(ids)))
 }
 
-pub(crate) fn write_environment(alloc: Global, env: &Env, output: &mut Vec<u8>) -> Result<(), AllocError>
+pub(crate) fn write_environment(
+    alloc: Global,
+    env: &Env,
+    output: &mut Vec<u8>,
+) -> Result<(), AllocError>
     ensures { OnOk result (output.new.items ≡ output.old.items ++ text.environment_line env.now) }
 {
     write_line(&value_of_env(alloc, env)?, output)

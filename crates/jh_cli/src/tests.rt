@@ -198,8 +198,18 @@ fn names_errors_of_the_machine(rt: HostRuntime) -> Result<(), Fail> {
 #[test]
 fn maps_want_of_memory(rt: HostRuntime) {
     assert!(rt; matches!(CliError::from(EdnError::OutOfMemory), CliError::OutOfMemory));
-    assert!(rt; matches!(CliError::from(EnvTextError::OutOfMemory), CliError::OutOfMemory));
-    assert!(rt; matches!(CliError::from(SettingsError::OutOfMemory), CliError::OutOfMemory));
+    assert!(rt;
+        matches!(
+            CliError::from(EnvTextError::OutOfMemory),
+            CliError::OutOfMemory
+        )
+    );
+    assert!(rt;
+        matches!(
+            CliError::from(SettingsError::OutOfMemory),
+            CliError::OutOfMemory
+        )
+    );
     assert!(rt; matches!(CliError::from(RunError::OutOfMemory), CliError::OutOfMemory));
     assert!(rt; matches!(CliError::from(AllocError), CliError::OutOfMemory));
 }

@@ -152,7 +152,13 @@ generator = '[:once [:add 1]]'
 
 #[test]
 fn refuses_what_the_workload_has_not(rt: HostRuntime) -> Result<(), Fail> {
-    assert!(rt; is_refused(rt.alloc(), ADDS_TO_A_REGISTER, "settings: generator: bad value")?);
+    assert!(rt;
+        is_refused(
+            rt.alloc(),
+            ADDS_TO_A_REGISTER,
+            "settings: generator: bad value"
+        )?
+    );
     Ok(())
 }
 
