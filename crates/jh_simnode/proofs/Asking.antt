@@ -1,6 +1,6 @@
 -- What comes of asking the driver.
-use Rattle.std.proofs.Common.{◌≡◌, ℕ, cond, ◌+◌, ◌%◌, ◌<◌, ◌≤◌, Bool, true, false, List, [], ◌∷◌, length, set, replicate, refl, ap, ap₂, sym, ◌∙◌, arith, subst, count_by}
-use Rattle.std.specs.Prelude.{Option, Some, None, slice_index, slice_index_or}
+use Rattle.std.proofs.Common.{◌≡◌, ℕ, cond, ◌+◌, ◌<◌, ◌≤◌, Bool, true, false, List, length, set, ap, ap₂, sym, ◌∙◌, arith, subst, count_by}
+use Rattle.std.specs.Prelude.{Some, None, slice_index, slice_index_or}
 use Rattle.std.proofs.lemmas.List.Sums.{count_by-le-length}
 use Rattle.rand_pcg.specs.Lcg.{Lcg}
 use Rattle.rand_pcg.specs.Pcg.{pcg64}
@@ -10,7 +10,7 @@ use Rattle.jh_ops.specs.declared.operation.Process.{Process}
 use Rattle.jh_gen.specs.Tally.{Path}
 use Rattle.jh_gen.specs.Scope.{Question}
 use Rattle.jh_gen.specs.Offers.{Offer, offer, spent}
-use Rattle.jh_gen.specs.DriverState.{Answers, DriverState, IsKnown, MayAsk, RefusesAsking, all_seats, asked_by}
+use Rattle.jh_gen.specs.DriverState.{Answers, DriverState, MayAsk, RefusesAsking, all_seats, asked_by}
 use Rattle.jh_gen.specs.declared.answers.Thread.TheVariants as thread
 use Rattle.jh_gen.specs.declared.answers.Thread.{Thread}
 use Rattle.jh_gen.specs.declared.answers.GenAnswer.TheVariants as answer
@@ -21,8 +21,8 @@ use Rattle.jh_simnode.specs.declared.turns.Asked.TheVariants as asked
 use Rattle.jh_simnode.specs.declared.turns.Run.{Run}
 use Rattle.jh_simnode.specs.Counts.{answered, is_call, process_of}
 use Rattle.jh_simnode.specs.Plans.{PlanValue}
-use Rattle.jh_simnode.specs.Runs.{Turns, Move, ask_move, ended, move_offered, question, run_generator, thread_of, waited, words_after, words_taken}
-use Rattle.jh_simnode.specs.Runs.Move.{Calls, Waits, Ends}
+use Rattle.jh_simnode.specs.Runs.{Turns, ask_move, move_offered, question, run_generator, thread_of, waited, words_after, words_taken}
+use Rattle.jh_simnode.specs.Runs.Move.{Ends}
 use Rattle.jh_simnode.specs.Running.{Asks, IsAsking, Keeps, number_of}
 use Rattle.jh_simnode.proofs.Turning.{all_false, ends_on, next_words, waits_on}
 

@@ -1,5 +1,5 @@
 -- What stands between two turns stands after the next part of one.
-use Rattle.std.proofs.Common.{◌≡◌, ℕ, cond, ◌+◌, ◌-◌, ◌*◌, ◌%◌, ◌<◌, ◌≤◌, ◌⊎◌, Bool, true, false, ◌||◌, List, [], ◌∷◌, ◌++◌, length, set, refl, ap, sym, ◌∙◌, arith, subst, count_by, Vec}
+use Rattle.std.proofs.Common.{◌≡◌, ℕ, cond, ◌+◌, ◌%◌, ◌<◌, ◌≤◌, Bool, true, false, List, [], ◌∷◌, ◌++◌, length, set, refl, ap, sym, ◌∙◌, arith, subst, Vec}
 use Rattle.std.specs.Prelude.{Option, Some, None, slice_get, slice_index, nat_le, IfSome}
 use Rattle.std.specs.Global.{Global}
 use Rattle.std.proofs.lemmas.Bool.{lt-leb}
@@ -13,16 +13,15 @@ use Rattle.jh_nemesis.specs.declared.steps.Step.{Step}
 use Rattle.jh_nemesis.specs.declared.steps.StepAnswer.{StepAnswer}
 use Rattle.jh_simnode.specs.declared.copies.Reply.{Reply}
 use Rattle.jh_simnode.specs.declared.events.Event.{Event}
-use Rattle.jh_simnode.specs.declared.events.Event.TheVariants as Event
 use Rattle.jh_simnode.specs.declared.schedule.Entry.{Entry}
 use Rattle.jh_simnode.specs.declared.turns.Asked.TheVariants as asked
 use Rattle.jh_simnode.specs.declared.turns.Run.{Run}
-use Rattle.jh_simnode.specs.Counts.{applied, answered, is_step, last, process_of, calls_by}
+use Rattle.jh_simnode.specs.Counts.{applied, is_step, last, process_of, calls_by}
 use Rattle.jh_simnode.specs.Events.{WorldValue, Adds, IsLegal}
 use Rattle.jh_simnode.specs.Plans.{PlanValue}
-use Rattle.jh_simnode.specs.Runs.{Turns, Runs, ask_move, call_event, called, ended, first_turns, is_due, move_of, setup_of, thread_of, ticks_after, ticks_at, waited, word, words_after, words_taken}
-use Rattle.jh_simnode.specs.Runs.Move.{Ticks, Applies, Waits, Calls, Ends, Rests}
-use Rattle.jh_simnode.specs.Running.{Asks, Falls, HasCalled, IsFirst, IsOver, IsSettled, Keeps, MayCall, Settled, Stands, ended_of, is_run_due}
+use Rattle.jh_simnode.specs.Runs.{Turns, call_event, called, ended, first_turns, is_due, move_of, setup_of, thread_of, ticks_after, ticks_at, waited, word, words_taken}
+use Rattle.jh_simnode.specs.Runs.Move.{Ticks, Applies, Waits, Calls, Ends}
+use Rattle.jh_simnode.specs.Running.{Asks, Falls, HasCalled, IsFirst, IsOver, Keeps, MayCall, Settled, Stands, ended_of, is_run_due}
 use Rattle.jh_simnode.proofs.Counting.{count_yes, count_no, last_push}
 use Rattle.jh_simnode.proofs.Moving.{goes, is_over, quiet_step, quiet_tick, due_next, ask_next}
 use Rattle.jh_simnode.proofs.Turning.{keeps_on, keeps_beside, process_thread}

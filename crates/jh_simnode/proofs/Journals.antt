@@ -1,5 +1,4 @@
-use Rattle.std.proofs.Common.{◌≡◌, ℕ, ◌+◌, ◌≤◌, ◌<◌, List, [], ◌∷◌, ◌++◌, length, refl, ap, sym, ◌∙◌, arith, add-zero, length-append, subst, take, drop}
-use Rattle.std.specs.Prelude.{Option, Some, None, option_map}
+use Rattle.std.proofs.Common.{◌≡◌, ℕ, ◌+◌, ◌<◌, List, [], ◌∷◌, ◌++◌, length, refl, ap, sym, ◌∙◌, arith, add-zero, length-append, subst, take, drop}
 use Rattle.std.proofs.Math.Path.{fun_ext}
 use Rattle.std.proofs.Math.Seq.{take-append_seam}
 use Rattle.jh_env.specs.Cells.{link_at, node_at}
@@ -14,12 +13,11 @@ use Rattle.jh_simnode.proofs.StepLemmas.{state_after_names, state_after_start}
 use Rattle.jh_simnode.specs.declared.copies.Reply.{Reply}
 use Rattle.jh_ops.specs.declared.call.Request.{Request}
 use Rattle.jh_simnode.specs.declared.settings.Settings.{Settings}
-use Rattle.jh_simnode.specs.declared.events.Event.TheVariants as Event
 use Rattle.jh_simnode.specs.Inside.{setup_of}
 use Rattle.jh_simnode.specs.Stores.{serve, ticked, dead, forgotten}
 use Rattle.jh_simnode.proofs.Tidy.{serve_tidy, ticked_tidy, forgotten_tidy}
 use Rattle.jh_simnode.specs.Reach.{Cells, cells_of, cells_over}
-use Rattle.jh_simnode.specs.Events.{Setup, Moment, opening, env_of, faults_after, copies_after, next, after_all, moment_at, IsDue, AreDue, IsLegal, AreTidy, IsWorldOf}
+use Rattle.jh_simnode.specs.Events.{Setup, Moment, opening, env_of, faults_after, copies_after, next, after_all, moment_at, IsDue, AreDue, AreTidy, IsWorldOf}
 
 -- a vector after a helper wrote all of its slice
 pub written : {X : Type 0} (n : ℕ) (ws items : List X) → length ws ≡ n → take n (ws ++ drop (length ws) items) ≡ ws

@@ -1,5 +1,6 @@
 pub mod StepLemmas
 pub mod Places
+pub mod Taking
 pub mod Tidy
 pub mod Journals
 pub mod Standing

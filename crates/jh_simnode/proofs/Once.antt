@@ -1,15 +1,14 @@
 -- A plan has one run at most: each move leads to one place, for the journal is legal.
-use Rattle.std.proofs.Common.{◌≡◌, ℕ, zero, suc, ◌<◌, ◌≤◌, ◌⊎◌, List, [], ◌∷◌, ◌++◌, refl, ap, sym, ◌∙◌, arith, subst, inl, inr}
+use Rattle.std.proofs.Common.{◌≡◌, ℕ, zero, suc, ◌<◌, List, [], ◌∷◌, ◌++◌, ap, sym, ◌∙◌, arith, subst, inl, inr}
 use Rattle.std.proofs.lemmas.Bool.{cases_eq, cases_lt}
 use Rattle.jh_nemesis.specs.declared.steps.Step.{Step}
 use Rattle.jh_nemesis.specs.declared.steps.StepAnswer.{StepAnswer}
 use Rattle.jh_simnode.specs.declared.copies.Reply.{Reply}
 use Rattle.jh_simnode.specs.declared.events.Event.{Event}
-use Rattle.jh_simnode.specs.declared.events.Event.TheVariants as Event
 use Rattle.jh_simnode.specs.Events.{Setup, opening, moment_at, IsDue, IsLegal}
 use Rattle.jh_simnode.specs.Histories.{history_of}
 use Rattle.jh_simnode.specs.Plans.{PlanValue}
-use Rattle.jh_simnode.specs.Runs.{Turns, Move, Comes, Reaches, Serial, OneRun, call_event, move_of, setup_of}
+use Rattle.jh_simnode.specs.Runs.{Turns, Move, Comes, Reaches, OneRun, call_event, move_of, setup_of}
 use Rattle.jh_simnode.specs.Runs.Move.{Ticks, Applies, Waits, Calls, Ends, Rests}
 use Rattle.jh_simnode.proofs.Standing.{due_append}
 

@@ -1,15 +1,13 @@
-use Rattle.std.proofs.Common.{◌≡◌, ℕ, ◌+◌, ◌≤◌, Bool, true, false, List, [], ◌∷◌, ◌++◌, length, refl, ap, sym, ◌∙◌, arith}
+use Rattle.std.proofs.Common.{◌≡◌, ℕ, ◌+◌, ◌≤◌, Bool, true, false, List, [], ◌∷◌, ◌++◌, length, refl, ap, ◌∙◌, arith}
 use Rattle.std.specs.Prelude.{if◌then◌else◌}
 use Rattle.jh_nemesis.specs.State.{State, Active, back_to, forth_to, is_empty}
-use Rattle.jh_nemesis.specs.Steps.{state_after, answer_of, moved, is_ok}
+use Rattle.jh_nemesis.specs.Steps.{answer_of, moved, is_ok}
 use Rattle.jh_nemesis.specs.declared.steps.Step.{Step}
 use Rattle.jh_nemesis.specs.declared.steps.Step.TheVariants.{Begin, Withdraw, WithdrawAll, Undo, Redo}
-use Rattle.jh_nemesis.specs.declared.steps.StepAnswer.{StepAnswer}
 use Rattle.jh_nemesis.specs.declared.steps.StepAnswer.TheVariants.{Ok, NothingToUndo}
 use Rattle.jh_simnode.specs.declared.events.Event.{Event}
-use Rattle.jh_simnode.specs.declared.events.Event.TheVariants as Event
 use Rattle.jh_simnode.specs.Events.{Setup, Moment, opening, faults_after, next, after_all, moment_at}
-use Rattle.jh_simnode.specs.Laws.{state_at, env_at, FutureReturns, RedoRestores}
+use Rattle.jh_simnode.specs.Laws.{state_at, FutureReturns, RedoRestores}
 use Rattle.jh_simnode.proofs.Standing.{EndsWith, on_top, below_top, all_from, after_all_append, due_append, moved_at, due_at, same_env}
 
 none_ends : (base : List Active) → length base ≤ 0 → EndsWith base []

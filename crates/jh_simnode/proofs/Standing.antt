@@ -1,4 +1,4 @@
-use Rattle.std.proofs.Common.{◌≡◌, ℕ, ◌+◌, ◌≤◌, Bool, true, false, List, [], ◌∷◌, ◌++◌, length, filter, not, refl, ap, sym, ◌∙◌, arith, append_assoc, length-append, add-zero}
+use Rattle.std.proofs.Common.{◌≡◌, ℕ, ◌+◌, ◌≤◌, Bool, true, false, List, [], ◌∷◌, ◌++◌, length, filter, not, refl, ap, ◌∙◌, arith, length-append, add-zero}
 use Rattle.std.specs.Prelude.{ℤ, Option, Some, None, option_map, if◌then◌else◌}
 use Rattle.jh_env.specs.declared.cells.Life.{Life}
 use Rattle.jh_env.specs.declared.cells.Life.TheVariants.{Running, Paused, Killed}
@@ -16,10 +16,9 @@ use Rattle.jh_nemesis.specs.declared.steps.StepAnswer.{StepAnswer}
 use Rattle.jh_nemesis.specs.declared.steps.StepAnswer.TheVariants.{Ok}
 use Rattle.jh_simnode.proofs.StepLemmas.{state_after_start}
 use Rattle.jh_simnode.specs.declared.events.Event.{Event}
-use Rattle.jh_simnode.specs.declared.events.Event.TheVariants as Event
 use Rattle.jh_simnode.specs.Reach.{Cells, cells_over}
-use Rattle.jh_simnode.specs.Events.{Setup, Moment, opening, calm_state, env_of, faults_after, next, after_all, moment_at, IsDue, AreDue, IsLegal}
-use Rattle.jh_simnode.specs.Laws.{state_at, env_at, steps_in, is_quiet, OverlayStands, QuietStays, WithdrawLeaves, WithdrawAllLeaves, PastReturns, FutureReturns, UndoRestores, RedoRestores}
+use Rattle.jh_simnode.specs.Events.{Setup, Moment, opening, env_of, faults_after, next, after_all, moment_at, IsDue, AreDue, IsLegal}
+use Rattle.jh_simnode.specs.Laws.{state_at, env_at, steps_in, is_quiet, OverlayStands, QuietStays, WithdrawLeaves, WithdrawAllLeaves, PastReturns, UndoRestores}
 
 pub after_all_append : (u : Setup) (m : Moment) (xs ys : List Event) → after_all u m (xs ++ ys) ≡ after_all u (after_all u m xs) ys
 after_all_append u m [] ys = refl

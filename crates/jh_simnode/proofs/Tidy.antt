@@ -1,5 +1,5 @@
-use Rattle.std.proofs.Common.{◌≡◌, ℕ, ◌+◌, ◌≤◌, ◌<◌, ◌⊎◌, Bool, true, false, List, [], ◌∷◌, length, get_or, set, refl, ap, sym, ◌∙◌, arith, subst, not, inl, inr}
-use Rattle.std.specs.Prelude.{ℤ, Option, Some, None, if◌then◌else◌, slice_set}
+use Rattle.std.proofs.Common.{ℕ, ◌+◌, ◌≤◌, Bool, true, false, List, [], ◌∷◌, length, set, ◌∙◌, arith, inl, inr}
+use Rattle.std.specs.Prelude.{ℤ, Option, Some, None, if◌then◌else◌}
 use Rattle.std.specs.List.{fold}
 use Rattle.std.proofs.lemmas.Bool.{cases_eq, cases_lt}
 use Rattle.std.proofs.lemmas.List.{get_or-set_same, get_or-set_other, set_past, length-set}
@@ -7,19 +7,18 @@ use Rattle.jh_env.specs.declared.cells.Life.{Life}
 use Rattle.jh_env.specs.declared.cells.Life.TheVariants.{Running, Paused, Killed}
 use Rattle.jh_env.specs.declared.cells.NodeCell.{NodeCell}
 use Rattle.jh_simnode.specs.declared.copies.NodeCopy.{NodeCopy}
-use Rattle.jh_simnode.specs.declared.copies.Mark.{Mark}
-use Rattle.jh_simnode.specs.declared.copies.Mark.TheVariants.{First, Version, Stamp}
+use Rattle.jh_simnode.specs.declared.copies.Mark.TheVariants.{Version, Stamp}
 use Rattle.jh_simnode.specs.declared.settings.Settings.{Settings}
 use Rattle.jh_simnode.specs.declared.settings.Store.{Store}
 use Rattle.jh_simnode.specs.declared.settings.Store.TheVariants.{Quorum, Lww, Local}
 use Rattle.jh_ops.specs.declared.call.Request.{Request}
 use Rattle.jh_ops.specs.Requests.{is_request_of}
 use Rattle.jh_simnode.specs.Requests.{is_read}
-use Rattle.jh_simnode.specs.Copies.{blank, copy_at, version, first_copy, is_lower}
+use Rattle.jh_simnode.specs.Copies.{blank, copy_at, version, first_copy}
 use Rattle.jh_simnode.specs.Effects.{effect}
 use Rattle.jh_simnode.specs.declared.effects.Change.{Change}
-use Rattle.jh_simnode.specs.Reach.{Cells, places, touched, heard, runs, is_killed}
-use Rattle.jh_simnode.specs.Stores.{Served, serve, serve_at, serve_in, serve_running, serve_local, serve_lww, serve_quorum, local_served, lww_served, quorum_changed, quorum_read, quorum_write, quorum, newest, served, version_at, give, give_all, offer, offer_all, ticked, tell, tell_all, is_open, forgotten, forget_one}
+use Rattle.jh_simnode.specs.Reach.{Cells, places, touched, heard}
+use Rattle.jh_simnode.specs.Stores.{Served, serve, serve_at, serve_in, serve_running, local_served, lww_served, quorum_changed, newest, version_at, give, give_all, older, ticked, tell, tell_all, forgotten, forget_one}
 use Rattle.jh_simnode.specs.Events.{AreTidy}
 
 -- what each step of a fold keeps is kept by the fold
@@ -50,17 +49,13 @@ later_tidy c n all t = record { sized = t.sized; low = λ q. let h = t.low q in 
 give_tidy : (c n : ℕ) (new : NodeCopy) (all : List NodeCopy) (these : List ℕ) → version new.mark ≤ n → AreTidy c n all → AreTidy c n (give_all new all these)
 give_tidy c n new all these h t = fold_keeps (AreTidy c n) (give new) (λ a p k. set_tidy c n a p new k h) all these t
 
-offer_tidy : (c n : ℕ) (new : NodeCopy) (all : List NodeCopy) (these : List ℕ) → version new.mark ≤ n → AreTidy c n all → AreTidy c n (offer_all new all these)
-offer_tidy c n new all these h t =
-    fold_keeps (AreTidy c n) (offer new) (λ a p k. either (AreTidy c n) (is_lower (copy_at a p).mark new.mark) (set a p new) a (set_tidy c n a p new k h) k) all these t
-
 local_tidy : (c n : ℕ) (all : List NodeCopy) (node : ℕ) (e : Option Change) → AreTidy c n all → AreTidy c (n + 1) (local_served all node e).copies
 local_tidy c n all node None t = later_tidy c n all t
 local_tidy c n all node (Some e) t = later_tidy c n _ (set_tidy c n all node (record { mark = (copy_at all node).mark; contents = e.after }) t (t.low node))
 
 lww_tidy : (c n : ℕ) (all : List NodeCopy) (at : ℤ) (node : ℕ) (these : List ℕ) (e : Option Change) → AreTidy c n all → AreTidy c (n + 1) (lww_served all (Stamp at node) these e).copies
 lww_tidy c n all at node these None t = later_tidy c n all t
-lww_tidy c n all at node these (Some e) t = later_tidy c n _ (offer_tidy c n (record { mark = Stamp at node; contents = e.after }) all these (omega arith) t)
+lww_tidy c n all at node these (Some e) t = later_tidy c n _ (give_tidy c n (record { mark = Stamp at node; contents = e.after }) all (older all (Stamp at node) these) (omega arith) t)
 
 changed_tidy : (c n : ℕ) (all : List NodeCopy) (best : ℕ) (these : List ℕ) (k : ℕ) (e : Option Change) → AreTidy c n all → AreTidy c (n + 1) (quorum_changed all best these k e).copies
 changed_tidy c n all best these k None t = later_tidy c n all t

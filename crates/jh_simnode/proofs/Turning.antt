@@ -1,5 +1,5 @@
 -- What a turn changes of what a run keeps.
-use Rattle.std.proofs.Common.{◌≡◌, ◌≢◌, ℕ, zero, suc, ◌+◌, ◌*◌, ◌%◌, ◌<◌, ◌≤◌, ◌⊎◌, Bool, true, false, ◌&&◌, ◌==◌, List, [], ◌∷◌, ◌++◌, length, set, get_or, replicate, slice_index, refl, ap, sym, ◌∙◌, arith, cond, inl, inr, subst}
+use Rattle.std.proofs.Common.{◌≡◌, ◌≢◌, ℕ, zero, suc, ◌+◌, ◌*◌, ◌%◌, ◌<◌, ◌≤◌, true, false, List, [], ◌∷◌, ◌++◌, length, set, get_or, replicate, slice_index, refl, ap, sym, ◌∙◌, arith, inl, inr, subst}
 use Rattle.std.specs.List.{count_by}
 use Rattle.std.proofs.lemmas.Bool.{cases_eq, eq-eqb, ne_eqb}
 use Rattle.std.proofs.lemmas.List.{length-set, get_or-set_same, get_or-set_other}
@@ -10,17 +10,16 @@ use Rattle.rand_pcg.specs.Lcg.{Lcg}
 use Rattle.rand_pcg.specs.Pcg.{pcg64}
 use Rattle.jh_ops.specs.declared.call.Request.{Request}
 use Rattle.jh_gen.specs.Tally.{Path}
-use Rattle.jh_gen.specs.DriverState.{DriverState, StandsFor, after_end, processes_after}
+use Rattle.jh_gen.specs.DriverState.{DriverState, after_end, processes_after}
 use Rattle.jh_gen.specs.declared.answers.Thread.TheVariants as thread
 use Rattle.jh_simnode.specs.declared.copies.Reply.{Reply}
 use Rattle.jh_simnode.specs.declared.copies.Reply.TheVariants.{Ok, Fail, Info}
 use Rattle.jh_simnode.specs.declared.events.Event.{Event}
-use Rattle.jh_simnode.specs.declared.events.Event.TheVariants as Event
 use Rattle.jh_simnode.specs.declared.turns.Run.{Run}
-use Rattle.jh_simnode.specs.Counts.{answered, applied, calls_by, process_of, is_call, is_step, is_call_by, is_crash_of, is_process_of, is_info}
+use Rattle.jh_simnode.specs.Counts.{answered, applied, calls_by, process_of, is_call, is_step, is_call_by, is_crash_of, is_process_of}
 use Rattle.jh_simnode.specs.Plans.{PlanValue}
-use Rattle.jh_simnode.specs.Runs.{Turns, called, call_event, ended, run_generator, thread_of, waited, word, words_after, words_taken}
-use Rattle.jh_simnode.specs.Running.{AreNumbered, Counts, Drives, HasCall, Keeps, ended_of}
+use Rattle.jh_simnode.specs.Runs.{Turns, called, call_event, ended, thread_of, waited, word, words_after, words_taken}
+use Rattle.jh_simnode.specs.Running.{Counts, Drives, HasCall, Keeps, ended_of}
 use Rattle.jh_simnode.proofs.Counting.{count_yes, count_no}
 
 -- one word more

@@ -1,5 +1,5 @@
 -- The processes of a run's history can be written.
-use Rattle.std.proofs.Common.{◌≡◌, ℕ, zero, suc, ◌+◌, ◌*◌, ◌%◌, ◌^◌, ◌<◌, ◌≤◌, List, [], ◌∷◌, ◌++◌, length, length-append, All, ap, sym, ◌∙◌, arith, subst, count_by}
+use Rattle.std.proofs.Common.{ℕ, zero, suc, ◌+◌, ◌*◌, ◌^◌, ◌<◌, ◌≤◌, List, [], ◌∷◌, length, length-append, All, ap, sym, ◌∙◌, arith, subst, count_by}
 use Rattle.std.proofs.Math.Nat.{mod-lt}
 use Rattle.std.proofs.lemmas.Nat.{mul-le}
 use Rattle.std.proofs.lemmas.List.Elements.{All-cons, All-head, All-push, All-tail}
@@ -7,7 +7,6 @@ use Rattle.std.proofs.lemmas.List.Sums.{count_by-le-length}
 use Rattle.jh_ops.specs.Operation.{Operation}
 use Rattle.jh_ops.specs.OperationWritten.{IsWritable}
 use Rattle.jh_simnode.specs.declared.events.Event.{Event}
-use Rattle.jh_simnode.specs.declared.events.Event.TheVariants as Event
 use Rattle.jh_simnode.specs.Counts.{is_crash_of, process_of}
 use Rattle.jh_simnode.specs.Histories.{told_from, invoked, completed, begun, answered_by}
 use Rattle.jh_simnode.specs.Plans.{PlanValue}

@@ -1,5 +1,5 @@
 -- What a node keeps of the database: a mark that says how new it is, and the contents (this project's own).
-use Rattle.std.specs.Prelude.{ℕ, ℤ, pos, ◌==◌, ◌&&◌, ◌||◌, Bool, true, false, List, [], Option, Some, None, nat_lt, int_lt, slice_index_or}
+use Rattle.std.specs.Prelude.{ℕ, ℤ, pos, ◌&&◌, ◌||◌, Bool, true, false, List, [], Option, Some, None, nat_lt, int_lt, slice_index_or}
 use Rattle.std.specs.Ordering.{int_eq}
 use Rattle.jh_ops.specs.declared.call.Workload.{Workload}
 use Rattle.jh_ops.specs.declared.call.Workload.TheVariants.{Register, Counter, Set, Ids}
@@ -7,7 +7,6 @@ use Rattle.jh_simnode.specs.declared.settings.Settings.{Settings}
 use Rattle.jh_simnode.specs.declared.copies.Contents.{Contents}
 use Rattle.jh_simnode.specs.declared.copies.Contents.TheVariants.{One, Many}
 use Rattle.jh_simnode.specs.declared.copies.Got.{Got}
-use Rattle.jh_simnode.specs.declared.copies.Got.TheVariants as Got
 use Rattle.jh_simnode.specs.declared.copies.Mark.{Mark}
 use Rattle.jh_simnode.specs.declared.copies.Mark.TheVariants.{First, Version, Stamp}
 use Rattle.jh_simnode.specs.declared.copies.NodeCopy.{NodeCopy}

@@ -1,13 +1,12 @@
 -- What a request does to the contents of a copy: the objects that Jepsen's pages on checkers name, a register, a
 -- counter, a set and ids.
-use Rattle.std.specs.Prelude.{ℕ, ℤ, pos, negsuc, ◌+ℤ◌, ◌==◌, ◌^◌, ◌-◌, Bool, true, false, List, [], ◌∷◌, Option, Some, None, nat_lt, int_lt, if◌then◌else◌}
+use Rattle.std.specs.Prelude.{ℤ, pos, negsuc, ◌+ℤ◌, ◌^◌, Bool, List, [], ◌∷◌, Option, Some, None, nat_lt, int_lt, if◌then◌else◌}
 use Rattle.std.specs.Ordering.{int_eq}
 use Rattle.jh_ops.specs.declared.call.Request.{Request}
 use Rattle.jh_ops.specs.declared.call.Request.TheVariants.{Read, Write, Cas, Add, Generate}
 use Rattle.jh_simnode.specs.declared.copies.Contents.{Contents}
 use Rattle.jh_simnode.specs.declared.copies.Contents.TheVariants.{One, Many}
 use Rattle.jh_simnode.specs.declared.copies.Got.{Got}
-use Rattle.jh_simnode.specs.declared.copies.Got.TheVariants as Got
 use Rattle.jh_simnode.specs.declared.effects.Change.{Change}
 use Rattle.jh_simnode.specs.Copies.{got_of}
 

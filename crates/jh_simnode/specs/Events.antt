@@ -1,17 +1,14 @@
 -- What happens in a world, one event after another: where it stands after each, and which events are due (this
 -- project's own).
-use Rattle.std.specs.Prelude.{◌≡◌, ℕ, ◌+◌, ◌<◌, ◌≤◌, List, [], ◌∷◌, ◌++◌, length, replicate, slice_index, take}
+use Rattle.std.specs.Prelude.{◌≡◌, ℕ, ◌+◌, ◌<◌, ◌≤◌, List, [], ◌∷◌, ◌++◌, length, replicate}
 use Rattle.jh_env.specs.Cells.{Table}
 use Rattle.jh_env.specs.Overlay.{EnvValue}
-use Rattle.jh_nemesis.specs.State.{State, Active, faults_in}
+use Rattle.jh_nemesis.specs.State.{State, faults_in}
 use Rattle.jh_nemesis.specs.Steps.{answer_of, state_after, FitsNodes}
-use Rattle.jh_nemesis.specs.declared.steps.Step.{Step}
 use Rattle.jh_simnode.specs.declared.settings.Settings.{Settings}
 use Rattle.jh_simnode.specs.declared.copies.NodeCopy.{NodeCopy}
-use Rattle.jh_simnode.specs.declared.copies.Reply.{Reply}
 use Rattle.jh_simnode.specs.declared.events.TheConstants.{MOST_EVENTS}
 use Rattle.jh_simnode.specs.declared.events.Event.{Event}
-use Rattle.jh_simnode.specs.declared.events.Event.TheVariants as Event
 use Rattle.jh_simnode.specs.declared.events.WorldError.{WorldError}
 use Rattle.jh_simnode.specs.declared.events.WorldError.TheVariants.{UnknownNode, TooManyEvents, OutOfMemory}
 use Rattle.jh_simnode.specs.Copies.{first_copy}

@@ -1,15 +1,13 @@
 -- What holds at every place of every legal journal (this project's own).
-use Rattle.std.specs.Prelude.{◌≡◌, ℕ, ◌+◌, ◌≤◌, Bool, true, false, List, [], ◌∷◌, ◌++◌, length, filter, not}
+use Rattle.std.specs.Prelude.{◌≡◌, ℕ, ◌+◌, ◌≤◌, Bool, true, List, [], ◌∷◌, ◌++◌, length, filter, not}
 use Rattle.jh_env.specs.Cells.{link_at, node_at}
-use Rattle.jh_nemesis.specs.State.{State, Active, faults_in, has_id}
+use Rattle.jh_nemesis.specs.State.{State, faults_in, has_id}
 use Rattle.jh_nemesis.specs.Steps.{state_after_all, is_ok}
 use Rattle.jh_nemesis.specs.Laws.{is_change}
 use Rattle.jh_nemesis.specs.declared.steps.Step.{Step}
-use Rattle.jh_nemesis.specs.declared.steps.Step.TheVariants.{Begin, Withdraw, WithdrawAll, Undo, Redo}
-use Rattle.jh_nemesis.specs.declared.steps.StepAnswer.{StepAnswer}
+use Rattle.jh_nemesis.specs.declared.steps.Step.TheVariants.{Withdraw, WithdrawAll, Undo, Redo}
 use Rattle.jh_nemesis.specs.declared.steps.StepAnswer.TheVariants.{Ok}
 use Rattle.jh_simnode.specs.declared.events.Event.{Event}
-use Rattle.jh_simnode.specs.declared.events.Event.TheVariants as Event
 use Rattle.jh_simnode.specs.Reach.{Cells, cells_over}
 use Rattle.jh_simnode.specs.Events.{Setup, Moment, calm_state, env_of, next, moment_at, IsLegal}
 

@@ -3,6 +3,7 @@ pub mod Copies
 pub mod Effects
 pub mod Reach
 pub mod Stores
+pub mod Outcomes
 pub mod Events
 pub mod Plans
 pub mod Counts

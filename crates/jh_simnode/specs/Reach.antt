@@ -1,5 +1,5 @@
 -- Whom a call of a node reaches, and whom it hears in time (this project's own).
-use Rattle.std.specs.Prelude.{ℕ, zero, suc, ◌+◌, ◌%◌, ◌/◌, ◌==◌, ◌&&◌, ◌||◌, Bool, true, false, not, List, [], ◌∷◌, ◌++◌, Option, Some, None, nat_lt, nat_le, filter, option_map}
+use Rattle.std.specs.Prelude.{ℕ, zero, suc, ◌+◌, ◌%◌, ◌==◌, ◌&&◌, ◌||◌, Bool, true, false, not, List, [], ◌∷◌, ◌++◌, Option, Some, None, nat_le, filter, option_map}
 use Rattle.jh_env.specs.declared.cells.Life.{Life}
 use Rattle.jh_env.specs.declared.cells.Life.TheVariants.{Running, Paused, Killed}
 use Rattle.jh_env.specs.declared.cells.Link.{Link}

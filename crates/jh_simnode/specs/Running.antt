@@ -12,7 +12,6 @@ use Rattle.jh_gen.specs.declared.answers.Ended.TheVariants as ends
 use Rattle.jh_simnode.specs.declared.copies.Reply.{Reply}
 use Rattle.jh_simnode.specs.declared.copies.Reply.TheVariants.{Ok, Fail, Info}
 use Rattle.jh_simnode.specs.declared.events.Event.{Event}
-use Rattle.jh_simnode.specs.declared.events.Event.TheVariants as Event
 use Rattle.jh_simnode.specs.declared.events.TheConstants.{MOST_EVENTS}
 use Rattle.jh_simnode.specs.declared.schedule.Entry.{Entry}
 use Rattle.jh_simnode.specs.declared.turns.Asked.{Asked}
@@ -21,7 +20,7 @@ use Rattle.jh_simnode.specs.declared.turns.Run.{Run}
 use Rattle.jh_simnode.specs.Counts.{answered, applied, calls_by, process_of, last}
 use Rattle.jh_simnode.specs.Events.{WorldValue, IsLegal}
 use Rattle.jh_simnode.specs.Plans.{PlanValue}
-use Rattle.jh_simnode.specs.Runs.{Turns, Reached, Runs, ask_move, called, ended, is_due, move_of, run_generator, setup_of, thread_of, first_turns, ticks_after, ticks_at, waited, words_after, words_taken}
+use Rattle.jh_simnode.specs.Runs.{Turns, Reached, Runs, ask_move, ended, is_due, move_of, run_generator, setup_of, thread_of, first_turns, ticks_after, ticks_at, waited, words_after, words_taken}
 use Rattle.jh_simnode.specs.Runs.Move.{Calls, Waits, Ends, Rests}
 
 -- how an operation ends by a reply

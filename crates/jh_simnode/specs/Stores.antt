@@ -1,6 +1,5 @@
 -- What each store does with a request and with a tick, and what a killed node forgets (this project's own).
-use Rattle.std.specs.Prelude.{◌≡◌, ℕ, ℤ, pos, ◌+◌, ◌/◌, ◌+ℤ◌, ◌&&◌, Bool, true, false, not, List, [], ◌∷◌, Option, Some, None, nat_lt, length, fold, slice_set, slice_index_or, map, if◌then◌else◌, Vec}
-use Rattle.std.specs.Global.{Global}
+use Rattle.std.specs.Prelude.{ℕ, ℤ, pos, ◌+◌, ◌/◌, ◌+ℤ◌, ◌&&◌, Bool, false, not, List, [], ◌∷◌, Option, Some, None, nat_lt, length, fold, slice_set, slice_index_or, map, filter, if◌then◌else◌}
 use Rattle.jh_env.specs.declared.cells.Life.{Life}
 use Rattle.jh_env.specs.declared.cells.Life.TheVariants.{Running, Paused, Killed}
 use Rattle.jh_env.specs.declared.cells.Link.{Link}
@@ -9,14 +8,11 @@ use Rattle.jh_ops.specs.declared.call.Request.{Request}
 use Rattle.jh_simnode.specs.declared.settings.Settings.{Settings}
 use Rattle.jh_simnode.specs.declared.settings.Store.{Store}
 use Rattle.jh_simnode.specs.declared.settings.Store.TheVariants.{Quorum, Lww, Local}
-use Rattle.jh_simnode.specs.declared.copies.Contents.{Contents}
-use Rattle.jh_simnode.specs.declared.copies.Got.{Got}
 use Rattle.jh_simnode.specs.declared.copies.Mark.{Mark}
-use Rattle.jh_simnode.specs.declared.copies.Mark.TheVariants.{First, Version, Stamp}
+use Rattle.jh_simnode.specs.declared.copies.Mark.TheVariants.{Version, Stamp}
 use Rattle.jh_simnode.specs.declared.copies.NodeCopy.{NodeCopy}
 use Rattle.jh_simnode.specs.declared.copies.Reply.{Reply}
 use Rattle.jh_simnode.specs.declared.copies.Reply.TheVariants.{Ok, Fail, Info}
-use Rattle.jh_simnode.specs.declared.stores.Outcome.{Outcome}
 use Rattle.jh_ops.specs.Requests.{is_request_of}
 use Rattle.jh_simnode.specs.Requests.{only_asks, is_read}
 use Rattle.jh_simnode.specs.Copies.{version, is_lower, copy_at, got_of, first_copy}
@@ -28,16 +24,6 @@ use Rattle.jh_simnode.specs.Reach.{Cells, runs, is_killed, places, touched, hear
 pub record Served : Type 0 where
   pub reply : Reply
   pub copies : List NodeCopy
-
--- the copies after a change of all, if there is one
-abbrev pub changed : List NodeCopy → Option (Vec NodeCopy Global) → List NodeCopy
-changed old None = old
-changed old (Some new) = new.items
-
--- an outcome, over these copies, is what is due
-pub record Gives (old : List NodeCopy) (told : Outcome) (due : Served) : Type 0 where
-  pub reply : told.reply ≡ due.reply
-  pub copies : changed old told.copies ≡ due.copies
 
 -- only a reply
 abbrev pub served : List NodeCopy → Reply → Served
@@ -68,12 +54,9 @@ give new copies place = slice_set copies place new
 abbrev pub give_all : NodeCopy → List NodeCopy → List ℕ → List NodeCopy
 give_all new copies these = fold (give new) copies these
 
--- each of these nodes takes the new copy if its own stamp is lower
-abbrev pub offer : NodeCopy → List NodeCopy → ℕ → List NodeCopy
-offer new copies place = if is_lower (copy_at copies place).mark new.mark then slice_set copies place new else copies
-
-abbrev pub offer_all : NodeCopy → List NodeCopy → List ℕ → List NodeCopy
-offer_all new copies these = fold (offer new) copies these
+-- those of these nodes whose own stamp is lower
+abbrev pub older : List NodeCopy → Mark → List ℕ → List ℕ
+older copies stamp these = filter (λ p. is_lower (copy_at copies p).mark stamp) these
 
 -- what a change of a node's own copy comes to
 abbrev pub local_served : List NodeCopy → ℕ → Option Change → Served
@@ -83,11 +66,14 @@ local_served copies node (Some e) = record {
   copies = slice_set copies node (record { mark = (copy_at copies node).mark; contents = e.after });
 }
 
--- a change with this stamp, which goes to the nodes reached
+-- a change with this stamp, which goes to those of the nodes reached whose own stamp is lower
 abbrev pub lww_served : List NodeCopy → Mark → List ℕ → Option Change → Served
 lww_served copies stamp reached None = served copies Fail
 lww_served copies stamp reached (Some e) =
-    record { reply = Ok e.got; copies = offer_all (record { mark = stamp; contents = e.after }) copies reached }
+    record {
+      reply = Ok e.got;
+      copies = give_all (record { mark = stamp; contents = e.after }) copies (older copies stamp reached);
+    }
 
 -- a change at a majority, of which so many nodes are heard
 abbrev pub quorum_changed : List NodeCopy → ℕ → List ℕ → ℕ → Option Change → Served

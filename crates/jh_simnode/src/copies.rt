@@ -193,17 +193,6 @@ impl NodeCopy {
     }
 }
 
-/// Equal copies.
-pub(crate) fn copies_of(alloc: Global, copies: &[NodeCopy]) -> Result<Vec<NodeCopy>, AllocError>
-    ensures { IfOk result (λ all. all.items ≡ copies.now) }
-{
-    let mut all = Vec::new(alloc);
-    for copy in copies {
-        all.push(copy.copy(alloc)?)?;
-    }
-    Ok(all)
-}
-
 /// So many copies as they are at first.
 pub(crate) fn first_copies(
     alloc: Global,

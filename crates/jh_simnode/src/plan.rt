@@ -86,7 +86,7 @@ impl From<AllocError> for PlanError {
     }
 }
 
-// How many calls a run of the workload may make.
+/// How many calls a run of the workload may make.
 fn most_ops(workload: Workload) -> u32
     ensures { result ≡ rule.most_ops workload }
 {
@@ -96,6 +96,7 @@ fn most_ops(workload: Workload) -> u32
     }
 }
 
+/// Whether each node that a fault of the schedule names is in the environment.
 fn all_fit(schedule: &[Entry], environment: &Env) -> bool
     ensures { IsTrue result ↔ All (λ entry. FitsNodes (length environment.now.names) entry.step) schedule.now }
 {

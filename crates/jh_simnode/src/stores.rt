@@ -1,13 +1,14 @@
 //! What a node does with a request, and what nodes tell each other in a tick. `specs/Stores.antt` has the rule of each store.
 
-ghost use Rattle.std.specs.Prelude.{◌≡◌, ℕ, pos, ◌+ℤ◌, ◌<◌, ◌≤◌, ◌&&◌, length, None, IfOk, OnOk};
+ghost use Rattle.std.specs.Prelude.{◌≡◌, ℕ, pos, ◌+ℤ◌, ◌<◌, ◌≤◌, ◌&&◌, [], length, IfOk};
 ghost use Rattle.std.specs.List.{All};
 ghost use Rattle.jh_simnode.specs.Reach.{cells_of, is_killed, places, runs};
-ghost use Rattle.jh_simnode.specs.Stores.{Gives, served, serve, serve_local, serve_lww, serve_quorum, quorum_read, quorum_write, newest, newer_place, give_all, offer_all, version_at, dead, ticked, tell, tell_all, spread, is_open, forgotten, forget_one, changed};
+ghost use Rattle.jh_simnode.specs.Outcomes.{Gives, AreTaken, AreSources, with_all, copies_from};
+ghost use Rattle.jh_simnode.specs.Stores.{serve_local, serve_lww, serve_quorum, quorum_read, quorum_write, newest, newer_place, give_all, older, version_at, dead, ticked, tell, tell_all, spread, is_open, forgotten, serve};
 
-use crate::copies::{Mark, NodeCopy, Reply, copies_of};
+use crate::copies::{Mark, NodeCopy, Reply};
 use crate::effects::effect;
-use crate::reach::{heard, is_down, is_open, is_up, touched};
+use crate::reach::{NodePlaces, heard, is_down, is_open, is_up, touched};
 use crate::requests::{is_read, only_asks};
 use crate::settings::{Settings, Store};
 use arrayvec::ArrayVec;
@@ -15,12 +16,22 @@ use jh_env::{Env, Life, Node};
 use jh_ops::Request;
 use std::alloc::{AllocError, Global};
 
-/// A reply, and all copies after it if one of them changed.
+/// A copy that the node at a place takes over.
+#[derive(Drop)]
+pub(crate) struct Taken {
+    pub(crate) place: usize,
+    pub(crate) copy: NodeCopy,
+}
+
+/// A reply, and the copies that nodes take over with it, one for each node that changes its own.
 #[derive(Drop)]
 pub(crate) struct Outcome {
     pub(crate) reply: Reply,
-    pub(crate) copies: Option<Vec<NodeCopy>>,
+    pub(crate) taken: Vec<Taken>,
 }
+
+/// Of each place, in order, the place whose copy its node has in the end.
+type Sources = ArrayVec<usize, 64>;
 
 /// Of each node, in order, whether it is killed.
 pub(crate) type Flags = ArrayVec<bool, 64>;
@@ -72,25 +83,6 @@ pub(crate) fn forget(
     }
 }
 
-/// One node tells another what it has: the other takes it where its own stamp is lower.
-fn tell(
-    alloc: Global,
-    env: &Env,
-    from: usize,
-    copies: &mut [NodeCopy],
-    to: usize,
-) -> Result<(), AllocError>
-    requires from { from < length env.now.names }
-    requires to { to < length env.now.names }
-    requires sized { length copies.old ≡ length env.now.names }
-    ensures { OnOk result (copies.new ≡ tell (cells_of env.now) from copies.old to) }
-{
-    if tells(env, from, to) && copies[to].mark.is_lower(copies[from].mark) {
-        copies[to] = copies[from].copy(alloc)?;
-    }
-    Ok(())
-}
-
 /// Whether one node can tell another what it has.
 fn tells(env: &Env, from: usize, to: usize) -> bool
     requires from { from < length env.now.names }
@@ -107,99 +99,146 @@ fn tells(env: &Env, from: usize, to: usize) -> bool
     is_up(env, source) && is_up(env, target) && is_open(env.link(source, target))
 }
 
+/// One node tells another what it has: the other takes it where its own stamp is lower.
+fn tell(env: &Env, copies: &[NodeCopy], from: usize, sources: &mut [usize], to: usize)
+    requires from { from < length env.now.names }
+    requires to { to < length env.now.names }
+    requires sized { length copies.now ≡ length env.now.names }
+    requires sources { AreSources (length env.now.names) sources.old }
+    ensures told { copies_from copies.now sources.new ≡ tell (cells_of env.now) from (copies_from copies.now sources.old) to }
+    ensures sources { AreSources (length env.now.names) sources.new }
+{
+    let source = sources[from];
+    if tells(env, from, to) && copies[sources[to]].mark.is_lower(copies[source].mark) {
+        sources[to] = source;
+    }
+}
+
 /// One node tells all what it has.
 #[tactic(auto, using(crate::proofs::Places::fold_places_more))]
-fn tell_all(
-    alloc: Global,
-    env: &Env,
-    copies: &mut [NodeCopy],
-    from: usize,
-) -> Result<(), AllocError>
+fn tell_all(env: &Env, copies: &[NodeCopy], sources: &mut [usize], from: usize)
     requires from { from < length env.now.names }
-    requires sized { length copies.old ≡ length env.now.names }
-    ensures { OnOk result (copies.new ≡ tell_all (cells_of env.now) (length env.now.names) copies.old from) }
+    requires sized { length copies.now ≡ length env.now.names }
+    requires sources { AreSources (length env.now.names) sources.old }
+    ensures told { copies_from copies.now sources.new ≡ tell_all (cells_of env.now) (length env.now.names) (copies_from copies.now sources.old) from }
+    ensures sources { AreSources (length env.now.names) sources.new }
 {
     for to in 0..env.nodes().len() {
-        tell(alloc, env, from, copies, to)?;
+        tell(env, copies, from, sources, to);
     }
-    Ok(())
+}
+
+/// Each node's own place.
+fn own_sources(env: &Env) -> Sources
+    ensures { result.items ≡ places (length env.now.names) }
+{
+    let mut sources = Sources::new();
+    for place in 0..env.nodes().len() {
+        sources.push(place);
+    }
+    sources
 }
 
 /// All nodes tell all what they have.
 #[tactic(auto, using(crate::proofs::Places::fold_places_more))]
-fn spread(alloc: Global, env: &Env, copies: &mut [NodeCopy]) -> Result<(), AllocError>
-    requires sized { length copies.old ≡ length env.now.names }
-    ensures { OnOk result (copies.new ≡ spread (cells_of env.now) (length env.now.names) copies.old) }
+fn spread(env: &Env, copies: &[NodeCopy]) -> Sources
+    requires sized { length copies.now ≡ length env.now.names }
+    ensures told { copies_from copies.now result.items ≡ spread (cells_of env.now) (length env.now.names) copies.now }
+    ensures sources { AreSources (length env.now.names) result.items }
 {
+    let mut sources = own_sources(env);
     for from in 0..env.nodes().len() {
-        tell_all(alloc, env, copies, from)?;
+        tell_all(env, copies, &mut sources, from);
     }
-    Ok(())
+    sources
 }
 
-/// All copies after the nodes told each other what they have, if the store does so.
+/// The copies that nodes take over from others.
+fn taken_from(
+    alloc: Global,
+    copies: &[NodeCopy],
+    sources: &[usize],
+) -> Result<Vec<Taken>, AllocError>
+    requires { AreSources (length copies.now) sources.now }
+    ensures { IfOk result (λ taken. AreTaken copies.now taken.items (copies_from copies.now sources.now)) }
+{
+    let mut taken = Vec::new(alloc);
+    for place in 0..sources.len() {
+        let source = sources[place];
+        if source != place {
+            let copy = copies[source].copy(alloc)?;
+            taken.push(Taken { place, copy })?;
+        }
+    }
+    Ok(taken)
+}
+
+/// The copies that nodes take over after they told each other what they have, if the store does so.
 #[tactic(auto, unfolding(crate::specs::Stores::ticked))]
 pub(crate) fn tick_copies(
     alloc: Global,
     store: Store,
     env: &Env,
     copies: &[NodeCopy],
-) -> Result<Option<Vec<NodeCopy>>, AllocError>
+) -> Result<Vec<Taken>, AllocError>
     requires sized { length copies.now ≡ length env.now.names }
-    ensures { IfOk result (λ all. changed copies.now all ≡ ticked store (cells_of env.now) copies.now) }
+    ensures { IfOk result (λ taken. AreTaken copies.now taken.items (ticked store (cells_of env.now) copies.now)) }
 {
     match store {
         Store::Lww => {
-            let mut all = copies_of(alloc, copies)?;
-            spread(alloc, env, &mut all)?;
-            Ok(Some(all))
+            let sources = spread(env, copies);
+            taken_from(alloc, copies, &sources)
         }
-        Store::Quorum => Ok(None),
-        Store::Local => Ok(None),
+        Store::Quorum => Ok(Vec::new(alloc)),
+        Store::Local => Ok(Vec::new(alloc)),
     }
 }
 
-/// Takes over what all copies are now, if one of them changed.
-pub(crate) fn take_over(copies: &mut Vec<NodeCopy>, all: Option<Vec<NodeCopy>>)
-    ensures { copies.new.items ≡ changed copies.old.items all }
+/// Takes over these copies, each at its place.
+pub(crate) fn take_over(copies: &mut Vec<NodeCopy>, taken: Vec<Taken>)
+    requires { All (λ t. t.place < length copies.old.items) taken.items }
+    ensures { copies.new.items ≡ with_all copies.old.items taken.items }
 {
-    if let Some(all) = all {
-        *copies = all;
+    for one in taken {
+        copies[one.place] = one.copy;
     }
 }
 
-/// Each of these nodes has the new copy.
+/// The new copy for each of these nodes.
 fn give_all(
     alloc: Global,
+    copies: &[NodeCopy],
     new: &NodeCopy,
-    copies: &mut [NodeCopy],
     these: &[usize],
-) -> Result<(), AllocError>
-    requires { All (λ p. p < length copies.old) these.now }
-    ensures { OnOk result (copies.new ≡ give_all new.now copies.old these.now) }
+) -> Result<Vec<Taken>, AllocError>
+    requires { All (λ p. p < length copies.now) these.now }
+    ensures { IfOk result (λ taken. AreTaken copies.now taken.items (give_all new.now copies.now these.now)) }
 {
+    let mut taken = Vec::new(alloc);
     for place in these {
-        copies[*place] = new.copy(alloc)?;
+        let copy = new.copy(alloc)?;
+        taken.push(Taken {
+            place: *place,
+            copy,
+        })?;
     }
-    Ok(())
+    Ok(taken)
 }
 
-/// Each of these nodes takes the new copy if its own stamp is lower.
-fn offer_all(
-    alloc: Global,
-    new: &NodeCopy,
-    copies: &mut [NodeCopy],
-    these: &[usize],
-) -> Result<(), AllocError>
-    requires { All (λ p. p < length copies.old) these.now }
-    ensures { OnOk result (copies.new ≡ offer_all new.now copies.old these.now) }
+/// Those of these nodes whose own stamp is lower.
+fn older(copies: &[NodeCopy], stamp: Mark, these: &[usize]) -> NodePlaces
+    requires known { All (λ p. p < length copies.now) these.now }
+    requires few { length these.now ≤ 64 }
+    ensures places { result.items ≡ older copies.now stamp these.now }
+    ensures known { All (λ p. p < length copies.now) result.items }
 {
+    let mut those = NodePlaces::new();
     for place in these {
-        if copies[*place].mark.is_lower(new.mark) {
-            copies[*place] = new.copy(alloc)?;
+        if copies[*place].mark.is_lower(stamp) {
+            those.push(*place);
         }
     }
-    Ok(())
+    those
 }
 
 /// The place of the greater version of two, or else the first of them.
@@ -233,14 +272,14 @@ fn newest(copies: &[NodeCopy], these: &[usize]) -> usize
     best
 }
 
-/// A reply that leaves the copies.
-fn unchanged(reply: Reply) -> Outcome
+/// A reply with which no node takes over a copy.
+fn unchanged(alloc: Global, reply: Reply) -> Outcome
     ensures reply { result.reply ≡ reply }
-    ensures copies { result.copies ≡ None }
+    ensures taken { result.taken.items ≡ [] }
 {
     Outcome {
         reply,
-        copies: None,
+        taken: Vec::new(alloc),
     }
 }
 
@@ -254,19 +293,24 @@ fn serve_local(
     ensures { IfOk result (λ told. Gives copies.now told (serve_local copies.now node request)) }
 {
     let place = node.place() as usize;
+    if is_read(request) {
+        let got = copies[place].contents.got(alloc)?;
+        return Ok(unchanged(alloc, Reply::Ok(got)));
+    }
     match effect(alloc, request, &copies[place].contents)? {
         Some(change) => {
-            let mut all = copies_of(alloc, copies)?;
-            all[place] = NodeCopy {
+            let copy = NodeCopy {
                 mark: copies[place].mark,
                 contents: change.after,
             };
+            let mut taken = Vec::new(alloc);
+            taken.push(Taken { place, copy })?;
             Ok(Outcome {
                 reply: Reply::Ok(change.got),
-                copies: Some(all),
+                taken,
             })
         }
-        None => Ok(unchanged(Reply::Fail)),
+        None => Ok(unchanged(alloc, Reply::Fail)),
     }
 }
 
@@ -292,7 +336,8 @@ fn serve_lww(
 {
     let place = node.place() as usize;
     if is_read(request) {
-        return Ok(unchanged(Reply::Ok(copies[place].contents.got(alloc)?)));
+        let got = copies[place].contents.got(alloc)?;
+        return Ok(unchanged(alloc, Reply::Ok(got)));
     }
     match effect(alloc, request, &copies[place].contents)? {
         Some(change) => {
@@ -300,15 +345,14 @@ fn serve_lww(
                 mark: Mark::Stamp(at, node.place()),
                 contents: change.after,
             };
-            let mut all = copies_of(alloc, copies)?;
-            let reached = touched(env, draw, node);
-            offer_all(alloc, &new, &mut all, &reached)?;
+            let these = older(copies, new.mark, &touched(env, draw, node));
+            let taken = give_all(alloc, copies, &new, &these)?;
             Ok(Outcome {
                 reply: Reply::Ok(change.got),
-                copies: Some(all),
+                taken,
             })
         }
-        None => Ok(unchanged(Reply::Fail)),
+        None => Ok(unchanged(alloc, Reply::Fail)),
     }
 }
 
@@ -322,10 +366,11 @@ fn quorum_read(
     ensures { IfOk result (λ told. Gives copies.now told (quorum_read copies.now answering.now)) }
 {
     if answering.len() < copies.len() / 2 + 1 {
-        return Ok(unchanged(Reply::Fail));
+        return Ok(unchanged(alloc, Reply::Fail));
     }
     let best = newest(copies, answering);
-    Ok(unchanged(Reply::Ok(copies[best].contents.got(alloc)?)))
+    let got = copies[best].contents.got(alloc)?;
+    Ok(unchanged(alloc, Reply::Ok(got)))
 }
 
 fn quorum_write(
@@ -341,7 +386,7 @@ fn quorum_write(
     ensures { IfOk result (λ told. Gives copies.now told (quorum_write copies.now reached.now answering request)) }
 {
     if reached.len() < copies.len() / 2 + 1 {
-        return Ok(unchanged(Reply::Fail));
+        return Ok(unchanged(alloc, Reply::Fail));
     }
     let best = newest(copies, reached);
     match effect(alloc, request, &copies[best].contents)? {
@@ -350,20 +395,15 @@ fn quorum_write(
                 mark: Mark::Version(copies[best].mark.version() + 1),
                 contents: change.after,
             };
-            let mut all = copies_of(alloc, copies)?;
-            give_all(alloc, &new, &mut all, reached)?;
-            if answering < copies.len() / 2 + 1 {
-                return Ok(Outcome {
-                    reply: Reply::Info,
-                    copies: Some(all),
-                });
-            }
-            Ok(Outcome {
-                reply: Reply::Ok(change.got),
-                copies: Some(all),
-            })
+            let taken = give_all(alloc, copies, &new, reached)?;
+            let reply = if answering < copies.len() / 2 + 1 {
+                Reply::Info
+            } else {
+                Reply::Ok(change.got)
+            };
+            Ok(Outcome { reply, taken })
         }
-        None => Ok(unchanged(Reply::Fail)),
+        None => Ok(unchanged(alloc, Reply::Fail)),
     }
 }
 
@@ -407,20 +447,20 @@ pub(crate) fn serve(
     ensures { IfOk result (λ told. Gives copies.now told (serve settings.now (cells_of env.now) copies.now number node request draw)) }
 {
     if !request.is_of(settings.workload) {
-        return Ok(unchanged(Reply::Fail));
+        return Ok(unchanged(alloc, Reply::Fail));
     }
     let Some(cell) = env.node(node) else {
-        return Ok(unchanged(Reply::Fail));
+        return Ok(unchanged(alloc, Reply::Fail));
     };
     match cell.process {
-        Life::Killed => Ok(unchanged(Reply::Fail)),
+        Life::Killed => Ok(unchanged(alloc, Reply::Fail)),
         Life::Paused => {
             let reply = if only_asks(request) {
                 Reply::Fail
             } else {
                 Reply::Info
             };
-            Ok(unchanged(reply))
+            Ok(unchanged(alloc, reply))
         }
         Life::Running => match settings.store {
             Store::Quorum => serve_quorum(alloc, env, copies, node, request, draw),

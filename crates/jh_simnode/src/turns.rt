@@ -46,6 +46,7 @@ enum Asked {
     Ends,
 }
 
+/// How an operation with this reply ends.
 fn ended_of(reply: &Reply) -> Ended
     ensures { result ≡ running.ended_of reply.now }
 {
@@ -56,7 +57,7 @@ fn ended_of(reply: &Reply) -> Ended
     }
 }
 
-// The number of a client's process.
+/// The number of a client's process.
 fn number_of(process: Process) -> u64
     ensures { result ≡ running.number_of process }
 {
@@ -86,6 +87,7 @@ fn node_of(plan: &Plan, thread: u32) -> Node
     }
 }
 
+/// The driver of the plan's generator, cut off after as many calls as the plan has, for clients alone.
 fn driver_of(alloc: Global, plan: &Plan) -> Result<Driver, RunError>
     ensures driver { IfOk result (running.IsFirstDriver plan.now) }
     ensures stopped { IfErr result (Stops plan.now) }
@@ -116,6 +118,7 @@ impl Run {
         })
     }
 
+    /// Whether an entry is due, once those before it were applied.
     fn is_due(&self, entry: &Entry) -> bool
         ensures { result ≡ running.is_run_due self.now entry.now }
     {

@@ -89,7 +89,7 @@ impl World {
     /// A client's call of a node. Answers the number of the event and the reply, which is the one that is due. `draw`
     /// decides whether a message of the call is lost: on a link of loss n it is where draw mod 20 is below n.
     ///
-    /// Takes time for the nodes, and for all copies where one of them changes.
+    /// Takes time for the nodes, and for the copies that it reads or changes.
     ///
     /// Errors, which change nothing: `UnknownNode`; `TooManyEvents` after 65,536 events; `OutOfMemory`.
     pub fn call(
@@ -122,7 +122,7 @@ impl World {
             draw,
         )?;
         let reply = served.reply.copy(self.alloc)?;
-        take_over(&mut self.copies, served.copies);
+        take_over(&mut self.copies, served.taken);
         self.journal.push_reserved(Event::Call {
             process,
             node,
@@ -181,13 +181,13 @@ impl World {
         }
         let number = self.journal.len() as u64;
         self.journal.reserve(1)?;
-        let copies = tick_copies(
+        let taken = tick_copies(
             self.alloc,
             self.settings.store,
             self.nemesis.env(),
             &self.copies,
         )?;
-        take_over(&mut self.copies, copies);
+        take_over(&mut self.copies, taken);
         self.journal.push_reserved(Event::Tick);
         Ok(number)
     }

@@ -1,4 +1,4 @@
-use Rattle.std.proofs.Common.{◌≡◌, ◌∷◌, ◌++◌, ◌+◌, [], All, length, take, get_or, subst, sym, refl}
+use Rattle.std.proofs.Common.{All, length, take, get_or, subst, sym, refl}
 use Rattle.std.proofs.lemmas.List.{take_all, take_more}
 use Rattle.std.proofs.lemmas.List.Elements.{All-push}
 use Rattle.jh_nemesis.specs.Steps.{FitsNodes}

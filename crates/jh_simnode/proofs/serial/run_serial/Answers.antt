@@ -1,4 +1,4 @@
-use Rattle.std.proofs.Common.{◌≡◌, ◌∙◌, All, ap, sym, subst, rules}
+use Rattle.std.proofs.Common.{◌∙◌, All, ap, sym, subst}
 use Rattle.jh_ops.specs.OperationWritten.{IsWritable}
 use Rattle.jh_simnode.specs.Histories.{history_of}
 use Rattle.jh_simnode.proofs.Writing.{writable_from}

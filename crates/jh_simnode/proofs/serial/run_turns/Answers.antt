@@ -1,5 +1,4 @@
-use Rattle.std.proofs.Common.{◌≡◌, refl, sym, ap, ◌∙◌, rules, arith}
-use Rattle.jh_simnode.proofs.Going.{first_stands, over}
+use Rattle.jh_simnode.proofs.Going.{first_stands}
 use Rattle.jh_simnode.proofs.Writing.{small_runs}
 use Rattle.jh_simnode.proofs.serial.run_turns.Goals as goal
 

@@ -1,7 +1,6 @@
-use Rattle.std.proofs.Common.{◌≡◌, ◌≤◌, true, refl, sym, ap, ◌∙◌, arith, rules}
-use Rattle.jh_gen.specs.View.{generator_of}
+use Rattle.std.proofs.Common.{sym, ap, ◌∙◌, arith}
 use Rattle.jh_gen.specs.Suits.{suits}
-use Rattle.jh_simnode.specs.Plans.{PlanValue, IsFit, HasOps, HasSteps, plan}
+use Rattle.jh_simnode.specs.Plans.{IsFit, HasSteps, plan}
 use Rattle.jh_simnode.proofs.plan.Plan.new.Goals as goal
 
 fit : (c : goal.In_ok-generator) → IsFit (plan c.args.environment c.args.store c.args.volatile c.args.workload c.args.initial c.args.clients c.args.ops c.in_ok-generator.generator c.args.schedule c.args.tick_every c.args.rows c.args.seed)

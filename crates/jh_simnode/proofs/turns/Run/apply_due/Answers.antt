@@ -1,7 +1,6 @@
-use Rattle.std.proofs.Common.{◌≡◌, ◌≤◌, ◌<◌, ◌+◌, ◌++◌, ◌∷◌, [], length, length-append, true, refl, ap, sym, ◌∙◌, arith, rules}
+use Rattle.std.proofs.Common.{◌≡◌, ◌+◌, length, length-append, true, refl, ap, sym, ◌∙◌, arith}
 use Rattle.std.specs.Prelude.{Some, slice_get}
 use Rattle.std.proofs.lemmas.Option.{slice_get_read}
-use Rattle.jh_simnode.specs.declared.events.Event.TheVariants as Event
 use Rattle.jh_simnode.specs.Running.{is_run_due}
 use Rattle.jh_simnode.proofs.Going.{step_stands, past_settled, early_settled}
 use Rattle.jh_simnode.proofs.turns.Run.apply_due.Goals as goal

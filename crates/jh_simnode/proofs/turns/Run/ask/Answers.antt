@@ -1,12 +1,11 @@
-use Rattle.std.proofs.Common.{◌≡◌, ◌+◌, ◌<◌, ap, ◌∙◌, refl, sym, subst, arith, rules}
+use Rattle.std.proofs.Common.{◌+◌, ◌<◌, ap, ◌∙◌, sym, subst, arith}
 use Rattle.jh_gen.specs.DriverState.{Answers}
 use Rattle.jh_gen.specs.declared.answers.Thread.TheVariants as thread
 use Rattle.jh_gen.specs.declared.answers.GenAnswer.TheVariants as answer
 use Rattle.jh_simnode.specs.declared.turns.Asked.TheVariants as asked
-use Rattle.jh_simnode.specs.declared.turns.Run.{Run}
 use Rattle.jh_simnode.specs.Running.{Asks}
 use Rattle.jh_simnode.specs.Runs.{run_generator}
-use Rattle.jh_simnode.proofs.Asking.{asks_call, asks_step, asks_pending, asks_done, never_refuses}
+use Rattle.jh_simnode.proofs.Asking.{asks_call, asks_step, asks_pending, asks_done}
 use Rattle.jh_simnode.proofs.turns.Run.ask.Goals as goal
 
 pub returns-in-Ok-Call-default-Client : goal.returns-in-Ok-Call-default-Client

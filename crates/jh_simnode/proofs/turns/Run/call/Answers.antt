@@ -1,4 +1,4 @@
-use Rattle.std.proofs.Common.{◌≡◌, ◌≤◌, ◌<◌, ◌+◌, ◌%◌, length, set, get_or, slice_index, refl, ap, sym, ◌∙◌, subst, arith, rules, count_by}
+use Rattle.std.proofs.Common.{◌≡◌, ◌≤◌, ◌<◌, ◌+◌, length, set, slice_index, ap, ◌∙◌, arith, rules}
 use Rattle.std.proofs.lemmas.List.Sums.{count_by-le-length}
 use Rattle.jh_gen.specs.DriverState.{after_end}
 use Rattle.jh_gen.specs.declared.answers.Thread.TheVariants as thread

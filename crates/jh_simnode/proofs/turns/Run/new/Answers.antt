@@ -1,4 +1,4 @@
-use Rattle.std.proofs.Common.{◌≡◌, ℕ, ◌<◌, get_or, replicate, length, refl, ap, sym, ◌∙◌, rules, count_by}
+use Rattle.std.proofs.Common.{◌≡◌, get_or, replicate, length, refl, ap, ◌∙◌, rules}
 use Rattle.std.proofs.lemmas.List.{get_or-replicate}
 use Rattle.rand_pcg.specs.Lcg.{started, increment_of}
 use Rattle.rand_pcg.specs.Pcg.{multiplier_128}

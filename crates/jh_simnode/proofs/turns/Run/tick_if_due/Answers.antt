@@ -1,7 +1,7 @@
-use Rattle.std.proofs.Common.{◌≡◌, ◌<◌, true, false, length, refl, ap, sym, ◌∙◌, arith, rules}
+use Rattle.std.proofs.Common.{◌≡◌, ◌<◌, true, length, ap, sym, ◌∙◌, arith}
 use Rattle.jh_simnode.specs.Runs.{ticks_at}
 use Rattle.jh_simnode.specs.Counts.{calls_by}
-use Rattle.jh_simnode.proofs.Going.{tick_stands, call_stands}
+use Rattle.jh_simnode.proofs.Going.{tick_stands}
 use Rattle.jh_simnode.proofs.Turning.{any_default}
 use Rattle.jh_simnode.proofs.turns.Run.tick_if_due.Goals as goal
 

@@ -1,5 +1,5 @@
-use Rattle.std.proofs.Common.{◌≡◌, ℕ, ◌<◌, length, arith, rules}
-use Rattle.jh_simnode.specs.Stores.{changed}
+use Rattle.std.proofs.Common.{◌≡◌, ◌<◌, length, rules}
+use Rattle.jh_simnode.specs.Outcomes.{with_all}
 use Rattle.jh_simnode.proofs.Journals.{call_goes_on}
 use Rattle.jh_simnode.proofs.world.World.call.Goals as goal
 
@@ -11,5 +11,5 @@ invariant_of-self-2 c =
     let known : c.args.node < length i.nemesis.names = search rules in
     let told = rw c.deref.ensures.value at c.in_ok-served.ensures in
     rw (c.push_reserved.ensures.items, c.reserve.ensures.items, c.take_over.ensures)
-    (call_goes_on i.nemesis i.settings i.copies.items (changed i.copies.items c.in_ok-served.served.copies) i.journal.items c.env.result.now c.len-number.result c.args.process c.args.node c.args.request c.args.draw c.in_ok-served.served.reply
-    c.self.invariant few c.env.ensures.overlay c.env.ensures.start number known (told.reply, told.copies))
+    (call_goes_on i.nemesis i.settings i.copies.items (with_all i.copies.items c.in_ok-served.served.taken.items) i.journal.items c.env.result.now c.len-number.result c.args.process c.args.node c.args.request c.args.draw c.in_ok-served.served.reply
+    c.self.invariant few c.env.ensures.overlay c.env.ensures.start number known (told.reply, told.copies.copies))

@@ -1,11 +1,10 @@
-use Rattle.std.proofs.Common.{◌≡◌, ℕ, ◌<◌, ◌≤◌, ◌++◌, length, arith, rules, refl, sym, ap, take, drop, ◌∙◌}
-use Rattle.std.specs.Prelude.{IsTrue, List}
+use Rattle.std.proofs.Common.{◌≡◌, ◌<◌, ◌≤◌, length, rules, refl, sym, ap, ◌∙◌}
+use Rattle.std.specs.Prelude.{IsTrue}
 use Rattle.jh_nemesis.specs.State.{State}
 use Rattle.jh_simnode.proofs.StepLemmas.{state_after_names}
-use Rattle.jh_nemesis.specs.Steps.{FitsNodes, state_after, answer_of}
-use Rattle.jh_simnode.specs.declared.copies.NodeCopy.{NodeCopy}
+use Rattle.jh_nemesis.specs.Steps.{FitsNodes, state_after}
 use Rattle.jh_simnode.specs.Reach.{cells_of}
-use Rattle.jh_simnode.specs.Stores.{forgotten, dead}
+use Rattle.jh_simnode.specs.Stores.{dead}
 use Rattle.jh_simnode.proofs.Places.{length-dead}
 use Rattle.jh_simnode.proofs.Tidy.{forgotten_tidy}
 use Rattle.jh_simnode.proofs.Journals.{step_goes_on, written}

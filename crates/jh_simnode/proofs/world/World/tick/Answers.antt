@@ -1,5 +1,5 @@
-use Rattle.std.proofs.Common.{◌≡◌, ℕ, ◌<◌, length, arith, rules}
-use Rattle.jh_simnode.specs.Stores.{changed}
+use Rattle.std.proofs.Common.{◌<◌, length, rules}
+use Rattle.jh_simnode.specs.Outcomes.{with_all}
 use Rattle.jh_simnode.proofs.Journals.{tick_goes_on}
 use Rattle.jh_simnode.proofs.world.World.tick.Goals as goal
 
@@ -8,5 +8,5 @@ invariant_of-self-2 c =
     let i = c.self.inside in
     let few : length i.journal.items < 65536 = search rules in
     rw (c.push_reserved.ensures.items, c.reserve.ensures.items, c.take_over.ensures)
-    (tick_goes_on i.nemesis i.settings i.copies.items (changed i.copies.items c.in_ok-copies.copies) i.journal.items c.env.result.now
-    c.self.invariant few c.env.ensures.overlay c.env.ensures.start (rw c.deref.ensures.value at c.in_ok-copies.ensures))
+    (tick_goes_on i.nemesis i.settings i.copies.items (with_all i.copies.items c.in_ok-taken.taken.items) i.journal.items c.env.result.now
+    c.self.invariant few c.env.ensures.overlay c.env.ensures.start (rw c.deref.ensures.value at c.in_ok-taken.ensures).copies)
