@@ -21,6 +21,3 @@ pub use laws::same_values_are_equal;
 pub use lines::{write_counter, write_ids, write_set};
 pub use set::{SetFound, SetResult, check_set};
 pub use verdict::{Verdict, merge};
-
-#[cfg(test)]
-mod tests;

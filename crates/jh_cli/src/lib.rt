@@ -12,6 +12,3 @@ pub use check_command::check_run;
 pub use env_command::env_run;
 pub use error::CliError;
 pub use run_command::run_run;
-
-#[cfg(test)]
-mod tests;

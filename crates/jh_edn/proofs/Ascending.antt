@@ -1,6 +1,6 @@
 -- Going through elements that are to ascend.
-use Rattle.std.proofs.Common.{◌≡◌, ℕ, zero, suc, ◌+◌, ◌<◌, Bool, true, false, ◌&&◌, List, [], ◌∷◌, Option, Some, None, length, take, drop, get_or, refl, ap, ◌∙◌, arith}
-use Rattle.jh_edn.specs.Edn.{Edn, Items, no_items, item, items_of}
+use Rattle.std.proofs.Common.{◌≡◌, Bool, true, ◌&&◌, Option, Some, None, refl, ap}
+use Rattle.jh_edn.specs.Edn.{Edn, Items, no_items, item}
 use Rattle.jh_edn.specs.Normal.{is_above, ascends}
 use Rattle.jh_edn.specs.Order.{is_below}
 

@@ -1,11 +1,10 @@
 -- Comparing values, element by element and pair by pair.
-use Rattle.std.proofs.Common.{◌≡◌, ℕ, zero, suc, ◌+◌, ◌≤◌, ◌<◌, ◌⊎◌, inl, inr, List, [], ◌∷◌, length, drop, get_or, refl, sym, ap, ◌∙◌, arith, nat_cmp}
+use Rattle.std.proofs.Common.{◌≡◌, ℕ, zero, suc, ◌≤◌, ◌<◌, ◌⊎◌, inl, inr, List, [], ◌∷◌, length, drop, get_or, sym, ◌∙◌, arith, nat_cmp}
 use Rattle.std.proofs.lemmas.Grind.{common_steps}
-use Rattle.std.specs.declared.cmp.Ordering.{Ordering}
 use Rattle.std.specs.declared.cmp.Ordering.TheVariants.{Less, Equal, Greater}
 use Rattle.jh_edn.specs.Edn.{items_of, members_of, size_of, size_list, size_pairs}
 use Rattle.jh_edn.specs.View.{view, views, view_pairs}
-use Rattle.jh_edn.specs.Order.{edn_cmp, items_cmp, members_cmp}
+use Rattle.jh_edn.specs.Order.{items_cmp, members_cmp}
 use Rattle.jh_edn.specs.declared.value.Value.{Value}
 
 -- ---- what is within is smaller

@@ -1,10 +1,10 @@
 -- The normal form of a value is equal to it, and is in normal form; what is in normal form can be printed.
-use Rattle.std.proofs.Common.{◌≡◌, ℕ, ◌+◌, ◌-◌, ◌<◌, inl, inr, Bool, true, false, cond, ltb, ◌&&◌, List, [], ◌∷◌, ◌++◌, map, refl, sym, ap, subst, ◌∙◌, arith}
+use Rattle.std.proofs.Common.{◌≡◌, ℕ, ◌-◌, ◌<◌, inl, inr, Bool, true, false, cond, ◌&&◌, List, [], ◌∷◌, ◌++◌, refl, sym, ap, ◌∙◌, arith}
 use Rattle.std.specs.Prelude.{nat_lt, ◌^◌, ℤ, pos, negsuc, FitsSigned}
 use Rattle.std.specs.Int.{w64}
 use Rattle.std.specs.declared.cmp.Ordering.{Ordering}
 use Rattle.std.specs.declared.cmp.Ordering.TheVariants.{Less, Equal, Greater}
-use Rattle.std.specs.Ordering.{nat_cmp, int_cmp, bool_cmp, ordering_then, is_lt}
+use Rattle.std.specs.Ordering.{bool_cmp, ordering_then, is_lt}
 use Rattle.std.specs.List.Sorted.{ties}
 use Rattle.std.proofs.lemmas.Cmp.{tied_itself}
 use Rattle.std.proofs.lemmas.Map.Lookups.{exact_unsigned, exact_signed, exact_bytes}
@@ -12,8 +12,8 @@ use Rattle.std.proofs.lemmas.Grind.{common_steps}
 use Rattle.jh_edn.specs.declared.key.Mark.TheVariants as mark
 use Rattle.jh_edn.specs.Edn.{Edn, nil, boolean, int, char, str, keyword, symbol, list, vector, mapping, set, tagged, Items, no_items, item, items_of, Members, no_members, member, members_of}
 use Rattle.jh_edn.specs.Equality.{Equals, EqualItems, EqualElements, EqualMembers, IsNew, Differ, keys_of, KeysDiffer}
-use Rattle.jh_edn.specs.Order.{put_in_order, in_order, text_cmp, edn_cmp, items_cmp, members_cmp, kind_of, is_below, has_key_below}
-use Rattle.jh_edn.specs.Key.{KeyPart, bare, texted, key_cmp, is_key_below, marked_keys, key_of, item_keys, pair_keys}
+use Rattle.jh_edn.specs.Order.{put_in_order, in_order, text_cmp, edn_cmp, items_cmp, members_cmp, is_below, has_key_below}
+use Rattle.jh_edn.specs.Key.{bare, texted, key_cmp, is_key_below, marked_keys, key_of, item_keys, pair_keys}
 use Rattle.jh_edn.specs.Normal.{normal, normal_list, normal_pairs, ascends, is_normal_within, are_normal_within, pairs_normal_within}
 use Rattle.jh_edn.specs.Printable.{IsPrintable, ArePrintable, PairsPrintable}
 use Rattle.jh_edn.specs.Spelling.{is_tag}

@@ -1,9 +1,9 @@
 -- The order of values is an order: values compare as the lists of their parts do.
-use Rattle.std.proofs.Common.{◌≡◌, ℕ, suc, ◌<◌, Bool, true, false, cond, List, [], ◌∷◌, ◌++◌, refl, sym, ap, subst, ◌∙◌, append_assoc, append-nil, arith}
-use Rattle.std.specs.Prelude.{ℤ, pos}
+use Rattle.std.proofs.Common.{◌≡◌, ℕ, Bool, true, false, cond, List, [], ◌∷◌, ◌++◌, refl, sym, ap, subst, ◌∙◌, append_assoc, append-nil, arith}
+use Rattle.std.specs.Prelude.{pos}
 use Rattle.std.specs.declared.cmp.Ordering.{Ordering}
 use Rattle.std.specs.declared.cmp.Ordering.TheVariants.{Less, Equal, Greater}
-use Rattle.std.specs.Ordering.{nat_cmp, int_cmp, bool_cmp, ordering_then, is_lt}
+use Rattle.std.specs.Ordering.{nat_cmp, int_cmp, bool_cmp, ordering_then}
 use Rattle.std.specs.Cmp.{IsTotalOrder, IsStrictWeakOrder}
 use Rattle.std.proofs.lemmas.Cmp.{on_total}
 use Rattle.std.proofs.lemmas.List.MinMax.{ranks_by}
@@ -11,8 +11,8 @@ use Rattle.std.proofs.lemmas.Grind.{common_steps}
 use Rattle.jh_edn.specs.declared.key.Mark.TheVariants as mark
 use Rattle.jh_edn.specs.Edn.{Edn, nil, boolean, int, char, str, keyword, symbol, list, vector, mapping, set, tagged, Items, no_items, item, Members, no_members, member}
 use Rattle.jh_edn.specs.Order.{text_cmp, edn_cmp, items_cmp, members_cmp, is_below, has_key_below}
-use Rattle.jh_edn.specs.Key.{KeyPart, bare, numbered, texted, part_cmp, key_cmp, marked_keys}
-use Rattle.jh_edn.proofs.KeyOrder.{key_total, key_exact}
+use Rattle.jh_edn.specs.Key.{KeyPart, bare, numbered, texted, key_cmp, marked_keys}
+use Rattle.jh_edn.proofs.KeyOrder.{key_total}
 
 -- a value's parts, in the order in which it holds them
 abbrev mutual

@@ -1,7 +1,7 @@
 -- What is printed of a value that can be printed spells it.
-use Rattle.std.proofs.Common.{◌≡◌, ℕ, zero, suc, ◌+◌, ◌-◌, ◌*◌, ◌/◌, ◌%◌, ◌^◌, ◌<◌, ◌⊎◌, inl, inr, Bool, true, false, cond, eqb, ltb, not, ◌&&◌, ◌||◌, List, [], ◌∷◌, ◌++◌, codes, length, get_or, Option, Some, None, refl, sym, ap, subst, ◌∙◌, append_assoc, arith}
+use Rattle.std.proofs.Common.{◌≡◌, ℕ, zero, suc, ◌+◌, ◌-◌, ◌*◌, ◌/◌, ◌%◌, ◌^◌, ◌<◌, ◌⊎◌, inl, inr, true, false, cond, eqb, ltb, not, ◌&&◌, List, [], ◌∷◌, ◌++◌, codes, length, get_or, Some, None, refl, sym, ap, subst, ◌∙◌, append_assoc, arith}
 use Rattle.std.proofs.lemmas.List.{append-nil, length-append, get_or_append_left}
-use Rattle.std.specs.Prelude.{ℤ, pos, negsuc, neg_ℤ, FitsSigned, encode_utf8}
+use Rattle.std.specs.Prelude.{ℤ, pos, negsuc, neg_ℤ, FitsSigned}
 use Rattle.std.specs.Int.{w64}
 use Rattle.std.specs.List.{flat_map}
 use Rattle.std.specs.Fmt.{decimal, signed_decimal}
@@ -14,7 +14,7 @@ use Rattle.std.proofs.Math.Nat.{div-add-mod}
 use Rattle.std.proofs.lemmas.Grind.{common_steps}
 use Rattle.jh_edn.specs.Bytes.{space, comma, quote, backslash, open_paren, close_paren, open_bracket, close_bracket, open_brace, close_brace, hash, is_space, is_run, is_delimiter, is_plain, is_blank, is_hex, escaped, line_feed, tab, carriage_return, backspace, form_feed}
 use Rattle.jh_edn.specs.Edn.{Edn, nil, boolean, int, char, str, keyword, symbol, list, vector, mapping, set, tagged, Items, no_items, item, Members, no_members, member}
-use Rattle.jh_edn.specs.Spelling.{is_surrogate, char_named, char_numbered, IsInteger, NoLeadingZero, IsBody, IsCharacter, BeginsNoRun, GapIn, nothing, white, Inner, Elements, items_of_members, Form, around, inside, depth_limit, SpellsAll}
+use Rattle.jh_edn.specs.Spelling.{is_surrogate, char_named, char_numbered, IsInteger, NoLeadingZero, IsBody, IsCharacter, BeginsNoRun, nothing, white, Inner, Elements, items_of_members, Form, around, inside, depth_limit, SpellsAll}
 use Rattle.jh_edn.specs.Print.{escape, is_unshown, char_number, char_text, joined, print, item_texts, member_texts}
 use Rattle.jh_edn.specs.Printable.{IsPrintable, ArePrintable, PairsPrintable}
 

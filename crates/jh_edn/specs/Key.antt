@@ -1,5 +1,5 @@
 -- A list of parts for each value, the same list exactly where the values are equal (this project's own).
-use Rattle.std.specs.Prelude.{ℕ, Bool, true, false, ◌||◌, ℤ, pos, List, [], ◌∷◌, ◌++◌, map, if◌then◌else◌, Vec}
+use Rattle.std.specs.Prelude.{ℕ, Bool, false, ◌||◌, ℤ, pos, List, [], ◌∷◌, ◌++◌, map, if◌then◌else◌, Vec}
 use Rattle.std.specs.Global.{Global}
 use Rattle.std.specs.declared.cmp.Ordering.{Ordering}
 use Rattle.std.specs.Ordering.{nat_cmp, int_cmp, ordering_then, is_lt, is_eq}

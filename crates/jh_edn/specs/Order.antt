@@ -1,6 +1,6 @@
 -- The order of values (this project's own): by kind, nil first and tagged values last, and then by content. A list
 -- stands where a vector with its elements stands.
-use Rattle.std.specs.Prelude.{ℕ, Bool, ℤ, List, [], ◌∷◌, if◌then◌else◌}
+use Rattle.std.specs.Prelude.{ℕ, Bool, List, [], ◌∷◌, if◌then◌else◌}
 use Rattle.std.specs.declared.cmp.Ordering.{Ordering}
 use Rattle.std.specs.declared.cmp.Ordering.TheVariants.{Less, Equal, Greater}
 use Rattle.std.specs.Ordering.{bool_cmp, nat_cmp, int_cmp, ordering_then, is_lt}

@@ -45,7 +45,19 @@ fn text_number(text: &str) -> u64
     number
 }
 
-/// The value's number. Takes no memory, and time in proportion to the value.
+impl Value {
+    /// A number of 64 bits, the same for equal values by `equality_laws`, for hash tables. Values that differ may
+    /// share one.
+    ///
+    /// Takes no memory, and time in proportion to the value.
+    pub fn fingerprint(&self) -> u64
+        ensures { result ≡ number.fingerprint (view self.now) }
+    {
+        fingerprint(self)
+    }
+}
+
+/// The value's number.
 #[cycle(fingerprint)]
 pub(crate) fn fingerprint(value: &Value) -> u64
     ensures { result ≡ number.fingerprint (view value.now) }

@@ -3,6 +3,7 @@
 ghost use Rattle.std.specs.Prelude.{◌≡◌, ℕ, List, [], ◌∷◌, IsTrue};
 ghost use Rattle.jh_edn.specs.Edn.{Edn};
 ghost use Rattle.jh_edn.specs.Equality.{Equals};
+ghost use Rattle.jh_edn.specs.Fingerprint.{fingerprint};
 ghost use Rattle.jh_edn.specs.Normal.{normal, is_normal};
 ghost use Rattle.jh_edn.specs.Print.{print};
 ghost use Rattle.jh_edn.specs.Printable.{IsPrintable};
@@ -13,11 +14,12 @@ pub fn spelled_once()
     ensures { (text : List ℕ) (xs ys : List Edn) → SpellsAll xs text → SpellsAll ys text → xs ≡ ys }
 {}
 
-/// Equality of values is an equivalence.
+/// Equality of values is an equivalence, and equal values have one fingerprint.
 pub fn equality_laws()
     ensures reflexive { (x : Edn) → Equals x x }
     ensures symmetric { (x y : Edn) → Equals x y → Equals y x }
     ensures transitive { (x y z : Edn) → Equals x y → Equals y z → Equals x z }
+    ensures numbered { (x y : Edn) → Equals x y → fingerprint x ≡ fingerprint y }
 {}
 
 /// Every value has a normal form, and what is in normal form is printed so that it is read back.

@@ -30,6 +30,3 @@ pub use laws::{equality_laws, normal_laws, print_laws, spelled_once};
 pub use reader::read_one;
 pub use value::{Pairs, Tagged, Text, Value, Values};
 pub use writer::write;
-
-#[cfg(test)]
-mod tests;

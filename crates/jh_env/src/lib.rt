@@ -17,6 +17,3 @@ pub use texts::{
     EnvTextError, env_of_value, environments_read_back, order_changes_no_fault, value_of_env,
     value_of_fault,
 };
-
-#[cfg(test)]
-mod tests;

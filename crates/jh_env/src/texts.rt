@@ -140,6 +140,3 @@ pub fn value_of_env(alloc: Global, env: &Env) -> Result<Value, AllocError>
 {
     Ok(Value::Map(Pairs::of(writing::pairs_of(alloc, env)?)))
 }
-
-#[cfg(test)]
-mod tests;

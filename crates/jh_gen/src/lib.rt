@@ -14,6 +14,3 @@ pub use answers::{DriverError, Ended, GenAnswer, GenError, Thread};
 pub use driver::{Driver, MOST_CALLS, MOST_CLIENTS};
 pub use generator::{Gen, Gens, Inner, Shares};
 pub use text::{GenTextError, gen_of_value};
-
-#[cfg(test)]
-mod tests;

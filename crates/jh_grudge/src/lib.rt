@@ -11,6 +11,3 @@ mod ranks;
 pub use grudges::{Grudge, bridge, complete_grudge, majorities_ring};
 pub use laws::{bridge_talks_to_all, each_sees_itself, ring_sees_majority, ring_sights_differ};
 pub use lists::{SplitError, bisect, distinct, distinct_components, split_one};
-
-#[cfg(test)]
-mod tests;

@@ -8,10 +8,7 @@ mod history;
 mod judge;
 mod order_check;
 mod register;
-mod search;
-#[cfg(test)]
-mod tests;
-mod verdict;
+mod search;mod verdict;
 
 pub use calls::{RegOpsError, reg_ops};
 pub use judge::check;

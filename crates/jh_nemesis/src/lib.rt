@@ -19,6 +19,3 @@ pub use steps::{
     WithdrawAllError, WithdrawError,
 };
 pub use texts::{StepTextError, ring_order, step_of_value, value_of_step};
-
-#[cfg(test)]
-mod tests;

@@ -132,6 +132,3 @@ pub fn step_of_value(alloc: Global, nodes: &Nodes, value: &Value) -> Result<Step
         _ => Err(StepTextError::BadStep),
     }
 }
-
-#[cfg(test)]
-mod tests;

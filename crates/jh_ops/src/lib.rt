@@ -19,6 +19,3 @@ pub use operation::{Kind, Op, Process};
 pub use pairing::pair;
 pub use pairs::{Pair, PairError};
 pub use words::{WordsError, of_words, recorded_once, to_words};
-
-#[cfg(test)]
-mod tests;

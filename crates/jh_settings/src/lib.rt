@@ -11,6 +11,3 @@ mod words;
 pub use error::{KeyText, SettingsError};
 pub use keys::Key;
 pub use settings::{RunSettings, settings_of};
-
-#[cfg(test)]
-mod tests;

@@ -25,6 +25,3 @@ pub use schedule::{Entry, MOST_ENTRIES, Schedule, TooLong};
 pub use serial::{RunError, one_run, run_serial};
 pub use settings::{Settings, Store};
 pub use world::World;
-
-#[cfg(test)]
-mod tests;

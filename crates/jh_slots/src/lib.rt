@@ -11,6 +11,3 @@ mod steps;
 pub use answers::{Full, MOST_CLAIMED, MOST_ROWS, ROW_WORDS, Read, Receipt, SlotsError};
 pub use laws::slot_laws;
 pub use slots::{Claim, Seat, Slots};
-
-#[cfg(test)]
-mod tests;

@@ -1,4 +1,4 @@
-use Rattle.std.proofs.Common.{◌≡◌, [], ◌∷◌, ◌++◌, refl, sym, ap, subst, ◌∙◌, arith, rules}
+use Rattle.std.proofs.Common.{sym, ap, ◌∙◌, arith}
 use Rattle.std.specs.Ordering.{is_lt}
 use Rattle.std.proofs.lemmas.List.Sorted.{answers_always}
 use Rattle.std.proofs.lemmas.List.MinMax.{ranks_by}
@@ -6,7 +6,7 @@ use Rattle.std.proofs.lemmas.List.{map_push}
 use Rattle.jh_edn.specs.Edn.{mapping, set, items_of, members_of}
 use Rattle.jh_edn.specs.Normal.{normal}
 use Rattle.jh_edn.specs.Order.{in_order, is_below, has_key_below}
-use Rattle.jh_edn.specs.View.{view, views, view_pair, view_pairs}
+use Rattle.jh_edn.specs.View.{view, view_pair}
 use Rattle.jh_edn.specs.declared.value.Value.{Value}
 use Rattle.jh_edn.proofs.NormalLists.{normal_list_push, normal_pairs_push, held_below, held_key_below, sorted_items, sorted_pairs}
 use Rattle.jh_edn.proofs.OrderLemmas.{edn_total}

@@ -197,6 +197,3 @@ pub fn value_of_fault(alloc: Global, nodes: &Nodes, fault: &Fault) -> Result<Val
     };
     Ok(Value::Vector(Values::of(values)))
 }
-
-#[cfg(test)]
-mod tests;

@@ -1,8 +1,7 @@
-use Rattle.std.proofs.Common.{◌≡◌, [], ◌∷◌, ◌++◌, take, map, refl, ap, ◌∙◌, arith}
-use Rattle.std.proofs.lemmas.List.{map_push, take_all}
-use Rattle.jh_edn.specs.Edn.{items_of, members_of}
-use Rattle.jh_edn.specs.Key.{parts_of, keys_in, key_of, item_keys, pair_keys}
-use Rattle.jh_edn.specs.View.{view, views, view_pairs}
+use Rattle.std.proofs.Common.{◌≡◌, ◌++◌, refl, arith}
+use Rattle.std.proofs.lemmas.List.{map_push}
+use Rattle.jh_edn.specs.Key.{parts_of, key_of}
+use Rattle.jh_edn.specs.View.{view}
 use Rattle.jh_edn.proofs.KeyLists.{item_keys_push, pair_keys_push}
 use Rattle.jh_edn.proofs.key.+key.Goals as goal
 

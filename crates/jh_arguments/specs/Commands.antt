@@ -1,0 +1,67 @@
+-- Which arguments ask for which command, what it writes, and why its input is refused (this project's own).
+use Rattle.std.specs.Prelude.{◌≡◌, ◌<◌, ◌^◌, ℕ, ℤ, List, Option, Some, None, codes, FitsSigned}
+use mir.Syntax.{w64}
+use Rattle.std.specs.Str.Parse.{IsNumeral, digits_value, signed_digits_value, without_leading_plus, without_leading_sign}
+use Rattle.clap.specs.Words.{Row, Text, first_of, one_of}
+use Rattle.jh_ops.specs.declared.call.Workload.{Workload}
+use Rattle.jh_cli.specs.EnvText.{IsEnvTextOf}
+use Rattle.jh_cli.specs.CheckText.{IsCheckTextOf}
+use Rattle.jh_cli.specs.RunText.{IsRunTextOf}
+use Rattle.jh_cli.specs.Refusals.{RefusesInput}
+use Rattle.jh_cli.specs.CheckRefusals.{RefusesCheck}
+use Rattle.jh_cli.specs.RunRefusals.{RefusesRun}
+use Rattle.jh_cli.specs.declared.error.CliError.{CliError}
+use Rattle.jh_arguments.specs.declared.commands.Question.{Question}
+use Rattle.jh_arguments.specs.declared.commands.Command.{Command}
+use Rattle.jh_arguments.specs.declared.commands.Command.TheVariants.{Env, Check, Run}
+
+abbrev pub name_of : Workload → Text
+name_of Workload.Register = codes "register"
+name_of Workload.Set = codes "set"
+name_of Workload.Counter = codes "counter"
+name_of Workload.Ids = codes "unique-ids"
+
+-- the text writes a number of `i64`
+abbrev pub WritesSigned : Text → Type 0
+WritesSigned text = IsNumeral 10 (without_leading_sign text) × FitsSigned w64 (signed_digits_value 10 text)
+
+-- the text writes a number of `u64`
+abbrev pub WritesUnsigned : Text → Type 0
+WritesUnsigned text = IsNumeral 10 (without_leading_plus text) × (digits_value 10 (without_leading_plus text) < 2 ^ 64)
+
+-- the initial value that an option gives, if it is there
+abbrev pub IsInitial : Option Text → Option ℤ → Type 0
+IsInitial None initial = initial ≡ None
+IsInitial (Some text) (Some value) = WritesSigned text × (value ≡ signed_digits_value 10 text)
+IsInitial (Some text) None = WritesSigned text → ⊥
+
+abbrev pub IsBudget : Option Text → ℕ → Type 0
+IsBudget None budget = ⊥
+IsBudget (Some text) budget = WritesUnsigned text × (budget ≡ digits_value 10 (without_leading_plus text))
+
+-- the options of `check` ask this
+pub record Asks (options : List Row) (question : Question) : Type 0 where
+  pub workload : first_of (codes "workload") options ≡ Some (name_of question.workload)
+  pub initial : IsInitial (one_of (codes "initial") options) question.initial
+  pub budget : IsBudget (one_of (codes "budget") options) question.budget
+
+-- A subcommand with its options asks for a command.
+abbrev pub AsksFor : Option (Text × List Row) → Command → Type 0
+AsksFor None command = ⊥
+AsksFor (Some found) Env = found.0 ≡ codes "env"
+AsksFor (Some found) (Check question) = (found.0 ≡ codes "check") × Asks found.1 question
+AsksFor (Some found) Run = found.0 ≡ codes "run"
+
+-- ---- what a command does
+
+-- what it writes for an input, with the exit status
+abbrev pub IsTextOf : Command → List ℕ → ℕ → List ℕ → Type 0
+IsTextOf Env input status output = IsEnvTextOf input output × (status ≡ 0)
+IsTextOf (Check question) input status output = IsCheckTextOf question.workload question.initial question.budget input status output
+IsTextOf Run input status output = IsRunTextOf input status output
+
+-- why it refuses an input, or does not do its work
+abbrev pub Refuses : Command → List ℕ → CliError → Type 0
+Refuses Env input e = RefusesInput input e
+Refuses (Check question) input e = RefusesCheck question.workload question.initial question.budget input e
+Refuses Run input e = RefusesRun input e

@@ -1,0 +1,50 @@
+-- The commands of `jeprun` and their options (this project's own), in the terms by which `clap` says what it makes of arguments.
+use Rattle.std.specs.Prelude.{◌≡◌, ◌⊎◌, List, [], ◌∷◌, Some, pos, negsuc, true, map, codes}
+use Rattle.std.specs.Borrow.{Bor}
+use Rattle.clap.specs.Words.{App, Rule, Text, IsAmong, fault_of, kind_of, matches_of, new_app, new_rule, rows_of, found_of, subcommand_of, subcommand_rows_of, with_rule, with_subcommand}
+use Rattle.clap.specs.Simple.{on_top}
+use Rattle.clap.specs.declared.builder.value_parser.ValueParser.TheVariants.{Names, Signed, Unsigned}
+use Rattle.clap.specs.declared.error.Error.{Error}
+use Rattle.clap.specs.declared.error.ErrorKind.TheVariants.{OutOfMemory}
+use Rattle.clap.specs.declared.parser.matches.ArgMatches.{ArgMatches}
+
+-- an option that takes one value
+abbrev pub option : Text → Rule
+option name = record (new_rule name) { long = Some name; value_names = 1 }
+
+-- one of these names
+abbrev pub workload : Bor (List (Bor Text)) → Rule
+workload names = record (option (codes "workload")) { required = true; parser = Some (Names names) }
+
+-- a number of `i64`
+abbrev pub initial : Rule
+initial = record (option (codes "initial")) { parser = Some (Signed (negsuc 9223372036854775807) (pos 9223372036854775807)) }
+
+abbrev pub budget : Rule
+budget = record (option (codes "budget")) { parser = Some (Unsigned 0 10000000); defaults = codes "100000" ∷ [] }
+
+abbrev pub check : Bor (List (Bor Text)) → App
+check names = with_rule (with_rule (with_rule (new_app (codes "check")) (workload names)) initial) budget
+
+abbrev pub jeprun : Bor (List (Bor Text)) → App
+jeprun names = with_subcommand (with_subcommand (with_subcommand
+    (on_top (λ s. record s { subcommand_required = true }) (new_app (codes "jeprun")))
+    (new_app (codes "env")).top) (check names).top) (new_app (codes "run")).top
+
+abbrev pub workload_names : List Text
+workload_names = codes "register" ∷ codes "set" ∷ codes "counter" ∷ codes "unique-ids" ∷ []
+
+-- the command line, and `check` alone
+abbrev pub IsCheck : App → Type 0
+IsCheck app = (names : Bor (List (Bor Text))) × (map (λ s. s.now) names.now ≡ workload_names) × (app ≡ check names)
+
+abbrev pub IsLine : App → Type 0
+IsLine app = (names : Bor (List (Bor Text))) × (map (λ s. s.now) names.now ≡ workload_names) × (app ≡ jeprun names)
+
+-- What is found in the arguments, and why they are refused, by `clap`'s definitions.
+abbrev pub IsFound : List Text → ArgMatches → Type 0
+IsFound arguments matches = (app : App) × IsLine app × (fault_of app arguments ≡ [])
+    × (rows_of (found_of matches) ≡ matches_of app arguments) × (subcommand_rows_of matches ≡ subcommand_of app arguments)
+
+abbrev pub IsRefused : List Text → Error → Type 0
+IsRefused arguments refusal = (kind_of refusal ≡ OutOfMemory) ⊎ ((app : App) × IsLine app × IsAmong (kind_of refusal) (fault_of app arguments))

@@ -1,0 +1,112 @@
+//! What the arguments ask for, and what is done then, over any reader and any writer. `specs/Commands.antt` says which
+//! arguments ask for which command, what a command writes, and why it refuses its input.
+
+ghost use Rattle.std.specs.Prelude.{◌≡◌, ◌≢◌, ◌↔◌, ℕ, List, IfOk, IfErr, IfSome, IsNone, IsErrOf};
+ghost use Rattle.std.specs.Io.KnownBytes.{Appends};
+ghost use Rattle.clap.specs.Words.{found_of, rows_of, subcommand_rows_of};
+ghost use Rattle.jh_cli.specs.CheckText.{TakesInitial};
+ghost use Rattle.jh_cli.specs.declared.error.CliError.TheVariants as CliError;
+ghost use Rattle.jh_arguments.specs.Commands as text;
+ghost use Rattle.jh_arguments.specs.Commands.{Asks, AsksFor, IsTextOf, Refuses};
+ghost use Rattle.jh_arguments.specs.declared.commands.Command.{Command};
+ghost use Rattle.jh_arguments.specs.declared.commands.Command.TheVariants.{Check};
+ghost use Rattle.jh_arguments.specs.declared.commands.Question.{Question};
+ghost use Rattle.jh_ops.specs.declared.call.Workload.{Workload};
+
+use clap::ArgMatches;
+use jh_cli::{CliError, check_run, env_run, run_run};
+use jh_ops::Workload;
+use std::alloc::Global;
+use std::io::{Read, Write};
+
+/// What `check` is asked of a history.
+#[derive(Clone, Copy, Debug, PartialEq, Eq)]
+pub struct Question {
+    pub workload: Workload,
+    pub initial: Option<i64>,
+    pub budget: u64,
+}
+
+/// What the arguments ask for.
+#[derive(Clone, Copy, Debug, PartialEq, Eq)]
+pub enum Command {
+    /// Faults over an environment.
+    Env,
+    /// The judgement of a history.
+    Check(Question),
+    /// A run of a simulated cluster.
+    Run,
+}
+
+/// The command that the arguments ask for. `parse` has seen to it that there is one.
+pub fn command_of(matches: &ArgMatches<'_>) -> Option<Command>
+    ensures told { IfSome result (AsksFor (subcommand_rows_of matches.now)) }
+    ensures taken { IsNone result → (command : Command) → AsksFor (subcommand_rows_of matches.now) command → ⊥ }
+{
+    match matches.subcommand()? {
+        ("env", _) => Some(Command::Env),
+        ("check", options) => Some(Command::Check(question_of(options)?)),
+        ("run", _) => Some(Command::Run),
+        _ => None,
+    }
+}
+
+/// What the options of `check` ask for. `parse` has seen to it that the workload is one of the four, and that the budget is
+/// a number.
+pub fn question_of(options: &ArgMatches<'_>) -> Option<Question>
+    ensures told { IfSome result (Asks (rows_of (found_of options.now))) }
+    ensures taken { IsNone result → (question : Question) → Asks (rows_of (found_of options.now)) question → ⊥ }
+{
+    let workload = workload_of(options.get_str("workload")?)?;
+    Some(Question {
+        workload,
+        initial: options.get_one::<i64>("initial"),
+        budget: options.get_one::<u64>("budget")?,
+    })
+}
+
+/// The workload of this name.
+fn workload_of(name: &str) -> Option<Workload>
+    ensures told { IfSome result (λ workload. name.now ≡ text.name_of workload) }
+    ensures taken { IsNone result → (workload : Workload) → name.now ≡ text.name_of workload → ⊥ }
+{
+    match name {
+        "register" => Some(Workload::Register),
+        "set" => Some(Workload::Set),
+        "counter" => Some(Workload::Counter),
+        "unique-ids" => Some(Workload::Ids),
+        _ => None,
+    }
+}
+
+/// Does what a command does, and gives its exit status: 0 where its work is done and nothing was found, 1 and 2 where the
+/// history that it judges is not valid, or where that is not known. The error has the status otherwise: 3 for an input that
+/// is refused, 4 for a fault of the machine or a run that was not completed. Nothing is written before any error but `Write`.
+pub fn run<R: Read, W: Write>(
+    alloc: Global,
+    command: Command,
+    reader: &mut R,
+    writer: &mut W,
+) -> Result<u8, CliError>
+    ensures written { IfOk result (λ status. IfSome (R.remaining reader.old) (λ input.
+        (output : List ℕ) × IsTextOf command input status output
+        × Appends (W.contents writer.old) (W.contents writer.new) output)) }
+    ensures asked { (question : Question) → command ≡ Check question
+        → IsErrOf result CliError.OnlyForRegister ↔ (TakesInitial question.workload question.initial → ⊥) }
+    ensures unread { (question : Question) → command ≡ Check question
+        → IsErrOf result CliError.OnlyForRegister → reader.new ≡ reader.old }
+    ensures refused { IfErr result (λ e. IfSome (R.remaining reader.old) (λ input. Refuses command input e)) }
+    ensures unwritten { IfErr result (λ e. e ≢ CliError.Write → writer.new ≡ writer.old) }
+{
+    match command {
+        Command::Env => env_run(alloc, reader, writer),
+        Command::Check(
+            Question {
+                workload,
+                initial,
+                budget,
+            },
+        ) => check_run(alloc, reader, writer, workload, initial, budget),
+        Command::Run => run_run(alloc, reader, writer),
+    }
+}

@@ -1,0 +1,103 @@
+//! The commands and their options, as `clap` reads them, and what its refusals mean to the program. Its texts stand here
+//! alone: help and complaints are shown by tests.
+
+ghost use Rattle.std.specs.Prelude.{◌≡◌, ◌≢◌, ◌↔◌, IfOk, IfErr, IsErrOf, Ok, map};
+ghost use Rattle.clap.specs.Words.{app_of, kind_of};
+ghost use Rattle.clap.specs.declared.error.ErrorKind.TheVariants as ErrorKind;
+ghost use Rattle.jh_cli.specs.declared.error.CliError.TheVariants as CliError;
+ghost use Rattle.jh_arguments.specs.Line.{IsCheck, IsFound, IsLine, IsRefused, workload_names};
+
+use clap::error::ErrorKind;
+use clap::{Arg, ArgMatches, Command, Error, value_parser};
+use jh_cli::CliError;
+use std::alloc::Global;
+use std::convert::AsStr;
+
+/// The exit status where the arguments are refused.
+pub const REFUSED: u8 = 3;
+
+/// The names of the workloads.
+static WORKLOADS: [&str; 4] = ["register", "set", "counter", "unique-ids"];
+
+/// The names of the workloads, in the order of help.
+fn workloads() -> &'static [&'static str]
+    ensures { map (λ name. name.now) result.now ≡ workload_names }
+{
+    WORKLOADS.as_slice()
+}
+
+/// The commands and their options.
+fn command_line<'a>(alloc: Global) -> Result<Command<'a>, Error>
+    ensures line { IfOk result (λ line. IsLine (app_of line)) }
+    ensures memory { IfErr result (λ e. kind_of e ≡ ErrorKind.OutOfMemory) }
+{
+    let env = Command::new(alloc, "env").about(
+        "Applies fault steps to an environment, both read from standard input as EDN",
+    );
+    let run = Command::new(alloc, "run").about(
+        "Runs a simulated cluster by settings, read from standard input as TOML, and judges its history",
+    );
+    let jeprun = Command::new(alloc, "jeprun")
+        .about("A test harness for databases, over a simulated cluster under faults")
+        .subcommand_required(true)
+        .subcommand(env)?
+        .subcommand(check_command(alloc)?)?
+        .subcommand(run)?;
+    Ok(jeprun)
+}
+
+/// The command `check` and its options.
+fn check_command<'a>(alloc: Global) -> Result<Command<'a>, Error>
+    ensures check { IfOk result (λ check. IsCheck (app_of check)) }
+    ensures memory { IfErr result (λ e. kind_of e ≡ ErrorKind.OutOfMemory) }
+{
+    let workload = Arg::new(alloc, "workload")
+        .long("workload")
+        .value_name("NAME")
+        .help("What the database was to be")
+        .required(true)
+        .value_parser(workloads());
+    let initial = Arg::new(alloc, "initial")
+        .long("initial")
+        .value_name("N")
+        .help("The register's first value; nil where it is left out")
+        .value_parser(value_parser!(i64));
+    let budget = Arg::new(alloc, "budget")
+        .long("budget")
+        .value_name("N")
+        .help("How many configurations the judge of a register may reach")
+        .value_parser(value_parser!(u64).range(..=10_000_000))
+        .default_value("100000");
+    let check = Command::new(alloc, "check")
+        .about("Judges a history of operations, read from standard input as EDN")
+        .arg(workload)?
+        .arg(initial)?
+        .arg(budget)?;
+    Ok(check)
+}
+
+/// What `clap` finds in these arguments, of which the first is the program's name; or its refusal, which is a request for
+/// help, a complaint, or want of memory.
+pub fn parse<'a, S: AsStr>(alloc: Global, arguments: &'a [S]) -> Result<ArgMatches<'a>, Error>
+    ensures found { IfOk result (IsFound (map S.text arguments.entry.now)) }
+    ensures refused { IfErr result (IsRefused (map S.text arguments.entry.now)) }
+{
+    command_line(alloc)?.try_get_matches_from(arguments)
+}
+
+/// The exit status of a refusal: 0 where the arguments ask for help, 3 where they are wrong. Where memory ran out that is an
+/// error, as it is of any command.
+pub fn status_of_refusal(refusal: &Error) -> Result<u8, CliError>
+    ensures memory { IsErrOf result CliError.OutOfMemory ↔ (kind_of refusal.now ≡ ErrorKind.OutOfMemory) }
+    ensures help { (kind_of refusal.now ≡ ErrorKind.DisplayHelp) → result ≡ Ok 0 }
+    ensures wrong { (kind_of refusal.now ≢ ErrorKind.OutOfMemory) → (kind_of refusal.now ≢ ErrorKind.DisplayHelp)
+        → (kind_of refusal.now ≢ ErrorKind.DisplayVersion) → result ≡ Ok 3 }
+{
+    if refusal.kind() == ErrorKind::OutOfMemory {
+        Err(CliError::OutOfMemory)
+    } else if refusal.use_stderr() {
+        Ok(REFUSED)
+    } else {
+        Ok(0)
+    }
+}

@@ -1,0 +1,60 @@
+//! What the process does: it reads its arguments, opens the standard streams, and ends with a status. What a terminal or a
+//! pipe gives or takes is no part of any clause, so this says nothing but that it ends.
+
+use crate::commands::{command_of, run};
+use crate::line::{REFUSED, parse, status_of_refusal};
+use clap::ArgMatches;
+use jh_cli::CliError;
+use std::{env, io};
+
+/// Says on standard error why a command ended early, and gives its status.
+fn failed(rt: &impl Eprint, error: CliError) -> u8 {
+    let _ = eprintln!(rt; "jeprun: {error}");
+    error.status()
+}
+
+/// Shows what a refusal has to say: help on standard output, complaints on standard error.
+fn refused(rt: &(impl Print + Eprint), refusal: &clap::Error) -> u8 {
+    match status_of_refusal(refusal) {
+        Err(memory) => failed(rt, memory),
+        Ok(status) => match refusal.print(rt) {
+            Ok(()) => status,
+            Err(_) => failed(rt, CliError::Write),
+        },
+    }
+}
+
+/// Does what the arguments ask for, over the standard streams.
+fn done(rt: &HostRuntime, matches: &ArgMatches<'_>) -> u8 {
+    let Some(command) = command_of(matches) else {
+        return REFUSED;
+    };
+    match run(rt.alloc(), command, &mut rt.reader(), &mut io::writer(rt)) {
+        Ok(status) => status,
+        Err(error) => failed(rt, error),
+    }
+}
+
+/// The arguments of the process, the program's name first.
+fn arguments_of(rt: &HostRuntime) -> io::Result<Vec<String>> {
+    Ok(env::args(rt)?.collect(rt.alloc())?)
+}
+
+/// The exit status of the process, once it has done what its arguments ask for: 0, 1 or 2 as `run` answers, 0 where help was
+/// asked for, 3 where the arguments or the input are refused, 4 where the machine failed or a run was not completed.
+pub fn status(rt: &HostRuntime) -> u8 {
+    let arguments = match arguments_of(rt) {
+        Ok(arguments) => arguments,
+        Err(error) if error.kind() == io::ErrorKind::OutOfMemory => {
+            return failed(rt, CliError::OutOfMemory);
+        }
+        Err(_) => {
+            let _ = eprintln!(rt; "error: an argument is not UTF-8");
+            return REFUSED;
+        }
+    };
+    match parse(rt.alloc(), arguments.as_slice()) {
+        Ok(matches) => done(rt, &matches),
+        Err(refusal) => refused(rt, &refusal),
+    }
+}

@@ -1,0 +1,145 @@
+//! What an order is, as a plain slow program, straight from its definition: every order is tried.
+
+use jh_linear::{OrderFault, Outcome, RegCall, RegOp};
+
+/// Whether the first operation happened, and ended before the second was invoked.
+fn is_before(first: RegOp, second: RegOp) -> bool {
+    first.outcome == Outcome::Done && first.ended.is_some_and(|end| end < second.invoked)
+}
+
+/// What the register holds after a call.
+fn after(call: RegCall, value: Option<i64>) -> Option<Option<i64>> {
+    match call {
+        RegCall::Read(None) => Some(value),
+        RegCall::Read(seen) => (seen == value).then_some(value),
+        RegCall::Write(new) => Some(Some(new)),
+        RegCall::Cas(old, new) => (value == Some(old)).then_some(Some(new)),
+    }
+}
+
+fn are_apart(order: &[usize]) -> bool {
+    for (index, place) in order.iter().enumerate() {
+        for (other, again) in order.iter().enumerate() {
+            if index != other && place == again {
+                return false;
+            }
+        }
+    }
+    true
+}
+
+fn none_failed(ops: &[RegOp], order: &[usize]) -> bool {
+    order.iter().all(|place| match ops.get(*place) {
+        Some(op) => op.outcome != Outcome::Failed,
+        None => false,
+    })
+}
+
+fn all_done(ops: &[RegOp], order: &[usize]) -> bool {
+    for (place, op) in ops.iter().enumerate() {
+        if op.outcome == Outcome::Done && !order.contains(&place) {
+            return false;
+        }
+    }
+    true
+}
+
+/// Whether what ended before another was invoked stands before that one, of any two in the order.
+fn keeps_precedence(ops: &[RegOp], order: &[usize]) -> bool {
+    for (index, place) in order.iter().enumerate() {
+        for (other, later) in order.iter().enumerate() {
+            if let (Some(first), Some(second)) = (ops.get(*later), ops.get(*place)) {
+                if index < other && is_before(*first, *second) {
+                    return false;
+                }
+            }
+        }
+    }
+    true
+}
+
+fn runs(ops: &[RegOp], initial: Option<i64>, order: &[usize]) -> bool {
+    let mut value = initial;
+    for place in order {
+        let Some(op) = ops.get(*place) else {
+            return false;
+        };
+        let Some(next) = after(op.call, value) else {
+            return false;
+        };
+        value = next;
+    }
+    true
+}
+
+/// What is wrong with an order, part by part.
+pub(super) fn judged_slowly(
+    ops: &[RegOp],
+    initial: Option<i64>,
+    order: &[usize],
+) -> Result<(), OrderFault> {
+    if !order.iter().all(|place| *place < ops.len()) {
+        Err(OrderFault::NoSuch)
+    } else if !are_apart(order) {
+        Err(OrderFault::Repeat)
+    } else if !none_failed(ops, order) {
+        Err(OrderFault::Failed)
+    } else if !all_done(ops, order) {
+        Err(OrderFault::Missing)
+    } else if !keeps_precedence(ops, order) {
+        Err(OrderFault::Precedence)
+    } else if !runs(ops, initial, order) {
+        Err(OrderFault::Illegal)
+    } else {
+        Ok(())
+    }
+}
+
+/// Up to six places.
+#[derive(Clone, Copy)]
+pub(super) struct Places {
+    places: [usize; 6],
+    count: usize,
+}
+
+impl Places {
+    pub(super) fn none() -> Places {
+        Places {
+            places: [0; 6],
+            count: 0,
+        }
+    }
+
+    pub(super) fn as_slice(&self) -> &[usize] {
+        self.places.get(..self.count).unwrap_or(&[])
+    }
+
+    /// The places with one more behind them.
+    pub(super) fn with(self, place: usize) -> Places {
+        let Places { mut places, count } = self;
+        if let Some(free) = places.get_mut(count) {
+            *free = place;
+        }
+        Places {
+            places,
+            count: places.len().min(count.saturating_add(1)),
+        }
+    }
+}
+
+/// Whether there is an order that begins with these places and has at most this many more.
+pub(super) fn is_possible(ops: &[RegOp], initial: Option<i64>, begun: Places, more: usize) -> bool {
+    let order = begun.as_slice();
+    if all_done(ops, order) && judged_slowly(ops, initial, order).is_ok() {
+        return true;
+    }
+    if more == 0 {
+        return false;
+    }
+    for place in 0..ops.len() {
+        if !order.contains(&place) && is_possible(ops, initial, begun.with(place), more - 1) {
+            return true;
+        }
+    }
+    false
+}

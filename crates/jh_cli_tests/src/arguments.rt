@@ -1,0 +1,116 @@
+//! Arguments, and what they ask for: the command, or the status of their refusal with all that it says, in a line of its own.
+
+use crate::rows::{Texts, first_wrong};
+use jh_arguments::{command_of, parse, status_of_refusal};
+use std::alloc::Global;
+use std::io::Write;
+
+/// What these arguments ask for; `None` where memory was refused, and where no command is found in them.
+pub(crate) fn asked_once(alloc: Global, arguments: &str) -> Option<Vec<u8>> {
+    let mut text = Vec::new(alloc);
+    let arguments: Vec<&str> = arguments.split(' ').collect(alloc).ok()?;
+    match parse(alloc, arguments.as_slice()) {
+        Ok(matches) => write!(&mut text, "{:?}\n", command_of(&matches)?).ok()?,
+        Err(refusal) => {
+            let status = status_of_refusal(&refusal).ok()?;
+            write!(&mut text, "{status}\n{refusal}").ok()?;
+        }
+    }
+    Some(text)
+}
+
+#[test]
+fn asks_for_commands(rt: HostRuntime) {
+    let rows = r#"jeprun env → Env
+§ jeprun run → Run
+§ jeprun check --workload set → Check(Question { workload: Set, initial: None, budget: 100000 })
+§ jeprun check --workload=unique-ids --budget 0 → Check(Question { workload: Ids, initial: None, budget: 0 })
+§ jeprun check --workload register --initial=-5 → Check(Question { workload: Register, initial: Some(-5), budget: 100000 })
+§ jeprun → 3
+error: 'jeprun' requires a subcommand but one was not provided
+  [subcommands: env, check, run, help]
+
+Usage: jeprun <COMMAND>
+
+For more information, try '--help'.
+§ jeprun check → 3
+error: the following required arguments were not provided:
+  --workload <NAME>
+
+Usage: jeprun check --workload <NAME>
+
+For more information, try '--help'.
+§ jeprun check --workload lock → 3
+error: invalid value 'lock' for '--workload <NAME>'
+  [possible values: register, set, counter, unique-ids]
+
+For more information, try '--help'.
+§ jeprun check --workload set --budget 10000001 → 3
+error: invalid value '10000001' for '--budget <N>': 10000001 is not in 0..=10000000
+
+For more information, try '--help'.
+§ jeprun bogus → 3
+error: unrecognized subcommand 'bogus'
+
+Usage: jeprun <COMMAND>
+
+For more information, try '--help'.
+§ jeprun env extra → 3
+error: unexpected argument 'extra' found
+
+Usage: jeprun env
+
+For more information, try '--help'.
+§ jeprun help → 0
+A test harness for databases, over a simulated cluster under faults
+
+Usage: jeprun <COMMAND>
+
+Commands:
+  env    Applies fault steps to an environment, both read from standard input as EDN
+  check  Judges a history of operations, read from standard input as EDN
+  run    Runs a simulated cluster by settings, read from standard input as TOML, and judges its history
+  help   Print this message or the help of the given subcommand(s)
+
+Options:
+  -h, --help  Print help
+§ jeprun run --help → 0
+Runs a simulated cluster by settings, read from standard input as TOML, and judges its history
+
+Usage: jeprun run
+
+Options:
+  -h, --help  Print help
+§ jeprun check --help → 0
+Judges a history of operations, read from standard input as EDN
+
+Usage: jeprun check [OPTIONS] --workload <NAME>
+
+Options:
+      --workload <NAME>  What the database was to be [possible values: register, set, counter, unique-ids]
+      --initial <N>      The register's first value; nil where it is left out
+      --budget <N>       How many configurations the judge of a register may reach [default: 100000]
+  -h, --help             Print help
+§ jeprun --help → 0
+A test harness for databases, over a simulated cluster under faults
+
+Usage: jeprun <COMMAND>
+
+Commands:
+  env    Applies fault steps to an environment, both read from standard input as EDN
+  check  Judges a history of operations, read from standard input as EDN
+  run    Runs a simulated cluster by settings, read from standard input as TOML, and judges its history
+  help   Print this message or the help of the given subcommand(s)
+
+Options:
+  -h, --help  Print help
+§ jeprun env --help → 0
+Applies fault steps to an environment, both read from standard input as EDN
+
+Usage: jeprun env
+
+Options:
+  -h, --help  Print help
+"#;
+    assert_eq!(rt; first_wrong(rt.alloc(), Texts::Arguments, rows), None);
+}

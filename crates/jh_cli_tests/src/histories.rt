@@ -1,0 +1,158 @@
+//! Worked examples of the command `check`: a history of each workload.
+
+use crate::rows::{Texts, first_wrong};
+
+#[test]
+fn judges_sets(rt: HostRuntime) {
+    let rows = r#"→ 2
+{:valid? :unknown, :error "Set was never read"}
+§ {:type :invoke, :f :add, :value 1, :process 0} {:type :ok, :f :add, :value 1, :process 0}
+{:type :invoke, :f :add, :value 2, :process 1} {:type :info, :f :add, :value 2, :process 1}
+{:type :invoke, :f :add, :value 3, :process 0} {:type :ok, :f :add, :value 3, :process 0}
+{:type :invoke, :f :read, :process 0} {:type :ok, :f :read, :value (2 1), :process 0}
+→ 1
+{:valid? false, :ok [1 2], :lost [3], :unexpected [], :recovered [2]}
+§ {:type :invoke, :f :add, :value 1, :process 0} {:type :ok, :f :add, :value 1, :process 0} → 2
+{:valid? :unknown, :error "Set was never read"}
+§ #jepsen.history.Op{:index 0, :time 9, :type :info, :process :nemesis, :f :start, :value "cut"}
+#jepsen.history.Op{:index 1, :time 17, :type :invoke, :process 4, :f :add, :value [1 :a]}
+#jepsen.history.Op{:index 2, :time 23, :type :ok, :process 4, :f :add, :value [1 :a], :error nil}
+#jepsen.history.Op{:index 3, :time 25, :type :ok, :process 9, :f :read, :value #{(1 :a)}}
+→ 0
+{:valid? true, :ok [[1 :a]], :lost [], :unexpected [], :recovered []}
+§ {:type :invoke, :f :read, :process 0} {:type :ok, :f :read, :value nil, :process 0} → 3 operation 1: bad value
+"#;
+    let texts = Texts::Inputs("jeprun check --workload set");
+    assert_eq!(rt; first_wrong(rt.alloc(), texts, rows), None);
+}
+
+#[test]
+fn judges_counters(rt: HostRuntime) {
+    let rows = r#"→ 0
+{:valid? true, :reads [], :errors []}
+§ {:type :invoke, :f :add, :value 1, :process 0} {:type :ok, :f :add, :value 1, :process 0}
+{:type :invoke, :f :read, :process 1} {:type :invoke, :f :add, :value 5, :process 0}
+{:type :ok, :f :read, :value 6, :process 1}
+→ 0
+{:valid? true, :reads [[1 6 6]], :errors []}
+§ {:type :invoke, :f :add, :value 1, :process 0} {:type :ok, :f :add, :value 1, :process 0}
+{:type :invoke, :f :read, :process 1} {:type :invoke, :f :add, :value 5, :process 0}
+{:type :ok, :f :read, :value 7, :process 1}
+→ 1
+{:valid? false, :reads [[1 7 6]], :errors [[1 7 6]]}
+§ {:type :invoke, :f :add, :value 9223372036854775807, :process 0}
+{:type :invoke, :f :add, :value 9223372036854775807, :process 1}
+{:type :invoke, :f :read, :process 2} {:type :ok, :f :read, :value 5, :process 2}
+→ 0
+{:valid? true, :reads [[0 5 18446744073709551614]], :errors []}
+§ {:type :invoke, :f :add, :value 1, :process 0} {:type :invoke, :f :add, :value 1, :process 0} → 3 operation 1: double invoke
+§ {:type :invoke, :f :add, :value 1, :process 0} {:type :info, :f :add, :value 1, :process 0}
+{:type :invoke, :f :read, :process 0}
+→ 3 operation 2: after crash
+§ {:type :ok, :f :read, :value 1, :process 0} → 3 operation 0: no invocation
+§ {:type :invoke, :f :add, :value "1", :process 0} → 3 operation 0: bad value
+§ {:type :invoke, :f :add, :value -1, :process 0} → 3 operation 0: negative add
+"#;
+    let texts = Texts::Inputs("jeprun check --workload counter");
+    assert_eq!(rt; first_wrong(rt.alloc(), texts, rows), None);
+}
+
+#[test]
+fn judges_unique_ids(rt: HostRuntime) {
+    let rows = r#"→ 0
+{:valid? true, :attempted 0, :acknowledged 0, :duplicated []}
+§ {:type :invoke, :f :generate, :process 0} {:type :ok, :f :generate, :value 7, :process 0}
+{:type :invoke, :f :generate, :process 0} {:type :ok, :f :generate, :value 7, :process 0}
+{:type :invoke, :f :generate, :process 0} {:type :info, :f :generate, :process 0}
+→ 1
+{:valid? false, :attempted 3, :acknowledged 2, :duplicated [[7 2]]}
+§ [{:type :ok, :f :generate, :value (1), :process 0} {:type :ok, :f :generate, :value [1], :process 0}] → 1
+{:valid? false, :attempted 0, :acknowledged 2, :duplicated [[[1] 2]]}
+§ {:type :ok, :f :generate, :value 1, :process 0} 2 → 3 operation 1: not a map
+§ {:f :generate} → 3 operation 0: type missing
+§ {:type :done} → 3 operation 0: bad type
+§ {:type :ok} → 3 operation 0: f missing
+§ {:type :ok, :f :generate} → 3 operation 0: process missing
+§ {:type :ok, :f :generate, :process "a"} → 3 operation 0: bad process
+§ {:type :ok → 3 line 1: unexpected end
+"#;
+    let texts = Texts::Inputs("jeprun check --workload unique-ids");
+    assert_eq!(rt; first_wrong(rt.alloc(), texts, rows), None);
+}
+
+#[test]
+fn judges_registers(rt: HostRuntime) {
+    let rows = r#"→ 0
+{:valid? true, :order []}
+§ {:type :invoke, :f :write, :value 1, :process 0} {:type :info, :f :write, :value 1, :process 0}
+{:type :invoke, :f :read, :process 1} {:type :ok, :f :read, :value 1, :process 1}
+{:type :invoke, :f :read, :process 1} {:type :ok, :f :read, :value 0, :process 1}
+→ 1
+{:valid? false}
+§ {:type :invoke, :f :write, :value 1, :process 0} {:type :info, :f :write, :value 1, :process 0}
+{:type :invoke, :f :read, :process 1} {:type :ok, :f :read, :value 0, :process 1}
+{:type :invoke, :f :read, :process 1} {:type :ok, :f :read, :value 1, :process 1}
+→ 0
+{:valid? true, :order [1 0 2]}
+§ {:type :invoke, :f :write, :value 1, :process 0} {:type :invoke, :f :read, :process 1}
+{:type :ok, :f :write, :value 1, :process 0} {:type :ok, :f :read, :value 0, :process 1}
+→ 0
+{:valid? true, :order [1 0]}
+§ {:type :invoke, :f :cas, :value [0 1], :process 0} {:type :invoke, :f :cas, :value [0 2], :process 1}
+{:type :ok, :f :cas, :value [0 1], :process 0} {:type :ok, :f :cas, :value [0 2], :process 1}
+→ 1
+{:valid? false}
+§ {:type :invoke, :f :cas, :value [0 1], :process 0} {:type :invoke, :f :cas, :value [0 2], :process 1}
+{:type :invoke, :f :write, :value 0, :process 2} {:type :fail, :f :write, :value 0, :process 2}
+{:type :ok, :f :cas, :value [0 1], :process 0} {:type :ok, :f :cas, :value [0 2], :process 1}
+→ 1
+{:valid? false}
+§ {:type :invoke, :f :write, :value 1, :process 0} {:type :info, :f :write, :value 1, :process 0}
+{:type :invoke, :f :read, :process 1} {:type :ok, :f :read, :value 1, :process 1}
+{:type :invoke, :f :read, :process 1} {:type :ok, :f :read, :value 0, :process 1}
+{:type :invoke, :f :read, :process 1} {:type :ok, :f :read, :value nil, :process 1}
+→ 1
+{:valid? false}
+§ {:type :invoke, :f :add, :value 1, :process 0} → 3 operation 0: bad value
+§ {:type :invoke, :f :read, :process 0} {:type :ok, :f :read, :value [1], :process 0} → 3 operation 1: bad value
+§ {:type :invoke, :f :read, :process 0} {:type :invoke, :f :read, :process 0} → 3 operation 1: double invoke
+"#;
+    let texts = Texts::Inputs("jeprun check --workload register --initial 0");
+    assert_eq!(rt; first_wrong(rt.alloc(), texts, rows), None);
+}
+
+#[test]
+fn a_register_starts_with_nil(rt: HostRuntime) {
+    let rows =
+        r#"{:type :invoke, :f :read, :process 0} {:type :ok, :f :read, :value 0, :process 0} → 1
+{:valid? false}
+"#;
+    let texts = Texts::Inputs("jeprun check --workload register");
+    assert_eq!(rt; first_wrong(rt.alloc(), texts, rows), None);
+}
+
+#[test]
+fn a_budget_of_none_decides_nothing(rt: HostRuntime) {
+    let rows = r#"→ 2
+{:valid? :unknown}
+§ {:type :invoke, :f :write, :value 1, :process 0} {:type :info, :f :write, :value 1, :process 0}
+{:type :invoke, :f :read, :process 1} {:type :ok, :f :read, :value 0, :process 1}
+{:type :invoke, :f :read, :process 1} {:type :ok, :f :read, :value 1, :process 1}
+→ 2
+{:valid? :unknown}
+"#;
+    let texts = Texts::Inputs("jeprun check --workload register --initial 0 --budget 0");
+    assert_eq!(rt; first_wrong(rt.alloc(), texts, rows), None);
+}
+
+/// The history is not looked at.
+#[test]
+fn an_initial_value_is_for_registers(rt: HostRuntime) {
+    let refused = "{ → 3 --initial: only for register\n";
+    let texts = Texts::Inputs("jeprun check --workload set --initial 0");
+    assert_eq!(rt; first_wrong(rt.alloc(), texts, refused), None);
+    let texts = Texts::Inputs("jeprun check --workload counter --initial 0");
+    assert_eq!(rt; first_wrong(rt.alloc(), texts, refused), None);
+    let texts = Texts::Inputs("jeprun check --workload unique-ids --initial 0");
+    assert_eq!(rt; first_wrong(rt.alloc(), texts, refused), None);
+}

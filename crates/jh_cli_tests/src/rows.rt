@@ -1,0 +1,94 @@
+//! Rows of tables: a text, most often an input, and behind the arrow what is shown for it, most often the answer of the command.
+//! White space around the text is no part of it; of what is shown every byte counts, the last line feed too.
+//!
+//! An answer is the status, a line feed and all that is written; or, of an error, all that was written before it, the status, a
+//! space, the message and a line feed. Where an allocation is refused, all is done once more, so that the tests stand one
+//! refused allocation.
+
+use crate::arguments::asked_once;
+use crate::errors::named_once;
+use jh_arguments::{Command, command_of, parse, run};
+use jh_cli::CliError;
+use std::alloc::Global;
+use std::io::{Read, Write};
+
+/// The command that these arguments ask for; `None` also where memory was refused.
+pub(crate) fn command(alloc: Global, arguments: &str) -> Option<Command> {
+    let arguments: Vec<&str> = arguments.split(' ').collect(alloc).ok()?;
+    command_of(&parse(alloc, arguments.as_slice()).ok()?)
+}
+
+/// Puts the status and the message of an error behind a text.
+pub(crate) fn push_error(error: &CliError, text: &mut Vec<u8>) -> Option<()> {
+    write!(text, "{} ", error.status()).ok()?;
+    error.text(text).ok()?;
+    text.push(b'\n').ok()
+}
+
+/// The answer to these arguments and what the reader gives; `None` where memory was refused, also to what is written into.
+pub(crate) fn answer_once<R: Read + Drop>(
+    alloc: Global,
+    arguments: &str,
+    mut reader: R,
+) -> Option<Vec<u8>> {
+    let mut output = Vec::new(alloc);
+    match run(alloc, command(alloc, arguments)?, &mut reader, &mut output) {
+        Ok(status) => with_status(alloc, status, &output),
+        Err(CliError::OutOfMemory | CliError::Write) => None,
+        Err(error) => {
+            push_error(&error, &mut output)?;
+            Some(output)
+        }
+    }
+}
+
+/// A status, and what was written.
+fn with_status(alloc: Global, status: u8, output: &[u8]) -> Option<Vec<u8>> {
+    let mut text = Vec::new(alloc);
+    write!(&mut text, "{status}\n").ok()?;
+    text.extend_from_slice(output).ok()?;
+    Some(text)
+}
+
+/// Whether this is the answer to the arguments and the input.
+pub(crate) fn is_answer(alloc: Global, arguments: &str, input: &[u8], expected: &[u8]) -> bool {
+    let answer = answer_once(alloc, arguments, input).or_else(|| answer_once(
+        alloc, arguments, input,
+    ));
+    answer.is_some_and(|text| text.as_slice() == expected)
+}
+
+/// What stands before the arrows of a table.
+#[derive(Clone, Copy)]
+pub(crate) enum Texts<'a> {
+    /// Inputs of the command that these arguments ask for.
+    Inputs(&'a str),
+    /// Arguments.
+    Arguments,
+    /// Names of errors.
+    Errors,
+}
+
+/// What is shown for a text; `None` where memory was refused.
+fn shown_once(alloc: Global, texts: Texts<'_>, text: &str) -> Option<Vec<u8>> {
+    match texts {
+        Texts::Inputs(arguments) => answer_once(alloc, arguments, text.as_bytes()),
+        Texts::Arguments => asked_once(alloc, text),
+        Texts::Errors => named_once(alloc, text),
+    }
+}
+
+/// The first row for whose text something else is shown.
+pub(crate) fn first_wrong<'a>(alloc: Global, texts: Texts<'_>, rows: &'a str) -> Option<&'a str> {
+    for row in rows.split('§') {
+        let Some((text, expected)) = row.split_once('→') else {
+            return Some(row);
+        };
+        let text = text.trim();
+        let shown = shown_once(alloc, texts, text).or_else(|| shown_once(alloc, texts, text));
+        if !shown.is_some_and(|shown| shown.as_slice() == expected.trim_start().as_bytes()) {
+            return Some(row);
+        }
+    }
+    None
+}

@@ -1,0 +1,20 @@
+//! Tests of `jh_edn`, through its public calls alone: what no clause says.
+//!
+//! That is which texts are refused, at which line and in which words, the printed text of a normal form, which order the
+//! definitions give, where turns and depth end, and that calls succeed, which no clause can say since memory may end.
+//!
+//! A test is a text of rows: a question, what it is given to, and the answer, which comes from the format's description
+//! and not from the program. `rows` asks them, and asks once more where memory was refused, so each test passes, too,
+//! where one allocation is.
+#![tactic(auto)]
+
+#[cfg(test)]
+mod errors;
+#[cfg(test)]
+mod reading;
+#[cfg(test)]
+mod rows;
+#[cfg(test)]
+mod table;
+#[cfg(test)]
+mod values;

@@ -1,0 +1,88 @@
+//! A driver by the definition: it knows of a run only the paths of its calls, who is busy, and who crashed how often.
+
+use crate::offers::{is_spent, offer_of};
+use crate::parts::{MOST_DEEP, Part, Question, Scope};
+use jh_gen::{Gen, GenAnswer};
+use jh_ops::Process;
+use std::alloc::{AllocError, Global};
+
+/// Answers as a driver should, of a generator at most eight deep and 63 wide. Threads go by seat: the nemesis has seat
+/// 0, client n has seat n + 1.
+#[derive(Drop)]
+pub struct PlainDriver {
+    source: Gen,
+    clients: u32,
+    calls: Vec<u64>,
+    busy: Vec<bool>,
+    crashes: Vec<u64>,
+}
+
+impl PlainDriver {
+    pub fn new(alloc: Global, source: Gen, clients: u32) -> Result<PlainDriver, AllocError> {
+        let seats = clients as usize + 1;
+        Ok(PlainDriver {
+            source,
+            clients,
+            calls: Vec::new(alloc),
+            busy: vec![in alloc; false; seats]?,
+            crashes: vec![in alloc; 0; seats]?,
+        })
+    }
+
+    /// How many calls were given.
+    pub fn given(&self) -> usize {
+        self.calls.len()
+    }
+
+    pub fn is_busy(&self, seat: usize) -> bool {
+        self.busy.get(seat).copied().unwrap_or(false)
+    }
+
+    fn process(&self, seat: usize) -> Process {
+        if seat == 0 {
+            return Process::Nemesis;
+        }
+        let crashes = self.crashes.get(seat).copied().unwrap_or(0);
+        let number = crashes.saturating_mul(u64::from(self.clients));
+        Process::Client(number.saturating_add(seat as u64 - 1))
+    }
+
+    /// The answer to a thread that is not busy.
+    pub fn ask(&mut self, seat: usize, word: u64) -> Result<GenAnswer, AllocError> {
+        let whole = Part {
+            path: 0,
+            calls: &self.calls,
+            scope: Scope::of(1, self.clients as usize + 1, true),
+        };
+        if is_spent(&self.source, whole, MOST_DEEP) {
+            return Ok(GenAnswer::Done);
+        }
+        let question = Question {
+            seat,
+            word,
+            busy: &self.busy,
+        };
+        let Some((path, call)) = offer_of(&self.source, whole, question, MOST_DEEP) else {
+            return Ok(GenAnswer::Pending);
+        };
+        self.calls.push(path)?;
+        self.set_busy(seat, true);
+        Ok(GenAnswer::Call(self.process(seat), call))
+    }
+
+    /// Ends a thread's operation; one that is lost crashes its process.
+    pub fn complete(&mut self, seat: usize, is_lost: bool) {
+        self.set_busy(seat, false);
+        if is_lost {
+            if let Some(crashes) = self.crashes.get_mut(seat) {
+                *crashes = crashes.saturating_add(1);
+            }
+        }
+    }
+
+    fn set_busy(&mut self, seat: usize, is_busy: bool) {
+        if let Some(busy) = self.busy.get_mut(seat) {
+            *busy = is_busy;
+        }
+    }
+}

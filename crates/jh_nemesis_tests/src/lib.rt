@@ -1,0 +1,15 @@
+//! Tests of `jh_nemesis`, through its public calls alone: worked examples of steps back and forth, of their texts, and the
+//! messages of errors. What the clauses say is proved: a test is for values and texts that come from outside, and shows that
+//! memory suffices where there is some.
+//!
+//! A row is a line: what is called or read, an arrow, and the answer. Each module says what its calls are.
+#![tactic(auto)]
+
+#[cfg(test)]
+mod messages;
+#[cfg(test)]
+mod steps;
+#[cfg(test)]
+mod texts;
+#[cfg(test)]
+mod written;

@@ -1,0 +1,247 @@
+//! Faults that are begun and withdrawn on an environment of two nodes, with steps back and forth.
+//!
+//! A row is calls with `; ` between, and their answers. Each fault cuts the link from `n2` to `n1`.
+//!
+//! - `begin 1`, `withdraw 1`, `withdraw-all`, `undo`, `redo` are the calls of those names; `apply-begin 1`, `apply-withdraw 1`
+//!   take such a step by `apply`, `few` takes three steps by `apply_all`. Answers `ok` or the message of the refusal.
+//! - `begins 256` begins faults with the ids below 256, `rounds 2048` begins and withdraws one so often.
+//! - `active` tells the ids of the active faults, `link` whether the link is cut.
+//!
+//! A call whose memory was refused is made again where the number of active faults stayed.
+
+ghost use Rattle.std.specs.Prelude.{[], ℕ, IfOk, IfSome};
+ghost use Rattle.std.specs.List.{All};
+ghost use Rattle.jh_env.specs.Overlay.{FitsCount, StandsFor};
+ghost use Rattle.jh_nemesis.specs.Steps.{FitsNodes};
+
+use jh_env::{Env, Fault, Nodes, Start};
+use jh_nemesis::{
+    BeginError, MOST_ACTIVE, Nemesis, Step, StepAnswer, WithdrawAllError, WithdrawError,
+};
+use std::alloc::{AllocError, Global};
+
+fn calm(alloc: Global) -> Option<Env>
+    ensures { IfSome result (λ env. StandsFor env []) }
+{
+    let nodes = Nodes::of(alloc, &["n1", "n2"]).ok()?;
+    Env::start(alloc, Start::new(alloc, nodes).ok()?).ok()
+}
+
+/// A cut of the link from `n2` to `n1`.
+fn cut(alloc: Global, nodes: &Nodes) -> Option<Fault> {
+    Fault::cut(alloc, nodes, &[(nodes.at(1)?, nodes.at(0)?)]).ok()
+}
+
+/// `ok`, or the message of a refusal. None: memory was refused.
+fn begun(alloc: Global, nemesis: &mut Nemesis, id: u32) -> Option<String> {
+    let fault = cut(alloc, nemesis.env().nodes())?;
+    if !fault.fits(nemesis.env()) {
+        return None;
+    }
+    match nemesis.begin(id, fault) {
+        Ok(()) => "ok".to_string(alloc).ok(),
+        Err(BeginError::OutOfMemory) => None,
+        Err(refusal) => refusal.to_string(alloc).ok(),
+    }
+}
+
+fn withdrawn(alloc: Global, nemesis: &mut Nemesis, id: u32) -> Option<String> {
+    match nemesis.withdraw(id) {
+        Ok(()) => "ok".to_string(alloc).ok(),
+        Err(WithdrawError::OutOfMemory) => None,
+        Err(refusal) => refusal.to_string(alloc).ok(),
+    }
+}
+
+fn all_withdrawn(alloc: Global, nemesis: &mut Nemesis) -> Option<String> {
+    match nemesis.withdraw_all() {
+        Ok(()) => "ok".to_string(alloc).ok(),
+        Err(WithdrawAllError::OutOfMemory) => None,
+        Err(refusal) => refusal.to_string(alloc).ok(),
+    }
+}
+
+fn undone(alloc: Global, nemesis: &mut Nemesis) -> Option<String> {
+    match nemesis.undo() {
+        Ok(()) => "ok".to_string(alloc).ok(),
+        Err(refusal) => refusal.to_string(alloc).ok(),
+    }
+}
+
+fn redone(alloc: Global, nemesis: &mut Nemesis) -> Option<String> {
+    match nemesis.redo() {
+        Ok(()) => "ok".to_string(alloc).ok(),
+        Err(refusal) => refusal.to_string(alloc).ok(),
+    }
+}
+
+/// What a step answers, in a word.
+fn answer_text(answer: StepAnswer) -> &'static str {
+    match answer {
+        StepAnswer::Ok => "ok",
+        StepAnswer::IdTaken => "id taken",
+        StepAnswer::NotActive => "not active",
+        StepAnswer::NothingToUndo => "nothing to undo",
+        StepAnswer::NothingToRedo => "nothing to redo",
+        _ => "another answer",
+    }
+}
+
+fn applied_begin(alloc: Global, nemesis: &mut Nemesis, id: u32) -> Option<String> {
+    let fault = cut(alloc, nemesis.env().nodes())?;
+    if !fault.fits(nemesis.env()) {
+        return None;
+    }
+    let answer = nemesis.apply(Step::Begin(id, fault)).ok()?;
+    answer_text(answer).to_string(alloc).ok()
+}
+
+fn applied_withdrawal(alloc: Global, nemesis: &mut Nemesis, id: u32) -> Option<String> {
+    let answer = nemesis.apply(Step::Withdraw(id)).ok()?;
+    answer_text(answer).to_string(alloc).ok()
+}
+
+/// Begins faults with the ids below a number, and tells the answer of the last.
+fn begins(alloc: Global, nemesis: &mut Nemesis, count: u32) -> Option<String> {
+    for id in 0..count {
+        begun(alloc, nemesis, id)?;
+    }
+    "ok".to_string(alloc).ok()
+}
+
+/// Begins and withdraws a fault so often.
+fn rounds(alloc: Global, nemesis: &mut Nemesis, count: u32) -> Option<String> {
+    for _round in 0..count {
+        begun(alloc, nemesis, 1)?;
+        withdrawn(alloc, nemesis, 1)?;
+    }
+    "ok".to_string(alloc).ok()
+}
+
+/// Steps that need no fault of their own.
+fn few_steps(alloc: Global) -> Result<Vec<Step>, AllocError>
+    ensures { IfOk result (λ steps. (count : ℕ) → All (FitsNodes count) steps.items) }
+{
+    let mut steps = Vec::with_capacity(alloc, 3)?;
+    steps.push(Step::Undo)?;
+    steps.push(Step::Redo)?;
+    steps.push(Step::Withdraw(9))?;
+    Ok(steps)
+}
+
+/// The answers of a list of steps, with `, ` behind each.
+fn few(alloc: Global, nemesis: &mut Nemesis) -> Option<String> {
+    let answers = nemesis.apply_all(alloc, few_steps(alloc).ok()?).ok()?;
+    let mut texts = String::new(alloc);
+    for answer in answers {
+        texts.push_str(answer_text(answer)).ok()?;
+        texts.push_str(", ").ok()?;
+    }
+    Some(texts)
+}
+
+/// The ids of the active faults, with a space behind each.
+fn active(alloc: Global, nemesis: &Nemesis) -> Option<String> {
+    let mut ids = String::new(alloc);
+    for index in 0..nemesis.active_len() {
+        let (id, _) = nemesis.active_at(index)?;
+        ids.push_str(&format!(in alloc; "{id} ").ok()?).ok()?;
+    }
+    Some(ids)
+}
+
+fn link(alloc: Global, env: &Env) -> Option<String> {
+    let link = env.link(env.nodes().at(1)?, env.nodes().at(0)?)?;
+    let text = if link.cut { "cut" } else { "open" };
+    text.to_string(alloc).ok()
+}
+
+/// What a call answers. None: memory was refused.
+fn act(alloc: Global, nemesis: &mut Nemesis, name: &str, number: u32) -> Option<String> {
+    match name {
+        "begin" => begun(alloc, nemesis, number),
+        "withdraw" => withdrawn(alloc, nemesis, number),
+        "withdraw-all" => all_withdrawn(alloc, nemesis),
+        "undo" => undone(alloc, nemesis),
+        "redo" => redone(alloc, nemesis),
+        "apply-begin" => applied_begin(alloc, nemesis, number),
+        "apply-withdraw" => applied_withdrawal(alloc, nemesis, number),
+        "begins" => begins(alloc, nemesis, number),
+        "rounds" => rounds(alloc, nemesis, number),
+        "few" => few(alloc, nemesis),
+        "active" => active(alloc, nemesis),
+        "link" => link(alloc, nemesis.env()),
+        _ => None,
+    }
+}
+
+/// What a call answers, asked once more where memory was refused and no fault was begun or withdrawn.
+fn take(alloc: Global, nemesis: &mut Nemesis, call: &str) -> Option<String> {
+    let (name, number) = call.split_once(' ').unwrap_or((call, "0"));
+    let number = number.parse::<u32>().ok()?;
+    let before = nemesis.active_len();
+    let answer = act(alloc, nemesis, name, number);
+    if answer.is_none() && nemesis.active_len() == before {
+        return act(alloc, nemesis, name, number);
+    }
+    answer
+}
+
+/// The answers of a row's calls. None: memory was refused.
+fn answers_once(alloc: Global, calls: &str) -> Option<String> {
+    let mut nemesis = Nemesis::new(alloc, calm(alloc)?);
+    let mut answers = String::new(alloc);
+    for call in calls.split("; ") {
+        answers.push_str(&take(alloc, &mut nemesis, call)?).ok()?;
+        answers.push_str("; ").ok()?;
+    }
+    Some(answers)
+}
+
+#[test]
+fn steps_are_answered(rt: HostRuntime) {
+    let rows = "\
+        begin 1; begin 2; withdraw 1; active; link → ok; ok; ok; 2 ; cut; \n\
+        begin 1; link; withdraw 1; link; active → ok; cut; ok; open; ; \n\
+        begin 1; apply-begin 1; apply-withdraw 2; apply-withdraw 1 → ok; id taken; not active; ok; \n\
+        begin 1; undo; link; redo; link → ok; ok; open; ok; cut; \n\
+        undo; redo; withdraw-all → nothing to undo; nothing to redo; nothing active; \n\
+        begin 1; withdraw-all; active; link; undo; link → ok; ok; ; open; ok; cut; \n\
+        few → nothing to undo, nothing to redo, not active, ; \n\
+        rounds 2048; begin 1; withdraw 1 → ok; too many steps; not active; ";
+    for row in rows.lines() {
+        let (calls, wanted) = row.split_once(" → ").unwrap_or((row, ""));
+        let answers = answers_once(rt.alloc(), calls).or_else(|| answers_once(rt.alloc(), calls));
+        assert!(rt; answers.is_some_and(|it| it.as_str() == wanted), "at {row}");
+    }
+}
+
+/// How many faults are active where 256 were begun, and what the next is answered.
+fn full_once(alloc: Global) -> Option<(usize, String)> {
+    let mut nemesis = Nemesis::new(alloc, calm(alloc)?);
+    begins(alloc, &mut nemesis, 256)?;
+    let answer = begun(alloc, &mut nemesis, 256)?;
+    Some((nemesis.active_len(), answer))
+}
+
+#[test]
+fn few_faults_are_active(rt: HostRuntime) {
+    let full = full_once(rt.alloc()).or_else(|| full_once(rt.alloc()));
+    assert!(rt; full.is_some_and(|it| it.0 == MOST_ACTIVE && it.1.as_str() == "too many active"));
+}
+
+/// The id of a copy of a begin, and whether its fault fits.
+fn copied_once(alloc: Global) -> Option<(u32, bool)> {
+    let env = calm(alloc)?;
+    let step = Step::Begin(7, cut(alloc, env.nodes())?);
+    match step.copy(alloc).ok()? {
+        Step::Begin(id, fault) => Some((id, fault.fits(&env))),
+        _ => None,
+    }
+}
+
+#[test]
+fn a_step_is_copied(rt: HostRuntime) {
+    let copied = copied_once(rt.alloc()).or_else(|| copied_once(rt.alloc()));
+    assert_eq!(rt; copied, Some((7, true)));
+}
