@@ -8,7 +8,8 @@ mod history;
 mod judge;
 mod order_check;
 mod register;
-mod search;mod verdict;
+mod search;
+mod verdict;
 
 pub use calls::{RegOpsError, reg_ops};
 pub use judge::check;
