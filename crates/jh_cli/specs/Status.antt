@@ -1,4 +1,4 @@
--- How a command ends early (this project's own): refusals of the words and of the input have status 3, faults of the machine and
+-- How a command ends early (this project's own): refusals of the arguments and of the input have status 3, faults of the machine and
 -- runs that were not completed 4.
 use Rattle.std.specs.Prelude.{ℕ}
 use Rattle.jh_edn.specs.declared.error.EdnError.TheVariants as EdnError

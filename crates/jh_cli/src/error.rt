@@ -16,7 +16,7 @@ use std::io::{self, Write};
 use thiserror::Error;
 
 /// Why a command ended early. `Read`, `Write` and `OutOfMemory` are faults of the machine, `Run` says that a run was not
-/// completed, `OnlyForRegister` refuses the words, and all others what was read.
+/// completed, `OnlyForRegister` refuses the arguments, and all others what was read.
 #[derive(Debug, Drop, Error)]
 pub enum CliError {
     /// The input is no text of EDN values.
@@ -55,7 +55,7 @@ pub enum CliError {
 }
 
 impl CliError {
-    /// The exit status: 3 where the input or the words are refused, 4 where the machine failed.
+    /// The exit status: 3 where the input or the arguments are refused, 4 where the machine failed.
     pub fn status(&self) -> u8
         ensures { result ≡ status_of self.now }
     {

@@ -43,6 +43,11 @@ plan env store volatile workload initial clients ops generator schedule tick_eve
       seed = seed;
     }
 
+-- a plan of those parts for which one can be refused
+abbrev pub judged : EnvValue → Settings → ℕ → ℕ → Generator → List Entry → ℕ → PlanValue
+judged env settings clients ops generator schedule rows =
+    plan env settings.store settings.volatile settings.workload settings.initial clients ops generator schedule 0 rows 0
+
 -- from 1 to 16 client threads
 abbrev pub HasClients : PlanValue → Type 0
 HasClients p = (1 ≤ p.clients) × (p.clients ≤ 16)

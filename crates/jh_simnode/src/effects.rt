@@ -1,6 +1,6 @@
 //! What a request does to the contents of a copy. `specs/Effects.antt` has the rule.
 
-ghost use Rattle.std.specs.Prelude.{◌≡◌, Some, None, ℤ, List, IfOk, option_map, take, drop, ◌++◌};
+ghost use Rattle.std.specs.Prelude.{◌≡◌, ◌≤◌, Some, None, ℤ, List, IfOk, MatchOption, length, take, drop, ◌++◌, ◌∷◌};
 ghost use Rattle.jh_simnode.specs.Effects.{effect, wrote, put_in, after_cas, after_add, after_generate};
 ghost use Rattle.jh_ops.specs.declared.call.Request.TheVariants.{Read, Write, Cas, Add, Generate};
 
@@ -15,28 +15,31 @@ pub(crate) struct Change {
     pub(crate) after: Contents,
 }
 
+/// The place of a number among ascending ones, where it is not one of them.
+fn place_of_new(numbers: &[i64], value: i64) -> Option<usize>
+    ensures { MatchOption result (put_in value numbers.now ≡ numbers.now)
+        (λ place. (place ≤ length numbers.now)
+        × (take place numbers.now ++ value ∷ drop place numbers.now ≡ put_in value numbers.now)) }
+{
+    let mut place = 0;
+    for number in numbers {
+        if value <= *number {
+            return (value < *number).then_some(place);
+        }
+        place += 1;
+    }
+    Some(place)
+}
+
 /// The number at its place among ascending numbers, once.
 fn put_in(alloc: Global, numbers: &Numbers, value: i64) -> Result<Numbers, AllocError>
     ensures { IfOk result (λ all. all ≡ put_in value numbers.now) }
 {
-    let old = numbers.as_slice();
-    let mut items = Vec::new(alloc);
-    for number in old {
-        if value < *number {
-            let place = items.len();
-            items.push(value)?;
-            items.extend_from_slice(&old[place..])?;
-            return Ok(Numbers { items });
-        }
-        if value == *number {
-            let place = items.len();
-            items.extend_from_slice(&old[place..])?;
-            return Ok(Numbers { items });
-        }
-        items.push(*number)?;
+    let mut all = numbers.copy(alloc)?;
+    if let Some(place) = place_of_new(numbers.as_slice(), value) {
+        all.items.insert(place, value)?;
     }
-    items.push(value)?;
-    Ok(Numbers { items })
+    Ok(all)
 }
 
 /// A change that got nothing.

@@ -138,28 +138,14 @@ impl Plan {
             × IsFit plan)
             (RefusesPlan (rule.plan environment store volatile workload initial clients ops (generator_of generator) schedule tick_every rows seed)) }
     {
-        if clients < 1 || clients > MOST_CLIENTS {
-            return Err(PlanError::BadClients);
-        }
-        if ops < 1 || ops > most_ops(workload) {
-            return Err(PlanError::BadOps);
-        }
-        if rows < 1 || rows > MOST_ROWS {
-            return Err(PlanError::BadRows);
-        }
-        if !generator.suits(workload, clients) {
-            return Err(PlanError::BadGenerator);
-        }
-        if !all_fit(schedule.entries(), &environment) {
-            return Err(PlanError::BadStep);
-        }
-        let generator = Inner::of(alloc, generator)?;
         let settings = Settings {
             store,
             volatile,
             workload,
             initial,
         };
+        Plan::judge(&environment, &settings, clients, ops, &generator, &schedule, rows)?;
+        let generator = Inner::of(alloc, generator)?;
         Ok(Plan {
             environment,
             settings,
@@ -171,6 +157,38 @@ impl Plan {
             rows,
             seed,
         })
+    }
+
+    /// Refuses what no plan is made of; the other parts of a plan play no part in that.
+    fn judge(
+        environment: &Env,
+        settings: &Settings,
+        clients: u32,
+        ops: u32,
+        generator: &Gen,
+        schedule: &Schedule,
+        rows: u32,
+    ) -> Result<(), PlanError>
+        ensures { MatchResult result
+            (λ _. IsFit (rule.judged environment.now settings.now clients ops (generator_of generator.now) schedule.now rows))
+            (RefusesPlan (rule.judged environment.now settings.now clients ops (generator_of generator.now) schedule.now rows)) }
+    {
+        if clients < 1 || clients > MOST_CLIENTS {
+            return Err(PlanError::BadClients);
+        }
+        if ops < 1 || ops > most_ops(settings.workload) {
+            return Err(PlanError::BadOps);
+        }
+        if rows < 1 || rows > MOST_ROWS {
+            return Err(PlanError::BadRows);
+        }
+        if !generator.suits(settings.workload, clients) {
+            return Err(PlanError::BadGenerator);
+        }
+        if !all_fit(schedule.entries(), environment) {
+            return Err(PlanError::BadStep);
+        }
+        Ok(())
     }
 
     /// The environment that the run starts from.
