@@ -9,10 +9,12 @@
 //!
 //! A call whose memory was refused is made again where the number of active faults stayed.
 
-ghost use Rattle.std.specs.Prelude.{[], ℕ, IfOk, IfSome};
+ghost use Rattle.std.specs.Prelude.{[], IfOk, IfSome};
 ghost use Rattle.std.specs.List.{All};
-ghost use Rattle.jh_env.specs.Overlay.{FitsCount, StandsFor};
-ghost use Rattle.jh_nemesis.specs.Steps.{FitsNodes};
+ghost use Rattle.jh_env.specs.Faults.{FitsCount};
+ghost use Rattle.jh_env.specs.Overlay.{StandsFor};
+ghost use Rattle.jh_nemesis.specs.State.{State};
+ghost use Rattle.jh_nemesis.specs.Steps.{StepFits};
 
 use jh_env::{Env, Fault, Nodes, Start};
 use jh_nemesis::{
@@ -120,7 +122,7 @@ fn rounds(alloc: Global, nemesis: &mut Nemesis, count: u32) -> Option<String> {
 
 /// Steps that need no fault of their own.
 fn few_steps(alloc: Global) -> Result<Vec<Step>, AllocError>
-    ensures { IfOk result (λ steps. (count : ℕ) → All (FitsNodes count) steps.items) }
+    ensures { IfOk result (λ steps. (state : State) → All (StepFits state) steps.items) }
 {
     let mut steps = Vec::with_capacity(alloc, 3)?;
     steps.push(Step::Undo)?;
@@ -131,7 +133,10 @@ fn few_steps(alloc: Global) -> Result<Vec<Step>, AllocError>
 
 /// The answers of a list of steps, with `, ` behind each.
 fn few(alloc: Global, nemesis: &mut Nemesis) -> Option<String> {
-    let answers = nemesis.apply_all(alloc, few_steps(alloc).ok()?).ok()?;
+    let Ok(steps) = few_steps(alloc) else {
+        return None;
+    };
+    let answers = nemesis.apply_all(alloc, steps).ok()?;
     let mut texts = String::new(alloc);
     for answer in answers {
         texts.push_str(answer_text(answer)).ok()?;

@@ -1,7 +1,17 @@
-//! Tests of `jh_ops` and `jh_slots`, through their public calls alone: what no clause says.
+//! Tests of `jh_ops` and `jh_slots`, through their public calls alone: what no clause says. What the clauses say is
+//! proved: a test is for values and texts that come from outside, and shows that memory suffices where there is some.
+//!
+//! The tests of `jh_ops` are rows of calls with their answers: `rows` says what a row is, `operations`, `words` and
+//! `names` what may be called. The tests of `jh_slots` are worked examples.
 #![tactic(auto)]
 
 #[cfg(test)]
+mod names;
+#[cfg(test)]
 mod operations;
 #[cfg(test)]
+mod rows;
+#[cfg(test)]
 mod slots;
+#[cfg(test)]
+mod words;

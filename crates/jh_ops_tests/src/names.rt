@@ -1,0 +1,119 @@
+//! What has a name: the messages of errors, and the requests of workloads.
+//!
+//! - `message operation ERROR`: the message of an error that refuses the operation at place 0.
+//! - `message pairs ERROR`, `message words ERROR`: the messages of no pairs, and of no words.
+//! - `requests WORKLOAD`: its requests among read, write, compare and set, add and generate, with a space behind each.
+
+use crate::rows::first_wrong;
+use jh_ops::{HistoryError, OpError, PairError, Request, WordsError, Workload};
+use std::alloc::Global;
+use std::fmt::Display;
+
+fn said<E: Display>(alloc: Global, error: &E) -> Option<Vec<u8>> {
+    Some(format!(in alloc; "{error}\n").ok()?.into_bytes())
+}
+
+fn op_error(name: &str) -> Option<OpError> {
+    match name {
+        "NotMap" => Some(OpError::NotMap),
+        "MissingType" => Some(OpError::MissingType),
+        "BadType" => Some(OpError::BadType),
+        "MissingF" => Some(OpError::MissingF),
+        "MissingProcess" => Some(OpError::MissingProcess),
+        "BadProcess" => Some(OpError::BadProcess),
+        "OutOfMemory" => Some(OpError::OutOfMemory),
+        _ => None,
+    }
+}
+
+fn pair_error(name: &str) -> Option<PairError> {
+    match name {
+        "AfterCrash 2" => Some(PairError::AfterCrash(2)),
+        "DoubleInvoke 1" => Some(PairError::DoubleInvoke(1)),
+        "NoInvoke 0" => Some(PairError::NoInvoke(0)),
+        "OutOfMemory" => Some(PairError::OutOfMemory),
+        _ => None,
+    }
+}
+
+fn words_error(name: &str) -> Option<WordsError> {
+    match name {
+        "NotRecordable" => Some(WordsError::NotRecordable),
+        "TooSmall" => Some(WordsError::TooSmall),
+        "BadWords" => Some(WordsError::BadWords),
+        "OutOfMemory" => Some(WordsError::OutOfMemory),
+        _ => None,
+    }
+}
+
+pub(crate) fn message(alloc: Global, text: &str) -> Option<Vec<u8>> {
+    match text.split_once(' ')? {
+        ("operation", name) => said(alloc, &HistoryError::Op(0, op_error(name)?)),
+        ("pairs", name) => said(alloc, &pair_error(name)?),
+        (_, name) => said(alloc, &words_error(name)?),
+    }
+}
+
+#[test]
+fn errors_have_messages(rt: HostRuntime) {
+    let rows = r#"message operation NotMap → operation 0: not a map
+§ message operation MissingType → operation 0: type missing
+§ message operation BadType → operation 0: bad type
+§ message operation MissingF → operation 0: f missing
+§ message operation MissingProcess → operation 0: process missing
+§ message operation BadProcess → operation 0: bad process
+§ message operation OutOfMemory → operation 0: out of memory
+§ message pairs AfterCrash 2 → operation 2: after crash
+§ message pairs DoubleInvoke 1 → operation 1: double invoke
+§ message pairs NoInvoke 0 → operation 0: no invocation
+§ message pairs OutOfMemory → out of memory
+§ message words NotRecordable → not recordable
+§ message words TooSmall → too small
+§ message words BadWords → bad words
+§ message words OutOfMemory → out of memory
+"#;
+    assert_eq!(rt; first_wrong(rt.alloc(), rows), None);
+}
+
+fn workload(name: &str) -> Option<Workload> {
+    match name {
+        "register" => Some(Workload::Register),
+        "counter" => Some(Workload::Counter),
+        "set" => Some(Workload::Set),
+        "ids" => Some(Workload::Ids),
+        _ => None,
+    }
+}
+
+fn request(name: &str) -> Request {
+    match name {
+        "read" => Request::Read,
+        "write" => Request::Write(i64::MIN),
+        "cas" => Request::Cas(0, -1),
+        "add" => Request::Add(i64::MAX),
+        _ => Request::Generate,
+    }
+}
+
+pub(crate) fn requests(alloc: Global, text: &str) -> Option<Vec<u8>> {
+    let workload = workload(text)?;
+    let mut names = String::new(alloc);
+    for name in "read write cas add generate".split(' ') {
+        if request(name).is_of(workload) {
+            names.push_str(name).ok()?;
+            names.push(' ').ok()?;
+        }
+    }
+    Some(names.into_bytes())
+}
+
+/// The requests of each workload, as docs/generators.md has them.
+#[test]
+fn each_workload_has_its_requests(rt: HostRuntime) {
+    let rows = "\
+        requests register → read write cas \
+        § requests counter → read add \
+        § requests set → read add \
+        § requests ids → generate ";
+    assert_eq!(rt; first_wrong(rt.alloc(), rows), None);
+}

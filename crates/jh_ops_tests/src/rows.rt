@@ -1,0 +1,55 @@
+//! Rows of one text, and who is asked.
+//!
+//! A row is a call's name, a space, a text, `→` and the answer; `§` begins each row but the first. White space around
+//! the text and before the answer is no part of them. Of the answer every byte counts, the last line feed too.
+//!
+//! A call answers None where memory was refused, and is made once more.
+
+use crate::{names, operations, words};
+use std::alloc::Global;
+use std::fmt::Debug;
+
+/// What a call answers.
+fn answer(alloc: Global, name: &str, text: &str) -> Option<Vec<u8>> {
+    match name {
+        "op" => operations::op(alloc, text),
+        "history" => operations::history(alloc, text),
+        "pairs" => operations::pairs(alloc, text),
+        "record" => words::record(alloc, text),
+        "operation" => words::operation(alloc, text),
+        "message" => names::message(alloc, text),
+        "requests" => names::requests(alloc, text),
+        _ => None,
+    }
+}
+
+fn answer_twice(alloc: Global, name: &str, text: &str) -> Option<Vec<u8>> {
+    match answer(alloc, name, text) {
+        None => answer(alloc, name, text),
+        found => found,
+    }
+}
+
+fn holds(alloc: Global, call: &str, expected: &str) -> bool {
+    let (name, text) = call.split_once(' ').unwrap_or((call, ""));
+    match answer_twice(alloc, name, text.trim()) {
+        Some(found) => found.as_slice() == expected.as_bytes(),
+        None => false,
+    }
+}
+
+/// The first row with another answer.
+pub(crate) fn first_wrong(alloc: Global, rows: &str) -> Option<&str> {
+    for row in rows.split('§') {
+        let (call, expected) = row.split_once('→').unwrap_or((row, "no answer"));
+        if !holds(alloc, call.trim(), expected.trim_start()) {
+            return Some(row);
+        }
+    }
+    None
+}
+
+/// What the derived `Debug` prints, which shows all that a value holds, and a line feed.
+pub(crate) fn shown<T: Debug>(alloc: Global, value: &T) -> Option<Vec<u8>> {
+    Some(format!(in alloc; "{value:?}\n").ok()?.into_bytes())
+}
