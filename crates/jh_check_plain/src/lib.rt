@@ -1,2 +1,19 @@
-//! Plain slow checkers and a plain slow judge, which serve tests alone: `jh_check_tests` compares those of `jh_check` and `jh_linear` with them.
+//! Plain slow checkers, a search for an order of a register that tries every one, and histories that look random. They
+//! serve tests alone: `jh_check_tests` compares `jh_check` and `jh_linear` with them.
+//!
+//! A history is a text: each operation is `PROCESS TYPE F VALUE` in the words of a history,
+//! with `; ` behind it.
 #![tactic(auto)]
+
+mod busy;
+mod checkers;
+mod dice;
+mod events;
+mod orders;
+mod register;
+
+pub use busy::busy_history;
+pub use checkers::{Case, random_case};
+pub use dice::Dice;
+pub use orders::{is_possible, judged_slowly};
+pub use register::random_history;

@@ -1,136 +1,142 @@
-//! Worked examples through the public calls, texts of errors, and a plain slow search beside the judge.
-//!
-//! Each test passes, too, where one allocation is refused: the call that answers so is made again.
+//! Histories of a register with what the judge says of each, and orders with what is wrong with them.
 
-ghost use Rattle.std.specs.Prelude.{◌≡◌, All, IfOk, length, true};
-ghost use Rattle.jh_ops.specs.Pairing.{IsWithin};
-ghost use Rattle.jh_linear.specs.Order.{EndAfterInvoked};
-
-mod random;
-mod slow;
-mod table;
-mod window;
-
-use jh_edn::{EdnError, Value, read_all};
-use jh_linear::{LinVerdict, Order, OrderFault, Reached, RegOp, RegOpsError, check, reg_ops};
-use jh_ops::{HistoryError, Op, Pair, PairError, history_of, pair};
-use std::alloc::{AllocError, Global};
-use std::fmt::Display;
+use crate::rows::{Ask, ask_all, told};
+use jh_linear::{LinVerdict, Order, OrderFault, Reached, RegOpsError, check, check_order};
+use std::alloc::Global;
 use std::test::Fail;
 
-/// The values of a text, once more where memory was refused.
-fn values(alloc: Global, text: &str) -> Result<Vec<Value>, EdnError> {
-    match read_all(alloc, &mut text.as_bytes(), 2) {
-        Err(EdnError::OutOfMemory) => read_all(alloc, &mut text.as_bytes(), 2),
-        answer => answer,
-    }
+#[test]
+fn judges_histories(rt: HostRuntime) -> Result<(), Fail> {
+    let rows = "
+        0 :invoke :write 1; 0 :info :write 1; 1 :invoke :read nil; 1 :ok :read 1; 1 :invoke :read nil; \
+        1 :ok :read 0 => none
+        0 :invoke :write 1; 0 :info :write 1; 1 :invoke :read nil; 1 :ok :read 0; 1 :invoke :read nil; \
+        1 :ok :read 1 => order 1 0 2
+        0 :invoke :write 1; 1 :invoke :read nil; 0 :ok :write 1; 1 :ok :read 0 => order 1 0
+        0 :invoke :cas [0 1]; 1 :invoke :cas [0 2]; 0 :ok :cas [0 1]; 1 :ok :cas [0 2] => none
+        0 :invoke :cas [0 1]; 1 :invoke :cas [0 2]; 2 :invoke :write 0; 0 :ok :cas nil; 1 :ok :cas nil; \
+        2 :fail :write 0 => none
+        0 :invoke :write 1; 0 :info :write 1; 1 :invoke :read nil; 1 :ok :read 1; 1 :invoke :read nil; \
+        1 :ok :read 0; 1 :invoke :read nil; 1 :ok :read nil => none
+        0 :invoke :read nil; 0 :ok :read 0 => order 0
+        0 :invoke :read nil; 0 :ok :read 1 => none
+        0 :invoke :write 1; 0 :fail :write 1; 1 :invoke :read nil; 1 :ok :read 0 => order 1
+        0 :invoke :read nil; 0 :info :read nil; 1 :invoke :write 2 => order";
+    ask_all(rt.alloc(), Ask::Judge(100), rows)
 }
 
-/// The history of a text.
-fn history(alloc: Global, text: &str) -> Result<Vec<Op>, Fail> {
-    match history_of(alloc, values(alloc, text)?) {
-        Err(HistoryError::OutOfMemory) => Ok(history_of(alloc, values(alloc, text)?)?),
-        answer => Ok(answer?),
-    }
+#[test]
+fn keeps_to_the_budget(rt: HostRuntime) -> Result<(), Fail> {
+    let rows = "
+        0 :invoke :write 1; 0 :info :write 1; 1 :invoke :read nil; 1 :ok :read 0; 1 :invoke :read nil; \
+        1 :ok :read 1 => unknown 0
+        0 :invoke :read nil; 0 :ok :read 1 => unknown 0";
+    ask_all(rt.alloc(), Ask::Judge(0), rows)?;
+    let rows = "
+        0 :invoke :write 1; 0 :info :write 1; 1 :invoke :read nil; 1 :ok :read 0; 1 :invoke :read nil; \
+        1 :ok :read 1 => unknown 2
+        0 :invoke :read nil; 0 :ok :read 1 => none";
+    ask_all(rt.alloc(), Ask::Judge(2), rows)
 }
 
-fn pairs_of(alloc: Global, ops: &[Op]) -> Result<Vec<Pair>, PairError>
-    ensures { IfOk result (λ pairs. All (IsWithin (length ops.now)) pairs.items) }
-{
-    match pair(alloc, ops) {
-        Err(PairError::OutOfMemory) => pair(alloc, ops),
-        answer => answer,
-    }
+#[test]
+fn tells_bad_values(rt: HostRuntime) -> Result<(), Fail> {
+    let rows = "
+        0 :invoke :read nil; 0 :ok :read :a => operation 1: bad value
+        0 :invoke :read :a; 0 :ok :read 0 => order 0
+        0 :invoke :read nil; 0 :fail :read :a; 1 :invoke :read nil; 1 :info :read :a => order
+        0 :invoke :write nil; 0 :ok :write 1 => operation 0: bad value
+        0 :invoke :write 0; 0 :ok :write nil => order 0
+        0 :invoke :cas [0 1]; 0 :ok :read nil => order 0
+        0 :invoke :cas (0 1); 0 :ok :cas :a => order 0
+        0 :invoke :cas [0 nil] => operation 0: bad value
+        0 :invoke :cas [0 1 2] => operation 0: bad value
+        0 :invoke :cas 0 => operation 0: bad value
+        0 :invoke :add 1; 0 :fail :add 1 => operation 0: bad value
+        0 :invoke :read nil; 1 :invoke :write nil; 0 :ok :read :a => operation 1: bad value
+        0 :invoke :read nil; 1 :invoke :read nil; 1 :ok :read #{}; 0 :ok :read :a => operation 2: bad value
+        :nemesis :info :add 1; 0 :invoke :read nil; :nemesis :info :read :a; 0 :ok :read 0 => order 0";
+    ask_all(rt.alloc(), Ask::Judge(100), rows)
 }
 
-fn told(alloc: Global, ops: &[Op], pairs: &[Pair]) -> Result<Vec<RegOp>, RegOpsError>
-    requires { All (IsWithin (length ops.now)) pairs.now }
-    ensures { IfOk result (λ calls. EndAfterInvoked calls.items) }
-{
-    match reg_ops(alloc, ops, pairs) {
-        Err(RegOpsError::OutOfMemory) => reg_ops(alloc, ops, pairs),
-        answer => answer,
-    }
+#[test]
+fn refuses_orders(rt: HostRuntime) -> Result<(), Fail> {
+    let history = "\
+        0 :invoke :write 1; 0 :ok :write 1; 0 :invoke :read nil; 0 :ok :read 1; \
+        0 :invoke :write 9; 0 :fail :write 9";
+    let rows = "
+        0 1 => order
+        3 => no such operation
+        0 0 1 => repeated operation
+        0 2 1 => failed operation
+        0 => missing operation
+        1 0 => precedence
+        0 3 3 => no such operation
+        2 2 => repeated operation
+        2 => failed operation";
+    ask_all(rt.alloc(), Ask::Places(history), rows)
 }
 
-/// What the history of a text tells of a register.
-fn calls(alloc: Global, text: &str) -> Result<Result<Vec<RegOp>, RegOpsError>, Fail>
-    ensures { IfOk result (λ told. IfOk told (λ calls. EndAfterInvoked calls.items)) }
-{
-    let ops = history(alloc, text)?;
-    let pairs = pairs_of(alloc, &ops)?;
-    Ok(told(alloc, &ops, &pairs))
+#[test]
+fn refuses_what_a_register_does_not_do(rt: HostRuntime) -> Result<(), Fail> {
+    let history = "\
+        0 :invoke :write 1; 1 :invoke :read nil; 0 :ok :write 1; 1 :ok :read 0; \
+        2 :invoke :cas [0 2]; 2 :info :cas nil";
+    let rows = "
+        0 1 => illegal
+        1 0 => order
+        1 0 2 => illegal
+        1 2 0 => precedence
+        2 1 0 => precedence
+        2 2 => repeated operation
+        1 0 2 1 => repeated operation";
+    ask_all(rt.alloc(), Ask::Places(history), rows)
 }
 
-fn judged(
-    alloc: Global,
-    calls: &[RegOp],
-    initial: Option<i64>,
-    budget: u64,
-) -> Result<LinVerdict, AllocError>
-    requires { EndAfterInvoked calls.now }
-{
-    match check(alloc, calls, initial, budget) {
-        Err(_) => check(alloc, calls, initial, budget),
-        answer => answer,
-    }
-}
-
-/// Adds the line of an operation to a text.
-fn add_line(
-    alloc: Global,
-    text: &mut String,
-    process: &str,
-    kind: &str,
-    call: (&str, &str),
-) -> Result<(), AllocError> {
-    let (f, value) = call;
-    let line = match format!(in alloc;
-        "{{:process {process}, :type :{kind}, :f :{f}, :value {value}}}\n"
-    ) {
-        Ok(line) => line,
-        Err(_) => {
-            format!(in alloc; "{{:process {process}, :type :{kind}, :f :{f}, :value {value}}}\n")?
+/// How many operations a history tells, and how long the order is that the judge finds, if it is one. None, too, where
+/// memory was refused.
+pub(crate) fn found(alloc: Global, history: &str, budget: u64) -> Option<(usize, usize)> {
+    let calls = told(alloc, history)?.ok()?;
+    match check(alloc, &calls, Some(0), budget).ok()? {
+        LinVerdict::Valid(order) => {
+            check_order(&calls, Some(0), order.as_slice()).ok()?;
+            Some((calls.len(), order.as_slice().len()))
         }
+        _ => None,
+    }
+}
+
+#[test]
+fn finds_an_order_of_two_swaps(rt: HostRuntime) {
+    let history = "\
+        0 :invoke :cas [0 1]; 1 :invoke :cas [0 2]; 2 :invoke :write 0; 0 :ok :cas nil; 1 :ok :cas nil; \
+        2 :info :write 0";
+    let lengths = match found(rt.alloc(), history, 100) {
+        None => found(rt.alloc(), history, 100),
+        lengths => lengths,
     };
-    match text.push_str(&line) {
-        Ok(()) => Ok(()),
-        Err(_) => text.push_str(&line),
-    }
-}
-
-/// The text of an error, once more where memory was refused.
-fn said<E: Display>(alloc: Global, error: &E) -> Result<String, Fail> {
-    match format!(in alloc; "{error}") {
-        Ok(said) => Ok(said),
-        Err(_) => Ok(format!(in alloc; "{error}")?),
-    }
+    assert_eq!(rt; lengths, Some((3, 3)));
 }
 
 #[test]
-fn says_why_an_order_is_refused(rt: HostRuntime) -> Result<(), Fail> {
-    let cases = [
-        (OrderFault::NoSuch, "no such operation"),
-        (OrderFault::Repeat, "repeated operation"),
-        (OrderFault::Failed, "failed operation"),
-        (OrderFault::Missing, "missing operation"),
-        (OrderFault::Precedence, "precedence"),
-        (OrderFault::Illegal, "illegal"),
-    ];
-    for (fault, text) in cases {
-        assert_eq!(rt; said(rt.alloc(), &fault)?.as_str(), text);
-    }
-    Ok(())
-}
-
-#[test]
-fn says_why_pairs_are_refused(rt: HostRuntime) -> Result<(), Fail> {
-    let cases = [
-        (RegOpsError::BadValue(3), "operation 3: bad value"),
-        (RegOpsError::OutOfMemory, "out of memory"),
-    ];
-    for (error, text) in cases {
-        assert_eq!(rt; said(rt.alloc(), &error)?.as_str(), text);
+fn errors_have_words(rt: HostRuntime) -> Result<(), Fail> {
+    let words = format!(in rt.alloc();
+        "{}, {}, {}, {}, {}, {}; {}, {}",
+        OrderFault::NoSuch,
+        OrderFault::Repeat,
+        OrderFault::Failed,
+        OrderFault::Missing,
+        OrderFault::Precedence,
+        OrderFault::Illegal,
+        RegOpsError::BadValue(3),
+        RegOpsError::OutOfMemory
+    );
+    let expected =
+        "no such operation, repeated operation, failed operation, missing operation, precedence, illegal; \
+        operation 3: bad value, out of memory";
+    // A refused growth leaves no words to compare.
+    if let Ok(words) = words {
+        assert_eq!(rt; words.as_str(), expected);
     }
     Ok(())
 }

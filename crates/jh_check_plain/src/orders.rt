@@ -1,6 +1,7 @@
-//! What an order is, as a plain slow program, straight from its definition: every order is tried.
+//! What an order of a register is, as a plain slow program, straight from its definition: every order is tried.
 
 use jh_linear::{OrderFault, Outcome, RegCall, RegOp};
+use std::alloc::{AllocError, Global};
 
 /// Whether the first operation happened, and ended before the second was invoked.
 fn is_before(first: RegOp, second: RegOp) -> bool {
@@ -73,7 +74,7 @@ fn runs(ops: &[RegOp], initial: Option<i64>, order: &[usize]) -> bool {
 }
 
 /// What is wrong with an order, part by part.
-pub(super) fn judged_slowly(
+pub fn judged_slowly(
     ops: &[RegOp],
     initial: Option<i64>,
     order: &[usize],
@@ -95,51 +96,33 @@ pub(super) fn judged_slowly(
     }
 }
 
-/// Up to six places.
-#[derive(Clone, Copy)]
-pub(super) struct Places {
-    places: [usize; 6],
-    count: usize,
-}
-
-impl Places {
-    pub(super) fn none() -> Places {
-        Places {
-            places: [0; 6],
-            count: 0,
-        }
-    }
-
-    pub(super) fn as_slice(&self) -> &[usize] {
-        self.places.get(..self.count).unwrap_or(&[])
-    }
-
-    /// The places with one more behind them.
-    pub(super) fn with(self, place: usize) -> Places {
-        let Places { mut places, count } = self;
-        if let Some(free) = places.get_mut(count) {
-            *free = place;
-        }
-        Places {
-            places,
-            count: places.len().min(count.saturating_add(1)),
-        }
-    }
-}
-
 /// Whether there is an order that begins with these places and has at most this many more.
-pub(super) fn is_possible(ops: &[RegOp], initial: Option<i64>, begun: Places, more: usize) -> bool {
-    let order = begun.as_slice();
-    if all_done(ops, order) && judged_slowly(ops, initial, order).is_ok() {
-        return true;
+fn goes_on(
+    ops: &[RegOp],
+    initial: Option<i64>,
+    order: &mut Vec<usize>,
+    more: usize,
+) -> Result<bool, AllocError> {
+    if judged_slowly(ops, initial, order).is_ok() {
+        return Ok(true);
     }
     if more == 0 {
-        return false;
+        return Ok(false);
     }
     for place in 0..ops.len() {
-        if !order.contains(&place) && is_possible(ops, initial, begun.with(place), more - 1) {
-            return true;
+        if !order.contains(&place) {
+            order.push(place)?;
+            if goes_on(ops, initial, order, more - 1)? {
+                return Ok(true);
+            }
+            order.pop();
         }
     }
-    false
+    Ok(false)
+}
+
+/// Whether there is an order of the operations.
+pub fn is_possible(alloc: Global, ops: &[RegOp], initial: Option<i64>) -> Result<bool, AllocError> {
+    let mut order = Vec::new(alloc);
+    goes_on(ops, initial, &mut order, ops.len())
 }
