@@ -1,2 +1,12 @@
-//! A plain slow cluster, which serves tests alone: `jh_simnode_tests` compares the worlds of `jh_simnode` with it.
+//! A plain slow cluster, and events that look random, which serve tests alone: `jh_simnode_tests` compares the worlds
+//! of `jh_simnode` with it.
 #![tactic(auto)]
+
+mod cluster;
+mod held;
+mod random;
+mod reach;
+
+pub use cluster::{PlainCluster, PlainReply};
+pub use random::Random;
+pub use reach::node_at;

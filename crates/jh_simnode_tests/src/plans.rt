@@ -1,152 +1,143 @@
 //! Which plans are refused and why, what a plan answers, and how long a schedule is.
+//!
+//! The text of a row is settings, as `fixtures` has them. They come to the parts of their plan: the number of nodes,
+//! the store, whether copies are volatile, the workload, what a register holds first; the clients, the calls, after how
+//! many of them a client ticks, the rows and the seed; the generator, and the schedule.
 
-use super::fixtures::{first_other_run, plan, shown, value};
-use jh_gen::Gen;
+use crate::fixtures::{plan_of, value};
+use crate::rows::{Kind, first_wrong};
+use crate::runs::refusal;
 use jh_nemesis::Step;
-use jh_ops::Workload;
-use jh_simnode::{Entry, MOST_ENTRIES, Plan, PlanError, Schedule, Store, TooLong};
+use jh_simnode::{Entry, MOST_ENTRIES, Plan, Schedule, TooLong};
 use std::alloc::Global;
-use std::test::Fail;
+use std::io::Write;
 
-// Settings, and behind the arrow why their plan is refused; or what the least and the greatest number come to.
+// A row comes to a refusal, or to the events of a run of the least or the greatest number.
 const REFUSALS: &str = r#"
 {:start {:nodes ["n1"]}, :clients 0} → bad clients
-§
-{:start {:nodes ["n1"]}, :clients 17} → bad clients
-§
-{:start {:nodes ["n1"]}, :clients 16} → 0 events
-§
-{:start {:nodes ["n1"]}, :ops 0} → bad ops
-§
-{:start {:nodes ["n1"]}, :ops 10001} → bad ops
-§
-{:start {:nodes ["n1"]}, :ops 10000} → 0 events
-§
-{:start {:nodes ["n1"]}, :ops 1001, :workload :set} → bad ops
-§
-{:start {:nodes ["n1"]}, :ops 1000, :workload :set} → 0 events
-§
-{:start {:nodes ["n1"]}, :ops 1001, :workload :counter} → 0 events
-§
-{:start {:nodes ["n1"]}, :rows 0} → bad rows
-§
-{:start {:nodes ["n1"]}, :rows 65537} → bad rows
-§
-{:start {:nodes ["n1"]}, :rows 65536} → 0 events
-§
-{:start {:nodes ["n1"]}, :generator [:once [:add 1]]} → bad generator
-§
-{:start {:nodes ["n1"]}, :generator [:nemesis [:nil]]} → bad generator
-§
-{:start {:nodes ["n1"]}, :steps-start {:nodes ["n1" "n2"]}, :schedule [[0 [:withdraw 1]] [9 [:begin 1 [:kill ["n2"]]]]]} → bad step
-§
-{:start {:nodes ["n1"]}, :clients 17, :ops 0, :rows 0} → bad clients
-§
-{:start {:nodes ["n1"]}, :ops 0, :rows 0, :generator [:once [:add 1]]} → bad ops
-§
-{:start {:nodes ["n1"]}, :rows 0, :generator [:once [:add 1]]} → bad rows
-§
-{:start {:nodes ["n1"]}, :steps-start {:nodes ["n1" "n2"]}, :schedule [[9 [:begin 1 [:kill ["n2"]]]]], :generator [:once [:add 1]]} → bad generator
+§ {:start {:nodes ["n1"]}, :clients 17} → bad clients
+§ {:start {:nodes ["n1"]}, :clients 16} → 0 events
+§ {:start {:nodes ["n1"]}, :ops 0} → bad ops
+§ {:start {:nodes ["n1"]}, :ops 10001} → bad ops
+§ {:start {:nodes ["n1"]}, :ops 10000} → 0 events
+§ {:start {:nodes ["n1"]}, :ops 1001, :workload :set} → bad ops
+§ {:start {:nodes ["n1"]}, :ops 1000, :workload :set} → 0 events
+§ {:start {:nodes ["n1"]}, :ops 1001, :workload :counter} → 0 events
+§ {:start {:nodes ["n1"]}, :rows 0} → bad rows
+§ {:start {:nodes ["n1"]}, :rows 65537} → bad rows
+§ {:start {:nodes ["n1"]}, :rows 65536} → 0 events
+§ {:start {:nodes ["n1"]}, :generator [:once [:add 1]]} → bad generator
+§ {:start {:nodes ["n1"]}, :generator [:nemesis [:nil]]} → bad generator
+§ {:start {:nodes ["n1"]}, :steps-start {:nodes ["n1" "n2"]}, :schedule [[0 [:withdraw 1]] [9 [:begin 1 [:kill ["n2"]]]]]} → bad step
+§ {:start {:nodes ["n1"]}, :clients 17, :ops 0, :rows 0} → bad clients
+§ {:start {:nodes ["n1"]}, :ops 0, :rows 0, :generator [:once [:add 1]]} → bad ops
+§ {:start {:nodes ["n1"]}, :rows 0, :generator [:once [:add 1]]} → bad rows
+§ {:start {:nodes ["n1"]}, :steps-start {:nodes ["n1" "n2"]}, :schedule [[9 [:begin 1 [:kill ["n2"]]]]], :generator [:once [:add 1]]} → bad generator
 "#;
 
 #[test]
-fn plans_are_refused(rt: HostRuntime) -> Result<(), Fail> {
-    assert_eq!(rt; first_other_run(rt.alloc(), REFUSALS)?, None);
-    Ok(())
+fn plans_are_refused(rt: HostRuntime) {
+    assert_eq!(rt; first_wrong(rt.alloc(), Kind::Run, REFUSALS), None);
 }
 
 const SETTINGS: &str =
     r#"{:start {:nodes ["a" "b" "c"]}, :store :lww, :volatile true, :workload :counter, :initial 4, :clients 3,
-    :ops 11, :generator [:once [:add 7]], :schedule [[5 [:undo]] [2 [:redo]]], :tick-every 6, :rows 12, :seed 13}"#;
+    :ops 11, :generator [:once [:add 7]], :schedule [[5 [:undo]] [2 [:redo]]], :tick-every 6, :rows 12, :seed 13}
+→ 3 nodes Lww true Counter Some(4); 3 11 6 12 13; Once(Client(Add(7))); 5 undo, 2 redo,"#;
 
-fn has_numbers(plan: &Plan) -> bool {
-    plan.clients() == 3
-        && plan.ops() == 11
-        && plan.tick_every() == 6
-        && plan.rows() == 12
-        && plan.seed() == 13
+#[test]
+fn a_plan_has_its_parts(rt: HostRuntime) {
+    assert_eq!(rt; first_wrong(rt.alloc(), Kind::Plan, SETTINGS), None);
 }
 
-fn has_settings(plan: &Plan) -> bool {
-    plan.store() == Store::Lww
-        && plan.volatile()
-        && plan.workload() == Workload::Counter
-        && plan.initial() == Some(4)
+fn put_settings(text: &mut Vec<u8>, plan: &Plan) -> Option<()> {
+    let count = plan.environment().nodes().len();
+    let (store, volatile) = (plan.store(), plan.volatile());
+    let (workload, initial) = (plan.workload(), plan.initial());
+    write!(
+        text,
+        "{count} nodes {store:?} {volatile} {workload:?} {initial:?}; "
+    )
+    .ok()
 }
 
-fn has_schedule(plan: &Plan) -> bool {
-    match plan.schedule().entries() {
-        [first, second] => {
-            first.at == 5
-                && matches!(first.step, Step::Undo)
-                && second.at == 2
-                && matches!(second.step, Step::Redo)
-        }
-        _ => false,
+fn put_numbers(text: &mut Vec<u8>, plan: &Plan) -> Option<()> {
+    let (clients, ops, tick_every) = (plan.clients(), plan.ops(), plan.tick_every());
+    let (rows, seed) = (plan.rows(), plan.seed());
+    write!(text, "{clients} {ops} {tick_every} {rows} {seed}; ").ok()
+}
+
+fn put_entry(text: &mut Vec<u8>, entry: &Entry) -> Option<()> {
+    let at = entry.at;
+    match &entry.step {
+        Step::Begin(id, _) => write!(text, " {at} begin {id},").ok(),
+        Step::Withdraw(id) => write!(text, " {at} withdraw {id},").ok(),
+        Step::WithdrawAll => write!(text, " {at} withdraw-all,").ok(),
+        Step::Undo => write!(text, " {at} undo,").ok(),
+        Step::Redo => write!(text, " {at} redo,").ok(),
     }
 }
 
-fn has_parts(plan: &Plan) -> bool {
-    plan.environment().nodes().len() == 3 && matches!(plan.generator(), Gen::Once(_))
+/// Writes the parts of a plan.
+pub(crate) fn put_plan(text: &mut Vec<u8>, plan: &Plan) -> Option<()> {
+    put_settings(text, plan)?;
+    put_numbers(text, plan)?;
+    write!(&mut *text, "{:?};", plan.generator()).ok()?;
+    for entry in plan.schedule().entries() {
+        put_entry(text, entry)?;
+    }
+    Some(())
 }
 
-#[test]
-fn a_plan_has_its_parts(rt: HostRuntime) -> Result<(), Fail> {
-    let plan = plan(rt.alloc(), &value(rt.alloc(), SETTINGS)?)??;
-    let has = [
-        has_numbers(&plan),
-        has_settings(&plan),
-        has_schedule(&plan),
-        has_parts(&plan),
-    ];
-    assert_eq!(rt; has, [true; 4]);
-    Ok(())
+/// The parts of the plan of settings. None: memory was refused.
+pub(crate) fn told_once(alloc: Global, settings: &str) -> Option<Vec<u8>> {
+    match plan_of(alloc, &value(alloc, settings)?)? {
+        Ok(plan) => {
+            let mut text = Vec::new(alloc);
+            put_plan(&mut text, &plan)?;
+            Some(text)
+        }
+        Err(error) => refusal(alloc, error),
+    }
 }
 
-// A schedule of so many steps back.
+/// A schedule of so many steps back. None: memory was refused.
 fn schedule_once(alloc: Global, count: u32) -> Option<Result<Schedule, TooLong>> {
     let mut entries = Vec::new(alloc);
     for at in 0..count {
-        entries
-            .push(Entry {
-                at,
-                step: Step::Undo,
-            })
-            .ok()?;
+        let step = Step::Undo;
+        entries.push(Entry { at, step }).ok()?;
     }
     Some(Schedule::of(entries))
 }
 
-fn schedule(alloc: Global, count: u32) -> Result<Result<Schedule, TooLong>, Fail> {
+/// How many entries a schedule of so many has, where each is in its place.
+fn kept(alloc: Global, count: u32) -> Option<Result<usize, TooLong>> {
     let schedule = match schedule_once(alloc, count) {
-        None => schedule_once(alloc, count),
-        schedule => schedule,
+        None => schedule_once(alloc, count)?,
+        Some(schedule) => schedule,
     };
-    Ok(schedule.ok_or("no schedule")?)
-}
-
-#[test]
-fn a_schedule_gives_its_entries_back(rt: HostRuntime) -> Result<(), Fail> {
-    let schedule = schedule(rt.alloc(), 1024)??;
-    assert_eq!(rt; schedule.entries().len(), MOST_ENTRIES);
-    for (place, entry) in schedule.entries().iter().enumerate() {
-        assert_eq!(rt; entry.at as usize, place);
+    match schedule {
+        Ok(schedule) => Some(Ok(count_in_order(schedule.entries())?)),
+        Err(refusal) => Some(Err(refusal)),
     }
-    Ok(())
+}
+
+fn count_in_order(entries: &[Entry]) -> Option<usize> {
+    for (place, entry) in entries.iter().enumerate() {
+        if entry.at as usize != place {
+            return None;
+        }
+    }
+    Some(entries.len())
 }
 
 #[test]
-fn a_schedule_is_too_long(rt: HostRuntime) -> Result<(), Fail> {
-    let refused = schedule(rt.alloc(), 1025)?.err();
-    assert_eq!(rt; refused, Some(TooLong));
-    Ok(())
+fn a_schedule_gives_its_entries_back(rt: HostRuntime) {
+    assert_eq!(rt; kept(rt.alloc(), 1_024), Some(Ok(MOST_ENTRIES)));
 }
 
 #[test]
-fn plans_and_schedules_tell_why_not(rt: HostRuntime) -> Result<(), Fail> {
-    let plan = shown(rt.alloc(), &PlanError::OutOfMemory)?;
-    assert_eq!(rt; plan.as_slice(), b"out of memory".as_slice());
-    let schedule = shown(rt.alloc(), &TooLong)?;
-    assert_eq!(rt; schedule.as_slice(), b"too long".as_slice());
-    Ok(())
+fn a_schedule_is_too_long(rt: HostRuntime) {
+    assert_eq!(rt; kept(rt.alloc(), 1_025), Some(Err(TooLong)));
 }

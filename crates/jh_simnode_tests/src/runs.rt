@@ -1,17 +1,72 @@
 //! Serial runs.
+//!
+//! The text of a row is settings, as `fixtures` has them. They come to the number of events in the journal of their run
+//! and its history, an operation in a line; or to the refusal of their plan or run.
 
-use super::fixtures::{first_other_run, shown};
-use jh_simnode::{RunError, WorldError};
-use std::test::Fail;
+use crate::fixtures::{plan_of, value};
+use crate::rows::{Kind, first_wrong};
+use jh_edn::write;
+use jh_ops::{Op, value_of};
+use jh_simnode::{Plan, PlanError, RunError, WorldError, run_serial};
+use std::alloc::Global;
+use std::io::Write;
 
-// Settings, and behind the arrow how many events the journal of their run has, and its history.
+/// The words of an error.
+fn words(alloc: Global, error: RunError) -> Option<Vec<u8>> {
+    let mut text = Vec::new(alloc);
+    write!(&mut text, "{error}").ok()?;
+    Some(text)
+}
+
+fn put_op(alloc: Global, text: &mut Vec<u8>, op: &Op) -> Option<()> {
+    if !op.process.is_writable() {
+        return None;
+    }
+    write!(&mut *text, "\n").ok()?;
+    write(&value_of(alloc, op).ok()?, text).ok()
+}
+
+fn history_text(alloc: Global, events: usize, history: &[Op]) -> Option<Vec<u8>> {
+    let mut text = Vec::new(alloc);
+    write!(&mut text, "{events} events").ok()?;
+    for op in history {
+        put_op(alloc, &mut text, op)?;
+    }
+    Some(text)
+}
+
+fn run_text(alloc: Global, plan: &Plan) -> Option<Vec<u8>> {
+    match run_serial(alloc, plan) {
+        Ok((world, history)) => history_text(alloc, world.journal().len(), &history),
+        Err(RunError::OutOfMemory | RunError::World(WorldError::OutOfMemory)) => None,
+        Err(error) => words(alloc, error),
+    }
+}
+
+/// What the run of settings tells. None: memory was refused.
+pub(crate) fn told_once(alloc: Global, settings: &str) -> Option<Vec<u8>> {
+    match plan_of(alloc, &value(alloc, settings)?)? {
+        Ok(plan) => run_text(alloc, &plan),
+        Err(error) => refusal(alloc, error),
+    }
+}
+
+/// The words of a plan's refusal. None: memory was refused.
+pub(crate) fn refusal(alloc: Global, error: PlanError) -> Option<Vec<u8>> {
+    if error == PlanError::OutOfMemory {
+        return None;
+    }
+    let mut text = Vec::new(alloc);
+    write!(&mut text, "{error}").ok()?;
+    Some(text)
+}
+
 const RUNS: &str = r#"
 ; a volatile kill
 {:start {:nodes ["n1" "n2" "n3"]}, :store :quorum, :volatile true, :workload :register, :initial 0, :clients 1, :ops 2,
   :generator [:seq [:once [:write 5]] [:once :read]],
   :schedule [[0 [:begin 1 [:pause ["n3"]]]] [1 [:begin 2 [:kill ["n1" "n2"]]]] [1 [:withdraw 2]] [1 [:withdraw 1]]]}
-→
-6 events
+→ 6 events
 {:index 0, :type :info, :process :nemesis, :f :step, :value 0}
 {:index 1, :type :info, :process :nemesis, :f :step, :value [0 0], :event 0}
 {:index 2, :type :invoke, :process 0, :f :write, :value 5}
@@ -24,37 +79,31 @@ const RUNS: &str = r#"
 {:index 9, :type :info, :process :nemesis, :f :step, :value [3 0], :event 4}
 {:index 10, :type :invoke, :process 0, :f :read, :value nil}
 {:index 11, :type :ok, :process 0, :f :read, :value 0, :event 5}
-§
-; the last writer is the one whose clock is ahead
+§ ; the last writer is the one whose clock is ahead
 {:start {:nodes ["n1" "n2"], :clock [["n1" 1000]]}, :store :lww, :workload :register, :initial 0, :clients 2, :ops 3,
   :generator [:seq [:once [:write 1]] [:once [:write 2]] [:once :read]]}
-→
-3 events
+→ 3 events
 {:index 0, :type :invoke, :process 0, :f :write, :value 1}
 {:index 1, :type :ok, :process 0, :f :write, :value 1, :event 0}
 {:index 2, :type :invoke, :process 1, :f :write, :value 2}
 {:index 3, :type :ok, :process 1, :f :write, :value 2, :event 1}
 {:index 4, :type :invoke, :process 0, :f :read, :value nil}
 {:index 5, :type :ok, :process 0, :f :read, :value 1, :event 2}
-§
-; and without the offset the later one
+§ ; and without the offset the later one
 {:start {:nodes ["n1" "n2"]}, :store :lww, :workload :register, :initial 0, :clients 2, :ops 3,
   :generator [:seq [:once [:write 1]] [:once [:write 2]] [:once :read]]}
-→
-3 events
+→ 3 events
 {:index 0, :type :invoke, :process 0, :f :write, :value 1}
 {:index 1, :type :ok, :process 0, :f :write, :value 1, :event 0}
 {:index 2, :type :invoke, :process 1, :f :write, :value 2}
 {:index 3, :type :ok, :process 1, :f :write, :value 2, :event 1}
 {:index 4, :type :invoke, :process 0, :f :read, :value nil}
 {:index 5, :type :ok, :process 0, :f :read, :value 2, :event 2}
-§
-; entries that are left when the calls end, and one that waits for another
+§ ; entries that are left when the calls end, and one that waits for another
 {:start {:nodes ["n1" "n2"]}, :store :local, :workload :counter, :clients 2, :ops 3, :seed 7,
   :generator [:mix [:forever [:add 2]] [:forever :read]],
   :schedule [[1 [:undo]] [9 [:begin 4 [:cut [["n1" "n2"]]]]] [2 [:begin 4 [:kill []]]] [0 [:withdraw-all]]]}
-→
-7 events
+→ 7 events
 {:index 0, :type :invoke, :process 0, :f :read, :value nil}
 {:index 1, :type :ok, :process 0, :f :read, :value 0, :event 0}
 {:index 2, :type :info, :process :nemesis, :f :step, :value 0}
@@ -69,12 +118,10 @@ const RUNS: &str = r#"
 {:index 11, :type :info, :process :nemesis, :f :step, :value [2 1], :event 5}
 {:index 12, :type :info, :process :nemesis, :f :step, :value 3}
 {:index 13, :type :info, :process :nemesis, :f :step, :value [3 0], :event 6}
-§
-; a tick after each call of a thread, over one way
+§ ; a tick after each call of a thread, over one way
 {:start {:nodes ["n1" "n2"], :cut [["n1" "n2"]]}, :store :lww, :workload :ids, :clients 2, :ops 6, :tick-every 1,
   :generator [:forever :generate]}
-→
-12 events
+→ 12 events
 {:index 0, :type :invoke, :process 0, :f :generate, :value nil}
 {:index 1, :type :ok, :process 0, :f :generate, :value 0, :event 0}
 {:index 2, :type :invoke, :process 1, :f :generate, :value nil}
@@ -87,13 +134,11 @@ const RUNS: &str = r#"
 {:index 9, :type :ok, :process 0, :f :generate, :value 2, :event 8}
 {:index 10, :type :invoke, :process 1, :f :generate, :value nil}
 {:index 11, :type :ok, :process 1, :f :generate, :value 2, :event 10}
-§
-; ticks under a cut that is withdrawn
+§ ; ticks under a cut that is withdrawn
 {:start {:nodes ["n1" "n2" "n3"]}, :store :lww, :workload :register, :clients 3, :ops 9, :tick-every 1, :seed 3,
   :generator [:mix [:forever :read] [:seq [:once [:write 1]] [:once [:write 2]] [:once [:cas 2 3]] [:forever :read]]],
   :schedule [[0 [:begin 1 [:cut [["n1" "n2"] ["n2" "n1"] ["n1" "n3"] ["n3" "n1"]]]]] [4 [:withdraw 1]]]}
-→
-20 events
+→ 20 events
 {:index 0, :type :info, :process :nemesis, :f :step, :value 0}
 {:index 1, :type :info, :process :nemesis, :f :step, :value [0 0], :event 0}
 {:index 2, :type :invoke, :process 0, :f :write, :value 1}
@@ -116,13 +161,11 @@ const RUNS: &str = r#"
 {:index 19, :type :ok, :process 1, :f :read, :value 3, :event 16}
 {:index 20, :type :invoke, :process 2, :f :read, :value nil}
 {:index 21, :type :ok, :process 2, :f :read, :value 3, :event 18}
-§
-; lost messages, and processes that crash
+§ ; lost messages, and processes that crash
 {:start {:nodes ["n1" "n2" "n3"], :loss [["n1" "n2" 10] ["n3" "n1" 8]]}, :store :quorum, :workload :set, :clients 2, :ops 8, :seed 12,
   :generator [:mix [:rising 1] [:forever :read]],
   :schedule [[2 [:begin 1 [:pause ["n2"]]]] [6 [:undo]]]}
-→
-10 events
+→ 10 events
 {:index 0, :type :invoke, :process 0, :f :add, :value 1}
 {:index 1, :type :fail, :process 0, :f :add, :value 1, :event 0}
 {:index 2, :type :invoke, :process 1, :f :add, :value 2}
@@ -146,25 +189,6 @@ const RUNS: &str = r#"
 "#;
 
 #[test]
-fn runs_tell_their_histories(rt: HostRuntime) -> Result<(), Fail> {
-    assert_eq!(rt; first_other_run(rt.alloc(), RUNS)?, None);
-    Ok(())
-}
-
-#[test]
-fn runs_and_worlds_tell_why_not(rt: HostRuntime) -> Result<(), Fail> {
-    let texts = [
-        (RunError::World(WorldError::UnknownNode), "unknown node"),
-        (
-            RunError::World(WorldError::TooManyEvents),
-            "too many events",
-        ),
-        (RunError::World(WorldError::OutOfMemory), "out of memory"),
-        (RunError::Stuck, "stuck"),
-        (RunError::OutOfMemory, "out of memory"),
-    ];
-    for (error, text) in texts {
-        assert_eq!(rt; shown(rt.alloc(), &error)?.as_slice(), text.as_bytes());
-    }
-    Ok(())
+fn runs_tell_their_histories(rt: HostRuntime) {
+    assert_eq!(rt; first_wrong(rt.alloc(), Kind::Run, RUNS), None);
 }

@@ -1,54 +1,12 @@
-//! Worked examples, and the texts of errors. What the clauses say is proved: a test is for documents that come from outside,
-//! and shows that memory suffices where there is some.
-//!
-//! Each call is made once more where memory was refused, so that the tests stand one refused allocation.
+//! Which settings a document tells, and why others are refused.
 
-use jh_gen::Gen;
-use jh_nemesis::Step;
-use jh_ops::Workload;
-use jh_settings::{RunSettings, SettingsError, Store, settings_of};
+use crate::documents::answer_once;
+use crate::rows::{Kind, first_wrong};
 use std::alloc::{AllocError, Global};
-use std::test::Fail;
 
-mod table;
-
-fn settings(alloc: Global, document: &[u8]) -> Result<RunSettings, SettingsError> {
-    match settings_of(alloc, document) {
-        Err(SettingsError::OutOfMemory) => settings_of(alloc, document),
-        answer => answer,
-    }
-}
-
-// Those of a document that is good.
-fn good(alloc: Global, document: &[u8]) -> Result<RunSettings, Fail> {
-    Ok(settings(alloc, document).ok().ok_or("refused")?)
-}
-
-fn text_once(alloc: Global, error: &SettingsError) -> Result<String, AllocError> {
-    format!(in alloc; "{error}")
-}
-
-// The text of the refusal of a document, and `ok` of one that is good.
-fn answer(alloc: Global, document: &[u8]) -> Result<String, Fail> {
-    let error = match settings(alloc, document) {
-        Ok(_) => return Ok(text(alloc, "ok")?),
-        Err(error) => error,
-    };
-    match text_once(alloc, &error) {
-        Ok(text) => Ok(text),
-        Err(_) => Ok(text_once(alloc, &error)?),
-    }
-}
-
-fn text(alloc: Global, text: &str) -> Result<String, AllocError> {
-    match String::from_str(alloc, text) {
-        Ok(text) => Ok(text),
-        Err(_) => String::from_str(alloc, text),
-    }
-}
-
-/// A run in which two nodes are killed and lose what they knew.
-static KILL_RUN: &[u8] = br#"
+// A run in which two nodes are killed and lose what they knew; and settings with nothing that has a default, of another
+// workload.
+const DOCUMENTS: &str = r#"
 start = '{:nodes ["n1" "n2" "n3"]}'
 store = "quorum"
 workload = "register"
@@ -64,99 +22,188 @@ schedule = [
   '[1 [:withdraw 2]]',
   '[1 [:withdraw 1]]',
 ]
-"#;
-
-/// The same settings with nothing that has a default, of another workload.
-static DEFAULTS: &[u8] = br#"
-start = '{:nodes ["n1"]}'
+→ 100000; 3 nodes Quorum true Register Some(0); 1 2 0 4096 0; Seq(Gens { items: [Once(Client(Write(5))), Once(Client(Read))] }); 0 begin 1, 1 begin 2, 1 withdraw 2, 1 withdraw 1,
+§ start = '{:nodes ["n1"]}'
 store = "local"
 workload = "unique-ids"
 generator = '[:forever :generate]'
 clients = 16
 ops = 10_000
 mode = "serial"
-"#;
+→ 100000; 1 nodes Local false Ids None; 16 10000 0 4096 0; Forever(Client(Generate));"#;
 
 #[test]
-fn tells_what_is_run(rt: HostRuntime) -> Result<(), Fail> {
-    let settings = good(rt.alloc(), KILL_RUN)?;
-    assert_eq!(rt; settings.plan.environment().nodes().len(), 3);
-    assert_eq!(rt; settings.plan.store(), Store::Quorum);
-    assert_eq!(rt; settings.plan.workload(), Workload::Register);
-    assert!(rt; settings.plan.volatile());
-    assert_eq!(rt; settings.plan.initial(), Some(0));
-    Ok(())
+fn documents_tell_settings(rt: HostRuntime) {
+    assert_eq!(rt; first_wrong(rt.alloc(), Kind::Document, DOCUMENTS), None);
 }
 
+const KEYS: &str = r##"
+# all is good → ok
+§ start = "a → not TOML
+§ seed = 1
+seed = 1
+→ not TOML
+§ seed = 9223372036854775808 → not TOML
+§ zebra = 1
+apple = 1
+→ apple: unknown
+§ apple = 1
+Zebra = 1
+→ Zebra: unknown
+§ Start = 1 → Start: unknown
+§ a.b = 1 → a: unknown
+§ "" = 1 → : unknown
+§ "two\nlines" = 1 → two\u{a}lines: unknown
+§ "\u007f\u0085\\é" = 1 → \u{7f}\u{85}\é: unknown
+§ unheard = 1
+!start
+clients = 0
+→ unheard: unknown
+§ !start
+!ops
+→ start: missing
+§ !store → store: missing
+§ !workload → workload: missing
+§ !generator
+store = "none"
+→ generator: missing
+§ !clients → clients: missing
+§ !ops
+!mode
+→ ops: missing
+"##;
+
 #[test]
-fn tells_how_much_is_run(rt: HostRuntime) -> Result<(), Fail> {
-    let settings = good(rt.alloc(), KILL_RUN)?;
-    assert_eq!(rt; settings.plan.clients(), 1);
-    assert_eq!(rt; settings.plan.ops(), 2);
-    assert!(rt;
-        matches!(settings.plan.generator(), Gen::Seq(parts) if parts.as_slice().len() == 2)
+fn looks_at_keys_first(rt: HostRuntime) {
+    assert_eq!(rt; first_wrong(rt.alloc(), Kind::Lines, KEYS), None);
+}
+
+const ELEMENTS: &str = r##"
+start = 1 → start: bad value
+§ start = "" → start: bad value
+§ start = "#_ {:nodes [1]}" → start: bad value
+§ start = '{:nodes ["n1"]} {:nodes ["n1"]}' → start: bad value
+§ start = '{:nodes ["n1"]} ]' → start: bad value
+§ start = '{:nodes ["n1"]' → start: bad value
+§ start = '{:nodes []}' → start: bad value
+§ start = '{:nodes ["n1"], :cut [["n1" "n2"]]}' → start: bad value
+§ start = ' #_ [1] {:nodes ["n1"]} ; calm' → ok
+§ generator = "[:sometimes]" → generator: bad value
+§ generator = "[:nil] [:nil]" → generator: bad value
+§ generator = ["[:nil]"] → generator: bad value
+§ generator = "(:limit 1 [:forever [:cas 0 1]])" → ok
+§ generator = "[:once [:add 1]]" → generator: bad value
+§ generator = "[:once [:add 1]]"
+schedule = 1
+→ schedule: bad value
+§ schedule = "[0 [:undo]]" → schedule: bad value
+§ schedule = [1] → schedule: bad value
+§ schedule = ["[0 [:undo]] 1"] → schedule: bad value
+§ schedule = ["[10001 [:undo]]"] → schedule: bad value
+§ schedule = ["[-1 [:undo]]"] → schedule: bad value
+§ schedule = ["[[:undo]]"] → schedule: bad value
+§ schedule = ["[0 [:undo] 1]"] → schedule: bad value
+§ schedule = ["[0 [:redone]]"] → schedule: bad value
+§ schedule = ['[0 [:begin 1 [:pause ["n2"]]]]', '[0 [:begin 2 [:pause ["n3"]]]]'] → schedule: bad value
+§ schedule = ['[0 [:begin 1 [:pause ["n2"]]]]', '( 10000 (:undo) )'] → ok
+§ schedule = [] → ok
+"##;
+
+#[test]
+fn looks_at_elements(rt: HostRuntime) {
+    assert_eq!(rt; first_wrong(rt.alloc(), Kind::Lines, ELEMENTS), None);
+}
+
+const WORDS_AND_NUMBERS: &str = r##"
+store = "Quorum" → store: bad value
+§ store = 1 → store: bad value
+§ store = "none"
+clients = 0
+→ store: bad value
+§ workload = "ids" → workload: bad value
+§ workload = "unique-ids"
+generator = "[:once :generate]"
+→ ok
+§ clients = 0 → clients: bad value
+§ clients = 17 → clients: bad value
+§ clients = 1.0 → clients: bad value
+§ clients = "1" → clients: bad value
+§ clients = 1_6 → ok
+§ clients = 0x10 → ok
+§ ops = 0 → ops: bad value
+§ ops = 10001 → ops: bad value
+§ ops = 10_000 → ok
+§ workload = "set"
+ops = 1001
+→ ops: bad value
+§ workload = "set"
+ops = 1000
+→ ok
+§ !mode → mode: bad value
+§ mode = "threads" → mode: bad value
+§ mode = 1 → mode: bad value
+§ mode = "threads"
+volatile = 1
+→ mode: bad value
+§ volatile = 1 → volatile: bad value
+§ volatile = true → ok
+§ initial = 1.5 → initial: bad value
+§ initial = -9223372036854775808 → ok
+§ workload = "counter"
+initial = 0
+→ initial: bad value
+§ tick_every = -1 → tick_every: bad value
+§ tick_every = 10001 → tick_every: bad value
+§ rows = 0 → rows: bad value
+§ rows = 65537 → rows: bad value
+§ seed = -1 → seed: bad value
+§ seed = 9223372036854775807 → ok
+§ budget = 10000001 → budget: bad value
+§ budget = -1
+seed = -1
+→ seed: bad value
+§ tick_every = 10_000
+rows = 65_536
+budget = 10_000_000
+→ ok
+"##;
+
+#[test]
+fn looks_at_words_and_numbers(rt: HostRuntime) {
+    assert_eq!(rt;
+        first_wrong(rt.alloc(), Kind::Lines, WORDS_AND_NUMBERS),
+        None
     );
-    Ok(())
 }
 
-#[test]
-fn tells_the_schedule(rt: HostRuntime) -> Result<(), Fail> {
-    let settings = good(rt.alloc(), KILL_RUN)?;
-    let [pause, kill, first, last] = settings.plan.schedule().entries() else {
-        panic!(rt; "not four entries");
-    };
-    assert!(rt; pause.at == 0 && matches!(pause.step, Step::Begin(1, _)));
-    assert!(rt; kill.at == 1 && matches!(kill.step, Step::Begin(2, _)));
-    assert!(rt; first.at == 1 && matches!(first.step, Step::Withdraw(2)));
-    assert!(rt; last.at == 1 && matches!(last.step, Step::Withdraw(1)));
-    Ok(())
-}
+const HEAD: &str =
+    "start = '{:nodes [\"n1\"]}'\nstore = 'lww'\nworkload = 'set'\ngenerator = '[:nil]'\n\
+clients = 1\nops = 1\nmode = 'serial'\nschedule = [";
 
-#[test]
-fn tells_defaults(rt: HostRuntime) -> Result<(), Fail> {
-    let settings = good(rt.alloc(), DEFAULTS)?;
-    assert!(rt; !settings.plan.volatile());
-    assert_eq!(rt; settings.plan.initial(), None);
-    assert_eq!(rt; settings.plan.tick_every(), 0);
-    assert_eq!(rt; settings.plan.rows(), 4_096);
-    assert_eq!(rt; settings.plan.seed(), 0);
-    assert_eq!(rt; settings.budget, 100_000);
-    assert!(rt; settings.plan.schedule().entries().is_empty());
-    Ok(())
-}
-
-// A document with so many entries.
-fn long(alloc: Global, count: u32) -> Option<String> {
-    let mut document = String::new(alloc);
-    document
-        .push_str(
-            "start = '{:nodes [\"n1\"]}'\nstore = 'lww'\nworkload = 'set'\ngenerator = '[:nil]'\n",
-        )
-        .ok()?;
-    document
-        .push_str("clients = 1\nops = 1\nmode = 'serial'\nschedule = [")
-        .ok()?;
+/// A document with so many entries.
+fn long(alloc: Global, count: u32) -> Result<String, AllocError> {
+    let mut document = HEAD.to_string(alloc)?;
     for _entry in 0..count {
-        document.push_str("'[0 [:undo]]', ").ok()?;
+        document.push_str("'[0 [:undo]]', ")?;
     }
-    document.push_str("]").ok()?;
-    Some(document)
+    document.push_str("]")?;
+    Ok(document)
+}
+
+fn long_answer(alloc: Global, count: u32) -> Option<Vec<u8>> {
+    answer_once(alloc, long(alloc, count).ok()?.as_bytes())
 }
 
 #[test]
-fn has_a_longest_schedule(rt: HostRuntime) -> Result<(), Fail> {
-    let alloc = rt.alloc();
-    for (count, expected) in [(1_024, "ok"), (1_025, "schedule: bad value")] {
-        let Some(document) = long(alloc, count).or_else(|| long(alloc, count)) else {
-            panic!(rt; "no memory");
-        };
-        assert_eq!(rt; answer(alloc, document.as_bytes())?.as_str(), expected);
-    }
-    Ok(())
+fn has_a_longest_schedule(rt: HostRuntime) {
+    let most = long_answer(rt.alloc(), 1_024).or_else(|| long_answer(rt.alloc(), 1_024));
+    assert!(rt; most.is_some_and(|it| it.as_slice() == b"ok".as_slice()));
+    let more = long_answer(rt.alloc(), 1_025).or_else(|| long_answer(rt.alloc(), 1_025));
+    assert!(rt; more.is_some_and(|it| it.as_slice() == b"schedule: bad value".as_slice()));
 }
 
 #[test]
-fn wants_utf8(rt: HostRuntime) -> Result<(), Fail> {
-    assert_eq!(rt; answer(rt.alloc(), b"# \xff")?.as_str(), "not TOML");
-    Ok(())
+fn wants_utf8(rt: HostRuntime) {
+    let told = answer_once(rt.alloc(), b"# \xff").or_else(|| answer_once(rt.alloc(), b"# \xff"));
+    assert!(rt; told.is_some_and(|it| it.as_slice() == b"not TOML".as_slice()));
 }

@@ -1,57 +1,202 @@
 //! Faults, ticks and the journal of a world.
+//!
+//! The text of a row is the settings of a world, and acts in it. An act is `:tick`, a step, or a call: the place of a
+//! node, a request, and a draw where it is not 0. What comes of each act stands behind the arrow, with `; ` between. An
+//! act whose memory was refused is taken once more.
 
-use super::fixtures::{first_other_world, value, world};
+use crate::fixtures::{value, values, word, world_of};
+use crate::rows::{Kind, first_wrong};
+use jh_edn::Value;
+use jh_env::Node;
+use jh_nemesis::{StepAnswer, step_of_value};
 use jh_ops::Request;
-use jh_simnode::{MOST_EVENTS, World, WorldError};
+use jh_simnode::{Got, MOST_EVENTS, Reply, World, WorldError};
 use std::alloc::Global;
+use std::io::Write;
 use std::test::Fail;
 
-// A world with acts in it, and behind the arrow what comes of each.
 const ACTS: &str = r#"
 ; the last writer is told by a tick
 {:start {:nodes ["n1" "n2"]}, :store :lww, :initial 0}
 [:begin 1 [:cut [["n1" "n2"] ["n2" "n1"]]]] [0 [:write 1]] [:withdraw 1] [1 :read] :tick [1 :read]
 → Ok; ok; Ok; ok 0; tick; ok 1
-§
-; a majority that is late leaves a write unknown
+§ ; a majority that is late leaves a write unknown
 {:start {:nodes ["n1" "n2" "n3"]}, :store :quorum, :initial 0}
 [:begin 1 [:slow 600 [["n1" "n2"] ["n2" "n1"] ["n1" "n3"] ["n3" "n1"]]]] [0 [:write 5]] [0 :read] [1 :read]
 → Ok; info; fail; ok 5
-§
-; a second is in time
+§ ; a second is in time
 {:start {:nodes ["n1" "n2"]}, :store :quorum, :initial 0}
 [:begin 1 [:slow 500 [["n1" "n2"] ["n2" "n1"]]]] [0 [:write 5]] [:begin 2 [:slow 1 [["n2" "n1"]]]] [0 [:write 6]] [0 :read] [:undo] [1 :read]
 → Ok; ok; Ok; info; fail; Ok; ok 6
-§
-; what is told travels over several nodes in one tick, but not back
+§ ; what is told travels over several nodes in one tick, but not back
 {:start {:nodes ["n1" "n2" "n3"], :cut [["n1" "n3"] ["n3" "n1"]]}, :store :lww, :initial 0}
 [:begin 1 [:pause ["n2" "n3"]]] [0 [:write 1]] [:withdraw 1] :tick [2 :read]
 → Ok; ok; Ok; tick; ok 1
-§
-{:start {:nodes ["n1" "n2" "n3"], :cut [["n1" "n3"] ["n3" "n1"]]}, :store :lww, :initial 0}
+§ {:start {:nodes ["n1" "n2" "n3"], :cut [["n1" "n3"] ["n3" "n1"]]}, :store :lww, :initial 0}
 [:begin 1 [:pause ["n1" "n2"]]] [2 [:write 1]] [:withdraw 1] :tick [0 :read] [1 :read] :tick [0 :read]
 → Ok; ok; Ok; tick; ok 0; ok 1; tick; ok 1
-§
-; refused steps are events too
+§ ; refused steps are events too
 {:start {:nodes ["n1"]}, :store :quorum}
 [:undo] [:redo] [:withdraw-all] [:withdraw 9] [:begin 9 [:cut []]] [:begin 9 [:cut []]] :tick [:undo] [:redo] [0 [:write 3]] [0 :read]
 → NothingToUndo; NothingToRedo; NothingActive; NotActive; Ok; IdTaken; tick; Ok; Ok; ok; ok 3
 "#;
 
 #[test]
-fn worlds_keep_their_faults(rt: HostRuntime) -> Result<(), Fail> {
-    assert_eq!(rt; first_other_world(rt.alloc(), ACTS)?, None);
-    Ok(())
+fn worlds_keep_their_faults(rt: HostRuntime) {
+    assert_eq!(rt; first_wrong(rt.alloc(), Kind::Acts, ACTS), None);
 }
 
-// Ticks so many times, once more where memory was refused. Answers whether each was an event.
+fn request_of(value: &Value) -> Option<Request> {
+    let Some(parts) = value.elements() else {
+        return match word(value) {
+            "read" => Some(Request::Read),
+            _ => Some(Request::Generate),
+        };
+    };
+    match parts {
+        [name, Value::Int(value)] if word(name) == "write" => Some(Request::Write(*value)),
+        [_, Value::Int(amount)] => Some(Request::Add(*amount)),
+        [_, Value::Int(old), Value::Int(new)] => Some(Request::Cas(*old, *new)),
+        _ => None,
+    }
+}
+
+fn put_reply(text: &mut Vec<u8>, reply: &Reply) -> Option<()> {
+    match reply {
+        Reply::Ok(Got::Nothing) => write!(text, "ok").ok(),
+        Reply::Ok(Got::One(None)) => write!(text, "ok nil").ok(),
+        Reply::Ok(Got::One(Some(value))) => write!(text, "ok {value}").ok(),
+        Reply::Ok(Got::Many(numbers)) => write!(text, "ok {:?}", numbers.as_slice()).ok(),
+        Reply::Fail => write!(text, "fail").ok(),
+        Reply::Info => write!(text, "info").ok(),
+    }
+}
+
+type Called = Result<(u64, Reply), WorldError>;
+
+fn called(world: &mut World, node: Node, request: Request, draw: u64) -> Called {
+    match world.call(0, node, request, draw) {
+        Err(WorldError::OutOfMemory) => world.call(0, node, request, draw),
+        called => called,
+    }
+}
+
+/// Writes what comes of a call, and answers the number of its event, where it is one.
+fn call(world: &mut World, text: &mut Vec<u8>, act: &[Value]) -> Option<Option<u64>> {
+    let [Value::Int(place), request, draw @ ..] = act else {
+        return None;
+    };
+    let draw = match draw {
+        [Value::Int(draw)] => u64::try_from(*draw).ok()?,
+        _ => 0,
+    };
+    let node = world
+        .nemesis()
+        .env()
+        .nodes()
+        .at(u8::try_from(*place).ok()?)?;
+    match called(world, node, request_of(request)?, draw) {
+        Ok((number, reply)) => {
+            put_reply(text, &reply)?;
+            Some(Some(number))
+        }
+        Err(error) => refused(text, error),
+    }
+}
+
+fn refused(text: &mut Vec<u8>, error: WorldError) -> Option<Option<u64>> {
+    write!(text, "{error}").ok()?;
+    Some(None)
+}
+
+type Stepped = Result<(u64, StepAnswer), WorldError>;
+
+fn step_once(alloc: Global, world: &mut World, act: &Value) -> Option<Stepped> {
+    let step = step_of_value(alloc, world.nemesis().env().nodes(), act).ok()?;
+    Some(world.step(step))
+}
+
+fn stepped(alloc: Global, world: &mut World, act: &Value) -> Option<Stepped> {
+    match step_once(alloc, world, act) {
+        Some(Err(WorldError::OutOfMemory)) => step_once(alloc, world, act),
+        stepped => stepped,
+    }
+}
+
+fn step(alloc: Global, world: &mut World, text: &mut Vec<u8>, act: &Value) -> Option<Option<u64>> {
+    match stepped(alloc, world, act)? {
+        Ok((number, answer)) => {
+            write!(text, "{answer:?}").ok()?;
+            Some(Some(number))
+        }
+        Err(error) => refused(text, error),
+    }
+}
+
+fn ticked(world: &mut World) -> Result<u64, WorldError> {
+    match world.tick() {
+        Err(WorldError::OutOfMemory) => world.tick(),
+        ticked => ticked,
+    }
+}
+
+fn tick(world: &mut World, text: &mut Vec<u8>) -> Option<Option<u64>> {
+    match ticked(world) {
+        Ok(number) => {
+            write!(text, "tick").ok()?;
+            Some(Some(number))
+        }
+        Err(error) => refused(text, error),
+    }
+}
+
+fn act(alloc: Global, world: &mut World, text: &mut Vec<u8>, act: &Value) -> Option<Option<u64>> {
+    match act.elements() {
+        None => tick(world, text),
+        Some([Value::Int(_), ..]) => call(world, text, act.elements()?),
+        Some(_) => step(alloc, world, text, act),
+    }
+}
+
+/// Whether an event of this number is one more than so many.
+fn is_next(world: &World, before: usize, number: Option<u64>) -> bool {
+    match number {
+        Some(number) => number == before as u64 && world.journal().len() > before,
+        None => world.journal().len() == before,
+    }
+}
+
+/// What comes of the acts. None: memory was refused, or an event has another number than is its turn.
+pub(crate) fn told_once(alloc: Global, text: &str) -> Option<Vec<u8>> {
+    let values = values(alloc, text)?;
+    let (settings, acts) = values.as_slice().split_first()?;
+    let mut world = world_of(alloc, settings)?;
+    let mut told = Vec::new(alloc);
+    for value in acts {
+        if !told.is_empty() {
+            write!(&mut told, "; ").ok()?;
+        }
+        let before = world.journal().len();
+        let number = act(alloc, &mut world, &mut told, value)?;
+        if !is_next(&world, before, number) {
+            return None;
+        }
+    }
+    Some(told)
+}
+
+fn one_node(alloc: Global) -> Option<World> {
+    world_of(alloc, &value(alloc, r#"{:start {:nodes ["n1"]}}"#)?)
+}
+
+fn two_nodes(alloc: Global) -> Option<World> {
+    world_of(alloc, &value(alloc, r#"{:start {:nodes ["n1" "n2"]}}"#)?)
+}
+
+/// Whether a world ticks so many times.
 fn has_ticked(world: &mut World, times: usize) -> bool {
     for _event in 0..times {
-        let told = match world.tick() {
-            Err(WorldError::OutOfMemory) => world.tick(),
-            told => told,
-        };
-        if told.is_err() {
+        if ticked(world).is_err() {
             return false;
         }
     }
@@ -60,28 +205,24 @@ fn has_ticked(world: &mut World, times: usize) -> bool {
 
 #[test]
 fn a_world_holds_so_many_events(rt: HostRuntime) -> Result<(), Fail> {
-    let mut world = one_node(rt.alloc())?;
+    let world = one_node(rt.alloc()).or_else(|| one_node(rt.alloc()));
+    let mut world = world.ok_or("no world")?;
     assert!(rt; has_ticked(&mut world, MOST_EVENTS));
     assert_eq!(rt; world.tick(), Err(WorldError::TooManyEvents));
     assert_eq!(rt; world.journal().len(), 65_536);
     Ok(())
 }
 
-fn one_node(alloc: Global) -> Result<World, Fail> {
-    world(alloc, &value(alloc, r#"{:start {:nodes ["n1"]}}"#)?)
-}
-
-fn two_nodes(alloc: Global) -> Result<World, Fail> {
-    world(alloc, &value(alloc, r#"{:start {:nodes ["n1" "n2"]}}"#)?)
+/// Why one node's world refuses the second node of another, and how many events it has then.
+fn stranger_once(alloc: Global) -> Option<(Option<WorldError>, usize)> {
+    let (mut world, others) = (one_node(alloc)?, two_nodes(alloc)?);
+    let stranger = others.nemesis().env().nodes().at(1)?;
+    let refusal = called(&mut world, stranger, Request::Read, 0).err();
+    Some((refusal, world.journal().len()))
 }
 
 #[test]
-fn a_world_knows_its_nodes_alone(rt: HostRuntime) -> Result<(), Fail> {
-    let mut world = one_node(rt.alloc())?;
-    let others = two_nodes(rt.alloc())?;
-    let stranger = others.nemesis().env().nodes().at(1).ok_or("no node")?;
-    let told = world.call(0, stranger, Request::Read, 0).err();
-    assert_eq!(rt; told, Some(WorldError::UnknownNode));
-    assert!(rt; world.journal().is_empty());
-    Ok(())
+fn a_world_knows_its_nodes_alone(rt: HostRuntime) {
+    let told = stranger_once(rt.alloc()).or_else(|| stranger_once(rt.alloc()));
+    assert_eq!(rt; told, Some((Some(WorldError::UnknownNode), 0)));
 }

@@ -1,0 +1,270 @@
+//! What stores do with requests, ticks and kills. The environment is that of a world's nemesis.
+//!
+//! None is answered where memory was refused, or where a place is none of the environment's.
+
+use crate::held::{first_held, held_after};
+use crate::reach::{heard, link, node_at, process, touched};
+use jh_env::{Env, Life};
+use jh_ops::{Request, Workload};
+use jh_simnode::{Got, Reply, Settings, Store};
+use std::alloc::Global;
+
+/// How new a copy is, by a version or a time and then by a node, and what it holds.
+#[derive(Drop)]
+struct PlainCopy {
+    time: i128,
+    by: usize,
+    held: Vec<i64>,
+}
+
+/// A reply to a request.
+#[derive(Drop)]
+pub enum PlainReply {
+    /// It was done, and got what a copy held, where it asks for something.
+    Ok(Option<Vec<i64>>),
+    /// It was not done.
+    Fail,
+    /// It may have been done.
+    Info,
+}
+
+/// The copies of a database on its nodes, by place.
+#[derive(Drop)]
+pub struct PlainCluster {
+    alloc: Global,
+    settings: Settings,
+    copies: Vec<PlainCopy>,
+}
+
+/// A request at a node, which is the number of its event, with the nodes that it reaches.
+#[derive(Drop)]
+struct Asked {
+    number: i128,
+    at: usize,
+    request: Request,
+    touched: Vec<usize>,
+    heard: Vec<usize>,
+}
+
+impl PlainReply {
+    /// Whether a world's reply is the same.
+    pub fn is_same(&self, reply: &Reply) -> bool {
+        match (reply, self) {
+            (Reply::Fail, PlainReply::Fail) | (Reply::Info, PlainReply::Info) => true,
+            (Reply::Ok(Got::Nothing), PlainReply::Ok(None)) => true,
+            (Reply::Ok(got), PlainReply::Ok(Some(held))) => is_got(got, held),
+            _ => false,
+        }
+    }
+}
+
+/// Whether just this was got.
+fn is_got(got: &Got, held: &[i64]) -> bool {
+    match got {
+        Got::Nothing => false,
+        Got::One(None) => held.is_empty(),
+        Got::One(Some(value)) => held == [*value].as_slice(),
+        Got::Many(numbers) => held == numbers.as_slice(),
+    }
+}
+
+fn first_copy(alloc: Global, settings: &Settings) -> Option<PlainCopy> {
+    Some(PlainCopy {
+        time: i128::MIN,
+        by: 0,
+        held: first_held(alloc, settings.workload, settings.initial).ok()?,
+    })
+}
+
+/// The place of the first of the newest copies.
+fn newest(copies: &[PlainCopy], these: &[usize]) -> Option<usize> {
+    let mut best = *these.first()?;
+    for place in these {
+        if copies.get(*place)?.time > copies.get(best)?.time {
+            best = *place;
+        }
+    }
+    Some(best)
+}
+
+/// What a request gets that is done on what is held.
+fn got(alloc: Global, request: Request, held: &[i64]) -> Option<PlainReply> {
+    match request {
+        Request::Read | Request::Generate => {
+            Some(PlainReply::Ok(Some(held.to_vec(alloc).ok()?)))
+        }
+        _ => Some(PlainReply::Ok(None)),
+    }
+}
+
+impl PlainCluster {
+    /// So many nodes with their first copies.
+    pub fn new(alloc: Global, settings: Settings, count: usize) -> Option<PlainCluster> {
+        let mut copies = Vec::new(alloc);
+        for _place in 0..count {
+            copies.push(first_copy(alloc, &settings)?).ok()?;
+        }
+        Some(PlainCluster {
+            alloc,
+            settings,
+            copies,
+        })
+    }
+
+    fn held(&self, place: usize) -> Option<&[i64]> {
+        Some(self.copies.get(place)?.held.as_slice())
+    }
+
+    fn is_majority(&self, these: &[usize]) -> bool {
+        these.len() > self.copies.len() / 2
+    }
+
+    fn keep(&mut self, place: usize, time: i128, by: usize, held: &[i64]) -> Option<()> {
+        let held = held.to_vec(self.alloc).ok()?;
+        *self.copies.get_mut(place)? = PlainCopy { time, by, held };
+        Some(())
+    }
+
+    fn is_older(&self, place: usize, time: i128, by: usize) -> Option<bool> {
+        let copy = self.copies.get(place)?;
+        Some(copy.time < time || copy.time == time && copy.by < by)
+    }
+
+    fn read_by_quorum(&self, asked: &Asked) -> Option<PlainReply> {
+        if !self.is_majority(asked.heard.as_slice()) {
+            return Some(PlainReply::Fail);
+        }
+        let best = newest(self.copies.as_slice(), asked.heard.as_slice())?;
+        got(self.alloc, asked.request, self.held(best)?)
+    }
+
+    /// What is held after the request on the copy at a place. None within: the request fails.
+    fn after(&self, asked: &Asked, place: usize) -> Option<Option<Vec<i64>>> {
+        let workload = self.settings.workload;
+        held_after(self.alloc, workload, asked.request, self.held(place)?).ok()
+    }
+
+    fn change_by_quorum(&mut self, asked: &Asked) -> Option<PlainReply> {
+        if !self.is_majority(asked.touched.as_slice()) {
+            return Some(PlainReply::Fail);
+        }
+        let best = newest(self.copies.as_slice(), asked.touched.as_slice())?;
+        let Some(held) = self.after(asked, best)? else {
+            return Some(PlainReply::Fail);
+        };
+        let reply = got(self.alloc, asked.request, self.held(best)?)?;
+        let version = self.copies.get(best)?.time.checked_add(1)?;
+        for place in asked.touched.as_slice() {
+            self.keep(*place, version, 0, held.as_slice())?;
+        }
+        if self.is_majority(asked.heard.as_slice()) {
+            Some(reply)
+        } else {
+            Some(PlainReply::Info)
+        }
+    }
+
+    /// A change of a node's own copy, which goes to the nodes that are told of it and have an older one.
+    fn change_own(&mut self, asked: &Asked, time: i128, told: &[usize]) -> Option<PlainReply> {
+        let Some(held) = self.after(asked, asked.at)? else {
+            return Some(PlainReply::Fail);
+        };
+        let reply = got(self.alloc, asked.request, self.held(asked.at)?)?;
+        for place in told {
+            if asked.request != Request::Read && self.is_older(*place, time, asked.at)? {
+                self.keep(*place, time, asked.at, held.as_slice())?;
+            }
+        }
+        Some(reply)
+    }
+
+    fn serve_running(&mut self, asked: &Asked, clock: i64) -> Option<PlainReply> {
+        match (self.settings.store, asked.request) {
+            (Store::Quorum, Request::Read) => self.read_by_quorum(asked),
+            (Store::Quorum, _) => self.change_by_quorum(asked),
+            (Store::Lww, _) => {
+                let time = i128::from(clock).saturating_add(asked.number);
+                self.change_own(asked, time, asked.touched.as_slice())
+            }
+            (Store::Local, _) => self.change_own(asked, asked.number, &[asked.at]),
+        }
+    }
+
+    /// The reply to a request at the node of a place, which is the event of this number. `draw` is that of
+    /// `World::call`.
+    pub fn serve(
+        &mut self,
+        env: &Env,
+        number: usize,
+        at: usize,
+        request: Request,
+        draw: u64,
+    ) -> Option<PlainReply> {
+        if !request.is_of(self.settings.workload) {
+            return Some(PlainReply::Fail);
+        }
+        let cell = env.node(node_at(env, at)?)?;
+        match (cell.process, request) {
+            (Life::Killed, _) | (Life::Paused, Request::Read | Request::Generate) => {
+                return Some(PlainReply::Fail);
+            }
+            (Life::Paused, _) => return Some(PlainReply::Info),
+            (Life::Running, _) => (),
+        }
+        let touched = touched(self.alloc, env, at, draw)?;
+        let asked = Asked {
+            number: number as i128,
+            at,
+            request,
+            heard: heard(self.alloc, env, at, touched.as_slice())?,
+            touched,
+        };
+        self.serve_running(&asked, cell.clock)
+    }
+
+    fn tell(&mut self, env: &Env, from: usize, to: usize) -> Option<()> {
+        let is_running = process(env, from)? == Life::Running && process(env, to)? == Life::Running;
+        if from == to || !is_running || link(env, from, to)?.cut {
+            return Some(());
+        }
+        let copy = self.copies.get(from)?;
+        let (time, by) = (copy.time, copy.by);
+        let held = copy.held.as_slice().to_vec(self.alloc).ok()?;
+        if self.is_older(to, time, by)? {
+            self.keep(to, time, by, held.as_slice())?;
+        }
+        Some(())
+    }
+
+    /// A moment in which the nodes of a last writer's store tell each other what they have.
+    pub fn tick(&mut self, env: &Env) -> Option<()> {
+        let count = self.copies.len();
+        if self.settings.store == Store::Lww {
+            for from in 0..count {
+                for to in 0..count {
+                    self.tell(env, from, to)?;
+                }
+            }
+        }
+        Some(())
+    }
+
+    /// Where copies are volatile, nodes lose them that are killed and weren't `before`, by place.
+    pub fn forget(&mut self, before: &[bool], env: &Env) -> Option<()> {
+        for (place, was_killed) in before.iter().enumerate() {
+            if self.settings.volatile && !*was_killed && process(env, place)? == Life::Killed {
+                *self.copies.get_mut(place)? = first_copy(self.alloc, &self.settings)?;
+            }
+        }
+        Some(())
+    }
+
+    /// Which nodes are killed, by place.
+    pub fn killed(&self, env: &Env) -> Option<Vec<bool>> {
+        let mut all = Vec::new(self.alloc);
+        for place in 0..self.copies.len() {
+            all.push(process(env, place)? == Life::Killed).ok()?;
+        }
+        Some(all)
+    }
+}

@@ -1,0 +1,23 @@
+//! The words of errors.
+
+use jh_simnode::{PlanError, RunError, TooLong, WorldError};
+
+#[test]
+fn errors_have_words(rt: HostRuntime) {
+    let words = format!(in rt.alloc();
+        "{}, {}; {}, {}, {}, {}, {}",
+        PlanError::OutOfMemory,
+        TooLong,
+        RunError::World(WorldError::UnknownNode),
+        RunError::World(WorldError::TooManyEvents),
+        RunError::World(WorldError::OutOfMemory),
+        RunError::Stuck,
+        RunError::OutOfMemory
+    );
+    let expected =
+        "out of memory, too long; unknown node, too many events, out of memory, stuck, out of memory";
+    // A refused growth leaves no words to compare.
+    if let Ok(words) = words {
+        assert_eq!(rt; words.as_str(), expected);
+    }
+}
