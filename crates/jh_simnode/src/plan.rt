@@ -144,7 +144,15 @@ impl Plan {
             workload,
             initial,
         };
-        Plan::judge(&environment, &settings, clients, ops, &generator, &schedule, rows)?;
+        Plan::judge(
+            &environment,
+            &settings,
+            clients,
+            ops,
+            &generator,
+            &schedule,
+            rows,
+        )?;
         let generator = Inner::of(alloc, generator)?;
         Ok(Plan {
             environment,
