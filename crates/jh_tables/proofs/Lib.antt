@@ -1,0 +1,14 @@
+pub mod CountLemmas
+pub mod TurningLemmas
+pub mod LevelLemmas
+pub mod EntryLemmas
+pub mod FixLemmas
+pub mod OverlayLemmas
+pub mod MiddleLemmas
+pub mod TallyLemmas
+pub mod RoomLemmas
+pub mod EntriesLemmas
+pub mod StandingLemmas
+pub mod WholeLemmas
+pub mod RangeLemmas
+pub mod StartLemmas

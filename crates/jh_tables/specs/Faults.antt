@@ -1,0 +1,110 @@
+-- Faults, as contracts see them (Jepsen's pages on nemeses and nets name cuts of links, slow and
+-- lossy links, paused and killed processes and bumped clocks; fixed delays and the amounts are this
+-- project's own).
+use Rattle.std.specs.Prelude.{◌≡◌, ◌≢◌, ℕ, ◌+◌, ◌-◌, ◌^◌, ◌==◌, ◌&&◌, ◌<◌, ◌≤◌, Bool, false, ℤ, pos, negsuc, ◌≤ℤ◌, List, length, take, slice_index_or, Option, Some, None, is_some, if◌then◌else◌}
+use Rattle.std.specs.List.{list_any, All}
+
+-- A link is the pair of its source's place and its destination's. Delays and bumps are in
+-- milliseconds, a level of loss is one twentieth. Each link and node stands once.
+pub data FaultValue : Type 0 where
+  Cut : List (ℕ × ℕ) → FaultValue
+  Slow : ℕ → List (ℕ × ℕ) → FaultValue
+  Loss : ℕ → List (ℕ × ℕ) → FaultValue
+  Fix : ℕ → List (ℕ × ℕ) → FaultValue
+  Pause : List ℕ → FaultValue
+  Kill : List ℕ → FaultValue
+  Bump : List (ℕ × ℤ) → FaultValue
+
+-- the two are one link
+abbrev pub same_link : (ℕ × ℕ) → (ℕ × ℕ) → Bool
+same_link k l = (k.0 == l.0) && (k.1 == l.1)
+
+-- the link from a to b is among these
+abbrev pub names_link : List (ℕ × ℕ) → ℕ → ℕ → Bool
+names_link links a b = list_any (λ l. same_link l (a, b)) links
+
+-- the two are one node
+abbrev pub same_node : ℕ → ℕ → Bool
+same_node a b = a == b
+
+-- the node is among these
+abbrev pub names_node : List ℕ → ℕ → Bool
+names_node nodes a = list_any (λ n. n == a) nodes
+
+-- the two bumps are of one node
+abbrev pub same_bumped : (ℕ × ℤ) → (ℕ × ℤ) → Bool
+same_bumped x y = x.0 == y.0
+
+-- none is the same as one before it
+abbrev pub AreApart : {A : Type 0} → (A → A → Bool) → List A → Type 0
+AreApart {A} same xs =
+    (i : ℕ) (d : A) → i < length xs
+    → list_any (λ x. same x (slice_index_or xs i d)) (take i xs) ≡ false
+
+-- by how much a fault may slow a link: 1 to 60,000 milliseconds
+abbrev pub IsSlowAmount : ℕ → Type 0
+IsSlowAmount ms = (0 < ms) × (ms ≤ 60000)
+
+-- the level of loss that a fault may have: 1 to 20
+abbrev pub IsLossAmount : ℕ → Type 0
+IsLossAmount level = (0 < level) × (level ≤ 20)
+
+-- the delay that a fault may fix: 0 to 60,000 milliseconds
+abbrev pub IsFixAmount : ℕ → Type 0
+IsFixAmount ms = ms ≤ 60000
+
+-- by how much a fault may move a clock: some milliseconds, at most 10^9 either way
+abbrev pub IsBumpAmount : ℤ → Type 0
+IsBumpAmount ms = (ms ≢ pos 0) × (negsuc (10 ^ 9 - 1) ≤ℤ ms) × (ms ≤ℤ pos (10 ^ 9))
+
+-- each bump is in its range, and no node is bumped twice
+abbrev pub AreBumps : List (ℕ × ℤ) → Type 0
+AreBumps bumps = All (λ b. IsBumpAmount b.1) bumps × AreApart same_bumped bumps
+
+-- each link and node stands once, and amounts are in their ranges
+abbrev pub IsFault : FaultValue → Type 0
+IsFault (Cut links) = AreApart same_link links
+IsFault (Slow ms links) = IsSlowAmount ms × AreApart same_link links
+IsFault (Loss level links) = IsLossAmount level × AreApart same_link links
+IsFault (Fix ms links) = IsFixAmount ms × AreApart same_link links
+IsFault (Pause nodes) = AreApart same_node nodes
+IsFault (Kill nodes) = AreApart same_node nodes
+IsFault (Bump bumps) = AreBumps bumps
+
+-- each link is between two of count nodes
+abbrev pub AreKnownLinks : ℕ → List (ℕ × ℕ) → Type 0
+AreKnownLinks count links = All (λ l. (l.0 < count) × (l.1 < count)) links
+
+-- each node that the fault names is one of count nodes
+abbrev pub FitsCount : ℕ → FaultValue → Type 0
+FitsCount count (Cut links) = AreKnownLinks count links
+FitsCount count (Slow ms links) = AreKnownLinks count links
+FitsCount count (Loss level links) = AreKnownLinks count links
+FitsCount count (Fix ms links) = AreKnownLinks count links
+FitsCount count (Pause nodes) = All (λ n. n < count) nodes
+FitsCount count (Kill nodes) = All (λ n. n < count) nodes
+FitsCount count (Bump nodes) = All (λ n. n.0 < count) nodes
+
+-- how many links or nodes the fault names
+abbrev pub named_by : FaultValue → ℕ
+named_by (Cut links) = length links
+named_by (Slow ms links) = length links
+named_by (Loss level links) = length links
+named_by (Fix ms links) = length links
+named_by (Pause nodes) = length nodes
+named_by (Kill nodes) = length nodes
+named_by (Bump bumps) = length bumps
+
+-- a delay and the links for which it is fixed
+abbrev pub FixParts : Type 0
+FixParts = ℕ × List (ℕ × ℕ)
+
+-- the delay that the fault fixes and its links, where it fixes any
+abbrev pub fix_parts : FaultValue → Option FixParts
+fix_parts (Fix ms links) = Some (ms, links)
+fix_parts _ = None
+
+-- the most cells that the fault may take: one for each link or node that it names, and for a fix
+-- one more
+abbrev pub size_of : FaultValue → ℕ
+size_of fault = named_by fault + (if is_some (fix_parts fault) then 1 else 0)

@@ -1,0 +1,8 @@
+pub mod Cells
+pub mod Faults
+pub mod Plain
+pub mod Overlay
+pub mod Tallies
+pub mod Standing
+pub mod TablesInside
+pub mod TurningInside

@@ -1,0 +1,210 @@
+-- What putting a fault or taking it off changes (this project's own).
+use Rattle.std.specs.Prelude.{◌≡◌, ℕ, suc, zero, ◌+◌, ◌-◌, ◌^◌, ◌<◌, ◌≤◌, Bool, true, false, ℤ, ◌+ℤ◌, ◌-ℤ◌, List, length, min, if◌then◌else◌, slice_index_or, slice_set, slice_get, Option, Some, None, ◌==◌, ◌||◌, is_some, ⊤}
+use Rattle.std.specs.List.{All, count_by, list_any}
+use Rattle.jh_tables.specs.Standing.{IsEntryOf, IsWithin, loses}
+use Rattle.std.specs.Int.{bit_at}
+use Rattle.jh_tables.specs.declared.counted.LinkTally.{LinkTally}
+use Rattle.jh_tables.specs.declared.counted.NodeTally.{NodeTally}
+use Rattle.jh_tables.specs.declared.counted.FixEntry.{FixEntry}
+use Rattle.jh_tables.specs.declared.counted.Cell.{Cell}
+use Rattle.jh_tables.specs.declared.faults.LinkFault.{LinkFault}
+use Rattle.jh_tables.specs.declared.faults.NodeFault.{NodeFault}
+use Rattle.jh_tables.specs.declared.tables.Turn.{Turn}
+use Rattle.jh_tables.specs.Faults.{FaultValue, FixParts, names_link, names_node}
+use Rattle.jh_tables.specs.Faults.FaultValue.{Bump}
+use Rattle.jh_tables.specs.Overlay.{cuts, delay_by, loss_by, pauses, kills, bump_by}
+use Rattle.jh_tables.specs.Tallies.{Tallies, link_tally, node_tally}
+
+-- there is something to write over
+abbrev pub IsThere : Tallies → ℕ → Cell → Type 0
+IsThere t place (Cell.Link tally) = place < length t.links
+IsThere t place (Cell.Node tally) = place < length t.nodes
+IsThere t place (Cell.Fix entry) = place < length t.fixes
+
+-- one more, up to 2^64 - 1
+abbrev pub counted_on : ℕ → ℕ
+counted_on work = min (work + 1) (2 ^ 64 - 1)
+
+-- the tallies after one of them is written
+abbrev pub written : Tallies → ℕ → Cell → Tallies
+written t place (Cell.Link tally) =
+    record t { links = slice_set t.links place tally; work = counted_on t.work }
+written t place (Cell.Node tally) =
+    record t { nodes = slice_set t.nodes place tally; work = counted_on t.work }
+written t place (Cell.Fix entry) =
+    record t { fixes = slice_set t.fixes place entry; work = counted_on t.work }
+
+-- a number after a fault is put or taken that counts for so much in it
+abbrev pub turned : Turn → ℕ → ℕ → ℕ
+turned Turn.Put n amount = n + amount
+turned Turn.Take n amount = n - amount
+
+-- the number stays in its range
+abbrev pub CanTurn : Turn → ℕ → ℕ → ℕ → Type 0
+CanTurn Turn.Put most n amount = n + amount ≤ most
+CanTurn Turn.Take most n amount = amount ≤ n
+
+-- the same of an integer
+abbrev pub int_turned : Turn → ℤ → ℤ → ℤ
+int_turned Turn.Put z amount = z +ℤ amount
+int_turned Turn.Take z amount = z -ℤ amount
+
+-- what a fault that does something, or does not, counts for
+abbrev pub one_if : Bool → ℕ
+one_if does = if does then 1 else 0
+
+-- the counts of levels, after that of a level is turned; there is none for level 0
+abbrev pub losses_turned : Turn → List ℕ → ℕ → List ℕ
+losses_turned turn losses zero = losses
+losses_turned turn losses (suc i) = slice_set losses i (turned turn (slice_index_or losses i 0) 1)
+
+-- the tally of the link from a to b, after the fault is put or taken
+abbrev pub link_turned : Turn → FaultValue → ℕ → ℕ → LinkTally → LinkTally
+link_turned turn fault a b t = record t {
+  cuts = turned turn t.cuts (one_if (cuts a b fault));
+  slowed = turned turn t.slowed (delay_by a b fault);
+  losses = losses_turned turn t.losses (loss_by a b fault);
+}
+
+-- the tally of the node, after the fault is put or taken
+abbrev pub node_turned : Turn → FaultValue → ℕ → NodeTally → NodeTally
+node_turned turn fault a t = record t {
+  pauses = turned turn t.pauses (one_if (pauses a fault));
+  kills = turned turn t.kills (one_if (kills a fault));
+  bumped = int_turned turn t.bumped (bump_by a fault);
+}
+
+-- the tally of a link that the fault names
+abbrev pub named_link_turned : Turn → LinkFault → LinkTally → LinkTally
+named_link_turned turn LinkFault.Cut t = record t { cuts = turned turn t.cuts 1 }
+named_link_turned turn (LinkFault.Slow ms) t = record t { slowed = turned turn t.slowed ms }
+named_link_turned turn (LinkFault.Loss level) t =
+    record t { losses = losses_turned turn t.losses level }
+named_link_turned turn (LinkFault.Fix ms) t = t
+
+-- the tally of a node that the fault names
+abbrev pub named_node_turned : Turn → NodeFault → NodeTally → NodeTally
+named_node_turned turn NodeFault.Pause t = record t { pauses = turned turn t.pauses 1 }
+named_node_turned turn NodeFault.Kill t = record t { kills = turned turn t.kills 1 }
+
+-- the tally of a link that the fault names can be turned
+abbrev pub CanTurnLink : Turn → LinkFault → LinkTally → Type 0
+CanTurnLink turn LinkFault.Cut t = CanTurn turn 65535 t.cuts 1
+CanTurnLink turn (LinkFault.Slow ms) t = CanTurn turn (2 ^ 64 - 1) t.slowed ms
+CanTurnLink turn (LinkFault.Loss level) t =
+    (0 < level) × (level ≤ 20) × CanTurn turn 65535 (slice_index_or t.losses (level - 1) 0) 1
+CanTurnLink turn (LinkFault.Fix ms) t = ⊤
+
+-- the tally of a node that the fault names can be turned
+abbrev pub CanTurnNode : Turn → NodeFault → NodeTally → Type 0
+CanTurnNode turn NodeFault.Pause t = CanTurn turn 65535 t.pauses 1
+CanTurnNode turn NodeFault.Kill t = CanTurn turn 65535 t.kills 1
+
+-- each of these links' tallies can be turned
+abbrev pub CanTurnLinks : Turn → LinkFault → List (ℕ × ℕ) → ℕ → List LinkTally → Type 0
+CanTurnLinks turn fault links n tallies =
+    (a b : ℕ) → a < n → b < n → names_link links a b ≡ true
+    → CanTurnLink turn fault (link_tally n tallies a b)
+
+-- each of these nodes' tallies can be turned
+abbrev pub CanTurnNodes : Turn → NodeFault → List ℕ → List NodeTally → Type 0
+CanTurnNodes turn fault nodes tallies =
+    (a : ℕ) → a < length tallies → names_node nodes a ≡ true
+    → CanTurnNode turn fault (node_tally tallies a)
+
+-- in the table of n nodes the tally of each of these links is turned, and every other stays
+abbrev pub AreLinksTurned
+    : Turn → LinkFault → List (ℕ × ℕ) → ℕ → List LinkTally → List LinkTally → Type 0
+AreLinksTurned turn fault links n old new =
+    (a b : ℕ) → a < n → b < n
+    → link_tally n new a b
+    ≡ (if names_link links a b then named_link_turned turn fault (link_tally n old a b)
+    else link_tally n old a b)
+
+-- the tally of each of these nodes is turned, and every other stays
+abbrev pub AreNodesTurned : Turn → NodeFault → List ℕ → List NodeTally → List NodeTally → Type 0
+AreNodesTurned turn fault nodes old new =
+    (a : ℕ) → a < length old
+    → node_tally new a
+    ≡ (if names_node nodes a then named_node_turned turn fault (node_tally old a) else node_tally old a)
+
+-- the clock of each node is turned by what the bumps move it
+abbrev pub AreClocksTurned : Turn → List (ℕ × ℤ) → List NodeTally → List NodeTally → Type 0
+AreClocksTurned turn bumps old new =
+    (a : ℕ) → a < length old
+    → node_tally new a
+    ≡ (let t = node_tally old a in
+    record t { bumped = int_turned turn t.bumped (bump_by a (Bump bumps)) })
+
+-- the fault is put or taken in all tallies; entries of fixes are another matter
+pub record AreTurned (turn : Turn) (fault : FaultValue) (old new : Tallies) : Type 0 where
+  pub many_links : length new.links ≡ length old.links
+  pub many_nodes : length new.nodes ≡ length old.nodes
+  pub links : (a b : ℕ) → a < length old.nodes → b < length old.nodes
+      → link_tally (length old.nodes) new.links a b
+      ≡ link_turned turn fault a b (link_tally (length old.nodes) old.links a b)
+  pub nodes : (a : ℕ) → a < length old.nodes
+      → node_tally new.nodes a ≡ node_turned turn fault a (node_tally old.nodes a)
+
+-- the entry is in use with this stamp
+abbrev pub has_stamp : ℕ → Option FixEntry → Bool
+has_stamp stamp None = false
+has_stamp stamp (Some fix) = fix.stamp == stamp
+
+-- the entry at this place is in use with this stamp
+abbrev pub IsPlaceOfStamp : ℕ → List (Option FixEntry) → ℕ → Type 0
+IsPlaceOfStamp stamp entries place =
+    (fix : FixEntry) × (slice_get entries place ≡ Some (Some fix)) × (fix.stamp ≡ stamp)
+
+-- a free entry holds the fix, and nothing else changes
+abbrev pub IsEntryPut : FixEntry → Tallies → Tallies → Type 0
+IsEntryPut fix old new =
+    (place : ℕ) × (slice_get old.fixes place ≡ Some None)
+    × (new ≡ written old place (Cell.Fix (Some fix)))
+
+-- the entry with the stamp is free, and nothing else changes
+abbrev pub IsEntryTaken : ℕ → Tallies → Tallies → Type 0
+IsEntryTaken stamp old new =
+    (place : ℕ) × (fix : FixEntry) × (slice_get old.fixes place ≡ Some (Some fix))
+    × (fix.stamp ≡ stamp) × (new ≡ written old place (Cell.Fix None))
+
+-- the bits of these links are set too, and every other stays
+abbrev pub AreMarked : List (ℕ × ℕ) → List ℕ → List ℕ → Type 0
+AreMarked links old new =
+    (a b : ℕ) → a < 64 → b < 64
+    → (bit_at (slice_index_or new a 0) b == 1)
+    ≡ ((bit_at (slice_index_or old a 0) b == 1) || names_link links a b)
+
+-- the counts and the sum of a link can be turned
+pub record CanTurnCounts (turn : Turn) (fault : FaultValue) (a b : ℕ) (t : LinkTally) : Type 0 where
+  pub cuts : CanTurn turn 65535 t.cuts (one_if (cuts a b fault))
+  pub slowed : CanTurn turn (2 ^ 64 - 1) t.slowed (delay_by a b fault)
+  pub losses : (i : ℕ) → i < 20
+      → CanTurn turn 65535 (slice_index_or t.losses i 0) (one_if (loses a b (i + 1) fault))
+
+-- all counts and sums can be turned
+pub record CanTurnTallies (turn : Turn) (fault : FaultValue) (t : Tallies) : Type 0 where
+  pub links : (a b : ℕ) → a < length t.nodes → b < length t.nodes
+      → CanTurnCounts turn fault a b (link_tally (length t.nodes) t.links a b)
+  pub pauses : (a : ℕ) → a < length t.nodes
+      → CanTurn turn 65535 (node_tally t.nodes a).pauses (one_if (pauses a fault))
+  pub kills : (a : ℕ) → a < length t.nodes
+      → CanTurn turn 65535 (node_tally t.nodes a).kills (one_if (kills a fault))
+  pub clocks : All (λ n. IsWithin (2 ^ 61) n.bumped) t.nodes
+
+-- there is a free entry for a fix that is put, and one with the stamp where it is taken
+abbrev pub CanTurnEntries : Turn → ℕ → Option FixParts → List (Option FixEntry) → Type 0
+CanTurnEntries turn stamp None entries = ⊤
+CanTurnEntries Turn.Put stamp (Some fix) entries = count_by is_some entries < length entries
+CanTurnEntries Turn.Take stamp (Some fix) entries = list_any (has_stamp stamp) entries ≡ true
+
+-- an entry that was free holds the fix, or the one that held it is free
+abbrev pub AreEntriesTurned
+    : Turn → ℕ → Option FixParts → List (Option FixEntry) → List (Option FixEntry) → Type 0
+AreEntriesTurned turn stamp None old new = new ≡ old
+AreEntriesTurned Turn.Put stamp (Some fix) old new =
+    (place : ℕ) × (entry : FixEntry) × (slice_get old place ≡ Some None)
+    × IsEntryOf 64 stamp fix.0 fix.1 entry × (new ≡ slice_set old place (Some entry))
+AreEntriesTurned Turn.Take stamp (Some fix) old new =
+    (place : ℕ) × (entry : FixEntry) × (slice_get old place ≡ Some (Some entry))
+    × (entry.stamp ≡ stamp) × (new ≡ slice_set old place None)

@@ -1,0 +1,57 @@
+//! What a link and a node are like. `specs/Cells.antt` says where they stand in an environment.
+
+ghost use Rattle.std.specs.Prelude.{◌≡◌};
+ghost use Rattle.jh_tables.specs.Cells.{calm, running};
+
+/// What a node's process does.
+#[derive(Clone, Copy, Debug, PartialEq, Eq)]
+pub enum Life {
+    Running,
+    Paused,
+    Killed,
+}
+
+/// The state of the link from one node to another.
+#[derive(Clone, Copy, Debug, PartialEq, Eq)]
+pub struct Link {
+    /// Whether nothing passes.
+    pub cut: bool,
+    /// Milliseconds by which a message is late.
+    pub delay: u64,
+    /// Level of loss: how many of twenty messages are lost.
+    pub loss: u8,
+}
+
+/// The state of a node.
+#[derive(Clone, Copy, Debug, PartialEq, Eq)]
+pub struct NodeCell {
+    /// What its process does.
+    pub process: Life,
+    /// Milliseconds by which the node's clock is ahead.
+    pub clock: i64,
+}
+
+impl Link {
+    /// A link as it should be.
+    pub fn calm() -> Link
+        ensures { result ≡ calm }
+    {
+        Link {
+            cut: false,
+            delay: 0,
+            loss: 0,
+        }
+    }
+}
+
+impl NodeCell {
+    /// A node as it should be.
+    pub fn running() -> NodeCell
+        ensures { result ≡ running }
+    {
+        NodeCell {
+            process: Life::Running,
+            clock: 0,
+        }
+    }
+}

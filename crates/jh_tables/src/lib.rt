@@ -1,0 +1,14 @@
+//! Counted tables: what a link and a node are like, faults that are put on them and taken off, and how often a cell is
+//! written for it.
+#![tactic(auto)]
+
+mod cells;
+mod counted;
+mod faults;
+mod nodes;
+mod tables;
+
+pub use cells::{Life, Link, NodeCell};
+pub use faults::{LinkFault, NodeFault, PlainFault};
+pub use nodes::Node;
+pub use tables::{MAX_LAID, Tables};
