@@ -7,7 +7,7 @@ use Rattle.std.proofs.lemmas.Nat.{mul-le}
 use Rattle.std.proofs.lemmas.List.Elements.{All-head, All-tail, All-weaker, All-from_get_or}
 use Rattle.std.proofs.lemmas.List.Sums.{sum_by-le}
 use Rattle.jh_tables.specs.declared.counted.NodeTally.{NodeTally}
-use Rattle.jh_tables.specs.declared.tables.Turn.{Turn}
+use Rattle.jh_tables.specs.declared.turning.Turn.{Turn}
 use Rattle.jh_tables.specs.Faults.{FaultValue, IsFault, names_link}
 use Rattle.jh_tables.specs.Faults.FaultValue.{Cut, Slow, Loss, Fix, Pause, Kill, Bump}
 use Rattle.jh_tables.specs.Overlay.{cuts, delay_by, pauses, kills, bump_by}

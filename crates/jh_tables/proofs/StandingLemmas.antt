@@ -8,7 +8,7 @@ use Rattle.std.proofs.lemmas.Option.{slice_get_within, slice_get-get_or, same_So
 use Rattle.std.proofs.lemmas.List.Folds.{list_any_at}
 use Rattle.std.proofs.lemmas.List.Sums.{sum_by-set, count_by-le-length}
 use Rattle.jh_tables.specs.declared.counted.FixEntry.{FixEntry}
-use Rattle.jh_tables.specs.declared.tables.Turn.{Turn}
+use Rattle.jh_tables.specs.declared.turning.Turn.{Turn}
 use Rattle.jh_tables.specs.Faults.{FaultValue, fix_parts}
 use Rattle.jh_tables.specs.Faults.FaultValue.{Cut, Slow, Loss, Fix, Pause, Kill, Bump}
 use Rattle.jh_tables.specs.Tallies.{Tallies}

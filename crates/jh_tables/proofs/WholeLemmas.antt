@@ -9,7 +9,7 @@ use Rattle.std.proofs.lemmas.List.Elements.{All-set}
 use Rattle.jh_tables.specs.declared.counted.FixEntry.{FixEntry}
 use Rattle.jh_tables.specs.declared.counted.LinkTally.{LinkTally}
 use Rattle.jh_tables.specs.declared.counted.NodeTally.{NodeTally}
-use Rattle.jh_tables.specs.declared.tables.Turn.{Turn}
+use Rattle.jh_tables.specs.declared.turning.Turn.{Turn}
 use Rattle.jh_tables.specs.Cells.{calm, running}
 use Rattle.jh_tables.specs.Faults.{FaultValue, IsFault, IsFixAmount, FitsCount, fix_parts}
 use Rattle.jh_tables.specs.Faults.FaultValue.{Cut, Slow, Loss, Fix, Pause, Kill, Bump}

@@ -9,7 +9,7 @@ use Rattle.jh_tables.specs.declared.counted.FixEntry.{FixEntry}
 use Rattle.jh_tables.specs.declared.counted.Cell.{Cell}
 use Rattle.jh_tables.specs.declared.faults.LinkFault.{LinkFault}
 use Rattle.jh_tables.specs.declared.faults.NodeFault.{NodeFault}
-use Rattle.jh_tables.specs.declared.tables.Turn.{Turn}
+use Rattle.jh_tables.specs.declared.turning.Turn.{Turn}
 use Rattle.jh_tables.specs.Faults.{FaultValue, FixParts, names_link, names_node}
 use Rattle.jh_tables.specs.Faults.FaultValue.{Bump}
 use Rattle.jh_tables.specs.Overlay.{cuts, delay_by, loss_by, pauses, kills, bump_by}

@@ -4,9 +4,12 @@
 
 mod cells;
 mod counted;
+mod entries;
 mod faults;
 mod nodes;
+mod reading;
 mod tables;
+mod turning;
 
 pub use cells::{Life, Link, NodeCell};
 pub use faults::{LinkFault, NodeFault, PlainFault};

@@ -1,7 +1,7 @@
 use Rattle.std.proofs.Common.{ℕ, ◌∷◌, ◌++◌, ◌-◌, length, ap, sym, subst, arith, ◌∙◌, length-append}
 use Rattle.std.specs.List.{All}
 use Rattle.std.proofs.lemmas.List.{length-map}
-use Rattle.jh_tables.specs.declared.tables.Turn.TheVariants.{Take}
+use Rattle.jh_tables.specs.declared.turning.Turn.TheVariants.{Take}
 use Rattle.jh_tables.specs.Cells.{Table}
 use Rattle.jh_tables.specs.Faults.{FaultValue, fix_parts}
 use Rattle.jh_tables.specs.Plain.{fault_of}

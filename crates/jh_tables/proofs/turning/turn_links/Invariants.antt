@@ -1,6 +1,6 @@
 use Rattle.std.proofs.Common.{◌≡◌, ◌≤◌, ◌+◌, length, take}
 use Rattle.jh_tables.specs.TurningInside.{AreLinksTurned}
-use Rattle.jh_tables.proofs.tables.turn_links.Given as goal
+use Rattle.jh_tables.proofs.turning.turn_links.Given as goal
 
 abbrev pub invariant-loop-from : goal.invariant-loop-from
 invariant-loop-from l = record {

@@ -1,7 +1,7 @@
 use Rattle.std.proofs.Common.{◌<◌, ◌≤◌, ◌∙◌, length, arith, rules, length-set, w64, FitsSigned}
 use Rattle.std.proofs.lemmas.Int.{to_z-of_z}
 use Rattle.jh_tables.proofs.TurningLemmas.{bumps_more, bump_room}
-use Rattle.jh_tables.proofs.tables.turn_clocks.Goals as goal
+use Rattle.jh_tables.proofs.turning.turn_clocks.Goals as goal
 
 pub clock_turned-tally-requires-clause-room : goal.clock_turned-tally-requires-clause-room
 clock_turned-tally-requires-clause-room c =

@@ -1,6 +1,6 @@
 use Rattle.std.proofs.Common.{◌<◌, ◌∙◌, length, arith, length-set}
 use Rattle.jh_tables.proofs.TurningLemmas.{nodes_more, can_turn_next_node}
-use Rattle.jh_tables.proofs.tables.turn_nodes.Goals as goal
+use Rattle.jh_tables.proofs.turning.turn_nodes.Goals as goal
 
 pub node_turned-tally-requires : goal.node_turned-tally-requires
 node_turned-tally-requires c =

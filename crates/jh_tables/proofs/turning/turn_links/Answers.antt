@@ -1,6 +1,6 @@
 use Rattle.std.proofs.Common.{◌≡◌, ◌<◌, ◌*◌, ◌∙◌, length, arith, length-set}
 use Rattle.jh_tables.proofs.TurningLemmas.{links_more, can_turn_next}
-use Rattle.jh_tables.proofs.tables.turn_links.Goals as goal
+use Rattle.jh_tables.proofs.turning.turn_links.Goals as goal
 
 pub link_turned-tally-requires : goal.link_turned-tally-requires
 link_turned-tally-requires c =

@@ -3,7 +3,7 @@ use Rattle.std.specs.List.{All}
 use Rattle.std.proofs.lemmas.Bool.{false≢true}
 use Rattle.std.proofs.lemmas.List.Folds.{list_any_none}
 use Rattle.jh_tables.specs.TurningInside.{has_stamp}
-use Rattle.jh_tables.proofs.tables.take_fix.Goals as goal
+use Rattle.jh_tables.proofs.entries.take_fix.Goals as goal
 
 pub returns-in_default : goal.returns-in_default
 returns-in_default c =

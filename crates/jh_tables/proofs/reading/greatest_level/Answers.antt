@@ -3,7 +3,7 @@ use Rattle.std.specs.List.{range_with_len}
 use Rattle.std.proofs.lemmas.List.Sums.{fold_push}
 use Rattle.jh_tables.specs.Tallies.{level_held}
 use Rattle.jh_tables.proofs.LevelLemmas.{range_push}
-use Rattle.jh_tables.proofs.tables.greatest_level.Goals as goal
+use Rattle.jh_tables.proofs.reading.greatest_level.Goals as goal
 
 pub loop-place-preserved : goal.loop-place-preserved
 loop-place-preserved c =

@@ -1,6 +1,6 @@
 use Rattle.std.proofs.Common.{◌≡◌, ◌<◌, length, rules}
 use Rattle.jh_tables.proofs.EntryLemmas.{mark_more}
-use Rattle.jh_tables.proofs.tables.mark_links.Goals as goal
+use Rattle.jh_tables.proofs.entries.mark_links.Goals as goal
 
 pub loop-from-preserved : goal.loop-from-preserved
 loop-from-preserved c =

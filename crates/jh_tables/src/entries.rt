@@ -1,0 +1,158 @@
+//! Entries of fixes: their bits, the latest one of a link, one that is put or taken. `specs/TurningInside.antt` says what
+//! each call changes, `specs/Tallies.antt` what the entries tell.
+
+ghost use Rattle.std.specs.Prelude.{◌≡◌, ◌<◌, ◌≤◌, ◌+◌, length, is_some, true, false, slice_get, Some, None, MatchOption};
+ghost use Rattle.std.specs.List.{All, count_by, list_any};
+ghost use Rattle.jh_tables.specs.Tallies.{is_after, is_fixed_in, later_fix, latest_fix};
+ghost use Rattle.jh_tables.specs.Faults.{AreKnownLinks, FitsCount, fix_parts};
+ghost use Rattle.jh_tables.specs.Plain.{fault_of};
+ghost use Rattle.jh_tables.specs.Standing.{IsEntryOf, is_fix};
+ghost use Rattle.jh_tables.specs.TurningInside.{AreEntriesTurned, AreMarked, CanTurnEntries, IsEntryPut, IsEntryTaken, IsPlaceOfStamp, has_stamp, one_if};
+
+use crate::counted::{Cell, Counted, FixEntry, MAX_NODES};
+use crate::faults::{LinkFault, PlainFault};
+use crate::nodes::Node;
+use crate::turning::Turn;
+
+// Whether the entry fixes the delay of a link.
+fn is_fixed_in(fix: &FixEntry, from: Node, to: Node) -> bool
+    requires { (from < 64) × (to < 64) }
+    ensures { result ≡ is_fixed_in fix.now from to }
+{
+    fix.links[from.place() as usize] >> to.place() & 1 == 1
+}
+
+// Whether the stamp is above that of the latest fix so far.
+fn is_after(stamp: u32, latest: Option<(u32, u64)>) -> bool
+    ensures { result ≡ is_after stamp latest }
+{
+    match latest {
+        None => true,
+        Some((other, _)) => other < stamp,
+    }
+}
+
+// The latest fix of a link so far, after one more entry.
+fn later_fix(
+    from: Node,
+    to: Node,
+    latest: Option<(u32, u64)>,
+    entry: &Option<FixEntry>,
+) -> Option<(u32, u64)>
+    requires { (from < 64) × (to < 64) }
+    ensures { result ≡ later_fix from to latest entry.now }
+{
+    match entry {
+        Some(fix) if is_fixed_in(fix, from, to) && is_after(fix.stamp, latest) => Some((
+            fix.stamp, fix.ms,
+        )),
+        _ => latest,
+    }
+}
+
+// The stamp and the delay of the latest fix of a link.
+pub(crate) fn latest_fix(entries: &[Option<FixEntry>], from: Node, to: Node) -> Option<(u32, u64)>
+    requires { (from < 64) × (to < 64) }
+    ensures { result ≡ latest_fix from to entries.now }
+{
+    let mut latest = None;
+    for entry in entries {
+        latest = later_fix(from, to, latest, entry);
+    }
+    latest
+}
+
+// Sets the bits of these links: in the word of its source the bit of its destination.
+fn mark_links(words: &mut [u64; MAX_NODES], links: &[(Node, Node)])
+    requires { AreKnownLinks 64 links.now }
+    ensures { AreMarked links.now words.old words.new }
+{
+    for (from, to) in links {
+        let source = from.place() as usize;
+        words[source] |= 1 << to.place();
+    }
+}
+
+// The entry of a fix.
+fn entry_of(stamp: u32, ms: u64, links: &[(Node, Node)]) -> FixEntry
+    requires { AreKnownLinks 64 links.now }
+    ensures { IsEntryOf 64 stamp ms links.now result }
+{
+    let mut words = [0; MAX_NODES];
+    mark_links(&mut words, links);
+    FixEntry {
+        stamp,
+        ms,
+        links: words,
+    }
+}
+
+// Whether the entry is in use with this stamp.
+fn is_of_stamp(entry: &Option<FixEntry>, stamp: u32) -> bool
+    ensures { result ≡ has_stamp stamp entry.now }
+{
+    match entry {
+        Some(fix) => fix.stamp == stamp,
+        None => false,
+    }
+}
+
+// The first entry that is free.
+fn free_place(entries: &[Option<FixEntry>]) -> Option<usize>
+    ensures { MatchOption result (All (λ e. is_some e ≡ true) entries.now) (λ place. slice_get entries.now place ≡ Some None) }
+{
+    entries.iter().position(|entry| entry.is_none())
+}
+
+// The entry with this stamp.
+fn place_of_stamp(entries: &[Option<FixEntry>], stamp: u32) -> Option<usize>
+    ensures { MatchOption result (All (λ e. has_stamp stamp e ≡ false) entries.now) (IsPlaceOfStamp stamp entries.now) }
+{
+    entries.iter().position(|entry| is_of_stamp(entry, stamp))
+}
+
+// Puts a fix in an entry that is free.
+fn put_fix(counted: &mut Counted, fix: FixEntry)
+    requires { count_by is_some counted.old.fixes < length counted.old.fixes }
+    ensures { IsEntryPut fix counted.old counted.new }
+{
+    if let Some(place) = free_place(counted.fixes()) {
+        counted.write(place, Cell::Fix(Some(fix)));
+    }
+}
+
+// Frees the entry with this stamp.
+fn take_fix(counted: &mut Counted, stamp: u32)
+    requires { list_any (has_stamp stamp) counted.old.fixes ≡ true }
+    ensures { IsEntryTaken stamp counted.old counted.new }
+{
+    if let Some(place) = place_of_stamp(counted.fixes(), stamp) {
+        counted.write(place, Cell::Fix(None));
+    }
+}
+
+// The delay that a fault fixes and its links, where it fixes any.
+fn fix_of(fault: &PlainFault) -> Option<(u64, &[(Node, Node)])>
+    ensures { MatchOption result (fix_parts (fault_of fault.now) ≡ None) (λ fix. fix_parts (fault_of fault.now) ≡ Some (fix.0, fix.1.now)) }
+{
+    match fault {
+        PlainFault::OnLinks(LinkFault::Fix(ms), links) => Some((*ms, links)),
+        _ => None,
+    }
+}
+
+// Turns the entries of fixes.
+pub(crate) fn turn_entries(counted: &mut Counted, turn: Turn, fault: &PlainFault, stamp: u32)
+    requires fits { FitsCount 64 (fault_of fault.now) }
+    requires room { CanTurnEntries turn stamp (fix_parts (fault_of fault.now)) counted.old.fixes }
+    ensures turned { AreEntriesTurned turn stamp (fix_parts (fault_of fault.now)) counted.old.fixes counted.new.fixes }
+    ensures rest { (counted.new.links ≡ counted.old.links) × (counted.new.nodes ≡ counted.old.nodes) }
+    ensures work { counted.new.work ≤ counted.old.work + one_if (is_fix (fault_of fault.now)) }
+{
+    if let Some((ms, links)) = fix_of(fault) {
+        match turn {
+            Turn::Put => put_fix(counted, entry_of(stamp, ms, links)),
+            Turn::Take => take_fix(counted, stamp),
+        }
+    }
+}
