@@ -1,5 +1,7 @@
 -- Why values are refused, from why the first of them is.
-use Rattle.std.proofs.Common.{◌≡◌, ◌<◌, List, [], ◌∷◌, length, get_or, refl, arith}
+use Rattle.std.proofs.Common.{◌≡◌, ◌<◌, ◌≤◌, List, [], ◌∷◌, length, get_or, take, drop, refl, arith}
+use Rattle.std.specs.Prelude.{◌-◌}
+use Rattle.std.proofs.lemmas.List.{take_all}
 use Rattle.jh_edn.specs.Edn.{Edn}
 use Rattle.jh_edn.specs.View.{view, views}
 use Rattle.jh_edn.specs.declared.value.Value.{Value}
@@ -25,6 +27,14 @@ refuses_environment first others EnvTextError.SelfLink refused = (refl, (first, 
 refuses_environment first others EnvTextError.BadAmount refused = (refl, (first, others, refl, refused))
 refuses_environment first others EnvTextError.RepeatedEntry refused = (refl, (first, others, refl, refused))
 refuses_environment first others EnvTextError.OutOfMemory refused = tt
+
+-- the first value, and the others
+pub parts_of : (values : List Value) (first : Value) → 1 ≤ length values → first ≡ get_or values 0 first
+    → views values ≡ view first ∷ views (take (length values - 1) (drop 1 values))
+parts_of [] first some is = absurd (omega arith)
+parts_of (v ∷ vs) first some is =
+    let all : take (length (v ∷ vs) - 1) vs ≡ vs = take_all (length (v ∷ vs) - 1) vs (omega arith) in
+    rw (all, is) refl
 
 -- values of which the first is no environment
 pub first_refused : (values : List Value) (first : Value) (fault : EnvTextError.the_data) (e : CliError) → 0 < length values → first ≡ get_or values 0 first

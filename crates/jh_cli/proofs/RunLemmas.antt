@@ -1,5 +1,5 @@
 -- Why a run is refused or not completed, from why a part of it is.
-use Rattle.std.proofs.Common.{◌≡◌, ℕ, List, [], ◌∷◌, All, length, arith, refl}
+use Rattle.std.proofs.Common.{ℕ, List, [], ◌∷◌, All, arith, refl}
 use Rattle.std.proofs.lemmas.List.Elements.{All-cons, All-head, All-tail}
 use Rattle.jh_ops.specs.Operation.{Operation, operation, operations}
 use Rattle.jh_ops.specs.OperationWritten.{IsWritable}

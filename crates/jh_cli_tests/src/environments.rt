@@ -52,6 +52,63 @@ fn writes_reports(rt: HostRuntime) {
 {:nodes ["n1" "n2" "n3"] :slow [["n1" "n2" 0]] :cut [["n3" "n1"] ["n1" "n3"] ["n1" "n2"]]} → 0
 :active []
 {:nodes ["n1" "n2" "n3"], :cut [["n1" "n2"] ["n1" "n3"] ["n3" "n1"]], :slow [], :loss [], :down [], :clock []}
+§ ; the last fix counts, and slow links add to it
+{:nodes ["n1" "n2"], :slow [["n1" "n2" 100]]} [:begin 1 [:fix 300 [["n1" "n2"]]]] [:begin 2 [:slow 50 [["n1" "n2"]]]] [:begin 3 [:fix 20 [["n1" "n2"]]]] → 0
+:ok
+:ok
+:ok
+:active [1 2 3]
+{:nodes ["n1" "n2"], :cut [], :slow [["n1" "n2" 70]], :loss [], :down [], :clock []}
+§ ; an earlier fix withdrawn
+{:nodes ["n1" "n2"], :slow [["n1" "n2" 100]]} [:begin 1 [:fix 300 [["n1" "n2"]]]] [:begin 2 [:slow 50 [["n1" "n2"]]]] [:begin 3 [:fix 20 [["n1" "n2"]]]] [:withdraw 1] → 0
+:ok
+:ok
+:ok
+:ok
+:active [2 3]
+{:nodes ["n1" "n2"], :cut [], :slow [["n1" "n2" 70]], :loss [], :down [], :clock []}
+§ ; no fix left
+{:nodes ["n1" "n2"], :slow [["n1" "n2" 100]]} [:begin 1 [:fix 300 [["n1" "n2"]]]] [:begin 2 [:slow 50 [["n1" "n2"]]]] [:begin 3 [:fix 20 [["n1" "n2"]]]] [:withdraw 1] [:withdraw 3] → 0
+:ok
+:ok
+:ok
+:ok
+:ok
+:active [2]
+{:nodes ["n1" "n2"], :cut [], :slow [["n1" "n2" 150]], :loss [], :down [], :clock []}
+§ ; undone withdrawals of fixes put each back at its place
+{:nodes ["n1" "n2"], :slow [["n1" "n2" 100]]} [:begin 1 [:fix 300 [["n1" "n2"]]]] [:begin 2 [:slow 50 [["n1" "n2"]]]] [:begin 3 [:fix 20 [["n1" "n2"]]]] [:withdraw 1] [:withdraw 3] [:undo] [:undo] → 0
+:ok
+:ok
+:ok
+:ok
+:ok
+:ok
+:ok
+:active [1 2 3]
+{:nodes ["n1" "n2"], :cut [], :slow [["n1" "n2" 70]], :loss [], :down [], :clock []}
+§ ; the fix before the last one counts again
+{:nodes ["n1" "n2"], :slow [["n1" "n2" 100]]} [:begin 1 [:fix 300 [["n1" "n2"]]]] [:begin 2 [:slow 50 [["n1" "n2"]]]] [:begin 3 [:fix 20 [["n1" "n2"]]]] [:withdraw 1] [:withdraw 3] [:undo] [:undo] [:withdraw 3] → 0
+:ok
+:ok
+:ok
+:ok
+:ok
+:ok
+:ok
+:ok
+:active [1 2]
+{:nodes ["n1" "n2"], :cut [], :slow [["n1" "n2" 350]], :loss [], :down [], :clock []}
+§ ; a fix of no delay
+{:nodes ["n1" "n2"], :slow [["n1" "n2" 100]]} [:begin 1 [:fix 0 [["n1" "n2"]]]] → 0
+:ok
+:active [1]
+{:nodes ["n1" "n2"], :cut [], :slow [], :loss [], :down [], :clock []}
+§ ; 64 nodes
+{:nodes ["1" "2" "3" "4" "5" "6" "7" "8" "9" "10" "11" "12" "13" "14" "15" "16" "17" "18" "19" "20" "21" "22" "23" "24" "25" "26" "27" "28" "29" "30" "31" "32" "33" "34" "35" "36" "37" "38" "39" "40" "41" "42" "43" "44" "45" "46" "47" "48" "49" "50" "51" "52" "53" "54" "55" "56" "57" "58" "59" "60" "61" "62" "63" "64"]} [:begin 1 [:cut [["64" "1"]]]] → 0
+:ok
+:active [1]
+{:nodes ["1" "2" "3" "4" "5" "6" "7" "8" "9" "10" "11" "12" "13" "14" "15" "16" "17" "18" "19" "20" "21" "22" "23" "24" "25" "26" "27" "28" "29" "30" "31" "32" "33" "34" "35" "36" "37" "38" "39" "40" "41" "42" "43" "44" "45" "46" "47" "48" "49" "50" "51" "52" "53" "54" "55" "56" "57" "58" "59" "60" "61" "62" "63" "64"], :cut [["64" "1"]], :slow [], :loss [], :down [], :clock []}
 § ; withdraw-all keeps the starting cut
 {:nodes ["n1" "n2"], :cut [["n2" "n1"]]} [:begin 1 [:cut [["n2" "n1"]]]] [:withdraw-all] → 0
 :ok
@@ -250,7 +307,7 @@ fn refuses_inputs(rt: HostRuntime) {
 § {:nodes [:n1]} → 3 environment: bad entry
 § {:nodes [] :cut [["n1"]]} → 3 environment: bad entry
 § {:nodes []} → 3 environment: no nodes
-§ {:nodes ["1" "2" "3" "4" "5" "6" "7" "8" "9" "10" "11" "12" "13" "14" "15" "16" "17" "18" "19" "20" "21" "22" "23" "24" "25" "26" "27" "28" "29" "30" "31" "32" "33"]} → 3 environment: too many nodes
+§ {:nodes ["1" "2" "3" "4" "5" "6" "7" "8" "9" "10" "11" "12" "13" "14" "15" "16" "17" "18" "19" "20" "21" "22" "23" "24" "25" "26" "27" "28" "29" "30" "31" "32" "33" "34" "35" "36" "37" "38" "39" "40" "41" "42" "43" "44" "45" "46" "47" "48" "49" "50" "51" "52" "53" "54" "55" "56" "57" "58" "59" "60" "61" "62" "63" "64" "65"]} → 3 environment: too many nodes
 § {:nodes ["n 1"]} → 3 environment: bad name
 § {:nodes ["n1" "n1"]} → 3 environment: duplicate name
 § {:nodes ["n1"] :down [["n2" :paused]]} → 3 environment: unknown node
@@ -272,6 +329,11 @@ fn refuses_inputs(rt: HostRuntime) {
 § {:nodes ["n1" "n2"]} [:undo] [:begin 1 [:slow 0 [["n1" "n2"]]]] → 3 element 3: bad amount
 § {:nodes ["n1" "n2"]} [:undo] [:begin 1 [:slow 60001 []]] → 3 element 3: bad amount
 § {:nodes ["n1" "n2"]} [:undo] [:begin 1 [:slow -1 []]] → 3 element 3: bad amount
+§ {:nodes ["n1" "n2"]} [:begin 1 [:fix 60001 [["n1" "n2"]]]] → 3 element 2: bad amount
+§ {:nodes ["n1" "n2"]} [:begin 1 [:fix -1 []]] → 3 element 2: bad amount
+§ {:nodes ["n1" "n2"]} [:begin 1 [:fix 1 [["n1" "n1"]]]] → 3 element 2: self link
+§ {:nodes ["n1" "n2"]} [:begin 1 [:fix 1 [["n1" "n3"]]]] → 3 element 2: unknown node
+§ {:nodes ["n1" "n2"]} [:begin 1 [:fix [["n1" "n2"]]]] → 3 element 2: bad step
 § {:nodes ["n1" "n2"]} [:undo] [:begin 1 [:slow 1 [["n1" "n3"]]]] → 3 element 3: unknown node
 § {:nodes ["n1" "n2"]} [:undo] [:begin 1 [:slow 0 [["n2" "n2"]]]] → 3 element 3: self link
 § {:nodes ["n1" "n2"]} [:undo] [:begin 1 [:slow [["n1" "n2"]]]] → 3 element 3: bad step

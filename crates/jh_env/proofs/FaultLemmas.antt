@@ -6,10 +6,11 @@ use Rattle.std.proofs.lemmas.List.{get_or_append_left, get_or_default, take-appe
 use Rattle.std.proofs.lemmas.List.Elements.{All-nil, All-cons, All-push, All-head, All-tail}
 use Rattle.std.proofs.Math.Seq.{get_or-append_seam, take-append_seam}
 use Rattle.std.proofs.lemmas.List.Folds.{list_any_none}
-use Rattle.jh_env.specs.declared.faults.LinkEffect.{LinkEffect}
-use Rattle.jh_env.specs.declared.faults.Down.{Down}
-use Rattle.jh_env.specs.Effects.{on_links, on_nodes}
-use Rattle.jh_env.specs.Faults.{kept_by, kept_links, kept_nodes, AreApart, same_link, same_node, same_bumped, FitsCount, is_unknown_link, is_unknown_node, is_unknown_bump}
+use Rattle.jh_tables.specs.declared.faults.LinkFault.{LinkFault}
+use Rattle.jh_tables.specs.declared.faults.NodeFault.{NodeFault}
+use Rattle.jh_tables.specs.Plain.{on_links, on_nodes}
+use Rattle.jh_env.specs.Effects.{IsLinkAmount}
+use Rattle.jh_env.specs.Faults.{kept_by, kept_links, kept_nodes, AreApart, same_link, same_node, same_bumped, FitsCount, is_unknown_link, is_unknown_node, is_unknown_bump, IsFault}
 
 none_of : (x y : Bool) → (x || y) ≡ false → (x ≡ false) × (y ≡ false)
 none_of true y e = cc
@@ -93,14 +94,33 @@ pub known_bumps : (count : ℕ) (bumps : List (ℕ × ℤ)) → All (λ b. b.0 <
 known_bumps count bumps known = list_any_none (is_unknown_bump count) bumps (λ k d h. lt-leb count (get_or bumps k d).0 (known k d h))
 
 -- a fault on links fits where they are known
-pub fits_links : (count : ℕ) (effect : LinkEffect) (links : List (ℕ × ℕ)) → FitsCount count (on_links effect links) ≡ All (λ l. (l.0 < count) × (l.1 < count)) links
-fits_links count LinkEffect.Cut links = refl
-fits_links count (LinkEffect.Slow ms) links = refl
-fits_links count (LinkEffect.Loss level) links = refl
+pub fits_links : (count : ℕ) (kind : LinkFault) (links : List (ℕ × ℕ)) → FitsCount count (on_links kind links) ≡ All (λ l. (l.0 < count) × (l.1 < count)) links
+fits_links count LinkFault.Cut links = refl
+fits_links count (LinkFault.Slow ms) links = refl
+fits_links count (LinkFault.Loss level) links = refl
+fits_links count (LinkFault.Fix ms) links = refl
 
-pub fits_nodes : (count : ℕ) (down : Down) (nodes : List ℕ) → FitsCount count (on_nodes down nodes) ≡ All (λ n. n < count) nodes
-fits_nodes count Down.Pause nodes = refl
-fits_nodes count Down.Kill nodes = refl
+pub fits_nodes : (count : ℕ) (kind : NodeFault) (nodes : List ℕ) → FitsCount count (on_nodes kind nodes) ≡ All (λ n. n < count) nodes
+fits_nodes count NodeFault.Pause nodes = refl
+fits_nodes count NodeFault.Kill nodes = refl
+
+-- a fault is right where its amount is and its links or nodes stand once
+pub right_links : (kind : LinkFault) (links : List (ℕ × ℕ)) → IsLinkAmount kind → AreApart same_link links → IsFault (on_links kind links)
+right_links LinkFault.Cut links amount apart = apart
+right_links (LinkFault.Slow ms) links amount apart = (amount, apart)
+right_links (LinkFault.Loss level) links amount apart = (amount, apart)
+right_links (LinkFault.Fix ms) links amount apart = (amount, apart)
+
+pub right_nodes : (kind : NodeFault) (nodes : List ℕ) → AreApart same_node nodes → IsFault (on_nodes kind nodes)
+right_nodes NodeFault.Pause nodes apart = apart
+right_nodes NodeFault.Kill nodes apart = apart
+
+-- the amount of a right fault is in its range
+pub right_amount : (kind : LinkFault) (links : List (ℕ × ℕ)) → IsFault (on_links kind links) → IsLinkAmount kind
+right_amount LinkFault.Cut links right = tt
+right_amount (LinkFault.Slow ms) links right = right.0
+right_amount (LinkFault.Loss level) links right = right.0
+right_amount (LinkFault.Fix ms) links right = right.0
 
 -- a test that tells whether a fact holds
 pub tells : (test : Bool) (fact : Type 0) → (test ≡ false → fact) → (fact → test ≡ false) → IsTrue (not test) ↔ fact

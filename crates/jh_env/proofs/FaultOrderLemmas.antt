@@ -6,15 +6,15 @@ use Rattle.std.specs.List.Sorted.{IsPermutation}
 use Rattle.std.proofs.lemmas.Int.{ints}
 use Rattle.std.proofs.lemmas.List.Sorted.{IsPermutation-refl, IsPermutation-cons, IsPermutation-middle, IsPermutation-trans, list_any-IsPermutation, All-permutation}
 use Rattle.jh_edn.specs.Order.{put_in_order, in_order}
-use Rattle.jh_env.specs.declared.cells.Life.TheVariants.{Running, Paused, Killed}
-use Rattle.jh_env.specs.declared.cells.Link.{Link}
-use Rattle.jh_env.specs.declared.cells.NodeCell.{NodeCell}
+use Rattle.jh_tables.specs.declared.cells.Life.TheVariants.{Running, Paused, Killed}
+use Rattle.jh_tables.specs.declared.cells.Link.{Link}
+use Rattle.jh_tables.specs.declared.cells.NodeCell.{NodeCell}
 use Rattle.jh_env.specs.Cells.{link_at, node_at}
 use Rattle.jh_env.specs.Faults.{FaultValue, FitsCount, names_link, same_link}
-use Rattle.jh_env.specs.Faults.FaultValue.{Cut, Slow, Loss, Pause, Kill, Bump}
+use Rattle.jh_tables.specs.Faults.FaultValue.{Cut, Slow, Loss, Fix, Pause, Kill, Bump}
 use Rattle.jh_env.specs.FaultLaws.{DoesAs}
 use Rattle.jh_env.specs.FaultWritten.{fault_in_order, is_link_before, is_node_before, is_bump_before}
-use Rattle.jh_env.specs.Overlay.{link_over, node_over, cuts, delay_by, loss_by, pauses, kills, bump_by, is_paused, is_killed}
+use Rattle.jh_env.specs.Overlay.{link_over, node_over, cuts, fixed_by, delay_by, loss_by, pauses, kills, bump_by, is_paused, is_killed}
 
 -- ---- what stands in order
 
@@ -62,14 +62,25 @@ cuts_same : (a b : ℕ) (fault : FaultValue) → cuts a b (fault_in_order fault)
 cuts_same a b (Cut links) = named links a b
 cuts_same a b (Slow ms links) = refl
 cuts_same a b (Loss level links) = refl
+cuts_same a b (Fix ms links) = refl
 cuts_same a b (Pause nodes) = refl
 cuts_same a b (Kill nodes) = refl
 cuts_same a b (Bump bumps) = refl
+
+fixed_same : (a b delay : ℕ) (fault : FaultValue) → fixed_by a b delay (fault_in_order fault) ≡ fixed_by a b delay fault
+fixed_same a b delay (Cut links) = refl
+fixed_same a b delay (Slow ms links) = refl
+fixed_same a b delay (Loss level links) = refl
+fixed_same a b delay (Fix ms links) = ap (λ t. if t then ms else delay) (named links a b)
+fixed_same a b delay (Pause nodes) = refl
+fixed_same a b delay (Kill nodes) = refl
+fixed_same a b delay (Bump bumps) = refl
 
 delay_same : (a b : ℕ) (fault : FaultValue) → delay_by a b (fault_in_order fault) ≡ delay_by a b fault
 delay_same a b (Cut links) = refl
 delay_same a b (Slow ms links) = ap (λ t. if t then ms else 0) (named links a b)
 delay_same a b (Loss level links) = refl
+delay_same a b (Fix ms links) = refl
 delay_same a b (Pause nodes) = refl
 delay_same a b (Kill nodes) = refl
 delay_same a b (Bump bumps) = refl
@@ -78,6 +89,7 @@ loss_same : (a b : ℕ) (fault : FaultValue) → loss_by a b (fault_in_order fau
 loss_same a b (Cut links) = refl
 loss_same a b (Slow ms links) = refl
 loss_same a b (Loss level links) = ap (λ t. if t then level else 0) (named links a b)
+loss_same a b (Fix ms links) = refl
 loss_same a b (Pause nodes) = refl
 loss_same a b (Kill nodes) = refl
 loss_same a b (Bump bumps) = refl
@@ -86,6 +98,7 @@ pauses_same : (a : ℕ) (fault : FaultValue) → pauses a (fault_in_order fault)
 pauses_same a (Cut links) = refl
 pauses_same a (Slow ms links) = refl
 pauses_same a (Loss level links) = refl
+pauses_same a (Fix ms links) = refl
 pauses_same a (Pause nodes) = any_in_order is_node_before (λ n. n == a) nodes
 pauses_same a (Kill nodes) = refl
 pauses_same a (Bump bumps) = refl
@@ -94,6 +107,7 @@ kills_same : (a : ℕ) (fault : FaultValue) → kills a (fault_in_order fault) �
 kills_same a (Cut links) = refl
 kills_same a (Slow ms links) = refl
 kills_same a (Loss level links) = refl
+kills_same a (Fix ms links) = refl
 kills_same a (Pause nodes) = refl
 kills_same a (Kill nodes) = any_in_order is_node_before (λ n. n == a) nodes
 kills_same a (Bump bumps) = refl
@@ -105,6 +119,7 @@ bump_same : (a : ℕ) (fault : FaultValue) → bump_by a (fault_in_order fault) 
 bump_same a (Cut links) = refl
 bump_same a (Slow ms links) = refl
 bump_same a (Loss level links) = refl
+bump_same a (Fix ms links) = refl
 bump_same a (Pause nodes) = refl
 bump_same a (Kill nodes) = refl
 bump_same a (Bump bumps) =
@@ -127,9 +142,10 @@ link_among : (fault : FaultValue) (before after : List FaultValue) (a b : ℕ) (
 link_among fault before after a b l =
     let other = fault_in_order fault in
     let cut = any_among (cuts a b) fault other (sym (cuts_same a b fault)) before after in
+    let fixed = fold_among (fixed_by a b) fault other (λ n. sym (fixed_same a b n fault)) l.delay before after in
     let delay = fold_among (λ n f. n + delay_by a b f) fault other (λ n. ap (λ m. n + m) (sym (delay_same a b fault))) 0 before after in
     let loss = fold_among (λ m f. max m (loss_by a b f)) fault other (λ m. ap (max m) (sym (loss_same a b fault))) l.loss before after in
-    λ i. record { cut = l.cut || cut i; delay = l.delay + delay i; loss = loss i }
+    λ i. record { cut = l.cut || cut i; delay = fixed i + delay i; loss = loss i }
 
 node_among : (fault : FaultValue) (before after : List FaultValue) (a : ℕ) (n : NodeCell)
     → node_over (before ++ fault ∷ after) a n ≡ node_over (before ++ fault_in_order fault ∷ after) a n
@@ -155,6 +171,7 @@ pub in_order_fits : (count : ℕ) (fault : FaultValue) → FitsCount count fault
 in_order_fits count (Cut links) fits = All-permutation (λ (l : ℕ × ℕ). (l.0 < count) × (l.1 < count)) links _ (in_order_moves is_link_before links) fits
 in_order_fits count (Slow ms links) fits = All-permutation (λ (l : ℕ × ℕ). (l.0 < count) × (l.1 < count)) links _ (in_order_moves is_link_before links) fits
 in_order_fits count (Loss level links) fits = All-permutation (λ (l : ℕ × ℕ). (l.0 < count) × (l.1 < count)) links _ (in_order_moves is_link_before links) fits
+in_order_fits count (Fix ms links) fits = All-permutation (λ (l : ℕ × ℕ). (l.0 < count) × (l.1 < count)) links _ (in_order_moves is_link_before links) fits
 in_order_fits count (Pause nodes) fits = All-permutation (λ (n : ℕ). n < count) nodes _ (in_order_moves is_node_before nodes) fits
 in_order_fits count (Kill nodes) fits = All-permutation (λ (n : ℕ). n < count) nodes _ (in_order_moves is_node_before nodes) fits
 in_order_fits count (Bump bumps) fits = All-permutation (λ (b : ℕ × ℤ). b.0 < count) bumps _ (in_order_moves is_bump_before bumps) fits

@@ -11,8 +11,6 @@ pub mod TextShapeLemmas
 pub mod TextLawLemmas
 pub mod NameLemmas
 pub mod FaultLemmas
-pub mod LayingLemmas
-pub mod OverlayLemmas
 pub mod StartLemmas
 pub mod FaultOrderLemmas
 pub mod ApartLemmas

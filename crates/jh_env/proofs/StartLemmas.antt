@@ -5,8 +5,8 @@ use Rattle.std.proofs.lemmas.Bool.{eqb-true, and_parts, eq-eqb, and_from, cases_
 use Rattle.std.proofs.lemmas.Option.{slice_get-get_or, slice_get_past}
 use Rattle.jh_env.specs.Starting.{IsCalm}
 use Rattle.std.proofs.lemmas.Nat.{same_from_place, mul-add-lt}
-use Rattle.jh_env.specs.declared.cells.Link.{Link}
-use Rattle.jh_env.specs.declared.cells.NodeCell.{NodeCell}
+use Rattle.jh_tables.specs.declared.cells.Link.{Link}
+use Rattle.jh_tables.specs.declared.cells.NodeCell.{NodeCell}
 use Rattle.jh_env.specs.Cells.{calm, running, link_at}
 use Rattle.jh_env.specs.Faults.{same_link}
 

@@ -8,8 +8,8 @@ use Rattle.std.specs.Int.Signed.{le_z_yes}
 use Rattle.std.proofs.lemmas.Float.{T_from_true}
 use Rattle.std.proofs.lemmas.List.Quantifiers.{position-Some}
 use Rattle.std.proofs.lemmas.Slice.Eq.{bytes_eq-Decides}
-use Rattle.jh_env.specs.declared.cells.Link.{Link}
-use Rattle.jh_env.specs.declared.cells.NodeCell.{NodeCell}
+use Rattle.jh_tables.specs.declared.cells.Link.{Link}
+use Rattle.jh_tables.specs.declared.cells.NodeCell.{NodeCell}
 use Rattle.jh_env.specs.declared.texts.EnvTextError.TheVariants.{SelfLink, BadAmount}
 use Rattle.jh_env.specs.declared.texts.entries.LinkChange.{LinkChange}
 use Rattle.jh_env.specs.declared.texts.entries.NodeChange.{NodeChange}
@@ -133,7 +133,8 @@ node_with-starts NodeChange.Pause cell good starts = starts
 node_with-starts NodeChange.Kill cell good starts = starts
 node_with-starts (NodeChange.Clock ms) cell good starts =
     let parts = and_parts (int_le (negsuc (10 ^ 12 - 1)) ms) (int_le ms (pos (10 ^ 12))) good in
-    (le_z_yes (T_from_true _ parts.0), le_z_yes (T_from_true _ parts.1))
+    let low : negsuc (10 ^ 12 - 1) ≤ℤ ms = le_z_yes (T_from_true _ parts.0) in
+    (omega (arith, ints, low), le_z_yes (T_from_true _ parts.1))
 
 -- what a test chose
 pub chosen : {A : Type 0} (test : Bool) (x y : A) → (if test then Some x else None) ≡ Some y → (test ≡ true) × (y ≡ x)
@@ -184,7 +185,7 @@ link_amount-starts (LinkChange.Loss (negsuc n)) link fits starts = absurd cc
 pub node_amount-starts : (says : NodeChange) (cell : NodeCell) → IsStartingNode (node_with says cell) → is_node_amount says ≡ true
 node_amount-starts NodeChange.Pause cell starts = refl
 node_amount-starts NodeChange.Kill cell starts = refl
-node_amount-starts (NodeChange.Clock ms) cell starts = within _ _ ms starts.0 starts.1
+node_amount-starts (NodeChange.Clock ms) cell starts = within (negsuc (10 ^ 12 - 1)) (pos (10 ^ 12)) ms (omega (arith, ints, starts.0)) starts.1
 
 -- what a test does not pass
 unless : (t : Bool) → (t ≡ true → ⊥) → t ≡ false

@@ -4,10 +4,10 @@ use Rattle.std.specs.Prelude.{All}
 use Rattle.std.proofs.lemmas.List.{map-id}
 use Rattle.std.proofs.lemmas.List.Elements.{All-head, All-tail}
 use Rattle.jh_edn.specs.Edn.{str, keyword, vector, items_of}
-use Rattle.jh_env.specs.declared.cells.Life.{Life}
-use Rattle.jh_env.specs.declared.cells.Life.TheVariants.{Running, Paused, Killed}
-use Rattle.jh_env.specs.declared.cells.Link.{Link}
-use Rattle.jh_env.specs.declared.cells.NodeCell.{NodeCell}
+use Rattle.jh_tables.specs.declared.cells.Life.{Life}
+use Rattle.jh_tables.specs.declared.cells.Life.TheVariants.{Running, Paused, Killed}
+use Rattle.jh_tables.specs.declared.cells.Link.{Link}
+use Rattle.jh_tables.specs.declared.cells.NodeCell.{NodeCell}
 use Rattle.jh_env.specs.declared.texts.entries.Section.{Section}
 use Rattle.jh_env.specs.declared.texts.entries.LinkChange.{LinkChange}
 use Rattle.jh_env.specs.declared.texts.entries.NodeChange.{NodeChange}

@@ -1,5 +1,5 @@
 -- The entries that are written are sound, and each is spelled as it is read.
-use Rattle.std.proofs.Common.{◌≡◌, ℕ, zero, suc, ◌+◌, ◌*◌, ◌<◌, ◌≤◌, Bool, true, false, List, [], ◌∷◌, ◌++◌, length, take, bytes_eq, filter_map, flat_map, Option, Some, None, ap, refl, sym, ◌∙◌, arith, subst, pos, add-zero}
+use Rattle.std.proofs.Common.{◌≡◌, ℕ, zero, suc, ◌+◌, ◌*◌, ◌<◌, ◌≤◌, Bool, true, false, List, [], ◌∷◌, ◌++◌, length, take, bytes_eq, filter_map, flat_map, Option, Some, None, ap, refl, sym, ◌∙◌, arith, subst, pos, negsuc, add-zero, ◌-◌, ◌^◌}
 use Rattle.std.specs.Prelude.{◌≤ℤ◌, if◌then◌else◌, ◌&&◌, ◌||◌, nat_lt, slice_get, unwrap_or, option_and_then, All}
 use Rattle.std.specs.List.{range_with_len, cons_option, list_any}
 use Rattle.std.proofs.lemmas.Bool.{and_parts}
@@ -7,10 +7,10 @@ use Rattle.std.proofs.lemmas.Int.{ints}
 use Rattle.std.proofs.lemmas.List.Elements.{All-nil, All-cons, All-append, All-get_or}
 use Rattle.std.proofs.lemmas.Option.{slice_get_within, get_or_from_slice_get}
 use Rattle.std.proofs.lemmas.Slice.Eq.{bytes_eq-Decides}
-use Rattle.jh_env.specs.declared.cells.Link.{Link}
-use Rattle.jh_env.specs.declared.cells.NodeCell.{NodeCell}
-use Rattle.jh_env.specs.declared.cells.Life.{Life}
-use Rattle.jh_env.specs.declared.cells.Life.TheVariants.{Running, Paused, Killed}
+use Rattle.jh_tables.specs.declared.cells.Link.{Link}
+use Rattle.jh_tables.specs.declared.cells.NodeCell.{NodeCell}
+use Rattle.jh_tables.specs.declared.cells.Life.{Life}
+use Rattle.jh_tables.specs.declared.cells.Life.TheVariants.{Running, Paused, Killed}
 use Rattle.jh_env.specs.declared.texts.entries.Section.{Section}
 use Rattle.jh_env.specs.declared.texts.entries.LinkChange.{LinkChange}
 use Rattle.jh_env.specs.declared.texts.entries.NodeChange.{NodeChange}
@@ -96,7 +96,7 @@ life_part-amount Killed says said = let e : says ≡ NodeChange.Kill = cc in rw 
 -- and so of a node
 node_part-amount : (section : Section) (cell : NodeCell) (says : NodeChange) → IsStartingNode cell → node_part section cell ≡ Some says → is_node_amount says ≡ true
 node_part-amount Section.Down cell says starts said = life_part-amount cell.process says said
-node_part-amount Section.Clock cell says starts said = rw (unless_gives (is_zero cell.clock) _ says said) (within _ _ cell.clock starts.0 starts.1)
+node_part-amount Section.Clock cell says starts said = rw (unless_gives (is_zero cell.clock) _ says said) (within (negsuc (10 ^ 12 - 1)) (pos (10 ^ 12)) cell.clock (omega (arith, ints, starts.0)) starts.1)
 node_part-amount Section.Cut cell says starts said = absurd cc
 node_part-amount Section.Slow cell says starts said = absurd cc
 node_part-amount Section.Loss cell says starts said = absurd cc

@@ -1,12 +1,12 @@
 -- What a contract sees of a fault's fields, and what holds of them.
-use Rattle.jh_env.specs.Faults.{FaultValue}
-use Rattle.jh_env.specs.Effects.{fault_of, IsEffect}
+use Rattle.jh_tables.specs.Faults.{FaultValue, IsFault}
+use Rattle.jh_tables.specs.Plain.{fault_of}
 use Rattle.jh_env.specs.declared.faults.Fault.TheInside.{Inside}
 
 -- the fault of the fields
 abbrev pub fault_value : Inside → FaultValue
-fault_value a = fault_of a.effect
+fault_value a = fault_of a.fault
 
--- what holds of the fields
+-- each link and node stands once, and amounts are in their ranges
 abbrev pub IsWellMade : Inside → Type 0
-IsWellMade a = IsEffect a.effect
+IsWellMade a = IsFault (fault_of a.fault)

@@ -1,5 +1,5 @@
 -- The text that is written of a fault (this project's own): `[:cut LINKS]`, `[:slow MS LINKS]`,
--- `[:loss LEVEL LINKS]`, `[:pause NODES]`, `[:kill NODES]` and `[:bump {"n1" 500, ..}]`, where LINKS are
+-- `[:loss LEVEL LINKS]`, `[:fix MS LINKS]`, `[:pause NODES]`, `[:kill NODES]` and `[:bump {"n1" 500, ..}]`, where LINKS are
 -- `[["n2" "n1"] ..]` and NODES `["n1" ..]`: links by the place of their source and then of their destination, nodes
 -- and bumps by place.
 use Rattle.std.specs.Prelude.{ℕ, Bool, ℤ, pos, List, [], ◌∷◌, map, codes, slice_index_or}
@@ -7,7 +7,7 @@ use Rattle.std.specs.Ordering.{nat_cmp, ordering_then, is_lt}
 use Rattle.jh_edn.specs.Edn.{Edn, int, str, keyword, vector, mapping, items_of, members_of}
 use Rattle.jh_edn.specs.Order.{in_order}
 use Rattle.jh_env.specs.Faults.{FaultValue}
-use Rattle.jh_env.specs.Faults.FaultValue.{Cut, Slow, Loss, Pause, Kill, Bump}
+use Rattle.jh_tables.specs.Faults.FaultValue.{Cut, Slow, Loss, Fix, Pause, Kill, Bump}
 
 -- the source's place comes first, or else the destination's
 abbrev pub is_link_before : (ℕ × ℕ) → (ℕ × ℕ) → Bool
@@ -26,6 +26,7 @@ abbrev pub fault_in_order : FaultValue → FaultValue
 fault_in_order (Cut links) = Cut (in_order is_link_before links)
 fault_in_order (Slow ms links) = Slow ms (in_order is_link_before links)
 fault_in_order (Loss level links) = Loss level (in_order is_link_before links)
+fault_in_order (Fix ms links) = Fix ms (in_order is_link_before links)
 fault_in_order (Pause nodes) = Pause (in_order is_node_before nodes)
 fault_in_order (Kill nodes) = Kill (in_order is_node_before nodes)
 fault_in_order (Bump bumps) = Bump (in_order is_bump_before bumps)
@@ -54,6 +55,7 @@ abbrev pub fault_parts : List (List ℕ) → FaultValue → List Edn
 fault_parts names (Cut links) = keyword (codes "cut") ∷ links_text names links ∷ []
 fault_parts names (Slow ms links) = keyword (codes "slow") ∷ int (pos ms) ∷ links_text names links ∷ []
 fault_parts names (Loss level links) = keyword (codes "loss") ∷ int (pos level) ∷ links_text names links ∷ []
+fault_parts names (Fix ms links) = keyword (codes "fix") ∷ int (pos ms) ∷ links_text names links ∷ []
 fault_parts names (Pause nodes) = keyword (codes "pause") ∷ nodes_text names nodes ∷ []
 fault_parts names (Kill nodes) = keyword (codes "kill") ∷ nodes_text names nodes ∷ []
 fault_parts names (Bump bumps) = keyword (codes "bump") ∷ bumps_text names bumps ∷ []

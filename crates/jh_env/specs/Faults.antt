@@ -1,35 +1,13 @@
--- Faults, as contracts see them (Jepsen's pages on nemeses and nets name cuts of links, slow and lossy
--- links, paused and killed processes and bumped clocks; the amounts are this project's own).
-use Rattle.std.specs.Prelude.{◌≡◌, ◌≢◌, ℕ, ◌-◌, ◌^◌, ◌==◌, ◌&&◌, ◌||◌, ◌<◌, ◌≤◌, Bool, true, false, ℤ, pos, negsuc, ◌≤ℤ◌, List, [], ◌∷◌, ◌++◌, length, take, slice_index_or, if◌then◌else◌, nat_le}
-use Rattle.std.specs.List.{list_any, All}
+-- Why faults are refused, and what is kept of their links and nodes (this project's own). What a fault is stands with the
+-- tables that it is put on.
+use Rattle.std.specs.Prelude.{◌≡◌, ◌≢◌, ℕ, ◌==◌, ◌||◌, Bool, true, false, ℤ, List, [], ◌∷◌, ◌++◌, if◌then◌else◌, nat_le}
+use Rattle.std.specs.List.{list_any}
 use Rattle.jh_env.specs.declared.faults.FaultError.{FaultError}
 use Rattle.jh_env.specs.declared.faults.FaultError.TheVariants.{UnknownNode, SelfLink, BadAmount, OutOfMemory}
-
--- A link is the pair of its source's place and its destination's. Delays and bumps are in milliseconds, a
--- level of loss is one twentieth. Each link and node stands once.
-pub data FaultValue : Type 0 where
-  Cut : List (ℕ × ℕ) → FaultValue
-  Slow : ℕ → List (ℕ × ℕ) → FaultValue
-  Loss : ℕ → List (ℕ × ℕ) → FaultValue
-  Pause : List ℕ → FaultValue
-  Kill : List ℕ → FaultValue
-  Bump : List (ℕ × ℤ) → FaultValue
-
--- the two are one link
-abbrev pub same_link : (ℕ × ℕ) → (ℕ × ℕ) → Bool
-same_link k l = (k.0 == l.0) && (k.1 == l.1)
-
--- the link from a to b is among these
-abbrev pub names_link : List (ℕ × ℕ) → ℕ → ℕ → Bool
-names_link links a b = list_any (λ l. same_link l (a, b)) links
-
--- the two are one node
-abbrev pub same_node : ℕ → ℕ → Bool
-same_node a b = a == b
-
--- the two bumps are of one node
-abbrev pub same_bumped : (ℕ × ℤ) → (ℕ × ℤ) → Bool
-same_bumped x y = x.0 == y.0
+pub use Rattle.jh_tables.specs.Faults.{FaultValue, FitsCount, IsFault, AreApart, AreBumps, AreKnownLinks}
+pub use Rattle.jh_tables.specs.Faults.FaultValue.{Cut, Slow, Loss, Fix, Pause, Kill, Bump}
+pub use Rattle.jh_tables.specs.Faults.{IsSlowAmount, IsLossAmount, IsFixAmount, IsBumpAmount}
+pub use Rattle.jh_tables.specs.Faults.{names_link, names_node, same_link, same_node, same_bumped, size_of}
 
 -- these, after those that are kept already: each once, in the order of their first mentions
 abbrev pub kept_by : {A : Type 0} → (A → A → Bool) → List A → List A → List A
@@ -44,26 +22,6 @@ kept_links links = kept_by same_link [] links
 abbrev pub kept_nodes : List ℕ → List ℕ
 kept_nodes nodes = kept_by same_node [] nodes
 
--- none is the same as one before it
-abbrev pub AreApart : {A : Type 0} → (A → A → Bool) → List A → Type 0
-AreApart {A} same xs = (i : ℕ) (d : A) → i < length xs → list_any (λ x. same x (slice_index_or xs i d)) (take i xs) ≡ false
-
--- by how much a fault may slow a link: 1 to 60,000 milliseconds
-abbrev pub IsSlowAmount : ℕ → Type 0
-IsSlowAmount ms = (0 < ms) × (ms ≤ 60000)
-
--- the level of loss that a fault may have: 1 to 20
-abbrev pub IsLossAmount : ℕ → Type 0
-IsLossAmount level = (0 < level) × (level ≤ 20)
-
--- by how much a fault may move a clock: some milliseconds, at most 10^9 either way
-abbrev pub IsBumpAmount : ℤ → Type 0
-IsBumpAmount ms = (ms ≢ pos 0) × (negsuc (10 ^ 9 - 1) ≤ℤ ms) × (ms ≤ℤ pos (10 ^ 9))
-
--- each bump is in its range, and no node is bumped twice
-abbrev pub AreBumps : List (ℕ × ℤ) → Type 0
-AreBumps bumps = All (λ b. IsBumpAmount b.1) bumps × AreApart same_bumped bumps
-
 -- a link with an end that is none of count nodes
 abbrev pub is_unknown_link : ℕ → (ℕ × ℕ) → Bool
 is_unknown_link count l = nat_le count l.0 || nat_le count l.1
@@ -71,15 +29,6 @@ is_unknown_link count l = nat_le count l.0 || nat_le count l.1
 -- a link from a node to itself
 abbrev pub is_self_link : (ℕ × ℕ) → Bool
 is_self_link l = l.0 == l.1
-
--- each node that the fault names is one of count nodes
-abbrev pub FitsCount : ℕ → FaultValue → Type 0
-FitsCount count (Cut links) = All (λ l. (l.0 < count) × (l.1 < count)) links
-FitsCount count (Slow ms links) = All (λ l. (l.0 < count) × (l.1 < count)) links
-FitsCount count (Loss level links) = All (λ l. (l.0 < count) × (l.1 < count)) links
-FitsCount count (Pause nodes) = All (λ n. n < count) nodes
-FitsCount count (Kill nodes) = All (λ n. n < count) nodes
-FitsCount count (Bump nodes) = All (λ n. n.0 < count) nodes
 
 -- each link is between two different nodes of count
 abbrev pub AreLinksOf : ℕ → List (ℕ × ℕ) → Type 0

@@ -1,10 +1,10 @@
+pub use Rattle.jh_tables.specs.Standing
 pub mod Cells
 pub mod Names
 pub mod Faults
 pub mod Effects
 pub mod FaultInside
 pub mod Overlay
-pub mod Laying
 pub mod Starting
 pub mod StartInside
 pub mod EnvInside

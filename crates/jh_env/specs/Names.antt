@@ -1,4 +1,4 @@
--- Names of nodes (this project's own): 1 to 32 different names, each of 1 to 64 letters, digits, dots, dashes and underscores.
+-- Names of nodes (this project's own): 1 to 64 different names, each of 1 to 64 letters, digits, dots, dashes and underscores.
 use Rattle.std.specs.Prelude.{◌≡◌, ℕ, ◌==◌, ◌&&◌, ◌||◌, ◌<◌, ◌≤◌, Bool, true, false, List, [], ◌∷◌, ◌++◌, length, nat_le, not}
 use Rattle.std.specs.Char.{is_ascii_alphanumeric}
 use Rattle.std.specs.List.{list_all, list_any}
@@ -40,7 +40,7 @@ AreNodeNames names = (before after : List (List ℕ)) (name : List ℕ) → name
 
 -- as many names as an environment may have
 abbrev pub AreFew : List (List ℕ) → Type 0
-AreFew names = (0 < length names) × (length names ≤ 32)
+AreFew names = (0 < length names) × (length names ≤ 64)
 
 -- why a name is refused after these, in this order: it is bad, it stands there already, memory was refused
 abbrev pub RefusesName : List (List ℕ) → List ℕ → NodesError → Type 0
@@ -58,7 +58,7 @@ RefusesSomeName names error =
 -- why names are refused: their number, else the first name that is refused
 abbrev pub RefusesNames : List (List ℕ) → NodesError → Type 0
 RefusesNames names NoNodes = names ≡ []
-RefusesNames names TooManyNodes = 32 < length names
+RefusesNames names TooManyNodes = 64 < length names
 RefusesNames names BadName = AreFew names × RefusesSomeName names BadName
 RefusesNames names DuplicateName = AreFew names × RefusesSomeName names DuplicateName
 RefusesNames names OutOfMemory = AreFew names × RefusesSomeName names OutOfMemory

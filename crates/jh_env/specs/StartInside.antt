@@ -12,7 +12,7 @@ start_value a = record { names = a.names; cells = record { links = a.links.items
 -- good names, a cell for each pair of nodes and each node, and amounts within their ranges
 pub record IsSetUp (a : Inside) : Type 0 where
   pub names : AreFew a.names × AreNodeNames a.names
-  pub few : length a.cells.items ≤ 32
+  pub few : length a.cells.items ≤ 64
   pub named : length a.cells.items ≡ length a.names
   pub square : length a.links.items ≡ length a.cells.items * length a.cells.items
   pub links : All IsStartingLink a.links.items

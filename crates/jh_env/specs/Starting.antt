@@ -1,24 +1,17 @@
 -- A starting environment while it is set up (this project's own).
-use Rattle.std.specs.Prelude.{◌≡◌, ℕ, ◌-◌, ◌^◌, ◌≤◌, ◌<◌, ◌==◌, ◌&&◌, pos, negsuc, ◌≤ℤ◌, List, length, if◌then◌else◌, not, nat_lt, Some, None}
-use Rattle.jh_env.specs.declared.cells.Link.{Link}
-use Rattle.jh_env.specs.declared.cells.NodeCell.{NodeCell}
+use Rattle.std.specs.Prelude.{◌≡◌, ℕ, ◌≤◌, ◌<◌, ◌==◌, ◌&&◌, List, length, if◌then◌else◌, not, nat_lt, Some, None}
+use Rattle.jh_tables.specs.declared.cells.Link.{Link}
+use Rattle.jh_tables.specs.declared.cells.NodeCell.{NodeCell}
 use Rattle.jh_env.specs.declared.starting.StartError.{StartError}
 use Rattle.jh_env.specs.declared.starting.StartError.TheVariants.{UnknownNode, SelfLink, BadAmount}
 use Rattle.jh_env.specs.Cells.{Table, calm, running, link_at, node_at}
-use Rattle.jh_env.specs.Faults.{same_link}
+use Rattle.jh_tables.specs.Faults.{same_link}
+pub use Rattle.jh_tables.specs.Standing.{IsStartingLink, IsStartingNode}
 
 -- what callers see of it: the names and the cells set so far
 pub record StartValue : Type 0 where
   pub names : List (List ℕ)
   pub cells : Table
-
--- a link may start like this: a delay of at most a minute, a level of loss of at most twenty
-abbrev pub IsStartingLink : Link → Type 0
-IsStartingLink l = (l.delay ≤ 60000) × (l.loss ≤ 20)
-
--- a node may start like this: its clock is off by at most 10^12 milliseconds either way
-abbrev pub IsStartingNode : NodeCell → Type 0
-IsStartingNode n = (negsuc (10 ^ 12 - 1) ≤ℤ n.clock) × (n.clock ≤ℤ pos (10 ^ 12))
 
 -- nothing is set: each link is calm and each node runs
 pub record IsCalm (s : StartValue) : Type 0 where

@@ -1,9 +1,9 @@
 -- What the text of an environment says of each link and node (this project's own).
 use Rattle.std.specs.Prelude.{◌≡◌, ℕ, ◌==◌, ◌&&◌, Bool, true, false, not, nat_abs, List, length, if◌then◌else◌, nat_lt, fold, Option, Some, None}
 use Rattle.jh_edn.specs.Edn.{Edn}
-use Rattle.jh_env.specs.declared.cells.Life.TheVariants.{Paused, Killed}
-use Rattle.jh_env.specs.declared.cells.Link.{Link}
-use Rattle.jh_env.specs.declared.cells.NodeCell.{NodeCell}
+use Rattle.jh_tables.specs.declared.cells.Life.TheVariants.{Paused, Killed}
+use Rattle.jh_tables.specs.declared.cells.Link.{Link}
+use Rattle.jh_tables.specs.declared.cells.NodeCell.{NodeCell}
 use Rattle.jh_env.specs.declared.texts.entries.LinkChange.{LinkChange}
 use Rattle.jh_env.specs.declared.texts.entries.NodeChange.{NodeChange}
 use Rattle.jh_env.specs.Cells.{Table, calm, running, link_at, node_at}

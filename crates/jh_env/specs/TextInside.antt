@@ -1,10 +1,10 @@
 -- What a contract sees of what a program reads of a text.
 use Rattle.std.specs.Prelude.{◌≡◌, ◌<◌, ℕ, List, [], ◌∷◌, length, codes, ◌++◌, map, Option, Some, None, option_map, ⊤, Bool, true, pos, int_le}
 use Rattle.jh_edn.specs.Edn.{Edn, int, keyword}
-use Rattle.jh_env.specs.declared.cells.Link.{Link}
-use Rattle.jh_env.specs.declared.cells.NodeCell.{NodeCell}
+use Rattle.jh_tables.specs.declared.cells.Link.{Link}
+use Rattle.jh_tables.specs.declared.cells.NodeCell.{NodeCell}
 use Rattle.jh_env.specs.declared.names.NodesError.{NodesError}
-use Rattle.jh_env.specs.declared.faults.LinkEffect.{LinkEffect}
+use Rattle.jh_tables.specs.declared.faults.LinkFault.{LinkFault}
 use Rattle.jh_env.specs.declared.texts.EnvTextError.{EnvTextError}
 use Rattle.jh_env.specs.declared.texts.EnvTextError.TheVariants.{NoNodes, TooManyNodes, BadName, DuplicateName, BadEntry, UnknownNode, SelfLink, BadAmount, OutOfMemory}
 use Rattle.jh_env.specs.declared.texts.entries.Entry.{Entry}
@@ -29,11 +29,12 @@ entries_said entries = map entry_said entries
 abbrev pub with_front : {A : Type 0} → List A → Option (List A) → Option (List A)
 with_front front told = option_map (λ more. front ++ more) told
 
--- the word of an effect on links and its amount, before the links of a fault's text
-abbrev pub effect_parts : LinkEffect → List Edn
-effect_parts LinkEffect.Cut = keyword (codes "cut") ∷ []
-effect_parts (LinkEffect.Slow ms) = keyword (codes "slow") ∷ int (pos ms) ∷ []
-effect_parts (LinkEffect.Loss level) = keyword (codes "loss") ∷ int (pos level) ∷ []
+-- the word of a fault of links and its amount, before the links of a fault's text
+abbrev pub effect_parts : LinkFault → List Edn
+effect_parts LinkFault.Cut = keyword (codes "cut") ∷ []
+effect_parts (LinkFault.Slow ms) = keyword (codes "slow") ∷ int (pos ms) ∷ []
+effect_parts (LinkFault.Loss level) = keyword (codes "loss") ∷ int (pos level) ∷ []
+effect_parts (LinkFault.Fix ms) = keyword (codes "fix") ∷ int (pos ms) ∷ []
 
 -- the fault of names that are refused
 abbrev pub nodes_fault : NodesError → EnvTextError

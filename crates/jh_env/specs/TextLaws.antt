@@ -1,7 +1,7 @@
 -- What the laws of the text of an environment say (this project's own).
 use Rattle.std.specs.Prelude.{◌≡◌, ℕ, length, Some}
-use Rattle.jh_env.specs.declared.cells.Link.{Link}
-use Rattle.jh_env.specs.declared.cells.NodeCell.{NodeCell}
+use Rattle.jh_tables.specs.declared.cells.Link.{Link}
+use Rattle.jh_tables.specs.declared.cells.NodeCell.{NodeCell}
 use Rattle.jh_env.specs.Cells.{Table, link_at, node_at}
 use Rattle.jh_env.specs.Names.{AreNodeNames, AreFew}
 use Rattle.jh_env.specs.Overlay.{EnvValue, cells_of, link_of, node_of}

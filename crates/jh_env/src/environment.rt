@@ -1,41 +1,33 @@
-//! An environment: what the faults that are laid make of its starting cells, cell by cell.
-//! `specs/Overlay.antt` has the rule.
+//! An environment: names, and the tables of their cells. `specs/Overlay.antt` says which faults it stands for.
 
-ghost use Rattle.std.specs.Prelude.{◌≡◌, ◌+◌, ◌*◌, ◌<◌, ◌≤◌, ◌^◌, ◌++◌, ◌∷◌, [], ℕ, List, length, IfOk, IfSome};
-ghost use Rattle.std.specs.List.{All};
-ghost use Rattle.jh_env.specs.Effects.{fault_of, on_nodes, IsEffect, IsLinkAmount};
-ghost use Rattle.jh_env.specs.Laying.{with_effect, with_down, with_bump, LaidOnLinks, LaidOnNodes, IsLinkWithin, IsClockWithin};
+ghost use Rattle.std.specs.Prelude.{◌≡◌, ◌<◌, ◌≤◌, ◌+◌, [], length, IfOk, IfSome};
+ghost use Rattle.jh_tables.specs.Standing.{IsLinkInRange, IsNodeInRange, IsPut, IsTaken, StandsAtSome};
 ghost use Rattle.jh_env.specs.Names.{AreFew, AreNodeNames};
-ghost use Rattle.jh_env.specs.Overlay.{StandsFor, SamePlace, IsOverlay, cells_of, link_of, node_of};
-ghost use Rattle.jh_env.specs.Faults.{FaultValue, FitsCount, AreApart, AreBumps, IsBumpAmount, same_link};
-ghost use Rattle.jh_env.specs.Faults.FaultValue.{Bump};
+ghost use Rattle.jh_env.specs.Overlay.{StandsFor, StandsWith, SamePlace, cells_of, link_of, node_of, tables_of, work_of};
+ghost use Rattle.jh_env.specs.Faults.{FitsCount, size_of};
 
-use crate::cells::{Life, Link, NodeCell};
-use crate::faults::{Down, Effect, Fault, LinkEffect};
-use crate::names::{Node, Nodes};
+use crate::faults::Fault;
+use crate::names::Nodes;
 use crate::starting::Start;
+use jh_tables::{Link, MAX_LAID, Node, NodeCell, Tables};
 use std::alloc::{AllocError, Global};
 use std::marker::Model;
 
-/// The most faults that can be laid at once.
-pub const MOST_LAID: usize = 256;
+/// The most faults that can be put and not taken.
+pub const MOST_LAID: usize = MAX_LAID;
 
-/// The most milliseconds by which a message can be late: a minute at the start and one for each fault.
+/// The most milliseconds by which a message can be late: a minute at the start or by a fix, and one for each fault.
 pub const MOST_DELAY: u64 = 60_000 * 257;
 
 /// The most milliseconds by which a clock can be off, either way: 10^12 at the start and 10^9 for each fault.
 pub const MOST_OFFSET: u64 = 1_000_000_000_000 + 256 * 1_000_000_000;
 
-/// Cells of links and nodes. A contract sees the names, the starting cells, the cells now and how many
-/// faults are laid.
+/// Cells of links and nodes, and what faults make of them. A contract sees the names, the starting cells, the cells
+/// now, what is kept of the faults, and how many are put.
 #[derive(Debug, Drop)]
 pub struct Env {
     names: Nodes,
-    start_links: Vec<Link>,
-    start_cells: Vec<NodeCell>,
-    links: Vec<Link>,
-    cells: Vec<NodeCell>,
-    laid: usize,
+    tables: Tables,
 }
 
 impl Model for Env {
@@ -53,36 +45,27 @@ impl Model for Env {
 impl Env {
     /// An environment at its start. All the memory that it will need is taken here.
     pub fn start(alloc: Global, start: Start) -> Result<Env, AllocError>
-        ensures stands { IfOk result (λ env. StandsFor env []) }
+        ensures stands { IfOk result (λ env. StandsWith env [] × StandsFor env []) }
         ensures start { IfOk result (λ env. (env.names ≡ start.names) × (env.start ≡ start.cells)) }
+        ensures work { IfOk result (λ env. work_of env ≡ 0) }
     {
         let Start {
             names,
             links,
             cells,
         } = start;
-        Ok(Env {
-            links: Vec::from_slice(alloc, &links)?,
-            cells: Vec::from_slice(alloc, &cells)?,
-            names,
-            start_links: links,
-            start_cells: cells,
-            laid: 0,
-        })
+        let tables = Tables::start(alloc, &links, &cells)?;
+        Ok(Env { names, tables })
     }
 
-    /// An environment with the same names and start, and in which the same faults are laid. Takes time and memory
-    /// for every cell.
+    /// An environment with the same names, start and cells, in which the same faults stand, and as often written. Takes
+    /// time and memory for every cell.
     pub fn copy(&self, alloc: Global) -> Result<Env, AllocError>
         ensures { IfOk result (λ copy. copy ≡ self.now) }
     {
         Ok(Env {
             names: self.names.copy()?,
-            start_links: Vec::from_slice(alloc, &self.start_links)?,
-            start_cells: Vec::from_slice(alloc, &self.start_cells)?,
-            links: Vec::from_slice(alloc, &self.links)?,
-            cells: Vec::from_slice(alloc, &self.cells)?,
-            laid: self.laid,
+            tables: self.tables.copy(alloc)?,
         })
     }
 
@@ -95,157 +78,56 @@ impl Env {
         &self.names
     }
 
-    /// The link from one node to another, where both are nodes of the environment and differ.
+    /// The link from one node to another, where both are nodes of the environment and differ. It goes through the fixes
+    /// that stand, at most 256.
     pub fn link(&self, from: Node, to: Node) -> Option<Link>
         ensures link { result ≡ link_of self.now from to }
-        ensures within { IfSome result (IsLinkWithin MOST_DELAY) }
+        ensures within { IfSome result IsLinkInRange }
     {
-        let count = self.cells.len();
-        let (from, to) = (from.place() as usize, to.place() as usize);
-        if from < count && to < count && from != to {
-            Some(self.links[from * count + to])
-        } else {
-            None
-        }
+        self.tables.link(from, to)
     }
 
     /// A node's cell, where the node is one of the environment.
     pub fn node(&self, node: Node) -> Option<NodeCell>
         ensures node { result ≡ node_of self.now node }
-        ensures within { IfSome result (IsClockWithin MOST_OFFSET) }
+        ensures within { IfSome result IsNodeInRange }
     {
-        self.cells.get(node.place() as usize).copied()
+        self.tables.node(node)
     }
 
-    /// How many faults are laid since the last reset, at most 256.
+    /// How many faults are put and not taken, at most 256.
     pub fn laid(&self) -> usize
         ensures { result ≡ self.now.laid }
     {
-        self.laid
+        self.tables.laid()
     }
 
-    /// Takes every fault off: each cell is the starting one again.
-    pub fn reset(&mut self)
-        ensures stands { StandsFor self.new [] }
-        ensures kept { SamePlace self.old self.new }
+    /// How often a cell, or the entry of a fix, was written since the start, up to 2^64 - 1.
+    pub fn work(&self) -> u64
+        ensures { result ≡ work_of self.now }
     {
-        self.links.copy_from_slice(&self.start_links);
-        self.cells.copy_from_slice(&self.start_cells);
-        self.laid = 0;
+        self.tables.work()
     }
 
-    /// Lays one more fault over the cells. It takes time for each link or node that the fault names, and no
-    /// memory.
-    pub fn lay(&mut self, fault: &Fault)
+    /// Puts a fault on the cells, at the place of its stamp among those that stand; none of them has that stamp. It takes
+    /// no memory. At most one cell is written for each link or node that the fault names, and one entry for a fix.
+    pub fn put(&mut self, fault: &Fault, stamp: u32)
         requires fits { FitsCount (length self.old.names) fault.now }
         requires room { self.old.laid < MOST_LAID }
-        ensures stands { (faults : List FaultValue) → StandsFor self.old faults → StandsFor self.new (faults ++ fault.now ∷ []) }
+        ensures stands { IsPut (stamp, fault.now) (tables_of self.old) (tables_of self.new) }
         ensures kept { SamePlace self.old self.new }
+        ensures work { work_of self.new ≤ work_of self.old + size_of fault.now }
     {
-        lay_effect(&mut self.links, &mut self.cells, &fault.effect);
-        self.laid += 1;
+        self.tables.put(&fault.fault, stamp);
     }
-}
 
-fn link_with(link: Link, effect: LinkEffect) -> Link
-    requires amount { IsLinkAmount effect }
-    requires room { link.delay < 2 ^ 63 }
-    ensures { result ≡ with_effect effect link }
-{
-    match effect {
-        LinkEffect::Cut => Link { cut: true, ..link },
-        LinkEffect::Slow(ms) => Link {
-            delay: link.delay + ms,
-            ..link
-        },
-        LinkEffect::Loss(level) => Link {
-            loss: link.loss.max(level),
-            ..link
-        },
-    }
-}
-
-// Lays an effect over each of these links, each of which stands once.
-fn lay_on_links(cells: &mut [Link], count: usize, effect: LinkEffect, links: &[(Node, Node)])
-    requires few { count ≤ 32 }
-    requires square { length cells.old ≡ count * count }
-    requires amount { IsLinkAmount effect }
-    requires known { All (λ l. (l.0 < count) × (l.1 < count)) links.now }
-    requires once { AreApart same_link links.now }
-    requires room { All (λ l. l.delay < 2 ^ 63) cells.old }
-    ensures size { length cells.new ≡ length cells.old }
-    ensures within { (most : ℕ) → All (IsLinkWithin most) cells.old → All (IsLinkWithin (most + 60000)) cells.new }
-    ensures laid { LaidOnLinks effect links.now count cells.old cells.new }
-{
-    for (from, to) in links {
-        let place = from.place() as usize * count + to.place() as usize;
-        cells[place] = link_with(cells[place], effect);
-    }
-}
-
-fn life_with(process: Life, down: Down) -> Life
-    ensures { result ≡ with_down down process }
-{
-    match (process, down) {
-        (_, Down::Kill) | (Life::Killed, _) => Life::Killed,
-        _ => Life::Paused,
-    }
-}
-
-// Takes each of these nodes down.
-fn lay_on_nodes(cells: &mut [NodeCell], down: Down, nodes: &[Node])
-    requires known { All (λ n. n < length cells.old) nodes.now }
-    ensures size { length cells.new ≡ length cells.old }
-    ensures clocks { (most : ℕ) → All (IsClockWithin most) cells.old → All (IsClockWithin (most + 10 ^ 9)) cells.new }
-    ensures laid { LaidOnNodes (on_nodes down nodes.now) cells.old cells.new }
-{
-    for node in nodes {
-        let cell = &mut cells[node.place() as usize];
-        cell.process = life_with(cell.process, down);
-    }
-}
-
-fn cell_with(cell: NodeCell, ms: i64) -> NodeCell
-    requires amount { IsBumpAmount ms }
-    requires room { IsClockWithin (2 ^ 62 + 10 ^ 9) cell }
-    ensures { result ≡ with_bump ms cell }
-{
-    NodeCell {
-        clock: cell.clock + ms,
-        ..cell
-    }
-}
-
-// Moves the clock of each of these nodes, each of which stands once.
-fn lay_bumps(cells: &mut [NodeCell], bumps: &[(Node, i64)])
-    requires known { All (λ b. b.0 < length cells.old) bumps.now }
-    requires right { AreBumps bumps.now }
-    requires room { All (IsClockWithin (2 ^ 62)) cells.old }
-    ensures size { length cells.new ≡ length cells.old }
-    ensures clocks { (most : ℕ) → All (IsClockWithin most) cells.old → All (IsClockWithin (most + 10 ^ 9)) cells.new }
-    ensures laid { LaidOnNodes (Bump bumps.now) cells.old cells.new }
-{
-    for (node, ms) in bumps {
-        let place = node.place() as usize;
-        cells[place] = cell_with(cells[place], *ms);
-    }
-}
-
-// Lays an effect over the tables of links and of nodes.
-fn lay_effect(links: &mut [Link], cells: &mut [NodeCell], effect: &Effect)
-    requires few { length cells.old ≤ 32 }
-    requires square { length links.old ≡ length cells.old * length cells.old }
-    requires right { IsEffect effect.now }
-    requires known { FitsCount (length cells.old) (fault_of effect.now) }
-    requires room { All (λ l. l.delay < 2 ^ 63) links.old × All (IsClockWithin (2 ^ 62)) cells.old }
-    ensures size { (length links.new ≡ length links.old) × (length cells.new ≡ length cells.old) }
-    ensures within { (most : ℕ) → All (IsLinkWithin most) links.old → All (IsLinkWithin (most + 60000)) links.new }
-    ensures clocks { (most : ℕ) → All (IsClockWithin most) cells.old → All (IsClockWithin (most + 10 ^ 9)) cells.new }
-    ensures laid { IsOverlay (record { links = links.old; nodes = cells.old }) (fault_of effect.now ∷ []) (record { links = links.new; nodes = cells.new }) }
-{
-    match effect {
-        Effect::OnLinks(effect, named) => lay_on_links(links, cells.len(), *effect, named),
-        Effect::OnNodes(down, named) => lay_on_nodes(cells, *down, named),
-        Effect::Bump(bumps) => lay_bumps(cells, bumps),
+    /// Takes a fault off the cells, which was put with this stamp. It takes no memory, and writes as much as `put`.
+    pub fn take(&mut self, fault: &Fault, stamp: u32)
+        requires { StandsAtSome (tables_of self.old) (stamp, fault.now) }
+        ensures stands { IsTaken (stamp, fault.now) (tables_of self.old) (tables_of self.new) }
+        ensures kept { SamePlace self.old self.new }
+        ensures work { work_of self.new ≤ work_of self.old + size_of fault.now }
+    {
+        self.tables.take(&fault.fault, stamp);
     }
 }

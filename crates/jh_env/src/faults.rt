@@ -1,9 +1,10 @@
-//! Faults: what is done to which links and nodes. `specs/Faults.antt` says what a contract sees of one,
-//! `specs/Overlay.antt` what it does to an environment. A new kind of fault is a case of both, and of `Effect`.
+//! Faults that name nodes of an environment, each link and node once, and why others are refused: `specs/Faults.antt` has
+//! the rules. What a fault is and does stands in jh_tables, where a new kind is added first.
 
 ghost use Rattle.std.specs.Prelude.{◌≡◌, ◌≢◌, ◌↔◌, ◌==◌, length, false, IsTrue, [], MatchResult, IfOk, ⊤};
 ghost use Rattle.std.specs.List.{All, list_any};
-ghost use Rattle.jh_env.specs.Effects.{on_links, on_nodes, IsLinkAmount};
+ghost use Rattle.jh_tables.specs.Plain.{on_links, on_nodes};
+ghost use Rattle.jh_env.specs.Effects.{IsLinkAmount};
 ghost use Rattle.jh_env.specs.Faults.{
   kept_by,
   kept_links,
@@ -14,6 +15,7 @@ ghost use Rattle.jh_env.specs.Faults.{
   AreBumps,
   IsSlowAmount,
   IsLossAmount,
+  IsFixAmount,
   IsBumpAmount,
   RefusesLinks,
   RefusesNodes,
@@ -24,10 +26,11 @@ ghost use Rattle.jh_env.specs.Faults.{
   is_unknown_bump,
   same_bumped,
 };
-ghost use Rattle.jh_env.specs.Faults.FaultValue.{Cut, Slow, Loss, Pause, Kill, Bump};
+ghost use Rattle.jh_tables.specs.Faults.FaultValue.{Cut, Slow, Loss, Fix, Pause, Kill, Bump};
 
 use crate::environment::Env;
-use crate::names::{Node, Nodes};
+use crate::names::Nodes;
+use jh_tables::{LinkFault, Node, NodeFault, PlainFault};
 use std::alloc::{AllocError, Global};
 use std::marker::Model;
 use thiserror::Error;
@@ -35,43 +38,23 @@ use thiserror::Error;
 /// The most milliseconds by which one fault slows a link.
 pub const MOST_SLOWED: u64 = 60_000;
 
+/// The most milliseconds to which a fault fixes the delay of a link.
+pub const MOST_FIXED: u64 = 60_000;
+
 /// The greatest level of loss.
 pub const MOST_LOSS: u8 = 20;
 
 /// The most milliseconds by which one fault moves a clock, either way.
 pub const MOST_BUMPED: i64 = 1_000_000_000;
 
-/// What a fault does to each of its links.
-#[derive(Clone, Copy, Debug, PartialEq, Eq)]
-pub(crate) enum LinkEffect {
-    Cut,
-    Slow(u64),
-    Loss(u8),
-}
-
-/// How a fault takes each of its nodes down.
-#[derive(Clone, Copy, Debug, PartialEq, Eq)]
-pub(crate) enum Down {
-    Pause,
-    Kill,
-}
-
-/// What a fault does, and to what.
-#[derive(Debug, Drop)]
-pub(crate) enum Effect {
-    OnLinks(LinkEffect, Vec<(Node, Node)>),
-    OnNodes(Down, Vec<Node>),
-    Bump(Vec<(Node, i64)>),
-}
-
 /// A fault of an environment, on some of its links or nodes, each once.
 #[derive(Debug, Drop)]
 pub struct Fault {
-    pub(crate) effect: Effect,
+    pub(crate) fault: PlainFault,
 }
 
 impl Model for Fault {
-    ghost use Rattle.jh_env.specs.Faults.{FaultValue};
+    ghost use Rattle.jh_tables.specs.Faults.{FaultValue};
 
     ghost Value = { FaultValue };
 
@@ -95,13 +78,15 @@ pub enum FaultError {
     OutOfMemory,
 }
 
-fn is_right(effect: LinkEffect) -> bool
-    ensures { IsTrue result ↔ IsLinkAmount effect }
+// Whether the amount of a fault of links is in its range.
+fn is_right(kind: LinkFault) -> bool
+    ensures { IsTrue result ↔ IsLinkAmount kind }
 {
-    match effect {
-        LinkEffect::Cut => true,
-        LinkEffect::Slow(ms) => 0 < ms && ms <= MOST_SLOWED,
-        LinkEffect::Loss(level) => 0 < level && level <= MOST_LOSS,
+    match kind {
+        LinkFault::Cut => true,
+        LinkFault::Slow(ms) => 0 < ms && ms <= MOST_SLOWED,
+        LinkFault::Loss(level) => 0 < level && level <= MOST_LOSS,
+        LinkFault::Fix(ms) => ms <= MOST_FIXED,
     }
 }
 
@@ -189,12 +174,12 @@ fn copied(alloc: Global, bumps: &[(Node, i64)]) -> Result<Vec<(Node, i64)>, Allo
 fn on_links_of(
     alloc: Global,
     nodes: &Nodes,
-    effect: LinkEffect,
+    kind: LinkFault,
     links: &[(Node, Node)],
 ) -> Result<Fault, FaultError>
     ensures made { MatchResult result
-        (λ fault. (fault ≡ on_links effect (kept_links links.now)) × AreLinksOf (length nodes.now) links.now × IsLinkAmount effect)
-        (RefusesLinks (length nodes.now) links.now (IsLinkAmount effect)) }
+        (λ fault. (fault ≡ on_links kind (kept_links links.now)) × AreLinksOf (length nodes.now) links.now × IsLinkAmount kind)
+        (RefusesLinks (length nodes.now) links.now (IsLinkAmount kind)) }
     ensures fits { IfOk result (FitsCount (length nodes.now)) }
 {
     if is_any_end_unknown(nodes.len(), links) {
@@ -203,12 +188,12 @@ fn on_links_of(
     if is_any_self_link(links) {
         return Err(FaultError::SelfLink);
     }
-    if !is_right(effect) {
+    if !is_right(kind) {
         return Err(FaultError::BadAmount);
     }
     match each_once(alloc, links) {
         Ok(links) => Ok(Fault {
-            effect: Effect::OnLinks(effect, links),
+            fault: PlainFault::OnLinks(kind, links),
         }),
         Err(_) => Err(FaultError::OutOfMemory),
     }
@@ -217,11 +202,11 @@ fn on_links_of(
 fn on_nodes_of(
     alloc: Global,
     nodes: &Nodes,
-    down: Down,
+    kind: NodeFault,
     named: &[Node],
 ) -> Result<Fault, FaultError>
     ensures made { MatchResult result
-        (λ fault. (fault ≡ on_nodes down (kept_nodes named.now)) × (list_any (is_unknown_node (length nodes.now)) named.now ≡ false))
+        (λ fault. (fault ≡ on_nodes kind (kept_nodes named.now)) × (list_any (is_unknown_node (length nodes.now)) named.now ≡ false))
         (RefusesNodes (length nodes.now) named.now) }
     ensures fits { IfOk result (FitsCount (length nodes.now)) }
 {
@@ -230,7 +215,7 @@ fn on_nodes_of(
     }
     match each_once(alloc, named) {
         Ok(named) => Ok(Fault {
-            effect: Effect::OnNodes(down, named),
+            fault: PlainFault::OnNodes(kind, named),
         }),
         Err(_) => Err(FaultError::OutOfMemory),
     }
@@ -239,7 +224,7 @@ fn on_nodes_of(
 impl Fault {
     /// Cuts links, each from its first node to its second. A link that is named twice is kept once; a
     /// fault that names no link is allowed. Each link given is compared with those kept so far, at most
-    /// 992 between 32 nodes.
+    /// 4,032 between 64 nodes.
     ///
     /// Errors, over all links: `UnknownNode`, `SelfLink`, `OutOfMemory`.
     pub fn cut(alloc: Global, nodes: &Nodes, links: &[(Node, Node)]) -> Result<Fault, FaultError>
@@ -248,7 +233,7 @@ impl Fault {
             (RefusesLinks (length nodes.now) links.now ⊤) }
         ensures fits { IfOk result (FitsCount (length nodes.now)) }
     {
-        on_links_of(alloc, nodes, LinkEffect::Cut, links)
+        on_links_of(alloc, nodes, LinkFault::Cut, links)
     }
 
     /// Makes messages on links later, by 1 to 60,000 milliseconds. Links are kept as `cut` keeps them.
@@ -265,7 +250,7 @@ impl Fault {
             (RefusesLinks (length nodes.now) links.now (IsSlowAmount ms)) }
         ensures fits { IfOk result (FitsCount (length nodes.now)) }
     {
-        on_links_of(alloc, nodes, LinkEffect::Slow(ms), links)
+        on_links_of(alloc, nodes, LinkFault::Slow(ms), links)
     }
 
     /// Loses messages on links, at a level of 1 to 20 in 20. Links are kept as `cut` keeps them.
@@ -282,7 +267,25 @@ impl Fault {
             (RefusesLinks (length nodes.now) links.now (IsLossAmount level)) }
         ensures fits { IfOk result (FitsCount (length nodes.now)) }
     {
-        on_links_of(alloc, nodes, LinkEffect::Loss(level), links)
+        on_links_of(alloc, nodes, LinkFault::Loss(level), links)
+    }
+
+    /// Fixes the delay of links, at 0 to 60,000 milliseconds, whatever it was before; slow delays come on top. Of several
+    /// fixes of a link the last one counts. Links are kept as `cut` keeps them.
+    ///
+    /// Errors, over all links: `UnknownNode`, `SelfLink`, `BadAmount`, `OutOfMemory`.
+    pub fn fix(
+        alloc: Global,
+        nodes: &Nodes,
+        links: &[(Node, Node)],
+        ms: u64,
+    ) -> Result<Fault, FaultError>
+        ensures made { MatchResult result
+            (λ fault. (fault ≡ Fix ms (kept_links links.now)) × AreLinksOf (length nodes.now) links.now × IsFixAmount ms)
+            (RefusesLinks (length nodes.now) links.now (IsFixAmount ms)) }
+        ensures fits { IfOk result (FitsCount (length nodes.now)) }
+    {
+        on_links_of(alloc, nodes, LinkFault::Fix(ms), links)
     }
 
     /// Pauses the processes of nodes. A node that is named twice is kept once; a fault that names no node
@@ -295,7 +298,7 @@ impl Fault {
             (RefusesNodes (length nodes.now) paused.now) }
         ensures fits { IfOk result (FitsCount (length nodes.now)) }
     {
-        on_nodes_of(alloc, nodes, Down::Pause, paused)
+        on_nodes_of(alloc, nodes, NodeFault::Pause, paused)
     }
 
     /// Kills the processes of nodes. Nodes are kept as `pause` keeps them.
@@ -307,7 +310,7 @@ impl Fault {
             (RefusesNodes (length nodes.now) killed.now) }
         ensures fits { IfOk result (FitsCount (length nodes.now)) }
     {
-        on_nodes_of(alloc, nodes, Down::Kill, killed)
+        on_nodes_of(alloc, nodes, NodeFault::Kill, killed)
     }
 
     /// Moves the clocks of nodes, each by some milliseconds, at most 10^9 either way. A fault that names no
@@ -328,7 +331,7 @@ impl Fault {
         }
         match copied(alloc, bumps) {
             Ok(bumps) => Ok(Fault {
-                effect: Effect::Bump(bumps),
+                fault: PlainFault::Bump(bumps),
             }),
             Err(_) => Err(FaultError::OutOfMemory),
         }
@@ -338,16 +341,16 @@ impl Fault {
     pub fn copy(&self, alloc: Global) -> Result<Fault, AllocError>
         ensures { IfOk result (λ copy. copy ≡ self.now) }
     {
-        let effect = match &self.effect {
-            Effect::OnLinks(effect, links) => {
-                Effect::OnLinks(*effect, Vec::from_slice(alloc, links)?)
+        let fault = match &self.fault {
+            PlainFault::OnLinks(kind, links) => {
+                PlainFault::OnLinks(*kind, Vec::from_slice(alloc, links)?)
             }
-            Effect::OnNodes(down, nodes) => {
-                Effect::OnNodes(*down, Vec::from_slice(alloc, nodes)?)
+            PlainFault::OnNodes(kind, nodes) => {
+                PlainFault::OnNodes(*kind, Vec::from_slice(alloc, nodes)?)
             }
-            Effect::Bump(bumps) => Effect::Bump(Vec::from_slice(alloc, bumps)?),
+            PlainFault::Bump(bumps) => PlainFault::Bump(Vec::from_slice(alloc, bumps)?),
         };
-        Ok(Fault { effect })
+        Ok(Fault { fault })
     }
 
     /// Whether each node that it names is one of these.
@@ -355,10 +358,10 @@ impl Fault {
         ensures { IsTrue result ↔ FitsCount (length nodes.now) self.now }
     {
         let count = nodes.len();
-        match &self.effect {
-            Effect::OnLinks(_, links) => !is_any_end_unknown(count, links),
-            Effect::OnNodes(_, nodes) => !is_any_node_unknown(count, nodes),
-            Effect::Bump(bumps) => !is_any_bump_unknown(count, bumps),
+        match &self.fault {
+            PlainFault::OnLinks(_, links) => !is_any_end_unknown(count, links),
+            PlainFault::OnNodes(_, nodes) => !is_any_node_unknown(count, nodes),
+            PlainFault::Bump(bumps) => !is_any_bump_unknown(count, bumps),
         }
     }
 

@@ -1,17 +1,16 @@
-//! The simulated environment of a test: cells of links and nodes, faults, and what faults make of the cells.
+//! The simulated environment of a test: names, faults that name them, and tables of what faults make of the cells.
 #![tactic(auto)]
 
-mod cells;
 mod environment;
 mod faults;
 mod names;
 mod starting;
 mod texts;
 
-pub use cells::{Life, Link, NodeCell};
 pub use environment::{Env, MOST_DELAY, MOST_LAID, MOST_OFFSET};
-pub use faults::{Fault, FaultError, MOST_BUMPED, MOST_LOSS, MOST_SLOWED};
-pub use names::{Node, Nodes, NodesError};
+pub use faults::{Fault, FaultError, MOST_BUMPED, MOST_FIXED, MOST_LOSS, MOST_SLOWED};
+pub use jh_tables::{Life, Link, Node, NodeCell};
+pub use names::{Nodes, NodesError};
 pub use starting::{Start, StartError};
 pub use texts::{
     EnvTextError, env_of_value, environments_read_back, order_changes_no_fault, value_of_env,

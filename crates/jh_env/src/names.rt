@@ -8,34 +8,10 @@ ghost use Rattle.jh_env.specs.Names as rule;
 ghost use Rattle.jh_env.specs.Names.{AreNodeNames, AreFew, MayFollow, RefusesName, RefusesNames, is_name_byte};
 
 use indexmap::IndexSet;
+use jh_tables::Node;
 use std::alloc::{AllocError, Global};
 use std::marker::Model;
 use thiserror::Error;
-
-/// A node of an environment, by its place among the names, in the order of the places. A contract sees the place.
-#[derive(Clone, Copy, Debug, PartialEq, Eq, PartialOrd, Ord)]
-pub struct Node {
-    place: u8,
-}
-
-impl Model for Node {
-    ghost use Rattle.std.specs.Prelude.{ℕ};
-
-    ghost Value = { ℕ };
-
-    ghost view = { λ n. n.place };
-
-    ghost inverse = { λ n. record { place = n } };
-}
-
-impl Node {
-    /// Its place among the names, from 0.
-    pub fn place(self) -> u8
-        ensures { result ≡ self }
-    {
-        self.place
-    }
-}
 
 /// The names of an environment's nodes, in the order given. A contract sees the list of names.
 #[derive(Debug, Drop)]
@@ -53,7 +29,7 @@ impl Model for Nodes {
 
     ghost view = { λ a. map string_bytes a.names.keys };
 
-    ghost invariant = { λ a. (0 < length a.names.keys) × (length a.names.keys ≤ 32) × AreNodeNames (map string_bytes a.names.keys) };
+    ghost invariant = { λ a. (0 < length a.names.keys) × (length a.names.keys ≤ 64) × AreNodeNames (map string_bytes a.names.keys) };
 }
 
 /// Why names are refused.
@@ -127,7 +103,7 @@ fn copied(names: &IndexSet<String>) -> Result<IndexSet<String>, AllocError>
 }
 
 impl Nodes {
-    /// The nodes of these names, 1 to 32, each 1 to 64 ASCII letters, digits, `.`, `-` or `_`.
+    /// The nodes of these names, 1 to 64, each 1 to 64 ASCII letters, digits, `.`, `-` or `_`.
     ///
     /// Errors: `NoNodes`, `TooManyNodes`, then for the first name at fault `BadName` or
     /// `DuplicateName`; `OutOfMemory` where memory was refused before such a name.
@@ -139,7 +115,7 @@ impl Nodes {
         if names.is_empty() {
             return Err(NodesError::NoNodes);
         }
-        if names.len() > 32 {
+        if names.len() > 64 {
             return Err(NodesError::TooManyNodes);
         }
         let mut set = IndexSet::new(alloc);
@@ -158,10 +134,10 @@ impl Nodes {
         })
     }
 
-    /// How many nodes there are, 1 to 32.
+    /// How many nodes there are, 1 to 64.
     pub fn len(&self) -> usize
         ensures len { result ≡ length self.now }
-        ensures bounded { (0 < result) × (result ≤ 32) }
+        ensures bounded { (0 < result) × (result ≤ 64) }
         ensures named { AreNodeNames self.now }
     {
         self.names.len()
@@ -172,7 +148,7 @@ impl Nodes {
         ensures { result ≡ position (bytes_eq name.now) self.now }
     {
         let place = self.names.get_index_of(name)?;
-        Some(Node { place: place as u8 })
+        Some(Node::at(place as u8))
     }
 
     /// The node at this place, from 0.
@@ -180,7 +156,7 @@ impl Nodes {
         ensures { MatchOption result (length self.now ≤ place) (λ node. (node ≡ place) × (node < length self.now)) }
     {
         if (place as usize) < self.len() {
-            Some(Node { place })
+            Some(Node::at(place))
         } else {
             None
         }
@@ -190,7 +166,7 @@ impl Nodes {
     pub fn name(&self, node: Node) -> Option<&str>
         ensures { option_map (λ s. s.now) result ≡ slice_get self.now node }
     {
-        let name = self.names.get_index(node.place as usize)?;
+        let name = self.names.get_index(node.place() as usize)?;
         Some(name.as_str())
     }
 }

@@ -4,8 +4,8 @@ ghost use Rattle.std.specs.Prelude.{◌≡◌, ℕ, length, Some, IfOk, MatchRes
 ghost use Rattle.jh_env.specs.Cells.{calm, running, link_at, node_at};
 ghost use Rattle.jh_env.specs.Starting.{SetsLink, SetsNode, RefusesLink, RefusesNode, IsCalm};
 
-use crate::cells::{Link, NodeCell};
-use crate::names::{Node, Nodes};
+use crate::names::Nodes;
+use jh_tables::{Link, Node, NodeCell};
 use std::alloc::{AllocError, Global};
 use std::marker::Model;
 use thiserror::Error;

@@ -116,8 +116,8 @@ impl From<StartError> for EnvTextError {
 /// `BadAmount` or `RepeatedEntry`. `OutOfMemory` where memory was refused before another error was found.
 /// Of a key that a map made by hand holds twice, the first counts.
 ///
-/// Takes time linear in the text: repeats are looked for among the accepted entries, of which 32 nodes have at
-/// most 3,040.
+/// Takes time linear in the text: repeats are looked for among the accepted entries, of which 64 nodes have at
+/// most 12,224.
 pub fn env_of_value(alloc: Global, value: &Value) -> Result<Env, EnvTextError>
     ensures { MatchResult result
         (λ env. StandsFor env [] × IsTextOf (view value.now) env.names env.start)

@@ -28,6 +28,8 @@ fn fault_of(alloc: Global, nodes: &Nodes, kind: usize) -> Result<Fault, FaultErr
         3 => Fault::pause(alloc, nodes, &[third, first, third]),
         4 => Fault::kill(alloc, nodes, &[second, first, second]),
         5 => Fault::bump(alloc, nodes, &[(third, -500), (first, 500)]),
+        6 => Fault::fix(alloc, nodes, &links, 20),
+        7 => Fault::fix(alloc, nodes, &[], 0),
         _ => Fault::cut(alloc, nodes, &[]),
     }
 }
@@ -53,13 +55,15 @@ fn text(alloc: Global, kind: usize) -> Option<Vec<u8>> {
     }
 }
 
-static TEXTS: [&str; 7] = [
+static TEXTS: [&str; 9] = [
     "[:cut [[\"n2\" \"n1\"] [\"n2\" \"n3\"] [\"n1\" \"n2\"] [\"n3\" \"n2\"]]]",
     "[:slow 250 [[\"n2\" \"n1\"] [\"n2\" \"n3\"] [\"n1\" \"n2\"] [\"n3\" \"n2\"]]]",
     "[:loss 7 [[\"n2\" \"n1\"] [\"n2\" \"n3\"] [\"n1\" \"n2\"] [\"n3\" \"n2\"]]]",
     "[:pause [\"n2\" \"n3\"]]",
     "[:kill [\"n2\" \"n1\"]]",
     "[:bump {\"n2\" 500, \"n3\" -500}]",
+    "[:fix 20 [[\"n2\" \"n1\"] [\"n2\" \"n3\"] [\"n1\" \"n2\"] [\"n3\" \"n2\"]]]",
+    "[:fix 0 []]",
     "[:cut []]",
 ];
 

@@ -10,6 +10,8 @@ mod environment;
 #[cfg(test)]
 mod fault_texts;
 #[cfg(test)]
+mod faults;
+#[cfg(test)]
 mod grudge;
 #[cfg(test)]
 mod names;
@@ -17,5 +19,7 @@ mod names;
 mod rows;
 #[cfg(test)]
 mod starting;
+#[cfg(test)]
+mod taking;
 #[cfg(test)]
 mod texts;

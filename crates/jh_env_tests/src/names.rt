@@ -22,7 +22,10 @@ fn refusal_once(alloc: Global, names: &str) -> Option<String> {
 fn names_are_taken_or_refused(rt: HostRuntime) {
     let rows = "\
         => no nodes\n\
-        n,n,n,n,n,n,n,n,n,n,n,n,n,n,n,n,n,n,n,n,n,n,n,n,n,n,n,n,n,n,n,n,n,=> too many nodes\n\
+        a,b,c,d,e,f,g,h,i,j,k,l,m,n,o,p,q,r,s,t,u,v,w,x,y,z,A,B,C,D,E,F,G,H,I,J,K,L,M,N,O,P,Q,R,S,T,U,V,W,X,Y,Z,\
+        0,1,2,3,4,5,6,7,8,9,-,_,=> ok\n\
+        a,b,c,d,e,f,g,h,i,j,k,l,m,n,o,p,q,r,s,t,u,v,w,x,y,z,A,B,C,D,E,F,G,H,I,J,K,L,M,N,O,P,Q,R,S,T,U,V,W,X,Y,Z,\
+        0,1,2,3,4,5,6,7,8,9,-,_,.,=> too many nodes\n\
         n1,n 2,=> bad name\n\
         ,=> bad name\n\
         a234567890123456789012345678901234567890123456789012345678901234,=> ok\n\

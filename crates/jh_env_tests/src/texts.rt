@@ -58,7 +58,8 @@ const ROWS: &str = r#"{:nodes ["n1" "n2"]} => calm
 {:nodes ["n1" "n1"] :down [["n1" :running]]} => bad entry
 {:nodes ["n1"] :clock {"n1" 5}} => bad entry
 {:nodes []} => no nodes
-{:nodes ["a" "a" "a" "a" "a" "a" "a" "a" "a" "a" "a" "a" "a" "a" "a" "a" "a" "a" "a" "a" "a" "a" "a" "a" "a" "a" "a" "a" "a" "a" "a" "a" "a"]} => too many nodes
+{:nodes ["a" "a" "a" "a" "a" "a" "a" "a" "a" "a" "a" "a" "a" "a" "a" "a" "a" "a" "a" "a" "a" "a" "a" "a" "a" "a" "a" "a" "a" "a" "a" "a" "a" "a" "a" "a" "a" "a" "a" "a" "a" "a" "a" "a" "a" "a" "a" "a" "a" "a" "a" "a" "a" "a" "a" "a" "a" "a" "a" "a" "a" "a" "a" "a" "a"]} => too many nodes
+{:nodes ["a" "a" "a" "a" "a" "a" "a" "a" "a" "a" "a" "a" "a" "a" "a" "a" "a" "a" "a" "a" "a" "a" "a" "a" "a" "a" "a" "a" "a" "a" "a" "a" "a" "a" "a" "a" "a" "a" "a" "a" "a" "a" "a" "a" "a" "a" "a" "a" "a" "a" "a" "a" "a" "a" "a" "a" "a" "a" "a" "a" "a" "a" "a" "a"]} => duplicate name
 {:nodes ["n 1"] :cut [["n1" "n2"]]} => bad name
 {:nodes ["n1" "n1"]} => duplicate name
 {:nodes ["n1"] :cut [["n1" "n2"]]} => unknown node

@@ -15,7 +15,7 @@ use Rattle.jh_edn.specs.Edn.{Edn}
 use Rattle.jh_edn.specs.View.{view, views, view_pair, view_pairs}
 use Rattle.jh_edn.specs.declared.value.Value.{Value}
 use Rattle.jh_env.specs.Faults.{FaultValue, kept_links, is_self_link, is_unknown_link, is_unknown_node, is_unknown_bump, same_bumped, AreBumps, IsBumpAmount, RefusesLinks, RefusesNodes, RefusesBumps}
-use Rattle.jh_env.specs.Faults.FaultValue.{Slow, Loss, Bump}
+use Rattle.jh_env.specs.Faults.{Slow, Loss, Fix, Bump}
 use Rattle.jh_env.specs.declared.faults.FaultError.TheVariants as FaultError
 use Rattle.jh_nemesis.specs.FaultText.{links_told, nodes_told, bumps_told, links_fault, nodes_fault, ends_of, node_of, bump_of, place_of, both, link_names, node_name, bump_said, amount_within, is_bump_amount, are_apart_after, are_bumps}
 use Rattle.jh_nemesis.specs.declared.texts.shapes.OnLinks.{OnLinks}
@@ -39,8 +39,9 @@ links_told-self names effect links known self = rw (list_any-map (λ l. is_none 
 -- whether an amount is in its range, whatever the links
 right_anywhere : (effect : OnLinks) (links : List (ℕ × ℕ)) → is_some (links_fault effect links) ≡ is_some (links_fault effect [])
 right_anywhere OnLinks.Cut links = refl
-right_anywhere (OnLinks.Slow z) links = elim (amount_within 60000 z) as (λ o. is_some (option_map (λ ms. Slow ms (kept_links links)) o) ≡ is_some (option_map (λ ms. Slow ms (kept_links [])) o)) [ None ↦ refl | Some ms ↦ refl ]
-right_anywhere (OnLinks.Loss z) links = elim (amount_within 20 z) as (λ o. is_some (option_map (λ level. Loss level (kept_links links)) o) ≡ is_some (option_map (λ level. Loss level (kept_links [])) o)) [ None ↦ refl | Some level ↦ refl ]
+right_anywhere (OnLinks.Slow z) links = elim (amount_within 1 60000 z) as (λ o. is_some (option_map (λ ms. Slow ms (kept_links links)) o) ≡ is_some (option_map (λ ms. Slow ms (kept_links [])) o)) [ None ↦ refl | Some ms ↦ refl ]
+right_anywhere (OnLinks.Loss z) links = elim (amount_within 1 20 z) as (λ o. is_some (option_map (λ level. Loss level (kept_links links)) o) ≡ is_some (option_map (λ level. Loss level (kept_links [])) o)) [ None ↦ refl | Some level ↦ refl ]
+right_anywhere (OnLinks.Fix z) links = elim (amount_within 0 60000 z) as (λ o. is_some (option_map (λ ms. Fix ms (kept_links links)) o) ≡ is_some (option_map (λ ms. Fix ms (kept_links [])) o)) [ None ↦ refl | Some ms ↦ refl ]
 
 none_there : {A : Type 0} (o : Option A) → is_some o ≡ false → o ≡ None
 none_there None e = refl

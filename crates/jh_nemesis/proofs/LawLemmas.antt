@@ -15,10 +15,10 @@ use Rattle.jh_nemesis.specs.declared.steps.Step.{Step}
 use Rattle.std.proofs.Math.Bool.{or-false}
 use Rattle.std.proofs.Common.{Option, Some, None, arith}
 use Rattle.std.specs.Prelude.{option_map}
-use Rattle.jh_env.specs.declared.cells.Life.{Life}
-use Rattle.jh_env.specs.declared.cells.Life.TheVariants.{Running, Paused, Killed}
-use Rattle.jh_env.specs.declared.cells.Link.{Link}
-use Rattle.jh_env.specs.declared.cells.NodeCell.{NodeCell}
+use Rattle.jh_env.specs.Cells.{Life}
+use Rattle.jh_env.specs.Cells.{Running, Paused, Killed}
+use Rattle.jh_env.specs.Cells.{Link}
+use Rattle.jh_env.specs.Cells.{NodeCell}
 use Rattle.jh_env.specs.Cells.{link_at, node_at}
 use Rattle.jh_env.specs.Overlay.{EnvValue, StandsFor, node_over, is_killed, is_paused}
 use Rattle.jh_nemesis.specs.declared.steps.Step.TheVariants.{Begin, Withdraw, WithdrawAll}

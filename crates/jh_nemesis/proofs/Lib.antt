@@ -1,5 +1,7 @@
-pub mod PlaceLemmas
-pub mod BeginLemmas
+pub mod StampLemmas
+pub mod RecordLemmas
+pub mod EffectLemmas
+pub mod CursorLemmas
 pub mod LawLemmas
 pub mod ListLemmas
 pub mod LinkLemmas

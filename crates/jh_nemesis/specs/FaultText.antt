@@ -1,5 +1,5 @@
--- Faults as EDN values (this project's own): `[:cut LINKS]`, `[:slow MS LINKS]`, `[:loss LEVEL LINKS]`, `[:pause NODES]`,
--- `[:kill NODES]` and `[:bump {"n1" 500, ..}]`, where LINKS are `[[src dst] ..]`, NODES `["n1" ..]`, and each name is a
+-- Faults as EDN values (this project's own): `[:cut LINKS]`, `[:slow MS LINKS]`, `[:loss LEVEL LINKS]`, `[:fix MS LINKS]`,
+-- `[:pause NODES]`, `[:kill NODES]` and `[:bump {"n1" 500, ..}]`, where LINKS are `[[src dst] ..]`, NODES `["n1" ..]`, and each name is a
 -- node's; or a cut that is named by a grudge over all nodes: `[:halves]`, `[:split-one "n1"]`, `[:bridge]`, `[:ring]` and
 -- `[:ring SEED]`. A new kind of fault is a new case here.
 use Rattle.std.specs.Prelude.{◌≡◌, ℕ, ◌^◌, ◌&&◌, ◌⊎◌, Bool, true, ℤ, pos, negsuc, List, [], ◌∷◌, ◌++◌, length, codes, not, nat_lt, nat_le, if◌then◌else◌, is_none, is_some, option_and_then, option_map, position, Option, Some, None, Result, Ok, Err, MatchResult, IsOk}
@@ -8,7 +8,7 @@ use Rattle.std.specs.Str.{bytes_eq}
 use Rattle.jh_edn.specs.Edn.{Edn, int, str, keyword, mapping, elements_of}
 use Rattle.jh_env.specs.Text.{pairs_in}
 use Rattle.jh_env.specs.Faults.{FaultValue, kept_links, kept_nodes, is_self_link, same_bumped}
-use Rattle.jh_env.specs.Faults.FaultValue.{Cut, Slow, Loss, Pause, Kill, Bump}
+use Rattle.jh_env.specs.Faults.{Cut, Slow, Loss, Fix, Pause, Kill, Bump}
 use Rattle.jh_env.specs.declared.faults.FaultError.TheVariants as FaultError
 use Rattle.jh_nemesis.specs.declared.texts.StepTextError.{StepTextError}
 use Rattle.jh_nemesis.specs.declared.texts.StepTextError.TheVariants.{UnknownNode, SelfLink, BadAmount, OutOfMemory}
@@ -87,6 +87,7 @@ abbrev pub measured_fault : List ℕ → ℤ → Edn → Option Spelled
 measured_fault word z v =
     if bytes_eq word (codes "slow") then option_map (Links (OnLinks.Slow z)) (links_in v)
     else if bytes_eq word (codes "loss") then option_map (Links (OnLinks.Loss z)) (links_in v)
+    else if bytes_eq word (codes "fix") then option_map (Links (OnLinks.Fix z)) (links_in v)
     else None
 
 abbrev pub spelled_in : List Edn → Option Spelled
@@ -119,10 +120,10 @@ node_of names v = option_and_then (place_of names) (node_name v)
 abbrev pub bump_of : List (List ℕ) → Edn × Edn → Option (ℕ × ℤ)
 bump_of names b = option_and_then (λ said. option_map (λ node. (node, said.1)) (place_of names said.0)) (bump_said b)
 
--- an integer from 1 to the most
-abbrev pub amount_within : ℕ → ℤ → Option ℕ
-amount_within most (pos n) = if nat_lt 0 n && nat_le n most then Some n else None
-amount_within most (negsuc n) = None
+-- an integer from the least to the most
+abbrev pub amount_within : ℕ → ℕ → ℤ → Option ℕ
+amount_within least most (pos n) = if nat_le least n && nat_le n most then Some n else None
+amount_within least most (negsuc n) = None
 
 -- some milliseconds, at most 10^9 either way
 abbrev pub is_bump_amount : ℤ → Bool
@@ -138,11 +139,13 @@ are_apart_after before (b ∷ bs) = not (list_any (λ x. same_bumped x b) before
 abbrev pub are_bumps : List (ℕ × ℤ) → Bool
 are_bumps bumps = list_all (λ b. is_bump_amount b.1) bumps && are_apart_after [] bumps
 
--- the fault on these links, if its amount is in its range: 1 to 60,000 milliseconds, a level of 1 to 20
+-- the fault on these links, if its amount is in its range: 1 to 60,000 milliseconds, a level of 1 to 20, 0 to 60,000
+-- milliseconds
 abbrev pub links_fault : OnLinks → List (ℕ × ℕ) → Option FaultValue
 links_fault OnLinks.Cut links = Some (Cut (kept_links links))
-links_fault (OnLinks.Slow z) links = option_map (λ ms. Slow ms (kept_links links)) (amount_within 60000 z)
-links_fault (OnLinks.Loss z) links = option_map (λ level. Loss level (kept_links links)) (amount_within 20 z)
+links_fault (OnLinks.Slow z) links = option_map (λ ms. Slow ms (kept_links links)) (amount_within 1 60000 z)
+links_fault (OnLinks.Loss z) links = option_map (λ level. Loss level (kept_links links)) (amount_within 1 20 z)
+links_fault (OnLinks.Fix z) links = option_map (λ ms. Fix ms (kept_links links)) (amount_within 0 60000 z)
 
 abbrev pub nodes_fault : OnNodes → List ℕ → FaultValue
 nodes_fault OnNodes.Pause nodes = Pause (kept_nodes nodes)

@@ -1,6 +1,6 @@
 -- What follows for steps (this project's own).
 use Rattle.std.specs.Prelude.{◌≡◌, ◌≢◌, ℕ, ◌≤◌, Bool, true, false, List, [], ◌∷◌, ◌++◌, length, replicate}
-use Rattle.jh_env.specs.declared.cells.Link.{Link}
+use Rattle.jh_env.specs.Cells.{Link}
 use Rattle.jh_env.specs.Cells.{link_at, node_at}
 use Rattle.jh_env.specs.Faults.{FaultValue}
 use Rattle.jh_env.specs.Overlay.{EnvValue, IsOverlay, StandsFor, cuts, cells_of, link_of, node_of, link_over}

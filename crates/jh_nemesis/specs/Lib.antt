@@ -1,9 +1,9 @@
 pub mod State
+pub mod Work
 pub mod Steps
 pub mod Laws
-pub mod Timeline
-pub mod TimelineInside
-pub mod Places
+pub mod Records
+pub mod RecordsInside
 pub mod NemesisInside
 pub mod NamedFaults
 pub mod GrudgeLaws

@@ -1,26 +1,26 @@
 -- What a contract sees of a nemesis's fields, and what holds of them.
-use Rattle.std.specs.Prelude.{ℕ, List, map}
-use Rattle.jh_env.specs.Faults.{FaultValue}
+use Rattle.std.specs.Prelude.{ℕ, List, ◌-◌, length}
 use Rattle.jh_env.specs.Overlay.{EnvValue}
 use Rattle.jh_nemesis.specs.State.{State}
-use Rattle.jh_nemesis.specs.Places.{faults_at, IsTrueTo}
-use Rattle.jh_nemesis.specs.Timeline.{Moments}
+use Rattle.jh_nemesis.specs.Records.{faults_at, past_of, future_of}
+use Rattle.jh_nemesis.specs.RecordsInside.{IsTrueTo}
+use Rattle.jh_nemesis.specs.declared.records.Record.{Record}
 use Rattle.jh_nemesis.specs.declared.nemesis.Nemesis.TheInside.{Inside}
 
--- the state of an environment, the faults that were begun, and the moments
-abbrev pub state_from : EnvValue → List (ℕ × FaultValue) → Moments → State
-state_from env begun m = record {
+-- the state of an environment, the steps, the cursor among them, and the active stamps
+abbrev pub state_from : EnvValue → List Record → ℕ → List ℕ → State
+state_from env records cursor active = record {
   names = env.names;
   start = env.start;
-  past = map (faults_at begun) m.past;
-  now = faults_at begun m.now;
-  future = map (faults_at begun) m.future;
+  past = past_of records cursor;
+  now = faults_at records active;
+  future = future_of records cursor (length records - cursor);
 }
 
 -- the state of the fields
 abbrev pub state_of : Inside → State
-state_of a = state_from a.env a.begun.items a.timeline
+state_of a = state_from a.env a.records.items a.cursor a.active.items
 
 -- what holds of the fields
 abbrev pub IsSound : Inside → Type 0
-IsSound a = IsTrueTo a.env a.begun.items a.timeline.past a.timeline.now a.timeline.future
+IsSound a = IsTrueTo a.env a.records.items a.cursor a.active.items

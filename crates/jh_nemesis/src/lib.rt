@@ -2,11 +2,12 @@
 //! the faults that are active make of its start.
 #![tactic(auto)]
 
+mod effects;
 mod laws;
 mod nemesis;
+mod records;
 mod steps;
 mod texts;
-mod timeline;
 
 pub use laws::{
     change_ends_future, cuts_of_others_stay, cuts_of_start_stay, environment_is_overlay,

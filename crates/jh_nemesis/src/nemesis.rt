@@ -1,20 +1,21 @@
-//! A nemesis: faults that are begun and withdrawn over an environment, and steps back and forth. `specs/Steps.antt` says what a step
-//! does, `specs/Places.antt` what holds between the fields.
+//! A nemesis: faults that are begun and withdrawn over an environment, and steps back and forth. `specs/Steps.antt`
+//! says what a step does, `specs/Records.antt` what the steps make active, `specs/RecordsInside.antt` what holds
+//! between the fields.
 
-ghost use Rattle.std.specs.Prelude.{◌≡◌, ◌≤◌, ◌<◌, ◌↔◌, [], true, length, option_map, slice_get, MatchResult, OnErr, OnOk, IfOk, IsOk, IsErr};
+ghost use Rattle.std.specs.Prelude.{◌≡◌, ◌≤◌, ◌<◌, ◌↔◌, [], true, false, length, nat_le, option_map, slice_get, MatchResult, OnErr, OnOk, IfOk, IsOk, IsErr};
 ghost use Rattle.std.specs.List.{All};
 ghost use Rattle.jh_env.specs.Overlay.{StandsFor, SamePlace};
 ghost use Rattle.jh_env.specs.Faults.{FitsCount};
-ghost use Rattle.jh_nemesis.specs.State as spec;
-ghost use Rattle.jh_nemesis.specs.State.{faults_in, first_state};
-ghost use Rattle.jh_nemesis.specs.Steps as spec_steps;
-ghost use Rattle.jh_nemesis.specs.Places.{faults_at, ArePlaces};
+ghost use Rattle.jh_nemesis.specs.State.{faults_in, first_state, is_empty, back_to, forth_to};
+ghost use Rattle.jh_nemesis.specs.Records.{faults_at, fault_of, record_at};
+ghost use Rattle.jh_nemesis.specs.RecordsInside.{AreStamps};
 
+use crate::effects::{step_back, step_forth};
+use crate::records::{Record, Stamps, play, play_back, put_at, stamp_of};
 use crate::steps::{
     BeginError, MOST_ACTIVE, MOST_STEPS, NothingToRedo, NothingToUndo, Step, StepAnswer, Stopped,
     WithdrawAllError, WithdrawError,
 };
-use crate::timeline::{Places, Timeline};
 use jh_env::{Env, Fault};
 use std::alloc::{AllocError, Global};
 use std::marker::Model;
@@ -23,9 +24,11 @@ use std::marker::Model;
 /// names, the starting cells, and the active faults now and at the moments before.
 #[derive(Debug, Drop)]
 pub struct Nemesis {
+    alloc: Global,
     env: Env,
-    begun: Vec<(u32, Fault)>,
-    timeline: Timeline,
+    records: Vec<Record>,
+    cursor: usize,
+    active: Stamps,
 }
 
 impl Model for Nemesis {
@@ -38,59 +41,6 @@ impl Model for Nemesis {
     ghost view = { state_of };
 
     ghost invariant = { IsSound };
-}
-
-// Lays the faults at these places over the environment, and takes off all others.
-fn lay_all(env: &mut Env, begun: &[(u32, Fault)], places: &[usize])
-    requires known { ArePlaces (length begun.now) places.now }
-    requires fit { All (λ f. FitsCount (length env.old.names) f.1) begun.now }
-    ensures stands { StandsFor env.new (faults_in (faults_at begun.now places.now)) }
-    ensures kept { SamePlace env.old env.new }
-{
-    env.reset();
-    for place in places {
-        env.lay(&begun[*place].1);
-    }
-}
-
-// The places, as a list of their own.
-fn copy_of(places: &[usize]) -> Places
-    requires { length places.now ≤ MOST_ACTIVE }
-    ensures { result.items ≡ places.now }
-{
-    let mut copy = Places::new();
-    for place in places {
-        copy.push(*place);
-    }
-    copy
-}
-
-// Whether one of the faults at these places has the id.
-fn is_active(begun: &[(u32, Fault)], places: &[usize], id: u32) -> bool
-    requires { All (λ k. k < length begun.now) places.now }
-    ensures { result ≡ spec.is_active (faults_at begun.now places.now) id }
-{
-    for place in places {
-        if begun[*place].0 == id {
-            return true;
-        }
-    }
-    false
-}
-
-// The places but those of an id.
-fn without(begun: &[(u32, Fault)], places: &[usize], id: u32) -> Places
-    requires { ArePlaces (length begun.now) places.now }
-    ensures value { faults_at begun.now result.items ≡ spec_steps.without (faults_at begun.now places.now) id }
-    ensures known { ArePlaces (length begun.now) result.items }
-{
-    let mut others = Places::new();
-    for place in places {
-        if begun[*place].0 != id {
-            others.push(*place);
-        }
-    }
-    others
 }
 
 impl Nemesis {
@@ -117,9 +67,11 @@ impl Nemesis {
         ensures { result ≡ first_state env }
     {
         Nemesis {
+            alloc,
             env,
-            begun: Vec::new(alloc),
-            timeline: Timeline::new(alloc),
+            records: Vec::new(alloc),
+            cursor: 0,
+            active: Stamps::new(),
         }
     }
 
@@ -137,50 +89,44 @@ impl Nemesis {
         ensures len { result ≡ length self.now.now }
         ensures few { result ≤ MOST_ACTIVE }
     {
-        self.timeline.now().len()
+        self.active.len()
     }
 
     /// The active fault at this place from 0, with its id, in the order in which they were begun.
     pub fn active_at(&self, place: usize) -> Option<(u32, &Fault)>
         ensures { option_map (λ f. (f.0, f.1.now)) result ≡ slice_get self.now.now place }
     {
-        let begun = *self.timeline.now().get(place)?;
-        let (id, fault) = &self.begun[begun];
-        Some((*id, fault))
+        let stamp = *self.active.get(place)?;
+        match &self.records[stamp] {
+            Record::Begun(id, fault) => Some((*id, fault)),
+            _ => None,
+        }
+    }
+
+    // Whether so many steps lie in the past that none can follow.
+    fn is_full(&self) -> bool
+        ensures { result ≡ nat_le MOST_STEPS (length self.now.past) }
+    {
+        self.cursor >= MOST_STEPS
     }
 
     // The answer to a begin, if there is memory.
     fn check_begin(&self, id: u32) -> StepAnswer
         ensures { result ≡ begin_answer self.now id }
     {
-        let active = self.timeline.now();
-        if is_active(&self.begun, active, id) {
+        if stamp_of(&self.records, &self.active, id).is_some() {
             return StepAnswer::IdTaken;
         }
-        if active.len() >= MOST_ACTIVE {
+        if self.active.len() >= MOST_ACTIVE {
             return StepAnswer::TooManyActive;
         }
-        if self.timeline.is_full() {
+        if self.is_full() {
             return StepAnswer::TooManySteps;
         }
         StepAnswer::Ok
     }
 
-    // The answer to a withdrawal, if there is memory.
-    fn check_withdraw(&self, id: u32) -> StepAnswer
-        ensures answer { result ≡ withdraw_answer self.now id }
-        ensures room { result ≡ StepAnswer.Ok → length self.now.past < MOST_STEPS }
-    {
-        if !is_active(&self.begun, self.timeline.now(), id) {
-            return StepAnswer::NotActive;
-        }
-        if self.timeline.is_full() {
-            return StepAnswer::TooManySteps;
-        }
-        StepAnswer::Ok
-    }
-
-    // All memory is taken before the first change.
+    // An accepted step is put at the cursor, as though it had been undone, and then taken as a redo takes it.
     fn begin_step(&mut self, id: u32, fault: Fault) -> Result<StepAnswer, AllocError>
         requires { FitsCount (length self.old.names) fault }
         ensures ok { IfOk result (λ answer. (answer ≡ begin_answer self.old id) × (self.new ≡ state_after self.old (Begin id fault))) }
@@ -190,13 +136,8 @@ impl Nemesis {
         if answer != StepAnswer::Ok {
             return Ok(answer);
         }
-        self.begun.reserve(1)?;
-        self.timeline.make_room()?;
-        let mut next = copy_of(self.timeline.now());
-        next.push(self.begun.len());
-        self.begun.push_reserved((id, fault));
-        self.timeline.move_on(next);
-        lay_all(&mut self.env, &self.begun, self.timeline.now());
+        put_at(&mut self.records, self.cursor, Record::Begun(id, fault))?;
+        self.go_forth();
         Ok(StepAnswer::Ok)
     }
 
@@ -204,26 +145,25 @@ impl Nemesis {
         ensures ok { IfOk result (λ answer. (answer ≡ withdraw_answer self.old id) × (self.new ≡ state_after self.old (Withdraw id))) }
         ensures err { OnErr result ((withdraw_answer self.old id ≡ StepAnswer.Ok) × (self.new ≡ self.old)) }
     {
-        let answer = self.check_withdraw(id);
-        if answer != StepAnswer::Ok {
-            return Ok(answer);
+        let Some(stamp) = stamp_of(&self.records, &self.active, id) else {
+            return Ok(StepAnswer::NotActive);
+        };
+        if self.is_full() {
+            return Ok(StepAnswer::TooManySteps);
         }
-        self.timeline.make_room()?;
-        let next = without(&self.begun, self.timeline.now(), id);
-        self.timeline.move_on(next);
-        lay_all(&mut self.env, &self.begun, self.timeline.now());
+        put_at(&mut self.records, self.cursor, Record::Withdrawn(stamp))?;
+        self.go_forth();
         Ok(StepAnswer::Ok)
     }
 
     // The answer to a withdrawal of all faults, if there is memory.
     fn check_withdraw_all(&self) -> StepAnswer
-        ensures answer { result ≡ withdraw_all_answer self.now }
-        ensures room { result ≡ StepAnswer.Ok → length self.now.past < MOST_STEPS }
+        ensures { result ≡ withdraw_all_answer self.now }
     {
-        if self.timeline.now().is_empty() {
+        if self.active.is_empty() {
             return StepAnswer::NothingActive;
         }
-        if self.timeline.is_full() {
+        if self.is_full() {
             return StepAnswer::TooManySteps;
         }
         StepAnswer::Ok
@@ -237,21 +177,54 @@ impl Nemesis {
         if answer != StepAnswer::Ok {
             return Ok(answer);
         }
-        self.timeline.make_room()?;
-        self.timeline.move_on(Places::new());
-        self.env.reset();
+        let stamps = Vec::from_slice(self.alloc, &self.active)?;
+        put_at(&mut self.records, self.cursor, Record::WithdrawnAll(stamps))?;
+        self.go_forth();
         Ok(StepAnswer::Ok)
+    }
+
+    // Whether no step lies before.
+    fn is_at_start(&self) -> bool
+        ensures { result ≡ is_empty self.now.past }
+    {
+        self.cursor == 0
+    }
+
+    // Whether no step was undone.
+    fn is_at_end(&self) -> bool
+        ensures { result ≡ is_empty self.now.future }
+    {
+        self.cursor == self.records.len()
+    }
+
+    // Goes back to the moment before the last step.
+    fn go_back(&mut self)
+        requires { is_empty self.old.past ≡ false }
+        ensures { self.new ≡ back_to self.old self.old.past }
+    {
+        self.cursor -= 1;
+        step_back(&mut self.env, &self.records, self.cursor);
+        play_back(&self.records, self.cursor, &mut self.active);
+    }
+
+    // Goes forth to the moment after the next step.
+    fn go_forth(&mut self)
+        requires { is_empty self.old.future ≡ false }
+        ensures { self.new ≡ forth_to self.old self.old.future }
+    {
+        step_forth(&mut self.env, &self.records, self.cursor);
+        play(&self.records, self.cursor, &mut self.active);
+        self.cursor += 1;
     }
 
     fn undo_step(&mut self) -> StepAnswer
         ensures answer { result ≡ answer_of self.old Undo }
         ensures state { self.new ≡ state_after self.old Undo }
     {
-        if self.timeline.is_at_start() {
+        if self.is_at_start() {
             return StepAnswer::NothingToUndo;
         }
-        self.timeline.go_back();
-        lay_all(&mut self.env, &self.begun, self.timeline.now());
+        self.go_back();
         StepAnswer::Ok
     }
 
@@ -259,16 +232,16 @@ impl Nemesis {
         ensures answer { result ≡ answer_of self.old Redo }
         ensures state { self.new ≡ state_after self.old Redo }
     {
-        if self.timeline.is_at_end() {
+        if self.is_at_end() {
             return StepAnswer::NothingToRedo;
         }
-        self.timeline.go_forth();
-        lay_all(&mut self.env, &self.begun, self.timeline.now());
+        self.go_forth();
         StepAnswer::Ok
     }
 
     /// Takes a step, and answers it; a refused step changes nothing. The fault of a begin must fit the
-    /// environment, as `Fault::fits` tests. An accepted step takes time for the cells of all active faults.
+    /// environment, as `Fault::fits` tests. An accepted step takes time for the links and nodes that those faults name
+    /// which it begins or ends, and for the stamps of the active faults, at most 256.
     ///
     /// Error: memory was refused to a step that would be accepted. Then nothing has changed. A step back or forth
     /// takes no memory.

@@ -108,8 +108,8 @@ fn word_of(word: &str) -> Result<Step, StepTextError>
 
 /// The step that a value tells, its nodes given by their names: `[:begin ID FAULT]`, `[:withdraw ID]`,
 /// `[:withdraw-all]`, `[:undo]` or `[:redo]`, ids from 0 to 4,294,967,295. A fault is `[:cut LINKS]`,
-/// `[:slow MS LINKS]`, `[:loss LEVEL LINKS]`, `[:pause NODES]`, `[:kill NODES]` or `[:bump {NODE MS, ..}]`; or it is the
-/// cut of a grudge over all nodes: `[:halves]`, `[:split-one NODE]`, `[:bridge]`, `[:ring]`, which takes the nodes as they
+/// `[:slow MS LINKS]`, `[:loss LEVEL LINKS]`, `[:fix MS LINKS]`, `[:pause NODES]`, `[:kill NODES]` or `[:bump {NODE MS, ..}]`;
+/// or it is the cut of a grudge over all nodes: `[:halves]`, `[:split-one NODE]`, `[:bridge]`, `[:ring]`, which takes the nodes as they
 /// are listed, or `[:ring SEED]`, which shuffles them first, for one seed always alike. `named_faults_are_grudges` ties these
 /// to their grudges.
 ///

@@ -5,7 +5,7 @@
 //! - `begin 1`, `withdraw 1`, `withdraw-all`, `undo`, `redo` are the calls of those names; `apply-begin 1`, `apply-withdraw 1`
 //!   take such a step by `apply`, `few` takes three steps by `apply_all`. Answers `ok` or the message of the refusal.
 //! - `begins 256` begins faults with the ids below 256, `rounds 2048` begins and withdraws one so often.
-//! - `active` tells the ids of the active faults, `link` whether the link is cut.
+//! - `active` tells the ids of the active faults, `link` whether the link is cut, `work` how often a cell was written.
 //!
 //! A call whose memory was refused is made again where the number of active faults stayed.
 
@@ -176,6 +176,7 @@ fn act(alloc: Global, nemesis: &mut Nemesis, name: &str, number: u32) -> Option<
         "few" => few(alloc, nemesis),
         "active" => active(alloc, nemesis),
         "link" => link(alloc, nemesis.env()),
+        "work" => format!(in alloc; "{}", nemesis.env().work()).ok(),
         _ => None,
     }
 }
@@ -213,6 +214,9 @@ fn steps_are_answered(rt: HostRuntime) {
         undo; redo; withdraw-all → nothing to undo; nothing to redo; nothing active; \n\
         begin 1; withdraw-all; active; link; undo; link → ok; ok; ; open; ok; cut; \n\
         few → nothing to undo, nothing to redo, not active, ; \n\
+        begin 1; begin 2; withdraw 1; withdraw 2; work → ok; ok; ok; ok; 4; \n\
+        begin 1; withdraw 1; undo; redo; work → ok; ok; ok; ok; 4; \n\
+        begins 256; begin 256; undo; work → ok; too many active; ok; 257; \n\
         rounds 2048; begin 1; withdraw 1 → ok; too many steps; not active; ";
     for row in rows.lines() {
         let (calls, wanted) = row.split_once(" → ").unwrap_or((row, ""));

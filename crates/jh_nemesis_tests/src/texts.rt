@@ -47,6 +47,13 @@ const ROWS: &str = r#"[:begin 0 [:cut [["n2" "n1"] ["n2" "n1"]]]] → begin 0
 [:begin 1 [:slow 0 [["n1" "n1"]]]] → self link
 [:begin 1 [:slow 0 [["n1" "n3"]]]] → unknown node
 [:begin 1 [:slow [["n1" "n2"]]]] → bad step
+[:begin 1 [:fix 0 [["n1" "n2"]]]] → begin 1
+[:begin 1 [:fix 60000 []]] → begin 1
+[:begin 1 [:fix 60001 []]] → bad amount
+[:begin 1 [:fix -1 []]] → bad amount
+[:begin 1 [:fix 60001 [["n1" "n1"]]]] → self link
+[:begin 1 [:fix 60001 [["n1" "n3"]]]] → unknown node
+[:begin 1 [:fix [["n1" "n2"]]]] → bad step
 [:begin 1 [:loss 1 []]] → begin 1
 [:begin 1 [:loss 20 [["n1" "n2"]]]] → begin 1
 [:begin 1 [:loss 0 []]] → bad amount

@@ -1,11 +1,11 @@
 use Rattle.std.proofs.Common.{◌≡◌, ℕ, ◌+◌, ◌≤◌, Bool, true, false, List, [], ◌∷◌, ◌++◌, length, filter, not, refl, ap, ◌∙◌, arith, length-append, add-zero}
 use Rattle.std.specs.Prelude.{ℤ, Option, Some, None, option_map, if◌then◌else◌}
-use Rattle.jh_env.specs.declared.cells.Life.{Life}
-use Rattle.jh_env.specs.declared.cells.Life.TheVariants.{Running, Paused, Killed}
-use Rattle.jh_env.specs.declared.cells.Link.{Link}
+use Rattle.jh_env.specs.Cells.{Life}
+use Rattle.jh_env.specs.Cells.{Running, Paused, Killed}
+use Rattle.jh_env.specs.Cells.{Link}
 use Rattle.jh_env.specs.Cells.{Table, link_at, node_at}
 use Rattle.jh_env.specs.Overlay.{link_over, node_over}
-use Rattle.jh_env.specs.declared.cells.NodeCell.{NodeCell}
+use Rattle.jh_env.specs.Cells.{NodeCell}
 use Rattle.std.proofs.Math.Bool.{or-false}
 use Rattle.jh_nemesis.specs.State.{State, Active, faults_in, has_id, back_to, forth_to}
 use Rattle.jh_nemesis.specs.Steps.{state_after, state_after_all, answer_of, moved, is_ok}

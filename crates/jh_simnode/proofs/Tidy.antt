@@ -3,9 +3,9 @@ use Rattle.std.specs.Prelude.{ℤ, Option, Some, None, if◌then◌else◌}
 use Rattle.std.specs.List.{fold}
 use Rattle.std.proofs.lemmas.Bool.{cases_eq, cases_lt}
 use Rattle.std.proofs.lemmas.List.{get_or-set_same, get_or-set_other, set_past, length-set}
-use Rattle.jh_env.specs.declared.cells.Life.{Life}
-use Rattle.jh_env.specs.declared.cells.Life.TheVariants.{Running, Paused, Killed}
-use Rattle.jh_env.specs.declared.cells.NodeCell.{NodeCell}
+use Rattle.jh_env.specs.Cells.{Life}
+use Rattle.jh_env.specs.Cells.{Running, Paused, Killed}
+use Rattle.jh_env.specs.Cells.{NodeCell}
 use Rattle.jh_simnode.specs.declared.copies.NodeCopy.{NodeCopy}
 use Rattle.jh_simnode.specs.declared.copies.Mark.TheVariants.{Version, Stamp}
 use Rattle.jh_simnode.specs.declared.settings.Settings.{Settings}

@@ -1,9 +1,9 @@
 -- Whom a call of a node reaches, and whom it hears in time (this project's own).
 use Rattle.std.specs.Prelude.{ℕ, zero, suc, ◌+◌, ◌%◌, ◌==◌, ◌&&◌, ◌||◌, Bool, true, false, not, List, [], ◌∷◌, ◌++◌, Option, Some, None, nat_le, filter, option_map}
-use Rattle.jh_env.specs.declared.cells.Life.{Life}
-use Rattle.jh_env.specs.declared.cells.Life.TheVariants.{Running, Paused, Killed}
-use Rattle.jh_env.specs.declared.cells.Link.{Link}
-use Rattle.jh_env.specs.declared.cells.NodeCell.{NodeCell}
+use Rattle.jh_env.specs.Cells.{Life}
+use Rattle.jh_env.specs.Cells.{Running, Paused, Killed}
+use Rattle.jh_env.specs.Cells.{Link}
+use Rattle.jh_env.specs.Cells.{NodeCell}
 use Rattle.jh_env.specs.Faults.{FaultValue}
 use Rattle.jh_env.specs.Cells.{Table, link_at, node_at}
 use Rattle.jh_env.specs.Overlay.{EnvValue, link_over, node_over}

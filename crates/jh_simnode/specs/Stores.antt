@@ -1,9 +1,9 @@
 -- What each store does with a request and with a tick, and what a killed node forgets (this project's own).
 use Rattle.std.specs.Prelude.{ℕ, ℤ, pos, ◌+◌, ◌/◌, ◌+ℤ◌, ◌&&◌, Bool, false, not, List, [], ◌∷◌, Option, Some, None, nat_lt, length, fold, slice_set, slice_index_or, map, filter, if◌then◌else◌}
-use Rattle.jh_env.specs.declared.cells.Life.{Life}
-use Rattle.jh_env.specs.declared.cells.Life.TheVariants.{Running, Paused, Killed}
-use Rattle.jh_env.specs.declared.cells.Link.{Link}
-use Rattle.jh_env.specs.declared.cells.NodeCell.{NodeCell}
+use Rattle.jh_env.specs.Cells.{Life}
+use Rattle.jh_env.specs.Cells.{Running, Paused, Killed}
+use Rattle.jh_env.specs.Cells.{Link}
+use Rattle.jh_env.specs.Cells.{NodeCell}
 use Rattle.jh_ops.specs.declared.call.Request.{Request}
 use Rattle.jh_simnode.specs.declared.settings.Settings.{Settings}
 use Rattle.jh_simnode.specs.declared.settings.Store.{Store}

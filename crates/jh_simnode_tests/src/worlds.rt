@@ -24,6 +24,10 @@ const ACTS: &str = r#"
 {:start {:nodes ["n1" "n2" "n3"]}, :store :quorum, :initial 0}
 [:begin 1 [:slow 600 [["n1" "n2"] ["n2" "n1"] ["n1" "n3"] ["n3" "n1"]]]] [0 [:write 5]] [0 :read] [1 :read]
 → Ok; info; fail; ok 5
+§ ; a majority that a fix makes late leaves a write unknown
+{:start {:nodes ["n1" "n2" "n3"]}, :store :quorum, :initial 0}
+[:begin 1 [:fix 600 [["n1" "n2"] ["n2" "n1"] ["n1" "n3"] ["n3" "n1"]]]] [0 [:write 5]] [0 :read] [1 :read]
+→ Ok; info; fail; ok 5
 § ; a second is in time
 {:start {:nodes ["n1" "n2"]}, :store :quorum, :initial 0}
 [:begin 1 [:slow 500 [["n1" "n2"] ["n2" "n1"]]]] [0 [:write 5]] [:begin 2 [:slow 1 [["n2" "n1"]]]] [0 [:write 6]] [0 :read] [:undo] [1 :read]

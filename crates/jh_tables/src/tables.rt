@@ -49,6 +49,7 @@ impl Tables {
         requires starting { All IsStartingLink links.now × All IsStartingNode nodes.now }
         ensures stands { IfOk result (λ tables. StandsAt tables []) }
         ensures start { IfOk result (λ tables. tables.start ≡ record { links = links.now; nodes = nodes.now }) }
+        ensures whole { IfOk result (λ tables. length tables.now.nodes ≡ length nodes.now) }
         ensures work { IfOk result (λ tables. tables.tallies.work ≡ 0) }
     {
         Ok(Tables {
@@ -111,6 +112,7 @@ impl Tables {
         requires room { self.old.laid < MAX_LAID }
         ensures stands { IsPut (stamp, fault_of fault.now) self.old self.new }
         ensures start { self.new.start ≡ self.old.start }
+        ensures whole { length self.new.now.nodes ≡ length self.old.now.nodes }
         ensures work { self.new.tallies.work ≤ self.old.tallies.work + size_of (fault_of fault.now) }
     {
         turn_all(&mut self.counted, Turn::Put, fault, stamp);
@@ -122,6 +124,7 @@ impl Tables {
         requires { StandsAtSome self.old (stamp, fault_of fault.now) }
         ensures stands { IsTaken (stamp, fault_of fault.now) self.old self.new }
         ensures start { self.new.start ≡ self.old.start }
+        ensures whole { length self.new.now.nodes ≡ length self.old.now.nodes }
         ensures work { self.new.tallies.work ≤ self.old.tallies.work + size_of (fault_of fault.now) }
     {
         turn_all(&mut self.counted, Turn::Take, fault, stamp);

@@ -7,17 +7,19 @@ ghost use Rattle.std.specs.Ordering.{is_lt};
 ghost use Rattle.jh_edn.specs.Edn.{vector, items_of};
 ghost use Rattle.jh_edn.specs.Order.{in_order};
 ghost use Rattle.jh_edn.specs.View.{view, views, view_pair, view_pairs};
-ghost use Rattle.jh_env.specs.Effects.{on_links, on_nodes, IsLinkAmount};
+ghost use Rattle.jh_tables.specs.Plain.{on_links, on_nodes};
+ghost use Rattle.jh_env.specs.Effects.{IsLinkAmount};
 ghost use Rattle.jh_env.specs.Faults.{FitsCount};
-ghost use Rattle.jh_env.specs.Faults.FaultValue.{Bump};
+ghost use Rattle.jh_tables.specs.Faults.FaultValue.{Bump};
 ghost use Rattle.jh_env.specs.FaultWritten as text;
 ghost use Rattle.jh_env.specs.TextInside.{effect_parts};
 ghost use Rattle.jh_env.specs.FaultWritten.{is_bump_before, fault_in_order, fault_parts, text_of_fault};
 
 use super::writing::{keyword, string};
-use crate::faults::{Down, Effect, Fault, LinkEffect};
-use crate::names::{Node, Nodes};
+use crate::faults::Fault;
+use crate::names::Nodes;
 use jh_edn::{Pairs, Value, Values};
+use jh_tables::{LinkFault, Node, NodeFault, PlainFault};
 use std::alloc::{AllocError, Global};
 use std::cmp::Ordering;
 
@@ -107,21 +109,25 @@ fn sorted_bumps(alloc: Global, bumps: &[(Node, i64)]) -> Result<Vec<(Node, i64)>
     Ok(sorted)
 }
 
-// The word of an effect on links and its amount, before the links.
-fn effect_values(alloc: Global, effect: LinkEffect) -> Result<Vec<Value>, AllocError>
-    requires { IsLinkAmount effect }
-    ensures { IfOk result (λ values. views values.items ≡ effect_parts effect) }
+// The word of a fault of links and its amount, before the links.
+fn effect_values(alloc: Global, kind: LinkFault) -> Result<Vec<Value>, AllocError>
+    requires { IsLinkAmount kind }
+    ensures { IfOk result (λ values. views values.items ≡ effect_parts kind) }
 {
     let mut values = Vec::new(alloc);
-    match effect {
-        LinkEffect::Cut => values.push(keyword(alloc, "cut")?)?,
-        LinkEffect::Slow(ms) => {
+    match kind {
+        LinkFault::Cut => values.push(keyword(alloc, "cut")?)?,
+        LinkFault::Slow(ms) => {
             values.push(keyword(alloc, "slow")?)?;
             values.push(Value::Int(ms as i64))?;
         }
-        LinkEffect::Loss(level) => {
+        LinkFault::Loss(level) => {
             values.push(keyword(alloc, "loss")?)?;
             values.push(Value::Int(i64::from(level)))?;
+        }
+        LinkFault::Fix(ms) => {
+            values.push(keyword(alloc, "fix")?)?;
+            values.push(Value::Int(ms as i64))?;
         }
     }
     Ok(values)
@@ -130,16 +136,16 @@ fn effect_values(alloc: Global, effect: LinkEffect) -> Result<Vec<Value>, AllocE
 fn links_fault(
     alloc: Global,
     nodes: &Nodes,
-    effect: LinkEffect,
+    kind: LinkFault,
     links: &[(Node, Node)],
 ) -> Result<Vec<Value>, AllocError>
     requires known { All (λ l. (l.0 < length nodes.now) × (l.1 < length nodes.now)) links.now }
-    requires amount { IsLinkAmount effect }
+    requires amount { IsLinkAmount kind }
     ensures { IfOk result (λ values. views values.items
-        ≡ fault_parts nodes.now (fault_in_order (on_links effect links.now))) }
+        ≡ fault_parts nodes.now (fault_in_order (on_links kind links.now))) }
 {
     let links = sorted(alloc, links)?;
-    let mut values = effect_values(alloc, effect)?;
+    let mut values = effect_values(alloc, kind)?;
     values.push(Value::Vector(Values::of(link_values(alloc, nodes, &links)?)))?;
     Ok(values)
 }
@@ -147,18 +153,18 @@ fn links_fault(
 fn nodes_fault(
     alloc: Global,
     nodes: &Nodes,
-    down: Down,
+    kind: NodeFault,
     named: &[Node],
 ) -> Result<Vec<Value>, AllocError>
     requires { All (λ n. n < length nodes.now) named.now }
     ensures { IfOk result (λ values. views values.items
-        ≡ fault_parts nodes.now (fault_in_order (on_nodes down named.now))) }
+        ≡ fault_parts nodes.now (fault_in_order (on_nodes kind named.now))) }
 {
     let named = sorted(alloc, named)?;
     let mut values = Vec::new(alloc);
-    values.push(match down {
-        Down::Pause => keyword(alloc, "pause")?,
-        Down::Kill => keyword(alloc, "kill")?,
+    values.push(match kind {
+        NodeFault::Pause => keyword(alloc, "pause")?,
+        NodeFault::Kill => keyword(alloc, "kill")?,
     })?;
     values.push(Value::Vector(Values::of(node_values(alloc, nodes, &named)?)))?;
     Ok(values)
@@ -180,7 +186,7 @@ fn bumps_fault(
 }
 
 /// The text of a fault on these nodes: `[:cut LINKS]`, `[:slow MS LINKS]`, `[:loss LEVEL LINKS]`,
-/// `[:pause NODES]`, `[:kill NODES]` or `[:bump {NAME MS, ..}]`, where LINKS are `[[SOURCE DESTINATION] ..]` and
+/// `[:fix MS LINKS]`, `[:pause NODES]`, `[:kill NODES]` or `[:bump {NAME MS, ..}]`, where LINKS are `[[SOURCE DESTINATION] ..]` and
 /// NODES `[NAME ..]`. Links stand by the place of their source and then of their destination, nodes and bumps by
 /// place, whatever the order in which the fault was given them.
 ///
@@ -190,10 +196,10 @@ pub fn value_of_fault(alloc: Global, nodes: &Nodes, fault: &Fault) -> Result<Val
     requires { FitsCount (length nodes.now) fault.now }
     ensures { IfOk result (λ value. view value ≡ text_of_fault nodes.now fault.now) }
 {
-    let values = match &fault.effect {
-        Effect::OnLinks(effect, links) => links_fault(alloc, nodes, *effect, links)?,
-        Effect::OnNodes(down, named) => nodes_fault(alloc, nodes, *down, named)?,
-        Effect::Bump(bumps) => bumps_fault(alloc, nodes, bumps)?,
+    let values = match &fault.fault {
+        PlainFault::OnLinks(kind, links) => links_fault(alloc, nodes, *kind, links)?,
+        PlainFault::OnNodes(kind, named) => nodes_fault(alloc, nodes, *kind, named)?,
+        PlainFault::Bump(bumps) => bumps_fault(alloc, nodes, bumps)?,
     };
     Ok(Value::Vector(Values::of(values)))
 }

@@ -12,9 +12,9 @@ ghost use Rattle.jh_env.specs.TextInside.{entry_said, entries_said, fits_link, A
 
 use super::EnvTextError;
 use super::entries::{Entry, LinkChange, NodeChange};
-use crate::cells::{Life, Link, NodeCell};
-use crate::names::{Node, Nodes};
+use crate::names::Nodes;
 use crate::starting::Start;
+use jh_tables::{Life, Link, Node, NodeCell};
 
 fn find(nodes: &Nodes, name: &str) -> Result<Node, EnvTextError>
     ensures { MatchResult result

@@ -4,23 +4,23 @@ ghost use Rattle.std.specs.Prelude.{◌≡◌, ◌∷◌, ◌++◌, length, map,
 ghost use Rattle.std.specs.List.{range_with_len};
 ghost use Rattle.jh_edn.specs.Edn.{str, keyword, vector, items_of};
 ghost use Rattle.jh_edn.specs.View.{view, views, view_pair, view_pairs};
-ghost use Rattle.jh_env.specs.Laying.{IsLinkWithin};
+ghost use Rattle.jh_tables.specs.Standing.{IsLinkInRange};
 ghost use Rattle.jh_env.specs.Text.{nodes_keyword, sections};
 ghost use Rattle.jh_env.specs.TextWritten as text;
 ghost use Rattle.jh_env.specs.TextWritten.{edn_of_entry};
 ghost use Rattle.jh_env.specs.TextInside.{entry_said, entries_said};
 
 use super::entries::{Entry, LinkChange, NodeChange, SECTIONS, Section};
-use crate::cells::{Life, Link, NodeCell};
-use crate::environment::{Env, MOST_DELAY};
-use crate::names::{Node, Nodes};
+use crate::environment::Env;
+use crate::names::Nodes;
 use jh_edn::{Text, Value, Values};
+use jh_tables::{Life, Link, Node, NodeCell};
 use std::alloc::{AllocError, Global};
 
 impl Section {
     /// What a link is said to be under this key.
     fn link_part(self, link: Link) -> Option<LinkChange>
-        requires { IsLinkWithin MOST_DELAY link }
+        requires { IsLinkInRange link }
         ensures { result ≡ text.link_part self link }
     {
         match self {

@@ -12,7 +12,7 @@ use super::StepTextError;
 use super::named::{named_fault, split_fault};
 use super::shapes::{OnLinks, OnNodes, Shape, bump_said, link_names, node_name};
 use jh_edn::Value;
-use jh_env::{Fault, FaultError, MOST_BUMPED, MOST_LOSS, MOST_SLOWED, Node, Nodes};
+use jh_env::{Fault, FaultError, MOST_BUMPED, MOST_FIXED, MOST_LOSS, MOST_SLOWED, Node, Nodes};
 use std::alloc::{AllocError, Global};
 
 // The nodes of a link, where both are known.
@@ -105,6 +105,7 @@ fn is_right(effect: OnLinks) -> bool
         OnLinks::Cut => true,
         OnLinks::Slow(ms) => ms >= 1 && ms <= MOST_SLOWED as i64,
         OnLinks::Loss(level) => level >= 1 && level <= i64::from(MOST_LOSS),
+        OnLinks::Fix(ms) => ms >= 0 && ms <= MOST_FIXED as i64,
     }
 }
 
@@ -148,7 +149,7 @@ fn are_apart(nodes: &Nodes, bumps: &[(Value, Value)]) -> bool
     true
 }
 
-// The fault on these links; an amount that does not fit its type is none.
+// The fault on these links. An amount that does not fit its type becomes one that is out of range.
 fn links_fault(
     alloc: Global,
     nodes: &Nodes,
@@ -164,6 +165,7 @@ fn links_fault(
         OnLinks::Cut => Fault::cut(alloc, nodes, ends),
         OnLinks::Slow(ms) => Fault::slow(alloc, nodes, ends, u64::try_from(ms).unwrap_or(0)),
         OnLinks::Loss(level) => Fault::loss(alloc, nodes, ends, u8::try_from(level).unwrap_or(0)),
+        OnLinks::Fix(ms) => Fault::fix(alloc, nodes, ends, u64::try_from(ms).unwrap_or(u64::MAX)),
     }
 }
 

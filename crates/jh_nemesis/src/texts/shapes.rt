@@ -14,6 +14,7 @@ pub enum OnLinks {
     Cut,
     Slow(i64),
     Loss(i64),
+    Fix(i64),
 }
 
 /// What is done to nodes.
@@ -191,6 +192,7 @@ fn measured_fault<'a>(word: &str, amount: i64, value: &'a Value) -> Option<Shape
     match word {
         "slow" => Some(Shape::Links(OnLinks::Slow(amount), links_in(value)?)),
         "loss" => Some(Shape::Links(OnLinks::Loss(amount), links_in(value)?)),
+        "fix" => Some(Shape::Links(OnLinks::Fix(amount), links_in(value)?)),
         _ => None,
     }
 }

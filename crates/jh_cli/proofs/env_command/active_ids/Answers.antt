@@ -3,7 +3,7 @@ use Rattle.std.specs.Prelude.{slice_get, Some, None}
 use Rattle.std.proofs.lemmas.List.{map-append}
 use Rattle.std.proofs.lemmas.Option.{slice_get-get_or}
 use Rattle.jh_edn.specs.View.{view}
-use Rattle.jh_env.specs.Faults.FaultValue.{Cut}
+use Rattle.jh_env.specs.Faults.{Cut}
 use Rattle.jh_cli.proofs.StepLemmas.{one_more_id}
 use Rattle.jh_cli.proofs.env_command.active_ids.Goals as goal
 use Rattle.jh_cli.proofs.env_command.active_ids.Goals.{in-Some+in_ok-push, in_default}

@@ -1,6 +1,9 @@
-use Rattle.std.proofs.Common.{rules}
+use Rattle.std.proofs.Common.{◌-◌, drop, length, rules, take}
+use Rattle.jh_edn.specs.View.{view, views}
+use Rattle.jh_cli.specs.EnvText.{IsReport, Tells}
+use Rattle.jh_nemesis.specs.State.{first_state}
 use Rattle.std.proofs.lemmas.Result.{err_from_is_err_and}
-use Rattle.jh_cli.proofs.RefusalLemmas.{first_refused}
+use Rattle.jh_cli.proofs.RefusalLemmas.{first_refused, parts_of}
 use Rattle.jh_cli.proofs.env_command.env_text.Goals as goal
 
 pub returns-in_err-env : goal.returns-in_err-env
@@ -10,3 +13,18 @@ returns-in_err-env c =
 
 pub report-requires : goal.report-requires
 report-requires c = λ k d below. rw c.new-nemesis.ensures (rw c.nodes.ensures.names at (c.in_ok-steps.ensures.fit k d below))
+
+pub returns : goal.returns
+returns c =
+    let env = c.in_ok-env.env in
+    let steps = c.in_ok-steps.steps.items in
+    let told : Tells (views c.args.values.now) env steps = record {
+      first = view c.first-item.result;
+      others = views (take (length c.args.values.now - 1) (drop 1 c.args.values.now));
+      parts = parts_of c.args.values.now c.first-item.result c.in-len1-up.len_at_least c.first-item.is;
+      environment = c.in_ok-env.ensures.1;
+      at_start = c.in_ok-env.ensures.0;
+      steps_told = rw c.nodes.ensures.names at c.in_ok-steps.ensures.told;
+    } in
+    let report : IsReport (first_state env) steps c.in_ok-report.field-0.items = rw c.new-nemesis.ensures at c.in_ok-report.ensures in
+    (env, steps, told, report)

@@ -1,4 +1,3 @@
-use Rattle.std.proofs.Common.{◌≡◌, sym, subst, rules}
 use Rattle.std.proofs.lemmas.Result.{err_from_is_err_and}
 use Rattle.jh_cli.proofs.RunLemmas.{run_refused, settings_refused}
 use Rattle.jh_cli.proofs.run_command.run_bytes.Goals as goal

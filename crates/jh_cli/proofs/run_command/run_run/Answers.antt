@@ -1,4 +1,4 @@
-use Rattle.std.proofs.Common.{◌≡◌, ℕ, List, ap, subst, sym}
+use Rattle.std.proofs.Common.{ℕ, List, subst}
 use Rattle.jh_cli.specs.CheckText.{status_of}
 use Rattle.std.proofs.lemmas.Result.{err_from_is_err_and}
 use Rattle.jh_cli.specs.RunRefusals.{RefusesBytes}

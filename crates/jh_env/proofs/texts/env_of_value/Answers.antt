@@ -43,7 +43,7 @@ returns c =
     let same : c.in_ok-start-2.field-0.names ≡ c.in_ok-nodes-2.nodes = kept ∙ c.in_ok-start.ensures.0 in
     let sound : AreSound c.in_ok-start.start.names shape.entries = rw c.deref-2.ensures.value at c.in_ok-set_all.ensures.1 in
     let told : AreTold c.in_ok-start.start.names shape.entries c.set_all.new.start.cells = rw c.deref-2.ensures.value at c.in_ok-set_all.ensures.2 in (
-      c.in_ok-start-2.ensures.stands,
+      c.in_ok-start-2.ensures.stands.1,
       (
         shape,
         (keys, keys_are, shaped),

@@ -8,4 +8,4 @@ pub returns-in_err-place : goal.returns-in_err-place
 returns-in_err-place c = rw (← c.self.view_is, position-map (bytes_eq c.args.name.now) string_bytes c.self.inside.names.keys) (c.from_residual.ensures ∙ c.in_err-place.ensures.index)
 
 pub returns : goal.returns
-returns c = rw (← c.self.view_is, position-map (bytes_eq c.args.name.now) string_bytes c.self.inside.names.keys) c.in_ok-place.ensures.index
+returns c = rw (← c.self.view_is, position-map (bytes_eq c.args.name.now) string_bytes c.self.inside.names.keys, c.at.ensures) c.in_ok-place.ensures.index

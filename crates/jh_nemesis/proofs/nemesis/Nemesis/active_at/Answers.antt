@@ -1,15 +1,43 @@
-use Rattle.std.proofs.Common.{◌≡◌, ◌<◌, ◌∙◌, sym, length, get_or}
+use Rattle.std.proofs.Common.{◌≡◌, ◌<◌, ◌∙◌, ap, sym, length, get_or, Some, subst}
 use Rattle.std.proofs.lemmas.Bool.{ltb-true}
-use Rattle.jh_nemesis.proofs.PlaceLemmas.{fault_read}
+use Rattle.std.proofs.lemmas.List.{get_or_default}
+use Rattle.jh_nemesis.specs.RecordsInside.{IsBegin}
+use Rattle.jh_nemesis.specs.Records.{record_at, fault_of}
+use Rattle.jh_nemesis.specs.declared.records.Record.{Record}
+use Rattle.jh_nemesis.specs.declared.records.Record.TheVariants.{Withdrawn}
+use Rattle.jh_nemesis.proofs.RecordLemmas.{fault_read, not_begin}
+use Rattle.jh_nemesis.proofs.CursorLemmas.{known_read}
 use Rattle.jh_nemesis.proofs.nemesis.Nemesis.active_at.Goals as goal
 
-pub returns : goal.returns
-returns c =
-    let i = c.args.place in
-    let k = c.in_ok-begun.field-0.now in
-    let places = c.self.inside.timeline.now in
-    let same : c.deref.result.now ≡ places = c.deref.ensures.0 ∙ c.now.ensures in
-    let below : i < length places = rw same at (ltb-true i (length c.deref.result.now) (sym c.in_ok-begun.ensures.lookup.0)) in
-    let at : k ≡ get_or places i k = rw same at c.in_ok-begun.ensures.lookup.1 in
-    let known : k < length c.self.inside.begun.items = rw (← at) at (c.self.invariant.now.known i k below) in
-    rw (← c.self.view_is) (fault_read c.self.inside.begun.items places i k c.index.result.now below at known c.index.ensures)
+pub index-requires : goal.index-requires
+index-requires c =
+    let a = c.self.inside in
+    let stamp = c.in_ok-stamp.field-0.now in
+    let below : c.args.place < length a.active.items =
+    rw c.deref.ensures.0 at (ltb-true c.args.place (length c.deref.result.now) (sym c.in_ok-stamp.ensures.lookup.0)) in
+    let at : stamp ≡ get_or a.active.items c.args.place stamp = rw c.deref.ensures.0 at c.in_ok-stamp.ensures.lookup.1 in
+    rw a.records.ok.0 (known_read c.self.invariant c.args.place stamp below at).0
+
+pub returns-in-Begun : goal.returns-in-Begun
+returns-in-Begun c =
+    let a = c.self.inside in
+    let stamp = c.in_ok-stamp.field-0.now in
+    let below : c.args.place < length a.active.items =
+    rw c.deref.ensures.0 at (ltb-true c.args.place (length c.deref.result.now) (sym c.in_ok-stamp.ensures.lookup.0)) in
+    let at : stamp ≡ get_or a.active.items c.args.place stamp = rw c.deref.ensures.0 at c.in_ok-stamp.ensures.lookup.1 in
+    let known = (known_read c.self.invariant c.args.place stamp below at).0 in
+    rw (← c.self.view_is)
+    (ap (λ (step : Record). Some (fault_of step)) (sym c.in-Begun.is)
+    ∙ fault_read a.records.items a.active.items c.args.place stamp c.index.result.now below at known c.index.ensures)
+
+pub returns-in_default : goal.returns-in_default
+returns-in_default c =
+    let a = c.self.inside in
+    let stamp = c.in_ok-stamp.field-0.now in
+    let below : c.args.place < length a.active.items =
+    rw c.deref.ensures.0 at (ltb-true c.args.place (length c.deref.result.now) (sym c.in_ok-stamp.ensures.lookup.0)) in
+    let at : stamp ≡ get_or a.active.items c.args.place stamp = rw c.deref.ensures.0 at c.in_ok-stamp.ensures.lookup.1 in
+    let known = known_read c.self.invariant c.args.place stamp below at in
+    let read : record_at a.records.items stamp ≡ c.index.result.now =
+    get_or_default a.records.items stamp (Withdrawn 0) c.index.result.now known.0 ∙ sym c.index.ensures in
+    absurd (not_begin c.index.result.now (subst IsBegin read known.1) c.in_default.not-Begun)

@@ -1,22 +1,37 @@
-use Rattle.std.proofs.Common.{◌≡◌, ℕ, ◌<◌, ◌∙◌, length, arith, ap, rules}
-use Rattle.std.proofs.lemmas.List.{length-map}
-use Rattle.jh_nemesis.specs.Places.{faults_at}
-use Rattle.jh_nemesis.specs.declared.steps.TheConstants.{MOST_STEPS}
+use Rattle.std.proofs.Common.{◌≡◌, length, rules, subst, sym, ◌∙◌}
+use Rattle.jh_nemesis.specs.State.{State}
+use Rattle.jh_nemesis.specs.Steps.{withdraw_all_answer, state_after}
+use Rattle.jh_nemesis.specs.NemesisInside.{state_of}
+use Rattle.jh_nemesis.specs.declared.records.Record.TheVariants.{WithdrawnAll}
+use Rattle.jh_nemesis.specs.declared.steps.Step.TheVariants.{WithdrawAll}
 use Rattle.jh_nemesis.specs.declared.steps.StepAnswer.TheVariants as StepAnswer
-use Rattle.jh_nemesis.proofs.PlaceLemmas.{places_moved_on, no_places, places_none}
+use Rattle.jh_nemesis.proofs.CursorLemmas.{all_room, all_right, put_true, put_future, all_withdrawn_state}
 use Rattle.jh_nemesis.proofs.nemesis.Nemesis.withdraw_all_step.Goals as goal
 
 pub invariant_of-self-2 : goal.invariant_of-self-2
 invariant_of-self-2 c =
-    let n : ℕ = length c.self.inside.begun.items in
-    let found : c.check_withdraw_all-answer.result ≡ StepAnswer.Ok = search rules in
-    let room : length c.self.inside.timeline.past < MOST_STEPS =
-    rw (← c.self.view_is, length-map c.self.inside.timeline.past (faults_at c.self.inside.begun.items)) at (c.check_withdraw_all-answer.ensures.room found) in
-    record {
-      now = places_none n _ (c.move_on.ensures.now ∙ c.new.ensures);
-      past = places_moved_on n _ _ _ c.move_on.ensures.past c.make_room.ensures.same.now c.make_room.ensures.same.past c.self.invariant.now c.self.invariant.past;
-      future = no_places n _ c.move_on.ensures.future;
-      short = omega (arith, ap length c.move_on.ensures.past, ap length c.make_room.ensures.same.past, ap length c.move_on.ensures.future);
-      fit = rw c.reset.ensures.kept.names c.self.invariant.fit;
-      stands = rw (c.move_on.ensures.now, c.new.ensures) c.reset.ensures.stands;
-    }
+    let a = c.self.inside in
+    let found : withdraw_all_answer c.args.self.now ≡ StepAnswer.Ok = search rules in
+    let ok : withdraw_all_answer (state_of a) ≡ StepAnswer.Ok = rw (← c.self.view_is) at found in
+    let is : c.in_ok-stamps.stamps.items ≡ a.active.items = c.in_ok-stamps.ensures.items ∙ c.deref.ensures.0 in
+    rw c.in_ok-put_at.ensures.ok
+    (put_true c.self.invariant (WithdrawnAll c.in_ok-stamps.stamps)
+    (all_room c.self.invariant ok)
+    (all_right c.self.invariant (length a.env.names) c.in_ok-stamps.stamps is))
+
+pub go_forth-requires : goal.go_forth-requires
+go_forth-requires c =
+    let a = c.self.inside in
+    rw c.in_ok-put_at.ensures.ok (put_future c.self.invariant (WithdrawnAll c.in_ok-stamps.stamps))
+
+pub returns-clause-ok : goal.returns-clause-ok
+returns-clause-ok c =
+    let a = c.self.inside in
+    let found : withdraw_all_answer c.args.self.now ≡ StepAnswer.Ok = search rules in
+    let ok : withdraw_all_answer (state_of a) ≡ StepAnswer.Ok = rw (← c.self.view_is) at found in
+    let state =
+    all_withdrawn_state c.self.invariant c.in_ok-stamps.stamps c.put_at.new.records.items c.go_forth.new.self
+    c.in_ok-put_at.ensures.ok
+    c.go_forth.ensures ok in
+    subst (λ (s : State). (StepAnswer.Ok ≡ withdraw_all_answer s) × (c.go_forth.new.self ≡ state_after s WithdrawAll))
+    c.self.view_is (sym ok, state)

@@ -1,22 +1,51 @@
-use Rattle.std.proofs.Common.{◌≡◌, ◌<◌, ℕ, length, arith, ap, rules}
-use Rattle.std.proofs.lemmas.List.{length-map}
-use Rattle.jh_nemesis.specs.Places.{faults_at}
+use Rattle.std.proofs.Common.{◌≡◌, true, false, length, subst, sym, ◌∙◌, refl}
+use Rattle.std.specs.Prelude.{nat_le}
+use Rattle.std.specs.List.{Contains}
+use Rattle.jh_nemesis.specs.State.{State, is_active}
+use Rattle.jh_nemesis.specs.Steps.{withdraw_answer, state_after}
+use Rattle.jh_nemesis.specs.Records.{fault_of, faults_at, past_of, record_at}
+use Rattle.jh_nemesis.specs.NemesisInside.{state_of}
+use Rattle.jh_nemesis.specs.declared.records.Record.TheVariants.{Withdrawn}
+use Rattle.jh_nemesis.specs.declared.steps.Step.TheVariants.{Withdraw}
 use Rattle.jh_nemesis.specs.declared.steps.TheConstants.{MOST_STEPS}
 use Rattle.jh_nemesis.specs.declared.steps.StepAnswer.TheVariants as StepAnswer
-use Rattle.jh_nemesis.proofs.PlaceLemmas.{places_moved_on, no_places}
+use Rattle.jh_nemesis.proofs.CursorLemmas.{known, room_left, withdraw_right, put_true, put_future, withdrawn_state}
 use Rattle.jh_nemesis.proofs.nemesis.Nemesis.withdraw_step.Goals as goal
+
+pub stamp_of-requires : goal.stamp_of-requires
+stamp_of-requires c =
+    let a = c.self.inside in
+    rw (c.deref.ensures.value, c.deref-2.ensures.0) (known c.self.invariant)
 
 pub invariant_of-self-2 : goal.invariant_of-self-2
 invariant_of-self-2 c =
-    let n : ℕ = length c.self.inside.begun.items in
-    let found : c.check_withdraw-answer.result ≡ StepAnswer.Ok = search rules in
-    let room : length c.self.inside.timeline.past < MOST_STEPS =
-    rw (← c.self.view_is, length-map c.self.inside.timeline.past (faults_at c.self.inside.begun.items)) at (c.check_withdraw-answer.ensures.room found) in
-    record {
-      now = rw (c.move_on.ensures.now, ← c.deref.ensures.value) c.without-next.ensures.known;
-      past = places_moved_on n _ _ _ c.move_on.ensures.past c.make_room.ensures.same.now c.make_room.ensures.same.past c.self.invariant.now c.self.invariant.past;
-      future = no_places n _ c.move_on.ensures.future;
-      short = omega (arith, ap length c.move_on.ensures.past, ap length c.make_room.ensures.same.past, ap length c.move_on.ensures.future);
-      fit = rw c.lay_all.ensures.kept.names c.self.invariant.fit;
-      stands = rw (c.deref-3.ensures.value, c.deref-4.ensures.0, c.now-2.ensures) at c.lay_all.ensures.stands;
-    }
+    let a = c.self.inside in
+    let inside : Contains a.active.items c.in-Some.stamp = rw c.deref-2.ensures.0 at c.in-Some.ensures.stamp.0 in
+    let full : nat_le MOST_STEPS (length c.args.self.now.past) ≡ false = sym c.is_full.ensures ∙ c.if-is_full.false in
+    let left : nat_le MOST_STEPS (length (past_of a.records.items a.cursor)) ≡ false = rw (← c.self.view_is) at full in
+    rw c.in_ok-put_at.ensures.ok
+    (put_true c.self.invariant (Withdrawn c.in-Some.stamp) (room_left a.records.items a.cursor left)
+    (withdraw_right c.self.invariant (length a.env.names) c.in-Some.stamp inside))
+
+pub go_forth-requires : goal.go_forth-requires
+go_forth-requires c =
+    let a = c.self.inside in
+    rw c.in_ok-put_at.ensures.ok (put_future c.self.invariant (Withdrawn c.in-Some.stamp))
+
+pub returns-clause-ok : goal.returns-clause-ok
+returns-clause-ok c =
+    let a = c.self.inside in
+    let inside : Contains a.active.items c.in-Some.stamp = rw c.deref-2.ensures.0 at c.in-Some.ensures.stamp.0 in
+    let at : (fault_of (record_at a.records.items c.in-Some.stamp)).0 ≡ c.args.id =
+    rw c.deref.ensures.value at c.in-Some.ensures.stamp.1 in
+    let active : true ≡ is_active (faults_at a.records.items a.active.items) c.args.id =
+    rw (c.deref.ensures.value, c.deref-2.ensures.0) at c.in-Some.ensures.variant in
+    let full : nat_le MOST_STEPS (length c.args.self.now.past) ≡ false = sym c.is_full.ensures ∙ c.if-is_full.false in
+    let left : nat_le MOST_STEPS (length (past_of a.records.items a.cursor)) ≡ false = rw (← c.self.view_is) at full in
+    let ok : withdraw_answer (state_of a) c.args.id ≡ StepAnswer.Ok = rw (← active, left) refl in
+    let state =
+    withdrawn_state c.self.invariant c.args.id c.in-Some.stamp c.put_at.new.records.items c.go_forth.new.self
+    c.in_ok-put_at.ensures.ok inside at
+    c.go_forth.ensures ok in
+    subst (λ (s : State). (StepAnswer.Ok ≡ withdraw_answer s c.args.id) × (c.go_forth.new.self ≡ state_after s (Withdraw c.args.id)))
+    c.self.view_is (sym ok, state)

@@ -1,7 +1,7 @@
 use Rattle.std.proofs.Common.{◌≡◌, true, false, refl, inl, inr, sym, ◌∙◌, ap}
 use Rattle.std.specs.List.{filter_map}
 use Rattle.jh_edn.specs.View.{view_pair}
-use Rattle.jh_env.specs.Faults.FaultValue.{Bump}
+use Rattle.jh_env.specs.Faults.{Bump}
 use Rattle.jh_nemesis.specs.FaultText.{bump_of, are_bumps, refusal_of}
 use Rattle.jh_nemesis.proofs.FaultTextLemmas.{bumps_told-unknown, bumps_told-bad, bumps_told-fault, bumps_refused}
 use Rattle.jh_nemesis.proofs.texts.faults.of_bumps.Goals as goal

@@ -5,6 +5,7 @@ use Rattle.jh_tables.specs.declared.turning.Turn.TheVariants.{Put}
 use Rattle.jh_tables.specs.Cells.{Table}
 use Rattle.jh_tables.specs.Faults.{FitsCount, fix_parts}
 use Rattle.jh_tables.specs.Plain.{fault_of}
+use Rattle.jh_tables.specs.Tallies.{node_now}
 use Rattle.jh_tables.specs.Standing.{StandsAt, TablesValue, IsStartingLink, IsStartingNode}
 use Rattle.jh_tables.proofs.RoomLemmas.{tallies_room}
 use Rattle.jh_tables.proofs.StandingLemmas.{used_turned}
@@ -58,3 +59,10 @@ pub returns-clause-start : goal.returns-clause-start
 returns-clause-start c =
     start_stays Put (fault_of c.args.fault.now) c.self.inside.counted c.turn_all.new.counted c.turn_all.ensures.turned c.self.invariant.square
     ∙ ap (λ (t : TablesValue). t.start) c.self.view_is
+
+pub returns-clause-whole : goal.returns-clause-whole
+returns-clause-whole c =
+    length-map c.turn_all.new.counted.nodes node_now
+    ∙ (c.turn_all.ensures.turned).many_nodes
+    ∙ sym (length-map c.self.inside.counted.nodes node_now)
+    ∙ ap (λ (t : TablesValue). length t.now.nodes) c.self.view_is

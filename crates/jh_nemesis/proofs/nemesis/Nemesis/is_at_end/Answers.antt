@@ -1,0 +1,7 @@
+use Rattle.jh_nemesis.proofs.CursorLemmas.{at_end}
+use Rattle.jh_nemesis.proofs.nemesis.Nemesis.is_at_end.Goals as goal
+
+pub returns : goal.returns
+returns c =
+    rw (← c.self.view_is, c.len.ensures, c.self.inside.records.ok.0)
+    (at_end c.self.inside.records.items c.self.inside.cursor c.self.invariant.within)

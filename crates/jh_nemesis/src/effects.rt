@@ -1,0 +1,109 @@
+//! What a kept step does to an environment, and what taking it back does. `specs/Records.antt` says which faults are
+//! active after so many steps.
+
+ghost use Rattle.std.specs.Prelude.{◌≤◌, ◌<◌, ◌+◌, [], length};
+ghost use Rattle.std.specs.List.{All, AllPairs};
+ghost use Rattle.jh_env.specs.Faults.{FitsCount, size_of};
+ghost use Rattle.jh_env.specs.Overlay.{SamePlace, StandsWith, tables_of, work_of};
+ghost use Rattle.jh_env.specs.Standing.{IsPut, IsTaken, StandsAtSome};
+ghost use Rattle.jh_nemesis.specs.Records.{active_after, faults_at, moment, record_at, stamped, stamped_at};
+ghost use Rattle.jh_nemesis.specs.RecordsInside.{AreRight, AreStamps, IsBegin};
+ghost use Rattle.jh_nemesis.specs.Work.{size_between, size_of_all};
+
+use crate::records::Record;
+use crate::steps::{MOST_ACTIVE, MOST_STEPS};
+use jh_env::Env;
+
+// Puts the fault of a begin on the environment, under its stamp.
+fn put_begun(env: &mut Env, records: &[Record], stamp: usize)
+    requires begin { (stamp < length records.now) × IsBegin (record_at records.now stamp) }
+    requires few { length records.now ≤ MOST_STEPS }
+    requires fits { FitsCount (length env.old.names) (stamped records.now stamp).1 }
+    requires room { env.old.laid < MOST_ACTIVE }
+    ensures stands { IsPut (stamped records.now stamp) (tables_of env.old) (tables_of env.new) }
+    ensures kept { SamePlace env.old env.new }
+    ensures work { work_of env.new ≤ work_of env.old + size_of (stamped records.now stamp).1 }
+{
+    if let Record::Begun(_, fault) = &records[stamp] {
+        env.put(fault, stamp as u32);
+    }
+}
+
+// Takes the fault of a begin off the environment.
+fn take_begun(env: &mut Env, records: &[Record], stamp: usize)
+    requires begin { (stamp < length records.now) × IsBegin (record_at records.now stamp) }
+    requires few { length records.now ≤ MOST_STEPS }
+    requires stands { StandsAtSome (tables_of env.old) (stamped records.now stamp) }
+    ensures stands { IsTaken (stamped records.now stamp) (tables_of env.old) (tables_of env.new) }
+    ensures kept { SamePlace env.old env.new }
+    ensures work { work_of env.new ≤ work_of env.old + size_of (stamped records.now stamp).1 }
+{
+    if let Record::Begun(_, fault) = &records[stamp] {
+        env.take(fault, stamp as u32);
+    }
+}
+
+// Puts the faults of these stamps on an environment that stands for none.
+fn put_each(env: &mut Env, records: &[Record], stamps: &[usize])
+    requires begins { AreStamps records.now stamps.now }
+    requires few { (length records.now ≤ MOST_STEPS) × (length stamps.now ≤ MOST_ACTIVE) }
+    requires fit { All (λ k. FitsCount (length env.old.names) (stamped records.now k).1) stamps.now }
+    requires rise { AllPairs (λ x y. x < y) stamps.now }
+    requires stands { StandsWith env.old [] }
+    ensures stands { StandsWith env.new (stamped_at records.now stamps.now) }
+    ensures kept { SamePlace env.old env.new }
+    ensures work { work_of env.new ≤ work_of env.old + size_of_all (faults_at records.now stamps.now) }
+{
+    for stamp in stamps {
+        put_begun(env, records, *stamp);
+    }
+}
+
+// Takes the faults of these stamps, for which the environment stands, off it.
+fn take_each(env: &mut Env, records: &[Record], stamps: &[usize])
+    requires begins { AreStamps records.now stamps.now }
+    requires few { length records.now ≤ MOST_STEPS }
+    requires stands { StandsWith env.old (stamped_at records.now stamps.now) }
+    ensures stands { StandsWith env.new [] }
+    ensures kept { SamePlace env.old env.new }
+    ensures work { work_of env.new ≤ work_of env.old + size_of_all (faults_at records.now stamps.now) }
+{
+    for stamp in stamps {
+        take_begun(env, records, *stamp);
+    }
+}
+
+/// Does to the environment what the step at this index does. It takes no memory, and writes no more than the faults take
+/// that the step begins or ends.
+pub fn step_forth(env: &mut Env, records: &[Record], index: usize)
+    requires known { index < length records.now }
+    requires few { length records.now ≤ MOST_STEPS }
+    requires right { AreRight (length env.old.names) records.now }
+    requires stands { StandsWith env.old (stamped_at records.now (active_after records.now index)) }
+    ensures stands { StandsWith env.new (stamped_at records.now (active_after records.now (index + 1))) }
+    ensures kept { SamePlace env.old env.new }
+    ensures work { work_of env.new ≤ work_of env.old + size_between (moment records.now index) (moment records.now (index + 1)) }
+{
+    match &records[index] {
+        Record::Begun(_, _) => put_begun(env, records, index),
+        Record::Withdrawn(stamp) => take_begun(env, records, *stamp),
+        Record::WithdrawnAll(stamps) => take_each(env, records, stamps),
+    }
+}
+
+/// Takes back what the step at this index did to the environment. It takes no memory, and writes no more than `step_forth`.
+pub fn step_back(env: &mut Env, records: &[Record], index: usize)
+    requires known { index < length records.now }
+    requires few { length records.now ≤ MOST_STEPS }
+    requires right { AreRight (length env.old.names) records.now }
+    requires stands { StandsWith env.old (stamped_at records.now (active_after records.now (index + 1))) }
+    ensures stands { StandsWith env.new (stamped_at records.now (active_after records.now index)) }
+    ensures kept { SamePlace env.old env.new }
+    ensures work { work_of env.new ≤ work_of env.old + size_between (moment records.now (index + 1)) (moment records.now index) }
+{
+    match &records[index] {
+        Record::Begun(_, _) => take_begun(env, records, index),
+        Record::Withdrawn(stamp) => put_begun(env, records, *stamp),
+        Record::WithdrawnAll(stamps) => put_each(env, records, stamps),
+    }
+}

@@ -1,0 +1,118 @@
+//! The steps that a nemesis keeps, and the stamps of the faults that they make active. The stamp of a fault is the index
+//! of its begin among the steps. `specs/Records.antt` says what a step makes of the active stamps.
+
+ghost use Rattle.std.specs.Prelude.{◌≡◌, ◌==◌, ◌≤◌, ◌<◌, ◌++◌, ◌∷◌, [], OnErr, OnOk, IfSome, filter, insert, is_some, length, nat_lt, not, take};
+ghost use Rattle.std.specs.List.{Contains, position_or_len};
+ghost use Rattle.jh_nemesis.specs.State as spec;
+ghost use Rattle.jh_nemesis.specs.Records.{faults_at, fault_of, played, played_back, record_at};
+ghost use Rattle.jh_nemesis.specs.RecordsInside.{AreStamps, IsBegin};
+
+use crate::steps::MOST_ACTIVE;
+use arrayvec::ArrayVec;
+use jh_env::Fault;
+use std::alloc::{AllocError, Global};
+
+/// Stamps of active faults, ascending.
+pub type Stamps = ArrayVec<usize, MOST_ACTIVE>;
+
+/// An accepted step, with what it takes to undo it and to redo it.
+#[derive(Debug, Drop)]
+pub enum Record {
+    /// The fault was begun under the id.
+    Begun(u32, Fault),
+    /// The fault of the stamp was withdrawn.
+    Withdrawn(usize),
+    /// The faults of the stamps, which were all that were active, were withdrawn.
+    WithdrawnAll(Vec<usize>),
+}
+
+/// Puts a step at the cursor, in place of all from there on. Memory is taken first: where it is refused, all
+/// steps stay.
+pub fn put_at(records: &mut Vec<Record>, cursor: usize, step: Record) -> Result<(), AllocError>
+    requires { cursor ≤ length records.old.items }
+    ensures ok { OnOk result (records.new.items ≡ take cursor records.old.items ++ step ∷ []) }
+    ensures err { OnErr result (records.new.items ≡ records.old.items) }
+{
+    records.reserve(1)?;
+    records.truncate(cursor);
+    records.push_reserved(step);
+    Ok(())
+}
+
+// Takes a stamp out.
+fn take_out(active: &mut Stamps, stamp: usize)
+    ensures { active.new.items ≡ filter (λ other. not (other == stamp)) active.old.items }
+{
+    active.retain(|other| *other != stamp);
+}
+
+// Puts a stamp back, before those that are higher.
+fn put_back(active: &mut Stamps, stamp: usize)
+    requires { length active.old.items < MOST_ACTIVE }
+    ensures { active.new.items ≡ insert active.old.items (position_or_len (nat_lt stamp) active.old.items) stamp }
+{
+    let higher = active.iter().position(|other| *other > stamp);
+    active.insert(higher.unwrap_or(active.len()), stamp);
+}
+
+// Makes the stamps active that are in the list.
+fn put_all(active: &mut Stamps, stamps: &[usize])
+    requires { length stamps.now ≤ MOST_ACTIVE }
+    ensures { active.new.items ≡ stamps.now }
+{
+    active.clear();
+    let _ = active.try_extend_from_slice(stamps);
+}
+
+/// Takes the step at this index, over the active stamps.
+pub fn play(records: &[Record], index: usize, active: &mut Stamps)
+    requires known { index < length records.now }
+    requires room { length (played index (record_at records.now index) active.old.items) ≤ MOST_ACTIVE }
+    ensures { active.new.items ≡ played index (record_at records.now index) active.old.items }
+{
+    match &records[index] {
+        Record::Begun(_, _) => active.push(index),
+        Record::Withdrawn(stamp) => take_out(active, *stamp),
+        Record::WithdrawnAll(_) => active.clear(),
+    }
+}
+
+/// Takes the step at this index back, over the active stamps.
+pub fn play_back(records: &[Record], index: usize, active: &mut Stamps)
+    requires known { index < length records.now }
+    requires room { length (played_back (record_at records.now index) active.old.items) ≤ MOST_ACTIVE }
+    ensures { active.new.items ≡ played_back (record_at records.now index) active.old.items }
+{
+    match &records[index] {
+        Record::Begun(_, _) => {
+            let _ = active.pop();
+        }
+        Record::Withdrawn(stamp) => put_back(active, *stamp),
+        Record::WithdrawnAll(stamps) => put_all(active, stamps),
+    }
+}
+
+// Whether the step begins a fault under the id.
+fn is_begin_of(step: &Record, id: u32) -> bool
+    requires { IsBegin step.now }
+    ensures { result ≡ spec.has_id id (fault_of step.now) }
+{
+    match step {
+        Record::Begun(other, _) => *other == id,
+        _ => false,
+    }
+}
+
+/// The stamp of the fault of the id, of these stamps.
+pub fn stamp_of(records: &[Record], stamps: &[usize], id: u32) -> Option<usize>
+    requires { AreStamps records.now stamps.now }
+    ensures variant { is_some result ≡ spec.is_active (faults_at records.now stamps.now) id }
+    ensures stamp { IfSome result (λ stamp. Contains stamps.now stamp × ((fault_of (record_at records.now stamp)).0 ≡ id)) }
+{
+    for stamp in stamps {
+        if is_begin_of(&records[*stamp], id) {
+            return Some(*stamp);
+        }
+    }
+    None
+}
