@@ -99,8 +99,8 @@ fn element_error(place: u64, fault: StepTextError) -> CliError
 
 // What is written for these steps.
 fn report(alloc: Global, mut nemesis: Nemesis, steps: Vec<Step>) -> Result<Vec<u8>, AllocError>
-    requires { All (StepFits nemesis) steps.items }
-    ensures { IfOk result (λ output. IsReport nemesis steps.items output.items) }
+    requires { All (StepFits nemesis.state) steps.items }
+    ensures { IfOk result (λ output. IsReport nemesis.state steps.items output.items) }
 {
     let mut output = Vec::new(alloc);
     answer_steps(alloc, &mut nemesis, steps, &mut output)?;
@@ -116,10 +116,10 @@ fn answer_steps(
     steps: Vec<Step>,
     output: &mut Vec<u8>,
 ) -> Result<(), AllocError>
-    requires { All (StepFits nemesis.old) steps.items }
-    ensures state { OnOk result (nemesis.new ≡ state_after_all nemesis.old steps.items) }
+    requires { All (StepFits nemesis.old.state) steps.items }
+    ensures state { OnOk result (nemesis.new.state ≡ state_after_all nemesis.old.state steps.items) }
     ensures lines { OnOk result (output.new.items
-        ≡ output.old.items ++ answer_lines (answers_of nemesis.old steps.items)) }
+        ≡ output.old.items ++ answer_lines (answers_of nemesis.old.state steps.items)) }
 {
     match nemesis.apply_all(alloc, steps) {
         Ok(answers) => write_answers(&answers, output),
@@ -163,7 +163,7 @@ pub(crate) fn write_active(
     nemesis: &Nemesis,
     output: &mut Vec<u8>,
 ) -> Result<(), AllocError>
-    ensures { OnOk result (output.new.items ≡ output.old.items ++ text.active_line nemesis.now.now) }
+    ensures { OnOk result (output.new.items ≡ output.old.items ++ text.active_line nemesis.now.state.now) }
 {
     let ids = active_ids(alloc, nemesis)?;
     output.extend_from_slice(b":active ")?;
@@ -178,7 +178,7 @@ fn id_value(id: u32) -> Value
 
 // The ids of the active faults, in order, as a vector.
 fn active_ids(alloc: Global, nemesis: &Nemesis) -> Result<Value, AllocError>
-    ensures { IfOk result (λ ids. view ids ≡ text.ids_of nemesis.now.now) }
+    ensures { IfOk result (λ ids. view ids ≡ text.ids_of nemesis.now.state.now) }
 {
     let mut ids = Vec::new(alloc);
     for place in 0..nemesis.active_len() {

@@ -9,9 +9,9 @@ use Rattle.jh_env.specs.Faults.{FaultValue, FitsCount}
 use Rattle.jh_env.specs.Overlay.{EnvValue, StandsWith, SamePlace}
 use Rattle.jh_nemesis.specs.State.{State, Active, is_active, is_empty, moved_on, back_to, forth_to}
 use Rattle.jh_nemesis.specs.Steps.{begin_answer, withdraw_answer, withdraw_all_answer, state_after, without}
-use Rattle.jh_nemesis.specs.Records.{record_at, played, played_back, active_after, fault_of, faults_at, past_of, future_of, stamped_at}
-use Rattle.jh_nemesis.specs.RecordsInside.{AreStamps, IsBegin, IsRight, IsTrueTo}
+use Rattle.jh_nemesis.specs.RecordsInside.{record_at, played, played_back, active_after, fault_of, faults_at, past_of, future_of, stamped_at, AreStamps, IsBegin, IsRight, IsTrueTo}
 use Rattle.jh_nemesis.specs.NemesisInside.{state_from}
+use Rattle.jh_nemesis.specs.Work.{size_between}
 use Rattle.jh_nemesis.specs.declared.records.Record.{Record}
 use Rattle.jh_nemesis.specs.declared.records.Record.TheVariants.{Begun, Withdrawn, WithdrawnAll}
 use Rattle.jh_nemesis.specs.declared.steps.TheConstants.{MOST_ACTIVE, MOST_STEPS}
@@ -196,6 +196,12 @@ module _ {env : EnvValue} {records : List Record} {cursor : ℕ} {active : List 
         let left : length put - cursor ≡ suc zero = omega (arith, put_long) in
         let now : active_after put cursor ≡ active = same_active cursor records put put_same ∙ sym sound.now in
         rw (left, put_here, now, is, put_faults, same_past cursor records put put_same) refl
+
+    -- what was written at most once that step was taken
+    pub put_work : (items : List Record) (new after : State) (written work : ℕ) → items ≡ put → new ≡ after
+        → written ≤ work + size_between (faults_at items active) new.now
+        → written ≤ work + size_between (faults_at records active) after.now
+    put_work items new after written work is same bound = rw (is, put_faults, same) at bound
 
   -- the active faults after each kind of step
   pub begun_faults : (id : ℕ) (fault : FaultValue)

@@ -9,8 +9,7 @@ use Rattle.jh_env.specs.Faults.{FaultValue, FitsCount, size_of}
 use Rattle.jh_env.specs.Standing.{AreInOrder}
 use Rattle.jh_nemesis.specs.State.{Active, has_id, is_active}
 use Rattle.jh_nemesis.specs.Steps.{without}
-use Rattle.jh_nemesis.specs.Records.{active_after, fault_of, faults_at, moment, record_at, stamped, stamped_at}
-use Rattle.jh_nemesis.specs.RecordsInside.{AreRight, AreStamps, IsBegin, IsRight}
+use Rattle.jh_nemesis.specs.RecordsInside.{active_after, fault_of, faults_at, moment, record_at, stamped, stamped_at, AreRight, AreStamps, IsBegin, IsRight}
 use Rattle.jh_nemesis.specs.Work.{only_in, size_between, size_of_all}
 use Rattle.jh_nemesis.specs.declared.steps.TheConstants.{MOST_ACTIVE}
 use Rattle.jh_nemesis.specs.declared.records.Record.{Record}
@@ -90,7 +89,7 @@ alone_after f before after inside new =
     let alone = size_in f (only_in after before) (kept (λ (g : ℕ × FaultValue). not (is_active before g.0)) f after inside (ap not new)) in
     omega (arith, alone)
 
-all_alone : (active : Active) → only_in active [] ≡ active
+pub all_alone : (active : Active) → only_in active [] ≡ active
 all_alone active = all_pass (λ (g : ℕ × FaultValue). true) active (λ k d h. refl)
 
 all_before : (active : Active) → size_of_all active ≤ size_between active []

@@ -48,7 +48,7 @@ without_middle (b ∷ before) after id f h =
     rw (p.0, without_middle before after id f p.1) refl
 
 -- what an accepted step makes of the active faults
-accepted : (s : State) (step : Step) → is_ok (answer_of s step) ≡ true → (state_after s step).now ≡ (moved s step).now
+pub accepted : (s : State) (step : Step) → is_ok (answer_of s step) ≡ true → (state_after s step).now ≡ (moved s step).now
 accepted s step ok = rw ok refl
 
 pub withdrawal_leaves : WithdrawalLeavesOthers
@@ -59,7 +59,7 @@ not_taken true x e = sym e
 not_taken false x e = refl
 
 -- the id of an accepted begin is new
-fresh : (s : State) (id : ℕ) → is_ok (begin_answer s id) ≡ true → is_active (s.now ++ []) id ≡ false
+pub fresh : (s : State) (id : ℕ) → is_ok (begin_answer s id) ≡ true → is_active (s.now ++ []) id ≡ false
 fresh s id ok = rw (append-nil s.now) (not_taken (is_active s.now id) _ ok)
 
 pub withdrawal_ends : WithdrawalEndsBegin

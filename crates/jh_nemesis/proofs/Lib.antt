@@ -8,3 +8,4 @@ pub mod LinkLemmas
 pub mod GrudgeLemmas
 pub mod FaultTextLemmas
 pub mod RunLemmas
+pub mod WorkLemmas

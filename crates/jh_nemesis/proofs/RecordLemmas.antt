@@ -14,8 +14,7 @@ use Rattle.jh_env.specs.Faults.{FaultValue, FitsCount}
 use Rattle.jh_nemesis.specs.State.{has_id, is_active, is_empty, faults_in}
 use Rattle.jh_env.specs.Standing.{faults_of}
 use Rattle.jh_nemesis.specs.Steps.{without}
-use Rattle.jh_nemesis.specs.Records.{record_at, played, played_back, active_after, fault_of, faults_at, moment, past_of, stamped, stamped_at}
-use Rattle.jh_nemesis.specs.RecordsInside.{IsBegin, AreRight, AreStamps, IsRight}
+use Rattle.jh_nemesis.specs.RecordsInside.{record_at, played, played_back, active_after, fault_of, faults_at, moment, past_of, stamped, stamped_at, IsBegin, AreRight, AreStamps, IsRight}
 use Rattle.jh_nemesis.specs.declared.records.Record.{Record}
 use Rattle.jh_nemesis.specs.declared.records.Record.TheVariants.{Begun, Withdrawn, WithdrawnAll}
 use Rattle.jh_nemesis.specs.declared.steps.TheConstants.{MOST_ACTIVE}

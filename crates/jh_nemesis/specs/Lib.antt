@@ -1,8 +1,8 @@
 pub mod State
-pub mod Work
 pub mod Steps
 pub mod Laws
-pub mod Records
+pub mod Work
+pub mod WorkLaws
 pub mod RecordsInside
 pub mod NemesisInside
 pub mod NamedFaults

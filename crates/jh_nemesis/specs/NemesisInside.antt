@@ -1,9 +1,9 @@
 -- What a contract sees of a nemesis's fields, and what holds of them.
 use Rattle.std.specs.Prelude.{ℕ, List, ◌-◌, length}
-use Rattle.jh_env.specs.Overlay.{EnvValue}
+use Rattle.jh_env.specs.Overlay.{EnvValue, work_of}
 use Rattle.jh_nemesis.specs.State.{State}
-use Rattle.jh_nemesis.specs.Records.{faults_at, past_of, future_of}
-use Rattle.jh_nemesis.specs.RecordsInside.{IsTrueTo}
+use Rattle.jh_nemesis.specs.RecordsInside.{faults_at, past_of, future_of, IsTrueTo}
+use Rattle.jh_nemesis.specs.Work.{NemesisValue}
 use Rattle.jh_nemesis.specs.declared.records.Record.{Record}
 use Rattle.jh_nemesis.specs.declared.nemesis.Nemesis.TheInside.{Inside}
 
@@ -20,6 +20,10 @@ state_from env records cursor active = record {
 -- the state of the fields
 abbrev pub state_of : Inside → State
 state_of a = state_from a.env a.records.items a.cursor a.active.items
+
+-- the state, and what was written
+abbrev pub nemesis_of : Inside → NemesisValue
+nemesis_of a = record { state = state_of a; work = work_of a.env }
 
 -- what holds of the fields
 abbrev pub IsSound : Inside → Type 0

@@ -1,13 +1,69 @@
--- What holds of the steps that a nemesis keeps, of the cursor among them, and of the active stamps.
-use Rattle.std.specs.Prelude.{◌≡◌, ℕ, ◌≤◌, ◌<◌, false, List, length}
-use Rattle.std.specs.List.{All, Contains}
-use Rattle.jh_env.specs.Faults.{FitsCount}
-use Rattle.jh_env.specs.Overlay.{EnvValue, StandsWith}
-use Rattle.jh_nemesis.specs.State.{is_active}
-use Rattle.jh_nemesis.specs.Records.{record_at, active_after, moment, stamped_at}
+-- The steps that a nemesis keeps, the active faults that they make, and what holds of them, of the cursor
+-- among them and of the active stamps (this project's own). The stamp of a fault is the index of its begin in the list of steps.
+use Rattle.std.specs.Prelude.{ℕ, suc, zero, ◌==◌, List, [], ◌∷◌, ◌++◌, ◌-◌, filter, insert, length, map, nat_lt, not, slice_index_or, take, ◌≡◌, ◌≤◌, ◌<◌, false}
+use Rattle.std.specs.List.{position_or_len, All, Contains}
+use Rattle.jh_env.specs.Faults.{FaultValue, Cut, FitsCount}
+use Rattle.jh_nemesis.specs.State.{Active, is_active}
 use Rattle.jh_nemesis.specs.declared.records.Record.{Record}
 use Rattle.jh_nemesis.specs.declared.records.Record.TheVariants.{Begun, Withdrawn, WithdrawnAll}
+use Rattle.jh_env.specs.Overlay.{EnvValue, StandsWith}
 use Rattle.jh_nemesis.specs.declared.steps.TheConstants.{MOST_ACTIVE, MOST_STEPS}
+
+-- the step at this index
+abbrev pub record_at : List Record → ℕ → Record
+record_at records index = slice_index_or records index (Withdrawn 0)
+
+-- the active stamps after the step at this index, where these were active before it
+abbrev pub played : ℕ → Record → List ℕ → List ℕ
+played index (Begun id fault) active = active ++ index ∷ []
+played index (Withdrawn stamp) active = filter (λ other. not (other == stamp)) active
+played index (WithdrawnAll stamps) active = []
+
+-- the active stamps before a step, where these are active after it
+abbrev pub played_back : Record → List ℕ → List ℕ
+played_back (Begun id fault) active = take (length active - 1) active
+played_back (Withdrawn stamp) active = insert active (position_or_len (nat_lt stamp) active) stamp
+played_back (WithdrawnAll stamps) active = stamps.items
+
+-- the active stamps after so many steps
+abbrev pub active_after : List Record → ℕ → List ℕ
+active_after records zero = []
+active_after records (suc n) = played n (record_at records n) (active_after records n)
+
+-- the fault that a begin holds, with its id
+abbrev pub fault_of : Record → ℕ × FaultValue
+fault_of (Begun id fault) = (id, fault)
+fault_of (Withdrawn stamp) = (0, Cut [])
+fault_of (WithdrawnAll stamps) = (0, Cut [])
+
+-- the faults of these stamps
+abbrev pub faults_at : List Record → List ℕ → Active
+faults_at records stamps = map (λ stamp. fault_of (record_at records stamp)) stamps
+
+-- the fault of a stamp, with it
+abbrev pub stamped : List Record → ℕ → ℕ × FaultValue
+stamped records stamp = (stamp, (fault_of (record_at records stamp)).1)
+
+-- the faults of these stamps, with them
+abbrev pub stamped_at : List Record → List ℕ → List (ℕ × FaultValue)
+stamped_at records stamps = map (stamped records) stamps
+
+-- the active faults after so many steps
+abbrev pub moment : List Record → ℕ → Active
+moment records n = faults_at records (active_after records n)
+
+-- those before each of the first steps, the latest first
+abbrev pub past_of : List Record → ℕ → List Active
+past_of records zero = []
+past_of records (suc n) = moment records n ∷ past_of records n
+
+-- those after each of so many steps from this index on, the first of them first
+abbrev pub future_of : List Record → ℕ → ℕ → List Active
+future_of records index zero = []
+future_of records index (suc count) =
+    moment records (suc index) ∷ future_of records (suc index) count
+
+-- ---- what holds
 
 -- the step is a begin
 abbrev pub IsBegin : Record → Type 0

@@ -1,8 +1,15 @@
--- How much is written between two moments (this project's own).
-use Rattle.std.specs.Prelude.{ℕ, ◌+◌, filter, not}
+-- How much is written by the steps of a nemesis (this project's own).
+use Rattle.std.specs.Prelude.{ℕ, ◌+◌, List, [], ◌∷◌, filter, not}
 use Rattle.std.specs.List.{sum_by}
 use Rattle.jh_env.specs.Faults.{size_of}
-use Rattle.jh_nemesis.specs.State.{Active, is_active}
+use Rattle.jh_nemesis.specs.State.{State, Active, is_active}
+use Rattle.jh_nemesis.specs.Steps.{state_after}
+use Rattle.jh_nemesis.specs.declared.steps.Step.{Step}
+
+-- a nemesis: its state, and how often a cell of its environment or an entry of a fix was written
+pub record NemesisValue : Type 0 where
+  pub state : State
+  pub work : ℕ
 
 -- the most cells and entries that these faults may take
 abbrev pub size_of_all : Active → ℕ
@@ -15,3 +22,12 @@ only_in active other = filter (λ f. not (is_active other f.0)) active
 -- the most that may be written between two moments: what the faults take that are active at one of them alone
 abbrev pub size_between : Active → Active → ℕ
 size_between before after = size_of_all (only_in before after) + size_of_all (only_in after before)
+
+-- the most that a step may write
+abbrev pub size_of_step : State → Step → ℕ
+size_of_step s step = size_between s.now (state_after s step).now
+
+-- the most that steps may write, one after another
+abbrev pub size_of_steps : State → List Step → ℕ
+size_of_steps s [] = 0
+size_of_steps s (step ∷ steps) = size_of_step s step + size_of_steps (state_after s step) steps

@@ -1,4 +1,4 @@
-//! What a kept step does to an environment, and what taking it back does. `specs/Records.antt` says which faults are
+//! What a kept step does to an environment, and what taking it back does. `specs/RecordsInside.antt` says which faults are
 //! active after so many steps.
 
 ghost use Rattle.std.specs.Prelude.{◌≤◌, ◌<◌, ◌+◌, [], length};
@@ -6,8 +6,7 @@ ghost use Rattle.std.specs.List.{All, AllPairs};
 ghost use Rattle.jh_env.specs.Faults.{FitsCount, size_of};
 ghost use Rattle.jh_env.specs.Overlay.{SamePlace, StandsWith, tables_of, work_of};
 ghost use Rattle.jh_env.specs.Standing.{IsPut, IsTaken, StandsAtSome};
-ghost use Rattle.jh_nemesis.specs.Records.{active_after, faults_at, moment, record_at, stamped, stamped_at};
-ghost use Rattle.jh_nemesis.specs.RecordsInside.{AreRight, AreStamps, IsBegin};
+ghost use Rattle.jh_nemesis.specs.RecordsInside.{active_after, faults_at, moment, record_at, stamped, stamped_at, AreRight, AreStamps, IsBegin};
 ghost use Rattle.jh_nemesis.specs.Work.{size_between, size_of_all};
 
 use crate::records::Record;

@@ -1,5 +1,5 @@
 //! Laws of the steps, each a function that does nothing and whose contract is the law. `specs/Laws.antt` states
-//! them.
+//! them, and `specs/WorkLaws.antt` those of what is written.
 
 ghost use Rattle.jh_nemesis.specs.Laws.{
   RefusedStays,
@@ -15,6 +15,15 @@ ghost use Rattle.jh_nemesis.specs.Laws.{
   WithdrawalEndsBegin,
   CutsOfOthersStay,
   CutsOfStartStay,
+};
+ghost use Rattle.jh_nemesis.specs.WorkLaws.{
+  BeginWritesItsFault,
+  RedoWritesItsUndo,
+  RefusedWritesNothing,
+  UndoWritesItsRedo,
+  UndoWritesItsStep,
+  WithdrawalWritesItsFault,
+  WithdrawingAllWritesAll,
 };
 ghost use Rattle.jh_nemesis.specs.GrudgeLaws.{
   BridgeIsBridge,
@@ -77,6 +86,19 @@ pub fn cuts_of_others_stay()
 /// A link that the start cuts is cut whatever is active.
 pub fn cuts_of_start_stay()
     ensures { CutsOfStartStay }
+{}
+
+/// The most that a step writes (`Nemesis::apply`) is what its own faults take, whatever else is active: a begin or a
+/// withdrawal what its fault takes, a withdrawal of all the sum, an undo what its step takes, a redo what its undo takes, and a
+/// refused step nothing.
+pub fn steps_write_their_faults()
+    ensures refused { RefusedWritesNothing }
+    ensures begin { BeginWritesItsFault }
+    ensures withdraw { WithdrawalWritesItsFault }
+    ensures all { WithdrawingAllWritesAll }
+    ensures undo { UndoWritesItsStep }
+    ensures redo { RedoWritesItsUndo }
+    ensures back { UndoWritesItsRedo }
 {}
 
 /// A named fault cuts the links of its grudge: `[:halves]` those of the complete grudge of the two halves of all nodes,

@@ -1,14 +1,14 @@
 //! A nemesis: faults that are begun and withdrawn over an environment, and steps back and forth. `specs/Steps.antt`
-//! says what a step does, `specs/Records.antt` what the steps make active, `specs/RecordsInside.antt` what holds
-//! between the fields.
+//! says what a step does, `specs/Work.antt` how much it may write, `specs/RecordsInside.antt` what the steps that are kept
+//! make active, and what holds between the fields.
 
-ghost use Rattle.std.specs.Prelude.{◌≡◌, ◌≤◌, ◌<◌, ◌↔◌, [], true, false, length, nat_le, option_map, slice_get, MatchResult, OnErr, OnOk, IfOk, IsOk, IsErr};
+ghost use Rattle.std.specs.Prelude.{◌≡◌, ◌+◌, ◌≤◌, ◌<◌, ◌↔◌, [], true, false, length, nat_le, option_map, slice_get, MatchResult, OnErr, OnOk, IfOk, IsOk, IsErr};
 ghost use Rattle.std.specs.List.{All};
-ghost use Rattle.jh_env.specs.Overlay.{StandsFor, SamePlace};
+ghost use Rattle.jh_env.specs.Overlay.{StandsFor, SamePlace, work_of};
 ghost use Rattle.jh_env.specs.Faults.{FitsCount};
 ghost use Rattle.jh_nemesis.specs.State.{faults_in, first_state, is_empty, back_to, forth_to};
-ghost use Rattle.jh_nemesis.specs.Records.{faults_at, fault_of, record_at};
-ghost use Rattle.jh_nemesis.specs.RecordsInside.{AreStamps};
+ghost use Rattle.jh_nemesis.specs.RecordsInside.{faults_at, fault_of, record_at, AreStamps};
+ghost use Rattle.jh_nemesis.specs.Work.{size_between, size_of_step, size_of_steps};
 
 use crate::effects::{step_back, step_forth};
 use crate::records::{Record, Stamps, play, play_back, put_at, stamp_of};
@@ -21,7 +21,8 @@ use std::alloc::{AllocError, Global};
 use std::marker::Model;
 
 /// Faults over an environment, each begun under an id and active until it is withdrawn. A contract sees the
-/// names, the starting cells, and the active faults now and at the moments before.
+/// names, the starting cells, the active faults now and at the moments before and after, and how often the
+/// environment was written.
 #[derive(Debug, Drop)]
 pub struct Nemesis {
     alloc: Global,
@@ -32,13 +33,13 @@ pub struct Nemesis {
 }
 
 impl Model for Nemesis {
-    ghost use Rattle.jh_nemesis.specs.State.{State};
+    ghost use Rattle.jh_nemesis.specs.Work.{NemesisValue};
 
-    ghost Value = { State };
+    ghost Value = { NemesisValue };
 
-    ghost use Rattle.jh_nemesis.specs.NemesisInside.{state_of, IsSound};
+    ghost use Rattle.jh_nemesis.specs.NemesisInside.{nemesis_of, IsSound};
 
-    ghost view = { state_of };
+    ghost view = { nemesis_of };
 
     ghost invariant = { IsSound };
 }
@@ -53,6 +54,7 @@ impl Nemesis {
       answers_of,
       state_after_all,
       is_free,
+      is_ok,
       StepFits,
       TakesFirst,
       RefusesBegin,
@@ -64,7 +66,8 @@ impl Nemesis {
     /// A nemesis over an environment in which no fault is laid.
     pub fn new(alloc: Global, env: Env) -> Nemesis
         requires { StandsFor env [] }
-        ensures { result ≡ first_state env }
+        ensures state { result.state ≡ first_state env }
+        ensures work { result.work ≡ work_of env }
     {
         Nemesis {
             alloc,
@@ -77,16 +80,17 @@ impl Nemesis {
 
     /// The environment: what the active faults make of its start.
     pub fn env(&self) -> &Env
-        ensures overlay { StandsFor result.now (faults_in self.now.now) }
-        ensures names { result.now.names ≡ self.now.names }
-        ensures start { result.now.start ≡ self.now.start }
+        ensures overlay { StandsFor result.now (faults_in self.now.state.now) }
+        ensures names { result.now.names ≡ self.now.state.names }
+        ensures start { result.now.start ≡ self.now.state.start }
+        ensures work { work_of result.now ≡ self.now.work }
     {
         &self.env
     }
 
     /// How many faults are active, at most 256.
     pub fn active_len(&self) -> usize
-        ensures len { result ≡ length self.now.now }
+        ensures len { result ≡ length self.now.state.now }
         ensures few { result ≤ MOST_ACTIVE }
     {
         self.active.len()
@@ -94,7 +98,7 @@ impl Nemesis {
 
     /// The active fault at this place from 0, with its id, in the order in which they were begun.
     pub fn active_at(&self, place: usize) -> Option<(u32, &Fault)>
-        ensures { option_map (λ f. (f.0, f.1.now)) result ≡ slice_get self.now.now place }
+        ensures { option_map (λ f. (f.0, f.1.now)) result ≡ slice_get self.now.state.now place }
     {
         let stamp = *self.active.get(place)?;
         match &self.records[stamp] {
@@ -105,14 +109,14 @@ impl Nemesis {
 
     // Whether so many steps lie in the past that none can follow.
     fn is_full(&self) -> bool
-        ensures { result ≡ nat_le MOST_STEPS (length self.now.past) }
+        ensures { result ≡ nat_le MOST_STEPS (length self.now.state.past) }
     {
         self.cursor >= MOST_STEPS
     }
 
     // The answer to a begin, if there is memory.
     fn check_begin(&self, id: u32) -> StepAnswer
-        ensures { result ≡ begin_answer self.now id }
+        ensures { result ≡ begin_answer self.now.state id }
     {
         if stamp_of(&self.records, &self.active, id).is_some() {
             return StepAnswer::IdTaken;
@@ -128,9 +132,11 @@ impl Nemesis {
 
     // An accepted step is put at the cursor, as though it had been undone, and then taken as a redo takes it.
     fn begin_step(&mut self, id: u32, fault: Fault) -> Result<StepAnswer, AllocError>
-        requires { FitsCount (length self.old.names) fault }
-        ensures ok { IfOk result (λ answer. (answer ≡ begin_answer self.old id) × (self.new ≡ state_after self.old (Begin id fault))) }
-        ensures err { OnErr result ((begin_answer self.old id ≡ StepAnswer.Ok) × (self.new ≡ self.old)) }
+        requires { FitsCount (length self.old.state.names) fault }
+        ensures ok { IfOk result (λ answer. (answer ≡ begin_answer self.old.state id) × (self.new.state ≡ state_after self.old.state (Begin id fault))) }
+        ensures refused { IfOk result (λ answer. is_ok answer ≡ false → self.new ≡ self.old) }
+        ensures err { OnErr result ((begin_answer self.old.state id ≡ StepAnswer.Ok) × (self.new ≡ self.old)) }
+        ensures work { self.new.work ≤ self.old.work + size_of_step self.old.state (Begin id fault) }
     {
         let answer = self.check_begin(id);
         if answer != StepAnswer::Ok {
@@ -142,8 +148,10 @@ impl Nemesis {
     }
 
     fn withdraw_step(&mut self, id: u32) -> Result<StepAnswer, AllocError>
-        ensures ok { IfOk result (λ answer. (answer ≡ withdraw_answer self.old id) × (self.new ≡ state_after self.old (Withdraw id))) }
-        ensures err { OnErr result ((withdraw_answer self.old id ≡ StepAnswer.Ok) × (self.new ≡ self.old)) }
+        ensures ok { IfOk result (λ answer. (answer ≡ withdraw_answer self.old.state id) × (self.new.state ≡ state_after self.old.state (Withdraw id))) }
+        ensures refused { IfOk result (λ answer. is_ok answer ≡ false → self.new ≡ self.old) }
+        ensures err { OnErr result ((withdraw_answer self.old.state id ≡ StepAnswer.Ok) × (self.new ≡ self.old)) }
+        ensures work { self.new.work ≤ self.old.work + size_of_step self.old.state (Withdraw id) }
     {
         let Some(stamp) = stamp_of(&self.records, &self.active, id) else {
             return Ok(StepAnswer::NotActive);
@@ -158,7 +166,7 @@ impl Nemesis {
 
     // The answer to a withdrawal of all faults, if there is memory.
     fn check_withdraw_all(&self) -> StepAnswer
-        ensures { result ≡ withdraw_all_answer self.now }
+        ensures { result ≡ withdraw_all_answer self.now.state }
     {
         if self.active.is_empty() {
             return StepAnswer::NothingActive;
@@ -170,8 +178,10 @@ impl Nemesis {
     }
 
     fn withdraw_all_step(&mut self) -> Result<StepAnswer, AllocError>
-        ensures ok { IfOk result (λ answer. (answer ≡ withdraw_all_answer self.old) × (self.new ≡ state_after self.old WithdrawAll)) }
-        ensures err { OnErr result ((withdraw_all_answer self.old ≡ StepAnswer.Ok) × (self.new ≡ self.old)) }
+        ensures ok { IfOk result (λ answer. (answer ≡ withdraw_all_answer self.old.state) × (self.new.state ≡ state_after self.old.state WithdrawAll)) }
+        ensures refused { IfOk result (λ answer. is_ok answer ≡ false → self.new ≡ self.old) }
+        ensures err { OnErr result ((withdraw_all_answer self.old.state ≡ StepAnswer.Ok) × (self.new ≡ self.old)) }
+        ensures work { self.new.work ≤ self.old.work + size_of_step self.old.state WithdrawAll }
     {
         let answer = self.check_withdraw_all();
         if answer != StepAnswer::Ok {
@@ -185,22 +195,23 @@ impl Nemesis {
 
     // Whether no step lies before.
     fn is_at_start(&self) -> bool
-        ensures { result ≡ is_empty self.now.past }
+        ensures { result ≡ is_empty self.now.state.past }
     {
         self.cursor == 0
     }
 
     // Whether no step was undone.
     fn is_at_end(&self) -> bool
-        ensures { result ≡ is_empty self.now.future }
+        ensures { result ≡ is_empty self.now.state.future }
     {
         self.cursor == self.records.len()
     }
 
     // Goes back to the moment before the last step.
     fn go_back(&mut self)
-        requires { is_empty self.old.past ≡ false }
-        ensures { self.new ≡ back_to self.old self.old.past }
+        requires { is_empty self.old.state.past ≡ false }
+        ensures state { self.new.state ≡ back_to self.old.state self.old.state.past }
+        ensures work { self.new.work ≤ self.old.work + size_between self.old.state.now self.new.state.now }
     {
         self.cursor -= 1;
         step_back(&mut self.env, &self.records, self.cursor);
@@ -209,8 +220,9 @@ impl Nemesis {
 
     // Goes forth to the moment after the next step.
     fn go_forth(&mut self)
-        requires { is_empty self.old.future ≡ false }
-        ensures { self.new ≡ forth_to self.old self.old.future }
+        requires { is_empty self.old.state.future ≡ false }
+        ensures state { self.new.state ≡ forth_to self.old.state self.old.state.future }
+        ensures work { self.new.work ≤ self.old.work + size_between self.old.state.now self.new.state.now }
     {
         step_forth(&mut self.env, &self.records, self.cursor);
         play(&self.records, self.cursor, &mut self.active);
@@ -218,8 +230,10 @@ impl Nemesis {
     }
 
     fn undo_step(&mut self) -> StepAnswer
-        ensures answer { result ≡ answer_of self.old Undo }
-        ensures state { self.new ≡ state_after self.old Undo }
+        ensures answer { result ≡ answer_of self.old.state Undo }
+        ensures state { self.new.state ≡ state_after self.old.state Undo }
+        ensures refused { is_ok result ≡ false → self.new ≡ self.old }
+        ensures work { self.new.work ≤ self.old.work + size_of_step self.old.state Undo }
     {
         if self.is_at_start() {
             return StepAnswer::NothingToUndo;
@@ -229,8 +243,10 @@ impl Nemesis {
     }
 
     fn redo_step(&mut self) -> StepAnswer
-        ensures answer { result ≡ answer_of self.old Redo }
-        ensures state { self.new ≡ state_after self.old Redo }
+        ensures answer { result ≡ answer_of self.old.state Redo }
+        ensures state { self.new.state ≡ state_after self.old.state Redo }
+        ensures refused { is_ok result ≡ false → self.new ≡ self.old }
+        ensures work { self.new.work ≤ self.old.work + size_of_step self.old.state Redo }
     {
         if self.is_at_end() {
             return StepAnswer::NothingToRedo;
@@ -240,16 +256,19 @@ impl Nemesis {
     }
 
     /// Takes a step, and answers it; a refused step changes nothing. The fault of a begin must fit the
-    /// environment, as `Fault::fits` tests. An accepted step takes time for the links and nodes that those faults name
-    /// which it begins or ends, and for the stamps of the active faults, at most 256.
+    /// environment, as `Fault::fits` tests. An accepted step writes no more than those faults take which it begins or
+    /// ends (`steps_write_their_faults`), and takes time for their links and nodes, and for the stamps of the active faults,
+    /// at most 256.
     ///
     /// Error: memory was refused to a step that would be accepted. Then nothing has changed. A step back or forth
     /// takes no memory.
     pub fn apply(&mut self, step: Step) -> Result<StepAnswer, AllocError>
-        requires { StepFits self.old step }
+        requires { StepFits self.old.state step }
         ensures answer { MatchResult result
-            (λ answer. (answer ≡ answer_of self.old step) × (self.new ≡ state_after self.old step))
-            (λ _. (answer_of self.old step ≡ StepAnswer.Ok) × (self.new ≡ self.old)) }
+            (λ answer. (answer ≡ answer_of self.old.state step) × (self.new.state ≡ state_after self.old.state step))
+            (λ _. (answer_of self.old.state step ≡ StepAnswer.Ok) × (self.new ≡ self.old)) }
+        ensures refused { IfOk result (λ answer. is_ok answer ≡ false → self.new ≡ self.old) }
+        ensures work { self.new.work ≤ self.old.work + size_of_step self.old.state step }
         ensures free { is_free step ≡ true → IsOk result }
     {
         match step {
@@ -266,10 +285,11 @@ impl Nemesis {
     /// Error: memory was refused before all were taken. What was taken until then stands, and `Stopped` has its
     /// answers; the next step changed nothing.
     pub fn apply_all(&mut self, alloc: Global, steps: Vec<Step>) -> Result<Vec<StepAnswer>, Stopped>
-        requires { All (StepFits self.old) steps.items }
-        ensures { MatchResult result
-            (λ answers. (answers.items ≡ answers_of self.old steps.items) × (self.new ≡ state_after_all self.old steps.items))
-            (λ stopped. TakesFirst self.old steps.items stopped.answers.items self.new) }
+        requires { All (StepFits self.old.state) steps.items }
+        ensures answer { MatchResult result
+            (λ answers. (answers.items ≡ answers_of self.old.state steps.items) × (self.new.state ≡ state_after_all self.old.state steps.items))
+            (λ stopped. TakesFirst self.old.state steps.items stopped.answers.items self.new.state) }
+        ensures work { self.new.work ≤ self.old.work + size_of_steps self.old.state steps.items }
     {
         let mut answers = Vec::new(alloc);
         if answers.reserve(steps.len()).is_err() {
@@ -290,10 +310,11 @@ impl Nemesis {
     /// Errors, which change nothing: `IdTaken`; `TooManyActive` where 256 faults are active; `TooManySteps`
     /// where 4,096 steps lie in the past; `OutOfMemory`.
     pub fn begin(&mut self, id: u32, fault: Fault) -> Result<(), BeginError>
-        requires { FitsCount (length self.old.names) fault }
-        ensures { MatchResult result
-            (λ _. (begin_answer self.old id ≡ StepAnswer.Ok) × (self.new ≡ state_after self.old (Begin id fault)))
-            (λ e. (self.new ≡ self.old) × RefusesBegin self.old id e) }
+        requires { FitsCount (length self.old.state.names) fault }
+        ensures answer { MatchResult result
+            (λ _. (begin_answer self.old.state id ≡ StepAnswer.Ok) × (self.new.state ≡ state_after self.old.state (Begin id fault)))
+            (λ e. (self.new ≡ self.old) × RefusesBegin self.old.state id e) }
+        ensures work { self.new.work ≤ self.old.work + size_of_step self.old.state (Begin id fault) }
     {
         match self.begin_step(id, fault) {
             Ok(StepAnswer::IdTaken) => Err(BeginError::IdTaken),
@@ -309,9 +330,10 @@ impl Nemesis {
     /// Errors, which change nothing: `NotActive`; `TooManySteps` where 4,096 steps lie in the past;
     /// `OutOfMemory`.
     pub fn withdraw(&mut self, id: u32) -> Result<(), WithdrawError>
-        ensures { MatchResult result
-            (λ _. (withdraw_answer self.old id ≡ StepAnswer.Ok) × (self.new ≡ state_after self.old (Withdraw id)))
-            (λ e. (self.new ≡ self.old) × RefusesWithdraw self.old id e) }
+        ensures answer { MatchResult result
+            (λ _. (withdraw_answer self.old.state id ≡ StepAnswer.Ok) × (self.new.state ≡ state_after self.old.state (Withdraw id)))
+            (λ e. (self.new ≡ self.old) × RefusesWithdraw self.old.state id e) }
+        ensures work { self.new.work ≤ self.old.work + size_of_step self.old.state (Withdraw id) }
     {
         match self.withdraw_step(id) {
             Ok(StepAnswer::NotActive) => Err(WithdrawError::NotActive),
@@ -326,9 +348,10 @@ impl Nemesis {
     /// Errors, which change nothing: `NothingActive`; `TooManySteps` where 4,096 steps lie in the past;
     /// `OutOfMemory`.
     pub fn withdraw_all(&mut self) -> Result<(), WithdrawAllError>
-        ensures { MatchResult result
-            (λ _. (withdraw_all_answer self.old ≡ StepAnswer.Ok) × (self.new ≡ state_after self.old WithdrawAll))
-            (λ e. (self.new ≡ self.old) × RefusesWithdrawAll self.old e) }
+        ensures answer { MatchResult result
+            (λ _. (withdraw_all_answer self.old.state ≡ StepAnswer.Ok) × (self.new.state ≡ state_after self.old.state WithdrawAll))
+            (λ e. (self.new ≡ self.old) × RefusesWithdrawAll self.old.state e) }
+        ensures work { self.new.work ≤ self.old.work + size_of_step self.old.state WithdrawAll }
     {
         match self.withdraw_all_step() {
             Ok(StepAnswer::NothingActive) => Err(WithdrawAllError::NothingActive),
@@ -343,9 +366,10 @@ impl Nemesis {
     ///
     /// Error, which changes nothing: no step lies in the past.
     pub fn undo(&mut self) -> Result<(), NothingToUndo>
-        ensures undone { OnOk result (self.new ≡ state_after self.old Undo) }
+        ensures undone { OnOk result (self.new.state ≡ state_after self.old.state Undo) }
         ensures unchanged { OnErr result (self.new ≡ self.old) }
-        ensures refused { IsErr result ↔ (self.old.past ≡ []) }
+        ensures refused { IsErr result ↔ (self.old.state.past ≡ []) }
+        ensures work { self.new.work ≤ self.old.work + size_of_step self.old.state Undo }
     {
         match self.undo_step() {
             StepAnswer::NothingToUndo => Err(NothingToUndo),
@@ -357,9 +381,10 @@ impl Nemesis {
     ///
     /// Error, which changes nothing: no step was undone since the last begin or withdrawal.
     pub fn redo(&mut self) -> Result<(), NothingToRedo>
-        ensures redone { OnOk result (self.new ≡ state_after self.old Redo) }
+        ensures redone { OnOk result (self.new.state ≡ state_after self.old.state Redo) }
         ensures unchanged { OnErr result (self.new ≡ self.old) }
-        ensures refused { IsErr result ↔ (self.old.future ≡ []) }
+        ensures refused { IsErr result ↔ (self.old.state.future ≡ []) }
+        ensures work { self.new.work ≤ self.old.work + size_of_step self.old.state Redo }
     {
         match self.redo_step() {
             StepAnswer::NothingToRedo => Err(NothingToRedo),

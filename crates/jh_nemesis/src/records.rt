@@ -1,11 +1,10 @@
 //! The steps that a nemesis keeps, and the stamps of the faults that they make active. The stamp of a fault is the index
-//! of its begin among the steps. `specs/Records.antt` says what a step makes of the active stamps.
+//! of its begin among the steps. `specs/RecordsInside.antt` says what a step makes of the active stamps.
 
 ghost use Rattle.std.specs.Prelude.{◌≡◌, ◌==◌, ◌≤◌, ◌<◌, ◌++◌, ◌∷◌, [], OnErr, OnOk, IfSome, filter, insert, is_some, length, nat_lt, not, take};
 ghost use Rattle.std.specs.List.{Contains, position_or_len};
 ghost use Rattle.jh_nemesis.specs.State as spec;
-ghost use Rattle.jh_nemesis.specs.Records.{faults_at, fault_of, played, played_back, record_at};
-ghost use Rattle.jh_nemesis.specs.RecordsInside.{AreStamps, IsBegin};
+ghost use Rattle.jh_nemesis.specs.RecordsInside.{faults_at, fault_of, played, played_back, record_at, AreStamps, IsBegin};
 
 use crate::steps::MOST_ACTIVE;
 use arrayvec::ArrayVec;

@@ -2,7 +2,7 @@
 -- project's own).
 use Rattle.std.specs.Prelude.{◌≡◌, ℕ, ◌+◌, ◌<◌, ◌≤◌, List, [], ◌∷◌, ◌++◌, length, replicate}
 use Rattle.jh_env.specs.Cells.{Table}
-use Rattle.jh_env.specs.Overlay.{EnvValue}
+use Rattle.jh_env.specs.Overlay.{EnvValue, work_of}
 use Rattle.jh_nemesis.specs.State.{State, faults_in}
 use Rattle.jh_nemesis.specs.Steps.{answer_of, state_after, FitsNodes}
 use Rattle.jh_simnode.specs.declared.settings.Settings.{Settings}
@@ -82,10 +82,11 @@ AreDue u m (e ∷ es) = IsDue u m e × AreDue u (next u m e) es
 abbrev pub IsLegal : Setup → List Event → Type 0
 IsLegal u journal = AreDue u (opening u) journal
 
--- what callers see of a world: what it keeps for good, and all that happened
+-- what callers see of a world: what it keeps for good, all that happened, and how often its environment was written
 pub record WorldValue : Type 0 where
   pub setup : Setup
   pub journal : List Event
+  pub work : ℕ
 
 -- nothing has happened in the world, over this environment, with these settings
 pub record IsNew (env : EnvValue) (chosen : Settings) (new : WorldValue) : Type 0 where
@@ -93,6 +94,7 @@ pub record IsNew (env : EnvValue) (chosen : Settings) (new : WorldValue) : Type 
   pub names : new.setup.names ≡ env.names
   pub start : new.setup.start ≡ env.start
   pub settings : new.setup.settings ≡ chosen
+  pub work : new.work ≡ work_of env
 
 -- a copy for each of so many nodes, and no version above a number
 pub record AreTidy (count number : ℕ) (all : List NodeCopy) : Type 0 where
@@ -107,7 +109,7 @@ pub record IsWorldOf (u : Setup) (state : State) (all : List NodeCopy) (events :
   pub tidy : AreTidy (length u.names) (length events) all
   pub few : length events ≤ MOST_EVENTS
 
--- the event is the last, its number is told, and nothing else changed
+-- the event is the last, its number is told, and what the world keeps for good stays
 pub record Adds (old : WorldValue) (event : Event) (told : ℕ) (new : WorldValue) : Type 0 where
   pub number : told ≡ length old.journal
   pub setup : new.setup ≡ old.setup

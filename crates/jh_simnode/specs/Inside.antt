@@ -12,11 +12,11 @@ setup_of s settings = record { names = s.names; start = s.start; settings = sett
 
 -- what callers see of what a world is made of
 abbrev pub world_of : Inside → WorldValue
-world_of a = record { setup = setup_of a.nemesis a.settings; journal = a.journal.items }
+world_of a = record { setup = setup_of a.nemesis.state a.settings; journal = a.journal.items; work = a.nemesis.work }
 
 -- what holds of every world
 abbrev pub IsSound : Inside → Type 0
-IsSound a = IsWorldOf (setup_of a.nemesis a.settings) a.nemesis a.copies.items a.journal.items
+IsSound a = IsWorldOf (setup_of a.nemesis.state a.settings) a.nemesis.state a.copies.items a.journal.items
 
 -- what callers see of what a plan is made of
 abbrev pub plan_of : plan.Inside → PlanValue

@@ -1,9 +1,10 @@
 //! A world: one environment, one nemesis and one copy for each node, changed in place, with the journal of all that
 //! happened. `specs/Events.antt` recomputes where a world stands from its journal.
 
-ghost use Rattle.std.specs.Prelude.{◌≡◌, ◌<◌, ◌≤◌, [], length, IfOk, OnErr, MatchResult, replicate, ⊤};
+ghost use Rattle.std.specs.Prelude.{◌≡◌, ◌+◌, ◌<◌, ◌≤◌, [], length, IfOk, OnErr, MatchResult, replicate, ⊤};
 ghost use Rattle.jh_env.specs.Overlay.{StandsFor};
 ghost use Rattle.jh_nemesis.specs.Steps.{FitsNodes};
+ghost use Rattle.jh_nemesis.specs.Work.{size_of_step};
 ghost use Rattle.jh_simnode.specs.Events.{Adds, Refuses, IsLegal, IsNew, moment_at};
 ghost use Rattle.jh_simnode.specs.declared.events.Event.TheVariants as Event;
 
@@ -81,7 +82,8 @@ impl World {
 
     /// The faults, with their past and future: those that the journal leads to.
     pub fn nemesis(&self) -> &Nemesis
-        ensures { result.now ≡ (moment_at self.now.setup self.now.journal).faults }
+        ensures state { result.now.state ≡ (moment_at self.now.setup self.now.journal).faults }
+        ensures work { result.now.work ≡ self.now.work }
     {
         &self.nemesis
     }
@@ -99,9 +101,10 @@ impl World {
         request: Request,
         draw: u64,
     ) -> Result<(u64, Reply), WorldError>
-        ensures { MatchResult result
+        ensures added { MatchResult result
             (λ told. Adds self.old (Event.Call process node request draw told.1) told.0 self.new)
             (λ e. (self.new ≡ self.old) × Refuses (node < length self.old.setup.names) self.old.journal e) }
+        ensures work { self.new.work ≡ self.old.work }
     {
         if node.place() as usize >= self.copies.len() {
             return Err(WorldError::UnknownNode);
@@ -140,9 +143,10 @@ impl World {
     /// Errors, which change nothing: `UnknownNode` where the fault of a begin names one; `TooManyEvents` after 65,536
     /// events; `OutOfMemory`.
     pub fn step(&mut self, step: Step) -> Result<(u64, StepAnswer), WorldError>
-        ensures { MatchResult result
+        ensures added { MatchResult result
             (λ told. Adds self.old (Event.Step step told.1) told.0 self.new)
             (λ e. (self.new ≡ self.old) × Refuses (FitsNodes (length self.old.setup.names) step) self.old.journal e) }
+        ensures work { self.new.work ≤ self.old.work + size_of_step (moment_at self.old.setup self.old.journal).faults step }
     {
         if !fits(&step, self.nemesis.env()) {
             return Err(WorldError::UnknownNode);
@@ -172,9 +176,10 @@ impl World {
     ///
     /// Errors, which change nothing: `TooManyEvents` after 65,536 events; `OutOfMemory`.
     pub fn tick(&mut self) -> Result<u64, WorldError>
-        ensures { MatchResult result
+        ensures added { MatchResult result
             (λ told. Adds self.old Event.Tick told self.new)
             (λ e. (self.new ≡ self.old) × Refuses ⊤ self.old.journal e) }
+        ensures work { self.new.work ≡ self.old.work }
     {
         if self.journal.len() >= MOST_EVENTS {
             return Err(WorldError::TooManyEvents);

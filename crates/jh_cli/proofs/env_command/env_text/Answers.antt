@@ -12,7 +12,7 @@ returns-in_err-env c =
     rw p.1 (first_refused c.args.values.now c.first-item.result c.in_err-env.field-0.0 p.0 (search rules) c.first-item.is c.in_err-env.ensures p.2)
 
 pub report-requires : goal.report-requires
-report-requires c = λ k d below. rw c.new-nemesis.ensures (rw c.nodes.ensures.names at (c.in_ok-steps.ensures.fit k d below))
+report-requires c = λ k d below. rw c.new-nemesis.ensures.state (rw c.nodes.ensures.names at (c.in_ok-steps.ensures.fit k d below))
 
 pub returns : goal.returns
 returns c =
@@ -26,5 +26,5 @@ returns c =
       at_start = c.in_ok-env.ensures.0;
       steps_told = rw c.nodes.ensures.names at c.in_ok-steps.ensures.told;
     } in
-    let report : IsReport (first_state env) steps c.in_ok-report.field-0.items = rw c.new-nemesis.ensures at c.in_ok-report.ensures in
+    let report : IsReport (first_state env) steps c.in_ok-report.field-0.items = rw c.new-nemesis.ensures.state at c.in_ok-report.ensures in
     (env, steps, told, report)

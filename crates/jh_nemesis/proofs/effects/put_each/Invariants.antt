@@ -1,6 +1,6 @@
 use Rattle.std.proofs.Common.{◌≤◌, ◌+◌, take}
 use Rattle.jh_env.specs.Overlay.{StandsWith, SamePlace, work_of}
-use Rattle.jh_nemesis.specs.Records.{faults_at, stamped_at}
+use Rattle.jh_nemesis.specs.RecordsInside.{faults_at, stamped_at}
 use Rattle.jh_nemesis.specs.Work.{size_of_all}
 use Rattle.jh_nemesis.proofs.effects.put_each.Given as goal
 

@@ -1,6 +1,6 @@
 use Rattle.std.proofs.Common.{◌∙◌, ◌+◌, [], drop, subst}
 use Rattle.jh_env.specs.Overlay.{StandsWith, work_of}
-use Rattle.jh_nemesis.specs.Records.{stamped_at}
+use Rattle.jh_nemesis.specs.RecordsInside.{stamped_at}
 use Rattle.jh_nemesis.proofs.EffectLemmas.{stamped_left, work_more}
 use Rattle.jh_nemesis.proofs.effects.take_each.Goals as goal
 

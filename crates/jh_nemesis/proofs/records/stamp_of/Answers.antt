@@ -2,7 +2,7 @@ use Rattle.std.proofs.Common.{◌≡◌, ◌<◌, get_or, sym, length, true, ◌
 use Rattle.std.proofs.lemmas.List.{get_or-map, length-map, get_or_default}
 use Rattle.std.proofs.lemmas.List.Folds.{list_any_at}
 use Rattle.jh_nemesis.specs.State.{has_id}
-use Rattle.jh_nemesis.specs.Records.{faults_at, fault_of, record_at}
+use Rattle.jh_nemesis.specs.RecordsInside.{faults_at, fault_of, record_at}
 use Rattle.jh_nemesis.specs.declared.records.Record.TheVariants.{Withdrawn}
 use Rattle.jh_nemesis.proofs.records.stamp_of.Goals as goal
 

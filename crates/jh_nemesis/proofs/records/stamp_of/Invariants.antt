@@ -1,6 +1,6 @@
 use Rattle.std.proofs.Common.{◌≡◌, take, false}
 use Rattle.jh_nemesis.specs.State as spec
-use Rattle.jh_nemesis.specs.Records.{faults_at}
+use Rattle.jh_nemesis.specs.RecordsInside.{faults_at}
 use Rattle.jh_nemesis.proofs.records.stamp_of.Given as goal
 
 abbrev pub invariant-loop-stamp : goal.invariant-loop-stamp

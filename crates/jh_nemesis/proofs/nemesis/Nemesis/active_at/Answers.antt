@@ -1,8 +1,7 @@
 use Rattle.std.proofs.Common.{◌≡◌, ◌<◌, ◌∙◌, ap, sym, length, get_or, Some, subst}
 use Rattle.std.proofs.lemmas.Bool.{ltb-true}
 use Rattle.std.proofs.lemmas.List.{get_or_default}
-use Rattle.jh_nemesis.specs.RecordsInside.{IsBegin}
-use Rattle.jh_nemesis.specs.Records.{record_at, fault_of}
+use Rattle.jh_nemesis.specs.RecordsInside.{IsBegin, record_at, fault_of}
 use Rattle.jh_nemesis.specs.declared.records.Record.{Record}
 use Rattle.jh_nemesis.specs.declared.records.Record.TheVariants.{Withdrawn}
 use Rattle.jh_nemesis.proofs.RecordLemmas.{fault_read, not_begin}

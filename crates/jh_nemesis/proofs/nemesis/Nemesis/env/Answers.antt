@@ -1,6 +1,6 @@
 use Rattle.std.proofs.Common.{subst}
 use Rattle.jh_env.specs.Overlay.{IsOverlay}
-use Rattle.jh_nemesis.specs.Records.{stamped_at}
+use Rattle.jh_nemesis.specs.RecordsInside.{stamped_at}
 use Rattle.jh_nemesis.proofs.RecordLemmas.{stamped_faults}
 use Rattle.jh_nemesis.proofs.nemesis.Nemesis.env.Goals as goal
 

@@ -2,7 +2,8 @@ use Rattle.std.proofs.Common.{◌≡◌, ◌<◌, ◌+◌, ◌-◌, arith, ◌�
 use Rattle.jh_env.specs.Overlay.{StandsWith}
 use Rattle.jh_nemesis.specs.State.{State, is_empty, back_to}
 use Rattle.jh_nemesis.specs.NemesisInside.{state_from}
-use Rattle.jh_nemesis.specs.Records.{active_after, past_of, stamped_at}
+use Rattle.jh_nemesis.specs.Work.{NemesisValue}
+use Rattle.jh_nemesis.specs.RecordsInside.{active_after, faults_at, moment, past_of, stamped_at}
 use Rattle.jh_nemesis.proofs.CursorLemmas.{few_at, played_back_is, state_back, moved_true, has_past}
 use Rattle.jh_nemesis.proofs.nemesis.Nemesis.go_back.Goals as goal
 
@@ -32,8 +33,8 @@ play_back-requires-clause-room c =
     let w = c.self.invariant.within in
     rw c.deref-2.ensures.value (few_at c.self.invariant (a.cursor - 1) _ (omega arith) (played_back_is c.self.invariant later))
 
-pub returns : goal.returns
-returns c =
+pub returns-clause-state : goal.returns-clause-state
+returns-clause-state c =
     let a = c.self.inside in
     let some : is_empty (past_of a.records.items a.cursor) ≡ false = rw (← c.self.view_is) at c.requires in
     let later : 0 < a.cursor = has_past a.records.items a.cursor some in
@@ -41,7 +42,20 @@ returns c =
     let is : c.play_back.new.active.items ≡ active_after a.records.items (a.cursor - 1) =
     c.play_back.ensures ∙ rw c.deref-2.ensures.value (played_back_is c.self.invariant later) in
     subst (λ (s : State). state_from c.step_back.new.env a.records.items (a.cursor - 1) c.play_back.new.active.items ≡ back_to s s.past)
-    c.self.view_is (state_back c.self.invariant c.step_back.new.env c.play_back.new.active.items later is c.step_back.ensures.kept)
+    (ap (λ (n : NemesisValue). n.state) c.self.view_is) (state_back c.self.invariant c.step_back.new.env c.play_back.new.active.items later is c.step_back.ensures.kept)
+
+pub returns-clause-work : goal.returns-clause-work
+returns-clause-work c =
+    let a = c.self.inside in
+    let some : is_empty (past_of a.records.items a.cursor) ≡ false = rw (← c.self.view_is) at c.requires in
+    let later : 0 < a.cursor = has_past a.records.items a.cursor some in
+    let w = c.self.invariant.within in
+    let last : a.cursor - 1 + 1 ≡ a.cursor = omega arith in
+    let is : c.play_back.new.active.items ≡ active_after a.records.items (a.cursor - 1) =
+    c.play_back.ensures ∙ rw c.deref-2.ensures.value (played_back_is c.self.invariant later) in
+    let written = rw (c.deref.ensures.value, last) at c.step_back.ensures.work in
+    let now : faults_at a.records.items a.active.items ≡ moment a.records.items a.cursor = ap (faults_at a.records.items) c.self.invariant.now in
+    rw (← c.self.view_is, is, now) written
 
 pub invariant_of-self : goal.invariant_of-self
 invariant_of-self c =

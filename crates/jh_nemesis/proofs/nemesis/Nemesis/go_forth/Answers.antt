@@ -1,8 +1,9 @@
-use Rattle.std.proofs.Common.{◌≡◌, ◌<◌, ◌+◌, ◌-◌, length, arith, ◌∙◌, false, subst, sym}
+use Rattle.std.proofs.Common.{◌≡◌, ◌<◌, ◌+◌, ◌-◌, ap, length, arith, ◌∙◌, false, subst, sym}
 use Rattle.jh_env.specs.Overlay.{StandsWith}
 use Rattle.jh_nemesis.specs.State.{State, is_empty, forth_to}
 use Rattle.jh_nemesis.specs.NemesisInside.{state_from}
-use Rattle.jh_nemesis.specs.Records.{active_after, future_of, stamped_at}
+use Rattle.jh_nemesis.specs.Work.{NemesisValue}
+use Rattle.jh_nemesis.specs.RecordsInside.{active_after, faults_at, future_of, moment, stamped_at}
 use Rattle.jh_nemesis.proofs.CursorLemmas.{few_at, played_is, state_forth, moved_true, has_future}
 use Rattle.jh_nemesis.proofs.nemesis.Nemesis.go_forth.Goals as goal
 
@@ -27,8 +28,8 @@ play-requires-clause-room c =
     let within : a.cursor < length a.records.items = has_future a.records.items a.cursor left in
     rw c.deref-2.ensures.value (few_at c.self.invariant (a.cursor + 1) _ (omega arith) (played_is c.self.invariant))
 
-pub returns : goal.returns
-returns c =
+pub returns-clause-state : goal.returns-clause-state
+returns-clause-state c =
     let a = c.self.inside in
     let left : is_empty (future_of a.records.items a.cursor (length a.records.items - a.cursor)) ≡ false =
     rw (← c.self.view_is) at c.requires in
@@ -36,7 +37,16 @@ returns c =
     let is : c.play.new.active.items ≡ active_after a.records.items (a.cursor + 1) =
     c.play.ensures ∙ rw c.deref-2.ensures.value (played_is c.self.invariant) in
     subst (λ (s : State). state_from c.step_forth.new.env a.records.items (a.cursor + 1) c.play.new.active.items ≡ forth_to s s.future)
-    c.self.view_is (state_forth c.self.invariant c.step_forth.new.env c.play.new.active.items within is c.step_forth.ensures.kept)
+    (ap (λ (n : NemesisValue). n.state) c.self.view_is) (state_forth c.self.invariant c.step_forth.new.env c.play.new.active.items within is c.step_forth.ensures.kept)
+
+pub returns-clause-work : goal.returns-clause-work
+returns-clause-work c =
+    let a = c.self.inside in
+    let is : c.play.new.active.items ≡ active_after a.records.items (a.cursor + 1) =
+    c.play.ensures ∙ rw c.deref-2.ensures.value (played_is c.self.invariant) in
+    let written = rw c.deref.ensures.value at c.step_forth.ensures.work in
+    let now : faults_at a.records.items a.active.items ≡ moment a.records.items a.cursor = ap (faults_at a.records.items) c.self.invariant.now in
+    rw (← c.self.view_is, is, now) written
 
 pub invariant_of-self : goal.invariant_of-self
 invariant_of-self c =

@@ -8,8 +8,8 @@ invariant_of-self-2 c =
     let i = c.self.inside in
     let few : length i.journal.items < 65536 = search rules in
     let number : c.len-number.result ≡ length i.journal.items = search rules in
-    let known : c.args.node < length i.nemesis.names = search rules in
+    let known : c.args.node < length i.nemesis.state.names = search rules in
     let told = rw c.deref.ensures.value at c.in_ok-served.ensures in
     rw (c.push_reserved.ensures.items, c.reserve.ensures.items, c.take_over.ensures)
-    (call_goes_on i.nemesis i.settings i.copies.items (with_all i.copies.items c.in_ok-served.served.taken.items) i.journal.items c.env.result.now c.len-number.result c.args.process c.args.node c.args.request c.args.draw c.in_ok-served.served.reply
+    (call_goes_on i.nemesis.state i.settings i.copies.items (with_all i.copies.items c.in_ok-served.served.taken.items) i.journal.items c.env.result.now c.len-number.result c.args.process c.args.node c.args.request c.args.draw c.in_ok-served.served.reply
     c.self.invariant few c.env.ensures.overlay c.env.ensures.start number known (told.reply, told.copies.copies))

@@ -14,7 +14,7 @@ pub returns-then-not-fits : goal.returns-then-not-fits
 returns-then-not-fits c = (
   refl,
   λ h.
-      let h2 : FitsNodes (length c.self.inside.nemesis.names) c.args.step = rw (← c.self.view_is) at h in
+      let h2 : FitsNodes (length c.self.inside.nemesis.state.names) c.args.step = rw (← c.self.view_is) at h in
       let h3 : FitsNodes (length c.env.result.now.names) c.args.step = rw c.env.ensures.names h2 in
       let yes : IsTrue c.fits.result = c.fits.ensures.1 h3 in
       let no : ⊥ = cc (yes, c.if-not-fits.true) in no,
@@ -22,29 +22,29 @@ returns-then-not-fits c = (
 
 pub returns-then-len-ge-MOST_EVENTS : goal.returns-then-len-ge-MOST_EVENTS
 returns-then-len-ge-MOST_EVENTS c =
-    let fits : FitsNodes (length c.self.inside.nemesis.names) c.args.step = rw c.env.ensures.names at (c.fits.ensures.0 c.if-not-fits.false) in
+    let fits : FitsNodes (length c.self.inside.nemesis.state.names) c.args.step = rw c.env.ensures.names at (c.fits.ensures.0 c.if-not-fits.false) in
     let full : 65536 ≤ length c.self.inside.journal.items = search rules in
     (refl, (rw (← c.self.view_is) fits, rw (← c.self.view_is) full))
 
 pub forget-requires-clause-before : goal.forget-requires-clause-before
 forget-requires-clause-before c =
-    let moved : c.apply.new.self ≡ state_after c.self.inside.nemesis c.args.step = c.in_ok-answer.ensures.answer.1 in
-    let names : c.env-3.result.now.names ≡ c.env-2.result.now.names = c.env-3.ensures.names ∙ ap (λ (r : State). r.names) moved ∙ state_after_names c.self.inside.nemesis c.args.step ∙ sym c.env-2.ensures.names in
+    let moved : c.apply.new.self.state ≡ state_after c.self.inside.nemesis.state c.args.step = c.in_ok-answer.ensures.answer.1 in
+    let names : c.env-3.result.now.names ≡ c.env-2.result.now.names = c.env-3.ensures.names ∙ ap (λ (r : State). r.names) moved ∙ state_after_names c.self.inside.nemesis.state c.args.step ∙ sym c.env-2.ensures.names in
     rw (c.as_slice.ensures.value, c.dead_nodes-before.ensures, names) (length-dead (cells_of c.env-2.result.now) (length c.env-2.result.now.names))
 
 pub forget-requires-clause-sized : goal.forget-requires-clause-sized
 forget-requires-clause-sized c =
-    rw (c.deref_mut.ensures.value, c.env-3.ensures.names, c.in_ok-answer.ensures.answer.1, state_after_names c.self.inside.nemesis c.args.step) c.self.invariant.tidy.sized
+    rw (c.deref_mut.ensures.value, c.env-3.ensures.names, c.in_ok-answer.ensures.answer.1, state_after_names c.self.inside.nemesis.state c.args.step) c.self.invariant.tidy.sized
 
 pub invariant_of-self-2 : goal.invariant_of-self-2
 invariant_of-self-2 c =
     let i = c.self.inside in
     let few : length i.journal.items < 65536 = search rules in
-    let fits : FitsNodes (length i.nemesis.names) c.args.step = rw c.env.ensures.names at (c.fits.ensures.0 c.if-not-fits.false) in
-    let flags : c.dead_nodes-before.result.items ≡ dead (cells_of c.env-2.result.now) (length i.nemesis.names) = rw c.env-2.ensures.names at c.dead_nodes-before.ensures in
+    let fits : FitsNodes (length i.nemesis.state.names) c.args.step = rw c.env.ensures.names at (c.fits.ensures.0 c.if-not-fits.false) in
+    let flags : c.dead_nodes-before.result.items ≡ dead (cells_of c.env-2.result.now) (length i.nemesis.state.names) = rw c.env-2.ensures.names at c.dead_nodes-before.ensures in
     let forgot = rw (c.as_slice.ensures.value, flags, c.deref_mut.ensures.value) at c.forget.ensures in
     let size : length c.forget.new.copies ≡ i.copies.len =
-    ap length forgot ∙ (forgotten_tidy i.settings (dead (cells_of c.env-2.result.now) (length i.nemesis.names)) (cells_of c.env-3.result.now) (length i.nemesis.names) (length i.journal.items) i.copies.items c.self.invariant.tidy).sized ∙ sym c.self.invariant.tidy.sized ∙ sym i.copies.ok.0 in
+    ap length forgot ∙ (forgotten_tidy i.settings (dead (cells_of c.env-2.result.now) (length i.nemesis.state.names)) (cells_of c.env-3.result.now) (length i.nemesis.state.names) (length i.journal.items) i.copies.items c.self.invariant.tidy).sized ∙ sym c.self.invariant.tidy.sized ∙ sym i.copies.ok.0 in
     rw (c.push_reserved.ensures.items, c.reserve.ensures.items, c.in_ok-kept.ensures, written i.copies.len c.forget.new.copies i.copies.items size)
-    (step_goes_on i.nemesis c.apply.new.self i.settings i.copies.items c.forget.new.copies i.journal.items c.env-2.result.now c.env-3.result.now c.args.step c.in_ok-answer.answer
+    (step_goes_on i.nemesis.state c.apply.new.self.state i.settings i.copies.items c.forget.new.copies i.journal.items c.env-2.result.now c.env-3.result.now c.args.step c.in_ok-answer.answer
     c.self.invariant few c.env-2.ensures.overlay c.env-2.ensures.start fits c.in_ok-answer.ensures.answer.0 c.in_ok-answer.ensures.answer.1 c.env-3.ensures.overlay c.env-3.ensures.start forgot)
