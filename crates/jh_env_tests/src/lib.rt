@@ -14,6 +14,8 @@ mod faults;
 #[cfg(test)]
 mod grudge;
 #[cfg(test)]
+mod largest;
+#[cfg(test)]
 mod names;
 #[cfg(test)]
 mod rows;

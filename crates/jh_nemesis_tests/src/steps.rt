@@ -1,10 +1,10 @@
-//! Faults that are begun and withdrawn on an environment of two nodes, with steps back and forth.
+//! Faults that are begun and withdrawn on an environment of two nodes and on one of 64, with steps back and forth.
 //!
-//! A row is calls with `; ` between, and their answers. Each fault cuts the link from `n2` to `n1`.
+//! A row is calls with `; ` between, and their answers. Each fault cuts the link from `n2` to `n1`, or delays it.
 //!
-//! - `begin 1`, `withdraw 1`, `withdraw-all`, `undo`, `redo` are the calls of those names; `apply-begin 1`, `apply-withdraw 1`
+//! - `begin 1` begins a cut, `slow 1` a delay of 1 ms; `withdraw 1`, `withdraw-all`, `undo`, `redo` are the calls of those names; `apply-begin 1`, `apply-withdraw 1`
 //!   take such a step by `apply`, `few` takes three steps by `apply_all`. Answers `ok` or the message of the refusal.
-//! - `begins 256` begins faults with the ids below 256, `rounds 2048` begins and withdraws one so often.
+//! - `slows 257` begins delays with the ids below 257, `begins 256` cuts, `rounds 2048` begins and withdraws one so often.
 //! - `active` tells the ids of the active faults, `link` whether the link is cut, `work` how often a cell was written.
 //!
 //! A call whose memory was refused is made again where the number of active faults stayed.
@@ -22,10 +22,15 @@ use jh_nemesis::{
 };
 use std::alloc::{AllocError, Global};
 
-fn calm(alloc: Global) -> Option<Env>
+static TWO: &str = "n1,n2";
+static SIXTY_FOUR: &str = "n1,n2,a,b,c,d,e,f,g,h,i,j,k,l,m,n,o,p,q,r,s,t,u,v,w,x,y,z,A,B,C,D,E,F,G,H,I,J,K,L,M,N,O,P,Q,R,S,T,U,V,W,X,Y,Z,\
+    0,1,2,3,4,5,6,7,8,9";
+
+fn calm(alloc: Global, names: &str) -> Option<Env>
     ensures { IfSome result (λ env. StandsFor env []) }
 {
-    let nodes = Nodes::of(alloc, &["n1", "n2"]).ok()?;
+    let names = names.split(',').collect::<Vec<_>>(alloc).ok()?;
+    let nodes = Nodes::of(alloc, &names).ok()?;
     Env::start(alloc, Start::new(alloc, nodes).ok()?).ok()
 }
 
@@ -34,9 +39,13 @@ fn cut(alloc: Global, nodes: &Nodes) -> Option<Fault> {
     Fault::cut(alloc, nodes, &[(nodes.at(1)?, nodes.at(0)?)]).ok()
 }
 
+/// A delay of 1 ms on the link from `n2` to `n1`.
+fn slow(alloc: Global, nodes: &Nodes) -> Option<Fault> {
+    Fault::slow(alloc, nodes, &[(nodes.at(1)?, nodes.at(0)?)], 1).ok()
+}
+
 /// `ok`, or the message of a refusal. None: memory was refused.
-fn begun(alloc: Global, nemesis: &mut Nemesis, id: u32) -> Option<String> {
-    let fault = cut(alloc, nemesis.env().nodes())?;
+fn begun(alloc: Global, nemesis: &mut Nemesis, id: u32, fault: Fault) -> Option<String> {
     if !fault.fits(nemesis.env()) {
         return None;
     }
@@ -103,18 +112,33 @@ fn applied_withdrawal(alloc: Global, nemesis: &mut Nemesis, id: u32) -> Option<S
     answer_text(answer).to_string(alloc).ok()
 }
 
-/// Begins faults with the ids below a number, and tells the answer of the last.
-fn begins(alloc: Global, nemesis: &mut Nemesis, count: u32) -> Option<String> {
+fn cut_begun(alloc: Global, nemesis: &mut Nemesis, id: u32) -> Option<String> {
+    let fault = cut(alloc, nemesis.env().nodes())?;
+    begun(alloc, nemesis, id, fault)
+}
+
+fn slow_begun(alloc: Global, nemesis: &mut Nemesis, id: u32) -> Option<String> {
+    let fault = slow(alloc, nemesis.env().nodes())?;
+    begun(alloc, nemesis, id, fault)
+}
+
+/// Begins cuts, or delays, with the ids below a number, and tells the answer of the last.
+fn begins(alloc: Global, nemesis: &mut Nemesis, is_slow: bool, count: u32) -> Option<String> {
+    let mut answer = "none".to_string(alloc).ok()?;
     for id in 0..count {
-        begun(alloc, nemesis, id)?;
+        answer = if is_slow {
+            slow_begun(alloc, nemesis, id)?
+        } else {
+            cut_begun(alloc, nemesis, id)?
+        };
     }
-    "ok".to_string(alloc).ok()
+    Some(answer)
 }
 
 /// Begins and withdraws a fault so often.
 fn rounds(alloc: Global, nemesis: &mut Nemesis, count: u32) -> Option<String> {
     for _round in 0..count {
-        begun(alloc, nemesis, 1)?;
+        cut_begun(alloc, nemesis, 1)?;
         withdrawn(alloc, nemesis, 1)?;
     }
     "ok".to_string(alloc).ok()
@@ -164,14 +188,16 @@ fn link(alloc: Global, env: &Env) -> Option<String> {
 /// What a call answers. None: memory was refused.
 fn act(alloc: Global, nemesis: &mut Nemesis, name: &str, number: u32) -> Option<String> {
     match name {
-        "begin" => begun(alloc, nemesis, number),
+        "begin" => cut_begun(alloc, nemesis, number),
+        "slow" => slow_begun(alloc, nemesis, number),
         "withdraw" => withdrawn(alloc, nemesis, number),
         "withdraw-all" => all_withdrawn(alloc, nemesis),
         "undo" => undone(alloc, nemesis),
         "redo" => redone(alloc, nemesis),
         "apply-begin" => applied_begin(alloc, nemesis, number),
         "apply-withdraw" => applied_withdrawal(alloc, nemesis, number),
-        "begins" => begins(alloc, nemesis, number),
+        "begins" => begins(alloc, nemesis, false, number),
+        "slows" => begins(alloc, nemesis, true, number),
         "rounds" => rounds(alloc, nemesis, number),
         "few" => few(alloc, nemesis),
         "active" => active(alloc, nemesis),
@@ -194,14 +220,22 @@ fn take(alloc: Global, nemesis: &mut Nemesis, call: &str) -> Option<String> {
 }
 
 /// The answers of a row's calls. None: memory was refused.
-fn answers_once(alloc: Global, calls: &str) -> Option<String> {
-    let mut nemesis = Nemesis::new(alloc, calm(alloc)?);
+fn answers_once(alloc: Global, names: &str, calls: &str) -> Option<String> {
+    let mut nemesis = Nemesis::new(alloc, calm(alloc, names)?);
     let mut answers = String::new(alloc);
     for call in calls.split("; ") {
         answers.push_str(&take(alloc, &mut nemesis, call)?).ok()?;
         answers.push_str("; ").ok()?;
     }
     Some(answers)
+}
+
+/// Whether the calls of a row have its answers on an environment of these names.
+fn holds(alloc: Global, names: &str, row: &str) -> bool {
+    let (calls, wanted) = row.split_once(" → ").unwrap_or((row, ""));
+    let answers =
+        answers_once(alloc, names, calls).or_else(|| answers_once(alloc, names, calls));
+    answers.is_some_and(|it| it.as_str() == wanted)
 }
 
 #[test]
@@ -216,20 +250,21 @@ fn steps_are_answered(rt: HostRuntime) {
         few → nothing to undo, nothing to redo, not active, ; \n\
         begin 1; begin 2; withdraw 1; withdraw 2; work → ok; ok; ok; ok; 4; \n\
         begin 1; withdraw 1; undo; redo; work → ok; ok; ok; ok; 4; \n\
+        slow 1; slow 2; withdraw 1; withdraw-all; undo; undo; redo; work → ok; ok; ok; ok; ok; ok; ok; 7; \n\
         begins 256; begin 256; undo; work → ok; too many active; ok; 257; \n\
+        slows 257; undo; work → too many active; ok; 257; \n\
         rounds 2048; begin 1; withdraw 1 → ok; too many steps; not active; ";
     for row in rows.lines() {
-        let (calls, wanted) = row.split_once(" → ").unwrap_or((row, ""));
-        let answers = answers_once(rt.alloc(), calls).or_else(|| answers_once(rt.alloc(), calls));
-        assert!(rt; answers.is_some_and(|it| it.as_str() == wanted), "at {row}");
+        assert!(rt; holds(rt.alloc(), TWO, row), "at {row}");
+        assert!(rt; holds(rt.alloc(), SIXTY_FOUR, row), "at {row}");
     }
 }
 
 /// How many faults are active where 256 were begun, and what the next is answered.
 fn full_once(alloc: Global) -> Option<(usize, String)> {
-    let mut nemesis = Nemesis::new(alloc, calm(alloc)?);
-    begins(alloc, &mut nemesis, 256)?;
-    let answer = begun(alloc, &mut nemesis, 256)?;
+    let mut nemesis = Nemesis::new(alloc, calm(alloc, TWO)?);
+    begins(alloc, &mut nemesis, false, 256)?;
+    let answer = cut_begun(alloc, &mut nemesis, 256)?;
     Some((nemesis.active_len(), answer))
 }
 
@@ -241,7 +276,7 @@ fn few_faults_are_active(rt: HostRuntime) {
 
 /// The id of a copy of a begin, and whether its fault fits.
 fn copied_once(alloc: Global) -> Option<(u32, bool)> {
-    let env = calm(alloc)?;
+    let env = calm(alloc, TWO)?;
     let step = Step::Begin(7, cut(alloc, env.nodes())?);
     match step.copy(alloc).ok()? {
         Step::Begin(id, fault) => Some((id, fault.fits(&env))),

@@ -13,7 +13,7 @@ loop-self-preserved c =
     let all = c.entries-entries.ensures.entries ∙ c.schedule.ensures.schedule in
     let there : slice_get p.schedule run.applied ≡ Some e = ap (λ l. slice_get l run.applied) (sym all) ∙ slice_get_read c.entries-entries.result.now (length c.entries-entries.result.now) run.applied e refl c.loop-self-test.true c.index-entries-self.is in
     let due : is_run_due run e ≡ true = sym c.is_due.ensures ∙ c.if-not-is_due.false in
-    let adds = c.in_ok-step-2.ensures in
+    let adds = c.in_ok-step-2.ensures.added in
     let longer : length c.step.new.self.journal ≡ length c.loop-self.world.journal + 1 = ap length adds.journal ∙ length-append c.loop-self.world.journal _ in
     record {
       stands = step_stands p run c.loop-self.world c.step.new.self e c.in_ok-step.step c.in_ok-step-2.field-0.1 c.in_ok-step-2.field-0.0 c.loop-self.invariant.stands there due c.in_ok-step.ensures adds;

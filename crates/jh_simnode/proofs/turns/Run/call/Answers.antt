@@ -28,5 +28,5 @@ returns-clause-called c =
     let within : t < length xs = (let long = m.has.counts.long in let below = m.within in omega (arith, long, below)) in
     let made : c.index_mut.result.now ≡ slice_index xs t = c.index_mut.ensures.value ∙ any_default xs t c.index_mut.result.now 0 within in
     called_on c.args.plan.now run c.args.world.now c.call.new.self t c.args.process c.args.request c.node_of.result c.next_word-draw.result c.in_ok-reply.field-0-0 c.in_ok-reply.reply c.complete.new.self c.next_word-draw.new.self _
-    m c.node_of.ensures.node c.next_word-draw.ensures c.in_ok-reply.ensures (c.in-Ok.ensures.ended ∙ ap (λ e. after_end run.driver (thread.Client t) e) c.ended_of.ensures)
+    m c.node_of.ensures.node c.next_word-draw.ensures c.in_ok-reply.ensures.added (c.in-Ok.ensures.ended ∙ ap (λ e. after_end run.driver (thread.Client t) e) c.ended_of.ensures)
     (ap (λ x. set xs t (x + 1)) made)

@@ -14,4 +14,4 @@ returns-in_ok-tick-clause-stands c =
     let within : t < length xs = (let long = h.keeps.counts.long in let below = h.within in omega (arith, long, below)) in
     let made = c.index.ensures ∙ any_default xs t c.index.result.now 0 within ∙ h.keeps.counts.calls t h.within in
     let due : ticks_at p (calls_by p.clients t c.args.world.now.journal) ≡ true = ap (ticks_at p) (sym made) ∙ sym c.ticks_at.ensures ∙ c.if-ticks_at.true in
-    tick_stands p c.args.self.now c.args.world.now c.tick.new.self t c.in_ok-tick.field-0 h due c.in_ok-tick.ensures
+    tick_stands p c.args.self.now c.args.world.now c.tick.new.self t c.in_ok-tick.field-0 h due c.in_ok-tick.ensures.added

@@ -10,8 +10,8 @@ use Rattle.jh_simnode.proofs.Tidy.{forgotten_tidy}
 use Rattle.jh_simnode.proofs.Journals.{step_goes_on, written}
 use Rattle.jh_simnode.proofs.world.World.step.Goals as goal
 
-pub returns-then-not-fits : goal.returns-then-not-fits
-returns-then-not-fits c = (
+pub returns-then-not-fits-clause-added : goal.returns-then-not-fits-clause-added
+returns-then-not-fits-clause-added c = (
   refl,
   λ h.
       let h2 : FitsNodes (length c.self.inside.nemesis.state.names) c.args.step = rw (← c.self.view_is) at h in
@@ -20,8 +20,8 @@ returns-then-not-fits c = (
       let no : ⊥ = cc (yes, c.if-not-fits.true) in no,
 )
 
-pub returns-then-len-ge-MOST_EVENTS : goal.returns-then-len-ge-MOST_EVENTS
-returns-then-len-ge-MOST_EVENTS c =
+pub returns-then-len-ge-MOST_EVENTS-clause-added : goal.returns-then-len-ge-MOST_EVENTS-clause-added
+returns-then-len-ge-MOST_EVENTS-clause-added c =
     let fits : FitsNodes (length c.self.inside.nemesis.state.names) c.args.step = rw c.env.ensures.names at (c.fits.ensures.0 c.if-not-fits.false) in
     let full : 65536 ≤ length c.self.inside.journal.items = search rules in
     (refl, (rw (← c.self.view_is) fits, rw (← c.self.view_is) full))
