@@ -1,6 +1,6 @@
 -- Entries of fixes: their bits, and which are free.
 use Rattle.std.proofs.Common.{◌≡◌, ◌≢◌, ℕ, ◌+◌, ◌*◌, ◌<◌, ◌^◌, ◌%◌, Bool, true, false, List, [], ◌∷◌, length, get_or, set, take, refl, ◌∙◌, sym, arith, get_or-set_same, get_or-set_other, w64, bit_or, zero, suc, replicate}
-use Rattle.std.specs.Prelude.{if◌then◌else◌, ◌||◌, ◌&&◌, ◌==◌}
+use Rattle.std.specs.Prelude.{Option, None, Some, is_some, if◌then◌else◌, ◌||◌, ◌&&◌, ◌==◌}
 use Rattle.std.specs.List.{All, count_by}
 use Rattle.std.specs.Int.{bit_at}
 use Rattle.std.proofs.Math.Bool.{or-false}
@@ -11,6 +11,8 @@ use Rattle.std.proofs.lemmas.List.Elements.{All-head, All-tail}
 use Rattle.std.proofs.lemmas.Nat.Bits.{bit_at-zero, bit_at_set_same, bit_at_set_other}
 use Rattle.jh_tables.specs.Faults.{names_link, same_link}
 use Rattle.jh_tables.specs.TurningInside.{AreMarked}
+use Rattle.jh_tables.specs.Tallies.{latest_fix}
+use Rattle.jh_tables.specs.declared.counted.FixEntry.{FixEntry}
 
 -- where each passes all are counted
 pub all_counted : {X : Type 0} (p : X → Bool) (xs : List X) → All (λ x. p x ≡ true) xs → count_by p xs ≡ length xs
@@ -60,3 +62,11 @@ zeros (suc n) (suc a) = zeros n a
 pub marked_first : (links : List (ℕ × ℕ)) (new : List ℕ) → AreMarked links (replicate 64 0) new
     → (a b : ℕ) → a < 64 → b < 64 → (bit_at (get_or new a 0) b == 1) ≡ names_link links a b
 marked_first links new marked a b ha hb = marked a b ha hb ∙ rw (zeros 64 a, bit_at-zero b) refl
+
+-- where no entry is in use no link is fixed
+pub none_latest : (a b : ℕ) (entries : List (Option FixEntry)) → count_by is_some entries ≡ 0 → latest_fix a b entries ≡ None
+none_latest a b [] e = refl
+none_latest a b (None ∷ entries) e =
+    none_latest a b entries (omega (arith, e, sum_by-cons (λ (x : Option FixEntry). if is_some x then 1 else 0) None entries))
+none_latest a b (Some fix ∷ entries) e =
+    absurd (omega (arith, e, sum_by-cons (λ (x : Option FixEntry). if is_some x then 1 else 0) (Some fix) entries))

@@ -7,30 +7,54 @@ use Rattle.jh_tables.specs.declared.counted.LinkTally.{LinkTally}
 use Rattle.jh_tables.specs.declared.counted.NodeTally.{NodeTally}
 use Rattle.jh_tables.specs.declared.counted.FixEntry.{FixEntry}
 use Rattle.jh_tables.specs.declared.counted.Cell.{Cell}
+use Rattle.jh_tables.specs.declared.counted.LinkCount.{LinkCount}
+use Rattle.jh_tables.specs.declared.counted.NodeCount.{NodeCount}
 use Rattle.jh_tables.specs.declared.faults.LinkFault.{LinkFault}
 use Rattle.jh_tables.specs.declared.faults.NodeFault.{NodeFault}
 use Rattle.jh_tables.specs.declared.turning.Turn.{Turn}
 use Rattle.jh_tables.specs.Faults.{FaultValue, FixParts, names_link, names_node}
 use Rattle.jh_tables.specs.Faults.FaultValue.{Bump}
 use Rattle.jh_tables.specs.Overlay.{cuts, delay_by, loss_by, pauses, kills, bump_by}
-use Rattle.jh_tables.specs.Tallies.{Tallies, link_tally, node_tally}
+use Rattle.jh_tables.specs.Tallies.{Tallies, calm_tally, link_tally, node_tally, running_tally}
+
+-- if it is the count of a level of loss, there is such a level
+abbrev pub IsLevelThere : LinkCount → Type 0
+IsLevelThere (LinkCount.Cuts count) = ⊤
+IsLevelThere (LinkCount.Slowed ms) = ⊤
+IsLevelThere (LinkCount.Losses level count) = level < 20
 
 -- there is something to write over
 abbrev pub IsThere : Tallies → ℕ → Cell → Type 0
-IsThere t place (Cell.Link tally) = place < length t.links
-IsThere t place (Cell.Node tally) = place < length t.nodes
+IsThere t place (Cell.Link count) = (place < length t.links) × IsLevelThere count
+IsThere t place (Cell.Node count) = place < length t.nodes
 IsThere t place (Cell.Fix entry) = place < length t.fixes
 
 -- one more, up to 2^64 - 1
 abbrev pub counted_on : ℕ → ℕ
 counted_on work = min (work + 1) (2 ^ 64 - 1)
 
--- the tallies after one of them is written
+-- the tally of a link after one of its counts or sums is written
+abbrev pub link_written : LinkCount → LinkTally → LinkTally
+link_written (LinkCount.Cuts count) t = record t { cuts = count }
+link_written (LinkCount.Slowed ms) t = record t { slowed = ms }
+link_written (LinkCount.Losses level count) t = record t { losses = slice_set t.losses level count }
+
+-- the tally of a node likewise
+abbrev pub node_written : NodeCount → NodeTally → NodeTally
+node_written (NodeCount.Pauses count) t = record t { pauses = count }
+node_written (NodeCount.Kills count) t = record t { kills = count }
+node_written (NodeCount.Bumped ms) t = record t { bumped = ms }
+
+-- the tallies after a count, a sum or an entry is written
 abbrev pub written : Tallies → ℕ → Cell → Tallies
-written t place (Cell.Link tally) =
-    record t { links = slice_set t.links place tally; work = counted_on t.work }
-written t place (Cell.Node tally) =
-    record t { nodes = slice_set t.nodes place tally; work = counted_on t.work }
+written t place (Cell.Link count) = record t {
+  links = slice_set t.links place (link_written count (slice_index_or t.links place calm_tally));
+  work = counted_on t.work;
+}
+written t place (Cell.Node count) = record t {
+  nodes = slice_set t.nodes place (node_written count (slice_index_or t.nodes place running_tally));
+  work = counted_on t.work;
+}
 written t place (Cell.Fix entry) =
     record t { fixes = slice_set t.fixes place entry; work = counted_on t.work }
 

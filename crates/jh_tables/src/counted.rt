@@ -1,7 +1,8 @@
-//! What is kept of links, nodes and fixes, and how often one of these was written. Nothing outside of this file can
+//! What is kept of links, nodes and fixes, and how often a part of it was written. Nothing outside of this file can
 //! write one without raising the count. `specs/Tallies.antt` says what stands where.
 
-ghost use Rattle.std.specs.Prelude.{◌≡◌, ◌<◌, ◌≤◌, ◌*◌, length, map, replicate, slice_index_or, IfOk, None};
+ghost use Rattle.std.specs.Prelude.{◌≡◌, ◌<◌, ◌≤◌, ◌*◌, length, is_some, map, replicate, slice_index_or, slice_set, IfOk, None};
+ghost use Rattle.std.specs.List.{count_by};
 ghost use Rattle.jh_tables.specs.Tallies.{calm_tally, fresh, fresh_link, fresh_node, running_tally};
 ghost use Rattle.jh_tables.specs.TurningInside.{written, IsThere};
 
@@ -55,32 +56,52 @@ pub struct FixEntry {
     pub links: [u64; MAX_NODES],
 }
 
-/// What is written: a tally, or an entry for a fix, which is free or in use.
-#[derive(Clone, Copy, Debug, PartialEq, Eq)]
+/// One count or sum of a link.
+#[derive(Clone, Copy)]
+pub enum LinkCount {
+    Cuts(u16),
+    Slowed(u64),
+    /// The count at this place, below 20, among those of the levels of loss.
+    Losses(usize, u16),
+}
+
+/// One count or sum of a node.
+#[derive(Clone, Copy)]
+pub enum NodeCount {
+    Pauses(u16),
+    Kills(u16),
+    Bumped(i64),
+}
+
+/// What is written: one count or sum of a link or of a node, or an entry for a fix, which is free or in use.
+#[derive(Clone, Copy)]
 pub enum Cell {
-    Link(LinkTally),
-    Node(NodeTally),
+    Link(LinkCount),
+    Node(NodeCount),
     Fix(Option<FixEntry>),
 }
 
-/// Tallies, entries of fixes, and how often one of these was written. A contract sees all of them.
+/// Tallies, entries of fixes, and how often a count, a sum or an entry was written. A contract sees all of them.
 #[derive(Debug, Drop)]
 pub struct Counted {
     links: Vec<LinkTally>,
     nodes: Vec<NodeTally>,
     fixes: Vec<Option<FixEntry>>,
+    // How many entries are in use.
+    used: usize,
     work: u64,
 }
 
 impl Model for Counted {
-    ghost use Rattle.std.specs.Prelude.{◌≡◌, ◌≤◌, ◌*◌, length};
+    ghost use Rattle.std.specs.Prelude.{◌≡◌, ◌≤◌, ◌*◌, length, is_some};
+    ghost use Rattle.std.specs.List.{count_by};
     ghost use Rattle.jh_tables.specs.Tallies.{Tallies};
 
     ghost Value = { Tallies };
 
     ghost view = { λ a. record { links = a.links.items; nodes = a.nodes.items; fixes = a.fixes.items; work = a.work } };
 
-    ghost invariant = { λ a. (length a.nodes.items ≤ 64) × (length a.links.items ≡ length a.nodes.items * length a.nodes.items) };
+    ghost invariant = { λ a. (length a.nodes.items ≤ 64) × (length a.links.items ≡ length a.nodes.items * length a.nodes.items) × (a.used ≡ count_by is_some a.fixes.items) };
 }
 
 // A tally for each link, in which no fault counts.
@@ -137,6 +158,7 @@ impl Counted {
             links: link_tallies(alloc, links)?,
             nodes: node_tallies(alloc, nodes)?,
             fixes: free_entries(alloc)?,
+            used: 0,
             work: 0,
         })
     }
@@ -149,6 +171,7 @@ impl Counted {
             links: Vec::from_slice(alloc, &self.links)?,
             nodes: Vec::from_slice(alloc, &self.nodes)?,
             fixes: Vec::from_slice(alloc, &self.fixes)?,
+            used: self.used,
             work: self.work,
         })
     }
@@ -163,19 +186,19 @@ impl Counted {
     }
 
     /// The tally of a link.
-    pub fn link(&self, place: usize) -> LinkTally
+    pub fn link(&self, place: usize) -> &LinkTally
         requires { place < length self.now.links }
-        ensures { result ≡ slice_index_or self.now.links place calm_tally }
+        ensures { result.now ≡ slice_index_or self.now.links place calm_tally }
     {
-        self.links[place]
+        &self.links[place]
     }
 
     /// The tally of a node.
-    pub fn node(&self, place: usize) -> NodeTally
+    pub fn node(&self, place: usize) -> &NodeTally
         requires { place < length self.now.nodes }
-        ensures { result ≡ slice_index_or self.now.nodes place running_tally }
+        ensures { result.now ≡ slice_index_or self.now.nodes place running_tally }
     {
-        self.nodes[place]
+        &self.nodes[place]
     }
 
     /// All entries of fixes.
@@ -185,22 +208,47 @@ impl Counted {
         &self.fixes
     }
 
-    /// How often a tally or an entry was written, up to 2^64 - 1.
+    /// How many entries of fixes are in use.
+    pub fn used(&self) -> usize
+        ensures { result ≡ count_by is_some self.now.fixes }
+    {
+        self.used
+    }
+
+    /// How often a count, a sum or an entry was written, up to 2^64 - 1.
     pub fn work(&self) -> u64
         ensures { result ≡ self.now.work }
     {
         self.work
     }
 
-    /// Writes one tally or one entry, and counts it.
-    pub fn write(&mut self, place: usize, cell: Cell)
-        requires { IsThere self.old place cell }
-        ensures { self.new ≡ written self.old place cell }
+    // Writes an entry over another, and counts those in use.
+    fn write_fix(&mut self, place: usize, entry: &Option<FixEntry>)
+        requires { place < length self.old.fixes }
+        ensures { self.new ≡ record self.old { fixes = slice_set self.old.fixes place entry.now } }
+    {
+        if self.fixes[place].is_some() {
+            self.used -= 1;
+        }
+        if entry.is_some() {
+            self.used += 1;
+        }
+        self.fixes[place] = *entry;
+    }
+
+    /// Writes one count, one sum or one entry, where it stands, and counts it.
+    pub fn write(&mut self, place: usize, cell: &Cell)
+        requires { IsThere self.old place cell.now }
+        ensures { self.new ≡ written self.old place cell.now }
     {
         match cell {
-            Cell::Link(tally) => self.links[place] = tally,
-            Cell::Node(tally) => self.nodes[place] = tally,
-            Cell::Fix(entry) => self.fixes[place] = entry,
+            Cell::Link(LinkCount::Cuts(count)) => self.links[place].cuts = *count,
+            Cell::Link(LinkCount::Slowed(ms)) => self.links[place].slowed = *ms,
+            Cell::Link(LinkCount::Losses(level, count)) => self.links[place].losses[*level] = *count,
+            Cell::Node(NodeCount::Pauses(count)) => self.nodes[place].pauses = *count,
+            Cell::Node(NodeCount::Kills(count)) => self.nodes[place].kills = *count,
+            Cell::Node(NodeCount::Bumped(ms)) => self.nodes[place].bumped = *ms,
+            Cell::Fix(entry) => self.write_fix(place, entry),
         }
         self.work = self.work.saturating_add(1);
     }

@@ -50,8 +50,8 @@ fn later_fix(
     }
 }
 
-// The stamp and the delay of the latest fix of a link.
-pub(crate) fn latest_fix(entries: &[Option<FixEntry>], from: Node, to: Node) -> Option<(u32, u64)>
+// The stamp and the delay of the latest fix of a link among entries.
+fn latest_among(entries: &[Option<FixEntry>], from: Node, to: Node) -> Option<(u32, u64)>
     requires { (from < 64) × (to < 64) }
     ensures { result ≡ latest_fix from to entries.now }
 {
@@ -60,6 +60,17 @@ pub(crate) fn latest_fix(entries: &[Option<FixEntry>], from: Node, to: Node) -> 
         latest = later_fix(from, to, latest, entry);
     }
     latest
+}
+
+// The stamp and the delay of the latest fix of a link. No entry is looked at where none is in use.
+pub(crate) fn latest_fix(counted: &Counted, from: Node, to: Node) -> Option<(u32, u64)>
+    requires { (from < 64) × (to < 64) }
+    ensures { result ≡ latest_fix from to counted.now.fixes }
+{
+    if counted.used() == 0 {
+        return None;
+    }
+    latest_among(counted.fixes(), from, to)
 }
 
 // Sets the bits of these links: in the word of its source the bit of its destination.
@@ -117,7 +128,7 @@ fn put_fix(counted: &mut Counted, fix: FixEntry)
     ensures { IsEntryPut fix counted.old counted.new }
 {
     if let Some(place) = free_place(counted.fixes()) {
-        counted.write(place, Cell::Fix(Some(fix)));
+        counted.write(place, &Cell::Fix(Some(fix)));
     }
 }
 
@@ -127,7 +138,7 @@ fn take_fix(counted: &mut Counted, stamp: u32)
     ensures { IsEntryTaken stamp counted.old counted.new }
 {
     if let Some(place) = place_of_stamp(counted.fixes(), stamp) {
-        counted.write(place, Cell::Fix(None));
+        counted.write(place, &Cell::Fix(None));
     }
 }
 

@@ -88,7 +88,7 @@ impl Tables {
         let tally = self
             .counted
             .link(from.place() as usize * count + to.place() as usize);
-        Some(link_now(&tally, latest_fix(self.counted.fixes(), from, to)))
+        Some(link_now(tally, latest_fix(&self.counted, from, to)))
     }
 
     /// A node's cell now, where the tables have the node.
@@ -98,7 +98,7 @@ impl Tables {
     {
         let place = node.place() as usize;
         if place < self.counted.count() {
-            Some(node_now(&self.counted.node(place)))
+            Some(node_now(self.counted.node(place)))
         } else {
             None
         }

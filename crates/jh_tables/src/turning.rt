@@ -5,9 +5,9 @@ ghost use Rattle.std.specs.List.{All};
 ghost use Rattle.jh_tables.specs.Faults.{AreApart, AreBumps, AreKnownLinks, IsBumpAmount, FitsCount, IsFault, named_by, same_link, same_node};
 ghost use Rattle.jh_tables.specs.Plain.{fault_of};
 ghost use Rattle.jh_tables.specs.Standing.{IsWithin};
-ghost use Rattle.jh_tables.specs.TurningInside.{turned, int_turned, named_link_turned, named_node_turned, AreClocksTurned, AreLinksTurned, AreNodesTurned, AreTurned, CanTurn, CanTurnLink, CanTurnLinks, CanTurnNode, CanTurnNodes, CanTurnTallies};
+ghost use Rattle.jh_tables.specs.TurningInside.{turned, int_turned, link_written, named_link_turned, node_written, IsLevelThere, named_node_turned, AreClocksTurned, AreLinksTurned, AreNodesTurned, AreTurned, CanTurn, CanTurnLink, CanTurnLinks, CanTurnNode, CanTurnNodes, CanTurnTallies};
 
-use crate::counted::{Cell, Counted, LinkTally, NodeTally};
+use crate::counted::{Cell, Counted, LinkCount, LinkTally, NodeCount, NodeTally};
 use crate::faults::{LinkFault, NodeFault, PlainFault};
 use crate::nodes::Node;
 
@@ -29,63 +29,47 @@ fn number_turned(turn: Turn, number: u16) -> u16
     }
 }
 
-// The tally of a link that the fault names. A fix is kept in its entry and turns no tally.
-fn link_turned(turn: Turn, fault: LinkFault, tally: LinkTally) -> LinkTally
-    requires { CanTurnLink turn fault tally }
-    ensures { result ≡ named_link_turned turn fault tally }
+// The count or sum of a link that the fault turns, turned. A fix is kept in its entry: it leaves the sum.
+fn link_turned(turn: Turn, fault: LinkFault, tally: &LinkTally) -> LinkCount
+    requires { CanTurnLink turn fault tally.now }
+    ensures there { IsLevelThere result }
+    ensures turned { link_written result tally.now ≡ named_link_turned turn fault tally.now }
 {
     match fault {
-        LinkFault::Cut => LinkTally {
-            cuts: number_turned(turn, tally.cuts),
-            ..tally
-        },
-        LinkFault::Slow(ms) => LinkTally {
-            slowed: match turn {
-                Turn::Put => tally.slowed + ms,
-                Turn::Take => tally.slowed - ms,
-            },
-            ..tally
-        },
+        LinkFault::Cut => LinkCount::Cuts(number_turned(turn, tally.cuts)),
+        LinkFault::Slow(ms) => LinkCount::Slowed(match turn {
+            Turn::Put => tally.slowed + ms,
+            Turn::Take => tally.slowed - ms,
+        }),
         LinkFault::Loss(level) => {
-            let mut losses = tally.losses;
             let place = level as usize - 1;
-            losses[place] = number_turned(turn, losses[place]);
-            LinkTally { losses, ..tally }
+            LinkCount::Losses(place, number_turned(turn, tally.losses[place]))
         }
-        LinkFault::Fix(_) => tally,
+        LinkFault::Fix(_) => LinkCount::Slowed(tally.slowed),
     }
 }
 
-// The tally of a node that the fault names.
-fn node_turned(turn: Turn, fault: NodeFault, tally: NodeTally) -> NodeTally
-    requires { CanTurnNode turn fault tally }
-    ensures { result ≡ named_node_turned turn fault tally }
+// The count of a node that the fault turns, turned.
+fn node_turned(turn: Turn, fault: NodeFault, tally: &NodeTally) -> NodeCount
+    requires { CanTurnNode turn fault tally.now }
+    ensures { node_written result tally.now ≡ named_node_turned turn fault tally.now }
 {
     match fault {
-        NodeFault::Pause => NodeTally {
-            pauses: number_turned(turn, tally.pauses),
-            ..tally
-        },
-        NodeFault::Kill => NodeTally {
-            kills: number_turned(turn, tally.kills),
-            ..tally
-        },
+        NodeFault::Pause => NodeCount::Pauses(number_turned(turn, tally.pauses)),
+        NodeFault::Kill => NodeCount::Kills(number_turned(turn, tally.kills)),
     }
 }
 
-// The tally of a node whose clock the fault moves.
-fn clock_turned(turn: Turn, ms: i64, tally: NodeTally) -> NodeTally
+// The sum of a node whose clock the fault moves, turned.
+fn clock_turned(turn: Turn, ms: i64, tally: &NodeTally) -> NodeCount
     requires amount { IsBumpAmount ms }
-    requires room { IsWithin (2 ^ 62) tally.bumped }
-    ensures { result ≡ record tally { bumped = int_turned turn tally.bumped ms } }
+    requires room { IsWithin (2 ^ 62) tally.now.bumped }
+    ensures { node_written result tally.now ≡ record tally.now { bumped = int_turned turn tally.now.bumped ms } }
 {
-    NodeTally {
-        bumped: match turn {
-            Turn::Put => tally.bumped + ms,
-            Turn::Take => tally.bumped - ms,
-        },
-        ..tally
-    }
+    NodeCount::Bumped(match turn {
+        Turn::Put => tally.bumped + ms,
+        Turn::Take => tally.bumped - ms,
+    })
 }
 
 // Turns the tally of each of these links, each of which stands once.
@@ -101,8 +85,8 @@ fn turn_links(counted: &mut Counted, turn: Turn, fault: LinkFault, links: &[(Nod
     let count = counted.count();
     for (from, to) in links {
         let place = from.place() as usize * count + to.place() as usize;
-        let tally = link_turned(turn, fault, counted.link(place));
-        counted.write(place, Cell::Link(tally));
+        let turned = link_turned(turn, fault, counted.link(place));
+        counted.write(place, &Cell::Link(turned));
     }
 }
 
@@ -118,8 +102,8 @@ fn turn_nodes(counted: &mut Counted, turn: Turn, fault: NodeFault, nodes: &[Node
 {
     for node in nodes {
         let place = node.place() as usize;
-        let tally = node_turned(turn, fault, counted.node(place));
-        counted.write(place, Cell::Node(tally));
+        let turned = node_turned(turn, fault, counted.node(place));
+        counted.write(place, &Cell::Node(turned));
     }
 }
 
@@ -135,8 +119,8 @@ fn turn_clocks(counted: &mut Counted, turn: Turn, bumps: &[(Node, i64)])
 {
     for (node, ms) in bumps {
         let place = node.place() as usize;
-        let tally = clock_turned(turn, *ms, counted.node(place));
-        counted.write(place, Cell::Node(tally));
+        let turned = clock_turned(turn, *ms, counted.node(place));
+        counted.write(place, &Cell::Node(turned));
     }
 }
 

@@ -3,8 +3,8 @@ use Rattle.std.proofs.lemmas.Int.{to_z-of_z}
 use Rattle.jh_tables.proofs.TurningLemmas.{bumps_more, bump_room}
 use Rattle.jh_tables.proofs.turning.turn_clocks.Goals as goal
 
-pub clock_turned-tally-requires-clause-room : goal.clock_turned-tally-requires-clause-room
-clock_turned-tally-requires-clause-room c =
+pub clock_turned-turned-requires-clause-room : goal.clock_turned-turned-requires-clause-room
+clock_turned-turned-requires-clause-room c =
     let i = c.loop-node.node-index in
     let x = c.loop-node-item.result in
     let known : x.0 < length c.args.counted.now.nodes = rw (← c.loop-node-item.is) at (c.requires.known i x c.loop-node-test.true) in
@@ -18,9 +18,9 @@ loop-node-preserved c =
     let x = c.loop-node-item.result in
     let known : x.0 < length c.args.counted.now.nodes = rw (← c.loop-node-item.is) at (c.requires.known i x c.loop-node-test.true) in
     let fits : FitsSigned w64 x.1 = search rules in
-    let value = rw (c.node.ensures, c.place-place.ensures, to_z-of_z w64 x.1 fits) at c.clock_turned-tally.ensures in
+    let value = rw (c.node.ensures, c.place-place.ensures, to_z-of_z w64 x.1 fits) at c.clock_turned-turned.ensures in
     rw (c.write.ensures, c.place-place.ensures) (record {
-      turned = bumps_more c.args.turn c.args.bumps.now i x c.args.counted.now.nodes c.loop-node.counted.nodes c.clock_turned-tally.result
+      turned = bumps_more c.args.turn c.args.bumps.now i x c.args.counted.now.nodes c.loop-node.counted.nodes _
           c.loop-node-test.true c.loop-node-item.is known c.loop-node.invariant.many value c.loop-node.invariant.turned;
       many = length-set c.loop-node.counted.nodes _ _ ∙ c.loop-node.invariant.many;
       links = c.loop-node.invariant.links;

@@ -14,7 +14,7 @@ link_now-requires c =
     let from : c.args.from < length t.nodes = search rules in
     let to : c.args.to < length t.nodes = search rules in
     let within = link_in_range t w.faults w.tallies (omega (arith, w.few, w.laid)) w.square w.starting_links w.delays c.args.from c.args.to from to in
-    rw (c.latest_fix.ensures, c.fixes.ensures, c.link-tally.ensures, c.place-2.ensures, c.place-3.ensures, c.count-count.ensures.count) (omega (arith, within.0))
+    rw (c.latest_fix.ensures, c.link-tally.ensures, c.place-2.ensures, c.place-3.ensures, c.count-count.ensures.count) (omega (arith, within.0))
 
 pub returns-clause-link : goal.returns-clause-link
 returns-clause-link c =
@@ -25,7 +25,7 @@ returns-clause-link c =
     let apart : (c.args.from == c.args.to) ≡ false = search rules in
     let read = link_at_now t w.square c.args.from c.args.to from to apart in
     let now : c.link_now.result ≡ link_now (get_or t.links (c.args.from * length t.nodes + c.args.to) calm_tally) (latest_fix c.args.from c.args.to t.fixes) =
-    c.link_now.ensures ∙ rw (c.latest_fix.ensures, c.fixes.ensures, c.link-tally.ensures, c.place-2.ensures, c.place-3.ensures, c.count-count.ensures.count) refl in
+    c.link_now.ensures ∙ rw (c.latest_fix.ensures, c.link-tally.ensures, c.place-2.ensures, c.place-3.ensures, c.count-count.ensures.count) refl in
     ap Some now ∙ sym read ∙ ap (λ (v : TablesValue). link_at v.now c.args.from c.args.to) c.self.view_is
 
 pub returns-clause-within : goal.returns-clause-within
@@ -36,5 +36,5 @@ returns-clause-within c =
     let to : c.args.to < length t.nodes = search rules in
     let within = link_in_range t w.faults w.tallies (omega (arith, w.few, w.laid)) w.square w.starting_links w.delays c.args.from c.args.to from to in
     let now : c.link_now.result ≡ link_now (get_or t.links (c.args.from * length t.nodes + c.args.to) calm_tally) (latest_fix c.args.from c.args.to t.fixes) =
-    c.link_now.ensures ∙ rw (c.latest_fix.ensures, c.fixes.ensures, c.link-tally.ensures, c.place-2.ensures, c.place-3.ensures, c.count-count.ensures.count) refl in
+    c.link_now.ensures ∙ rw (c.latest_fix.ensures, c.link-tally.ensures, c.place-2.ensures, c.place-3.ensures, c.count-count.ensures.count) refl in
     subst IsLinkInRange (sym now) within
