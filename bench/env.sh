@@ -14,18 +14,19 @@ measure() {
         "$(cat "$inputs/output" "$inputs/error" | tail -n 1 | cut -c1-60)"
 }
 
-# 4,096 steps over 32 nodes, each a begin or a withdrawal of a cut of all links
+# 4,095 steps over 64 nodes, each a begin or a withdrawal of a cut of all 4,032 links. A begin reads them, compares each with
+# those before it, and writes each cell once; a withdrawal writes each cell once.
 awk 'BEGIN {
     printf "{:nodes ["
-    for (a = 1; a <= 32; a++) printf "\"n%d\" ", a
+    for (a = 1; a <= 64; a++) printf "\"n%d\" ", a
     print "]}"
     links = ""
-    for (a = 1; a <= 32; a++) for (b = 1; b <= 32; b++) if (a != b) links = links "[\"n" a "\" \"n" b "\"] "
+    for (a = 1; a <= 64; a++) for (b = 1; b <= 64; b++) if (a != b) links = links "[\"n" a "\" \"n" b "\"] "
     for (i = 0; i < 2048; i++) { print "[:begin " i " [:cut [" links "]]]"; if (i > 0) print "[:withdraw " i - 1 "]" }
 }' >"$inputs/input"
-measure '4,095 steps, each over all links of 32 nodes'
+measure '4,095 steps, each over all links of 64 nodes'
 
-# 255 faults stay active while another comes and goes
+# 255 faults stay active while another, of no link, comes and goes. A step looks through the active ids, and writes no cell.
 awk 'BEGIN {
     print "{:nodes [\"n1\" \"n2\"]}"
     for (i = 0; i < 255; i++) print "[:begin " i " [:cut [[\"n1\" \"n2\"]]]]"
