@@ -12,7 +12,7 @@ use Rattle.jh_tables.specs.Cells.{Table, calm, running}
 use Rattle.jh_tables.specs.Overlay.{is_paused, is_killed}
 
 -- The tally of the link from a to b of n nodes stands at a * n + b, that of a node at its place; an
--- entry holds a fix or is free; work is how often one of these was written, up to 2^64 - 1.
+-- entry holds a fix or is free; work is how often a count, a sum or an entry was written, up to 2^64 - 1.
 pub record Tallies : Type 0 where
   pub links : List LinkTally
   pub nodes : List NodeTally

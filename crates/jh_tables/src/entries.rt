@@ -108,36 +108,43 @@ fn is_of_stamp(entry: &Option<FixEntry>, stamp: u32) -> bool
     }
 }
 
-// The first entry that is free.
-fn free_place(entries: &[Option<FixEntry>]) -> Option<usize>
+// An entry that is free: the one at this place, or else the first.
+fn free_place(entries: &[Option<FixEntry>], likely: usize) -> Option<usize>
     ensures { MatchOption result (All (λ e. is_some e ≡ true) entries.now) (λ place. slice_get entries.now place ≡ Some None) }
 {
-    entries.iter().position(|entry| entry.is_none())
+    match entries.get(likely) {
+        Some(None) => Some(likely),
+        _ => entries.iter().position(|entry| entry.is_none()),
+    }
 }
 
-// The entry with this stamp.
-fn place_of_stamp(entries: &[Option<FixEntry>], stamp: u32) -> Option<usize>
+// The entry with this stamp: the one at this place, or else the first.
+fn place_of_stamp(entries: &[Option<FixEntry>], likely: usize, stamp: u32) -> Option<usize>
     ensures { MatchOption result (All (λ e. has_stamp stamp e ≡ false) entries.now) (IsPlaceOfStamp stamp entries.now) }
 {
-    entries.iter().position(|entry| is_of_stamp(entry, stamp))
+    match entries.get(likely) {
+        Some(entry) if is_of_stamp(entry, stamp) => Some(likely),
+        _ => entries.iter().position(|entry| is_of_stamp(entry, stamp)),
+    }
 }
 
-// Puts a fix in an entry that is free.
+// Puts a fix in an entry that is free. Behind those in use one is, unless an earlier one was taken.
 fn put_fix(counted: &mut Counted, fix: FixEntry)
     requires { count_by is_some counted.old.fixes < length counted.old.fixes }
     ensures { IsEntryPut fix counted.old counted.new }
 {
-    if let Some(place) = free_place(counted.fixes()) {
+    if let Some(place) = free_place(counted.fixes(), counted.used()) {
         counted.write(place, &Cell::Fix(Some(fix)));
     }
 }
 
-// Frees the entry with this stamp.
+// Frees the entry with this stamp, which mostly is the one that was put last.
 fn take_fix(counted: &mut Counted, stamp: u32)
     requires { list_any (has_stamp stamp) counted.old.fixes ≡ true }
     ensures { IsEntryTaken stamp counted.old counted.new }
 {
-    if let Some(place) = place_of_stamp(counted.fixes(), stamp) {
+    let last = counted.used().saturating_sub(1);
+    if let Some(place) = place_of_stamp(counted.fixes(), last, stamp) {
         counted.write(place, &Cell::Fix(None));
     }
 }
