@@ -2,11 +2,14 @@
 //! messages of errors. What the clauses say is proved: a test is for values and texts that come from outside, and shows that
 //! memory suffices where there is some.
 //!
-//! A row is a line: what is called or read, an arrow, and the answer. Each module says what its calls are.
+//! A row is a line: what is called or read, an arrow, and the answer. Each module says what its calls are. `random` takes
+//! random steps beside the plain nemesis of `jh_env_plain`.
 #![tactic(auto)]
 
 #[cfg(test)]
 mod messages;
+#[cfg(test)]
+mod random;
 #[cfg(test)]
 mod steps;
 #[cfg(test)]
