@@ -8,5 +8,5 @@ mod random;
 mod reach;
 
 pub use cluster::{PlainCluster, PlainReply};
-pub use random::Random;
+pub use random::{random_place, random_request, random_step};
 pub use reach::node_at;

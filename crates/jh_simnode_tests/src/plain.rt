@@ -3,9 +3,10 @@
 
 use crate::fixtures::{env_of, value};
 use jh_edn::Value;
+use jh_env_plain::Random;
 use jh_ops::Workload;
 use jh_simnode::{Settings, Store, World};
-use jh_simnode_plain::{PlainCluster, Random, node_at};
+use jh_simnode_plain::{PlainCluster, node_at, random_place, random_request, random_step};
 use std::alloc::Global;
 
 /// A world with the definition beside it.
@@ -20,9 +21,10 @@ impl Both {
     /// Whether both reply the same to a call.
     fn call(&mut self) -> Option<bool> {
         let env = self.world.nemesis().env();
-        let at = self.random.place(env);
+        let at = random_place(&mut self.random, env);
         let node = node_at(env, at)?;
-        let (request, draw) = (self.random.request(), self.random.below(40));
+        let request = random_request(&mut self.random);
+        let draw = self.random.below(40);
         let number = self.world.journal().len();
         let expected = self.plain.serve(env, number, at, request, draw)?;
         let (_, reply) = self.world.call(0, node, request, draw).ok()?;
@@ -31,7 +33,7 @@ impl Both {
 
     fn step(&mut self, alloc: Global) -> Option<bool> {
         let env = self.world.nemesis().env();
-        let step = self.random.step(alloc, env);
+        let step = random_step(alloc, &mut self.random, env);
         let before = self.plain.killed(env)?;
         self.world.step(step).ok()?;
         self.plain
