@@ -7,7 +7,8 @@ use jh_env::{Env, Fault, Node, Nodes, Start};
 use std::alloc::Global;
 
 /// The names of 64 nodes.
-static NAMES: &str = "a,b,c,d,e,f,g,h,i,j,k,l,m,n,o,p,q,r,s,t,u,v,w,x,y,z,A,B,C,D,E,F,G,H,I,J,K,L,M,N,O,P,Q,R,S,T,U,V,W,X,Y,Z,\
+static NAMES: &str =
+    "a,b,c,d,e,f,g,h,i,j,k,l,m,n,o,p,q,r,s,t,u,v,w,x,y,z,A,B,C,D,E,F,G,H,I,J,K,L,M,N,O,P,Q,R,S,T,U,V,W,X,Y,Z,\
     0,1,2,3,4,5,6,7,8,9,-,_";
 
 fn calm(alloc: Global) -> Option<Env>

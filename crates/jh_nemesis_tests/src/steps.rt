@@ -23,7 +23,9 @@ use jh_nemesis::{
 use std::alloc::{AllocError, Global};
 
 static TWO: &str = "n1,n2";
-static SIXTY_FOUR: &str = "n1,n2,a,b,c,d,e,f,g,h,i,j,k,l,m,n,o,p,q,r,s,t,u,v,w,x,y,z,A,B,C,D,E,F,G,H,I,J,K,L,M,N,O,P,Q,R,S,T,U,V,W,X,Y,Z,\
+
+static SIXTY_FOUR: &str =
+    "n1,n2,a,b,c,d,e,f,g,h,i,j,k,l,m,n,o,p,q,r,s,t,u,v,w,x,y,z,A,B,C,D,E,F,G,H,I,J,K,L,M,N,O,P,Q,R,S,T,U,V,W,X,Y,Z,\
     0,1,2,3,4,5,6,7,8,9";
 
 fn calm(alloc: Global, names: &str) -> Option<Env>
@@ -233,8 +235,7 @@ fn answers_once(alloc: Global, names: &str, calls: &str) -> Option<String> {
 /// Whether the calls of a row have its answers on an environment of these names.
 fn holds(alloc: Global, names: &str, row: &str) -> bool {
     let (calls, wanted) = row.split_once(" → ").unwrap_or((row, ""));
-    let answers =
-        answers_once(alloc, names, calls).or_else(|| answers_once(alloc, names, calls));
+    let answers = answers_once(alloc, names, calls).or_else(|| answers_once(alloc, names, calls));
     answers.is_some_and(|it| it.as_str() == wanted)
 }
 

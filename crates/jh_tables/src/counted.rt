@@ -244,7 +244,8 @@ impl Counted {
         match cell {
             Cell::Link(LinkCount::Cuts(count)) => self.links[place].cuts = *count,
             Cell::Link(LinkCount::Slowed(ms)) => self.links[place].slowed = *ms,
-            Cell::Link(LinkCount::Losses(level, count)) => self.links[place].losses[*level] = *count,
+            Cell::Link(LinkCount::Losses(level, count)) => self.links[place].losses[*level] =
+                *count,
             Cell::Node(NodeCount::Pauses(count)) => self.nodes[place].pauses = *count,
             Cell::Node(NodeCount::Kills(count)) => self.nodes[place].kills = *count,
             Cell::Node(NodeCount::Bumped(ms)) => self.nodes[place].bumped = *ms,
