@@ -1,5 +1,6 @@
 use Rattle.std.proofs.Common.{◌≡◌, ℕ, ◌+◌, ◌<◌, ◌≤◌, Bool, true, false, suc, List, [], ◌∷◌, ◌++◌, length, get_or, drop, take, ap, ◌∙◌, sym, refl, arith, add-one, drop-cons, length-append, inl, inr}
 use Rattle.std.specs.Prelude.{if◌then◌else◌, ◌||◌, ◌==◌, ◌↔◌, not, nat_le, IsTrue, ℤ}
+use Rattle.std.specs.Cmp.{IsEquivalence}
 use Rattle.std.specs.List.{All, list_any}
 use Rattle.std.proofs.lemmas.Bool.{cases_lt, leb-false, lt-leb, false≢true}
 use Rattle.std.proofs.lemmas.List.{get_or_append_left, get_or_default, take-append-le}
@@ -17,12 +18,31 @@ none_of true y e = cc
 none_of false y e = (refl, e)
 
 -- one more of those that are to be kept once
-pub kept_step : {A : Type 0} (same : A → A → Bool) (kept more xs : List A) (i : ℕ) (x : A) (b : Bool) (all : List A) → i < length xs → x ≡ get_or xs i x
-    → b ≡ list_any (λ k. same k x) kept → more ≡ (if b then kept else kept ++ x ∷ []) → kept_by same kept (drop i xs) ≡ all → kept_by same more (drop (i + 1) xs) ≡ all
-kept_step same kept more xs i x b all h is was m before =
-    rw (m, was)
+kept_step : {A : Type 0} (same : A → A → Bool) (kept more xs : List A) (i : ℕ) (x : A) (all : List A) → i < length xs → x ≡ get_or xs i x
+    → more ≡ (if list_any (λ k. same k x) kept then kept else kept ++ x ∷ []) → kept_by same kept (drop i xs) ≡ all → kept_by same more (drop (i + 1) xs) ≡ all
+kept_step same kept more xs i x all h is m before =
+    rw m
     (let e : drop i xs ≡ x ∷ drop (i + 1) xs = rw (add-one, drop-cons xs i x h) (ap (λ y. y ∷ drop (suc i) xs) (sym is)) in
     (sym (ap (kept_by same kept) e) ∙ before))
+
+-- whether one is there, asked in either order
+looked_up : {A : Type 0} {same : A → A → Bool} → IsEquivalence same → (x : A) (kept : List A) → list_any (same x) kept ≡ list_any (λ k. same k x) kept
+looked_up laws x [] = refl
+looked_up {A} {same} laws x (k ∷ ks) = ap (λ b. b || list_any (same x) ks) (laws.symm x k) ∙ ap (λ b. same k x || b) (looked_up laws x ks)
+
+exchanged : {A : Type 0} (b : Bool) (x y : A) → (if not b then y else x) ≡ (if b then x else y)
+exchanged true x y = refl
+exchanged false x y = refl
+
+-- one more of those that are to be kept once, where a set has the same keys as are kept
+pub seen_step : {A : Type 0} {same : A → A → Bool} → IsEquivalence same → (seen after kept more xs : List A) (i : ℕ) (x : A) (new : Bool) (all : List A) → i < length xs → x ≡ get_or xs i x
+    → new ≡ not (list_any (same x) seen) → after ≡ (if list_any (same x) seen then seen else seen ++ x ∷ []) → more ≡ (if new then kept ++ x ∷ [] else kept)
+    → (seen ≡ kept) × (kept_by same kept (drop i xs) ≡ all) → (after ≡ more) × (kept_by same more (drop (i + 1) xs) ≡ all)
+seen_step {A} {same} laws seen after kept more xs i x new all h is was a m before =
+    let b = list_any (λ k. same k x) kept in
+    let there : list_any (same x) seen ≡ b = ap (list_any (same x)) before.0 ∙ looked_up laws x kept in
+    let e : more ≡ (if b then kept else kept ++ x ∷ []) = m ∙ ap (λ t. if t then kept ++ x ∷ [] else kept) (was ∙ ap not there) ∙ exchanged b kept (kept ++ x ∷ []) in
+    (a ∙ ap (λ t. if t then seen else seen ++ x ∷ []) there ∙ ap (λ s. if b then s else s ++ x ∷ []) before.0 ∙ sym e, kept_step same kept more xs i x all h is e before.1)
 
 push_apart : {A : Type 0} (same : A → A → Bool) (kept : List A) (x : A) → list_any (λ k. same k x) kept ≡ false → AreApart same kept → AreApart same (kept ++ x ∷ [])
 push_apart same kept x new apart i d h =
