@@ -4,7 +4,7 @@
 
     bench/runs.py [CLIENTS [SEED]]
 
-10,000 calls (1,000 of a set) by CLIENTS clients (8) on 3 nodes and on 32, half of them reads where there are reads, with a
+10,000 calls (1,000 of a set) by CLIENTS clients (8) on 3, 32 and 64 nodes, half of them reads where there are reads, with a
 tick after every 10 calls of a client and a cut that begins and ends. The time is that of the whole program: settings,
 run, history, checker, output. A register is run twice, since its judge may take most of the time: once with the budget 0.
 """
@@ -54,7 +54,7 @@ def main():
     seed = int(sys.argv[2]) if len(sys.argv) > 2 else 1
     for store in ("quorum", "lww", "local"):
         for workload in GENERATORS:
-            for nodes in (3, 32):
+            for nodes in (3, 32, 64):
                 for budget in ((0, 100000) if workload == "register" else (100000,)):
                     measure(store, workload, nodes, clients, seed, budget)
 
