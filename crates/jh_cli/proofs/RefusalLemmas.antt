@@ -1,5 +1,5 @@
 -- Why values are refused, from why the first of them is.
-use Rattle.std.proofs.Common.{◌≡◌, ◌<◌, ◌≤◌, List, [], ◌∷◌, length, get_or, take, drop, refl, arith}
+use Rattle.std.proofs.Common.{◌≡◌, ◌<◌, ◌≤◌, ℕ, List, [], ◌∷◌, length, get_or, take, drop, refl, arith}
 use Rattle.std.specs.Prelude.{◌-◌}
 use Rattle.std.proofs.lemmas.List.{take_all}
 use Rattle.jh_edn.specs.Edn.{Edn}
@@ -8,8 +8,11 @@ use Rattle.jh_edn.specs.declared.value.Value.{Value}
 use Rattle.jh_env.specs.TextFaults as env
 use Rattle.jh_env.specs.declared.texts.EnvTextError.TheVariants as EnvTextError
 use Rattle.jh_cli.specs.Status.{environment_fault}
-use Rattle.jh_cli.specs.Refusals.{RefusesValues}
+use Rattle.jh_env.specs.Cells.{Table}
+use Rattle.jh_env.specs.TextCells.{IsTextOf}
+use Rattle.jh_cli.specs.Refusals.{RefusesSteps, RefusesValues}
 use Rattle.jh_cli.specs.declared.error.CliError.{CliError}
+use Rattle.jh_cli.specs.declared.error.CliError.TheVariants.{Input, EnvironmentMissing, Environment, Element, History, Check, Settings, Run, OnlyForRegister, Read, Write, OutOfMemory}
 
 -- a first value that is no environment
 refuses_environment : (first : Edn) (others : List Edn) (fault : EnvTextError.the_data) → env.RefusesText first fault
@@ -41,3 +44,19 @@ pub first_refused : (values : List Value) (first : Value) (fault : EnvTextError.
     → env.RefusesText (view first) fault → e ≡ environment_fault fault → RefusesValues (views values) e
 first_refused [] first fault e some is refused named = absurd (omega arith)
 first_refused (v ∷ vs) first fault e some is refused named = rw (named, ← is) (refuses_environment (view first) (views vs) fault refused)
+
+-- values of which the first is an environment, and one of the others no step
+pub others_refused : (values others : List Edn) (first : Edn) (names : List (List ℕ)) (start : Table) (e : CliError) → values ≡ first ∷ others
+    → IsTextOf first names start → RefusesSteps names others e → RefusesValues values e
+others_refused values others first names start (Element place fault) parts text refused = (first, others, names, start, parts, text, refused)
+others_refused values others first names start OutOfMemory parts text refused = tt
+others_refused values others first names start (Input fault) parts text refused = absurd refused
+others_refused values others first names start EnvironmentMissing parts text refused = absurd refused
+others_refused values others first names start (Environment fault) parts text refused = absurd refused
+others_refused values others first names start (History fault) parts text refused = absurd refused
+others_refused values others first names start (Check fault) parts text refused = absurd refused
+others_refused values others first names start (Settings fault) parts text refused = absurd refused
+others_refused values others first names start (Run fault) parts text refused = absurd refused
+others_refused values others first names start OnlyForRegister parts text refused = absurd refused
+others_refused values others first names start Read parts text refused = absurd refused
+others_refused values others first names start Write parts text refused = absurd refused
