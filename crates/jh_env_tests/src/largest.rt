@@ -1,6 +1,7 @@
 //! A fixed delay on all 4,032 links of 64 nodes: each growth on the way may be refused, and is asked for once more.
 
-ghost use Rattle.std.specs.Prelude.{[], IfSome};
+ghost use Rattle.std.specs.Prelude.{◌∷◌, [], length, IfSome};
+ghost use Rattle.jh_env.specs.Faults.{FitsCount};
 ghost use Rattle.jh_env.specs.Overlay.{StandsWith};
 
 use jh_env::{Env, Fault, Node, Nodes, Start};
@@ -48,20 +49,47 @@ fn count_from(env: &Env, from: u8, delay: u64) -> usize {
 
 /// How many links have this delay.
 fn count(env: &Env, delay: u64) -> usize {
-    (0..64_u8).map(|from| count_from(env, from, delay)).sum()
+    let mut count = 0_usize;
+    for from in 0..64_u8 {
+        count = count.saturating_add(count_from(env, from, delay));
+    }
+    count
 }
 
-/// How many links have the delay while the fix stands, so many of a copy, and so many after it is taken.
+/// Puts a fix on an environment that has no fault.
+fn put(env: &mut Env, fix: &Fault)
+    requires none { StandsWith env.old [] }
+    requires fits { FitsCount (length env.old.names) fix.now }
+    ensures { StandsWith env.new ((7, fix.now) ∷ []) }
+{
+    env.put(fix, 7);
+}
+
+/// Takes the fix, which alone is there.
+fn take(env: &mut Env, fix: &Fault)
+    requires { StandsWith env.old ((7, fix.now) ∷ []) }
+{
+    env.take(fix, 7);
+}
+
+/// How many links have the delay while the fix stands, so many of a copy, and so many have none after it is taken.
+fn counts(alloc: Global, env: &mut Env, fix: &Fault) -> Option<(usize, usize, usize)>
+    requires none { StandsWith env.old [] }
+    requires fits { FitsCount (length env.old.names) fix.now }
+{
+    put(env, fix);
+    let (stands, copy) = (count(env, 300), env.copy(alloc).ok()?);
+    take(env, fix);
+    Some((stands, count(&copy, 300), count(env, 0)))
+}
+
 fn counts_once(alloc: Global) -> Option<(usize, usize, usize)> {
     let mut env = calm(alloc)?;
     let fix = fix(alloc, env.nodes())?;
     if !fix.fits(&env) {
         return None;
     }
-    env.put(&fix, 7);
-    let (stands, copy) = (count(&env, 300), env.copy(alloc).ok()?);
-    env.take(&fix, 7);
-    Some((stands, count(&copy, 300), count(&env, 0)))
+    counts(alloc, &mut env, &fix)
 }
 
 #[test]
