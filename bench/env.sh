@@ -14,7 +14,7 @@ measure() {
         "$(cat "$inputs/output" "$inputs/error" | tail -n 1 | cut -c1-60)"
 }
 
-# 4,095 steps over 64 nodes, each a begin or a withdrawal of a cut of all 4,032 links. A begin reads them, compares each with
+# 4,095 steps over 64 nodes, each a begin or a withdrawal of a cut of all 4,032 links. A begin reads them, looks each up among
 # those before it, and writes each cell once; a withdrawal writes each cell once.
 awk 'BEGIN {
     printf "{:nodes ["
