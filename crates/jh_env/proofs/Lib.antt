@@ -14,3 +14,4 @@ pub mod FaultLemmas
 pub mod StartLemmas
 pub mod FaultOrderLemmas
 pub mod ApartLemmas
+pub mod SameLemmas

@@ -224,6 +224,24 @@ fn on_nodes_of(
     }
 }
 
+fn are_same_links(links: &[(Node, Node)], others: &[(Node, Node)]) -> bool
+    ensures { IsTrue result ↔ (links.now ≡ others.now) }
+{
+    links == others
+}
+
+fn are_same_nodes(nodes: &[Node], others: &[Node]) -> bool
+    ensures { IsTrue result ↔ (nodes.now ≡ others.now) }
+{
+    nodes == others
+}
+
+fn are_same_bumps(bumps: &[(Node, i64)], others: &[(Node, i64)]) -> bool
+    ensures { IsTrue result ↔ (bumps.now ≡ others.now) }
+{
+    bumps == others
+}
+
 impl Fault {
     /// Cuts links, each from its first node to its second. A link that is named twice is kept once; a
     /// fault that names no link is allowed. Takes time linear in the links given: each is looked up in a
@@ -354,6 +372,22 @@ impl Fault {
             PlainFault::Bump(bumps) => PlainFault::Bump(Vec::from_slice(alloc, bumps)?),
         };
         Ok(Fault { fault })
+    }
+
+    /// Whether the other is the same fault: it does the same to the same links or nodes, which both name in one order.
+    pub fn is_same(&self, other: &Fault) -> bool
+        ensures { IsTrue result ↔ (self.now ≡ other.now) }
+    {
+        match (&self.fault, &other.fault) {
+            (PlainFault::OnLinks(kind, links), PlainFault::OnLinks(other_kind, others)) => {
+                *kind == *other_kind && are_same_links(links, others)
+            }
+            (PlainFault::OnNodes(kind, nodes), PlainFault::OnNodes(other_kind, others)) => {
+                *kind == *other_kind && are_same_nodes(nodes, others)
+            }
+            (PlainFault::Bump(bumps), PlainFault::Bump(others)) => are_same_bumps(bumps, others),
+            _ => false,
+        }
     }
 
     /// Whether each node that it names is one of these.

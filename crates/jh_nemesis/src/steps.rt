@@ -1,7 +1,7 @@
 //! Steps and the answers to them. `specs/Steps.antt` says which answer a step has; a new kind of step begins
 //! there.
 
-ghost use Rattle.std.specs.Prelude.{◌≡◌, IfOk};
+ghost use Rattle.std.specs.Prelude.{◌≡◌, ◌↔◌, IfOk, IsTrue};
 
 use jh_env::Fault;
 use std::alloc::{AllocError, Global};
@@ -39,6 +39,22 @@ impl Step {
             Step::WithdrawAll => Ok(Step::WithdrawAll),
             Step::Undo => Ok(Step::Undo),
             Step::Redo => Ok(Step::Redo),
+        }
+    }
+
+    /// Whether the other is the same step, with the same fault where it begins one ([`Fault::is_same`]).
+    pub fn is_same(&self, other: &Step) -> bool
+        ensures { IsTrue result ↔ (self.now ≡ other.now) }
+    {
+        match (self, other) {
+            (Step::Begin(id, fault), Step::Begin(other_id, other_fault)) => {
+                id == other_id && fault.is_same(other_fault)
+            }
+            (Step::Withdraw(id), Step::Withdraw(other_id)) => id == other_id,
+            (Step::WithdrawAll, Step::WithdrawAll) => true,
+            (Step::Undo, Step::Undo) => true,
+            (Step::Redo, Step::Redo) => true,
+            _ => false,
         }
     }
 }

@@ -66,36 +66,60 @@ code_of answer.NothingToRedo = 7
 abbrev pub HasSmallEvent : Option ℕ → Type 0
 HasSmallEvent event = IfSome event (λ number. number < 2 ^ 63)
 
--- an operation at its place in the history, by an event of this number where it tells one
-abbrev pub told_at : ℕ → Kind → Process → List ℕ → Content → Option ℕ → Operation
-told_at place kind process name content event = record {
+-- an operation in no history yet, by an event of this number where it tells one
+abbrev pub told : Kind → Process → List ℕ → Content → Option ℕ → Operation
+told kind process name content event = record {
   kind = kind;
   process = process;
   f = keyword name;
   value = content_value content;
   time = None;
-  index = Some (pos place);
+  index = None;
   rest = event_part event;
 }
 
--- a client's operation as it is invoked, and as the event of this number completes it
-abbrev pub invoked : ℕ → ℕ → Request → Operation
-invoked place process request =
-    told_at place Kind.Invoke (Process.Client process) (name_of request) (asked_with request) None
+-- an operation at its place in a history
+abbrev pub at_place : ℕ → Operation → Operation
+at_place place op = record {
+  kind = op.kind;
+  process = op.process;
+  f = op.f;
+  value = op.value;
+  time = op.time;
+  index = Some (pos place);
+  rest = op.rest;
+}
 
-abbrev pub completed : ℕ → ℕ → ℕ → Request → Reply → Operation
-completed place number process request reply =
-    told_at place (kind_of reply) (Process.Client process) (name_of request)
-    (replied_with request reply) (Some number)
+-- a client's operation as it is invoked, and as the event of this number completes it
+abbrev pub invocation : ℕ → Request → Operation
+invocation process request =
+    told Kind.Invoke (Process.Client process) (name_of request) (asked_with request) None
+
+abbrev pub completion : ℕ → ℕ → Request → Reply → Operation
+completion number process request reply =
+    told (kind_of reply) (Process.Client process) (name_of request) (replied_with request reply) (Some number)
 
 -- an entry of the schedule before the nemesis takes its step, and after it
+abbrev pub entry_begun : ℕ → Operation
+entry_begun entry = told Kind.Info Process.Nemesis (codes "step") (One (pos entry)) None
+
+abbrev pub entry_ended : ℕ → ℕ → StepAnswer → Operation
+entry_ended number entry answer =
+    told Kind.Info Process.Nemesis (codes "step") (Several (pos entry ∷ pos (code_of answer) ∷ []))
+    (Some number)
+
+-- each of them at its place in the history
+abbrev pub invoked : ℕ → ℕ → Request → Operation
+invoked place process request = at_place place (invocation process request)
+
+abbrev pub completed : ℕ → ℕ → ℕ → Request → Reply → Operation
+completed place number process request reply = at_place place (completion number process request reply)
+
 abbrev pub begun : ℕ → ℕ → Operation
-begun place entry = told_at place Kind.Info Process.Nemesis (codes "step") (One (pos entry)) None
+begun place entry = at_place place (entry_begun entry)
 
 abbrev pub answered_by : ℕ → ℕ → ℕ → StepAnswer → Operation
-answered_by place number entry answer =
-    told_at place Kind.Info Process.Nemesis (codes "step") (Several (pos entry ∷ pos (code_of answer) ∷ []))
-    (Some number)
+answered_by place number entry answer = at_place place (entry_ended number entry answer)
 
 -- what events tell: the first operation at this place, the first event with this number, the first step with this
 -- entry

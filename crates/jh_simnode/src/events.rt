@@ -1,13 +1,13 @@
 //! What happens in a world, and why a world refuses it. `specs/Events.antt` says which events are due.
 
-ghost use Rattle.std.specs.Prelude.{◌≡◌, ◌↔◌, length, IsTrue};
+ghost use Rattle.std.specs.Prelude.{◌≡◌, ◌↔◌, length, IfOk, IsTrue};
 ghost use Rattle.jh_nemesis.specs.Steps.{FitsNodes};
 
 use crate::copies::Reply;
 use jh_env::{Env, Node};
 use jh_nemesis::{Step, StepAnswer};
 use jh_ops::Request;
-use std::alloc::AllocError;
+use std::alloc::{AllocError, Global};
 use thiserror::Error;
 
 /// The most events of a world.
@@ -31,6 +31,34 @@ pub enum Event {
     },
     /// The nodes told each other what they have.
     Tick,
+}
+
+impl Event {
+    /// The same event again.
+    pub fn copy(&self, alloc: Global) -> Result<Event, AllocError>
+        ensures { IfOk result (λ copy. copy ≡ self.now) }
+    {
+        match self {
+            Event::Call {
+                process,
+                node,
+                request,
+                draw,
+                reply,
+            } => Ok(Event::Call {
+                process: *process,
+                node: *node,
+                request: *request,
+                draw: *draw,
+                reply: reply.copy(alloc)?,
+            }),
+            Event::Step { step, answer } => Ok(Event::Step {
+                step: step.copy(alloc)?,
+                answer: *answer,
+            }),
+            Event::Tick => Ok(Event::Tick),
+        }
+    }
 }
 
 /// Why a world refuses an event.

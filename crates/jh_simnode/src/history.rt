@@ -3,10 +3,10 @@
 ghost use Rattle.std.specs.Prelude.{◌≡◌, ◌≤◌, ◌<◌, ◌+◌, ◌*◌, ◌^◌, ◌++◌, ◌∷◌, [], length, IfOk, OnOk, pos};
 ghost use Rattle.jh_edn.specs.Edn.{keyword};
 ghost use Rattle.jh_edn.specs.View.{view};
-ghost use Rattle.jh_ops.specs.Operation.{operations};
+ghost use Rattle.jh_ops.specs.Operation.{operation, operations};
 ghost use Rattle.jh_ops.specs.Words.{Several, content_value, event_part};
 ghost use Rattle.jh_simnode.specs.Histories as rule;
-ghost use Rattle.jh_simnode.specs.Histories.{answered_by, asked_with, begun, completed, invoked, replied_with, told_with};
+ghost use Rattle.jh_simnode.specs.Histories.{answered_by, asked_with, at_place, begun, completed, invoked, replied_with, told_with};
 
 use crate::copies::{Got, Reply};
 use crate::events::{Event, MOST_EVENTS};
@@ -33,7 +33,8 @@ fn name_of(request: Request) -> &'static str
     }
 }
 
-fn kind_of(reply: &Reply) -> Kind
+/// How a completion with this reply is recorded.
+pub fn kind_of(reply: &Reply) -> Kind
     ensures { result ≡ rule.kind_of reply.now }
 {
     match reply {
@@ -43,7 +44,8 @@ fn kind_of(reply: &Reply) -> Kind
     }
 }
 
-fn code_of(answer: StepAnswer) -> i64
+/// The code by which an answer to a step is recorded, from 0 to 7.
+pub fn code_of(answer: StepAnswer) -> i64
     ensures { result ≡ pos (rule.code_of answer) }
 {
     match answer {
@@ -112,6 +114,94 @@ fn event_pairs(alloc: Global, event: Option<u64>) -> Result<Pairs, AllocError>
     Ok(Pairs::of(pairs))
 }
 
+/// The operation in which a client's process asks, in no history yet.
+pub fn invocation(alloc: Global, process: u64, request: Request) -> Result<Op, AllocError>
+    ensures { IfOk result (λ op. operation op ≡ rule.invocation process request) }
+{
+    Ok(Op {
+        kind: Kind::Invoke,
+        f: keyword(alloc, name_of(request))?,
+        value: value_asked(alloc, request)?,
+        process: Process::Client(process),
+        time: None,
+        index: None,
+        rest: event_pairs(alloc, None)?,
+    })
+}
+
+/// The operation in which a client's process tells the reply to a request, by the event of this number, in no history
+/// yet.
+pub fn completion(
+    alloc: Global,
+    number: u64,
+    process: u64,
+    request: Request,
+    reply: &Reply,
+) -> Result<Op, AllocError>
+    requires { number < 2 ^ 63 }
+    ensures { IfOk result (λ op. operation op ≡ rule.completion number process request reply.now) }
+{
+    Ok(Op {
+        kind: kind_of(reply),
+        f: keyword(alloc, name_of(request))?,
+        value: value_replied(alloc, request, reply)?,
+        process: Process::Client(process),
+        time: None,
+        index: None,
+        rest: event_pairs(alloc, Some(number))?,
+    })
+}
+
+/// The operation of an entry of the schedule before the nemesis takes its step, in no history yet.
+pub fn entry_begun(alloc: Global, entry: u64) -> Result<Op, AllocError>
+    requires { entry < 2 ^ 63 }
+    ensures { IfOk result (λ op. operation op ≡ rule.entry_begun entry) }
+{
+    Ok(Op {
+        kind: Kind::Info,
+        f: keyword(alloc, "step")?,
+        value: Value::Int(entry as i64),
+        process: Process::Nemesis,
+        time: None,
+        index: None,
+        rest: event_pairs(alloc, None)?,
+    })
+}
+
+/// The operation of an entry of the schedule once its step was answered, by the event of this number, in no history
+/// yet.
+pub fn entry_ended(
+    alloc: Global,
+    number: u64,
+    entry: u64,
+    answer: StepAnswer,
+) -> Result<Op, AllocError>
+    requires number { number < 2 ^ 63 }
+    requires entry { entry < 2 ^ 63 }
+    ensures { IfOk result (λ op. operation op ≡ rule.entry_ended number entry answer) }
+{
+    Ok(Op {
+        kind: Kind::Info,
+        f: keyword(alloc, "step")?,
+        value: vector_of(alloc, &[entry as i64, code_of(answer)])?,
+        process: Process::Nemesis,
+        time: None,
+        index: None,
+        rest: event_pairs(alloc, Some(number))?,
+    })
+}
+
+/// Adds an operation to a history, at its place.
+pub fn push_placed(history: &mut Vec<Op>, op: Op) -> Result<(), AllocError>
+    requires { length history.old.items < 2 ^ 63 }
+    ensures { OnOk result (operations history.new.items ≡ operations history.old.items
+        ++ at_place (length history.old.items) (operation op) ∷ []) }
+{
+    let index = Some(history.len() as i64);
+    history.push(Op { index, ..op })?;
+    Ok(())
+}
+
 /// The two operations of a call.
 fn push_call(
     alloc: Global,
@@ -126,26 +216,8 @@ fn push_call(
         ++ invoked (length history.old.items) process request
         ∷ completed (length history.old.items + 1) number process request reply.now ∷ []) }
 {
-    let place = history.len() as i64;
-    history.push(Op {
-        kind: Kind::Invoke,
-        f: keyword(alloc, name_of(request))?,
-        value: value_asked(alloc, request)?,
-        process: Process::Client(process),
-        time: None,
-        index: Some(place),
-        rest: event_pairs(alloc, None)?,
-    })?;
-    history.push(Op {
-        kind: kind_of(reply),
-        f: keyword(alloc, name_of(request))?,
-        value: value_replied(alloc, request, reply)?,
-        process: Process::Client(process),
-        time: None,
-        index: Some(place + 1),
-        rest: event_pairs(alloc, Some(number))?,
-    })?;
-    Ok(())
+    push_placed(history, invocation(alloc, process, request)?)?;
+    push_placed(history, completion(alloc, number, process, request, reply)?)
 }
 
 /// The two operations of a step.
@@ -161,26 +233,8 @@ fn push_step(
         ++ begun (length history.old.items) entry
         ∷ answered_by (length history.old.items + 1) number entry answer ∷ []) }
 {
-    let first = history.len() as i64;
-    history.push(Op {
-        kind: Kind::Info,
-        f: keyword(alloc, "step")?,
-        value: Value::Int(entry as i64),
-        process: Process::Nemesis,
-        time: None,
-        index: Some(first),
-        rest: event_pairs(alloc, None)?,
-    })?;
-    history.push(Op {
-        kind: Kind::Info,
-        f: keyword(alloc, "step")?,
-        value: vector_of(alloc, &[entry as i64, code_of(answer)])?,
-        process: Process::Nemesis,
-        time: None,
-        index: Some(first + 1),
-        rest: event_pairs(alloc, Some(number))?,
-    })?;
-    Ok(())
+    push_placed(history, entry_begun(alloc, entry)?)?;
+    push_placed(history, entry_ended(alloc, number, entry, answer)?)
 }
 
 /// The history of a journal: two operations for each call and each step, and none for a tick. Takes time linear in what

@@ -19,9 +19,13 @@ mod world;
 
 pub use copies::{Contents, Got, Mark, NodeCopy, Numbers, Reply};
 pub use events::{Event, MOST_EVENTS, WorldError};
+pub use history::{
+    code_of, completion, entry_begun, entry_ended, invocation, kind_of, push_placed,
+};
 pub use laws::world_laws;
 pub use plan::{MOST_ROWS, Plan, PlanError};
 pub use schedule::{Entry, MOST_ENTRIES, Schedule, TooLong};
 pub use serial::{RunError, one_run, run_serial};
 pub use settings::{Settings, Store};
+pub use turns::{driver_of, ended_of, node_of, ticks_at};
 pub use world::World;

@@ -47,7 +47,7 @@ enum Asked {
 }
 
 /// How an operation with this reply ends.
-fn ended_of(reply: &Reply) -> Ended
+pub fn ended_of(reply: &Reply) -> Ended
     ensures { result ≡ running.ended_of reply.now }
 {
     match reply {
@@ -68,14 +68,14 @@ fn number_of(process: Process) -> u64
 }
 
 /// Whether a thread that has made so many calls ticks now.
-fn ticks_at(plan: &Plan, calls: u32) -> bool
+pub fn ticks_at(plan: &Plan, calls: u32) -> bool
     ensures { result ≡ rule.ticks_at plan.now calls }
 {
     plan.tick_every() != 0 && calls % plan.tick_every() == 0
 }
 
 /// The node that a thread calls.
-fn node_of(plan: &Plan, thread: u32) -> Node
+pub fn node_of(plan: &Plan, thread: u32) -> Node
     ensures node { result ≡ thread % length plan.now.env.names }
     ensures within { result < length plan.now.env.names }
 {
@@ -88,7 +88,7 @@ fn node_of(plan: &Plan, thread: u32) -> Node
 }
 
 /// The driver of the plan's generator, cut off after as many calls as the plan has, for clients alone.
-fn driver_of(alloc: Global, plan: &Plan) -> Result<Driver, RunError>
+pub fn driver_of(alloc: Global, plan: &Plan) -> Result<Driver, RunError>
     ensures driver { IfOk result (running.IsFirstDriver plan.now) }
     ensures stopped { IfErr result (Stops plan.now) }
 {
