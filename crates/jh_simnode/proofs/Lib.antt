@@ -12,3 +12,4 @@ pub mod Once
 pub mod Asking
 pub mod Going
 pub mod Writing
+pub mod ReplayLemmas

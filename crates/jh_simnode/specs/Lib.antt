@@ -12,3 +12,4 @@ pub mod Runs
 pub mod Running
 pub mod Inside
 pub mod Laws
+pub mod Replay

@@ -9,6 +9,7 @@ mod history;
 mod laws;
 mod plan;
 mod reach;
+mod replay;
 mod requests;
 mod schedule;
 mod serial;
@@ -24,8 +25,9 @@ pub use history::{
 };
 pub use laws::world_laws;
 pub use plan::{MOST_ROWS, Plan, PlanError};
+pub use replay::nemesis_after;
 pub use schedule::{Entry, MOST_ENTRIES, Schedule, TooLong};
-pub use serial::{RunError, one_run, run_serial};
+pub use serial::{RunError, one_run, run_serial, world_of};
 pub use settings::{Settings, Store};
 pub use turns::{driver_of, ended_of, node_of, ticks_at};
 pub use world::World;

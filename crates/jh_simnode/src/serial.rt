@@ -52,7 +52,7 @@ impl From<AllocError> for RunError {
 }
 
 /// The world of a plan, in which nothing has happened.
-fn world_of(alloc: Global, plan: &Plan) -> Result<World, AllocError>
+pub fn world_of(alloc: Global, plan: &Plan) -> Result<World, AllocError>
     ensures { IfOk result (λ world. (world.journal ≡ []) × (world.setup ≡ setup_of plan.now)) }
 {
     World::new(
