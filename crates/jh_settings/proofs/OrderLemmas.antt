@@ -7,7 +7,7 @@ use Rattle.jh_simnode.specs.declared.schedule.Entry.{Entry}
 use Rattle.jh_settings.specs.Inside.{RefusesValue, Refuses, RefusesValues, TellsCluster, TellsLoad, TellsLimits, cluster_keys, load_keys, limit_keys}
 use Rattle.jh_settings.specs.Keys.{keys}
 use Rattle.jh_settings.specs.Refusals.{IsGood, AreGood, IsFirstBad}
-use Rattle.jh_settings.specs.Told.{TellsStart, store_told, workload_told, clients_told, ops_told, volatile_told, initial_told, tick_every_told, rows_told, seed_told, budget_told, TellsSchedule}
+use Rattle.jh_settings.specs.Told.{TellsStart, store_told, workload_told, clients_told, ops_told, mode_told, volatile_told, initial_told, tick_every_told, rows_told, seed_told, budget_told, TellsSchedule}
 use Rattle.jh_settings.specs.declared.error.SettingsError.{SettingsError}
 use Rattle.jh_settings.specs.declared.error.SettingsError.TheVariants.{NotToml, Unknown, Missing, BadValue, OutOfMemory}
 use Rattle.jh_settings.specs.declared.keys.Key.{Key}
@@ -65,9 +65,10 @@ pub load_good : (document : Members) (load : Load) → TellsLoad document load �
 load_good document load h =
     let clients = is_told (clients_told document) load.clients h.clients in
     let ops = is_told (ops_told document) load.ops h.ops in
+    let mode = is_told (mode_told document) load.mode h.mode in
     let volatile = is_told (volatile_told document) load.volatile h.volatile in
     let initial = is_told (initial_told document) load.initial h.initial in
-    (clients, (ops, (h.mode, (volatile, (initial, tt)))))
+    (clients, (ops, (mode, (volatile, (initial, tt)))))
 
 pub limits_good : (document : Members) (limits : Limits) → TellsLimits document limits → AreGood document limit_keys
 limits_good document limits h =

@@ -67,7 +67,7 @@ pub record Parts (document : Members) (c : Cluster) (l : Load) (n : Limits) (ent
   pub fit : All (λ entry. FitsNodes (length c.environment.names) entry.step) entries
 
 module _ (document : Members) (cluster : Cluster) (load : Load) (limits : Limits) (schedule : List Entry) (parts : Parts document cluster load limits schedule) where
-  planned : IsFit (plan_with cluster load limits schedule) → AreSettings document (plan_with cluster load limits schedule) limits.budget
+  planned : IsFit (plan_with cluster load limits schedule) → AreSettings document (plan_with cluster load limits schedule) load.mode limits.budget
   planned fit = record {
     known = parts.known;
     start = parts.cluster.start;
@@ -105,9 +105,11 @@ module _ (document : Members) (cluster : Cluster) (load : Load) (limits : Limits
   refused PlanError.OutOfMemory h = tt
 
   pub settled : (r : Result RunSettings SettingsError)
-      → MatchResult r (λ s. (s.plan ≡ plan_with cluster load limits schedule) × (s.budget ≡ limits.budget) × IsFit s.plan) (RefusesWith (plan_with cluster load limits schedule))
-      → MatchResult r (λ s. AreSettings document s.plan s.budget) (RefusesValues document)
+      → MatchResult r (λ s. (s.plan ≡ plan_with cluster load limits schedule) × (s.mode ≡ load.mode) × (s.budget ≡ limits.budget) × IsFit s.plan) (RefusesWith (plan_with cluster load limits schedule))
+      → MatchResult r (λ s. AreSettings document s.plan s.mode s.budget) (RefusesValues document)
   settled (Ok s) h =
-      let fit = subst IsFit h.0 h.2 in
-      subst (AreSettings document s.plan) (sym h.1) (subst (λ p. AreSettings document p limits.budget) (sym h.0) (planned fit))
+      let fit = subst IsFit h.0 h.3 in
+      let settings = subst (λ p. AreSettings document p load.mode limits.budget) (sym h.0) (planned fit) in
+      let in_mode = subst (λ m. AreSettings document s.plan m limits.budget) (sym h.1) settings in
+      subst (AreSettings document s.plan s.mode) (sym h.2) in_mode
   settled (Err e) h = subst (RefusesValues document) (sym h.2) (refused h.0 h.1)

@@ -11,7 +11,7 @@ use Rattle.jh_simnode.specs.declared.schedule.Entry.{Entry}
 use Rattle.jh_settings.specs.declared.error.SettingsError.{SettingsError}
 use Rattle.jh_settings.specs.declared.error.SettingsError.TheVariants.{NotToml, Unknown, Missing, BadValue, OutOfMemory}
 use Rattle.jh_settings.specs.Kinds.{IsElement}
-use Rattle.jh_settings.specs.Told.{TellsEntry, TellsStart, store_told, workload_told, TellsGenerator, clients_told, ops_told, IsSerial, volatile_told, initial_told, tick_every_told, rows_told, seed_told, budget_told}
+use Rattle.jh_settings.specs.Told.{TellsEntry, TellsStart, store_told, workload_told, TellsGenerator, clients_told, ops_told, mode_told, volatile_told, initial_told, tick_every_told, rows_told, seed_told, budget_told}
 use Rattle.jh_settings.specs.Refusals.{IsFirstBad}
 use Rattle.jh_settings.specs.Settings.{IsBadValue}
 use Rattle.jh_settings.specs.Keys.{IsDocument, HasKnownKeys, IsFirstUnknown, first_missing}
@@ -71,7 +71,7 @@ load_keys = Key.Clients ∷ Key.Ops ∷ Key.Mode ∷ Key.Volatile ∷ Key.Initia
 pub record TellsLoad (document : Members) (load : Load) : Type 0 where
   pub clients : clients_told document ≡ Some load.clients
   pub ops : ops_told document ≡ Some load.ops
-  pub mode : IsSerial document
+  pub mode : mode_told document ≡ Some load.mode
   pub volatile : volatile_told document ≡ Some load.volatile
   pub initial : initial_told document ≡ Some load.initial
 

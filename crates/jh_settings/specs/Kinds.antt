@@ -20,6 +20,10 @@ or_default default told key document = option_map_or told (value_under key docum
 abbrev pub text_under : Key → Members → Option (List ℕ)
 text_under key document = needed as_str key document
 
+-- what is told by a value that is a text, which is one of some words
+abbrev pub word_in : {A : Type 0} → (List ℕ → Option A) → Data → Option A
+word_in told value = option_and_then told (as_str value)
+
 -- what is told by the text under a key, which is one of some words
 abbrev pub word_under : {A : Type 0} → (List ℕ → Option A) → Key → Members → Option A
 word_under told key document = option_and_then told (text_under key document)

@@ -5,7 +5,7 @@ use Rattle.jh_env.specs.Overlay.{EnvValue}
 use Rattle.jh_gen.specs.Generator.{Generator}
 use Rattle.jh_simnode.specs.declared.schedule.Entry.{Entry}
 use Rattle.jh_settings.specs.declared.keys.Key.{Key}
-use Rattle.jh_settings.specs.Told.{TellsStart, store_told, workload_told, TellsGenerator, clients_told, ops_told, IsSerial, volatile_told, initial_told, tick_every_told, rows_told, seed_told, budget_told, TellsSchedule}
+use Rattle.jh_settings.specs.Told.{TellsStart, store_told, workload_told, TellsGenerator, clients_told, ops_told, mode_told, volatile_told, initial_told, tick_every_told, rows_told, seed_told, budget_told, TellsSchedule}
 
 -- The value under a key is good by itself; a key that may be missing is good where it is. How many calls there are and what is
 -- held at first is looked at beside the workload, and the schedule beside the nodes of the start.
@@ -16,7 +16,7 @@ IsGood document Key.Workload = IsSome (workload_told document)
 IsGood document Key.Generator = (g : Generator) × TellsGenerator document g
 IsGood document Key.Clients = IsSome (clients_told document)
 IsGood document Key.Ops = IsSome (ops_told document)
-IsGood document Key.Mode = IsSerial document
+IsGood document Key.Mode = IsSome (mode_told document)
 IsGood document Key.Volatile = IsSome (volatile_told document)
 IsGood document Key.Initial = IsSome (initial_told document)
 IsGood document Key.TickEvery = IsSome (tick_every_told document)

@@ -8,12 +8,13 @@ use Rattle.jh_simnode.specs.Plans.{PlanValue, IsFit}
 use Rattle.jh_settings.specs.declared.error.SettingsError.{SettingsError}
 use Rattle.jh_settings.specs.declared.error.SettingsError.TheVariants.{NotToml, Unknown, Missing, BadValue, OutOfMemory}
 use Rattle.jh_settings.specs.declared.keys.Key.{Key}
+use Rattle.jh_settings.specs.declared.words.Mode.{Mode}
 use Rattle.jh_settings.specs.Keys.{IsDocument, HasKnownKeys, IsFirstUnknown, first_missing, keys}
-use Rattle.jh_settings.specs.Told.{TellsStart, store_told, workload_told, TellsGenerator, clients_told, ops_told, IsSerial, volatile_told, initial_told, tick_every_told, rows_told, seed_told, budget_told, TellsSchedule}
+use Rattle.jh_settings.specs.Told.{TellsStart, store_told, workload_told, TellsGenerator, clients_told, ops_told, mode_told, volatile_told, initial_told, tick_every_told, rows_told, seed_told, budget_told, TellsSchedule}
 use Rattle.jh_settings.specs.Refusals.{AreGood, IsFirstBad}
 
--- a document tells this plan, and how many tries a judgement has
-pub record AreSettings (document : Members) (plan : PlanValue) (tries : ℕ) : Type 0 where
+-- a document tells this plan, in which mode it is run, and how many tries a judgement has
+pub record AreSettings (document : Members) (plan : PlanValue) (run_mode : Mode) (tries : ℕ) : Type 0 where
   pub known : HasKnownKeys document
   pub start : TellsStart document plan.env
   pub store : store_told document ≡ Some plan.settings.store
@@ -21,7 +22,7 @@ pub record AreSettings (document : Members) (plan : PlanValue) (tries : ℕ) : T
   pub generator : TellsGenerator document plan.generator
   pub clients : clients_told document ≡ Some plan.clients
   pub ops : ops_told document ≡ Some plan.ops
-  pub mode : IsSerial document
+  pub mode : mode_told document ≡ Some run_mode
   pub volatile : volatile_told document ≡ Some plan.settings.volatile
   pub initial : initial_told document ≡ Some plan.settings.initial
   pub tick_every : tick_every_told document ≡ Some plan.tick_every
@@ -32,8 +33,9 @@ pub record AreSettings (document : Members) (plan : PlanValue) (tries : ℕ) : T
   pub fit : IsFit plan
 
 -- the settings that bytes spell
-abbrev pub AreSettingsOf : List ℕ → PlanValue → ℕ → Type 0
-AreSettingsOf bytes plan tries = (document : Members) × IsDocument bytes document × AreSettings document plan tries
+abbrev pub AreSettingsOf : List ℕ → PlanValue → Mode → ℕ → Type 0
+AreSettingsOf bytes plan mode tries =
+    (document : Members) × IsDocument bytes document × AreSettings document plan mode tries
 
 -- each value is good by itself, but the generator does not suit the workload and the number of clients
 abbrev pub IsUnsuited : Members → Type 0

@@ -15,8 +15,9 @@ use Rattle.jh_simnode.specs.Plans.{most_ops}
 use Rattle.jh_simnode.specs.declared.settings.Store.{Store}
 use Rattle.jh_simnode.specs.declared.schedule.Entry.{Entry}
 use Rattle.jh_settings.specs.declared.keys.Key.{Key}
+use Rattle.jh_settings.specs.declared.words.Mode.{Mode}
 use Rattle.jh_settings.specs.Keys.{value_under}
-use Rattle.jh_settings.specs.Kinds.{needed, or_default, text_under, word_under, whole_in, IsElement, HoldsElement}
+use Rattle.jh_settings.specs.Kinds.{needed, or_default, word_in, word_under, whole_in, IsElement, HoldsElement}
 
 -- an environment on which no fault is laid
 abbrev pub TellsStart : Members → EnvValue → Type 0
@@ -53,9 +54,16 @@ clients_told document = needed (whole_in 1 16) Key.Clients document
 abbrev pub ops_told : Members → Option ℕ
 ops_told document = option_and_then (λ workload. needed (whole_in 1 (most_ops workload)) Key.Ops document) (workload_told document)
 
--- The mode is serial, and nothing else yet. The default is another mode, so that it has to be there.
-abbrev pub IsSerial : Members → Type 0
-IsSerial document = text_under Key.Mode document ≡ Some (codes "serial")
+-- the mode of this name
+abbrev pub mode_of : List ℕ → Option Mode
+mode_of word =
+    if bytes_eq word (codes "threads") then Some Mode.Threads
+    else if bytes_eq word (codes "serial") then Some Mode.Serial
+    else None
+
+-- how the run goes: on threads by default
+abbrev pub mode_told : Members → Option Mode
+mode_told document = or_default Mode.Threads (word_in mode_of) Key.Mode document
 
 abbrev pub volatile_told : Members → Option Bool
 volatile_told document = or_default false as_bool Key.Volatile document

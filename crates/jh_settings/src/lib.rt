@@ -11,3 +11,4 @@ mod words;
 pub use error::{KeyText, SettingsError};
 pub use keys::Key;
 pub use settings::{RunSettings, settings_of};
+pub use words::Mode;

@@ -17,7 +17,7 @@ use crate::elements::{generator_under, schedule_under, start_under};
 use crate::error::{KeyText, SettingsError};
 use crate::keys::{Key, first_missing, first_unknown};
 use crate::table::{number_or, number_under, truth_or};
-use crate::words::{initial_under, is_serial, most_ops, store_under, workload_under};
+use crate::words::{Mode, initial_under, mode_under, most_ops, store_under, workload_under};
 use jh_env::Env;
 use jh_gen::{Gen, MOST_CLIENTS};
 use jh_ops::Workload;
@@ -35,6 +35,7 @@ const MOST_BUDGET: u64 = 10_000_000;
 #[derive(Debug, Drop)]
 pub struct RunSettings {
     pub plan: Plan,
+    pub mode: Mode,
     /// How many configurations the judge of a register may reach, from 0 to 10,000,000.
     pub budget: u64,
 }
@@ -53,6 +54,7 @@ pub(crate) struct Cluster {
 pub(crate) struct Load {
     clients: u32,
     ops: u32,
+    mode: Mode,
     volatile: bool,
     initial: Option<i64>,
 }
@@ -91,14 +93,13 @@ fn load_of(table: &Table, workload: Workload) -> Result<Load, SettingsError>
 {
     let clients = number_under(table, Key::Clients, 1, u64::from(MOST_CLIENTS))?;
     let ops = number_under(table, Key::Ops, 1, most_ops(workload))?;
-    if !is_serial(table) {
-        return Err(SettingsError::BadValue(Key::Mode));
-    }
+    let mode = mode_under(table)?;
     let volatile = truth_or(table, Key::Volatile, false)?;
     let initial = initial_under(table, workload)?;
     Ok(Load {
         clients: clients as u32,
         ops: ops as u32,
+        mode,
         volatile,
         initial,
     })
@@ -146,7 +147,7 @@ fn settings_with(
     requires { StandsFor cluster.environment [] }
     ensures { MatchResult result
         (λ settings. (settings.plan ≡ plan_with cluster load limits schedule)
-        × (settings.budget ≡ limits.budget) × IsFit settings.plan)
+        × (settings.mode ≡ load.mode) × (settings.budget ≡ limits.budget) × IsFit settings.plan)
         (RefusesWith (plan_with cluster load limits schedule)) }
 {
     let Cluster {
@@ -172,6 +173,7 @@ fn settings_with(
     ) {
         Ok(plan) => Ok(RunSettings {
             plan,
+            mode: load.mode,
             budget: limits.budget,
         }),
         Err(error) => Err(plan_error(error)),
@@ -182,7 +184,7 @@ fn settings_with(
 fn settings_in(alloc: Global, table: &Table) -> Result<RunSettings, SettingsError>
     requires { HasKnownKeys (table_view table.now) }
     ensures { MatchResult result
-        (λ settings. AreSettings (table_view table.now) settings.plan settings.budget)
+        (λ settings. AreSettings (table_view table.now) settings.plan settings.mode settings.budget)
         (RefusesValues (table_view table.now)) }
 {
     let cluster = cluster_of(alloc, table)?;
@@ -224,18 +226,17 @@ fn judge_keys(alloc: Global, table: &Table) -> Result<(), SettingsError>
     }
 }
 
-/// The settings that bytes tell, a TOML document in UTF-8.
+/// The settings that bytes tell, a TOML document in UTF-8. A missing mode means `Mode::Threads`.
 ///
 /// Takes time and memory in proportion to the bytes.
 ///
 /// Errors, in this order: `NotToml`; `Unknown` with the first key, in byte order, that no setting has;
 /// `Missing` with the first needed key that does not stand there; `BadValue` with the first key, in the order
 /// of `Key`, whose value is bad by itself, and then with `Generator` where it does not suit the workload and
-/// the number of clients (`Gen::suits`). Runs on threads do not come yet: the mode has to be `serial`.
-/// `OutOfMemory` where memory was refused before another error was found.
+/// the number of clients (`Gen::suits`); `OutOfMemory` where memory was refused before another error was found.
 pub fn settings_of(alloc: Global, bytes: &[u8]) -> Result<RunSettings, SettingsError>
     ensures { MatchResult result
-        (λ settings. AreSettingsOf bytes.now settings.plan settings.budget)
+        (λ settings. AreSettingsOf bytes.now settings.plan settings.mode settings.budget)
         (RefusesSettings bytes.now) }
 {
     let table = table_of(alloc, bytes)?;

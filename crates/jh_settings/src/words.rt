@@ -1,12 +1,12 @@
 //! Settings whose values are words, numbers and truth values. `specs/Told.antt` says what each tells.
 
-ghost use Rattle.std.specs.Prelude.{◌≡◌, ◌↔◌, IsTrue, MatchResult};
+ghost use Rattle.std.specs.Prelude.{◌≡◌, MatchResult};
 ghost use Rattle.toml.specs.View.{table_view};
 ghost use Rattle.jh_simnode.specs.Plans as plan;
 ghost use Rattle.jh_settings.specs.Inside.{Answers};
 ghost use Rattle.jh_settings.specs.Keys.{value_under};
 ghost use Rattle.jh_settings.specs.Told as rule;
-ghost use Rattle.jh_settings.specs.Told.{IsSerial, initial_of, store_told, workload_told};
+ghost use Rattle.jh_settings.specs.Told.{initial_of, mode_told, store_told, workload_told};
 
 use crate::error::SettingsError;
 use crate::keys::Key;
@@ -14,6 +14,15 @@ use crate::table::{text_under, value_under};
 use jh_ops::Workload;
 use jh_simnode::Store;
 use toml::Table;
+
+/// How a run goes.
+#[derive(Clone, Copy, Debug, PartialEq, Eq)]
+pub enum Mode {
+    /// On threads: client threads and a schedule thread at once.
+    Threads,
+    /// Serially: one event after another.
+    Serial,
+}
 
 fn store_of(word: &str) -> Option<Store>
     ensures { result ≡ rule.store_of word.now }
@@ -74,13 +83,30 @@ pub(crate) fn most_ops(workload: Workload) -> u64
     }
 }
 
-/// Whether the run is a serial one.
-pub(crate) fn is_serial(table: &Table) -> bool
-    ensures { IsTrue result ↔ IsSerial (table_view table.now) }
+/// The mode of this name.
+fn mode_of(word: &str) -> Option<Mode>
+    ensures { result ≡ rule.mode_of word.now }
 {
-    match text_under(table, Key::Mode) {
-        Some(word) => word == "serial",
-        None => false,
+    match word {
+        "threads" => Some(Mode::Threads),
+        "serial" => Some(Mode::Serial),
+        _ => None,
+    }
+}
+
+/// The mode under `mode`, and threads where nothing stands there.
+pub(crate) fn mode_under(table: &Table) -> Result<Mode, SettingsError>
+    ensures { Answers result Key.Mode (mode_told (table_view table.now)) }
+{
+    let Some(value) = value_under(table, Key::Mode) else {
+        return Ok(Mode::Threads);
+    };
+    let Some(word) = value.as_str() else {
+        return Err(SettingsError::BadValue(Key::Mode));
+    };
+    match mode_of(word) {
+        Some(mode) => Ok(mode),
+        None => Err(SettingsError::BadValue(Key::Mode)),
     }
 }
 

@@ -70,12 +70,12 @@ fn refusal(alloc: Global, error: &SettingsError) -> Option<Vec<u8>> {
 
 fn settings_text(alloc: Global, settings: &RunSettings) -> Option<Vec<u8>> {
     let mut text = Vec::new(alloc);
-    write!(&mut text, "{}; ", settings.budget).ok()?;
+    write!(&mut text, "{} {:?}; ", settings.budget, settings.mode).ok()?;
     put_plan(&mut text, &settings.plan)?;
     Some(text)
 }
 
-/// The budget and the parts of the plan that a document tells, as `plans` writes them.
+/// The budget, the mode and the parts of the plan that a document tells, as `plans` writes them.
 pub(crate) fn told_once(alloc: Global, document: &str) -> Option<Vec<u8>> {
     match settings_of(alloc, document.as_bytes()) {
         Ok(settings) => settings_text(alloc, &settings),

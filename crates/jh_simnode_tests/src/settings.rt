@@ -4,8 +4,8 @@ use crate::documents::answer_once;
 use crate::rows::{Kind, first_wrong};
 use std::alloc::{AllocError, Global};
 
-// A run in which two nodes are killed and lose what they knew; and settings with nothing that has a default, of another
-// workload.
+// A run in which two nodes are killed and lose what they knew; settings with nothing that has a default, of another
+// workload; and those of a set on threads, which say so.
 const DOCUMENTS: &str = r#"
 start = '{:nodes ["n1" "n2" "n3"]}'
 store = "quorum"
@@ -22,15 +22,22 @@ schedule = [
   '[1 [:withdraw 2]]',
   '[1 [:withdraw 1]]',
 ]
-→ 100000; 3 nodes Quorum true Register Some(0); 1 2 0 4096 0; Seq(Gens { items: [Once(Client(Write(5))), Once(Client(Read))] }); 0 begin 1, 1 begin 2, 1 withdraw 2, 1 withdraw 1,
+→ 100000 Serial; 3 nodes Quorum true Register Some(0); 1 2 0 4096 0; Seq(Gens { items: [Once(Client(Write(5))), Once(Client(Read))] }); 0 begin 1, 1 begin 2, 1 withdraw 2, 1 withdraw 1,
 § start = '{:nodes ["n1"]}'
 store = "local"
 workload = "unique-ids"
 generator = '[:forever :generate]'
 clients = 16
 ops = 10_000
-mode = "serial"
-→ 100000; 1 nodes Local false Ids None; 16 10000 0 4096 0; Forever(Client(Generate));"#;
+→ 100000 Threads; 1 nodes Local false Ids None; 16 10000 0 4096 0; Forever(Client(Generate));
+§ start = '{:nodes ["n1"]}'
+store = "lww"
+workload = "set"
+generator = '[:forever :read]'
+clients = 2
+ops = 1_000
+mode = "threads"
+→ 100000 Threads; 1 nodes Lww false Set None; 2 1000 0 4096 0; Forever(Client(Read));"#;
 
 #[test]
 fn documents_tell_settings(rt: HostRuntime) {
@@ -139,10 +146,19 @@ ops = 1001
 § workload = "set"
 ops = 1000
 → ok
-§ !mode → mode: bad value
-§ mode = "threads" → mode: bad value
+§ workload = "set"
+mode = "threads"
+→ ok
+§ !mode → ok
+§ mode = "threads" → ok
+§ mode = "serial" → ok
 § mode = 1 → mode: bad value
-§ mode = "threads"
+§ mode = "both" → mode: bad value
+§ mode = "Threads" → mode: bad value
+§ ops = 0
+mode = "both"
+→ ops: bad value
+§ mode = "both"
 volatile = 1
 → mode: bad value
 § volatile = 1 → volatile: bad value

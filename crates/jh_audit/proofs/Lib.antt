@@ -1,0 +1,4 @@
+pub mod ChoiceLemmas
+pub mod FormLemmas
+pub mod ToldLemmas
+pub mod AuditLemmas

@@ -1,0 +1,271 @@
+//! What the threads of a run share beside the world and the log, under one lock: the generator's driver, the number of
+//! answered client calls, and what went wrong. A thread that has nothing to do sleeps until it has changed.
+
+ghost use Rattle.std.specs.Prelude.{◌≡◌, ◌↔◌, IsTrue, IsSome, MatchOption, Some, None, false, true};
+ghost use Rattle.jh_workers.specs.declared.desk.Turn.TheVariants.{Stop};
+
+use jh_gen::{Driver, Ended, GenAnswer, Thread};
+use jh_ops::{Call, Process, Request};
+use jh_simnode::WorldError;
+use rand_core::utils::NextWord;
+use rand_pcg::Lcg128Xsl64;
+use std::alloc::AllocError;
+use std::sync::{Condvar, Mutex, Wait};
+use thiserror::Error;
+
+/// Why a run gave no outcome.
+#[derive(Clone, Copy, Debug, PartialEq, Eq, Error)]
+pub enum RunError {
+    /// The log has too few rows for the records.
+    #[error("history full")]
+    HistoryFull,
+    /// The port refused a call, a step or a tick.
+    #[error("{0}")]
+    World(WorldError),
+    /// The port's journal was not empty at the start, or journal, history, shares and plan do not agree.
+    #[error("mismatch")]
+    Mismatch,
+    /// A thread, a seat or a share could not be had.
+    #[error("thread failed")]
+    Thread,
+    #[error("out of memory")]
+    OutOfMemory,
+}
+
+impl From<AllocError> for RunError {
+    ghost use Rattle.std.specs.Prelude.{◌≡◌};
+    ghost use Rattle.jh_workers.specs.declared.desk.RunError.TheVariants.{OutOfMemory};
+
+    ghost from_gives = { λ _ e. e ≡ OutOfMemory };
+
+    fn from(_error: AllocError) -> RunError {
+        RunError::OutOfMemory
+    }
+}
+
+impl From<WorldError> for RunError {
+    ghost use Rattle.std.specs.Prelude.{◌≡◌};
+    ghost use Rattle.jh_workers.specs.declared.desk.RunError.TheVariants.{World};
+
+    ghost from_gives = { λ error e. e ≡ World error };
+
+    fn from(error: WorldError) -> RunError {
+        RunError::World(error)
+    }
+}
+
+/// What a client thread does next.
+#[derive(Clone, Copy, Debug)]
+pub(crate) enum Turn {
+    /// It ends: there is nothing more for any thread, or the run is stopped.
+    Stop,
+    /// It asks again once something has changed.
+    Wait,
+    /// It makes this request as this process.
+    Call(u64, Request),
+}
+
+/// The driver, how many client calls were answered, whether all threads are there, and the first error.
+#[derive(Drop)]
+struct Desk {
+    driver: Driver,
+    clients: u32,
+    answered: u32,
+    open: bool,
+    error: Option<RunError>,
+}
+
+impl Desk {
+    /// A desk that is not open yet.
+    fn new(driver: Driver, clients: u32) -> Self
+        ensures { (result.error ≡ None) × (result.open ≡ false) × (result.answered ≡ 0) }
+    {
+        Desk {
+            driver,
+            clients,
+            answered: 0,
+            open: false,
+            error: None,
+        }
+    }
+
+    /// All threads are there, and the work begins.
+    fn open(&mut self)
+        ensures open { self.new.open ≡ true }
+        ensures others { (self.new.error ≡ self.old.error) × (self.new.answered ≡ self.old.answered)
+            × (self.new.driver ≡ self.old.driver) × (self.new.clients ≡ self.old.clients) }
+    {
+        self.open = true;
+    }
+
+    /// The run ends with an error. The first one stays.
+    fn stop(&mut self, error: RunError)
+        ensures first { MatchOption self.old.error (self.new.error ≡ Some error) (λ first. self.new.error ≡ Some first) }
+        ensures others { (self.new.open ≡ self.old.open) × (self.new.answered ≡ self.old.answered)
+            × (self.new.driver ≡ self.old.driver) × (self.new.clients ≡ self.old.clients) }
+    {
+        if self.error.is_none() {
+            self.error = Some(error);
+        }
+    }
+
+    fn is_stopped(&self) -> bool
+        ensures { IsTrue result ↔ IsSome self.now.error }
+    {
+        self.error.is_some()
+    }
+
+    /// The first error, once the threads have ended.
+    fn into_error(self) -> Option<RunError>
+        ensures { result ≡ self.error }
+    {
+        self.error
+    }
+
+    /// What a client thread does next, by a random number.
+    fn ask(&mut self, thread: u32, number: u64) -> Turn
+        ensures stopped { IsSome self.old.error → result ≡ Stop }
+        ensures error { self.new.error ≡ self.old.error }
+        ensures answered { self.new.answered ≡ self.old.answered }
+    {
+        if self.is_stopped() {
+            return Turn::Stop;
+        }
+        if !self.open {
+            return Turn::Wait;
+        }
+        match self.driver.ask(Thread::Client(thread), number) {
+            Ok(GenAnswer::Call(Process::Client(process), Call::Client(request))) => {
+                Turn::Call(process, request)
+            }
+            Ok(GenAnswer::Pending) => Turn::Wait,
+            Ok(GenAnswer::Call(_, _)) | Ok(GenAnswer::Done) | Err(_) => Turn::Stop,
+        }
+    }
+
+    /// One more client call was answered.
+    fn count_answer(&mut self)
+        ensures error { self.new.error ≡ self.old.error }
+    {
+        self.answered = self.answered.saturating_add(1);
+    }
+
+    /// The call of a client thread was recorded.
+    fn complete(&mut self, thread: u32, ended: Ended)
+        ensures error { self.new.error ≡ self.old.error }
+        ensures answered { self.new.answered ≡ self.old.answered }
+    {
+        // A thread completes only what it was given, so this is never refused.
+        let _ = self.driver.complete(Thread::Client(thread), ended);
+    }
+
+    /// Whether an entry of the schedule is due: enough calls were answered, or the clients have ended.
+    fn is_due(&mut self, at: u32) -> bool
+        ensures { self.new.error ≡ self.old.error }
+    {
+        self.open && (at <= self.answered || self.have_clients_ended())
+    }
+
+    /// Whether the driver has nothing more for any thread, and none has an operation outstanding.
+    fn have_clients_ended(&mut self) -> bool
+        ensures { self.new.error ≡ self.old.error }
+    {
+        if !self.is_done(Thread::Nemesis) {
+            return false;
+        }
+        for thread in 0..self.clients {
+            if !self.is_done(Thread::Client(thread)) {
+                return false;
+            }
+        }
+        true
+    }
+
+    fn is_done(&mut self, thread: Thread) -> bool
+        ensures error { self.new.error ≡ self.old.error }
+        ensures clients { self.new.clients ≡ self.old.clients }
+    {
+        matches!(self.driver.ask(thread, 0), Ok(GenAnswer::Done))
+    }
+}
+
+/// The desk under its lock, and the sleep of those who wait for a change of it.
+#[derive(Drop)]
+pub(crate) struct Office {
+    desk: Mutex<Desk>,
+    changed: Condvar,
+}
+
+impl Office {
+    /// An office that is not open yet.
+    pub(crate) fn new(driver: Driver, clients: u32) -> Self {
+        Office {
+            desk: Mutex::new(Desk::new(driver, clients)),
+            changed: Condvar::new(),
+        }
+    }
+
+    /// All threads are there, and the work begins.
+    pub(crate) fn open(&self, rt: &impl Wait) {
+        self.desk.lock(rt).open();
+        self.changed.notify_all();
+    }
+
+    /// Ends the run with an error, unless another one came first.
+    pub(crate) fn stop(&self, rt: &impl Wait, error: RunError) {
+        self.desk.lock(rt).stop(error);
+        self.changed.notify_all();
+    }
+
+    /// The first error, once the threads have ended.
+    pub(crate) fn into_error(self) -> Option<RunError> {
+        let Office { desk, changed: _ } = self;
+        desk.into_inner().into_error()
+    }
+
+    /// One more client call was answered.
+    pub(crate) fn count_answer(&self, rt: &impl Wait) {
+        self.desk.lock(rt).count_answer();
+        self.changed.notify_all();
+    }
+
+    /// The call of a client thread was recorded.
+    pub(crate) fn complete(&self, rt: &impl Wait, thread: u32, ended: Ended) {
+        self.desk.lock(rt).complete(thread, ended);
+        self.changed.notify_all();
+    }
+
+    /// The next turn of a client thread. While there is nothing for it, it sleeps until the desk has changed, and asks
+    /// again with another random number.
+    pub(crate) fn next_turn<R: Wait>(
+        &self,
+        rt: &R,
+        thread: u32,
+        numbers: &mut Lcg128Xsl64,
+    ) -> Turn {
+        let mut desk = self.desk.lock(rt);
+        for _ in rt.forever() {
+            let turn = desk.ask(thread, numbers.next_word());
+            if !matches!(turn, Turn::Wait) {
+                return turn;
+            }
+            desk = self.changed.wait(rt, desk);
+        }
+        Turn::Stop
+    }
+
+    /// Sleeps until an entry of the schedule is due, and says whether it is still wanted.
+    pub(crate) fn wait_until_due<R: Wait>(&self, rt: &R, at: u32) -> bool {
+        let mut desk = self.desk.lock(rt);
+        for _ in rt.forever() {
+            if desk.is_stopped() {
+                return false;
+            }
+            if desk.is_due(at) {
+                return true;
+            }
+            desk = self.changed.wait(rt, desk);
+        }
+        false
+    }
+}

@@ -1,0 +1,21 @@
+//! Runs on threads: client threads and one thread of the schedule over one locked world, their records in one log, and an
+//! outcome that is given only where the audit accepts it.
+//!
+//! Nothing that changes is shared but the world under its lock, the log, and the desk under a second lock, which has the
+//! generator's driver. So all that an outcome promises is checked once the threads have ended, and rests on no schedule of
+//! theirs.
+#![tactic(auto)]
+
+mod desk;
+mod locked;
+mod passes;
+mod ports;
+mod records;
+mod runs;
+mod workers;
+
+pub use jh_audit::{AuditFault, audit, follows_plan};
+pub use locked::{LockedWorld, WorldShare};
+pub use ports::{Port, Tally};
+pub use records::{GatherError, gather};
+pub use runs::{Outcome, RunError, run};

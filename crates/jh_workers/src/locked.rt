@@ -1,0 +1,247 @@
+//! A world behind a lock, whose journal is counted by the shares of those that call it.
+
+ghost use Rattle.std.specs.Prelude.{◌≡◌, ℕ, ◌+◌, ◌<◌, [], List, length, IfOk, IfErr, IfSome, OnOk, OnErr, MatchResult, ⊤};
+ghost use Rattle.jh_nemesis.specs.Steps.{FitsNodes};
+ghost use Rattle.jh_simnode.specs.Events.{Adds, Refuses, IsLegal};
+ghost use Rattle.jh_simnode.specs.declared.events.Event.TheVariants as Event;
+ghost use Rattle.jh_workers.specs.Shown.{IsJournal};
+
+use crate::ports::{Port, Tally};
+use jh_env::Node;
+use jh_nemesis::{Step, StepAnswer};
+use jh_ops::Request;
+use jh_simnode::{Event, MOST_EVENTS, Reply, World, WorldError};
+use std::alloc::{AllocError, Global};
+use std::sync::ledger::{Blank, Book, Ledger, Share};
+use std::sync::{Mutex, Wait};
+
+/// The parts of a world's ledger, one for each share.
+const PARTS: u64 = 32;
+
+/// How many calls of a locked world were accepted from one thread. All shares together count the journal.
+#[derive(Drop)]
+pub struct WorldShare<L: Ledger> {
+    count: u64,
+    token: Share<L>,
+    ghost tied: { token.amount ≡ count },
+    ghost backed: { 0 < token.parts },
+}
+
+impl<L: Ledger> Tally for WorldShare<L> {
+    ghost total = { λ share. share.count };
+
+    fn count(&self) -> u64 {
+        self.count
+    }
+}
+
+/// A world with the book of all shares, whose total is the length of the journal.
+#[derive(Drop)]
+struct Counted<L: Ledger> {
+    world: World,
+    book: Book<L>,
+    rest: Share<L>,
+    left: u64,
+    ghost counted: { length world.journal ≡ book.total },
+    ghost parts: { rest.parts ≡ left },
+    ghost empty: { rest.amount ≡ 0 },
+}
+
+impl<L: Ledger> Counted<L> {
+    /// A share of count 0, unless none is left.
+    fn share(&mut self) -> Option<WorldShare<L>>
+        ensures world { self.new.world ≡ self.old.world }
+        ensures fresh { IfSome result (λ mine. mine.count ≡ 0) }
+        ensures left { IfSome result (λ mine. self.new.left + 1 ≡ self.old.left) }
+        ensures none { result ≡ None → self.old.left ≡ 0 }
+    {
+        if self.left == 0 {
+            return None;
+        }
+        let token = self.rest.split_off(1, 0);
+        self.left -= 1;
+        Some(WorldShare { count: 0, token })
+    }
+
+    fn call(
+        &mut self,
+        mine: &mut WorldShare<L>,
+        process: u64,
+        node: Node,
+        request: Request,
+        draw: u64,
+    ) -> Result<(u64, Reply), WorldError>
+        ensures added { MatchResult result
+            (λ told. Adds self.old.world (Event.Call process node request draw told.1) told.0 self.new.world)
+            (λ e. (self.new.world ≡ self.old.world) × Refuses (node < length self.old.world.setup.names) self.old.world.journal e) }
+        ensures accepted { OnOk result (mine.new.count ≡ mine.old.count + 1) }
+        ensures refused { OnErr result (mine.new.count ≡ mine.old.count) }
+        ensures numbered { IfOk result (λ told. told.0 < MOST_EVENTS) }
+    {
+        let Counted {
+            world,
+            book,
+            rest: _,
+            left: _,
+        } = self;
+        let WorldShare { count, token } = mine;
+        // The book bounds the share, and the journal the book.
+        let _events = world.journal();
+        book.audit(token);
+        let told = world.call(process, node, request, draw)?;
+        book.add(token, 1);
+        *count += 1;
+        let _events = world.journal();
+        Ok(told)
+    }
+
+    fn step(
+        &mut self,
+        mine: &mut WorldShare<L>,
+        step: Step,
+    ) -> Result<(u64, StepAnswer), WorldError>
+        ensures added { MatchResult result
+            (λ told. Adds self.old.world (Event.Step step told.1) told.0 self.new.world)
+            (λ e. (self.new.world ≡ self.old.world)
+            × Refuses (FitsNodes (length self.old.world.setup.names) step) self.old.world.journal e) }
+        ensures accepted { OnOk result (mine.new.count ≡ mine.old.count + 1) }
+        ensures refused { OnErr result (mine.new.count ≡ mine.old.count) }
+        ensures numbered { IfOk result (λ told. told.0 < MOST_EVENTS) }
+    {
+        let Counted {
+            world,
+            book,
+            rest: _,
+            left: _,
+        } = self;
+        let WorldShare { count, token } = mine;
+        let _events = world.journal();
+        book.audit(token);
+        let told = world.step(step)?;
+        book.add(token, 1);
+        *count += 1;
+        let _events = world.journal();
+        Ok(told)
+    }
+
+    fn tick(&mut self, mine: &mut WorldShare<L>) -> Result<u64, WorldError>
+        ensures added { MatchResult result
+            (λ told. Adds self.old.world Event.Tick told self.new.world)
+            (λ e. (self.new.world ≡ self.old.world) × Refuses ⊤ self.old.world.journal e) }
+        ensures accepted { OnOk result (mine.new.count ≡ mine.old.count + 1) }
+        ensures refused { OnErr result (mine.new.count ≡ mine.old.count) }
+    {
+        let Counted {
+            world,
+            book,
+            rest: _,
+            left: _,
+        } = self;
+        let WorldShare { count, token } = mine;
+        let _events = world.journal();
+        book.audit(token);
+        let told = world.tick()?;
+        book.add(token, 1);
+        *count += 1;
+        Ok(told)
+    }
+
+    /// A law on a call that is never made: who has all parts of the ledger has counted the whole journal.
+    fn settle(&mut self, all: &mut Share<L>)
+        requires { all.old.parts ≡ L.parts }
+        ensures { length self.new.world.journal ≡ all.new.amount }
+    {
+        let Counted {
+            world: _,
+            book,
+            rest: _,
+            left: _,
+        } = self;
+        book.audit(all);
+    }
+
+    fn events(&self, alloc: Global) -> Result<Vec<Event>, AllocError>
+        ensures copy { IfOk result (λ journal. journal.items ≡ self.now.world.journal) }
+        ensures legal { IfOk result (λ journal. IsJournal journal.items) }
+    {
+        copy_of(alloc, self.world.journal())
+    }
+}
+
+fn copy_of(alloc: Global, events: &[Event]) -> Result<Vec<Event>, AllocError>
+    ensures { IfOk result (λ copy. copy.items ≡ events.now) }
+{
+    let mut copy = Vec::new(alloc);
+    for event in events {
+        copy.push(event.copy(alloc)?)?;
+    }
+    Ok(copy)
+}
+
+/// A world behind a lock. Whenever the lock is free, the world's journal is legal for its settings, and as long as all
+/// shares together have counted.
+#[derive(Drop)]
+pub struct LockedWorld<L: Ledger> {
+    inside: Mutex<Counted<L>>,
+}
+
+impl<L: Ledger> LockedWorld<L> {
+    /// The world behind a lock. Nothing has happened in it, and the blank has 32 parts, so there are as many shares.
+    pub fn new(world: World, blank: Blank) -> Self
+        requires empty { world.journal ≡ [] }
+        requires name { blank.name ≡ L.name }
+        requires parts { blank.parts ≡ L.parts }
+        requires number { blank.parts ≡ 32 }
+    {
+        let (book, rest) = blank.open::<L>();
+        LockedWorld {
+            inside: Mutex::new(Counted {
+                world,
+                book,
+                rest,
+                left: PARTS,
+            }),
+        }
+    }
+}
+
+impl<L: Ledger> Port for LockedWorld<L> {
+    type Share = WorldShare<L>;
+
+    ghost shows = { λ _ journal. IsJournal journal };
+
+    fn share<R: Wait>(&self, rt: &R) -> Option<WorldShare<L>> {
+        self.inside.lock(rt).share()
+    }
+
+    fn call<R: Wait>(
+        &self,
+        rt: &R,
+        mine: &mut WorldShare<L>,
+        process: u64,
+        node: Node,
+        request: Request,
+        draw: u64,
+    ) -> Result<(u64, Reply), WorldError> {
+        self.inside
+            .lock(rt)
+            .call(mine, process, node, request, draw)
+    }
+
+    fn step<R: Wait>(
+        &self,
+        rt: &R,
+        mine: &mut WorldShare<L>,
+        step: Step,
+    ) -> Result<(u64, StepAnswer), WorldError> {
+        self.inside.lock(rt).step(mine, step)
+    }
+
+    fn tick<R: Wait>(&self, rt: &R, mine: &mut WorldShare<L>) -> Result<u64, WorldError> {
+        self.inside.lock(rt).tick(mine)
+    }
+
+    fn events<R: Wait>(&self, rt: &R, alloc: Global) -> Result<Vec<Event>, AllocError> {
+        self.inside.lock(rt).events(alloc)
+    }
+}

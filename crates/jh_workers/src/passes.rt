@@ -1,0 +1,148 @@
+//! The seats of a run's log, each known to be of that log. `specs/Records.antt` says what a seat has seen once it published a
+//! record.
+
+ghost use Rattle.std.specs.Prelude.{◌≡◌, ◌*◌, ◌≤◌, All, IfOk, IfErr, OnOk, length};
+ghost use Rattle.jh_slots.specs.Seats.{Holds};
+ghost use Rattle.jh_ops.specs.Operation.{operation, operations};
+ghost use Rattle.jh_ops.specs.OperationWritten.{IsWritable};
+ghost use Rattle.jh_workers.specs.Gather.{IsGathered};
+ghost use Rattle.jh_workers.specs.Records.{HoldsWords, Publishes, PublishesWords};
+ghost use Rattle.atomic_table.specs.Seated.{TableId};
+
+use crate::records::{GatherError, MAX_WORDS, gather};
+use jh_ops::{Op, WordsError, to_words};
+use jh_slots::{Claim, Full, ROW_WORDS, Seat, Slots};
+use std::alloc::Global;
+use std::marker::{Brand, PhantomData};
+
+/// Which log a run writes into. Each run picks its own.
+pub trait Bench {
+    /// The table of the log.
+    ghost table: { TableId };
+}
+
+impl Bench for Brand {
+    ghost use Rattle.jh_workers.specs.TablesInside.{no_table};
+
+    ghost table = { no_table };
+}
+
+/// A seat of the run's log.
+#[derive(Drop)]
+pub struct Pass<B: Bench> {
+    seat: Seat,
+    of: PhantomData<B>,
+    ghost own: { seat.table ≡ B.table },
+}
+
+impl<B: Bench> Pass<B> {
+    /// A pass of this seat.
+    pub fn new(seat: Seat) -> Self
+        requires { seat.table ≡ B.table }
+        ensures { result.seat ≡ seat }
+    {
+        Pass {
+            seat,
+            of: PhantomData,
+        }
+    }
+
+    /// Two passes of one, or `None` where the seat is not split.
+    pub fn split(self, slots: &Slots) -> Option<(Pass<B>, Pass<B>)>
+        requires { slots.now.table ≡ B.table }
+    {
+        let Pass { seat, of: _ } = self;
+        let (one, other) = slots.split(seat).ok()?;
+        Some((Pass::new(one), Pass::new(other)))
+    }
+
+    /// One pass that has seen what either had.
+    pub fn join(self, slots: &Slots, other: Pass<B>) -> Pass<B>
+        requires { slots.now.table ≡ B.table }
+    {
+        let Pass { seat, of: _ } = self;
+        let Pass {
+            seat: second,
+            of: _,
+        } = other;
+        Pass::new(slots.join(seat, second))
+    }
+
+    /// Claims rows for a record that is made later.
+    ///
+    /// Error: fewer rows are left.
+    pub fn claim(&mut self, slots: &Slots, rows: u32) -> Result<Claim, Full>
+        requires table { slots.now.table ≡ B.table }
+        requires rows { (1 ≤ rows) × (rows ≤ 255) }
+        ensures held { IfOk result (λ claim. HoldsWords self.new.seat.knows claim.first claim.rows × (claim.rows ≡ rows)) }
+        ensures seen { self.new.seat.knows.seen ≡ self.old.seat.knows.seen }
+    {
+        let claim = slots.claim(&mut self.seat, rows)?;
+        Ok(claim)
+    }
+
+    /// Publishes an operation in claimed rows, or voids them where they can't have it.
+    ///
+    /// Errors: `NotRecordable`; `TooSmall` where its words are more than those of the rows.
+    pub fn publish(
+        &mut self,
+        slots: &Slots,
+        claim: Claim,
+        rows: u32,
+        op: &Op,
+    ) -> Result<(), WordsError>
+        requires table { slots.now.table ≡ B.table }
+        requires holds { HoldsWords self.old.seat.knows claim.first claim.rows × (claim.rows ≡ rows) }
+        requires rows { rows ≤ 255 }
+        ensures { OnOk result (Publishes self.old.seat.knows.seen (operation op.now) self.new.seat.knows.seen) }
+    {
+        let mut words = [0; MAX_WORDS];
+        let room = ROW_WORDS * rows as usize;
+        match to_words(op, &mut words[..room]) {
+            Ok(len) => {
+                self.publish_words(slots, claim, &words[..len]);
+                Ok(())
+            }
+            Err(error) => {
+                self.void(slots, claim);
+                Err(error)
+            }
+        }
+    }
+
+    /// Writes words into claimed rows and publishes them.
+    fn publish_words(&mut self, slots: &Slots, claim: Claim, words: &[u64])
+        requires table { slots.now.table ≡ B.table }
+        requires holds { HoldsWords self.old.seat.knows claim.first claim.rows }
+        requires fits { (1 ≤ length words.now) × (length words.now ≤ 5 * claim.rows) }
+        ensures { PublishesWords self.old.seat.knows.seen words.now self.new.seat.knows.seen }
+    {
+        let mut claim = claim;
+        for place in 0..words.len() {
+            slots.write(&mut self.seat, &mut claim, place, words[place]);
+        }
+        slots.publish(&mut self.seat, claim, words.len());
+    }
+
+    /// Leaves claimed rows with no record.
+    pub fn void(&mut self, slots: &Slots, claim: Claim)
+        requires table { slots.now.table ≡ B.table }
+        requires holds { Holds self.old.seat.knows claim.first claim.rows }
+    {
+        slots.void(&mut self.seat, claim);
+    }
+
+    /// The history that the pass has then seen in the rows (`gather`).
+    pub fn gather(
+        &mut self,
+        alloc: Global,
+        slots: &Slots,
+        rows: usize,
+    ) -> Result<Vec<Op>, GatherError>
+        requires { slots.now.table ≡ B.table }
+        ensures gathered { IfOk result (λ history. IsGathered self.new.seat.knows.seen rows (operations history.items)) }
+        ensures writable { IfOk result (λ history. All (λ op. IsWritable op.process) (operations history.items)) }
+    {
+        gather(alloc, slots, &mut self.seat, rows)
+    }
+}
