@@ -18,6 +18,8 @@ use jh_cli::{CliError, check_run, env_run, run_run};
 use jh_ops::Workload;
 use std::alloc::Global;
 use std::io::{Read, Write};
+use std::sync::Wait;
+use std::thread::Threads;
 
 /// What `check` is asked of a history.
 #[derive(Clone, Copy, Debug, PartialEq, Eq)]
@@ -82,7 +84,9 @@ fn workload_of(name: &str) -> Option<Workload>
 /// Does what a command does, and gives its exit status: 0 where its work is done and nothing was found, 1 and 2 where the
 /// history that it judges is not valid, or where that is not known. The error has the status otherwise: 3 for an input that
 /// is refused, 4 for a fault of the machine or a run that was not completed. Nothing is written before any error but `Write`.
-pub fn run<R: Read, W: Write>(
+/// A run on threads may wait; all else returns if each call of the reader and the writer does.
+pub fn run<T: Threads + Wait + Sync, R: Read, W: Write>(
+    rt: &T,
     alloc: Global,
     command: Command,
     reader: &mut R,
@@ -107,6 +111,6 @@ pub fn run<R: Read, W: Write>(
                 budget,
             },
         ) => check_run(alloc, reader, writer, workload, initial, budget),
-        Command::Run => run_run(alloc, reader, writer),
+        Command::Run => run_run(rt, alloc, reader, writer),
     }
 }

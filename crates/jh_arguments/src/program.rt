@@ -29,7 +29,13 @@ fn done(rt: &HostRuntime, matches: &ArgMatches<'_>) -> u8 {
     let Some(command) = command_of(matches) else {
         return REFUSED;
     };
-    match run(rt.alloc(), command, &mut rt.reader(), &mut io::writer(rt)) {
+    match run(
+        rt,
+        rt.alloc(),
+        command,
+        &mut rt.reader(),
+        &mut io::writer(rt),
+    ) {
         Ok(status) => status,
         Err(error) => failed(rt, error),
     }

@@ -1,5 +1,14 @@
 -- Why a run is refused or not completed, from why a part of it is.
-use Rattle.std.proofs.Common.{ℕ, List, [], ◌∷◌, All, arith, refl}
+use Rattle.std.proofs.Common.{◌≡◌, ℕ, List, [], ◌∷◌, All, arith, refl, sym, subst, inl, inr}
+use Rattle.std.specs.Prelude.{◌⊎◌}
+use Rattle.jh_check.specs.declared.error.CheckError.{CheckError}
+use Rattle.jh_edn.specs.declared.error.EdnError.TheVariants as EdnError
+use Rattle.jh_ops.specs.declared.call.Workload.{Workload}
+use Rattle.jh_settings.specs.declared.words.Mode.{Mode}
+use Rattle.jh_simnode.specs.Runs.{Serial}
+use Rattle.jh_simnode.specs.declared.events.Event.{Event}
+use Rattle.jh_simnode.specs.declared.events.WorldError.TheVariants as WorldError
+use Rattle.jh_workers.specs.declared.desk.RunError.TheVariants as ThreadsError
 use Rattle.std.proofs.lemmas.List.Elements.{All-cons, All-head, All-tail}
 use Rattle.jh_ops.specs.Operation.{Operation, operation, operations}
 use Rattle.jh_ops.specs.OperationWritten.{IsWritable}
@@ -8,10 +17,12 @@ use Rattle.jh_simnode.specs.Plans.{PlanValue}
 use Rattle.jh_settings.specs.Settings as settings
 use Rattle.jh_settings.specs.Settings.{AreSettingsOf}
 use Rattle.jh_settings.specs.declared.error.SettingsError.TheVariants as SettingsError
-use Rattle.jh_cli.specs.RunRefusals.{RefusesBytes, RefusesRun, RefusesSettings}
-use Rattle.jh_cli.specs.Status.{settings_fault}
+use Rattle.jh_cli.specs.CheckRefusals.{RefusedBy, RefusesHistory}
+use Rattle.jh_cli.specs.RunInside.{own_error}
+use Rattle.jh_cli.specs.RunRefusals.{RefusesBytes, RefusesOwn, RefusesRun, RefusesSerial, RefusesSettings, RefusesThreads}
+use Rattle.jh_cli.specs.Status.{settings_fault, threads_fault, world_fault}
 use Rattle.jh_cli.specs.declared.error.CliError.{CliError}
-use Rattle.jh_cli.specs.declared.error.CliError.TheVariants.{Input, EnvironmentMissing, Environment, Element, History, Check, Settings, Run, OnlyForRegister, Read, Write, OutOfMemory}
+use Rattle.jh_cli.specs.declared.error.CliError.TheVariants.{Input, EnvironmentMissing, Environment, Element, History, Check, Settings, Run, HistoryFull, Mismatch, Thread, OnlyForRegister, Read, Write, OutOfMemory}
 
 -- what holds of all operations that contracts see, holds of all that a program holds
 pub all_writable : (ops : List Op) → All (λ op. IsWritable op.process) (operations ops) → All (λ (op : Op). IsWritable op.process) ops
@@ -30,23 +41,37 @@ settings_refused input (SettingsError.BadValue key) h = (refl, h)
 settings_refused input SettingsError.OutOfMemory h = tt
 
 -- the run of a plan that they tell
-pub run_refused : (input : List ℕ) (p : PlanValue) (budget : ℕ) (e : CliError) → AreSettingsOf input p budget → RefusesSettings p e → RefusesBytes input e
-run_refused input p budget (Input fault) told h = (p, budget, told, h)
-run_refused input p budget EnvironmentMissing told h = (p, budget, told, h)
-run_refused input p budget (Environment fault) told h = (p, budget, told, h)
-run_refused input p budget (Element place fault) told h = (p, budget, told, h)
-run_refused input p budget (History fault) told h = (p, budget, told, h)
-run_refused input p budget (Check fault) told h = (p, budget, told, h)
-run_refused input p budget (Settings fault) told h = absurd h
-run_refused input p budget (Run fault) told h = (p, budget, told, h)
-run_refused input p budget OnlyForRegister told h = (p, budget, told, h)
-run_refused input p budget Read told h = (p, budget, told, h)
-run_refused input p budget Write told h = (p, budget, told, h)
-run_refused input p budget OutOfMemory told h = tt
+pub run_refused : (input : List ℕ) (p : PlanValue) (mode : Mode) (budget : ℕ) (e : CliError) → AreSettingsOf input p mode budget
+    → RefusesSettings p mode e → RefusesBytes input e
+run_refused input p mode budget (Input fault) told h = (p, mode, budget, told, h)
+run_refused input p mode budget EnvironmentMissing told h = (p, mode, budget, told, h)
+run_refused input p mode budget (Environment fault) told h = (p, mode, budget, told, h)
+run_refused input p mode budget (Element place fault) told h = (p, mode, budget, told, h)
+run_refused input p mode budget (History fault) told h = (p, mode, budget, told, h)
+run_refused input p mode budget (Check fault) told h = (p, mode, budget, told, h)
+run_refused input p Mode.Serial budget (Settings fault) told h = absurd h
+run_refused input p Mode.Threads budget (Settings fault) told h = absurd h
+run_refused input p mode budget (Run fault) told h = (p, mode, budget, told, h)
+run_refused input p mode budget HistoryFull told h = (p, mode, budget, told, h)
+run_refused input p mode budget Mismatch told h = (p, mode, budget, told, h)
+run_refused input p mode budget Thread told h = (p, mode, budget, told, h)
+run_refused input p mode budget OnlyForRegister told h = (p, mode, budget, told, h)
+run_refused input p mode budget Read told h = (p, mode, budget, told, h)
+run_refused input p mode budget Write told h = (p, mode, budget, told, h)
+run_refused input p mode budget OutOfMemory told h = tt
+
+-- a run is refused neither for its text nor for a failed write
+no_input : (p : PlanValue) (mode : Mode) (fault : EdnError.the_data) → RefusesSettings p mode (Input fault) → ⊥
+no_input p Mode.Serial fault h = h
+no_input p Mode.Threads fault h = h
+
+no_write : (p : PlanValue) (mode : Mode) → RefusesSettings p mode Write → ⊥
+no_write p Mode.Serial h = h
+no_write p Mode.Threads h = h
 
 -- and of an input of these bytes
 pub bytes_refused : (input : List ℕ) (e : CliError) → RefusesBytes input e → RefusesRun input e
-bytes_refused input (Input fault) h = absurd h.3
+bytes_refused input (Input fault) h = absurd (no_input h.0 h.1 fault h.4)
 bytes_refused input EnvironmentMissing h = h
 bytes_refused input (Environment fault) h = h
 bytes_refused input (Element place fault) h = h
@@ -54,7 +79,96 @@ bytes_refused input (History fault) h = h
 bytes_refused input (Check fault) h = h
 bytes_refused input (Settings fault) h = h
 bytes_refused input (Run fault) h = h
+bytes_refused input HistoryFull h = h
+bytes_refused input Mismatch h = h
+bytes_refused input Thread h = h
 bytes_refused input OnlyForRegister h = h
 bytes_refused input Read h = tt
-bytes_refused input Write h = absurd h.3
+bytes_refused input Write h = absurd (no_write h.0 h.1 h.4)
 bytes_refused input OutOfMemory h = tt
+
+-- ---- what the checker of a run's own history refuses
+
+refused_by : (refuses : CheckError → Type 0) (e : CliError) → RefusedBy refuses e
+    → ((fault : CheckError) × (e ≡ Check fault) × RefusedBy refuses (Check fault)) ⊎ (e ≡ OutOfMemory)
+refused_by refuses (Check fault) h = inl (fault, refl, h)
+refused_by refuses OutOfMemory h = inr refl
+refused_by refuses (Input fault) h = absurd h
+refused_by refuses EnvironmentMissing h = absurd h
+refused_by refuses (Environment fault) h = absurd h
+refused_by refuses (Element place fault) h = absurd h
+refused_by refuses (History fault) h = absurd h
+refused_by refuses (Settings fault) h = absurd h
+refused_by refuses (Run fault) h = absurd h
+refused_by refuses HistoryFull h = absurd h
+refused_by refuses Mismatch h = absurd h
+refused_by refuses Thread h = absurd h
+refused_by refuses OnlyForRegister h = absurd h
+refused_by refuses Read h = absurd h
+refused_by refuses Write h = absurd h
+
+history_refused : (workload : Workload) (history : List Operation) (e : CliError) → RefusesHistory workload history e
+    → ((fault : CheckError) × (e ≡ Check fault) × RefusesHistory workload history (Check fault)) ⊎ (e ≡ OutOfMemory)
+history_refused Workload.Register history e h = refused_by _ e h
+history_refused Workload.Counter history e h = refused_by _ e h
+history_refused Workload.Set history e h = refused_by _ e h
+history_refused Workload.Ids history e h = refused_by _ e h
+
+-- a refusal of the history of a run is a mismatch, and want of memory stays what it is
+pub own_refused : (workload : Workload) (history : List Operation) (e : CliError) → RefusesHistory workload history e
+    → RefusesOwn workload history (own_error e)
+own_refused workload history e h =
+    elim (history_refused workload history e h) [
+      | inl t ↦ subst (λ x. RefusesOwn workload history (own_error x)) (sym t.1) (t.0, t.2)
+      | inr t ↦ subst (λ x. RefusesOwn workload history (own_error x)) (sym t) tt
+    ]
+
+-- the history of a serial run is refused
+pub serial_refused : (p : PlanValue) (journal : List Event) (history : List Operation) (e : CliError) → Serial p journal history
+    → RefusesOwn p.settings.workload history e → RefusesSerial p e
+serial_refused p journal history Mismatch run h = (journal, history, run, h)
+serial_refused p journal history OutOfMemory run h = tt
+serial_refused p journal history (Check fault) run h = absurd h
+serial_refused p journal history (Input fault) run h = absurd h
+serial_refused p journal history EnvironmentMissing run h = absurd h
+serial_refused p journal history (Environment fault) run h = absurd h
+serial_refused p journal history (Element place fault) run h = absurd h
+serial_refused p journal history (History fault) run h = absurd h
+serial_refused p journal history (Settings fault) run h = absurd h
+serial_refused p journal history (Run fault) run h = absurd h
+serial_refused p journal history HistoryFull run h = absurd h
+serial_refused p journal history Thread run h = absurd h
+serial_refused p journal history OnlyForRegister run h = absurd h
+serial_refused p journal history Read run h = absurd h
+serial_refused p journal history Write run h = absurd h
+
+-- the history of a run on threads is refused
+pub threads_refused : (workload : Workload) (history : List Operation) (e : CliError) → RefusesOwn workload history e → RefusesThreads e
+threads_refused workload history Mismatch h = tt
+threads_refused workload history OutOfMemory h = tt
+threads_refused workload history (Check fault) h = absurd h
+threads_refused workload history (Input fault) h = absurd h
+threads_refused workload history EnvironmentMissing h = absurd h
+threads_refused workload history (Environment fault) h = absurd h
+threads_refused workload history (Element place fault) h = absurd h
+threads_refused workload history (History fault) h = absurd h
+threads_refused workload history (Settings fault) h = absurd h
+threads_refused workload history (Run fault) h = absurd h
+threads_refused workload history HistoryFull h = absurd h
+threads_refused workload history Thread h = absurd h
+threads_refused workload history OnlyForRegister h = absurd h
+threads_refused workload history Read h = absurd h
+threads_refused workload history Write h = absurd h
+
+-- what the threads and the world refuse
+pub world_refused : (fault : WorldError.the_data) → RefusesThreads (world_fault fault)
+world_refused WorldError.UnknownNode = tt
+world_refused WorldError.TooManyEvents = refl
+world_refused WorldError.OutOfMemory = tt
+
+pub outcome_refused : (fault : ThreadsError.the_data) → RefusesThreads (threads_fault fault)
+outcome_refused ThreadsError.HistoryFull = tt
+outcome_refused (ThreadsError.World fault) = world_refused fault
+outcome_refused ThreadsError.Mismatch = tt
+outcome_refused ThreadsError.Thread = tt
+outcome_refused ThreadsError.OutOfMemory = tt

@@ -5,3 +5,4 @@ pub mod CheckText
 pub mod CheckRefusals
 pub mod RunText
 pub mod RunRefusals
+pub mod RunInside

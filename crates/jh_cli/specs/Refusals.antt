@@ -13,7 +13,7 @@ use Rattle.jh_nemesis.specs.declared.texts.StepTextError.{StepTextError}
 use Rattle.jh_cli.specs.EnvText.{IsEnvTextOf}
 use Rattle.jh_cli.specs.Status.{edn_fault, environment_fault}
 use Rattle.jh_cli.specs.declared.error.CliError.{CliError}
-use Rattle.jh_cli.specs.declared.error.CliError.TheVariants.{Input, EnvironmentMissing, Environment, Element, History, Check, Settings, Run, OnlyForRegister, Read, Write, OutOfMemory}
+use Rattle.jh_cli.specs.declared.error.CliError.TheVariants.{Input, EnvironmentMissing, Environment, Element, History, Check, Settings, Run, HistoryFull, Mismatch, Thread, OnlyForRegister, Read, Write, OutOfMemory}
 
 -- the place of the first step among the elements, which count from 1
 abbrev pub first_step : ℕ
@@ -50,6 +50,9 @@ RefusesValues values (History fault) = ⊥
 RefusesValues values (Check fault) = ⊥
 RefusesValues values (Settings fault) = ⊥
 RefusesValues values (Run fault) = ⊥
+RefusesValues values HistoryFull = ⊥
+RefusesValues values Mismatch = ⊥
+RefusesValues values Thread = ⊥
 RefusesValues values OnlyForRegister = ⊥
 RefusesValues values Read = ⊥
 RefusesValues values Write = ⊥
@@ -66,6 +69,9 @@ RefusesInput input (History fault) = ⊥
 RefusesInput input (Check fault) = ⊥
 RefusesInput input (Settings fault) = ⊥
 RefusesInput input (Run fault) = ⊥
+RefusesInput input HistoryFull = ⊥
+RefusesInput input Mismatch = ⊥
+RefusesInput input Thread = ⊥
 RefusesInput input OnlyForRegister = ⊥
 RefusesInput input Read = Unit {0}
 RefusesInput input Write = (output : List ℕ) × IsEnvTextOf input output

@@ -3,30 +3,58 @@
 use Rattle.std.specs.Prelude.{◌≡◌, ℕ, List}
 use Rattle.jh_edn.specs.Refused.{IsReaderError}
 use Rattle.jh_ops.specs.Operation.{Operation}
+use Rattle.jh_ops.specs.declared.call.Workload.{Workload}
+use Rattle.jh_check.specs.declared.error.CheckError.{CheckError}
 use Rattle.jh_simnode.specs.declared.events.Event.{Event}
+use Rattle.jh_simnode.specs.declared.events.WorldError.TheVariants as WorldError
+use Rattle.jh_simnode.specs.declared.serial.RunError.TheVariants as RunError
 use Rattle.jh_simnode.specs.Plans.{PlanValue}
 use Rattle.jh_simnode.specs.Runs.{Serial, Stops}
 use Rattle.jh_settings.specs.Settings as settings
 use Rattle.jh_settings.specs.Settings.{AreSettingsOf}
+use Rattle.jh_settings.specs.declared.words.Mode.{Mode}
 use Rattle.jh_cli.specs.CheckRefusals.{RefusesHistory}
 use Rattle.jh_cli.specs.RunText.{IsRunTextOf}
 use Rattle.jh_cli.specs.Status.{edn_fault, run_fault, settings_fault}
 use Rattle.jh_cli.specs.declared.error.CliError.{CliError}
-use Rattle.jh_cli.specs.declared.error.CliError.TheVariants.{Input, Settings, Run, Check, Read, Write, OutOfMemory}
+use Rattle.jh_cli.specs.declared.error.CliError.TheVariants.{Input, Settings, Run, Check, HistoryFull, Mismatch, Thread, Read, Write, OutOfMemory}
 
--- Why the run of a plan is not completed, or its history not judged. (No plan is known whose history its checker refuses.)
-abbrev pub RefusesSettings : PlanValue → CliError → Type 0
-RefusesSettings p (Run fault) = (run_fault fault ≡ Run fault) × Stops p fault
-RefusesSettings p (Check fault) =
-    (journal : List Event) × (history : List Operation) × Serial p journal history × RefusesHistory p.settings.workload history (Check fault)
-RefusesSettings p OutOfMemory = Unit {0}
-RefusesSettings p _ = ⊥
+-- The checker of a workload refuses the history of a run, which is a mismatch. (No plan is known whose history its checker
+-- refuses.)
+abbrev pub RefusesOwn : Workload → List Operation → CliError → Type 0
+RefusesOwn workload history Mismatch = (fault : CheckError) × RefusesHistory workload history (Check fault)
+RefusesOwn workload history OutOfMemory = Unit {0}
+RefusesOwn workload history _ = ⊥
+
+-- Why the serial run of a plan is not completed, or its history not judged.
+abbrev pub RefusesSerial : PlanValue → CliError → Type 0
+RefusesSerial p (Run fault) = (run_fault fault ≡ Run fault) × Stops p fault
+RefusesSerial p Mismatch =
+    (journal : List Event) × (history : List Operation) × Serial p journal history
+    × RefusesOwn p.settings.workload history Mismatch
+RefusesSerial p OutOfMemory = Unit {0}
+RefusesSerial p _ = ⊥
+
+-- Why a run on threads gives no outcome, or its history is not judged: which of these it is depends on the threads.
+abbrev pub RefusesThreads : CliError → Type 0
+RefusesThreads (Run fault) = fault ≡ RunError.World WorldError.TooManyEvents
+RefusesThreads HistoryFull = Unit {0}
+RefusesThreads Mismatch = Unit {0}
+RefusesThreads Thread = Unit {0}
+RefusesThreads OutOfMemory = Unit {0}
+RefusesThreads _ = ⊥
+
+-- why the run of a plan in this mode is not completed
+abbrev pub RefusesSettings : PlanValue → Mode → CliError → Type 0
+RefusesSettings p Mode.Serial e = RefusesSerial p e
+RefusesSettings p Mode.Threads e = RefusesThreads e
 
 -- Why the run that bytes tell is refused. Want of memory has a name of its own, wherever it came.
 abbrev pub RefusesBytes : List ℕ → CliError → Type 0
 RefusesBytes input (Settings fault) = (settings_fault fault ≡ Settings fault) × settings.RefusesSettings input fault
 RefusesBytes input OutOfMemory = Unit {0}
-RefusesBytes input e = (p : PlanValue) × (budget : ℕ) × AreSettingsOf input p budget × RefusesSettings p e
+RefusesBytes input e =
+    (p : PlanValue) × (mode : Mode) × (budget : ℕ) × AreSettingsOf input p mode budget × RefusesSettings p mode e
 
 -- A failed read, an input that does not end and want of memory may come with any input; a failed write comes only where there is
 -- something to write.

@@ -12,7 +12,11 @@ use Rattle.jh_simnode.specs.declared.events.Event.{Event}
 use Rattle.jh_simnode.specs.Laws.{state_at}
 use Rattle.jh_simnode.specs.Plans.{PlanValue}
 use Rattle.jh_simnode.specs.Runs.{Serial, setup_of}
+use Rattle.jh_audit.specs.Audit.{IsAudited}
+use Rattle.jh_audit.specs.Plans.{FollowsPlan}
+use Rattle.jh_workers.specs.Shown.{IsJournal}
 use Rattle.jh_settings.specs.Settings.{AreSettingsOf}
+use Rattle.jh_settings.specs.declared.words.Mode.{Mode}
 use Rattle.jh_cli.specs.CheckText.{IsJudgement, status_of}
 use Rattle.jh_cli.specs.EnvText.{IsEnvOf, active_line, environment_line, line}
 
@@ -25,16 +29,36 @@ abbrev pub IsTold : State → List Operation → List ℕ → List ℕ → Type 
 IsTold last history judged output =
     (env : EnvValue) × IsEnvOf last env × (output ≡ history_lines history ++ (active_line last.now ++ (environment_line env ++ line judged)))
 
--- for a plan, with the verdict on its history
-abbrev pub IsRunText : PlanValue → ℕ → Verdict → List ℕ → Type 0
-IsRunText p budget verdict output =
+-- for a plan that is run serially, with the verdict on its history
+abbrev pub IsSerialText : PlanValue → ℕ → Verdict → List ℕ → Type 0
+IsSerialText p budget verdict output =
     (journal : List Event) × (history : List Operation) × (judged : List ℕ) × Serial p journal history
     × IsJudgement p.settings.workload p.settings.initial budget history verdict judged
     × IsTold (state_at (setup_of p) journal) history judged output
 
--- for bytes: the plan and the budget are those that they tell
+-- what a run of a plan on threads gives: a legal journal and a history that tell the same and keep to the plan
+pub record IsOutcome (p : PlanValue) (journal : List Event) (history : List Operation) : Type 0 where
+  pub legal : IsJournal journal
+  pub audited : IsAudited journal history
+  pub planned : FollowsPlan p journal history
+
+-- For a plan that is run on threads, with the verdict on its history. The faults are those that the journal's steps lead to
+-- from the start of the plan on.
+abbrev pub IsThreadsText : PlanValue → ℕ → Verdict → List ℕ → Type 0
+IsThreadsText p budget verdict output =
+    (journal : List Event) × (history : List Operation) × (judged : List ℕ) × IsOutcome p journal history
+    × IsJudgement p.settings.workload p.settings.initial budget history verdict judged
+    × IsTold (state_at (setup_of p) journal) history judged output
+
+-- for a plan that is run in this mode
+abbrev pub IsRunText : PlanValue → Mode → ℕ → Verdict → List ℕ → Type 0
+IsRunText p Mode.Serial budget verdict output = IsSerialText p budget verdict output
+IsRunText p Mode.Threads budget verdict output = IsThreadsText p budget verdict output
+
+-- for bytes: the plan, the mode and the budget are those that they tell
 abbrev pub IsFound : List ℕ → Verdict → List ℕ → Type 0
-IsFound input verdict output = (p : PlanValue) × (budget : ℕ) × AreSettingsOf input p budget × IsRunText p budget verdict output
+IsFound input verdict output =
+    (p : PlanValue) × (mode : Mode) × (budget : ℕ) × AreSettingsOf input p mode budget × IsRunText p mode budget verdict output
 
 -- for an input, with the exit status
 abbrev pub IsRunTextOf : List ℕ → ℕ → List ℕ → Type 0

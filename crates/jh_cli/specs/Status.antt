@@ -10,8 +10,9 @@ use Rattle.jh_nemesis.specs.declared.texts.StepTextError.TheVariants as StepText
 use Rattle.jh_settings.specs.declared.error.SettingsError.TheVariants as SettingsError
 use Rattle.jh_simnode.specs.declared.events.WorldError.TheVariants as WorldError
 use Rattle.jh_simnode.specs.declared.serial.RunError.TheVariants as RunError
+use Rattle.jh_workers.specs.declared.desk.RunError.TheVariants as ThreadsError
 use Rattle.jh_cli.specs.declared.error.CliError.{CliError}
-use Rattle.jh_cli.specs.declared.error.CliError.TheVariants.{Input, EnvironmentMissing, Environment, Element, History, Check, Settings, Run, OnlyForRegister, Read, Write, OutOfMemory}
+use Rattle.jh_cli.specs.declared.error.CliError.TheVariants.{Input, EnvironmentMissing, Environment, Element, History, Check, Settings, Run, HistoryFull, Mismatch, Thread, OnlyForRegister, Read, Write, OutOfMemory}
 
 abbrev pub status_of : CliError → ℕ
 status_of (Input fault) = 3
@@ -22,6 +23,9 @@ status_of (History fault) = 3
 status_of (Check fault) = 3
 status_of (Settings fault) = 3
 status_of (Run fault) = 4
+status_of HistoryFull = 4
+status_of Mismatch = 4
+status_of Thread = 4
 status_of OnlyForRegister = 3
 status_of Read = 4
 status_of Write = 4
@@ -69,3 +73,17 @@ abbrev pub run_fault : RunError.the_data → CliError
 run_fault (RunError.World WorldError.OutOfMemory) = OutOfMemory
 run_fault RunError.OutOfMemory = OutOfMemory
 run_fault fault = Run fault
+
+-- what a refusal of a world means to a command; no run asks for a node that is not there
+abbrev pub world_fault : WorldError.the_data → CliError
+world_fault WorldError.UnknownNode = Mismatch
+world_fault WorldError.TooManyEvents = Run (RunError.World WorldError.TooManyEvents)
+world_fault WorldError.OutOfMemory = OutOfMemory
+
+-- what the end of a run on threads that gave no outcome means to a command
+abbrev pub threads_fault : ThreadsError.the_data → CliError
+threads_fault ThreadsError.HistoryFull = HistoryFull
+threads_fault (ThreadsError.World fault) = world_fault fault
+threads_fault ThreadsError.Mismatch = Mismatch
+threads_fault ThreadsError.Thread = Thread
+threads_fault ThreadsError.OutOfMemory = OutOfMemory

@@ -15,8 +15,8 @@ use std::alloc::{AllocError, AllocFailed};
 use std::io::{self, Write};
 use thiserror::Error;
 
-/// Why a command ended early. `Read`, `Write` and `OutOfMemory` are faults of the machine, `Run` says that a run was not
-/// completed, `OnlyForRegister` refuses the arguments, and all others what was read.
+/// Why a command ended early. `Read`, `Write` and `OutOfMemory` are faults of the machine, `Run`, `HistoryFull`, `Mismatch`
+/// and `Thread` say that a run was not completed, `OnlyForRegister` refuses the arguments, and all others what was read.
 #[derive(Debug, Drop, Error)]
 pub enum CliError {
     /// The input is no text of EDN values.
@@ -43,6 +43,15 @@ pub enum CliError {
     /// The run was not completed.
     #[error("{0}")]
     Run(RunError),
+    /// The log of a run on threads has too few rows for its records.
+    #[error("history full")]
+    HistoryFull,
+    /// What a run did does not agree: its threads, its world and its plan, or its own history can't be judged.
+    #[error("mismatch")]
+    Mismatch,
+    /// A thread of a run could not be had.
+    #[error("thread failed")]
+    Thread,
     /// There is an initial value, and no register.
     #[error("--initial: only for register")]
     OnlyForRegister,
@@ -68,7 +77,13 @@ impl CliError {
             | CliError::Check(_)
             | CliError::Settings(_)
             | CliError::OnlyForRegister => 3,
-            CliError::Run(_) | CliError::Read | CliError::Write | CliError::OutOfMemory => 4,
+            CliError::Run(_)
+            | CliError::HistoryFull
+            | CliError::Mismatch
+            | CliError::Thread
+            | CliError::Read
+            | CliError::Write
+            | CliError::OutOfMemory => 4,
         }
     }
 
@@ -179,6 +194,36 @@ impl From<RunError> for CliError {
             RunError::World(WorldError::OutOfMemory) => CliError::OutOfMemory,
             RunError::OutOfMemory => CliError::OutOfMemory,
             _ => CliError::Run(fault),
+        }
+    }
+}
+
+impl From<jh_workers::RunError> for CliError {
+    ghost use Rattle.jh_cli.specs.Status.{threads_fault};
+
+    ghost from_gives = { λ fault e. e ≡ threads_fault fault };
+
+    fn from(fault: jh_workers::RunError) -> CliError {
+        match fault {
+            jh_workers::RunError::HistoryFull => CliError::HistoryFull,
+            jh_workers::RunError::World(refusal) => CliError::from(refusal),
+            jh_workers::RunError::Mismatch => CliError::Mismatch,
+            jh_workers::RunError::Thread => CliError::Thread,
+            jh_workers::RunError::OutOfMemory => CliError::OutOfMemory,
+        }
+    }
+}
+
+impl From<WorldError> for CliError {
+    ghost use Rattle.jh_cli.specs.Status.{world_fault};
+
+    ghost from_gives = { λ fault e. e ≡ world_fault fault };
+
+    fn from(fault: WorldError) -> CliError {
+        match fault {
+            WorldError::UnknownNode => CliError::Mismatch,
+            WorldError::TooManyEvents => CliError::Run(RunError::World(fault)),
+            WorldError::OutOfMemory => CliError::OutOfMemory,
         }
     }
 }

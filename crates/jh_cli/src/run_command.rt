@@ -2,33 +2,49 @@
 //! checker of its workload finds. What is written stands in `specs/RunText.antt`, why an input is refused or a run not
 //! completed in `specs/RunRefusals.antt`.
 
-ghost use Rattle.std.specs.Prelude.{◌≡◌, ◌≢◌, ◌++◌, ℕ, List, All, OnOk, IfOk, IfErr, IfSome, MatchResult};
+ghost use Rattle.std.specs.Prelude.{◌≡◌, ◌≢◌, ◌++◌, ℕ, [], List, All, OnOk, IfOk, IfErr, IfSome, MatchResult};
 ghost use Rattle.std.specs.Io.KnownBytes.{Appends};
 ghost use Rattle.jh_ops.specs.Operation.{operations};
 ghost use Rattle.jh_ops.specs.OperationWritten.{IsWritable};
-ghost use Rattle.jh_simnode.specs.Laws.{state_at};
-ghost use Rattle.jh_cli.specs.RunRefusals.{RefusesBytes, RefusesRun, RefusesSettings};
+ghost use Rattle.jh_cli.specs.CheckText.{IsJudgement};
+ghost use Rattle.jh_cli.specs.RunInside.{own_error};
+ghost use Rattle.jh_cli.specs.RunRefusals.{RefusesBytes, RefusesOwn, RefusesRun, RefusesSerial, RefusesSettings, RefusesThreads};
 ghost use Rattle.jh_cli.specs.RunText as text;
-ghost use Rattle.jh_cli.specs.RunText.{IsFound, IsRunText, IsRunTextOf, IsTold};
+ghost use Rattle.jh_cli.specs.RunText.{IsFound, IsOutcome, IsRunText, IsRunTextOf, IsSerialText, IsThreadsText, IsTold};
 
 use crate::check_command::{Judgement, judge, status_of};
 use crate::env_command::{MOST_READS, write_active, write_environment, write_line};
 use crate::error::CliError;
 use jh_edn::read_bytes;
+use jh_nemesis::Nemesis;
 use jh_ops::{Op, value_of};
-use jh_settings::{RunSettings, settings_of};
-use jh_simnode::{World, run_serial};
+use jh_settings::{Mode, RunSettings, settings_of};
+use jh_simnode::{Event, Plan, World, nemesis_after, run_serial, world_of};
+use jh_workers::{LockedWorld, Outcome, RunError as ThreadsError, run};
 use std::alloc::{AllocError, Global};
 use std::io::{Read, Write};
+use std::marker::Brand;
+use std::sync::Wait;
+use std::sync::ledger::{Blank, Ledger};
+use std::thread::Threads;
 
-/// Reads settings in TOML as `jh_settings::settings_of` does, makes the run, and writes a line for each operation of its
-/// history, one with the ids of the active faults, one with the environment, and the line of the workload's checker. The
-/// answer is the exit status: 0 where the history is valid, 1 where it is not, 2 where that is not known. The same input
-/// gives the same bytes each time. All is read, run and judged before the first byte is written.
+/// The parts of the ledger of a run's world, from which each of its threads has a share.
+const WORLD_PARTS: u64 = 32;
+
+/// Reads settings in TOML as `jh_settings::settings_of` does, makes the run in the mode that they say, and writes a line for
+/// each operation of its history, one with the ids of the active faults, one with the environment, and the line of the
+/// workload's checker. The answer is the exit status: 0 where the history is valid, 1 where it is not, 2 where that is not
+/// known. All is read, run and judged before the first byte is written.
 ///
-/// Errors: a fault of reading (`Input`, `Read`); `Settings`; `Run` where the run was not completed; `Check`; `OutOfMemory`;
-/// `Write`. Nothing is written before any of them but `Write`.
-pub fn run_run<R: Read, W: Write>(
+/// A serial run gives the same bytes for the same input each time. A run on threads may wait, and promises only if it
+/// returns; it gives another history each time, which comes from an outcome of `jh_workers::run`, and its two lines of
+/// faults are what the steps of the outcome's journal make of the settings' start.
+///
+/// Errors: a fault of reading (`Input`, `Read`); `Settings`; `Run`, `HistoryFull`, `Thread` or `Mismatch` where the run was
+/// not completed; `Mismatch` where its history can't be judged; `OutOfMemory`; `Write`. Nothing is written before any of
+/// them but `Write`.
+pub fn run_run<T: Threads + Wait + Sync, R: Read, W: Write>(
+    rt: &T,
     alloc: Global,
     reader: &mut R,
     writer: &mut W,
@@ -40,7 +56,7 @@ pub fn run_run<R: Read, W: Write>(
     ensures unwritten { IfErr result (λ e. e ≢ CliError.Write → writer.new ≡ writer.old) }
 {
     let input = read_bytes(alloc, reader, MOST_READS)?;
-    let found = run_bytes(alloc, &input)?;
+    let found = run_bytes(rt, alloc, &input)?;
     match writer.write_all(&found.text) {
         Ok(()) => Ok(status_of(found.verdict)),
         Err(_) => Err(CliError::Write),
@@ -48,53 +64,166 @@ pub fn run_run<R: Read, W: Write>(
 }
 
 // All that is written for these bytes, with the verdict.
-fn run_bytes(alloc: Global, input: &[u8]) -> Result<Judgement, CliError>
+fn run_bytes<T: Threads + Wait + Sync>(
+    rt: &T,
+    alloc: Global,
+    input: &[u8],
+) -> Result<Judgement, CliError>
     ensures { MatchResult result
         (λ found. IsFound input.now found.verdict found.text.items)
         (RefusesBytes input.now) }
 {
     let settings = settings_of(alloc, input)?;
-    match run_text(alloc, &settings) {
+    match run_text(rt, alloc, &settings) {
         Ok(found) => Ok(found),
         Err(error) => Err(error),
     }
 }
 
 // All that is written of a run, with the verdict on its history.
-fn run_text(alloc: Global, settings: &RunSettings) -> Result<Judgement, CliError>
+fn run_text<T: Threads + Wait + Sync>(
+    rt: &T,
+    alloc: Global,
+    settings: &RunSettings,
+) -> Result<Judgement, CliError>
     ensures { MatchResult result
-        (λ found. IsRunText settings.now.plan settings.now.budget found.verdict found.text.items)
-        (RefusesSettings settings.now.plan) }
+        (λ found. IsRunText settings.now.plan settings.now.mode settings.now.budget found.verdict found.text.items)
+        (RefusesSettings settings.now.plan settings.now.mode) }
 {
-    let plan = &settings.plan;
+    match settings.mode {
+        Mode::Serial => serial_text(alloc, &settings.plan, settings.budget),
+        Mode::Threads => threads_text(rt, alloc, &settings.plan, settings.budget),
+    }
+}
+
+// All that is written of a serial run.
+fn serial_text(alloc: Global, plan: &Plan, budget: u64) -> Result<Judgement, CliError>
+    ensures { MatchResult result
+        (λ found. IsSerialText plan.now budget found.verdict found.text.items)
+        (RefusesSerial plan.now) }
+{
     let (world, history) = run_serial(alloc, plan)?;
-    let found = judge(
-        alloc,
-        &history,
-        plan.workload(),
-        plan.initial(),
-        settings.budget,
-    )?;
+    let found = match judge_own(alloc, plan, &history, budget) {
+        Ok(found) => found,
+        Err(error) => return Err(error),
+    };
     Ok(Judgement {
         verdict: found.verdict,
-        text: lines_of(alloc, &world, &history, &found.text)?,
+        text: lines_of(alloc, world.nemesis(), &history, &found.text)?,
     })
 }
 
+// All that is written of a run on threads.
+fn threads_text<T: Threads + Wait + Sync>(
+    rt: &T,
+    alloc: Global,
+    plan: &Plan,
+    budget: u64,
+) -> Result<Judgement, CliError>
+    ensures { MatchResult result
+        (λ found. IsThreadsText plan.now budget found.verdict found.text.items)
+        RefusesThreads }
+{
+    let (history, journal) = match run_threads(rt, alloc, plan) {
+        Ok(outcome) => outcome,
+        Err(error) => return Err(CliError::from(error)),
+    };
+    let nemesis = match nemesis_after(alloc, plan, journal.as_slice()) {
+        Ok(nemesis) => nemesis,
+        Err(error) => return Err(CliError::from(error)),
+    };
+    let found = match judge_own(alloc, plan, &history, budget) {
+        Ok(found) => found,
+        Err(error) => return Err(error),
+    };
+    Ok(Judgement {
+        verdict: found.verdict,
+        text: lines_of(alloc, &nemesis, &history, &found.text)?,
+    })
+}
+
+// A run of the plan on threads, over a locked world of its own: the history and the journal.
+fn run_threads<T: Threads + Wait + Sync>(
+    rt: &T,
+    alloc: Global,
+    plan: &Plan,
+) -> Result<(Vec<Op>, Vec<Event>), ThreadsError>
+    ensures outcome { IfOk result (λ told. IsOutcome plan.now told.1.items (operations told.0.items)) }
+    ensures writable { IfOk result (λ told. All (λ op. IsWritable op.process) (operations told.0.items)) }
+{
+    let Ok(world) = world_of(alloc, plan) else {
+        return Err(ThreadsError::OutOfMemory);
+    };
+    run_over::<Brand, T>(rt, alloc, plan, world, Blank::new(WORLD_PARTS))
+}
+
+// The same over this world, whose shares are counted by a ledger of this name.
+fn run_over<L: Ledger + Send + Sync, T: Threads + Wait + Sync>(
+    rt: &T,
+    alloc: Global,
+    plan: &Plan,
+    world: World,
+    blank: Blank,
+) -> Result<(Vec<Op>, Vec<Event>), ThreadsError>
+    requires empty { world.journal ≡ [] }
+    requires name { blank.name ≡ L.name }
+    requires parts { blank.parts ≡ L.parts }
+    requires number { blank.parts ≡ 32 }
+    ensures outcome { IfOk result (λ told. IsOutcome plan.now told.1.items (operations told.0.items)) }
+    ensures writable { IfOk result (λ told. All (λ op. IsWritable op.process) (operations told.0.items)) }
+{
+    let port = LockedWorld::<L>::new(world, blank);
+    match run(rt, alloc, plan, &port) {
+        Ok(outcome) => {
+            let Outcome {
+                history,
+                journal,
+                shares: _,
+            } = outcome;
+            Ok((history, journal))
+        }
+        Err(error) => Err(error),
+    }
+}
+
+// What a refusal of the history of a run means.
+fn own_error(error: CliError) -> CliError
+    ensures { result ≡ own_error error }
+{
+    match error {
+        CliError::OutOfMemory => CliError::OutOfMemory,
+        _ => CliError::Mismatch,
+    }
+}
+
+// The judgement of the history of a run of the plan.
+fn judge_own(alloc: Global, plan: &Plan, history: &[Op], budget: u64) -> Result<Judgement, CliError>
+    ensures { MatchResult result
+        (λ found. IsJudgement plan.now.settings.workload plan.now.settings.initial budget
+        (operations history.now) found.verdict found.text.items)
+        (RefusesOwn plan.now.settings.workload (operations history.now)) }
+{
+    match judge(alloc, history, plan.workload(), plan.initial(), budget) {
+        Ok(found) => Ok(found),
+        Err(error) => Err(own_error(error)),
+    }
+}
+
+// The lines of a history, of the faults that are left and what they make, and of a judgement.
 fn lines_of(
     alloc: Global,
-    world: &World,
+    nemesis: &Nemesis,
     history: &[Op],
     judged: &[u8],
 ) -> Result<Vec<u8>, AllocError>
     requires { All (λ op. IsWritable op.process) (operations history.now) }
     ensures { IfOk result (λ output.
-        IsTold (state_at world.now.setup world.now.journal) (operations history.now) judged.now output.items) }
+        IsTold nemesis.now.state (operations history.now) judged.now output.items) }
 {
     let mut output = Vec::new(alloc);
     write_history(alloc, history, &mut output)?;
-    write_active(alloc, world.nemesis(), &mut output)?;
-    write_environment(alloc, world.nemesis().env(), &mut output)?;
+    write_active(alloc, nemesis, &mut output)?;
+    write_environment(alloc, nemesis.env(), &mut output)?;
     output.extend_from_slice(judged)?;
     output.push(b'\n')?;
     Ok(output)
