@@ -5,6 +5,10 @@ use crate::commands::{command_of, run};
 use crate::line::{REFUSED, parse, status_of_refusal};
 use clap::ArgMatches;
 use jh_cli::CliError;
+use std::alloc::Global;
+use std::env::Env;
+use std::sync::Wait;
+use std::thread::Threads;
 use std::{env, io};
 
 /// Says on standard error why a command ended early, and gives its status.
@@ -25,7 +29,10 @@ fn refused(rt: &(impl Print + Eprint), refusal: &clap::Error) -> u8 {
 }
 
 /// Does what the arguments ask for, over the standard streams.
-fn done(rt: &HostRuntime, matches: &ArgMatches<'_>) -> u8 {
+fn done<R>(rt: &R, matches: &ArgMatches<'_>) -> u8
+where
+    R: Input + Print + Eprint + Alloc<A = Global> + Threads + Wait + Sync,
+{
     let Some(command) = command_of(matches) else {
         return REFUSED;
     };
@@ -42,13 +49,18 @@ fn done(rt: &HostRuntime, matches: &ArgMatches<'_>) -> u8 {
 }
 
 /// The arguments of the process, the program's name first.
-fn arguments_of(rt: &HostRuntime) -> io::Result<Vec<String>> {
+fn arguments_of(rt: &(impl Env + Alloc<A = Global>)) -> io::Result<Vec<String>> {
     Ok(env::args(rt)?.collect(rt.alloc())?)
 }
 
 /// The exit status of the process, once it has done what its arguments ask for: 0, 1 or 2 as `run` answers, 0 where help was
 /// asked for, 3 where the arguments or the input are refused, 4 where the machine failed or a run was not completed.
-pub fn status(rt: &HostRuntime) -> u8 {
+///
+/// A run on threads may wait.
+pub fn status<R>(rt: &R) -> u8
+where
+    R: Env + Input + Print + Eprint + Alloc<A = Global> + Threads + Wait + Sync,
+{
     let arguments = match arguments_of(rt) {
         Ok(arguments) => arguments,
         Err(error) if error.kind() == io::ErrorKind::OutOfMemory => {
