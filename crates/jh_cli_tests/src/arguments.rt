@@ -112,5 +112,5 @@ Usage: jeprun env
 Options:
   -h, --help  Print help
 "#;
-    assert_eq!(rt; first_wrong(rt.alloc(), Texts::Arguments, rows), None);
+    assert_eq!(rt; first_wrong(&rt, rt.alloc(), Texts::Arguments, rows), None);
 }

@@ -231,7 +231,7 @@ fn writes_reports(rt: HostRuntime) {
 {:nodes ["n1" "n2"], :cut [], :slow [["n1" "n2" 60001]], :loss [["n2" "n1" 20]], :down [], :clock [["n1" 1000000000] ["n2" -1000000000]]}
 "#;
     let texts = Texts::Inputs("jeprun env");
-    assert_eq!(rt; first_wrong(rt.alloc(), texts, rows), None);
+    assert_eq!(rt; first_wrong(&rt, rt.alloc(), texts, rows), None);
 }
 
 #[test]
@@ -283,7 +283,7 @@ fn names_faults_by_grudges(rt: HostRuntime) {
 § {:nodes ["n1" "n2"]} [:begin 1 [:ring "7"]] → 3 element 2: bad step
 "#;
     let texts = Texts::Inputs("jeprun env");
-    assert_eq!(rt; first_wrong(rt.alloc(), texts, rows), None);
+    assert_eq!(rt; first_wrong(&rt, rt.alloc(), texts, rows), None);
 }
 
 #[test]
@@ -357,7 +357,7 @@ fn refuses_inputs(rt: HostRuntime) {
 [:withdraw 01] → 3 line 3: bad token
 "#;
     let texts = Texts::Inputs("jeprun env");
-    assert_eq!(rt; first_wrong(rt.alloc(), texts, rows), None);
+    assert_eq!(rt; first_wrong(&rt, rt.alloc(), texts, rows), None);
 }
 
 /// Inputs that no row can have: white space alone, and bytes that are no text.
@@ -365,11 +365,12 @@ fn refuses_inputs(rt: HostRuntime) {
 fn refuses_bytes(rt: HostRuntime) {
     assert!(rt;
         is_answer(
+            &rt,
             rt.alloc(),
             "jeprun env",
             b" ,\n",
             b"3 environment missing\n"
         )
     );
-    assert!(rt; is_answer(rt.alloc(), "jeprun env", b"\xff", b"3 not UTF-8\n"));
+    assert!(rt; is_answer(&rt, rt.alloc(), "jeprun env", b"\xff", b"3 not UTF-8\n"));
 }

@@ -20,6 +20,9 @@ fn error_of(name: &str) -> Option<CliError> {
         }),
         "events" => Some(CliError::from(RunError::World(WorldError::TooManyEvents))),
         "stuck" => Some(CliError::from(RunError::Stuck)),
+        "full" => Some(CliError::HistoryFull),
+        "mismatch" => Some(CliError::Mismatch),
+        "thread" => Some(CliError::Thread),
         "read" => Some(CliError::Read),
         "write" => Some(CliError::Write),
         "memory" => Some(CliError::OutOfMemory),
@@ -52,6 +55,9 @@ fn names_errors(rt: HostRuntime) {
 § amount → 3 element 2: bad amount
 § events → 4 too many events
 § stuck → 4 stuck
+§ full → 4 history full
+§ mismatch → 4 mismatch
+§ thread → 4 thread failed
 § read → 4 read failed
 § write → 4 write failed
 § memory → 4 out of memory
@@ -61,5 +67,5 @@ fn names_errors(rt: HostRuntime) {
 § memory of a run → 4 out of memory
 § memory of an allocation → 4 out of memory
 "#;
-    assert_eq!(rt; first_wrong(rt.alloc(), Texts::Errors, rows), None);
+    assert_eq!(rt; first_wrong(&rt, rt.alloc(), Texts::Errors, rows), None);
 }

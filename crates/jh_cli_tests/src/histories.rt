@@ -23,7 +23,7 @@ fn judges_sets(rt: HostRuntime) {
 § {:type :invoke, :f :read, :process 0} {:type :ok, :f :read, :value nil, :process 0} → 3 operation 1: bad value
 "#;
     let texts = Texts::Inputs("jeprun check --workload set");
-    assert_eq!(rt; first_wrong(rt.alloc(), texts, rows), None);
+    assert_eq!(rt; first_wrong(&rt, rt.alloc(), texts, rows), None);
 }
 
 #[test]
@@ -54,7 +54,7 @@ fn judges_counters(rt: HostRuntime) {
 § {:type :invoke, :f :add, :value -1, :process 0} → 3 operation 0: negative add
 "#;
     let texts = Texts::Inputs("jeprun check --workload counter");
-    assert_eq!(rt; first_wrong(rt.alloc(), texts, rows), None);
+    assert_eq!(rt; first_wrong(&rt, rt.alloc(), texts, rows), None);
 }
 
 #[test]
@@ -77,7 +77,7 @@ fn judges_unique_ids(rt: HostRuntime) {
 § {:type :ok → 3 line 1: unexpected end
 "#;
     let texts = Texts::Inputs("jeprun check --workload unique-ids");
-    assert_eq!(rt; first_wrong(rt.alloc(), texts, rows), None);
+    assert_eq!(rt; first_wrong(&rt, rt.alloc(), texts, rows), None);
 }
 
 #[test]
@@ -118,7 +118,7 @@ fn judges_registers(rt: HostRuntime) {
 § {:type :invoke, :f :read, :process 0} {:type :invoke, :f :read, :process 0} → 3 operation 1: double invoke
 "#;
     let texts = Texts::Inputs("jeprun check --workload register --initial 0");
-    assert_eq!(rt; first_wrong(rt.alloc(), texts, rows), None);
+    assert_eq!(rt; first_wrong(&rt, rt.alloc(), texts, rows), None);
 }
 
 #[test]
@@ -128,7 +128,7 @@ fn a_register_starts_with_nil(rt: HostRuntime) {
 {:valid? false}
 "#;
     let texts = Texts::Inputs("jeprun check --workload register");
-    assert_eq!(rt; first_wrong(rt.alloc(), texts, rows), None);
+    assert_eq!(rt; first_wrong(&rt, rt.alloc(), texts, rows), None);
 }
 
 #[test]
@@ -142,7 +142,7 @@ fn a_budget_of_none_decides_nothing(rt: HostRuntime) {
 {:valid? :unknown}
 "#;
     let texts = Texts::Inputs("jeprun check --workload register --initial 0 --budget 0");
-    assert_eq!(rt; first_wrong(rt.alloc(), texts, rows), None);
+    assert_eq!(rt; first_wrong(&rt, rt.alloc(), texts, rows), None);
 }
 
 /// The history is not looked at.
@@ -150,9 +150,9 @@ fn a_budget_of_none_decides_nothing(rt: HostRuntime) {
 fn an_initial_value_is_for_registers(rt: HostRuntime) {
     let refused = "{ → 3 --initial: only for register\n";
     let texts = Texts::Inputs("jeprun check --workload set --initial 0");
-    assert_eq!(rt; first_wrong(rt.alloc(), texts, refused), None);
+    assert_eq!(rt; first_wrong(&rt, rt.alloc(), texts, refused), None);
     let texts = Texts::Inputs("jeprun check --workload counter --initial 0");
-    assert_eq!(rt; first_wrong(rt.alloc(), texts, refused), None);
+    assert_eq!(rt; first_wrong(&rt, rt.alloc(), texts, refused), None);
     let texts = Texts::Inputs("jeprun check --workload unique-ids --initial 0");
-    assert_eq!(rt; first_wrong(rt.alloc(), texts, refused), None);
+    assert_eq!(rt; first_wrong(&rt, rt.alloc(), texts, refused), None);
 }

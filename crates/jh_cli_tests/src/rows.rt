@@ -11,6 +11,8 @@ use jh_arguments::{Command, command_of, parse, run};
 use jh_cli::CliError;
 use std::alloc::Global;
 use std::io::{Read, Write};
+use std::sync::Wait;
+use std::thread::Threads;
 
 /// The command that these arguments ask for; `None` also where memory was refused.
 pub(crate) fn command(alloc: Global, arguments: &str) -> Option<Command> {
@@ -26,13 +28,20 @@ pub(crate) fn push_error(error: &CliError, text: &mut Vec<u8>) -> Option<()> {
 }
 
 /// The answer to these arguments and what the reader gives; `None` where memory was refused, also to what is written into.
-pub(crate) fn answer_once<R: Read + Drop>(
+pub(crate) fn answer_once<T: Threads + Wait + Sync, R: Read + Drop>(
+    rt: &T,
     alloc: Global,
     arguments: &str,
     mut reader: R,
 ) -> Option<Vec<u8>> {
     let mut output = Vec::new(alloc);
-    match run(alloc, command(alloc, arguments)?, &mut reader, &mut output) {
+    match run(
+        rt,
+        alloc,
+        command(alloc, arguments)?,
+        &mut reader,
+        &mut output,
+    ) {
         Ok(status) => with_status(alloc, status, &output),
         Err(CliError::OutOfMemory | CliError::Write) => None,
         Err(error) => {
@@ -51,9 +60,15 @@ fn with_status(alloc: Global, status: u8, output: &[u8]) -> Option<Vec<u8>> {
 }
 
 /// Whether this is the answer to the arguments and the input.
-pub(crate) fn is_answer(alloc: Global, arguments: &str, input: &[u8], expected: &[u8]) -> bool {
-    let answer = answer_once(alloc, arguments, input).or_else(|| answer_once(
-        alloc, arguments, input,
+pub(crate) fn is_answer<T: Threads + Wait + Sync>(
+    rt: &T,
+    alloc: Global,
+    arguments: &str,
+    input: &[u8],
+    expected: &[u8],
+) -> bool {
+    let answer = answer_once(rt, alloc, arguments, input).or_else(|| answer_once(
+        rt, alloc, arguments, input,
     ));
     answer.is_some_and(|text| text.as_slice() == expected)
 }
@@ -70,22 +85,34 @@ pub(crate) enum Texts<'a> {
 }
 
 /// What is shown for a text; `None` where memory was refused.
-fn shown_once(alloc: Global, texts: Texts<'_>, text: &str) -> Option<Vec<u8>> {
+fn shown_once<T: Threads + Wait + Sync>(
+    rt: &T,
+    alloc: Global,
+    texts: Texts<'_>,
+    text: &str,
+) -> Option<Vec<u8>> {
     match texts {
-        Texts::Inputs(arguments) => answer_once(alloc, arguments, text.as_bytes()),
+        Texts::Inputs(arguments) => answer_once(rt, alloc, arguments, text.as_bytes()),
         Texts::Arguments => asked_once(alloc, text),
         Texts::Errors => named_once(alloc, text),
     }
 }
 
 /// The first row for whose text something else is shown.
-pub(crate) fn first_wrong<'a>(alloc: Global, texts: Texts<'_>, rows: &'a str) -> Option<&'a str> {
+pub(crate) fn first_wrong<'a, T: Threads + Wait + Sync>(
+    rt: &T,
+    alloc: Global,
+    texts: Texts<'_>,
+    rows: &'a str,
+) -> Option<&'a str> {
     for row in rows.split('§') {
         let Some((text, expected)) = row.split_once('→') else {
             return Some(row);
         };
         let text = text.trim();
-        let shown = shown_once(alloc, texts, text).or_else(|| shown_once(alloc, texts, text));
+        let shown = shown_once(rt, alloc, texts, text).or_else(|| shown_once(
+            rt, alloc, texts, text,
+        ));
         if !shown.is_some_and(|shown| shown.as_slice() == expected.trim_start().as_bytes()) {
             return Some(row);
         }

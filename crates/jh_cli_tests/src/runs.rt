@@ -89,5 +89,39 @@ generator = '[:once [:add 1]]'
 § frob = 1 → 3 settings: frob: unknown
 "#;
     let texts = Texts::Inputs("jeprun run");
-    assert_eq!(rt; first_wrong(rt.alloc(), texts, rows), None);
+    assert_eq!(rt; first_wrong(&rt, rt.alloc(), texts, rows), None);
+}
+
+/// Runs on threads whose bytes no schedule of the threads changes: one client, and no entry of a schedule.
+#[test]
+fn runs_on_threads(rt: HostRuntime) {
+    let rows = r#"# By default a run is made on threads.
+start = '{:nodes ["n1" "n2" "n3"]}'
+store = "quorum"
+workload = "register"
+clients = 1
+ops = 2
+rows = 4
+generator = '[:seq [:once [:write 5]] [:once :read]]'
+→ 0
+{:index 0, :type :invoke, :process 0, :f :write, :value 5}
+{:index 1, :type :ok, :process 0, :f :write, :value 5, :event 0}
+{:index 2, :type :invoke, :process 0, :f :read, :value nil}
+{:index 3, :type :ok, :process 0, :f :read, :value 5, :event 1}
+:active []
+{:nodes ["n1" "n2" "n3"], :cut [], :slow [], :loss [], :down [], :clock []}
+{:valid? true, :order [0 1]}
+§ # A row too few.
+start = '{:nodes ["n1" "n2" "n3"]}'
+mode = "threads"
+store = "quorum"
+workload = "register"
+clients = 1
+ops = 2
+rows = 3
+generator = '[:seq [:once [:write 5]] [:once :read]]'
+→ 4 history full
+"#;
+    let texts = Texts::Inputs("jeprun run");
+    assert_eq!(rt; first_wrong(&rt, rt.alloc(), texts, rows), None);
 }

@@ -5,6 +5,8 @@ use jh_arguments::run;
 use jh_cli::CliError;
 use std::alloc::Global;
 use std::io::{self, Read, Write};
+use std::sync::Wait;
+use std::thread::Threads;
 
 /// A reader that gives one space at each read, and fails after so many.
 #[derive(Drop)]
@@ -27,9 +29,15 @@ impl Read for Spaces {
 }
 
 /// Whether a reader that fails after so many spaces fails the command, with nothing written.
-fn fails_reading(alloc: Global, arguments: &str, spaces: &str) -> bool {
+fn fails_reading<T: Threads + Wait + Sync>(
+    rt: &T,
+    alloc: Global,
+    arguments: &str,
+    spaces: &str,
+) -> bool {
     let left: u32 = spaces.parse().unwrap_or(9);
-    let answer = answer_once(alloc, arguments, Spaces { left }).or_else(|| answer_once(
+    let answer = answer_once(rt, alloc, arguments, Spaces { left }).or_else(|| answer_once(
+        rt,
         alloc,
         arguments,
         Spaces { left },
@@ -48,7 +56,7 @@ fn a_failing_reader_fails_the_command(rt: HostRuntime) {
         jeprun run → 1";
     for row in rows.split('\n') {
         let (arguments, spaces) = row.split_once(" → ").unwrap_or(("", ""));
-        assert!(rt; fails_reading(rt.alloc(), arguments, spaces), "{row}");
+        assert!(rt; fails_reading(&rt, rt.alloc(), arguments, spaces), "{row}");
     }
 }
 
@@ -67,12 +75,17 @@ impl Write for Full {
 }
 
 /// Whether the writer fails the command.
-fn fails_writing(alloc: Global, arguments: &str, mut input: &[u8]) -> bool {
+fn fails_writing<T: Threads + Wait + Sync>(
+    rt: &T,
+    alloc: Global,
+    arguments: &str,
+    mut input: &[u8],
+) -> bool {
     let Some(command) = command(alloc, arguments) else {
         return false;
     };
     matches!(
-        run(alloc, command, &mut input, &mut Full),
+        run(rt, alloc, command, &mut input, &mut Full),
         Err(CliError::Write)
     )
 }
@@ -95,8 +108,8 @@ generator = '[:seq [:once [:write 1]] [:once [:write 2]] [:once :read]]'
     for row in rows.split('§') {
         let (arguments, input) = row.split_once(" →").unwrap_or(("", ""));
         let input = input.as_bytes();
-        let failed = fails_writing(rt.alloc(), arguments, input)
-            || fails_writing(rt.alloc(), arguments, input);
+        let failed = fails_writing(&rt, rt.alloc(), arguments, input)
+            || fails_writing(&rt, rt.alloc(), arguments, input);
         assert!(rt; failed, "{row}");
     }
 }
@@ -137,18 +150,23 @@ fn many_delays_answered(alloc: Global) -> Option<String> {
 }
 
 /// Whether this is the answer to the input, where memory sufficed for both.
-fn is_stood(alloc: Global, input: Option<String>, answer: Option<String>) -> bool {
+fn is_stood<T: Threads + Wait + Sync>(
+    rt: &T,
+    alloc: Global,
+    input: Option<String>,
+    answer: Option<String>,
+) -> bool {
     let (Some(input), Some(answer)) = (input, answer) else {
         return false;
     };
-    is_answer(alloc, "jeprun env", input.as_bytes(), answer.as_bytes())
+    is_answer(rt, alloc, "jeprun env", input.as_bytes(), answer.as_bytes())
 }
 
 #[test]
 fn stands_many_faults(rt: HostRuntime) {
     let input = many_delays(rt.alloc()).or_else(|| many_delays(rt.alloc()));
     let answer = many_delays_answered(rt.alloc()).or_else(|| many_delays_answered(rt.alloc()));
-    assert!(rt; is_stood(rt.alloc(), input, answer));
+    assert!(rt; is_stood(&rt, rt.alloc(), input, answer));
 }
 
 /// 2,048 begins and withdrawals, one begin too many, and an undo.
@@ -175,5 +193,5 @@ fn many_steps_answered(alloc: Global) -> Option<String> {
 fn stands_many_steps(rt: HostRuntime) {
     let input = many_steps(rt.alloc()).or_else(|| many_steps(rt.alloc()));
     let answer = many_steps_answered(rt.alloc()).or_else(|| many_steps_answered(rt.alloc()));
-    assert!(rt; is_stood(rt.alloc(), input, answer));
+    assert!(rt; is_stood(&rt, rt.alloc(), input, answer));
 }
