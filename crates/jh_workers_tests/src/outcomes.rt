@@ -1,0 +1,228 @@
+//! What is told of runs.
+//!
+//! The text of a row is settings. They come to the error of their run; or to the number of client completions and of the
+//! nemesis's operations in its history, the ids that are active after its journal, what the audit finds, whether the
+//! journal is that of a replay under the same settings, and the error of a second run. Or they come to the value of the
+//! last operation.
+
+use crate::rows::{Kind, first_wrong};
+use crate::runs::{Finished, may_lack_memory, plan_of, ran, replayed};
+use crate::texts::journal_text;
+use jh_edn::write;
+use jh_nemesis::Nemesis;
+use jh_ops::{Kind as Told, Op, Process};
+use jh_simnode::{Event, Plan, nemesis_after};
+use jh_workers::{RunError, audit, follows_plan};
+use std::alloc::Global;
+use std::sync::Wait;
+use std::thread::Threads;
+
+fn is_nemesis(op: &Op) -> bool {
+    matches!(op.process, Process::Nemesis)
+}
+
+fn is_completion(op: &Op) -> bool {
+    !is_nemesis(op) && !matches!(op.kind, Told::Invoke)
+}
+
+/// The numbers of client completions and of operations of the nemesis.
+fn counts(alloc: Global, history: &[Op]) -> Option<String> {
+    let completions = history.iter().filter(|op| is_completion(op)).count();
+    let steps = history.iter().filter(|op| is_nemesis(op)).count();
+    format!(in alloc; "{completions} completions, {steps} of the nemesis").ok()
+}
+
+fn ids(alloc: Global, nemesis: &Nemesis) -> Option<Vec<u32>> {
+    let mut ids = Vec::new(alloc);
+    for place in 0..nemesis.active_len() {
+        let (id, _) = nemesis.active_at(place)?;
+        ids.push(id).ok()?;
+    }
+    Some(ids)
+}
+
+/// The ids that are active after a journal.
+fn active(alloc: Global, plan: &Plan, journal: &[Event]) -> Option<String> {
+    let nemesis = nemesis_after(alloc, plan, journal).ok()?;
+    let ids = ids(alloc, &nemesis)?;
+    format!(in alloc; "{ids:?}").ok()
+}
+
+/// What the audit finds.
+fn audited(plan: &Plan, journal: &[Event], history: &[Op]) -> &'static str {
+    if audit(journal, history).is_err() {
+        return "refused";
+    }
+    if !follows_plan(plan, journal, history) {
+        return "not as planned";
+    }
+    "audited"
+}
+
+/// Whether a journal is that of a replay.
+fn compared(alloc: Global, plan: &Plan, journal: &[Event]) -> Option<&'static str> {
+    let world = replayed(alloc, plan, journal)?;
+    let text = journal_text(alloc, journal)?;
+    if journal_text(alloc, world.journal())? == text {
+        Some("replayed")
+    } else {
+        Some("not replayed")
+    }
+}
+
+fn outcome_text(alloc: Global, plan: &Plan, journal: &[Event], history: &[Op]) -> Option<String> {
+    let counts = counts(alloc, history)?;
+    let active = active(alloc, plan, journal)?;
+    let compared = compared(alloc, plan, journal)?;
+    let audited = audited(plan, journal, history);
+    format!(in alloc; "{counts}, {active} active, {audited}, {compared}").ok()
+}
+
+fn error_text(alloc: Global, error: RunError) -> Option<String> {
+    if may_lack_memory(error) {
+        return None;
+    }
+    error.to_string(alloc).ok()
+}
+
+/// What a run and a second one came to.
+fn both_text(alloc: Global, plan: &Plan, finished: &Finished, history: &[Op]) -> Option<String> {
+    let Some(journal) = &finished.journal else {
+        return None;
+    };
+    let text = outcome_text(alloc, plan, journal, history)?;
+    let again = error_text(alloc, finished.again?)?;
+    format!(in alloc; "{text}, then {again}").ok()
+}
+
+fn value_text(alloc: Global, history: &[Op]) -> Option<String> {
+    let mut text = Vec::new(alloc);
+    write(&history.last()?.value, &mut text).ok()?;
+    String::from_utf8(text).ok()
+}
+
+/// What the run of settings comes to. None: memory was refused.
+pub(crate) fn told_once<R: Threads + Wait + Sync>(
+    rt: &R,
+    alloc: Global,
+    kind: Kind,
+    settings: &str,
+) -> Option<String> {
+    let plan = plan_of(alloc, settings)?;
+    let finished = ran(rt, alloc, &plan)?;
+    match (&finished.history, kind) {
+        (Err(error), _) => error_text(alloc, *error),
+        (Ok(history), Kind::Outcome) => both_text(alloc, &plan, &finished, history),
+        (Ok(history), Kind::LastValue) => value_text(alloc, history),
+    }
+}
+
+const OUTCOMES: &str = r#"
+start = '{:nodes ["n1" "n2" "n3"]}'
+store = "quorum"
+workload = "register"
+initial = 0
+clients = 2
+ops = 8
+tick_every = 4
+generator = '[:mix [:forever :read] [:forever [:write 1]] [:forever [:cas 0 1]]]'
+schedule = ['[0 [:begin 1 [:cut []]]]']
+→ 8 completions, 2 of the nemesis, [1] active, audited, replayed, then mismatch
+§ # too few rows
+start = '{:nodes ["n1" "n2" "n3"]}'
+store = "quorum"
+workload = "register"
+initial = 0
+clients = 2
+ops = 8
+rows = 5
+generator = '[:mix [:forever :read] [:forever [:write 1]] [:forever [:cas 0 1]]]'
+schedule = ['[0 [:begin 1 [:cut []]]]']
+→ history full
+§ # more clients than a second run could have shares
+start = '{:nodes ["n1" "n2" "n3"]}'
+store = "lww"
+workload = "counter"
+clients = 16
+ops = 100
+tick_every = 2
+generator = '[:mix [:forever :read] [:forever [:add 2]]]'
+schedule = ['[20 [:begin 1 [:kill ["n2"]]]]', '[40 [:begin 2 [:cut []]]]', '[60 [:withdraw 1]]']
+→ 100 completions, 6 of the nemesis, [2] active, audited, replayed, then mismatch
+§ # an entry that is due after the last call
+start = '{:nodes ["n1" "n2" "n3"]}'
+store = "quorum"
+workload = "register"
+clients = 2
+ops = 4
+generator = '[:forever :read]'
+schedule = ['[0 [:begin 1 [:cut []]]]', '[10000 [:withdraw 1]]']
+→ 4 completions, 4 of the nemesis, [] active, audited, replayed, then mismatch
+"#;
+
+#[test]
+fn runs_have_outcomes(rt: HostRuntime) {
+    assert_eq!(rt; first_wrong(&rt, rt.alloc(), Kind::Outcome, OUTCOMES), None);
+}
+
+const SETS: &str = r#"
+start = '{:nodes ["n1" "n2" "n3"]}'
+store = "quorum"
+workload = "set"
+clients = 2
+ops = 10
+rows = 22
+generator = '[:phases [:limit 9 [:rising 0]] [:once :read]]'
+→ [0 1 2 3 4 5 6 7 8]
+§ # the read's completion takes three rows
+start = '{:nodes ["n1" "n2" "n3"]}'
+store = "quorum"
+workload = "set"
+clients = 2
+ops = 10
+rows = 21
+generator = '[:phases [:limit 9 [:rising 0]] [:once :read]]'
+→ history full
+"#;
+
+#[test]
+fn a_set_is_read_whole(rt: HostRuntime) {
+    assert_eq!(rt; first_wrong(&rt, rt.alloc(), Kind::LastValue, SETS), None);
+}
+
+const MIXED: &str = r#"
+start = '{:nodes ["n1" "n2" "n3"]}'
+store = "quorum"
+workload = "register"
+initial = 0
+clients = 2
+ops = 8
+tick_every = 4
+generator = '[:mix [:forever :read] [:forever [:write 1]] [:forever [:cas 0 1]]]'
+schedule = ['[0 [:begin 1 [:cut []]]]']
+"#;
+
+/// What is wrong with a run that may have met want of memory.
+fn wrong_with(alloc: Global, plan: &Plan, finished: &Finished) -> Option<&'static str> {
+    let Some(journal) = &finished.journal else {
+        return None;
+    };
+    if compared(alloc, plan, journal) == Some("not replayed") {
+        return Some("the journal is not that of a replay");
+    }
+    match &finished.history {
+        Ok(history) if audited(plan, journal, history) == "audited" => None,
+        Ok(_) => Some("the audit refuses the outcome"),
+        Err(error) if may_lack_memory(*error) => None,
+        Err(_) => Some("another error"),
+    }
+}
+
+#[test]
+fn a_run_may_lack_memory(rt: HostRuntime) {
+    if let Some(plan) = plan_of(rt.alloc(), MIXED)
+        && let Some(finished) = ran(&rt, rt.alloc(), &plan)
+    {
+        assert_eq!(rt; wrong_with(rt.alloc(), &plan, &finished), None);
+    }
+}
