@@ -1,5 +1,5 @@
 //! What the process does: it reads its arguments, opens the standard streams, and ends with a status. What a terminal or a
-//! pipe gives or takes is no part of any clause, so this says nothing but that it ends.
+//! pipe gives or takes is no part of any clause, so this says nothing but that a status is given. A run on threads may wait.
 
 use crate::commands::{command_of, run};
 use crate::line::{REFUSED, parse, status_of_refusal};

@@ -36,6 +36,12 @@ op_at h place op low is = slice_get-map operation h place ∙ ap (option_map ope
 pub says_of : (h : List Operation) (place : ℕ) (op : Operation) (form : Form) → slice_get h place ≡ Some op → SaysAt h place form → Says place op form
 says_of h place op form at says = subst (λ o. Says place o form) (same_some says.0 op (sym says.1 ∙ at)) says.2
 
+-- what a contract sees of the operation that is read at a place, and what that says
+pub read_at : (h : List Op) (place : ℕ) (op : Op) (form : Form) → place < length h → op ≡ get_or h place op → SaysAt (operations h) place form
+    → (slice_get (operations h) place ≡ Some (operation op)) × Says place (operation op) form
+read_at h place op form low is says =
+    let at = op_at h place op low is in (at, says_of (operations h) place (operation op) form at says)
+
 -- an operation says one thing
 pub one_said : (h : List Operation) (place : ℕ) (f g : Form) → SaysAt h place f → SaysAt h place g → f ≡ g
 one_said h place f g these those = same_some f g (sym (says_form_at h place f these) ∙ says_form_at h place g those)

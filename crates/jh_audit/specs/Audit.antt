@@ -64,10 +64,14 @@ IsOver op (Tells process request number) = op.kind ≢ Kind.Info
 IsOver op (Begins entry) = ⊥
 IsOver op (Ends entry number) = ⊤
 
+-- the operation at a place says something, and this holds of both
+abbrev pub HoldsAt : List Operation → ℕ → (Operation → Form → Type 0) → Type 0
+HoldsAt history place P =
+    (op : Operation) × (form : Form) × (slice_get history place ≡ Some op) × Says place op form × P op form
+
 -- the operation at a place is one after which its process may ask again
 abbrev pub IsOverAt : List Operation → ℕ → Type 0
-IsOverAt history place =
-    (op : Operation) × (form : Form) × (slice_get history place ≡ Some op) × Says place op form × IsOver op form
+IsOverAt history place = HoldsAt history place IsOver
 
 -- just before an invocation stands nothing, or what is over
 abbrev pub MayAsk : List Operation → ℕ → Type 0
@@ -134,20 +138,18 @@ pub record IsAudited (journal : List Event) (history : List Operation) : Type 0 
 abbrev pub FaultAt : List Event → List Operation → ℕ → AuditFault → Type 0
 FaultAt journal history i (BadOp place) = (place ≡ i) × ((form : Form) → SaysAt history i form → ⊥)
 FaultAt journal history i (NoEvent place) =
-    (place ≡ i) × ((form : Form) × SaysAt history i form × (HasEvent journal form → ⊥))
+    (place ≡ i) × HoldsAt history i (λ op form. (HasEvent journal form → ⊥))
 FaultAt journal history i (WrongEvent place) =
-    (place ≡ i) × ((op : Operation) × (form : Form) × (slice_get history i ≡ Some op) × Says i op form
-    × HasEvent journal form × (TellsEvent journal i op form → ⊥))
+    (place ≡ i) × HoldsAt history i (λ op form. HasEvent journal form × (TellsEvent journal i op form → ⊥))
 FaultAt journal history i (Repeat place) =
-    (place ≡ i) × ((op : Operation) × (form : Form) × (slice_get history i ≡ Some op) × Says i op form
-    × HasEvent journal form × TellsEvent journal i op form × (IsNew history i form → ⊥))
+    (place ≡ i) × HoldsAt history i (λ op form. HasEvent journal form × TellsEvent journal i op form
+    × (IsNew history i form → ⊥))
 FaultAt journal history i (Unpaired place) =
-    (place ≡ i) × ((op : Operation) × (form : Form) × (slice_get history i ≡ Some op) × Says i op form
-    × HasEvent journal form × TellsEvent journal i op form × IsNew history i form × (IsPaired history i form → ⊥))
+    (place ≡ i) × HoldsAt history i (λ op form. HasEvent journal form × TellsEvent journal i op form
+    × IsNew history i form × (IsPaired history i form → ⊥))
 FaultAt journal history i (WrongOrder place) =
-    (place ≡ i) × ((op : Operation) × (form : Form) × (slice_get history i ≡ Some op) × Says i op form
-    × HasEvent journal form × TellsEvent journal i op form × IsNew history i form × IsPaired history i form
-    × (IsInOrder history i form → ⊥))
+    (place ≡ i) × HoldsAt history i (λ op form. HasEvent journal form × TellsEvent journal i op form
+    × IsNew history i form × IsPaired history i form × (IsInOrder history i form → ⊥))
 FaultAt journal history i (Unnamed number) = ⊥
 
 -- the least place at which something is wrong, and what; else the least number that is not named and must be

@@ -11,24 +11,28 @@ use Rattle.jh_simnode.specs.declared.schedule.Entry.{Entry}
 use Rattle.jh_simnode.specs.Histories.{answered_by}
 use Rattle.jh_simnode.specs.Plans.{PlanValue}
 
+-- the process is a client's
 abbrev pub is_client : Process → Bool
 is_client (Process.Client number) = true
 is_client Process.Nemesis = false
 
+-- the type is that of an invocation
 abbrev pub is_invoke : Kind → Bool
 is_invoke Kind.Invoke = true
 is_invoke Kind.Ok = false
 is_invoke Kind.Fail = false
 is_invoke Kind.Info = false
 
+-- the value is a vector
 abbrev pub is_vector : Edn → Bool
 is_vector (vector xs) = true
 is_vector _ = false
 
--- a client's completion; one of the nemesis, whose value is a pair
+-- a client's completion
 abbrev pub is_answered_call : Operation → Bool
 is_answered_call op = is_client op.process && not (is_invoke op.kind)
 
+-- a completion of the nemesis, whose value is a pair
 abbrev pub is_answered_step : Operation → Bool
 is_answered_step op = not (is_client op.process) && is_vector op.value
 
@@ -55,6 +59,7 @@ IsInTurn schedule journal history place =
     (op : Operation) → slice_get history place ≡ Some op → is_answered_step op ≡ true
     → EndsEntry schedule journal place op (steps_below history place)
 
+-- so is each below a place
 abbrev pub AreInTurn : List Entry → List Event → List Operation → ℕ → Type 0
 AreInTurn schedule journal history count = (place : ℕ) → place < count → IsInTurn schedule journal history place
 

@@ -1,4 +1,5 @@
-//! The audit. `specs/Audit.antt` says what is asked of each operation and event; each of its words has a function here.
+//! The audit. `specs/Audit.antt` says what is asked of each operation and event; each question has a function here, and
+//! `IsToldBy` one in `told.rt`.
 
 ghost use Rattle.std.specs.Prelude.{◌≡◌, ◌<◌, ◌≤◌, ◌↔◌, ℕ, length, slice_get, Some, IsTrue, MatchOption, MatchResult};
 ghost use Rattle.jh_edn.specs.View.{view};

@@ -57,31 +57,31 @@ const KILL_HISTORY: &str = r#"
 "#;
 
 const KILL_ROWS: &str = r#"
-→ ok true
+→ ok, as planned
 § 11
-→ Unpaired(10) true
+→ operation 10: unpaired, as planned
 § 10
 11
-→ Unnamed(5) true
+→ event 5: not named, as planned
 § 2
-→ Unpaired(2) true
+→ operation 2: unpaired, as planned
 § 8
 9
-→ Unnamed(4) false
+→ event 4: not named, not as planned
 § 11 {:type :ok, :process 0, :f :read, :value 0, :event 3}
-→ WrongEvent(11) true
+→ operation 11: wrong event, as planned
 § 11 {:type :ok, :process 0, :f :read, :value 1, :event 5}
-→ WrongEvent(11) true
+→ operation 11: wrong event, as planned
 § 9 {:type :info, :process :nemesis, :f :step, :value [3 1], :event 4}
-→ WrongEvent(9) false
+→ operation 9: wrong event, not as planned
 § 11 {:type :ok, :process 0, :f :read, :value 0, :event 9}
-→ NoEvent(11) true
+→ operation 11: no such event, as planned
 § 11 {:type :ok, :process 0, :f :frob, :value 0, :event 5}
-→ BadOp(11) true
+→ operation 11: bad operation, as planned
 § 11 {:index 10, :type :ok, :process 0, :f :read, :value 0, :event 5}
-→ BadOp(11) true
+→ operation 11: bad operation, as planned
 § 12 {:index 12, :type :ok, :process 0, :f :read, :value 0, :event 5}
-→ Repeat(12) false
+→ operation 12: repeated event, not as planned
 "#;
 
 /// What is told of the run with the kill, under the plan of these settings.
@@ -104,8 +104,8 @@ fn is_told(alloc: Global, settings: &str, wanted: &str) -> bool {
 
 #[test]
 fn a_run_follows_its_plan(rt: HostRuntime) {
-    assert!(rt; is_told(rt.alloc(), KILL, "ok true"));
-    assert!(rt; is_told(rt.alloc(), LONGER, "ok false"));
+    assert!(rt; is_told(rt.alloc(), KILL, "ok, as planned"));
+    assert!(rt; is_told(rt.alloc(), LONGER, "ok, not as planned"));
 }
 
 /// The first row of which something else is told, for a history of the run of these settings.
@@ -149,22 +149,22 @@ const READS_HISTORY: &str = r#"
 "#;
 
 const READS_ROWS: &str = r#"
-→ ok true
+→ ok, as planned
 § 1 {:type :ok, :process 0, :f :read, :value 0, :event 2}
 3 {:type :ok, :process 0, :f :read, :value 0, :event 0}
-→ WrongOrder(3) true
+→ operation 3: wrong order, as planned
 § 3 {:type :ok, :process 0, :f :read, :value 0, :event 0}
-→ Repeat(3) true
+→ operation 3: repeated event, as planned
 § 3 {:type :ok, :process 0, :f :read, :value 0, :event 1}
-→ WrongEvent(3) true
+→ operation 3: wrong event, as planned
 § 3 {:type :ok, :process 0, :f :read, :value 0, :event 4}
-→ NoEvent(3) true
+→ operation 3: no such event, as planned
 § 1
 2
-→ Unnamed(0) true
+→ event 0: not named, as planned
 § 2
 3
-→ Unnamed(2) true
+→ event 2: not named, as planned
 "#;
 
 #[test]
@@ -205,15 +205,15 @@ const UNKNOWN_HISTORY: &str = r#"
 "#;
 
 const UNKNOWN_ROWS: &str = r#"
-→ Unpaired(2) true
+→ operation 2: unpaired, as planned
 § 1 {:type :ok, :process 0, :f :write, :value 5, :event 0}
-→ WrongEvent(1) true
+→ operation 1: wrong event, as planned
 § 2 {:type :invoke, :process 1, :f :read, :value nil}
 3 {:type :ok, :process 1, :f :read, :value 5, :event 1}
-→ WrongEvent(3) true
+→ operation 3: wrong event, as planned
 § 2
 3
-→ Unnamed(1) true
+→ event 1: not named, as planned
 "#;
 
 #[test]

@@ -11,7 +11,7 @@ use jh_ops::{Op, history_of};
 use std::alloc::Global;
 
 /// The most places that a change may name.
-const MOST_PLACES: usize = 20;
+const MAX_PLACES: usize = 20;
 
 /// What stands at a place, by the changes or else as it was.
 fn line_at<'a>(line: &'a str, place: usize, changes: &'a str) -> &'a str {
@@ -28,7 +28,7 @@ fn line_at<'a>(line: &'a str, place: usize, changes: &'a str) -> &'a str {
 fn text_of(alloc: Global, history: &str, changes: &str) -> Option<String> {
     let mut text = String::new(alloc);
     let mut lines = history.lines();
-    for place in 0..MOST_PLACES {
+    for place in 0..MAX_PLACES {
         let line = lines.next().unwrap_or("");
         text.push_str(line_at(line, place, changes)).ok()?;
         text.push_str("\n").ok()?;

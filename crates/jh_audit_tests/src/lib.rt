@@ -1,5 +1,6 @@
-//! Tests of `jh_audit`, through its public calls alone: histories with one thing wrong, and a long one. What the clauses
-//! say is proved: a test is for values that come from outside, and shows how long an audit takes.
+//! Tests of `jh_audit`, through its public calls alone: histories with one thing wrong, a long one, and
+//! random ones beside the plain slow audit of `jh_audit_plain`. What the clauses
+//! say is proved: a test is for values that come from outside, and one is of a history as long as that of a run may be.
 //!
 //! `rows` says what a row is. What a row needs is made once more where memory was refused, so that the tests stand one
 //! refused allocation.
@@ -11,5 +12,7 @@ mod audits;
 mod histories;
 #[cfg(test)]
 mod long;
+#[cfg(test)]
+mod random;
 #[cfg(test)]
 mod rows;

@@ -1,5 +1,5 @@
 //! Rows of a table, which is one text: `§` stands between two rows. A row is changes of a history, an arrow, and what is
-//! told of the history after them: `ok` or the fault that the audit finds, and whether the history follows the plan. White
+//! told of the history after them: `ok` or the message of the fault that the audit finds, and whether the history follows the plan. White
 //! space around both is no part of them.
 
 use crate::histories::changed;
@@ -47,10 +47,14 @@ pub(crate) fn run_of(alloc: Global, settings: &str) -> Option<(Run, Vec<Op>)> {
 
 /// What is told of a history.
 pub(crate) fn judged(alloc: Global, run: &Run, history: &[Op]) -> Result<String, AllocError> {
-    let follows = follows_plan(&run.plan, &run.journal, history);
+    let follows = if follows_plan(&run.plan, &run.journal, history) {
+        "as planned"
+    } else {
+        "not as planned"
+    };
     match audit(&run.journal, history) {
-        Ok(()) => format!(in alloc; "ok {follows}"),
-        Err(fault) => format!(in alloc; "{fault:?} {follows}"),
+        Ok(()) => format!(in alloc; "ok, {follows}"),
+        Err(fault) => format!(in alloc; "{fault}, {follows}"),
     }
 }
 

@@ -64,7 +64,7 @@ pub enum CliError {
 }
 
 impl CliError {
-    /// The exit status: 3 where the input or the arguments are refused, 4 where the machine failed.
+    /// The exit status: 3 where the input or the arguments are refused, 4 where the machine failed or a run was not completed.
     pub fn status(&self) -> u8
         ensures { result ≡ status_of self.now }
     {

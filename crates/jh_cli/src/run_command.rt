@@ -37,7 +37,7 @@ const WORLD_PARTS: u64 = 32;
 /// known. All is read, run and judged before the first byte is written.
 ///
 /// A serial run gives the same bytes for the same input each time. A run on threads may wait, and promises only if it
-/// returns; it gives another history each time, which comes from an outcome of `jh_workers::run`, and its two lines of
+/// returns; it may give another history each time, which comes from an outcome of `jh_workers::run`, and its two lines of
 /// faults are what the steps of the outcome's journal make of the settings' start.
 ///
 /// Errors: a fault of reading (`Input`, `Read`); `Settings`; `Run`, `HistoryFull`, `Thread` or `Mismatch` where the run was

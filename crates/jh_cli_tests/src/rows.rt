@@ -78,10 +78,25 @@ pub(crate) fn is_answer<T: Threads + Wait + Sync>(
 pub(crate) enum Texts<'a> {
     /// Inputs of the command that these arguments ask for.
     Inputs(&'a str),
+    /// The same, and of the answer only what is alike for every order of threads: no operations, and no order.
+    Orders(&'a str),
     /// Arguments.
     Arguments,
     /// Names of errors.
     Errors,
+}
+
+/// The lines of an answer that are no operations, up to the order in which all can have happened.
+fn alike_in(alloc: Global, answer: &[u8]) -> Option<Vec<u8>> {
+    let mut alike = Vec::new(alloc);
+    for line in str::from_utf8(answer).ok()?.lines() {
+        let (line, _) = line.split_once(", :order").unwrap_or((line, ""));
+        if !line.starts_with("{:index") {
+            alike.extend_from_slice(line.as_bytes()).ok()?;
+            alike.push(b'\n').ok()?;
+        }
+    }
+    Some(alike)
 }
 
 /// What is shown for a text; `None` where memory was refused.
@@ -93,6 +108,9 @@ fn shown_once<T: Threads + Wait + Sync>(
 ) -> Option<Vec<u8>> {
     match texts {
         Texts::Inputs(arguments) => answer_once(rt, alloc, arguments, text.as_bytes()),
+        Texts::Orders(arguments) => {
+            alike_in(alloc, &answer_once(rt, alloc, arguments, text.as_bytes())?)
+        }
         Texts::Arguments => asked_once(alloc, text),
         Texts::Errors => named_once(alloc, text),
     }

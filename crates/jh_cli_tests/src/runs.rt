@@ -113,7 +113,6 @@ generator = '[:seq [:once [:write 5]] [:once :read]]'
 {:valid? true, :order [0 1]}
 § # A row too few.
 start = '{:nodes ["n1" "n2" "n3"]}'
-mode = "threads"
 store = "quorum"
 workload = "register"
 clients = 1
@@ -123,5 +122,72 @@ generator = '[:seq [:once [:write 5]] [:once :read]]'
 → 4 history full
 "#;
     let texts = Texts::Inputs("jeprun run");
+    assert_eq!(rt; first_wrong(&rt, rt.alloc(), texts, rows), None);
+}
+
+/// Runs on threads of two clients, and what is alike in all of them.
+#[test]
+fn runs_in_any_order(rt: HostRuntime) {
+    let rows = r#"# A fault that changes nothing is active at the end.
+start = '{:nodes ["n1" "n2" "n3"]}'
+store = "quorum"
+workload = "register"
+initial = 0
+clients = 2
+ops = 8
+tick_every = 4
+generator = '[:mix [:forever :read] [:forever [:write 1]] [:forever [:cas 0 1]]]'
+schedule = ['[0 [:begin 1 [:cut []]]]']
+→ 0
+:active [1]
+{:nodes ["n1" "n2" "n3"], :cut [], :slow [], :loss [], :down [], :clock []}
+{:valid? true
+§ # The same with too few rows.
+start = '{:nodes ["n1" "n2" "n3"]}'
+store = "quorum"
+workload = "register"
+initial = 0
+clients = 2
+ops = 8
+tick_every = 4
+rows = 5
+generator = '[:mix [:forever :read] [:forever [:write 1]] [:forever [:cas 0 1]]]'
+schedule = ['[0 [:begin 1 [:cut []]]]']
+→ 4 history full
+§ # An entry that is due after the last call.
+start = '{:nodes ["n1" "n2" "n3"]}'
+store = "quorum"
+workload = "register"
+clients = 2
+ops = 4
+generator = '[:forever :read]'
+schedule = ['[0 [:begin 1 [:cut []]]]', '[10000 [:withdraw 1]]']
+→ 0
+:active []
+{:nodes ["n1" "n2" "n3"], :cut [], :slow [], :loss [], :down [], :clock []}
+{:valid? true
+§ # A set that is read at the end.
+start = '{:nodes ["n1" "n2" "n3"]}'
+store = "quorum"
+workload = "set"
+clients = 2
+ops = 10
+rows = 22
+generator = '[:phases [:limit 9 [:rising 0]] [:once :read]]'
+→ 0
+:active []
+{:nodes ["n1" "n2" "n3"], :cut [], :slow [], :loss [], :down [], :clock []}
+{:valid? true, :ok [0 1 2 3 4 5 6 7 8], :lost [], :unexpected [], :recovered []}
+§ # The read takes a row more than there is.
+start = '{:nodes ["n1" "n2" "n3"]}'
+store = "quorum"
+workload = "set"
+clients = 2
+ops = 10
+rows = 21
+generator = '[:phases [:limit 9 [:rising 0]] [:once :read]]'
+→ 4 history full
+"#;
+    let texts = Texts::Orders("jeprun run");
     assert_eq!(rt; first_wrong(&rt, rt.alloc(), texts, rows), None);
 }

@@ -75,10 +75,25 @@ impl Numbers {
         }
     }
 
+    /// These numbers. Those of a set have to ascend. Takes no memory.
+    pub fn of(items: Vec<i64>) -> Numbers
+        ensures { result ≡ items.items }
+    {
+        Numbers { items }
+    }
+
+    /// The numbers in order.
     pub fn as_slice(&self) -> &[i64]
         ensures { result.now ≡ self.now }
     {
         &self.items
+    }
+
+    /// The numbers in order, as a list of their own. Takes no memory.
+    pub fn into_vec(self) -> Vec<i64>
+        ensures { result.items ≡ self }
+    {
+        self.items
     }
 
     pub(crate) fn copy(&self, alloc: Global) -> Result<Numbers, AllocError>

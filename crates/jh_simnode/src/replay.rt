@@ -1,9 +1,9 @@
 //! The faults that a journal leads to, by its steps alone. `specs/Replay.antt` says why a journal is refused.
 
-ghost use Rattle.std.specs.Prelude.{◌≡◌, length, IfOk, IfErr, OnOk};
+ghost use Rattle.std.specs.Prelude.{◌≡◌, All, length, IfOk, IfErr, OnOk};
 ghost use Rattle.jh_simnode.specs.Events.{faults_after};
 ghost use Rattle.jh_simnode.specs.Laws.{state_at};
-ghost use Rattle.jh_simnode.specs.Replay.{RefusesEvent, RefusesReplay};
+ghost use Rattle.jh_simnode.specs.Replay.{FitsEvent, RefusesEvent, RefusesReplay};
 ghost use Rattle.jh_simnode.specs.Runs.{setup_of};
 
 use crate::events::{Event, WorldError, fits};
@@ -14,6 +14,7 @@ use std::alloc::Global;
 /// Applies the step of an event, where it is one.
 fn apply_event(alloc: Global, nemesis: &mut Nemesis, event: &Event) -> Result<(), WorldError>
     ensures state { OnOk result (nemesis.new.state ≡ faults_after nemesis.old.state event.now) }
+    ensures fits { OnOk result (FitsEvent (length nemesis.old.state.names) event.now) }
     ensures refused { IfErr result (RefusesEvent (length nemesis.old.state.names) event.now) }
 {
     let Event::Step { step, answer: _ } = event else {
@@ -34,6 +35,7 @@ fn apply_event(alloc: Global, nemesis: &mut Nemesis, event: &Event) -> Result<()
 /// Errors: `UnknownNode` where the fault of a step names a node that is not in the environment; `OutOfMemory`.
 pub fn nemesis_after(alloc: Global, plan: &Plan, journal: &[Event]) -> Result<Nemesis, WorldError>
     ensures state { IfOk result (λ nemesis. nemesis.state ≡ state_at (setup_of plan.now) journal.now) }
+    ensures fits { OnOk result (All (FitsEvent (length plan.now.env.names)) journal.now) }
     ensures refused { IfErr result (RefusesReplay (length plan.now.env.names) journal.now) }
 {
     let mut nemesis = Nemesis::new(alloc, plan.environment().copy(alloc)?);

@@ -1,8 +1,10 @@
 //! When the nemesis takes which step in a run.
 
-ghost use Rattle.std.specs.Prelude.{◌≡◌, ◌<◌, ◌≤◌, length, MatchResult};
+ghost use Rattle.std.specs.Prelude.{◌≡◌, ◌<◌, ◌≤◌, ◌++◌, length, IfOk, MatchResult, OnOk};
+ghost use Rattle.std.specs.List.{remove_range};
 
 use jh_nemesis::Step;
+use std::alloc::{AllocError, Global};
 use std::marker::Model;
 use thiserror::Error;
 
@@ -14,6 +16,28 @@ pub const MOST_ENTRIES: usize = 1_024;
 pub struct Entry {
     pub at: u32,
     pub step: Step,
+}
+
+impl Entry {
+    /// The same entry once more.
+    pub fn copy(&self, alloc: Global) -> Result<Entry, AllocError>
+        ensures { IfOk result (λ copy. copy ≡ self.now) }
+    {
+        Ok(Entry {
+            at: self.at,
+            step: self.step.copy(alloc)?,
+        })
+    }
+}
+
+/// Puts copies of entries behind others.
+fn push_copies(copies: &mut Vec<Entry>, alloc: Global, entries: &[Entry]) -> Result<(), AllocError>
+    ensures { OnOk result (copies.new.items ≡ copies.old.items ++ entries.now) }
+{
+    for entry in entries {
+        copies.push(entry.copy(alloc)?)?;
+    }
+    Ok(())
 }
 
 /// Entries in order, at most 1,024. A contract sees a list.
@@ -59,5 +83,36 @@ impl Schedule {
         ensures few { length self.now ≤ MOST_ENTRIES }
     {
         &self.items
+    }
+
+    /// Its entries. Takes no memory.
+    pub fn into_entries(self) -> Vec<Entry>
+        ensures entries { result.items ≡ self }
+        ensures few { length self ≤ MOST_ENTRIES }
+    {
+        self.items
+    }
+
+    /// The same schedule once more.
+    pub fn copy(&self, alloc: Global) -> Result<Schedule, AllocError>
+        ensures { IfOk result (λ copy. copy ≡ self.now) }
+    {
+        self.copy_without(alloc, 0, 0)
+    }
+
+    /// A copy without the entries from a place on and below another.
+    pub fn copy_without(
+        &self,
+        alloc: Global,
+        from: usize,
+        to: usize,
+    ) -> Result<Schedule, AllocError>
+        requires { (from ≤ to) × (to ≤ length self.now) }
+        ensures { IfOk result (λ copy. copy ≡ remove_range self.now from to) }
+    {
+        let mut kept = Vec::new(alloc);
+        push_copies(&mut kept, alloc, &self.items[..from])?;
+        push_copies(&mut kept, alloc, &self.items[to..])?;
+        Ok(Schedule { items: kept })
     }
 }

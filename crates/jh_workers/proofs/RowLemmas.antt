@@ -16,8 +16,8 @@ use Rattle.jh_simnode.specs.Histories.{at_place}
 use Rattle.jh_simnode.specs.Reach.{places}
 use Rattle.jh_slots.specs.Seats.{Mark, Marks, Words, Void, Knowledge, saw}
 use Rattle.jh_slots.proofs.MapLemmas.{get_new, get_else}
-use Rattle.jh_workers.specs.Gather.{is_record, record_rows, IsBadMark, IsRecordOf, AreRecordsOf, RefusesGather}
-use Rattle.jh_workers.specs.GatherInside.{IsFound, RefusesRow, refusal_of, with_found}
+use Rattle.jh_workers.specs.Gather.{is_record, record_rows, IsBadMark, IsRecordOf, AreRecordsOf, RefusesGather, rows_of_log}
+use Rattle.jh_workers.specs.GatherInside.{IsFound, RefusesRecord, RefusesRow, refusal_of, with_found}
 use Rattle.jh_workers.specs.declared.records.GatherError.{GatherError}
 use Rattle.jh_workers.specs.declared.records.GatherError.TheVariants as gather
 
@@ -54,19 +54,11 @@ refused_is_bad words row NotRecordable refuses = absurd refuses
 refused_is_bad words row TooSmall refuses = absurd refuses
 
 -- a row that was seen with bad words is refused
-pub seen_is_bad : (s : Marks) (row : ℕ) (words : List ℕ) (e : GatherError) → row < 65536 → map.get s row ≡ Some (Words words) → RefusesRow words row e
-    → RefusesGather s (row + 1) e
-seen_is_bad s row words gather.OutOfMemory low is bad = tt
-seen_is_bad s row words (gather.BadWords at) low is bad =
-    let here = bad.0 in (
-      omega (arith, here, low),
-      λ m found. subst IsBadMark (ap (λ o. unwrap_or o (Words words)) (sym is ∙ ap (map.get s) (sym here) ∙ found)) bad.1,
-    )
-
--- what is refused below a row is refused below one further on
-pub refused_more : (s : Marks) (n m : ℕ) (e : GatherError) → n ≤ m → RefusesGather s n e → RefusesGather s m e
-refused_more s n m gather.OutOfMemory less refuses = tt
-refused_more s n m (gather.BadWords row) less refuses = let low = refuses.0 in (omega (arith, low, less), refuses.1)
+pub seen_is_bad : (s : Marks) (row : ℕ) (words : List ℕ) (e : GatherError) → map.get s row ≡ Some (Words words) → RefusesRow words row e
+    → RefusesRecord s row e
+seen_is_bad s row words gather.OutOfMemory is bad = tt
+seen_is_bad s row words (gather.BadWords at) is bad =
+    (bad.0, λ m found. subst IsBadMark (ap (λ o. unwrap_or o (Words words)) (sym is ∙ found)) bad.1)
 
 -- ---- rows with records
 
@@ -164,6 +156,20 @@ pub gathered_found : (s t : Marks) (n : ℕ) (found : Option Op) (history : List
     → AreRecordsOf s 0 (record_rows s n) history → AreRecordsOf t 0 (record_rows t (n + 1)) (with_found history found)
 gathered_found s t n None history same is are = gathered_without s t n history same is are
 gathered_found s t n (Some op) history same is are = gathered_with s t n is.0 (operation op) history same is.1 is.2 are
+
+-- a row is refused, where those below it were gathered
+pub gathered_to : (s t : Marks) (row count : ℕ) (history : List Operation) (e : GatherError) → AgreeBelow s t row
+    → AreRecordsOf s 0 (record_rows s row) history → row < rows_of_log count → RefusesRecord t row e → RefusesGather t count e
+gathered_to s t row count history gather.OutOfMemory same are low refuses = tt
+gathered_to s t row count history (gather.BadWords bad) same are low refuses =
+    let here = refuses.0 in
+    let whole : rows_of_log bad ≡ row = omega (arith, here, low) in
+    let before = records_same s t row 0 (record_rows s row) history same (rows_below s row) are in
+    let kept = subst (λ rows. AreRecordsOf t 0 rows history) (sym (rows_same s t row same)) before in (
+      omega (arith, here, low),
+      (history, subst (λ n. AreRecordsOf t 0 (record_rows t n) history) (sym whole) kept),
+      λ m found. refuses.1 m (ap (map.get t) (sym here) ∙ found),
+    )
 
 -- the process of a recorded operation can be written
 recorded_writable : (op : Operation) (words : List ℕ) → IsRecordedAs op words → IsWritable op.process

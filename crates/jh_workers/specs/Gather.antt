@@ -46,8 +46,10 @@ abbrev pub IsBadMark : Mark → Type 0
 IsBadMark (Words words) = (op : Operation) → IsRecordedAs op words → ⊥
 IsBadMark Void = ⊥
 
--- why no history is gathered: a row below the number has words of no operation, or memory
+-- why no history is gathered: a row below the number has words of no operation, and the records below it are those of a
+-- history; or memory
 abbrev pub RefusesGather : Marks → ℕ → GatherError → Type 0
 RefusesGather seen count (BadWords row) =
-    (row < rows_of_log count) × ((m : Mark) → map.get seen row ≡ Some m → IsBadMark m)
+    (row < rows_of_log count) × ((history : List Operation) × IsGathered seen row history)
+    × ((m : Mark) → map.get seen row ≡ Some m → IsBadMark m)
 RefusesGather seen count OutOfMemory = ⊤

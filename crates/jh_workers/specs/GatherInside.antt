@@ -1,6 +1,7 @@
 -- What the code finds in a row; `Gather` has the rule.
 use Rattle.std.specs.Prelude.{◌≡◌, ℕ, false, List, [], ◌∷◌, ◌++◌, length, Option, Some, None, ⊤}
-use Rattle.jh_slots.specs.Seats.{Mark, Words}
+use Rattle.std.specs.FinMap as map
+use Rattle.jh_slots.specs.Seats.{Mark, Marks, Words}
 use Rattle.jh_ops.specs.Operation.{Operation, operation}
 use Rattle.jh_ops.specs.Words.{IsRecordedAs}
 use Rattle.jh_ops.specs.declared.operation.Op.{Op}
@@ -22,6 +23,11 @@ refusal_of words.OutOfMemory row = OutOfMemory
 abbrev pub RefusesRow : List ℕ → ℕ → GatherError → Type 0
 RefusesRow words row (BadWords bad) = (bad ≡ row) × IsBadMark (Words words)
 RefusesRow words row OutOfMemory = ⊤
+
+-- the row has words of no operation, or memory was refused
+abbrev pub RefusesRecord : Marks → ℕ → GatherError → Type 0
+RefusesRecord seen row (BadWords bad) = (bad ≡ row) × ((m : Mark) → map.get seen row ≡ Some m → IsBadMark m)
+RefusesRecord seen row OutOfMemory = ⊤
 
 -- no record, or that of this operation
 abbrev pub IsFound : Option Mark → Option Op → Type 0

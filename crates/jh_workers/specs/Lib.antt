@@ -1,5 +1,5 @@
 pub mod Shown
 pub mod Gather
-pub mod Records
+pub mod RecordsInside
 pub mod GatherInside
 pub mod TablesInside

@@ -1,12 +1,13 @@
 //! What the threads of a run share beside the world and the log, under one lock: the generator's driver, the number of
 //! answered client calls, and what went wrong. A thread that has nothing to do sleeps until it has changed.
 
-ghost use Rattle.std.specs.Prelude.{◌≡◌, ◌↔◌, IsTrue, IsSome, MatchOption, Some, None, false, true};
+ghost use Rattle.std.specs.Prelude.{◌≡◌, ◌↔◌, ◌+◌, ◌≤◌, min, IsTrue, IsSome, MatchOption, Some, None, false, true};
 ghost use Rattle.jh_workers.specs.declared.desk.Turn.TheVariants.{Stop};
 
 use jh_gen::{Driver, Ended, GenAnswer, Thread};
 use jh_ops::{Call, Process, Request};
 use jh_simnode::WorldError;
+use jh_slots::Full;
 use rand_core::utils::NextWord;
 use rand_pcg::Lcg128Xsl64;
 use std::alloc::AllocError;
@@ -54,6 +55,17 @@ impl From<WorldError> for RunError {
     }
 }
 
+impl From<Full> for RunError {
+    ghost use Rattle.std.specs.Prelude.{◌≡◌};
+    ghost use Rattle.jh_workers.specs.declared.desk.RunError.TheVariants.{HistoryFull};
+
+    ghost from_gives = { λ _ e. e ≡ HistoryFull };
+
+    fn from(_error: Full) -> RunError {
+        RunError::HistoryFull
+    }
+}
+
 /// What a client thread does next.
 #[derive(Clone, Copy, Debug)]
 pub(crate) enum Turn {
@@ -71,37 +83,37 @@ struct Desk {
     driver: Driver,
     clients: u32,
     answered: u32,
-    open: bool,
+    is_open: bool,
     error: Option<RunError>,
 }
 
 impl Desk {
     /// A desk that is not open yet.
     fn new(driver: Driver, clients: u32) -> Self
-        ensures { (result.error ≡ None) × (result.open ≡ false) × (result.answered ≡ 0) }
+        ensures { (result.error ≡ None) × (result.is_open ≡ false) × (result.answered ≡ 0) }
     {
         Desk {
             driver,
             clients,
             answered: 0,
-            open: false,
+            is_open: false,
             error: None,
         }
     }
 
     /// All threads are there, and the work begins.
     fn open(&mut self)
-        ensures open { self.new.open ≡ true }
+        ensures opened { self.new.is_open ≡ true }
         ensures others { (self.new.error ≡ self.old.error) × (self.new.answered ≡ self.old.answered)
             × (self.new.driver ≡ self.old.driver) × (self.new.clients ≡ self.old.clients) }
     {
-        self.open = true;
+        self.is_open = true;
     }
 
     /// The run ends with an error. The first one stays.
     fn stop(&mut self, error: RunError)
         ensures first { MatchOption self.old.error (self.new.error ≡ Some error) (λ first. self.new.error ≡ Some first) }
-        ensures others { (self.new.open ≡ self.old.open) × (self.new.answered ≡ self.old.answered)
+        ensures others { (self.new.is_open ≡ self.old.is_open) × (self.new.answered ≡ self.old.answered)
             × (self.new.driver ≡ self.old.driver) × (self.new.clients ≡ self.old.clients) }
     {
         if self.error.is_none() {
@@ -109,6 +121,7 @@ impl Desk {
         }
     }
 
+    /// Whether an error ended the run.
     fn is_stopped(&self) -> bool
         ensures { IsTrue result ↔ IsSome self.now.error }
     {
@@ -122,8 +135,8 @@ impl Desk {
         self.error
     }
 
-    /// What a client thread does next, by a random number.
-    fn ask(&mut self, thread: u32, number: u64) -> Turn
+    /// What a client thread does next. Each ask of the driver takes a random number.
+    fn ask(&mut self, thread: u32, numbers: &mut Lcg128Xsl64) -> Turn
         ensures stopped { IsSome self.old.error → result ≡ Stop }
         ensures error { self.new.error ≡ self.old.error }
         ensures answered { self.new.answered ≡ self.old.answered }
@@ -131,10 +144,10 @@ impl Desk {
         if self.is_stopped() {
             return Turn::Stop;
         }
-        if !self.open {
+        if !self.is_open {
             return Turn::Wait;
         }
-        match self.driver.ask(Thread::Client(thread), number) {
+        match self.driver.ask(Thread::Client(thread), numbers.next_word()) {
             Ok(GenAnswer::Call(Process::Client(process), Call::Client(request))) => {
                 Turn::Call(process, request)
             }
@@ -146,6 +159,7 @@ impl Desk {
     /// One more client call was answered.
     fn count_answer(&mut self)
         ensures error { self.new.error ≡ self.old.error }
+        ensures counted { self.new.answered ≡ min (self.old.answered + 1) 4294967295 }
     {
         self.answered = self.answered.saturating_add(1);
     }
@@ -161,9 +175,11 @@ impl Desk {
 
     /// Whether an entry of the schedule is due: enough calls were answered, or the clients have ended.
     fn is_due(&mut self, at: u32) -> bool
-        ensures { self.new.error ≡ self.old.error }
+        ensures error { self.new.error ≡ self.old.error }
+        ensures waits { IsTrue result → self.old.is_open ≡ true }
+        ensures due { self.old.is_open ≡ true → at ≤ self.old.answered → IsTrue result }
     {
-        self.open && (at <= self.answered || self.have_clients_ended())
+        self.is_open && (at <= self.answered || self.have_clients_ended())
     }
 
     /// Whether the driver has nothing more for any thread, and none has an operation outstanding.
@@ -181,6 +197,7 @@ impl Desk {
         true
     }
 
+    /// Whether the driver has nothing more for this thread, which has no operation outstanding.
     fn is_done(&mut self, thread: Thread) -> bool
         ensures error { self.new.error ≡ self.old.error }
         ensures clients { self.new.clients ≡ self.old.clients }
@@ -245,7 +262,7 @@ impl Office {
     ) -> Turn {
         let mut desk = self.desk.lock(rt);
         for _ in rt.forever() {
-            let turn = desk.ask(thread, numbers.next_word());
+            let turn = desk.ask(thread, numbers);
             if !matches!(turn, Turn::Wait) {
                 return turn;
             }

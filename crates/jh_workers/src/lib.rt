@@ -4,6 +4,8 @@
 //! Nothing that changes is shared but the world under its lock, the log, and the desk under a second lock, which has the
 //! generator's driver. So all that an outcome promises is checked once the threads have ended, and rests on no schedule of
 //! theirs.
+//!
+//! Calls that take the runtime may wait, and promise only if they return.
 #![tactic(auto)]
 
 mod desk;
@@ -16,6 +18,6 @@ mod workers;
 
 pub use jh_audit::{AuditFault, audit, follows_plan};
 pub use locked::{LockedWorld, WorldShare};
-pub use ports::{Port, Tally};
+pub use ports::{Count, Port};
 pub use records::{GatherError, gather};
 pub use runs::{Outcome, RunError, run};

@@ -1,12 +1,12 @@
 //! A world behind a lock, whose journal is counted by the shares of those that call it.
 
-ghost use Rattle.std.specs.Prelude.{◌≡◌, ℕ, ◌+◌, ◌<◌, [], List, length, IfOk, IfErr, IfSome, OnOk, OnErr, MatchResult, ⊤};
+ghost use Rattle.std.specs.Prelude.{◌≡◌, ℕ, ◌+◌, ◌<◌, [], List, length, sum_by, IfOk, IfErr, IfSome, OnOk, OnErr, MatchResult, ⊤};
 ghost use Rattle.jh_nemesis.specs.Steps.{FitsNodes};
 ghost use Rattle.jh_simnode.specs.Events.{Adds, Refuses, IsLegal};
 ghost use Rattle.jh_simnode.specs.declared.events.Event.TheVariants as Event;
 ghost use Rattle.jh_workers.specs.Shown.{IsJournal};
 
-use crate::ports::{Port, Tally};
+use crate::ports::{Count, Port};
 use jh_env::Node;
 use jh_nemesis::{Step, StepAnswer};
 use jh_ops::Request;
@@ -22,17 +22,30 @@ const PARTS: u64 = 32;
 #[derive(Drop)]
 pub struct WorldShare<L: Ledger> {
     count: u64,
-    token: Share<L>,
-    ghost tied: { token.amount ≡ count },
-    ghost backed: { 0 < token.parts },
+    part: Share<L>,
+    ghost tied: { part.amount ≡ count },
+    ghost one: { part.parts ≡ 1 },
 }
 
-impl<L: Ledger> Tally for WorldShare<L> {
+impl<L: Ledger> Count for WorldShare<L> {
     ghost total = { λ share. share.count };
 
     fn count(&self) -> u64 {
         self.count
     }
+}
+
+/// Counts one more accepted call, in the book and in a share of it.
+fn count_one<L: Ledger>(book: &mut Book<L>, mine: &mut WorldShare<L>)
+    requires { book.old.total < MOST_EVENTS }
+    ensures total { book.new.total ≡ book.old.total + 1 }
+    ensures counted { mine.new.count ≡ mine.old.count + 1 }
+{
+    let WorldShare { count, part } = mine;
+    // The book bounds the share, so there is room for one more.
+    book.audit(part);
+    book.add(part, 1);
+    *count += 1;
 }
 
 /// A world with the book of all shares, whose total is the length of the journal.
@@ -58,11 +71,12 @@ impl<L: Ledger> Counted<L> {
         if self.left == 0 {
             return None;
         }
-        let token = self.rest.split_off(1, 0);
+        let part = self.rest.split_off(1, 0);
         self.left -= 1;
-        Some(WorldShare { count: 0, token })
+        Some(WorldShare { count: 0, part })
     }
 
+    /// `World::call`, counted in a share.
     fn call(
         &mut self,
         mine: &mut WorldShare<L>,
@@ -84,17 +98,14 @@ impl<L: Ledger> Counted<L> {
             rest: _,
             left: _,
         } = self;
-        let WorldShare { count, token } = mine;
-        // The book bounds the share, and the journal the book.
-        let _events = world.journal();
-        book.audit(token);
         let told = world.call(process, node, request, draw)?;
-        book.add(token, 1);
-        *count += 1;
+        // The journal bounds the book.
         let _events = world.journal();
+        count_one(book, mine);
         Ok(told)
     }
 
+    /// `World::step`, counted in a share.
     fn step(
         &mut self,
         mine: &mut WorldShare<L>,
@@ -114,16 +125,13 @@ impl<L: Ledger> Counted<L> {
             rest: _,
             left: _,
         } = self;
-        let WorldShare { count, token } = mine;
-        let _events = world.journal();
-        book.audit(token);
         let told = world.step(step)?;
-        book.add(token, 1);
-        *count += 1;
         let _events = world.journal();
+        count_one(book, mine);
         Ok(told)
     }
 
+    /// `World::tick`, counted in a share.
     fn tick(&mut self, mine: &mut WorldShare<L>) -> Result<u64, WorldError>
         ensures added { MatchResult result
             (λ told. Adds self.old.world Event.Tick told self.new.world)
@@ -137,29 +145,34 @@ impl<L: Ledger> Counted<L> {
             rest: _,
             left: _,
         } = self;
-        let WorldShare { count, token } = mine;
-        let _events = world.journal();
-        book.audit(token);
         let told = world.tick()?;
-        book.add(token, 1);
-        *count += 1;
+        let _events = world.journal();
+        count_one(book, mine);
         Ok(told)
     }
 
-    /// A law on a call that is never made: who has all parts of the ledger has counted the whole journal.
-    fn settle(&mut self, all: &mut Share<L>)
-        requires { all.old.parts ≡ L.parts }
-        ensures { length self.new.world.journal ≡ all.new.amount }
+    /// The world, once all shares are back.
+    fn settle(self, shares: Vec<WorldShare<L>>) -> Option<World>
+        requires { L.parts ≡ 32 }
+        ensures { IfSome result (λ world. length world.journal ≡ sum_by (λ share. share.count) shares.items) }
     {
         let Counted {
-            world: _,
+            world,
             book,
-            rest: _,
-            left: _,
+            rest,
+            left,
         } = self;
-        book.audit(all);
+        if left.saturating_add(shares.len() as u64) != PARTS {
+            return None;
+        }
+        let mut book = book;
+        let mut all = merged(rest, shares);
+        // Who has all parts of the ledger has its total.
+        book.audit(&mut all);
+        Some(world)
     }
 
+    /// A copy of the journal.
     fn events(&self, alloc: Global) -> Result<Vec<Event>, AllocError>
         ensures copy { IfOk result (λ journal. journal.items ≡ self.now.world.journal) }
         ensures legal { IfOk result (λ journal. IsJournal journal.items) }
@@ -168,6 +181,20 @@ impl<L: Ledger> Counted<L> {
     }
 }
 
+/// All these shares in one.
+fn merged<L: Ledger>(rest: Share<L>, shares: Vec<WorldShare<L>>) -> Share<L>
+    ensures parts { result.parts ≡ rest.parts + length shares.items }
+    ensures amount { result.amount ≡ rest.amount + sum_by (λ share. share.count) shares.items }
+{
+    let mut all = rest;
+    for share in shares {
+        let WorldShare { count: _, part } = share;
+        all.merge(part);
+    }
+    all
+}
+
+/// The same events again.
 fn copy_of(alloc: Global, events: &[Event]) -> Result<Vec<Event>, AllocError>
     ensures { IfOk result (λ copy. copy.items ≡ events.now) }
 {
@@ -202,6 +229,16 @@ impl<L: Ledger> LockedWorld<L> {
                 left: PARTS,
             }),
         }
+    }
+
+    /// The world again, once all shares that were handed out are back: their counts sum to the length of its journal.
+    /// `None` where one is missing.
+    pub fn settle(self, shares: Vec<WorldShare<L>>) -> Option<World>
+        requires { L.parts ≡ 32 }
+        ensures { IfSome result (λ world. length world.journal ≡ sum_by ⟦<WorldShare<L> as Count>⟧.total shares.items) }
+    {
+        let LockedWorld { inside } = self;
+        inside.into_inner().settle(shares)
     }
 }
 

@@ -1,12 +1,12 @@
-//! The seats of a run's log, each known to be of that log. `specs/Records.antt` says what a seat has seen once it published a
+//! The seats of a run's log, each known to be of that log. `specs/RecordsInside.antt` says what a seat has seen once it published a
 //! record.
 
-ghost use Rattle.std.specs.Prelude.{◌≡◌, ◌*◌, ◌≤◌, All, IfOk, IfErr, OnOk, length};
+ghost use Rattle.std.specs.Prelude.{◌≡◌, ◌+◌, ◌*◌, ◌<◌, ◌≤◌, All, IfOk, IfErr, OnOk, length};
 ghost use Rattle.jh_slots.specs.Seats.{Holds};
 ghost use Rattle.jh_ops.specs.Operation.{operation, operations};
 ghost use Rattle.jh_ops.specs.OperationWritten.{IsWritable};
 ghost use Rattle.jh_workers.specs.Gather.{IsGathered};
-ghost use Rattle.jh_workers.specs.Records.{HoldsWords, Publishes, PublishesWords};
+ghost use Rattle.jh_workers.specs.RecordsInside.{HoldsWords, Publishes, PublishesWords};
 ghost use Rattle.atomic_table.specs.Seated.{TableId};
 
 use crate::records::{GatherError, MAX_WORDS, gather};
@@ -16,12 +16,12 @@ use std::alloc::Global;
 use std::marker::{Brand, PhantomData};
 
 /// Which log a run writes into. Each run picks its own.
-pub trait Bench {
+pub trait OfLog {
     /// The table of the log.
     ghost table: { TableId };
 }
 
-impl Bench for Brand {
+impl OfLog for Brand {
     ghost use Rattle.jh_workers.specs.TablesInside.{no_table};
 
     ghost table = { no_table };
@@ -29,13 +29,13 @@ impl Bench for Brand {
 
 /// A seat of the run's log.
 #[derive(Drop)]
-pub struct Pass<B: Bench> {
+pub struct Pass<B: OfLog> {
     seat: Seat,
     of: PhantomData<B>,
     ghost own: { seat.table ≡ B.table },
 }
 
-impl<B: Bench> Pass<B> {
+impl<B: OfLog> Pass<B> {
     /// A pass of this seat.
     pub fn new(seat: Seat) -> Self
         requires { seat.table ≡ B.table }
@@ -76,6 +76,7 @@ impl<B: Bench> Pass<B> {
         requires rows { (1 ≤ rows) × (rows ≤ 255) }
         ensures held { IfOk result (λ claim. HoldsWords self.new.seat.knows claim.first claim.rows × (claim.rows ≡ rows)) }
         ensures seen { self.new.seat.knows.seen ≡ self.old.seat.knows.seen }
+        ensures full { IfErr result (λ _. slots.now.rows < self.new.seat.knows.low + rows) }
     {
         let claim = slots.claim(&mut self.seat, rows)?;
         Ok(claim)

@@ -1,4 +1,4 @@
-//! What workers call a world by.
+//! What threads call a world by.
 
 ghost use Rattle.std.specs.Prelude.{◌≡◌, ℕ, ◌+◌, ◌<◌, List, IfOk, IfSome, OnOk, OnErr};
 ghost use Rattle.jh_simnode.specs.declared.events.Event.{Event};
@@ -10,8 +10,8 @@ use jh_simnode::{Event, MOST_EVENTS, Reply, WorldError};
 use std::alloc::{AllocError, Global};
 use std::sync::Wait;
 
-/// A worker's own count of the calls of a port that were accepted.
-pub trait Tally {
+/// A thread's own count of the calls of a port that were accepted.
+pub trait Count {
     /// The count.
     ghost total: { Self → ℕ };
 
@@ -24,7 +24,7 @@ pub trait Tally {
 /// by nothing. All calls may wait.
 pub trait Port {
     /// A thread's own count.
-    type Share: Tally;
+    type Share: Count;
 
     /// Which journals the port may show.
     ghost shows: { Self → List Event → Type 0 };

@@ -6,7 +6,7 @@ ghost use Rattle.jh_ops.specs.Operation.{operation, operations};
 ghost use Rattle.jh_ops.specs.OperationWritten.{IsWritable};
 ghost use Rattle.jh_ops.specs.Words.{IsRecordedAs};
 ghost use Rattle.jh_workers.specs.Gather.{IsGathered, RefusesGather};
-ghost use Rattle.jh_workers.specs.GatherInside.{IsFound, RefusesRow, refusal_of, with_found};
+ghost use Rattle.jh_workers.specs.GatherInside.{IsFound, RefusesRecord, RefusesRow, refusal_of, with_found};
 
 use jh_ops::{Op, WordsError, of_words};
 use jh_simnode::push_placed;
@@ -73,7 +73,7 @@ fn record_in(
     ensures table { seat.new.table ≡ seat.old.table }
     ensures found { IfOk result (IsFound (fin.get seat.new.knows.seen row)) }
     ensures others { (r : ℕ) → r < row → fin.get seat.new.knows.seen r ≡ fin.get seat.old.knows.seen r }
-    ensures refused { IfErr result (RefusesGather seat.new.knows.seen (row + 1)) }
+    ensures refused { IfErr result (RefusesRecord seat.new.knows.seen row) }
 {
     match slots.read(seat, row, buffer.as_mut_slice()) {
         Read::Absent => Ok(None),

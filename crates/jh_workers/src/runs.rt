@@ -11,8 +11,8 @@ ghost use Rattle.jh_workers.specs.Gather.{IsGathered};
 
 use crate::desk::Office;
 pub use crate::desk::RunError;
-use crate::passes::{Bench, Pass};
-use crate::ports::{Port, Tally};
+use crate::passes::{OfLog, Pass};
+use crate::ports::{Count, Port};
 use crate::records::GatherError;
 use crate::workers::{Post, Site, work};
 use jh_audit::{audit, follows_plan};
@@ -34,7 +34,7 @@ pub struct Outcome<S> {
 }
 
 /// The sum of the counts of all shares, where it fits.
-fn sum_of<S: Tally>(shares: &Vec<S>) -> Option<u64>
+fn sum_of<S: Count>(shares: &Vec<S>) -> Option<u64>
     ensures { IfSome result (λ sum. sum ≡ sum_by S.total shares.now.items) }
 {
     let mut sum: u64 = 0;
@@ -45,7 +45,7 @@ fn sum_of<S: Tally>(shares: &Vec<S>) -> Option<u64>
 }
 
 /// The outcome of these parts, where they agree and the plan was kept.
-fn judged<S: Tally + Drop>(
+fn judged<S: Count + Drop>(
     plan: &Plan,
     history: Vec<Op>,
     journal: Vec<Event>,
@@ -76,7 +76,7 @@ fn judged<S: Tally + Drop>(
 }
 
 /// A pass and a share for each client and for the schedule, and a pass for the run itself.
-fn make_posts<B: Bench, P: Port, R: Wait>(
+fn make_posts<B: OfLog, P: Port, R: Wait>(
     rt: &R,
     alloc: Global,
     port: &P,
@@ -115,7 +115,7 @@ trait Work<O, T> {
     fn begin<R: Wait>(&self, rt: &R, office: &O, error: Option<RunError>);
 }
 
-impl<B: Bench, P: Port> Work<Office, Post<B, P::Share>> for Site<'_, B, P> {
+impl<B: OfLog, P: Port> Work<Office, Post<B, P::Share>> for Site<'_, B, P> {
     fn work_at<R: Wait>(
         &self,
         rt: &R,
@@ -178,7 +178,7 @@ fn work_all<S: Work<O, T> + Sync, O: Sync, T: Send + Drop, R: Threads + Wait + S
 }
 
 /// One pass that has seen what all had, and the shares.
-fn gather_posts<B: Bench, S: Drop>(
+fn gather_posts<B: OfLog, S: Drop>(
     alloc: Global,
     slots: &Slots,
     own: Pass<B>,
@@ -199,7 +199,7 @@ fn gather_posts<B: Bench, S: Drop>(
 }
 
 /// The work of all threads on a log: the pass that has then seen it, and the shares.
-fn worked<B: Bench + Send + Sync, P: Port + Sync, R: Threads + Wait + Sync>(
+fn worked<B: OfLog + Send + Sync, P: Port + Sync, R: Threads + Wait + Sync>(
     rt: &R,
     alloc: Global,
     plan: &Plan,
@@ -233,7 +233,7 @@ where
 }
 
 /// The run on its log.
-fn run_at<B: Bench + Send + Sync, P: Port + Sync, R: Threads + Wait + Sync>(
+fn run_at<B: OfLog + Send + Sync, P: Port + Sync, R: Threads + Wait + Sync>(
     rt: &R,
     alloc: Global,
     plan: &Plan,
@@ -259,9 +259,7 @@ where
         Err(GatherError::BadWords(_)) => return Err(RunError::Mismatch),
         Err(GatherError::OutOfMemory) => return Err(RunError::OutOfMemory),
     };
-    let Ok(journal) = port.events(rt, alloc) else {
-        return Err(RunError::OutOfMemory);
-    };
+    let journal = port.events(rt, alloc)?;
     judged(plan, history, journal, shares)
 }
 
@@ -269,7 +267,7 @@ where
 ///
 /// An outcome is given only where its history and its journal tell the same (`audit`), the shares of the threads together
 /// count the journal, and the plan was kept (`follows_plan`). The history is that of `gather`, and the journal one that the
-/// port may show. The same plan gives another history each time. The calls of the clients are not said to be a whole
+/// port may show. The same plan may give another history each time. The calls of the clients are not said to be a whole
 /// trace of the generator, and that threads run at once is shown by a test.
 ///
 /// May wait, and promises only if it returns. A thread that has nothing to do sleeps. A port keeps the events of a run
@@ -294,10 +292,7 @@ where
     ensures gathered { IfOk result (λ o. (seen : Marks) × IsGathered seen plan.now.rows (operations o.history.items)) }
     ensures writable { IfOk result (λ o. All (λ op. IsWritable op.process) (operations o.history.items)) }
 {
-    let Ok(before) = port.events(rt, alloc) else {
-        return Err(RunError::OutOfMemory);
-    };
-    if !before.is_empty() {
+    if !port.events(rt, alloc)?.is_empty() {
         return Err(RunError::Mismatch);
     }
     let Ok((slots, seat)) = Slots::new(alloc, plan.rows()) else {

@@ -1,5 +1,5 @@
-//! A port that answers its first call only once a second one is there. A run over it has an outcome only where two
-//! workers call at once.
+//! A port that answers one of its calls only once the next one is answered, so that a run over it has an outcome only where
+//! two threads call at once; and that may refuse all calls, all steps or all ticks.
 
 ghost use Rattle.std.specs.Prelude.{◌≡◌, ◌+◌, ◌<◌, IfOk, OnOk, OnErr};
 
@@ -8,14 +8,23 @@ use jh_env::Node;
 use jh_nemesis::{Step, StepAnswer};
 use jh_ops::Request;
 use jh_simnode::{Event, Got, MOST_EVENTS, Reply, WorldError};
-use jh_workers::{Port, RunError, Tally, run};
+use jh_workers::{Count, Port, RunError, run};
 use std::alloc::{AllocError, Global};
 use std::sync::{Mutex, Wait};
 use std::thread;
 use std::thread::Threads;
 
-/// How often the first call looks for the second.
+/// How often a call that is held looks for the next one.
 const TURNS: u32 = 10_000_000;
+
+/// What a port refuses.
+#[derive(Clone, Copy, PartialEq, Eq)]
+enum Refused {
+    Nothing,
+    Calls,
+    Steps,
+    Ticks,
+}
 
 #[derive(Drop)]
 struct Held {
@@ -23,10 +32,12 @@ struct Held {
     journal: Vec<Event>,
 }
 
-/// A port in memory.
+/// A port in memory. It holds the call of a number, from 1, or none where that is 0.
 #[derive(Drop)]
 struct Gate {
     held: Mutex<Held>,
+    holds: u32,
+    refused: Refused,
 }
 
 #[derive(Drop)]
@@ -34,7 +45,7 @@ struct Counted {
     count: u64,
 }
 
-impl Tally for Counted {
+impl Count for Counted {
     ghost total = { λ mine. mine.count };
 
     fn count(&self) -> u64 {
@@ -62,8 +73,10 @@ impl Held {
 }
 
 impl Gate {
-    fn new(alloc: Global) -> Gate {
+    fn new(alloc: Global, holds: u32, refused: Refused) -> Gate {
         Gate {
+            holds,
+            refused,
             held: Mutex::new(Held {
                 arrived: 0,
                 journal: Vec::new(alloc),
@@ -78,15 +91,24 @@ impl Gate {
         held.arrived
     }
 
-    /// Whether the second call came in time.
-    fn is_second_there<R: Wait>(&self, rt: &R) -> bool {
+    /// Whether the call after the one that is held was answered in time.
+    fn is_next_answered<R: Wait>(&self, rt: &R) -> bool {
         for _ in 0..TURNS {
-            if self.held.lock(rt).arrived > 1 {
+            if self.held.lock(rt).journal.len() >= self.holds as usize {
                 return true;
             }
             thread::yield_now();
         }
         false
+    }
+
+    /// Refuses what the port refuses.
+    fn refuse(&self, asked: Refused) -> Result<(), WorldError> {
+        if self.refused == asked {
+            Err(WorldError::TooManyEvents)
+        } else {
+            Ok(())
+        }
     }
 }
 
@@ -113,7 +135,8 @@ impl Port for Gate {
         request: Request,
         draw: u64,
     ) -> Result<(u64, Reply), WorldError> {
-        if self.arrive(rt) == 1 && !self.is_second_there(rt) {
+        self.refuse(Refused::Calls)?;
+        if self.arrive(rt) == self.holds && !self.is_next_answered(rt) {
             return Err(WorldError::OutOfMemory);
         }
         let event = Event::Call {
@@ -133,12 +156,14 @@ impl Port for Gate {
         mine: &mut Counted,
         step: Step,
     ) -> Result<(u64, StepAnswer), WorldError> {
+        self.refuse(Refused::Steps)?;
         let answer = StepAnswer::Ok;
         let number = self.held.lock(rt).add(mine, Event::Step { step, answer })?;
         Ok((number, answer))
     }
 
     fn tick<R: Wait>(&self, rt: &R, mine: &mut Counted) -> Result<u64, WorldError> {
+        self.refuse(Refused::Ticks)?;
         self.held.lock(rt).add(mine, Event::Tick)
     }
 
@@ -152,6 +177,36 @@ impl Port for Gate {
     }
 }
 
+/// How many operations and events a run through the gate has, or its error. None: memory was refused.
+fn told_once<R: Threads + Wait + Sync>(
+    rt: &R,
+    alloc: Global,
+    settings: &str,
+    holds: u32,
+    refused: Refused,
+) -> Option<Result<(usize, usize), RunError>> {
+    let plan = plan_of(alloc, settings)?;
+    match run(rt, alloc, &plan, &Gate::new(alloc, holds, refused)) {
+        Ok(outcome) => Some(Ok((outcome.history.len(), outcome.journal.len()))),
+        Err(error) if may_lack_memory(error) => None,
+        Err(error) => Some(Err(error)),
+    }
+}
+
+/// The same, once more where memory was refused.
+fn told<R: Threads + Wait + Sync>(
+    rt: &R,
+    alloc: Global,
+    settings: &str,
+    holds: u32,
+    refused: Refused,
+) -> Option<Result<(usize, usize), RunError>> {
+    match told_once(rt, alloc, settings, holds, refused) {
+        None => told_once(rt, alloc, settings, holds, refused),
+        told => told,
+    }
+}
+
 const TWO_READS: &str = r#"
 start = '{:nodes ["n1"]}'
 store = "local"
@@ -161,24 +216,54 @@ ops = 2
 generator = '[:forever :read]'
 "#;
 
-/// How many operations and events a run through the gate has, or its error. None: memory was refused.
-fn told_once<R: Threads + Wait + Sync>(
-    rt: &R,
-    alloc: Global,
-) -> Option<Result<(usize, usize), RunError>> {
-    let plan = plan_of(alloc, TWO_READS)?;
-    match run(rt, alloc, &plan, &Gate::new(alloc)) {
-        Ok(outcome) => Some(Ok((outcome.history.len(), outcome.journal.len()))),
-        Err(error) if may_lack_memory(error) => None,
-        Err(error) => Some(Err(error)),
-    }
+#[test]
+fn threads_call_at_once(rt: HostRuntime) {
+    assert_eq!(rt;
+        told(&rt, rt.alloc(), TWO_READS, 1, Refused::Nothing),
+        Some(Ok((4, 2)))
+    );
 }
 
+const A_READ_AND_TWO: &str = r#"
+start = '{:nodes ["n1"]}'
+store = "local"
+workload = "register"
+clients = 2
+ops = 3
+generator = '[:phases [:once :read] [:limit 2 [:forever :read]]]'
+"#;
+
+/// The thread that gets nothing while the first phase lasts makes one of the two calls that come at once.
 #[test]
-fn workers_run_at_once(rt: HostRuntime) {
-    let told = match told_once(&rt, rt.alloc()) {
-        None => told_once(&rt, rt.alloc()),
-        told => told,
-    };
-    assert_eq!(rt; told, Some(Ok((4, 2))));
+fn a_thread_waits_for_a_phase(rt: HostRuntime) {
+    assert_eq!(rt;
+        told(&rt, rt.alloc(), A_READ_AND_TWO, 2, Refused::Nothing),
+        Some(Ok((6, 3)))
+    );
+}
+
+const A_READ_AND_A_STEP: &str = r#"
+start = '{:nodes ["n1"]}'
+store = "local"
+workload = "register"
+clients = 1
+ops = 1
+tick_every = 1
+generator = '[:forever :read]'
+schedule = ['[0 [:withdraw-all]]']
+"#;
+
+#[test]
+fn a_refusal_ends_a_run(rt: HostRuntime) {
+    let refusal = RunError::World(WorldError::TooManyEvents);
+    for refused in [Refused::Calls, Refused::Steps, Refused::Ticks] {
+        assert_eq!(rt;
+            told(&rt, rt.alloc(), A_READ_AND_A_STEP, 0, refused),
+            Some(Err(refusal))
+        );
+    }
+    assert_eq!(rt;
+        told(&rt, rt.alloc(), A_READ_AND_A_STEP, 0, Refused::Nothing),
+        Some(Ok((4, 3)))
+    );
 }

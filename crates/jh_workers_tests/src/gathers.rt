@@ -113,11 +113,11 @@ fn a_record_is_gathered(rt: HostRuntime) {
     );
 }
 
-/// What is gathered from the first rows, of which one is void and one has words of no operation.
+/// What is gathered from the first rows, of which one is void and two have words of no operation.
 fn bad_words_once(alloc: Global, rows: usize) -> Option<String> {
     let (slots, mut one, mut other) = log_and_seats(alloc)?;
     void_row(&slots, &mut one);
-    if !publish(&slots, &mut one, &[1000]) {
+    if !publish(&slots, &mut one, &[1000]) || !publish(&slots, &mut one, &[1001]) {
         return None;
     }
     gathered(alloc, &slots, &mut other, rows)

@@ -1,10 +1,11 @@
 //! What is told of runs.
 //!
 //! The text of a row is settings. They come to the error of their run; or to the number of client completions and of the
-//! nemesis's operations in its history, the ids that are active after its journal, what the audit finds, whether the
-//! journal is that of a replay under the same settings, and the error of a second run. Or they come to the value of the
-//! last operation.
+//! nemesis's operations in its history, the ids that are active after its journal, what the audit finds and what is wrong
+//! with the journal, whether the journal is that of a replay under the same settings, and the error of a second run. Or they
+//! come to the value of the last operation.
 
+use crate::journals;
 use crate::rows::{Kind, first_wrong};
 use crate::runs::{Finished, may_lack_memory, plan_of, ran, replayed};
 use crate::texts::journal_text;
@@ -48,7 +49,7 @@ fn active(alloc: Global, plan: &Plan, journal: &[Event]) -> Option<String> {
     format!(in alloc; "{ids:?}").ok()
 }
 
-/// What the audit finds.
+/// What the audit finds, and what is wrong with the journal.
 fn audited(plan: &Plan, journal: &[Event], history: &[Op]) -> &'static str {
     if audit(journal, history).is_err() {
         return "refused";
@@ -56,7 +57,7 @@ fn audited(plan: &Plan, journal: &[Event], history: &[Op]) -> &'static str {
     if !follows_plan(plan, journal, history) {
         return "not as planned";
     }
-    "audited"
+    journals::wrong_with(plan, journal).unwrap_or("audited")
 }
 
 /// Whether a journal is that of a replay.
@@ -149,6 +150,15 @@ tick_every = 2
 generator = '[:mix [:forever :read] [:forever [:add 2]]]'
 schedule = ['[20 [:begin 1 [:kill ["n2"]]]]', '[40 [:begin 2 [:cut []]]]', '[60 [:withdraw 1]]']
 → 100 completions, 6 of the nemesis, [2] active, audited, replayed, then mismatch
+§ # writes that nobody may have kept: their processes go on under other numbers
+start = '{:nodes ["n1" "n2" "n3"]}'
+store = "quorum"
+workload = "register"
+clients = 3
+ops = 300
+generator = '[:forever [:write 1]]'
+schedule = ['[0 [:begin 1 [:pause ["n1" "n2"]]]]', '[100 [:begin 2 [:slow 600 [["n3" "n1"]]]]]', '[200 [:withdraw-all]]']
+→ 300 completions, 6 of the nemesis, [] active, audited, replayed, then mismatch
 § # an entry that is due after the last call
 start = '{:nodes ["n1" "n2" "n3"]}'
 store = "quorum"
@@ -205,7 +215,7 @@ schedule = ['[0 [:begin 1 [:cut []]]]']
 /// What is wrong with a run that may have met want of memory.
 fn wrong_with(alloc: Global, plan: &Plan, finished: &Finished) -> Option<&'static str> {
     let Some(journal) = &finished.journal else {
-        return None;
+        return Some("no journal");
     };
     if compared(alloc, plan, journal) == Some("not replayed") {
         return Some("the journal is not that of a replay");
@@ -225,4 +235,41 @@ fn a_run_may_lack_memory(rt: HostRuntime) {
     {
         assert_eq!(rt; wrong_with(rt.alloc(), &plan, &finished), None);
     }
+}
+
+// One client asks and calls in turn, so the draws are every second number of its stream.
+const ALONE: &str = r#"
+start = '{:nodes ["n1" "n2" "n3"]}'
+store = "quorum"
+workload = "register"
+clients = 1
+ops = 3
+seed = 7
+generator = '[:forever :read]'
+"#;
+
+/// The second, fourth and sixth number of PCG XSL RR 128/64 with state 7 and stream 1, as its paper has it.
+const DRAWS: [u64; 3] = [
+    9_816_695_004_564_706_232,
+    5_191_670_780_560_574_109,
+    16_364_278_647_694_089_004,
+];
+
+/// Whether the calls of the one client have these draws.
+fn is_drawn_once<R: Threads + Wait + Sync>(rt: &R, alloc: Global) -> Option<bool> {
+    let plan = plan_of(alloc, ALONE)?;
+    let finished = ran(rt, alloc, &plan)?;
+    match (&finished.history, &finished.journal) {
+        (Ok(_), Some(journal)) => Some(journals::has_draws(journal, &DRAWS)),
+        _ => None,
+    }
+}
+
+#[test]
+fn a_client_has_its_own_random_numbers(rt: HostRuntime) {
+    let drawn = match is_drawn_once(&rt, rt.alloc()) {
+        None => is_drawn_once(&rt, rt.alloc()),
+        drawn => drawn,
+    };
+    assert_eq!(rt; drawn, Some(true));
 }

@@ -59,11 +59,11 @@ fn run_both<L: Ledger + Send + Sync, R: Threads + Wait + Sync>(
     let port = LockedWorld::<L>::new(world, blank);
     let history = history_in(run(rt, alloc, plan, &port));
     let again = history_in(run(rt, alloc, plan, &port)).err();
-    let journal = port.events(rt, alloc).ok();
+    let journal = port.events(rt, alloc).or_else(|_| port.events(rt, alloc));
     Finished {
         history,
         again,
-        journal,
+        journal: journal.ok(),
     }
 }
 

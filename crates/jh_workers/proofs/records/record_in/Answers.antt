@@ -13,9 +13,8 @@ returns-in-Void-clause-others c = saw_below c.args.seat.now.knows c.read.new.sea
 pub returns-in-TooSmall-clause-refused : goal.returns-in-TooSmall-clause-refused
 returns-in-TooSmall-clause-refused c =
     let read = c.in-TooSmall.ensures.read in
-    let low = c.requires.row in
     let more = read.0 in
-    (omega (arith, low), long_is_bad c.args.seat.now.knows c.read.new.seat.knows c.args.row c.in-TooSmall.field-0 (omega (arith, more)) read.1 read.3)
+    (omega arith, long_is_bad c.args.seat.now.knows c.read.new.seat.knows c.args.row c.in-TooSmall.field-0 (omega (arith, more)) read.1 read.3)
 
 pub returns-in-Ok-clause-found : goal.returns-in-Ok-clause-found
 returns-in-Ok-clause-found c =
@@ -29,5 +28,5 @@ returns-in-Err-clause-others c = saw_below c.args.seat.now.knows c.read.new.seat
 
 pub returns-in-Err-clause-refused : goal.returns-in-Err-clause-refused
 returns-in-Err-clause-refused c =
-    seen_is_bad c.read.new.seat.knows.seen c.args.row _ c.in-Err.error c.requires.row
+    seen_is_bad c.read.new.seat.knows.seen c.args.row _ c.in-Err.error
     (saw_at c.args.seat.now.knows c.read.new.seat.knows c.args.row _ c.in-Words.ensures.read.2) c.in-Err.ensures

@@ -4,6 +4,17 @@ use Rattle.std.specs.FinMap as map
 use Rattle.jh_slots.specs.Seats.{Marks, Words, Knowledge, Holds, claim_at}
 use Rattle.jh_ops.specs.Operation.{Operation}
 use Rattle.jh_ops.specs.Words.{IsRecordedAs}
+use Rattle.jh_ops.specs.declared.call.Request.{Request}
+use Rattle.jh_ops.specs.declared.call.Request.TheVariants.{Cas}
+use Rattle.jh_simnode.specs.declared.copies.Got.TheVariants.{Many}
+use Rattle.jh_simnode.specs.declared.copies.Reply.{Reply}
+use Rattle.jh_simnode.specs.declared.copies.Reply.TheVariants.{Ok}
+
+-- how many integers the completion of a request tells, after the three words of each record
+abbrev pub integers_told : Request → Reply → ℕ
+integers_told request (Ok (Many numbers)) = length numbers
+integers_told (Cas old new) reply = 2
+integers_told request reply = 1
 
 -- the seat holds a claim of these rows, with as many words
 abbrev pub HoldsWords : Knowledge → ℕ → ℕ → Type 0
