@@ -58,7 +58,7 @@ pub fn change<'a>(random: &mut Random, lines: &mut Vec<Line<'a>>) -> Option<()> 
             lines.remove(place);
         }
         1 => lines.push(line).ok()?,
-        2 => lines.swap(place, other),
+        2 if place < lines.len() && other < lines.len() => lines.swap(place, other),
         _ => {
             let line = changed(random, line);
             if let Some(old) = lines.get_mut(place) {
