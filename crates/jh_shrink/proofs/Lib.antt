@@ -1,0 +1,2 @@
+pub mod SubsequenceLemmas
+pub mod ChangeLemmas

@@ -1,0 +1,7 @@
+use Rattle.std.proofs.Common.{rules}
+use Rattle.jh_shrink.proofs.SubsequenceLemmas.{sub_self}
+use Rattle.jh_shrink.proofs.shrinking.ask.Goals as goal
+
+-- the judge had no answer to the schedule itself
+pub returns-in-None : goal.returns-in-None
+returns-in-None g c = (c.args.schedule.now, sub_self c.args.schedule.now, search rules)

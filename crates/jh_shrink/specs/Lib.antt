@@ -1,0 +1,4 @@
+pub mod Edits
+pub mod ChangesInside
+pub mod Shrunk
+pub mod ShrinkingInside

@@ -1,0 +1,40 @@
+//! The changes that an editor makes. Each gives the one that takes it back, so that undo and redo are one thing.
+//! `specs/ChangesInside.antt` says what a change makes of the entries.
+
+ghost use Rattle.std.specs.Prelude.{◌≡◌, ◌≤◌, ◌<◌, length};
+ghost use Rattle.std.specs.Vec.{vec_capacity};
+ghost use Rattle.jh_shrink.specs.ChangesInside.{changed, back_from, Fits};
+
+use jh_simnode::{Entry, MOST_ENTRIES};
+use std::mem;
+
+/// A change of entries.
+#[derive(Debug, Drop)]
+pub(crate) enum Change {
+    /// An entry is put in at a place.
+    Put(usize, Entry),
+    /// The one at a place is taken out.
+    Take(usize),
+    /// One takes the place of another.
+    Swap(usize, Entry),
+}
+
+/// Makes a change, for which there is room, and gives the one that takes it back.
+pub(crate) fn make(entries: &mut Vec<Entry>, change: Change) -> Change
+    requires fits { Fits change entries.old.items }
+    requires room { MOST_ENTRIES ≤ vec_capacity entries.old }
+    ensures changed { entries.new.items ≡ changed change entries.old.items }
+    ensures back { back_from change entries.old.items result }
+    ensures room { MOST_ENTRIES ≤ vec_capacity entries.new }
+{
+    match change {
+        Change::Put(place, entry) => {
+            let _ = entries.insert(place, entry);
+            Change::Take(place)
+        }
+        Change::Take(place) => Change::Put(place, entries.remove(place)),
+        Change::Swap(place, entry) => {
+            Change::Swap(place, mem::replace(&mut entries[place], entry))
+        }
+    }
+}

@@ -1,0 +1,9 @@
+//! Makes a schedule that fails small, and edits schedules.
+#![tactic(auto)]
+
+mod changes;
+mod editor;
+mod shrinking;
+
+pub use editor::{EditError, Editor, InsertError, MOST_EDITS, NothingToRedo, NothingToUndo};
+pub use shrinking::{Observer, ShrinkError, Shrunk, shrink, shrink_observed};

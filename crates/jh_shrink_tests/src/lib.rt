@@ -1,0 +1,13 @@
+//! Tests of `jh_shrink`, through its public calls alone: edits, one after another, with what they leave; and schedules that are
+//! made small by judges of which it is known what they need. What the clauses say is proved: a test is for values that come
+//! from outside, and shows that memory suffices where there is some.
+//!
+//! What meets want of memory is made once more, so that the tests stand one refused allocation.
+#![tactic(auto)]
+
+#[cfg(test)]
+mod editors;
+#[cfg(test)]
+mod entries;
+#[cfg(test)]
+mod judges;
