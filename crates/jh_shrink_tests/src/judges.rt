@@ -4,7 +4,7 @@
 
 use crate::entries::{dues, schedule};
 use jh_env_plain::Random;
-use jh_shrink::{Observer, ShrinkError, Shrunk, shrink, shrink_observed};
+use jh_shrink::{ShrinkError, Shrunk, shrink};
 use jh_simnode::{Entry, Schedule};
 use std::alloc::Global;
 
@@ -37,7 +37,7 @@ fn shrunk(alloc: Global, count: u32, needed: &[u32], budget: u64) -> Option<Stri
 }
 
 /// How many entries, which are needed, how often the judge may be asked, and what becomes of them.
-static CASES: [(u32, &[u32], u64, &str); 8] = [
+static CASES: [(u32, &[u32], u64, &str); 9] = [
     (0, &[], 9, "minimal []"),
     (0, &[0], 9, "not failing []"),
     (3, &[7], 9, "not failing [0, 1, 2]"),
@@ -46,6 +46,8 @@ static CASES: [(u32, &[u32], u64, &str); 8] = [
     (9, &[2, 7], 99, "minimal [2, 7]"),
     (4, &[1], 0, "budget [0, 1, 2, 3]"),
     (4, &[1], 3, "budget [0, 1]"),
+    // Large parts go first, so three entries of 1,024 are found in some tens of calls.
+    (1_024, &[100, 500, 900], 100, "minimal [100, 500, 900]"),
 ];
 
 #[test]
@@ -60,39 +62,6 @@ fn schedules_are_made_small(rt: HostRuntime) {
             "{wanted}"
         );
     }
-}
-
-/// How often a judge was asked.
-#[derive(Drop)]
-struct Calls {
-    most: u64,
-}
-
-impl Observer for Calls {
-    fn see(&mut self, _entries: usize, calls: u64) {
-        self.most = calls;
-    }
-}
-
-/// How often a judge is asked that needs three entries of 1,024.
-fn calls_for_three(alloc: Global) -> Option<u64> {
-    let mut calls = Calls { most: 0 };
-    let judge = |schedule: &Schedule| Some(has_all(schedule, &[100, 500, 900]));
-    let schedule = schedule(alloc, 1_024)?;
-    match shrink_observed(alloc, schedule, judge, 10_000, &mut calls) {
-        Ok(Shrunk::Minimal(schedule)) if schedule.entries().len() == 3 => Some(calls.most),
-        _ => None,
-    }
-}
-
-/// Three entries of 1,024 are found in some tens of calls.
-#[test]
-fn large_parts_go_first(rt: HostRuntime) {
-    let calls = match calls_for_three(rt.alloc()) {
-        None => calls_for_three(rt.alloc()),
-        calls => calls,
-    };
-    assert!(rt; calls.is_some_and(|calls| calls < 100));
 }
 
 #[test]
@@ -138,7 +107,7 @@ fn are_in_order(entries: &[Entry]) -> bool {
 /// Whether a judge of a seed is told what is minimal.
 fn is_right(alloc: Global, seed: u64) -> Option<bool> {
     let mut random = Random::new(seed);
-    let count = random.below(24) as u32;
+    let count = u32::try_from(random.below(24)).ok()?;
     let judge = |schedule: &Schedule| Some(fails(schedule, seed));
     match shrink(alloc, schedule(alloc, count)?, judge, 10_000).ok()? {
         Shrunk::Minimal(schedule) => Some(
