@@ -2,7 +2,7 @@
 use Rattle.std.specs.Prelude.{ℕ, ◌<◌, ◌≤◌, List, [], ◌∷◌, length}
 use Rattle.jh_simnode.specs.declared.schedule.Entry.{Entry}
 use Rattle.jh_simnode.specs.declared.schedule.TheConstants.{MOST_ENTRIES}
-use Rattle.jh_shrink.specs.declared.editor.TheConstants.{MOST_EDITS}
+use Rattle.jh_shrink.specs.declared.editor.TheConstants.{MAX_EDITS}
 use Rattle.jh_shrink.specs.declared.editor.EditError.{EditError}
 use Rattle.jh_shrink.specs.declared.editor.EditError.TheVariants.{BadPlace, TooManyEdits, OutOfMemory}
 use Rattle.jh_shrink.specs.declared.editor.InsertError.{InsertError}
@@ -41,7 +41,7 @@ redone s = forth_to s s.future
 
 -- one more edit can be undone
 abbrev pub HasRoom : EditState → Type 0
-HasRoom s = length s.past < MOST_EDITS
+HasRoom s = length s.past < MAX_EDITS
 
 -- the entry at a place may be taken out or replaced
 abbrev pub MayEdit : EditState → ℕ → Type 0
@@ -54,7 +54,7 @@ MayInsert s place = (place ≤ length s.now) × (length s.now < MOST_ENTRIES) ×
 -- why the entry at a place is not edited: the first refusal that applies, or memory was refused where it may be
 abbrev pub RefusesEdit : EditState → ℕ → EditError → Type 0
 RefusesEdit s place BadPlace = length s.now ≤ place
-RefusesEdit s place TooManyEdits = (place < length s.now) × (MOST_EDITS ≤ length s.past)
+RefusesEdit s place TooManyEdits = (place < length s.now) × (MAX_EDITS ≤ length s.past)
 RefusesEdit s place OutOfMemory = MayEdit s place
 
 -- why none is put in, likewise
@@ -62,5 +62,5 @@ abbrev pub RefusesInsert : EditState → ℕ → InsertError → Type 0
 RefusesInsert s place Insert.BadPlace = length s.now < place
 RefusesInsert s place Insert.TooLong = (place ≤ length s.now) × (MOST_ENTRIES ≤ length s.now)
 RefusesInsert s place Insert.TooManyEdits =
-    (place ≤ length s.now) × (length s.now < MOST_ENTRIES) × (MOST_EDITS ≤ length s.past)
+    (place ≤ length s.now) × (length s.now < MOST_ENTRIES) × (MAX_EDITS ≤ length s.past)
 RefusesInsert s place Insert.OutOfMemory = MayInsert s place

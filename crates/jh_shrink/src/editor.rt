@@ -12,7 +12,7 @@ use std::marker::Model;
 use thiserror::Error;
 
 /// The most edits that can be undone.
-pub const MOST_EDITS: usize = 4_096;
+pub const MAX_EDITS: usize = 4_096;
 
 /// Why an entry is not deleted or replaced.
 #[derive(Clone, Copy, Debug, PartialEq, Eq, Error)]
@@ -133,7 +133,7 @@ impl Editor {
     fn has_room(&self) -> bool
         ensures { IsTrue result ↔ HasRoom self.now }
     {
-        self.past.len() < MOST_EDITS
+        self.past.len() < MAX_EDITS
     }
 
     /// Whether the entry at a place may be edited, if there is memory.

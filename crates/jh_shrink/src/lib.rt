@@ -5,5 +5,5 @@ mod changes;
 mod editor;
 mod shrinking;
 
-pub use editor::{EditError, Editor, InsertError, MOST_EDITS, NothingToRedo, NothingToUndo};
-pub use shrinking::{Observer, ShrinkError, Shrunk, shrink, shrink_observed};
+pub use editor::{EditError, Editor, InsertError, MAX_EDITS, NothingToRedo, NothingToUndo};
+pub use shrinking::{Nobody, Observer, ShrinkError, Shrunk, shrink, shrink_observed};

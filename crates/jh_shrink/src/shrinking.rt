@@ -39,7 +39,7 @@ pub trait Observer {
 
 /// Nobody is told.
 #[derive(Drop)]
-struct Nobody;
+pub struct Nobody;
 
 impl Observer for Nobody {
     fn see(&mut self, _entries: usize, _calls: u64) {}

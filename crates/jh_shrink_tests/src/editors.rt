@@ -3,7 +3,7 @@
 //! None is answered where memory was refused.
 
 use crate::entries::{dues, entry, schedule};
-use jh_shrink::{EditError, Editor, InsertError, MOST_EDITS};
+use jh_shrink::{EditError, Editor, InsertError, MAX_EDITS};
 use std::alloc::Global;
 
 /// An edit, an undo or a redo.
@@ -112,7 +112,7 @@ fn a_schedule_is_too_long(rt: HostRuntime) {
 /// The answers to an edit after as many as can be undone, and to an undo then.
 fn after_the_last(alloc: Global) -> Option<(Result<(), EditError>, bool)> {
     let mut editor = Editor::new(alloc, schedule(alloc, 1)?).ok()?;
-    for _ in 0..MOST_EDITS {
+    for _ in 0..MAX_EDITS {
         editor.replace(0, entry(7)).ok()?;
     }
     Some((editor.delete(0), editor.undo().is_ok()))

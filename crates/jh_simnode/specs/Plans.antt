@@ -43,6 +43,12 @@ plan env store volatile workload initial clients ops generator schedule tick_eve
       seed = seed;
     }
 
+-- the plan with another schedule, all else being the same
+abbrev pub with_schedule : PlanValue → List Entry → PlanValue
+with_schedule p schedule =
+    plan p.env p.settings.store p.settings.volatile p.settings.workload p.settings.initial p.clients p.ops p.generator
+    schedule p.tick_every p.rows p.seed
+
 -- a plan of those parts for which one can be refused
 abbrev pub judged : EnvValue → Settings → ℕ → ℕ → Generator → List Entry → ℕ → PlanValue
 judged env settings clients ops generator schedule rows =
@@ -89,6 +95,12 @@ RefusesPlan p BadRows = HasClients p × HasOps p × (HasRows p → ⊥)
 RefusesPlan p BadGenerator = HasClients p × HasOps p × HasRows p × (HasGenerator p → ⊥)
 RefusesPlan p BadStep = HasClients p × HasOps p × HasRows p × HasGenerator p × (HasSteps p → ⊥)
 RefusesPlan p OutOfMemory = IsFit p
+
+-- why a plan takes no other schedule; its other parts are right
+abbrev pub RefusesSchedule : PlanValue → List Entry → PlanError → Type 0
+RefusesSchedule p schedule BadStep = HasSteps (with_schedule p schedule) → ⊥
+RefusesSchedule p schedule OutOfMemory = HasSteps (with_schedule p schedule)
+RefusesSchedule p schedule _ = ⊥
 
 -- what holds of every plan
 pub record IsKept (p : PlanValue) : Type 0 where

@@ -5,7 +5,7 @@ ghost use Rattle.jh_env.specs.Overlay.{StandsFor};
 ghost use Rattle.jh_nemesis.specs.Steps.{FitsNodes};
 ghost use Rattle.jh_gen.specs.View.{generator_of};
 ghost use Rattle.jh_simnode.specs.Plans as rule;
-ghost use Rattle.jh_simnode.specs.Plans.{IsFit, RefusesPlan};
+ghost use Rattle.jh_simnode.specs.Plans.{IsFit, RefusesPlan, RefusesSchedule};
 ghost use Rattle.jh_simnode.specs.declared.plan.PlanError.TheVariants.{OutOfMemory};
 
 use crate::events::fits;
@@ -197,6 +197,31 @@ impl Plan {
             return Err(PlanError::BadStep);
         }
         Ok(())
+    }
+
+    /// The plan with another schedule, all else being the same.
+    ///
+    /// Errors: `BadStep` where a fault of the schedule names a node that is not in the environment; `OutOfMemory`.
+    pub fn with_schedule(&self, alloc: Global, schedule: Schedule) -> Result<Plan, PlanError>
+        ensures { MatchResult result
+            (λ plan. plan ≡ rule.with_schedule self.now schedule)
+            (RefusesSchedule self.now schedule) }
+    {
+        if !all_fit(schedule.entries(), self.environment()) {
+            return Err(PlanError::BadStep);
+        }
+        let generator = self.generator.as_gen().copy(alloc)?;
+        Ok(Plan {
+            environment: self.environment.copy(alloc)?,
+            settings: self.settings,
+            clients: self.clients,
+            ops: self.ops,
+            generator: Inner::of(alloc, generator)?,
+            schedule,
+            tick_every: self.tick_every,
+            rows: self.rows,
+            seed: self.seed,
+        })
     }
 
     /// The environment that the run starts from.
