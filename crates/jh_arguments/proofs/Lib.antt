@@ -1,2 +1,3 @@
 pub mod OptionLemmas
 pub mod LineLemmas
+pub mod ChainLemmas

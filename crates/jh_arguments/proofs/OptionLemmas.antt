@@ -1,6 +1,6 @@
 -- What the options of `check` read as, from what `clap`'s getters give.
 use Rattle.std.proofs.Common.{◌≡◌, ◌∙◌, sym, codes, ℕ, ℤ, Option, Some, None}
-use Rattle.std.specs.Prelude.{Result, option_map}
+use Rattle.std.specs.Prelude.{Result, option_map, IfSome, IsNone}
 use Rattle.std.specs.Borrow.{Bor}
 use mir.Syntax.{w64}
 use Rattle.std.specs.Str.Parse.{ParsesSigned, ParsesUnsigned, ExplainsSignedError, ExplainsUnsignedError, HasSignedDigitsIfOk, HasUnsignedDigitsIfOk}
@@ -32,20 +32,22 @@ initial_read f r none some = go (one_of (codes "initial") (rows_of f)) r (one_te
     go (Some t) None is none some = (some t is).1.0
 
 -- a budget that is read
-pub budget_read : (f : Found) (n : ℕ) → (one_text f (codes "budget") ≡ None → Some n ≡ None)
-    → ((t : Text) → one_text f (codes "budget") ≡ Some t → ReadsOne UnsignedGives t (Some n))
-    → IsBudget (one_of (codes "budget") (rows_of f)) n
-budget_read f n none some = go (one_of (codes "budget") (rows_of f)) (one_text-rows f (codes "budget"))
+pub budget_read : (f : Found) (r : Option ℕ) → (one_text f (codes "budget") ≡ None → r ≡ None)
+    → ((t : Text) → one_text f (codes "budget") ≡ Some t → ReadsOne UnsignedGives t r)
+    → IfSome r (IsBudget (one_of (codes "budget") (rows_of f)))
+budget_read f None none some = tt
+budget_read f (Some n) none some = go (one_of (codes "budget") (rows_of f)) (one_text-rows f (codes "budget"))
   where
     go : (o : Option Text) → one_text f (codes "budget") ≡ o → IsBudget o n
     go None is = let bad = none is in cc
     go (Some t) is = (some t is).0
 
 -- and one that is not
-pub budget_unread : (f : Found) (n : ℕ)
-    → ((t : Text) → one_text f (codes "budget") ≡ Some t → ReadsOne UnsignedGives t None)
+pub budget_unread : (f : Found) (r : Option ℕ) (n : ℕ) → IsNone r
+    → ((t : Text) → one_text f (codes "budget") ≡ Some t → ReadsOne UnsignedGives t r)
     → IsBudget (one_of (codes "budget") (rows_of f)) n → ⊥
-budget_unread f n some = go (one_of (codes "budget") (rows_of f)) (one_text-rows f (codes "budget"))
+budget_unread f (Some m) n none some = let bad = none in cc
+budget_unread f None n none some = go (one_of (codes "budget") (rows_of f)) (one_text-rows f (codes "budget"))
   where
     go : (o : Option Text) → one_text f (codes "budget") ≡ o → IsBudget o n → ⊥
     go None is wanted = wanted

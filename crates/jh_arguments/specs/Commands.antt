@@ -7,13 +7,15 @@ use Rattle.jh_ops.specs.declared.call.Workload.{Workload}
 use Rattle.jh_cli.specs.EnvText.{IsEnvTextOf}
 use Rattle.jh_cli.specs.CheckText.{IsCheckTextOf}
 use Rattle.jh_cli.specs.RunText.{IsRunTextOf}
+use Rattle.jh_cli.specs.ShrinkText.{IsShrinkTextOf}
 use Rattle.jh_cli.specs.Refusals.{RefusesInput}
 use Rattle.jh_cli.specs.CheckRefusals.{RefusesCheck}
 use Rattle.jh_cli.specs.RunRefusals.{RefusesRun}
+use Rattle.jh_cli.specs.ShrinkRefusals.{RefusesShrinking}
 use Rattle.jh_cli.specs.declared.error.CliError.{CliError}
 use Rattle.jh_arguments.specs.declared.commands.Question.{Question}
 use Rattle.jh_arguments.specs.declared.commands.Command.{Command}
-use Rattle.jh_arguments.specs.declared.commands.Command.TheVariants.{Env, Check, Run}
+use Rattle.jh_arguments.specs.declared.commands.Command.TheVariants.{Env, Check, Run, Shrink}
 
 abbrev pub name_of : Workload → Text
 name_of Workload.Register = codes "register"
@@ -51,6 +53,7 @@ AsksFor None command = ⊥
 AsksFor (Some found) Env = found.0 ≡ codes "env"
 AsksFor (Some found) (Check question) = (found.0 ≡ codes "check") × Asks found.1 question
 AsksFor (Some found) Run = found.0 ≡ codes "run"
+AsksFor (Some found) (Shrink budget) = (found.0 ≡ codes "shrink") × IsBudget (one_of (codes "budget") found.1) budget
 
 -- ---- what a command does
 
@@ -59,9 +62,11 @@ abbrev pub IsTextOf : Command → List ℕ → ℕ → List ℕ → Type 0
 IsTextOf Env input status output = IsEnvTextOf input output × (status ≡ 0)
 IsTextOf (Check question) input status output = IsCheckTextOf question.workload question.initial question.budget input status output
 IsTextOf Run input status output = IsRunTextOf input status output
+IsTextOf (Shrink budget) input status output = IsShrinkTextOf input status output
 
 -- why it refuses an input, or does not do its work
 abbrev pub Refuses : Command → List ℕ → CliError → Type 0
 Refuses Env input e = RefusesInput input e
 Refuses (Check question) input e = RefusesCheck question.workload question.initial question.budget input e
 Refuses Run input e = RefusesRun input e
+Refuses (Shrink budget) input e = RefusesShrinking input e

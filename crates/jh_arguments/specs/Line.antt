@@ -20,16 +20,20 @@ workload names = record (option (codes "workload")) { required = true; parser = 
 abbrev pub initial : Rule
 initial = record (option (codes "initial")) { parser = Some (Signed (negsuc 9223372036854775807) (pos 9223372036854775807)) }
 
-abbrev pub budget : Rule
-budget = record (option (codes "budget")) { parser = Some (Unsigned 0 10000000); defaults = codes "100000" ∷ [] }
+-- how much may be done: at most 10,000,000, and this where nothing is said
+abbrev pub budget : Text → Rule
+budget default = record (option (codes "budget")) { parser = Some (Unsigned 0 10000000); defaults = default ∷ [] }
 
 abbrev pub check : Bor (List (Bor Text)) → App
-check names = with_rule (with_rule (with_rule (new_app (codes "check")) (workload names)) initial) budget
+check names = with_rule (with_rule (with_rule (new_app (codes "check")) (workload names)) initial) (budget (codes "100000"))
+
+abbrev pub shrink : App
+shrink = with_rule (new_app (codes "shrink")) (budget (codes "10000"))
 
 abbrev pub jeprun : Bor (List (Bor Text)) → App
-jeprun names = with_subcommand (with_subcommand (with_subcommand
+jeprun names = with_subcommand (with_subcommand (with_subcommand (with_subcommand
     (on_top (λ s. record s { subcommand_required = true }) (new_app (codes "jeprun")))
-    (new_app (codes "env")).top) (check names).top) (new_app (codes "run")).top
+    (new_app (codes "env")).top) (check names).top) (new_app (codes "run")).top) shrink.top
 
 abbrev pub workload_names : List Text
 workload_names = codes "register" ∷ codes "set" ∷ codes "counter" ∷ codes "unique-ids" ∷ []

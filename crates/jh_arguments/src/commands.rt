@@ -1,21 +1,22 @@
 //! What the arguments ask for, and what is done then, over any reader and any writer. `specs/Commands.antt` says which
 //! arguments ask for which command, what a command writes, and why it refuses its input.
 
-ghost use Rattle.std.specs.Prelude.{◌≡◌, ◌≢◌, ◌↔◌, ℕ, List, IfOk, IfErr, IfSome, IsNone, IsErrOf};
+ghost use Rattle.std.specs.Prelude.{◌≡◌, ◌≢◌, ◌↔◌, ℕ, List, codes, IfOk, IfErr, IfSome, IsNone, IsErrOf};
 ghost use Rattle.std.specs.Io.KnownBytes.{Appends};
-ghost use Rattle.clap.specs.Words.{found_of, rows_of, subcommand_rows_of};
+ghost use Rattle.clap.specs.Words.{found_of, one_of, rows_of, subcommand_rows_of};
 ghost use Rattle.jh_cli.specs.CheckText.{TakesInitial};
 ghost use Rattle.jh_cli.specs.declared.error.CliError.TheVariants as CliError;
 ghost use Rattle.jh_arguments.specs.Commands as text;
-ghost use Rattle.jh_arguments.specs.Commands.{Asks, AsksFor, IsTextOf, Refuses};
+ghost use Rattle.jh_arguments.specs.Commands.{Asks, AsksFor, IsBudget, IsTextOf, Refuses};
 ghost use Rattle.jh_arguments.specs.declared.commands.Command.{Command};
 ghost use Rattle.jh_arguments.specs.declared.commands.Command.TheVariants.{Check};
 ghost use Rattle.jh_arguments.specs.declared.commands.Question.{Question};
 ghost use Rattle.jh_ops.specs.declared.call.Workload.{Workload};
 
 use clap::ArgMatches;
-use jh_cli::{CliError, check_run, env_run, run_run};
+use jh_cli::{CliError, check_run, env_run, run_run, shrink_run_observed};
 use jh_ops::Workload;
+use jh_shrink::Observer;
 use std::alloc::Global;
 use std::io::{Read, Write};
 use std::sync::Wait;
@@ -38,6 +39,8 @@ pub enum Command {
     Check(Question),
     /// A run of a simulated cluster.
     Run,
+    /// The schedule of a run made small, by so many runs at most.
+    Shrink(u64),
 }
 
 /// The command that the arguments ask for. `parse` has seen to it that there is one.
@@ -49,6 +52,7 @@ pub fn command_of(matches: &ArgMatches<'_>) -> Option<Command>
         ("env", _) => Some(Command::Env),
         ("check", options) => Some(Command::Check(question_of(options)?)),
         ("run", _) => Some(Command::Run),
+        ("shrink", options) => Some(Command::Shrink(budget_of(options)?)),
         _ => None,
     }
 }
@@ -63,8 +67,17 @@ pub fn question_of(options: &ArgMatches<'_>) -> Option<Question>
     Some(Question {
         workload,
         initial: options.get_one::<i64>("initial"),
-        budget: options.get_one::<u64>("budget")?,
+        budget: budget_of(options)?,
     })
+}
+
+/// The budget that options give.
+fn budget_of(options: &ArgMatches<'_>) -> Option<u64>
+    ensures told { IfSome result (IsBudget (one_of (codes "budget") (rows_of (found_of options.now)))) }
+    ensures taken { IsNone result → (budget : ℕ)
+        → IsBudget (one_of (codes "budget") (rows_of (found_of options.now))) budget → ⊥ }
+{
+    options.get_one::<u64>("budget")
 }
 
 /// The workload of this name.
@@ -82,15 +95,19 @@ fn workload_of(name: &str) -> Option<Workload>
 }
 
 /// Does what a command does, and gives its exit status: 0 where its work is done and nothing was found, 1 and 2 where the
-/// history that it judges is not valid, or where that is not known. The error has the status otherwise: 3 for an input that
-/// is refused, 4 for a fault of the machine or a run that was not completed. Nothing is written before any error but `Write`.
-/// A run on threads may wait; all else returns if each call of the reader and the writer does.
-pub fn run<T: Threads + Wait + Sync, R: Read, W: Write>(
+/// history that it judges is not valid, or where that is not known, and likewise where a schedule that fails was made small, or
+/// the budget did not suffice for it. The error has the status otherwise: 3 for an input that is refused, 4 for a fault of the
+/// machine or a run that was not completed. Nothing is written before any error but `Write`.
+///
+/// The observer is told how far the work of `shrink` is. A run on threads may wait; all else returns if each call of the reader,
+/// the writer and the observer does.
+pub fn run<T: Threads + Wait + Sync, R: Read, W: Write, O: Observer>(
     rt: &T,
     alloc: Global,
     command: Command,
     reader: &mut R,
     writer: &mut W,
+    observer: &mut O,
 ) -> Result<u8, CliError>
     ensures written { IfOk result (λ status. IfSome (R.remaining reader.old) (λ input.
         (output : List ℕ) × IsTextOf command input status output
@@ -112,5 +129,6 @@ pub fn run<T: Threads + Wait + Sync, R: Read, W: Write>(
             },
         ) => check_run(alloc, reader, writer, workload, initial, budget),
         Command::Run => run_run(rt, alloc, reader, writer),
+        Command::Shrink(budget) => shrink_run_observed(alloc, reader, writer, budget, observer),
     }
 }

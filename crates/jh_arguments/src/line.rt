@@ -1,10 +1,11 @@
 //! The commands and their options, as `clap` reads them, and what its refusals mean to the program. Its texts stand here
 //! alone: help and complaints are shown by tests.
 
-ghost use Rattle.std.specs.Prelude.{◌≡◌, ◌≢◌, ◌↔◌, IfOk, IfErr, IsErrOf, Ok, map};
-ghost use Rattle.clap.specs.Words.{app_of, kind_of};
+ghost use Rattle.std.specs.Prelude.{◌≡◌, ◌≢◌, ◌↔◌, false, IfOk, IfErr, IsErrOf, Ok, map};
+ghost use Rattle.clap.specs.Words.{app_of, kind_of, rule_of};
 ghost use Rattle.clap.specs.declared.error.ErrorKind.TheVariants as ErrorKind;
 ghost use Rattle.jh_cli.specs.declared.error.CliError.TheVariants as CliError;
+ghost use Rattle.jh_arguments.specs.Line as text;
 ghost use Rattle.jh_arguments.specs.Line.{IsCheck, IsFound, IsLine, IsRefused, workload_names};
 
 use clap::error::ErrorKind;
@@ -42,7 +43,8 @@ fn command_line<'a>(alloc: Global) -> Result<Command<'a>, Error>
         .subcommand_required(true)
         .subcommand(env)?
         .subcommand(check_command(alloc)?)?
-        .subcommand(run)?;
+        .subcommand(run)?
+        .subcommand(shrink_command(alloc)?)?;
     Ok(jeprun)
 }
 
@@ -62,18 +64,44 @@ fn check_command<'a>(alloc: Global) -> Result<Command<'a>, Error>
         .value_name("N")
         .help("The register's first value; nil where it is left out")
         .value_parser(value_parser!(i64));
-    let budget = Arg::new(alloc, "budget")
-        .long("budget")
-        .value_name("N")
-        .help("How many configurations the judge of a register may reach")
-        .value_parser(value_parser!(u64).range(..=10_000_000))
-        .default_value("100000");
+    let budget = budget_option(
+        alloc,
+        "How many configurations the judge of a register may reach",
+        "100000",
+    );
     let check = Command::new(alloc, "check")
         .about("Judges a history of operations, read from standard input as EDN")
         .arg(workload)?
         .arg(initial)?
         .arg(budget)?;
     Ok(check)
+}
+
+/// The command `shrink` and its option.
+fn shrink_command<'a>(alloc: Global) -> Result<Command<'a>, Error>
+    ensures shrink { IfOk result (λ shrink. app_of shrink ≡ text.shrink) }
+    ensures memory { IfErr result (λ e. kind_of e ≡ ErrorKind.OutOfMemory) }
+{
+    let budget = budget_option(alloc, "How many runs may be made", "10000");
+    let shrink = Command::new(alloc, "shrink")
+        .about(
+            "Makes the schedule of a failing run small, whose settings are read from standard input as TOML",
+        )
+        .arg(budget)?;
+    Ok(shrink)
+}
+
+/// How much a command may do: a number up to 10,000,000.
+fn budget_option<'a>(alloc: Global, help: &'static str, default: &'static str) -> Arg<'a>
+    ensures rule { rule_of result ≡ text.budget default.now }
+    ensures local { result.global ≡ false }
+{
+    Arg::new(alloc, "budget")
+        .long("budget")
+        .value_name("N")
+        .help(help)
+        .value_parser(value_parser!(u64).range(..=10_000_000))
+        .default_value(default)
 }
 
 /// What `clap` finds in these arguments, of which the first is the program's name; or its refusal, which is a request for

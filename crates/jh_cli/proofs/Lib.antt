@@ -2,3 +2,4 @@ pub mod RefusalLemmas
 pub mod StepLemmas
 pub mod WritingLemmas
 pub mod RunLemmas
+pub mod ShrinkLemmas

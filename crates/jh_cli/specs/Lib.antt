@@ -6,3 +6,5 @@ pub mod CheckRefusals
 pub mod RunText
 pub mod RunRefusals
 pub mod RunInside
+pub mod ShrinkText
+pub mod ShrinkRefusals

@@ -1,14 +1,17 @@
 //! All that the program `jeprun` does, over any reader and any writer: one function for each command.
-//! `specs/EnvText.antt`, `specs/CheckText.antt` and `specs/RunText.antt` say what is written, `specs/Refusals.antt`,
-//! `specs/CheckRefusals.antt` and `specs/RunRefusals.antt` why an input is refused.
+//! `specs/EnvText.antt`, `specs/CheckText.antt`, `specs/RunText.antt` and `specs/ShrinkText.antt` say what is written,
+//! `specs/Refusals.antt`, `specs/CheckRefusals.antt`, `specs/RunRefusals.antt` and `specs/ShrinkRefusals.antt` why an input is
+//! refused.
 #![tactic(auto)]
 
 mod check_command;
 mod env_command;
 mod error;
 mod run_command;
+mod shrink_command;
 
 pub use check_command::check_run;
 pub use env_command::env_run;
 pub use error::CliError;
 pub use run_command::run_run;
+pub use shrink_command::{shrink_run, shrink_run_observed};

@@ -26,9 +26,11 @@ fn asks_for_commands(rt: HostRuntime) {
 § jeprun check --workload set → Check(Question { workload: Set, initial: None, budget: 100000 })
 § jeprun check --workload=unique-ids --budget 0 → Check(Question { workload: Ids, initial: None, budget: 0 })
 § jeprun check --workload register --initial=-5 → Check(Question { workload: Register, initial: Some(-5), budget: 100000 })
+§ jeprun shrink → Shrink(10000)
+§ jeprun shrink --budget 10000000 → Shrink(10000000)
 § jeprun → 3
 error: 'jeprun' requires a subcommand but one was not provided
-  [subcommands: env, check, run, help]
+  [subcommands: env, check, run, shrink, help]
 
 Usage: jeprun <COMMAND>
 
@@ -46,6 +48,10 @@ error: invalid value 'lock' for '--workload <NAME>'
 
 For more information, try '--help'.
 § jeprun check --workload set --budget 10000001 → 3
+error: invalid value '10000001' for '--budget <N>': 10000001 is not in 0..=10000000
+
+For more information, try '--help'.
+§ jeprun shrink --budget 10000001 → 3
 error: invalid value '10000001' for '--budget <N>': 10000001 is not in 0..=10000000
 
 For more information, try '--help'.
@@ -67,10 +73,11 @@ A test harness for databases, over a simulated cluster under faults
 Usage: jeprun <COMMAND>
 
 Commands:
-  env    Applies fault steps to an environment, both read from standard input as EDN
-  check  Judges a history of operations, read from standard input as EDN
-  run    Runs a simulated cluster by settings, read from standard input as TOML, and judges its history
-  help   Print this message or the help of the given subcommand(s)
+  env     Applies fault steps to an environment, both read from standard input as EDN
+  check   Judges a history of operations, read from standard input as EDN
+  run     Runs a simulated cluster by settings, read from standard input as TOML, and judges its history
+  shrink  Makes the schedule of a failing run small, whose settings are read from standard input as TOML
+  help    Print this message or the help of the given subcommand(s)
 
 Options:
   -h, --help  Print help
@@ -81,6 +88,14 @@ Usage: jeprun run
 
 Options:
   -h, --help  Print help
+§ jeprun shrink --help → 0
+Makes the schedule of a failing run small, whose settings are read from standard input as TOML
+
+Usage: jeprun shrink [OPTIONS]
+
+Options:
+      --budget <N>  How many runs may be made [default: 10000]
+  -h, --help        Print help
 § jeprun check --help → 0
 Judges a history of operations, read from standard input as EDN
 
@@ -97,10 +112,11 @@ A test harness for databases, over a simulated cluster under faults
 Usage: jeprun <COMMAND>
 
 Commands:
-  env    Applies fault steps to an environment, both read from standard input as EDN
-  check  Judges a history of operations, read from standard input as EDN
-  run    Runs a simulated cluster by settings, read from standard input as TOML, and judges its history
-  help   Print this message or the help of the given subcommand(s)
+  env     Applies fault steps to an environment, both read from standard input as EDN
+  check   Judges a history of operations, read from standard input as EDN
+  run     Runs a simulated cluster by settings, read from standard input as TOML, and judges its history
+  shrink  Makes the schedule of a failing run small, whose settings are read from standard input as TOML
+  help    Print this message or the help of the given subcommand(s)
 
 Options:
   -h, --help  Print help

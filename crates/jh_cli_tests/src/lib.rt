@@ -19,4 +19,6 @@ mod rows;
 #[cfg(test)]
 mod runs;
 #[cfg(test)]
+mod shrinks;
+#[cfg(test)]
 mod streams;

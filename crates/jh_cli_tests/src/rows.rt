@@ -9,6 +9,7 @@ use crate::arguments::asked_once;
 use crate::errors::named_once;
 use jh_arguments::{Command, command_of, parse, run};
 use jh_cli::CliError;
+use jh_shrink::Nobody;
 use std::alloc::Global;
 use std::io::{Read, Write};
 use std::sync::Wait;
@@ -41,6 +42,7 @@ pub(crate) fn answer_once<T: Threads + Wait + Sync, R: Read + Drop>(
         command(alloc, arguments)?,
         &mut reader,
         &mut output,
+        &mut Nobody,
     ) {
         Ok(status) => with_status(alloc, status, &output),
         Err(CliError::OutOfMemory | CliError::Write) => None,

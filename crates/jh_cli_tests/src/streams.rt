@@ -3,6 +3,7 @@
 use crate::rows::{answer_once, command, is_answer};
 use jh_arguments::run;
 use jh_cli::CliError;
+use jh_shrink::Nobody;
 use std::alloc::Global;
 use std::io::{self, Read, Write};
 use std::sync::Wait;
@@ -85,7 +86,7 @@ fn fails_writing<T: Threads + Wait + Sync>(
         return false;
     };
     matches!(
-        run(rt, alloc, command, &mut input, &mut Full),
+        run(rt, alloc, command, &mut input, &mut Full, &mut Nobody),
         Err(CliError::Write)
     )
 }
@@ -104,6 +105,13 @@ initial = 0
 clients = 2
 ops = 3
 generator = '[:seq [:once [:write 1]] [:once [:write 2]] [:once :read]]'
+§jeprun shrink →
+start = '{:nodes ["n1"]}'
+store = "local"
+workload = "register"
+clients = 1
+ops = 1
+generator = '[:once :read]'
 "#;
     for row in rows.split('§') {
         let (arguments, input) = row.split_once(" →").unwrap_or(("", ""));

@@ -1,26 +1,10 @@
-use Rattle.std.proofs.Common.{rules, ap, ap₂, codes, true, false, ◌≡◌, ◌∙◌, ◌∷◌, []}
+use Rattle.std.proofs.Common.{rules, ap, ap₂, codes, false, ◌≡◌, ◌∙◌}
 use Rattle.std.specs.Prelude.{Some}
-use Rattle.clap.specs.declared.builder.value_parser.ValueParser.{ValueParser}
-use Rattle.clap.specs.declared.builder.value_parser.ValueParser.TheVariants.{Names, Unsigned}
-use Rattle.clap.specs.Words.{Rule, Text, app_of, new_app, rule_of, with_rule}
-use Rattle.jh_arguments.specs.Line.{option, workload, initial, budget, check}
+use Rattle.clap.specs.declared.builder.value_parser.ValueParser.TheVariants.{Names}
+use Rattle.clap.specs.Words.{Rule, app_of, new_app, rule_of, with_rule}
+use Rattle.jh_arguments.specs.Line.{option, workload, initial, check}
+use Rattle.jh_arguments.proofs.ChainLemmas.{longed, named_once, wanted, parsed}
 use Rattle.jh_arguments.proofs.line.check_command.Goals as goal
-
--- what each step of a chain makes of the rule of an argument
-abbrev longed : Text → Rule → Rule
-longed name r = record r { long = Some name }
-
-abbrev named_once : Rule → Rule
-named_once r = record r { value_names = 1 }
-
-abbrev wanted : Rule → Rule
-wanted r = record r { required = true }
-
-abbrev parsed : ValueParser → Rule → Rule
-parsed p r = record r { parser = Some p }
-
-abbrev defaulted : Text → Rule → Rule
-defaulted text r = record r { defaults = text ∷ [] }
 
 pub returns-clause-check : goal.returns-clause-check
 returns-clause-check c =
@@ -29,8 +13,6 @@ returns-clause-check c =
     ∙ ap named_once (ap rule_of c.long.ensures ∙ ap (longed (codes "workload")) c.new.ensures.rule)) in
     let two : rule_of c.help-2.result ≡ option (codes "initial") = ap rule_of c.help-2.ensures ∙ (ap rule_of c.value_name-2.ensures
     ∙ ap named_once (ap rule_of c.long-2.ensures ∙ ap (longed (codes "initial")) c.new-2.ensures.rule)) in
-    let three : rule_of c.help-3.result ≡ option (codes "budget") = ap rule_of c.help-3.ensures ∙ (ap rule_of c.value_name-3.ensures
-    ∙ ap named_once (ap rule_of c.long-3.ensures ∙ ap (longed (codes "budget")) c.new-3.ensures.rule)) in
     let names_given : c.value_parser-workload.result.value_parser ≡ Some (Names names) = c.value_parser-workload.ensures.given.1 ∙ ap Some c.value_parser-workload.ensures.given.2 in
     let workload_is : rule_of c.value_parser-workload.result ≡ workload names = ap rule_of c.value_parser-workload.ensures.others
     ∙ (ap (λ p. record (rule_of c.required.result) { parser = p }) names_given
@@ -38,14 +20,9 @@ returns-clause-check c =
     let initial_given : c.value_parser-initial.result.value_parser ≡ initial.parser = c.value_parser-initial.ensures.given.1 ∙ ap Some (c.value_parser-initial.ensures.given.2 ∙ c.value_parser.ensures) in
     let initial_is : rule_of c.value_parser-initial.result ≡ initial = ap rule_of c.value_parser-initial.ensures.others
     ∙ (ap (λ p. record (rule_of c.help-2.result) { parser = p }) initial_given ∙ ap (λ (r : Rule). record r { parser = initial.parser }) two) in
-    let ranged : c.range.result ≡ Unsigned 0 10000000 = rw c.value_parser-2.ensures at c.range.ensures in
-    let budget_given : c.value_parser-3.result.value_parser ≡ Some (Unsigned 0 10000000) = c.value_parser-3.ensures.given.1 ∙ ap Some (c.value_parser-3.ensures.given.2 ∙ ranged) in
-    let budget_is : rule_of c.default_value-budget.result ≡ budget = ap rule_of c.default_value-budget.ensures ∙ ap (defaulted (codes "100000")) (ap rule_of c.value_parser-3.ensures.others
-    ∙ (ap (λ p. record (rule_of c.help-3.result) { parser = p }) budget_given ∙ ap (parsed (Unsigned 0 10000000)) three)) in
     let workload_local : c.value_parser-workload.result.global ≡ false = rw (c.value_parser-workload.ensures.others, c.required.ensures, c.help.ensures, c.value_name.ensures, c.long.ensures) c.new.ensures.optional.1 in
     let initial_local : c.value_parser-initial.result.global ≡ false = rw (c.value_parser-initial.ensures.others, c.help-2.ensures, c.value_name-2.ensures, c.long-2.ensures) c.new-2.ensures.optional.1 in
-    let budget_local : c.default_value-budget.result.global ≡ false = rw (c.default_value-budget.ensures, c.value_parser-3.ensures.others, c.help-3.ensures, c.value_name-3.ensures, c.long-3.ensures) c.new-3.ensures.optional.1 in
     let top : app_of c.about.result ≡ new_app (codes "check") = search rules in
-    let check_is : app_of c.in_ok-check.check ≡ check names = c.in_ok-check.ensures.shape budget_local ∙ ap₂ with_rule (c.in_ok-arg-2.ensures.shape initial_local
-    ∙ ap₂ with_rule (c.in_ok-arg.ensures.shape workload_local ∙ ap₂ with_rule top workload_is) initial_is) budget_is in
+    let check_is : app_of c.in_ok-check.check ≡ check names = c.in_ok-check.ensures.shape c.budget_option-budget.ensures.local ∙ ap₂ with_rule (c.in_ok-arg-2.ensures.shape initial_local
+    ∙ ap₂ with_rule (c.in_ok-arg.ensures.shape workload_local ∙ ap₂ with_rule top workload_is) initial_is) c.budget_option-budget.ensures.rule in
     (names, c.workloads.ensures, check_is)

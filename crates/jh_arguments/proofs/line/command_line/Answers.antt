@@ -15,8 +15,10 @@ returns-clause-line c =
     let env : app_of c.about-env.result ≡ new_app (codes "env") = search rules in
     let run : app_of c.about-run.result ≡ new_app (codes "run") = search rules in
     let top : app_of c.subcommand_required.result ≡ wants_one (new_app (codes "jeprun")) = search rules in
-    let whole : app_of c.in_ok-jeprun.jeprun ≡ jeprun found.0 = c.in_ok-jeprun.ensures.shape (search rules) ∙ ap₂ with_subcommand
+    let small = plain_fields c.in_ok-shrink_command.field-0 (ap (λ (a : App). a.top.is_plain) c.in_ok-shrink_command.ensures.shrink) in
+    let whole : app_of c.in_ok-jeprun.jeprun ≡ jeprun found.0 = c.in_ok-jeprun.ensures.shape small.globals ∙ ap₂ with_subcommand
+    (c.in_ok-subcommand-3.ensures.shape (search rules) ∙ ap₂ with_subcommand
     (c.in_ok-subcommand-2.ensures.shape plain.globals ∙ ap₂ with_subcommand
     (c.in_ok-subcommand.ensures.shape (search rules) ∙ ap₂ with_subcommand top (ap (λ (a : App). a.top) env))
-    (ap (λ (a : App). a.top) found.2)) (ap (λ (a : App). a.top) run) in
+    (ap (λ (a : App). a.top) found.2)) (ap (λ (a : App). a.top) run)) (ap (λ (a : App). a.top) c.in_ok-shrink_command.ensures.shrink) in
     (found.0, found.1, whole)

@@ -1,0 +1,23 @@
+use Rattle.std.proofs.Common.{ℕ, List, subst}
+use Rattle.jh_cli.specs.ShrinkText.{IsShrinkTextOf}
+use Rattle.jh_cli.proofs.WritingLemmas.{on_input}
+use Rattle.jh_cli.proofs.shrink_command.shrink_run_observed.Goals as goal
+
+pub returns-in-Ok-clause-written : goal.returns-in-Ok-clause-written
+returns-in-Ok-clause-written g c =
+    let told = c.in_ok-told.told in
+    let appended = rw c.deref-2.ensures.value at c.in-Ok.ensures.bytes in
+    on_input _ _ (g.R.Read.remaining c.args.reader.now) (λ input spelled. (
+      told.text.items,
+      subst (λ (bytes : List ℕ). IsShrinkTextOf bytes told.status told.text.items) spelled (rw c.deref.ensures.value at c.in_ok-told.ensures),
+      appended,
+    )) c.in_ok-input.ensures.bytes
+
+pub returns-clause-refused : goal.returns-clause-refused
+returns-clause-refused g c =
+    let told = c.in_ok-told.told in
+    on_input _ _ (g.R.Read.remaining c.args.reader.now) (λ input spelled. (
+      told.status,
+      told.text.items,
+      subst (λ (bytes : List ℕ). IsShrinkTextOf bytes told.status told.text.items) spelled (rw c.deref.ensures.value at c.in_ok-told.ensures),
+    )) c.in_ok-input.ensures.bytes

@@ -1,0 +1,234 @@
+//! The command `shrink`: reads the settings of a run, and takes out of their schedule what the run does not need to fail. What is
+//! written stands in `specs/ShrinkText.antt`, why an input is refused in `specs/ShrinkRefusals.antt`.
+
+ghost use Rattle.std.specs.Prelude.{◌≡◌, ◌≢◌, ◌++◌, ℕ, List, length, pos, IfOk, IfErr, IfSome, MatchResult, OnOk};
+ghost use Rattle.std.specs.List.{All};
+ghost use Rattle.std.specs.Io.KnownBytes.{Appends};
+ghost use Rattle.jh_edn.specs.View.{view};
+ghost use Rattle.jh_nemesis.specs.Steps.{FitsNodes};
+ghost use Rattle.jh_shrink.specs.Shrunk.{IsShrunk};
+ghost use Rattle.jh_cli.specs.EnvText.{line};
+ghost use Rattle.jh_cli.specs.ShrinkRefusals.{RefusesBytes, RefusesShrinking};
+ghost use Rattle.jh_cli.specs.ShrinkText as text;
+ghost use Rattle.jh_cli.specs.ShrinkText.{IsOutcomeOf, IsShrinkTextOf, RunAnswers};
+
+use crate::check_command::judge;
+use crate::env_command::{MOST_READS, write_line};
+use crate::error::CliError;
+use jh_check::Verdict;
+use jh_edn::{Value, Values, read_bytes};
+use jh_env::Nodes;
+use jh_nemesis::value_of_step;
+use jh_settings::settings_of;
+use jh_shrink::{Nobody, Observer, Shrunk, shrink_observed};
+use jh_simnode::{Entry, Plan, Schedule, run_serial};
+use std::alloc::{AllocError, Global};
+use std::io::{Read, Write};
+
+/// What is written, and the exit status.
+#[derive(Drop)]
+struct Told {
+    status: u8,
+    text: Vec<u8>,
+}
+
+/// Reads settings in TOML as `jh_settings::settings_of` does, and takes entries out of their schedule as long as their serial
+/// run fails still: the line of its checker is `{:valid? false ..}`. It writes a line that says what is left, and a line for
+/// each entry that is left, as settings have it; a fault that was named by a grudge is written as its cut. The answer is the
+/// exit status:
+///
+/// | line | what is left | status |
+/// |---|---|---|
+/// | `:minimal` | the run fails, and passes without any one of the entries | 1 |
+/// | `:budget` | the fewest with which it failed, when `budget` runs were made; or the given ones | 2 |
+/// | `:not-failing` | the given ones: the run does not fail, or that is not known | 0 |
+///
+/// The mode that the settings say means nothing. The same input gives the same bytes each time. All is read and done before
+/// the first byte is written.
+///
+/// Errors: a fault of reading (`Input`, `Read`); `Settings`; `OutOfMemory`, also where a run is refused or its history can't be
+/// judged; `Write`. Nothing is written before any of them but `Write`.
+pub fn shrink_run<R: Read, W: Write>(
+    alloc: Global,
+    reader: &mut R,
+    writer: &mut W,
+    budget: u64,
+) -> Result<u8, CliError>
+    ensures written { IfOk result (λ status. IfSome (R.remaining reader.old) (λ input.
+        (output : List ℕ) × IsShrinkTextOf input status output
+        × Appends (W.contents writer.old) (W.contents writer.new) output)) }
+    ensures refused { IfErr result (λ e. IfSome (R.remaining reader.old) (λ input. RefusesShrinking input e)) }
+    ensures unwritten { IfErr result (λ e. e ≢ CliError.Write → writer.new ≡ writer.old) }
+{
+    shrink_run_observed(alloc, reader, writer, budget, &mut Nobody)
+}
+
+/// [`shrink_run`], which tells an observer before each run how many entries are left and which run it is.
+///
+/// Errors: those of `shrink_run`.
+pub fn shrink_run_observed<R: Read, W: Write, O: Observer>(
+    alloc: Global,
+    reader: &mut R,
+    writer: &mut W,
+    budget: u64,
+    observer: &mut O,
+) -> Result<u8, CliError>
+    ensures written { IfOk result (λ status. IfSome (R.remaining reader.old) (λ input.
+        (output : List ℕ) × IsShrinkTextOf input status output
+        × Appends (W.contents writer.old) (W.contents writer.new) output)) }
+    ensures refused { IfErr result (λ e. IfSome (R.remaining reader.old) (λ input. RefusesShrinking input e)) }
+    ensures unwritten { IfErr result (λ e. e ≢ CliError.Write → writer.new ≡ writer.old) }
+{
+    let input = read_bytes(alloc, reader, MOST_READS)?;
+    let told = shrink_bytes(alloc, &input, budget, observer)?;
+    match writer.write_all(&told.text) {
+        Ok(()) => Ok(told.status),
+        Err(_) => Err(CliError::Write),
+    }
+}
+
+// All that is written for these bytes, with the exit status.
+fn shrink_bytes<O: Observer>(
+    alloc: Global,
+    input: &[u8],
+    budget: u64,
+    observer: &mut O,
+) -> Result<Told, CliError>
+    ensures { MatchResult result
+        (λ told. IsShrinkTextOf input.now told.status told.text.items)
+        (RefusesBytes input.now) }
+{
+    let settings = settings_of(alloc, input)?;
+    let plan = &settings.plan;
+    let Ok(shrunk) = shrink_plan(alloc, plan, settings.budget, budget, observer) else {
+        return Err(CliError::OutOfMemory);
+    };
+    Ok(Told {
+        status: status_of(&shrunk),
+        text: lines_of(alloc, plan.environment().nodes(), &shrunk)?,
+    })
+}
+
+// What is left of the schedule of a plan, whose histories are judged by a judge of the first budget.
+fn shrink_plan<O: Observer>(
+    alloc: Global,
+    plan: &Plan,
+    judging: u64,
+    budget: u64,
+    observer: &mut O,
+) -> Result<Shrunk, AllocError>
+    ensures shrunk { IfOk result (IsShrunk (RunAnswers plan.now judging) plan.now.schedule) }
+    ensures fits { IfOk result (λ shrunk.
+        All (λ entry. FitsNodes (length plan.now.env.names) entry.step) (text.schedule_of shrunk)) }
+{
+    let given = plan.schedule().copy(alloc)?;
+    let judge = |schedule: &Schedule| -> Option<bool>
+        ensures { RunAnswers plan.entry.now judging schedule.now result }
+    { answer_of(alloc, plan, judging, schedule) };
+    match shrink_observed(alloc, given, judge, budget, observer) {
+        Ok(shrunk) => Ok(shrunk),
+        Err(_) => Err(AllocError),
+    }
+}
+
+// Whether the run of a plan with another schedule fails, and nothing where it is refused.
+fn answer_of(alloc: Global, plan: &Plan, judging: u64, schedule: &Schedule) -> Option<bool>
+    ensures { RunAnswers plan.now judging schedule.now result }
+{
+    let Ok(schedule) = schedule.copy(alloc) else {
+        return None;
+    };
+    match plan.with_schedule(alloc, schedule) {
+        Ok(plan) => fails(alloc, &plan, judging),
+        Err(_) => None,
+    }
+}
+
+// Whether the run of a plan fails, and nothing where it is refused.
+fn fails(alloc: Global, plan: &Plan, judging: u64) -> Option<bool>
+    ensures { IfSome result (IsOutcomeOf plan.now judging) }
+{
+    let Ok((_world, history)) = run_serial(alloc, plan) else {
+        return None;
+    };
+    match judge(alloc, &history, plan.workload(), plan.initial(), judging) {
+        Ok(found) => Some(is_failure(found.verdict)),
+        Err(_) => None,
+    }
+}
+
+fn is_failure(verdict: Verdict) -> bool
+    ensures { result ≡ text.is_failure verdict }
+{
+    match verdict {
+        Verdict::False => true,
+        Verdict::True | Verdict::Unknown => false,
+    }
+}
+
+fn status_of(shrunk: &Shrunk) -> u8
+    ensures { result ≡ text.status_of shrunk.now }
+{
+    match shrunk {
+        Shrunk::Minimal(_) => 1,
+        Shrunk::Budget(_) => 2,
+        Shrunk::NotFailing(_) => 0,
+    }
+}
+
+fn schedule_of(shrunk: &Shrunk) -> &Schedule
+    ensures { result.now ≡ text.schedule_of shrunk.now }
+{
+    match shrunk {
+        Shrunk::Minimal(schedule) | Shrunk::Budget(schedule) | Shrunk::NotFailing(schedule) => {
+            schedule
+        }
+    }
+}
+
+fn first_line(shrunk: &Shrunk) -> &'static str
+    ensures { result.now ≡ line (text.word_of shrunk.now) }
+{
+    match shrunk {
+        Shrunk::Minimal(_) => ":minimal\n",
+        Shrunk::Budget(_) => ":budget\n",
+        Shrunk::NotFailing(_) => ":not-failing\n",
+    }
+}
+
+// All that is written of what is left.
+fn lines_of(alloc: Global, nodes: &Nodes, shrunk: &Shrunk) -> Result<Vec<u8>, AllocError>
+    requires { All (λ entry. FitsNodes (length nodes.now) entry.step) (text.schedule_of shrunk.now) }
+    ensures { IfOk result (λ output. output.items ≡ text.shrunk_lines nodes.now shrunk.now) }
+{
+    let mut output = Vec::new(alloc);
+    output.extend_from_slice(first_line(shrunk).as_bytes())?;
+    write_entries(alloc, nodes, schedule_of(shrunk).entries(), &mut output)?;
+    Ok(output)
+}
+
+// Writes a line for each entry.
+fn write_entries(
+    alloc: Global,
+    nodes: &Nodes,
+    entries: &[Entry],
+    output: &mut Vec<u8>,
+) -> Result<(), AllocError>
+    requires { All (λ entry. FitsNodes (length nodes.now) entry.step) entries.now }
+    ensures { OnOk result (output.new.items ≡ output.old.items ++ text.entry_lines nodes.now entries.now) }
+{
+    for entry in entries {
+        write_line(&value_of_entry(alloc, nodes, entry)?, output)?;
+    }
+    Ok(())
+}
+
+fn value_of_entry(alloc: Global, nodes: &Nodes, entry: &Entry) -> Result<Value, AllocError>
+    requires { FitsNodes (length nodes.now) entry.now.step }
+    ensures { IfOk result (λ value. view value ≡ text.text_of_entry nodes.now entry.now) }
+{
+    let mut parts = Vec::new(alloc);
+    parts.push(Value::Int(i64::from(entry.at)))?;
+    parts.push(value_of_step(alloc, nodes, &entry.step)?)?;
+    Ok(Value::Vector(Values::of(parts)))
+}
