@@ -1,6 +1,7 @@
 -- What each step of a chain makes of the rule of an argument.
 use Rattle.std.proofs.Common.{true, [], ◌∷◌}
 use Rattle.std.specs.Prelude.{Some}
+use Rattle.clap.specs.declared.builder.action.ArgAction.{ArgAction}
 use Rattle.clap.specs.declared.builder.value_parser.ValueParser.{ValueParser}
 use Rattle.clap.specs.Words.{Rule, Text}
 
@@ -18,3 +19,6 @@ parsed p r = record r { parser = Some p }
 
 abbrev pub defaulted : Text → Rule → Rule
 defaulted text r = record r { defaults = text ∷ [] }
+
+abbrev pub acting : ArgAction → Rule → Rule
+acting action r = record r { action = Some action }

@@ -1,5 +1,5 @@
 -- What the options of `check` read as, from what `clap`'s getters give.
-use Rattle.std.proofs.Common.{◌≡◌, ◌∙◌, sym, codes, ℕ, ℤ, Option, Some, None}
+use Rattle.std.proofs.Common.{◌≡◌, ◌∙◌, sym, ap, codes, ℕ, ℤ, Bool, true, false, Option, Some, None}
 use Rattle.std.specs.Prelude.{Result, option_map, IfSome, IsNone}
 use Rattle.std.specs.Borrow.{Bor}
 use mir.Syntax.{w64}
@@ -8,7 +8,7 @@ use Rattle.std.specs.declared.num.ParseIntError.{ParseIntError}
 use Rattle.clap.specs.Words.{ReadsOne, Text, first_of, first_value, one_of, one_text, rows_of}
 use Rattle.clap.specs.declared.parser.matches.Found.{Found}
 use Rattle.clap.proofs.WalkLemmas.{first_value-rows, one_text-rows}
-use Rattle.jh_arguments.specs.Commands.{IsBudget, IsInitial}
+use Rattle.jh_arguments.specs.Commands.{IsFlag, IsInitial, IsNumber}
 
 -- what `FromStr` says of `i64` and of `u64`
 abbrev SignedGives : Text → Result ℤ ParseIntError → Type 0
@@ -31,27 +31,40 @@ initial_read f r none some = go (one_of (codes "initial") (rows_of f)) r (one_te
     go (Some t) (Some v) is none some = (some t is).0
     go (Some t) None is none some = (some t is).1.0
 
--- a budget that is read
-pub budget_read : (f : Found) (r : Option ℕ) → (one_text f (codes "budget") ≡ None → r ≡ None)
-    → ((t : Text) → one_text f (codes "budget") ≡ Some t → ReadsOne UnsignedGives t r)
-    → IfSome r (IsBudget (one_of (codes "budget") (rows_of f)))
-budget_read f None none some = tt
-budget_read f (Some n) none some = go (one_of (codes "budget") (rows_of f)) (one_text-rows f (codes "budget"))
+-- a number that is read
+pub number_read : (f : Found) (id : Text) (r : Option ℕ) → (one_text f id ≡ None → r ≡ None)
+    → ((t : Text) → one_text f id ≡ Some t → ReadsOne UnsignedGives t r) → IfSome r (IsNumber (one_of id (rows_of f)))
+number_read f id None none some = tt
+number_read f id (Some n) none some = go (one_of id (rows_of f)) (one_text-rows f id)
   where
-    go : (o : Option Text) → one_text f (codes "budget") ≡ o → IsBudget o n
+    go : (o : Option Text) → one_text f id ≡ o → IsNumber o n
     go None is = let bad = none is in cc
     go (Some t) is = (some t is).0
 
 -- and one that is not
-pub budget_unread : (f : Found) (r : Option ℕ) (n : ℕ) → IsNone r
-    → ((t : Text) → one_text f (codes "budget") ≡ Some t → ReadsOne UnsignedGives t r)
-    → IsBudget (one_of (codes "budget") (rows_of f)) n → ⊥
-budget_unread f (Some m) n none some = let bad = none in cc
-budget_unread f None n none some = go (one_of (codes "budget") (rows_of f)) (one_text-rows f (codes "budget"))
+pub number_unread : (f : Found) (id : Text) (r : Option ℕ) (n : ℕ) → IsNone r
+    → ((t : Text) → one_text f id ≡ Some t → ReadsOne UnsignedGives t r) → IsNumber (one_of id (rows_of f)) n → ⊥
+number_unread f id (Some m) n none some = let bad = none in cc
+number_unread f id None n none some = go (one_of id (rows_of f)) (one_text-rows f id)
   where
-    go : (o : Option Text) → one_text f (codes "budget") ≡ o → IsBudget o n → ⊥
+    go : (o : Option Text) → one_text f id ≡ o → IsNumber o n → ⊥
     go None is wanted = wanted
     go (Some t) is wanted = (some t is).1.0 wanted.0
+
+-- one text writes one number
+pub number_one : (o : Option Text) (m n : ℕ) → IsNumber o m → IsNumber o n → m ≡ n
+number_one None m n a b = absurd a
+number_one (Some t) m n a b = a.1 ∙ sym b.1
+
+-- a flag, as `get_flag` reads it
+pub flag_read : (f : Found) (id : Text) (r : Bool) → (one_text f id ≡ None → r ≡ false)
+    → (one_text f id ≡ Some (codes "true") → r ≡ true) → (one_text f id ≡ Some (codes "false") → r ≡ false)
+    → IsFlag (one_of id (rows_of f)) r
+flag_read f id r none given left = go (one_of id (rows_of f)) (one_text-rows f id)
+  where
+    go : (o : Option Text) → one_text f id ≡ o → IsFlag o r
+    go None is = none is
+    go (Some t) is = (λ e. given (is ∙ ap Some e), λ e. left (is ∙ ap Some e))
 
 -- the name of a workload, as `get_str` gives it
 pub name_given : (f : Found) (r : Option (Bor Text)) (o : Option Text)

@@ -1,5 +1,5 @@
 -- Which arguments ask for which command, what it writes, and why its input is refused (this project's own).
-use Rattle.std.specs.Prelude.{◌≡◌, ◌<◌, ◌^◌, ℕ, ℤ, List, Option, Some, None, codes, FitsSigned}
+use Rattle.std.specs.Prelude.{◌≡◌, ◌<◌, ◌≤◌, ◌^◌, ℕ, ℤ, Bool, true, false, List, Option, Some, None, codes, FitsSigned}
 use mir.Syntax.{w64}
 use Rattle.std.specs.Str.Parse.{IsNumeral, digits_value, signed_digits_value, without_leading_plus, without_leading_sign}
 use Rattle.clap.specs.Words.{Row, Text, first_of, one_of}
@@ -37,15 +37,27 @@ IsInitial None initial = initial ≡ None
 IsInitial (Some text) (Some value) = WritesSigned text × (value ≡ signed_digits_value 10 text)
 IsInitial (Some text) None = WritesSigned text → ⊥
 
-abbrev pub IsBudget : Option Text → ℕ → Type 0
-IsBudget None budget = ⊥
-IsBudget (Some text) budget = WritesUnsigned text × (budget ≡ digits_value 10 (without_leading_plus text))
+-- the number that an option gives
+abbrev pub IsNumber : Option Text → ℕ → Type 0
+IsNumber None number = ⊥
+IsNumber (Some text) number = WritesUnsigned text × (number ≡ digits_value 10 (without_leading_plus text))
+
+-- how many threads an option gives
+abbrev pub IsThreads : Option Text → ℕ → Type 0
+IsThreads text threads = IsNumber text threads × (1 ≤ threads) × (threads ≤ 16)
+
+-- whether a flag is there, which `clap` gives the text of yes or no
+abbrev pub IsFlag : Option Text → Bool → Type 0
+IsFlag None given = given ≡ false
+IsFlag (Some text) given = (text ≡ codes "true" → given ≡ true) × (text ≡ codes "false" → given ≡ false)
 
 -- the options of `check` ask this
 pub record Asks (options : List Row) (question : Question) : Type 0 where
   pub workload : first_of (codes "workload") options ≡ Some (name_of question.workload)
   pub initial : IsInitial (one_of (codes "initial") options) question.initial
-  pub budget : IsBudget (one_of (codes "budget") options) question.budget
+  pub budget : IsNumber (one_of (codes "budget") options) question.budget
+  pub independent : IsFlag (one_of (codes "independent") options) question.independent
+  pub threads : IsThreads (one_of (codes "threads") options) question.threads
 
 -- A subcommand with its options asks for a command.
 abbrev pub AsksFor : Option (Text × List Row) → Command → Type 0
@@ -53,20 +65,26 @@ AsksFor None command = ⊥
 AsksFor (Some found) Env = found.0 ≡ codes "env"
 AsksFor (Some found) (Check question) = (found.0 ≡ codes "check") × Asks found.1 question
 AsksFor (Some found) Run = found.0 ≡ codes "run"
-AsksFor (Some found) (Shrink budget) = (found.0 ≡ codes "shrink") × IsBudget (one_of (codes "budget") found.1) budget
+AsksFor (Some found) (Shrink budget) = (found.0 ≡ codes "shrink") × IsNumber (one_of (codes "budget") found.1) budget
 
 -- ---- what a command does
+
+-- its number of threads is one of those that there may be
+abbrev pub TakesThreads : Command → Type 0
+TakesThreads (Check question) = (1 ≤ question.threads) × (question.threads ≤ 16)
+TakesThreads _ = Unit {0}
 
 -- what it writes for an input, with the exit status
 abbrev pub IsTextOf : Command → List ℕ → ℕ → List ℕ → Type 0
 IsTextOf Env input status output = IsEnvTextOf input output × (status ≡ 0)
-IsTextOf (Check question) input status output = IsCheckTextOf question.workload question.initial question.budget input status output
+IsTextOf (Check question) input status output =
+    IsCheckTextOf question.independent question.workload question.initial question.budget input status output
 IsTextOf Run input status output = IsRunTextOf input status output
 IsTextOf (Shrink budget) input status output = IsShrinkTextOf input status output
 
 -- why it refuses an input, or does not do its work
 abbrev pub Refuses : Command → List ℕ → CliError → Type 0
 Refuses Env input e = RefusesInput input e
-Refuses (Check question) input e = RefusesCheck question.workload question.initial question.budget input e
+Refuses (Check question) input e = RefusesCheck question.independent question.workload question.initial question.budget input e
 Refuses Run input e = RefusesRun input e
 Refuses (Shrink budget) input e = RefusesShrinking input e

@@ -3,6 +3,8 @@ use Rattle.std.specs.Prelude.{◌≡◌, ◌⊎◌, List, [], ◌∷◌, Some, p
 use Rattle.std.specs.Borrow.{Bor}
 use Rattle.clap.specs.Words.{App, Rule, Text, IsAmong, fault_of, kind_of, matches_of, new_app, new_rule, rows_of, found_of, subcommand_of, subcommand_rows_of, with_rule, with_subcommand}
 use Rattle.clap.specs.Simple.{on_top}
+use Rattle.clap.specs.declared.builder.action.ArgAction.TheVariants.{SetTrue}
+use Rattle.clap.specs.declared.builder.value_parser.ValueParser.{ValueParser}
 use Rattle.clap.specs.declared.builder.value_parser.ValueParser.TheVariants.{Names, Signed, Unsigned}
 use Rattle.clap.specs.declared.error.Error.{Error}
 use Rattle.clap.specs.declared.error.ErrorKind.TheVariants.{OutOfMemory}
@@ -20,12 +22,26 @@ workload names = record (option (codes "workload")) { required = true; parser = 
 abbrev pub initial : Rule
 initial = record (option (codes "initial")) { parser = Some (Signed (negsuc 9223372036854775807) (pos 9223372036854775807)) }
 
--- how much may be done: at most 10,000,000, and this where nothing is said
+-- a number that a parser reads, and this where nothing is said
+abbrev pub number : Text → ValueParser → Text → Rule
+number name parser default = record (option name) { parser = Some parser; defaults = default ∷ [] }
+
+-- how much may be done: at most 10,000,000
 abbrev pub budget : Text → Rule
-budget default = record (option (codes "budget")) { parser = Some (Unsigned 0 10000000); defaults = default ∷ [] }
+budget default = number (codes "budget") (Unsigned 0 10000000) default
+
+-- whether each key is judged by itself
+abbrev pub independent : Rule
+independent = record (new_rule (codes "independent")) { long = Some (codes "independent"); action = Some SetTrue }
+
+-- by how many threads: from 1 to 16
+abbrev pub threads : Rule
+threads = number (codes "threads") (Unsigned 1 16) (codes "1")
 
 abbrev pub check : Bor (List (Bor Text)) → App
-check names = with_rule (with_rule (with_rule (new_app (codes "check")) (workload names)) initial) (budget (codes "100000"))
+check names =
+    with_rule (with_rule (with_rule (with_rule (with_rule (new_app (codes "check")) (workload names)) initial) (budget (codes "100000")))
+    independent) threads
 
 abbrev pub shrink : App
 shrink = with_rule (new_app (codes "shrink")) (budget (codes "10000"))

@@ -7,7 +7,7 @@ ghost use Rattle.clap.specs.Words.{found_of, one_of, rows_of, subcommand_rows_of
 ghost use Rattle.jh_cli.specs.CheckText.{TakesInitial};
 ghost use Rattle.jh_cli.specs.declared.error.CliError.TheVariants as CliError;
 ghost use Rattle.jh_arguments.specs.Commands as text;
-ghost use Rattle.jh_arguments.specs.Commands.{Asks, AsksFor, IsBudget, IsTextOf, Refuses};
+ghost use Rattle.jh_arguments.specs.Commands.{Asks, AsksFor, IsNumber, IsTextOf, IsThreads, Refuses, TakesThreads};
 ghost use Rattle.jh_arguments.specs.declared.commands.Command.{Command};
 ghost use Rattle.jh_arguments.specs.declared.commands.Command.TheVariants.{Check};
 ghost use Rattle.jh_arguments.specs.declared.commands.Question.{Question};
@@ -28,6 +28,10 @@ pub struct Question {
     pub workload: Workload,
     pub initial: Option<i64>,
     pub budget: u64,
+    /// Whether each key is judged by itself.
+    pub independent: bool,
+    /// By how many threads keys are judged, from 1 to 16.
+    pub threads: u32,
 }
 
 /// What the arguments ask for.
@@ -46,19 +50,20 @@ pub enum Command {
 /// The command that the arguments ask for. `parse` has seen to it that there is one.
 pub fn command_of(matches: &ArgMatches<'_>) -> Option<Command>
     ensures told { IfSome result (AsksFor (subcommand_rows_of matches.now)) }
+    ensures threads { IfSome result TakesThreads }
     ensures taken { IsNone result → (command : Command) → AsksFor (subcommand_rows_of matches.now) command → ⊥ }
 {
     match matches.subcommand()? {
         ("env", _) => Some(Command::Env),
         ("check", options) => Some(Command::Check(question_of(options)?)),
         ("run", _) => Some(Command::Run),
-        ("shrink", options) => Some(Command::Shrink(budget_of(options)?)),
+        ("shrink", options) => Some(Command::Shrink(number_of(options, "budget")?)),
         _ => None,
     }
 }
 
-/// What the options of `check` ask for. `parse` has seen to it that the workload is one of the four, and that the budget is
-/// a number.
+/// What the options of `check` ask for. `parse` has seen to it that the workload is one of the four, that the budget is a
+/// number, and that the number of threads is from 1 to 16.
 pub fn question_of(options: &ArgMatches<'_>) -> Option<Question>
     ensures told { IfSome result (Asks (rows_of (found_of options.now))) }
     ensures taken { IsNone result → (question : Question) → Asks (rows_of (found_of options.now)) question → ⊥ }
@@ -67,17 +72,33 @@ pub fn question_of(options: &ArgMatches<'_>) -> Option<Question>
     Some(Question {
         workload,
         initial: options.get_one::<i64>("initial"),
-        budget: budget_of(options)?,
+        budget: number_of(options, "budget")?,
+        independent: options.get_flag("independent"),
+        threads: threads_of(options)?,
     })
 }
 
-/// The budget that options give.
-fn budget_of(options: &ArgMatches<'_>) -> Option<u64>
-    ensures told { IfSome result (IsBudget (one_of (codes "budget") (rows_of (found_of options.now)))) }
-    ensures taken { IsNone result → (budget : ℕ)
-        → IsBudget (one_of (codes "budget") (rows_of (found_of options.now))) budget → ⊥ }
+/// The number that an option gives.
+fn number_of(options: &ArgMatches<'_>, name: &str) -> Option<u64>
+    ensures told { IfSome result (IsNumber (one_of name.now (rows_of (found_of options.now)))) }
+    ensures taken { IsNone result → (number : ℕ)
+        → IsNumber (one_of name.now (rows_of (found_of options.now))) number → ⊥ }
 {
-    options.get_one::<u64>("budget")
+    options.get_one::<u64>(name)
+}
+
+/// How many threads options give.
+fn threads_of(options: &ArgMatches<'_>) -> Option<u32>
+    ensures told { IfSome result (IsThreads (one_of (codes "threads") (rows_of (found_of options.now)))) }
+    ensures taken { IsNone result → (threads : ℕ)
+        → IsThreads (one_of (codes "threads") (rows_of (found_of options.now))) threads → ⊥ }
+{
+    let threads = number_of(options, "threads")?;
+    if 1 <= threads && threads <= 16 {
+        Some(threads as u32)
+    } else {
+        None
+    }
 }
 
 /// The workload of this name.
@@ -99,8 +120,8 @@ fn workload_of(name: &str) -> Option<Workload>
 /// the budget did not suffice for it. The error has the status otherwise: 3 for an input that is refused, 4 for a fault of the
 /// machine or a run that was not completed. Nothing is written before any error but `Write`.
 ///
-/// The observer is told how far the work of `shrink` is. A run on threads may wait; all else returns if each call of the reader,
-/// the writer and the observer does.
+/// The observer is told how far the work of `shrink` is. A run on threads and the judgement of keys may wait; all else returns
+/// if each call of the reader, the writer and the observer does.
 pub fn run<T: Threads + Wait + Sync, R: Read, W: Write, O: Observer>(
     rt: &T,
     alloc: Global,
@@ -109,6 +130,7 @@ pub fn run<T: Threads + Wait + Sync, R: Read, W: Write, O: Observer>(
     writer: &mut W,
     observer: &mut O,
 ) -> Result<u8, CliError>
+    requires { TakesThreads command }
     ensures written { IfOk result (λ status. IfSome (R.remaining reader.old) (λ input.
         (output : List ℕ) × IsTextOf command input status output
         × Appends (W.contents writer.old) (W.contents writer.new) output)) }
@@ -126,8 +148,20 @@ pub fn run<T: Threads + Wait + Sync, R: Read, W: Write, O: Observer>(
                 workload,
                 initial,
                 budget,
+                independent,
+                threads,
             },
-        ) => check_run(alloc, reader, writer, workload, initial, budget),
+        ) => check_run(
+            rt,
+            alloc,
+            reader,
+            writer,
+            workload,
+            initial,
+            budget,
+            independent,
+            threads,
+        ),
         Command::Run => run_run(rt, alloc, reader, writer),
         Command::Shrink(budget) => shrink_run_observed(alloc, reader, writer, budget, observer),
     }

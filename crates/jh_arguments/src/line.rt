@@ -8,8 +8,9 @@ ghost use Rattle.jh_cli.specs.declared.error.CliError.TheVariants as CliError;
 ghost use Rattle.jh_arguments.specs.Line as text;
 ghost use Rattle.jh_arguments.specs.Line.{IsCheck, IsFound, IsLine, IsRefused, workload_names};
 
+use clap::builder::ValueParser;
 use clap::error::ErrorKind;
-use clap::{Arg, ArgMatches, Command, Error, value_parser};
+use clap::{Arg, ArgAction, ArgMatches, Command, Error, value_parser};
 use jh_cli::CliError;
 use std::alloc::Global;
 use std::convert::AsStr;
@@ -69,11 +70,17 @@ fn check_command<'a>(alloc: Global) -> Result<Command<'a>, Error>
         "How many configurations the judge of a register may reach",
         "100000",
     );
+    let independent = Arg::new(alloc, "independent")
+        .long("independent")
+        .help("Judges each key by itself; values are tuples of a key and a value")
+        .action(ArgAction::SetTrue);
     let check = Command::new(alloc, "check")
         .about("Judges a history of operations, read from standard input as EDN")
         .arg(workload)?
         .arg(initial)?
-        .arg(budget)?;
+        .arg(budget)?
+        .arg(independent)?
+        .arg(threads_option(alloc))?;
     Ok(check)
 }
 
@@ -96,11 +103,35 @@ fn budget_option<'a>(alloc: Global, help: &'static str, default: &'static str) -
     ensures rule { rule_of result ≡ text.budget default.now }
     ensures local { result.global ≡ false }
 {
-    Arg::new(alloc, "budget")
-        .long("budget")
+    let parser = value_parser!(u64).range(..=10_000_000);
+    number_option(alloc, "budget", help, parser, default)
+}
+
+/// How many threads judge the keys of a history: a number from 1 to 16.
+fn threads_option<'a>(alloc: Global) -> Arg<'a>
+    ensures rule { rule_of result ≡ text.threads }
+    ensures local { result.global ≡ false }
+{
+    let parser = value_parser!(u64).range(1..=16);
+    number_option(alloc, "threads", "How many threads judge keys", parser, "1")
+}
+
+/// An option that takes a number.
+fn number_option<'a>(
+    alloc: Global,
+    name: &'static str,
+    help: &'static str,
+    parser: ValueParser<'a>,
+    default: &'static str,
+) -> Arg<'a>
+    ensures rule { rule_of result ≡ text.number name.now parser.entry default.now }
+    ensures local { result.global ≡ false }
+{
+    Arg::new(alloc, name)
+        .long(name)
         .value_name("N")
         .help(help)
-        .value_parser(value_parser!(u64).range(..=10_000_000))
+        .value_parser(parser)
         .default_value(default)
 }
 

@@ -4,7 +4,7 @@ use Rattle.std.proofs.lemmas.Bool.{ne_eqb}
 use Rattle.std.proofs.lemmas.List.{map_more}
 use Rattle.jh_edn.specs.Edn.{Edn, keyword, items_of, members_of}
 use Rattle.jh_edn.specs.Print.{print, joined, item_texts, member_texts, unless_first}
-use Rattle.jh_check.specs.Lines.{verdict_value, part_text, text_of}
+use Rattle.jh_check.specs.Lines.{verdict_value, part_text, map_of}
 use Rattle.jh_check.specs.declared.verdict.Verdict.{Verdict}
 
 pub item_texts_map : {X : Type 0} (value : X → Edn) (xs : List X) → item_texts (items_of (map value xs)) ≡ map (λ x. print (value x)) xs
@@ -39,6 +39,9 @@ texts_push text xs i d h =
 
 -- ---- a map, pair by pair
 
+abbrev text_of : List (Edn × Edn) → List ℕ
+text_of pairs = print (map_of pairs)
+
 abbrev pair_text : Edn × Edn → List ℕ
 pair_text p = print p.0 ++ (codes " " ++ print p.1)
 
@@ -65,6 +68,16 @@ abbrev valid : Verdict → Edn × Edn
 valid verdict = (keyword (codes "valid?"), verdict_value verdict)
 
 -- the opening, so many parts and the end are the text of a map
+pub no_part : (verdict : Verdict) → opening verdict ++ codes "}" ≡ text_of (valid verdict ∷ [])
+no_part verdict = sym (text_is (valid verdict) [])
+
+pub one_part : (verdict : Verdict) (a : List ℕ) (x x' : Edn)
+    → x ≡ x' → (opening verdict ++ part_text a x) ++ codes "}" ≡ text_of (valid verdict ∷ (keyword a, x') ∷ [])
+one_part verdict a x x' ex =
+    (λ i. (opening verdict ++ part_text a (ex i)) ++ codes "}")
+    ∙ append_assoc (opening verdict) (part_text a x') (codes "}")
+    ∙ sym (text_is (valid verdict) ((keyword a, x') ∷ []))
+
 pub three_parts : (verdict : Verdict) (a b : List ℕ) (x y x' y' : Edn)
     → x ≡ x' → y ≡ y'
     → ((opening verdict ++ part_text a x) ++ part_text b y) ++ codes "}"

@@ -1,12 +1,8 @@
--- The one line of each result, without its line feed (this project's own; the keys are those of jepsen.checker):
--- the printed text of a map. Its numbers stand in full, also where no integer of 64 bits has them.
+-- The value of each result, a map, whose printed text is its one line (this project's own; the keys are those of
+-- jepsen.checker). Its numbers stand in full, also where no integer of 64 bits has them.
 use Rattle.std.specs.Prelude.{ℕ, pos, true, false, List, [], ◌∷◌, ◌++◌, map, codes, Option, Some, None}
 use Rattle.jh_edn.specs.Edn.{Edn, boolean, int, keyword, str, vector, mapping, items_of, members_of}
 use Rattle.jh_edn.specs.Print.{print}
-use Rattle.jh_ops.specs.Operation.{Operation}
-use Rattle.jh_check.specs.SetResults.{set_result}
-use Rattle.jh_check.specs.CounterResults.{counter_result}
-use Rattle.jh_check.specs.IdsResults.{ids_result}
 use Rattle.jh_check.specs.declared.counter.CounterResult.{CounterResult}
 use Rattle.jh_check.specs.declared.counter.ReadBounds.{ReadBounds}
 use Rattle.jh_check.specs.declared.ids.IdsResult.{IdsResult}
@@ -23,9 +19,8 @@ verdict_value False = boolean false
 abbrev pub vector_of : List Edn → Edn
 vector_of values = vector (items_of values)
 
--- the text of a map with these pairs
-abbrev pub text_of : List (Edn × Edn) → List ℕ
-text_of pairs = print (mapping (members_of pairs))
+abbrev pub map_of : List (Edn × Edn) → Edn
+map_of pairs = mapping (members_of pairs)
 
 -- the text of a pair behind others
 abbrev pub part_text : List ℕ → Edn → List ℕ
@@ -39,8 +34,8 @@ set_pairs verdict (Some found) =
     ∷ (keyword (codes "lost"), vector_of found.lost) ∷ (keyword (codes "unexpected"), vector_of found.unexpected)
     ∷ (keyword (codes "recovered"), vector_of found.recovered) ∷ []
 
-abbrev pub set_line : SetResult → List ℕ
-set_line result = text_of (set_pairs result.verdict result.found)
+abbrev pub set_value : SetResult → Edn
+set_value result = map_of (set_pairs result.verdict result.found)
 
 -- a read as its lower bound, its value and its upper bound
 abbrev pub read_value : ReadBounds → Edn
@@ -49,28 +44,17 @@ read_value read = vector_of (int read.lower ∷ int read.value ∷ int read.uppe
 abbrev pub reads_value : List ReadBounds → Edn
 reads_value reads = vector_of (map read_value reads)
 
-abbrev pub counter_line : CounterResult → List ℕ
-counter_line result =
-    text_of ((keyword (codes "valid?"), verdict_value result.verdict) ∷ (keyword (codes "reads"), reads_value result.reads)
+abbrev pub counter_value : CounterResult → Edn
+counter_value result =
+    map_of ((keyword (codes "valid?"), verdict_value result.verdict) ∷ (keyword (codes "reads"), reads_value result.reads)
     ∷ (keyword (codes "errors"), reads_value result.errors) ∷ [])
 
 -- an id with how often it was given
 abbrev pub duplicate_value : Edn × ℕ → Edn
 duplicate_value id = vector_of (id.0 ∷ int (pos id.1) ∷ [])
 
-abbrev pub ids_line : IdsResult → List ℕ
-ids_line result =
-    text_of ((keyword (codes "valid?"), verdict_value result.verdict) ∷ (keyword (codes "attempted"), int (pos result.attempted))
+abbrev pub ids_value : IdsResult → Edn
+ids_value result =
+    map_of ((keyword (codes "valid?"), verdict_value result.verdict) ∷ (keyword (codes "attempted"), int (pos result.attempted))
     ∷ (keyword (codes "acknowledged"), int (pos result.acknowledged))
     ∷ (keyword (codes "duplicated"), vector_of (map duplicate_value result.duplicated)) ∷ [])
-
--- ---- the lines of histories
-
-abbrev pub line_of_set : List Operation → List ℕ
-line_of_set history = set_line (set_result history)
-
-abbrev pub line_of_counter : List Operation → List ℕ
-line_of_counter history = counter_line (counter_result history)
-
-abbrev pub line_of_ids : List Operation → List ℕ
-line_of_ids history = ids_line (ids_result history)

@@ -1,8 +1,8 @@
 //! What stands in the vectors of a line. `specs/Lines.antt` has the rule.
 
-ghost use Rattle.std.specs.Prelude.{◌≡◌, IfErr, OnOk, codes, map};
+ghost use Rattle.std.specs.Prelude.{◌≡◌, IfErr, OnOk, codes, map, pos};
 ghost use Rattle.std.specs.Io.KnownBytes.{Appends};
-ghost use Rattle.jh_edn.specs.Edn.{Edn};
+ghost use Rattle.jh_edn.specs.Edn.{Edn, int};
 ghost use Rattle.jh_edn.specs.Print.{joined, print, unless_first};
 ghost use Rattle.jh_edn.specs.View.{view};
 ghost use Rattle.jh_check.specs.Lines.{part_text, vector_of};
@@ -12,19 +12,24 @@ use crate::ids::Duplicate;
 use jh_edn::{EdnError, Value, write};
 use std::io::Write;
 
-pub(crate) fn put<W: Write>(text: &[u8], writer: &mut W) -> Result<(), EdnError>
+/// Writes bytes.
+///
+/// Errors: `Write` where the writer failed, and no other.
+pub fn put<W: Write>(text: &[u8], writer: &mut W) -> Result<(), EdnError>
     ensures bytes { OnOk result (Appends (W.contents writer.old) (W.contents writer.new) text.now) }
     ensures error { IfErr result (λ e. e ≡ EdnError.Write) }
 {
     writer.write_all(text).map_err(|_| EdnError::Write)
 }
 
-/// What stands in a vector of a line.
-pub(crate) trait Element {
+/// What stands in a vector of a line. Those who have results of their own write them with it.
+pub trait Element {
     /// Its value, as a contract sees it.
     ghost value: { Self → Edn };
 
     /// Writes its text.
+    ///
+    /// Errors: `Write` where the writer failed, and no other.
     fn write_to<W: Write>(&self, writer: &mut W) -> Result<(), EdnError>
         ensures bytes { OnOk result
             (Appends (W.contents writer.old) (W.contents writer.new) (print (Self.value self.now))) }
@@ -36,6 +41,14 @@ impl Element for Value {
 
     fn write_to<W: Write>(&self, writer: &mut W) -> Result<(), EdnError> {
         write(self, writer)
+    }
+}
+
+impl Element for usize {
+    ghost value = { λ place. int (pos place) };
+
+    fn write_to<W: Write>(&self, writer: &mut W) -> Result<(), EdnError> {
+        write!(writer, "{self}").map_err(|_| EdnError::Write)
     }
 }
 
@@ -101,7 +114,9 @@ pub(crate) fn write_vector<T: Element, W: Write>(
 }
 
 /// Writes a pair of a map, behind others: a keyword with a vector of elements.
-pub(crate) fn write_part<T: Element, W: Write>(
+///
+/// Errors: `Write` where the writer failed, and no other.
+pub fn write_part<T: Element, W: Write>(
     name: &str,
     items: &[T],
     writer: &mut W,

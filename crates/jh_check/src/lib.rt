@@ -15,9 +15,10 @@ mod totals;
 mod verdict;
 
 pub use counter::{CounterResult, ReadBounds, Reads, check_counter};
+pub use elements::{Element, put, write_part};
 pub use error::CheckError;
 pub use ids::{Duplicate, Duplicates, IdsResult, check_unique};
 pub use laws::same_values_are_equal;
-pub use lines::{write_counter, write_ids, write_set};
+pub use lines::{write_counter, write_ids, write_set, write_verdict};
 pub use set::{SetFound, SetResult, check_set};
 pub use verdict::{Verdict, merge};

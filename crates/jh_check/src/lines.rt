@@ -4,7 +4,7 @@ ghost use Rattle.std.specs.Prelude.{◌≡◌, ◌++◌, IfErr, OnOk, Some, code
 ghost use Rattle.std.specs.Io.KnownBytes.{Appends};
 ghost use Rattle.jh_edn.specs.Edn.{int};
 ghost use Rattle.jh_edn.specs.Print.{print};
-ghost use Rattle.jh_check.specs.Lines.{counter_line, ids_line, part_text, set_line, set_pairs, text_of};
+ghost use Rattle.jh_check.specs.Lines.{counter_value, ids_value, map_of, part_text, set_pairs, set_value};
 ghost use Rattle.jh_check.specs.Lines.{verdict_value};
 
 use crate::counter::CounterResult;
@@ -15,8 +15,10 @@ use crate::verdict::Verdict;
 use jh_edn::EdnError;
 use std::io::Write;
 
-// The verdict behind the opening of the line.
-fn write_verdict<W: Write>(verdict: Verdict, writer: &mut W) -> Result<(), EdnError>
+/// Writes the opening of a line, with the verdict. The line goes on with parts, and ends with `}`.
+///
+/// Errors: `Write` where the writer failed, and no other.
+pub fn write_verdict<W: Write>(verdict: Verdict, writer: &mut W) -> Result<(), EdnError>
     ensures bytes { OnOk result (Appends (W.contents writer.old) (W.contents writer.new)
         (codes "{:valid? " ++ print (verdict_value verdict))) }
     ensures error { IfErr result (λ e. e ≡ EdnError.Write) }
@@ -31,7 +33,7 @@ fn write_verdict<W: Write>(verdict: Verdict, writer: &mut W) -> Result<(), EdnEr
 // The line of a set that was read.
 fn write_found<W: Write>(verdict: Verdict, found: &SetFound, writer: &mut W) -> Result<(), EdnError>
     ensures bytes { OnOk result (Appends (W.contents writer.old) (W.contents writer.new)
-        (text_of (set_pairs verdict (Some found.now)))) }
+        (print (map_of (set_pairs verdict (Some found.now))))) }
     ensures error { IfErr result (λ e. e ≡ EdnError.Write) }
 {
     write_verdict(verdict, writer)?;
@@ -49,7 +51,7 @@ fn write_found<W: Write>(verdict: Verdict, found: &SetFound, writer: &mut W) -> 
 ///
 /// Errors: `Write` where the writer failed, and no other.
 pub fn write_set<W: Write>(told: &SetResult, writer: &mut W) -> Result<(), EdnError>
-    ensures bytes { OnOk result (Appends (W.contents writer.old) (W.contents writer.new) (set_line told.now)) }
+    ensures bytes { OnOk result (Appends (W.contents writer.old) (W.contents writer.new) (print (set_value told.now))) }
     ensures error { IfErr result (λ e. e ≡ EdnError.Write) }
 {
     match &told.found {
@@ -68,7 +70,7 @@ pub fn write_set<W: Write>(told: &SetResult, writer: &mut W) -> Result<(), EdnEr
 ///
 /// Errors: `Write` where the writer failed, and no other.
 pub fn write_counter<W: Write>(told: &CounterResult, writer: &mut W) -> Result<(), EdnError>
-    ensures bytes { OnOk result (Appends (W.contents writer.old) (W.contents writer.new) (counter_line told.now)) }
+    ensures bytes { OnOk result (Appends (W.contents writer.old) (W.contents writer.new) (print (counter_value told.now))) }
     ensures error { IfErr result (λ e. e ≡ EdnError.Write) }
 {
     write_verdict(told.verdict, writer)?;
@@ -93,7 +95,7 @@ fn write_count<W: Write>(name: &str, count: usize, writer: &mut W) -> Result<(),
 ///
 /// Errors: `Write` where the writer failed, and no other.
 pub fn write_ids<W: Write>(told: &IdsResult, writer: &mut W) -> Result<(), EdnError>
-    ensures bytes { OnOk result (Appends (W.contents writer.old) (W.contents writer.new) (ids_line told.now)) }
+    ensures bytes { OnOk result (Appends (W.contents writer.old) (W.contents writer.new) (print (ids_value told.now))) }
     ensures error { IfErr result (λ e. e ≡ EdnError.Write) }
 {
     write_verdict(told.verdict, writer)?;

@@ -1,7 +1,7 @@
 -- Why a run is refused or not completed, from why a part of it is.
-use Rattle.std.proofs.Common.{◌≡◌, ℕ, List, [], ◌∷◌, All, arith, refl, sym, subst, inl, inr}
-use Rattle.std.specs.Prelude.{◌⊎◌}
+use Rattle.std.proofs.Common.{ℕ, List, [], ◌∷◌, All, arith, refl, sym, subst}
 use Rattle.jh_check.specs.declared.error.CheckError.{CheckError}
+use Rattle.jh_check.specs.declared.error.CheckError.TheVariants as CheckFault
 use Rattle.jh_edn.specs.declared.error.EdnError.TheVariants as EdnError
 use Rattle.jh_ops.specs.declared.call.Workload.{Workload}
 use Rattle.jh_settings.specs.declared.words.Mode.{Mode}
@@ -17,10 +17,10 @@ use Rattle.jh_simnode.specs.Plans.{PlanValue}
 use Rattle.jh_settings.specs.Settings as settings
 use Rattle.jh_settings.specs.Settings.{AreSettingsOf}
 use Rattle.jh_settings.specs.declared.error.SettingsError.TheVariants as SettingsError
-use Rattle.jh_cli.specs.CheckRefusals.{RefusedBy, RefusesHistory}
+use Rattle.jh_cli.specs.CheckRefusals.{RefusesLine, RefusesWhole}
 use Rattle.jh_cli.specs.RunInside.{own_error}
 use Rattle.jh_cli.specs.RunRefusals.{RefusesBytes, RefusesOwn, RefusesRun, RefusesSerial, RefusesSettings, RefusesThreads}
-use Rattle.jh_cli.specs.Status.{settings_fault, threads_fault, world_fault}
+use Rattle.jh_cli.specs.Status.{check_fault, settings_fault, threads_fault, world_fault}
 use Rattle.jh_cli.specs.declared.error.CliError.{CliError}
 use Rattle.jh_cli.specs.declared.error.CliError.TheVariants.{Input, EnvironmentMissing, Environment, Element, History, Check, Settings, Run, HistoryFull, Mismatch, Thread, OnlyForRegister, Read, Write, OutOfMemory}
 
@@ -89,39 +89,17 @@ bytes_refused input OutOfMemory h = tt
 
 -- ---- what the checker of a run's own history refuses
 
-refused_by : (refuses : CheckError → Type 0) (e : CliError) → RefusedBy refuses e
-    → ((fault : CheckError) × (e ≡ Check fault) × RefusedBy refuses (Check fault)) ⊎ (e ≡ OutOfMemory)
-refused_by refuses (Check fault) h = inl (fault, refl, h)
-refused_by refuses OutOfMemory h = inr refl
-refused_by refuses (Input fault) h = absurd h
-refused_by refuses EnvironmentMissing h = absurd h
-refused_by refuses (Environment fault) h = absurd h
-refused_by refuses (Element place fault) h = absurd h
-refused_by refuses (History fault) h = absurd h
-refused_by refuses (Settings fault) h = absurd h
-refused_by refuses (Run fault) h = absurd h
-refused_by refuses HistoryFull h = absurd h
-refused_by refuses Mismatch h = absurd h
-refused_by refuses Thread h = absurd h
-refused_by refuses OnlyForRegister h = absurd h
-refused_by refuses Read h = absurd h
-refused_by refuses Write h = absurd h
-
-history_refused : (workload : Workload) (history : List Operation) (e : CliError) → RefusesHistory workload history e
-    → ((fault : CheckError) × (e ≡ Check fault) × RefusesHistory workload history (Check fault)) ⊎ (e ≡ OutOfMemory)
-history_refused Workload.Register history e h = refused_by _ e h
-history_refused Workload.Counter history e h = refused_by _ e h
-history_refused Workload.Set history e h = refused_by _ e h
-history_refused Workload.Ids history e h = refused_by _ e h
+own_of : (workload : Workload) (history : List Operation) (fault : CheckError) → RefusesLine workload history fault
+    → RefusesOwn workload history (own_error (check_fault fault))
+own_of workload history (CheckFault.Pair pairing) h = (CheckFault.Pair pairing, λ e. absurd cc, h)
+own_of workload history (CheckFault.BadValue place) h = (CheckFault.BadValue place, λ e. absurd cc, h)
+own_of workload history (CheckFault.NegativeAdd place) h = (CheckFault.NegativeAdd place, λ e. absurd cc, h)
+own_of workload history CheckFault.OutOfMemory h = tt
 
 -- a refusal of the history of a run is a mismatch, and want of memory stays what it is
-pub own_refused : (workload : Workload) (history : List Operation) (e : CliError) → RefusesHistory workload history e
+pub own_refused : (workload : Workload) (history : List Operation) (e : CliError) → RefusesWhole workload history e
     → RefusesOwn workload history (own_error e)
-own_refused workload history e h =
-    elim (history_refused workload history e h) [
-      | inl t ↦ subst (λ x. RefusesOwn workload history (own_error x)) (sym t.1) (t.0, t.2)
-      | inr t ↦ subst (λ x. RefusesOwn workload history (own_error x)) (sym t) tt
-    ]
+own_refused workload history e h = subst (λ x. RefusesOwn workload history (own_error x)) (sym h.2) (own_of workload history h.0 h.1)
 
 -- the history of a serial run is refused
 pub serial_refused : (p : PlanValue) (journal : List Event) (history : List Operation) (e : CliError) → Serial p journal history

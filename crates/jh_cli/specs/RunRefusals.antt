@@ -1,10 +1,12 @@
 -- Why `jeprun run` refuses an input, or does not complete a run (this project's own). Each is looked at only where all before it
 -- is right.
-use Rattle.std.specs.Prelude.{◌≡◌, ℕ, List}
+use Rattle.std.specs.Prelude.{◌≡◌, ◌≢◌, ℕ, List}
 use Rattle.jh_edn.specs.Refused.{IsReaderError}
 use Rattle.jh_ops.specs.Operation.{Operation}
 use Rattle.jh_ops.specs.declared.call.Workload.{Workload}
 use Rattle.jh_check.specs.declared.error.CheckError.{CheckError}
+use Rattle.jh_check.specs.declared.error.CheckError.TheVariants as fault
+use Rattle.jh_keys.specs.Findings.{RefusesHistory}
 use Rattle.jh_simnode.specs.declared.events.Event.{Event}
 use Rattle.jh_simnode.specs.declared.events.WorldError.TheVariants as WorldError
 use Rattle.jh_simnode.specs.declared.serial.RunError.TheVariants as RunError
@@ -13,16 +15,15 @@ use Rattle.jh_simnode.specs.Runs.{Serial, Stops}
 use Rattle.jh_settings.specs.Settings as settings
 use Rattle.jh_settings.specs.Settings.{AreSettingsOf}
 use Rattle.jh_settings.specs.declared.words.Mode.{Mode}
-use Rattle.jh_cli.specs.CheckRefusals.{RefusesHistory}
 use Rattle.jh_cli.specs.RunText.{IsRunTextOf}
 use Rattle.jh_cli.specs.Status.{edn_fault, run_fault, settings_fault}
 use Rattle.jh_cli.specs.declared.error.CliError.{CliError}
-use Rattle.jh_cli.specs.declared.error.CliError.TheVariants.{Input, Settings, Run, Check, HistoryFull, Mismatch, Thread, Read, Write, OutOfMemory}
+use Rattle.jh_cli.specs.declared.error.CliError.TheVariants.{Input, Settings, Run, HistoryFull, Mismatch, Thread, Read, Write, OutOfMemory}
 
 -- The checker of a workload refuses the history of a run, which is a mismatch. (No plan is known whose history its checker
 -- refuses.)
 abbrev pub RefusesOwn : Workload → List Operation → CliError → Type 0
-RefusesOwn workload history Mismatch = (fault : CheckError) × RefusesHistory workload history (Check fault)
+RefusesOwn workload history Mismatch = (refusal : CheckError) × (refusal ≢ fault.OutOfMemory) × RefusesHistory workload history refusal
 RefusesOwn workload history OutOfMemory = Unit {0}
 RefusesOwn workload history _ = ⊥
 

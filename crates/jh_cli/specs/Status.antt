@@ -5,7 +5,7 @@ use Rattle.jh_edn.specs.declared.error.EdnError.TheVariants as EdnError
 use Rattle.jh_env.specs.declared.texts.EnvTextError.TheVariants as EnvTextError
 use Rattle.jh_ops.specs.declared.history.HistoryError.TheVariants as HistoryError
 use Rattle.jh_check.specs.declared.error.CheckError.TheVariants as CheckError
-use Rattle.jh_linear.specs.declared.calls.RegOpsError.TheVariants as RegOpsError
+use Rattle.jh_keys.specs.declared.error.KeysError.TheVariants as KeysError
 use Rattle.jh_nemesis.specs.declared.texts.StepTextError.TheVariants as StepTextError
 use Rattle.jh_settings.specs.declared.error.SettingsError.TheVariants as SettingsError
 use Rattle.jh_simnode.specs.declared.events.WorldError.TheVariants as WorldError
@@ -58,10 +58,12 @@ abbrev pub check_fault : CheckError.the_data → CliError
 check_fault CheckError.OutOfMemory = OutOfMemory
 check_fault fault = Check fault
 
--- what a refusal of the calls of a register means to a command
-abbrev pub register_fault : RegOpsError.the_data → CliError
-register_fault (RegOpsError.BadValue place) = Check (CheckError.BadValue place)
-register_fault RegOpsError.OutOfMemory = OutOfMemory
+-- what a refusal of the keys of a history means to a command
+abbrev pub keys_fault : KeysError.the_data → CliError
+keys_fault (KeysError.BadValue place) = Check (CheckError.BadValue place)
+keys_fault (KeysError.Key fault) = check_fault fault
+keys_fault KeysError.Thread = Thread
+keys_fault KeysError.OutOfMemory = OutOfMemory
 
 -- what a refusal of settings means to a command
 abbrev pub settings_fault : SettingsError.the_data → CliError

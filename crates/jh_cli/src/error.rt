@@ -6,17 +6,17 @@ ghost use Rattle.jh_cli.specs.Status.{status_of};
 use jh_check::CheckError;
 use jh_edn::EdnError;
 use jh_env::EnvTextError;
-use jh_linear::RegOpsError;
+use jh_keys::KeysError;
 use jh_nemesis::StepTextError;
-use jh_ops::{HistoryError, PairError};
+use jh_ops::HistoryError;
 use jh_settings::SettingsError;
 use jh_simnode::{RunError, WorldError};
 use std::alloc::{AllocError, AllocFailed};
 use std::io::{self, Write};
 use thiserror::Error;
 
-/// Why a command ended early. `Read`, `Write` and `OutOfMemory` are faults of the machine, `Run`, `HistoryFull`, `Mismatch`
-/// and `Thread` say that a run was not completed, `OnlyForRegister` refuses the arguments, and all others what was read.
+/// Why a command ended early. `Read`, `Write`, `Thread` and `OutOfMemory` are faults of the machine, `Run`, `HistoryFull` and
+/// `Mismatch` say that a run was not completed, `OnlyForRegister` refuses the arguments, and all others what was read.
 #[derive(Debug, Drop, Error)]
 pub enum CliError {
     /// The input is no text of EDN values.
@@ -49,7 +49,7 @@ pub enum CliError {
     /// What a run did does not agree: its threads, its world and its plan, or its own history can't be judged.
     #[error("mismatch")]
     Mismatch,
-    /// A thread of a run could not be had.
+    /// A thread could not be had.
     #[error("thread failed")]
     Thread,
     /// There is an initial value, and no register.
@@ -147,26 +147,17 @@ impl From<CheckError> for CliError {
     }
 }
 
-impl From<PairError> for CliError {
-    ghost use Rattle.jh_check.specs.CounterResults.{refusal_of};
-    ghost use Rattle.jh_cli.specs.Status.{check_fault};
+impl From<KeysError> for CliError {
+    ghost use Rattle.jh_cli.specs.Status.{keys_fault};
 
-    ghost from_gives = { λ fault e. e ≡ check_fault (refusal_of fault) };
+    ghost from_gives = { λ fault e. e ≡ keys_fault fault };
 
-    fn from(fault: PairError) -> CliError {
-        CliError::from(CheckError::from(fault))
-    }
-}
-
-impl From<RegOpsError> for CliError {
-    ghost use Rattle.jh_cli.specs.Status.{register_fault};
-
-    ghost from_gives = { λ fault e. e ≡ register_fault fault };
-
-    fn from(fault: RegOpsError) -> CliError {
+    fn from(fault: KeysError) -> CliError {
         match fault {
-            RegOpsError::BadValue(place) => CliError::Check(CheckError::BadValue(place)),
-            RegOpsError::OutOfMemory => CliError::OutOfMemory,
+            KeysError::BadValue(place) => CliError::Check(CheckError::BadValue(place)),
+            KeysError::Key(fault) => CliError::from(fault),
+            KeysError::Thread => CliError::Thread,
+            KeysError::OutOfMemory => CliError::OutOfMemory,
         }
     }
 }

@@ -23,9 +23,11 @@ pub(crate) fn asked_once(alloc: Global, arguments: &str) -> Option<Vec<u8>> {
 fn asks_for_commands(rt: HostRuntime) {
     let rows = r#"jeprun env → Env
 § jeprun run → Run
-§ jeprun check --workload set → Check(Question { workload: Set, initial: None, budget: 100000 })
-§ jeprun check --workload=unique-ids --budget 0 → Check(Question { workload: Ids, initial: None, budget: 0 })
-§ jeprun check --workload register --initial=-5 → Check(Question { workload: Register, initial: Some(-5), budget: 100000 })
+§ jeprun check --workload set → Check(Question { workload: Set, initial: None, budget: 100000, independent: false, threads: 1 })
+§ jeprun check --workload=unique-ids --budget 0 → Check(Question { workload: Ids, initial: None, budget: 0, independent: false, threads: 1 })
+§ jeprun check --workload register --initial=-5 → Check(Question { workload: Register, initial: Some(-5), budget: 100000, independent: false, threads: 1 })
+§ jeprun check --workload set --independent → Check(Question { workload: Set, initial: None, budget: 100000, independent: true, threads: 1 })
+§ jeprun check --independent --threads 16 --workload counter → Check(Question { workload: Counter, initial: None, budget: 100000, independent: true, threads: 16 })
 § jeprun shrink → Shrink(10000)
 § jeprun shrink --budget 10000000 → Shrink(10000000)
 § jeprun → 3
@@ -49,6 +51,20 @@ error: invalid value 'lock' for '--workload <NAME>'
 For more information, try '--help'.
 § jeprun check --workload set --budget 10000001 → 3
 error: invalid value '10000001' for '--budget <N>': 10000001 is not in 0..=10000000
+
+For more information, try '--help'.
+§ jeprun check --workload set --threads 0 → 3
+error: invalid value '0' for '--threads <N>': 0 is not in 1..=16
+
+For more information, try '--help'.
+§ jeprun check --workload set --threads 17 → 3
+error: invalid value '17' for '--threads <N>': 17 is not in 1..=16
+
+For more information, try '--help'.
+§ jeprun check --workload set --independent=1 → 3
+error: unexpected value '1' for '--independent' found; no more were expected
+
+Usage: jeprun check --workload <NAME> --independent
 
 For more information, try '--help'.
 § jeprun shrink --budget 10000001 → 3
@@ -105,6 +121,8 @@ Options:
       --workload <NAME>  What the database was to be [possible values: register, set, counter, unique-ids]
       --initial <N>      The register's first value; nil where it is left out
       --budget <N>       How many configurations the judge of a register may reach [default: 100000]
+      --independent      Judges each key by itself; values are tuples of a key and a value
+      --threads <N>      How many threads judge keys [default: 1]
   -h, --help             Print help
 § jeprun --help → 0
 A test harness for databases, over a simulated cluster under faults

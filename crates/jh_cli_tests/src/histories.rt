@@ -1,6 +1,6 @@
 //! Worked examples of the command `check`: a history of each workload.
 
-use crate::rows::{Texts, first_wrong};
+use crate::rows::{Texts, first_wrong, is_answer};
 
 #[test]
 fn judges_sets(rt: HostRuntime) {
@@ -155,4 +155,55 @@ fn an_initial_value_is_for_registers(rt: HostRuntime) {
     assert_eq!(rt; first_wrong(&rt, rt.alloc(), texts, refused), None);
     let texts = Texts::Inputs("jeprun check --workload unique-ids --initial 0");
     assert_eq!(rt; first_wrong(&rt, rt.alloc(), texts, refused), None);
+}
+
+/// Two keys, of which the second in the history is the first in normal order.
+const TWO_KEYS: &str = r#"
+{:type :invoke, :f :write, :value [2 5], :process 0} {:type :ok, :f :write, :value [2 5], :process 0}
+{:type :invoke, :f :read, :value [1 nil], :process 1} {:type :ok, :f :read, :value [1 9], :process 1}
+{:type :info, :f :start, :value 7, :process :nemesis}"#;
+
+/// The answer of any number of threads; without `--independent` they mean nothing.
+#[test]
+fn judges_independent_keys(rt: HostRuntime) {
+    let rows = "\
+        jeprun check --workload register --independent → 1\n\
+        {:valid? false, :keys [[1 {:valid? false}] [2 {:valid? true, :order [0]}]]}\n\
+        §jeprun check --workload register --independent --threads 2 → 1\n\
+        {:valid? false, :keys [[1 {:valid? false}] [2 {:valid? true, :order [0]}]]}\n\
+        §jeprun check --workload register --independent --threads 16 → 1\n\
+        {:valid? false, :keys [[1 {:valid? false}] [2 {:valid? true, :order [0]}]]}\n\
+        §jeprun check --workload register --independent --threads 2 --budget 0 → 2\n\
+        {:valid? :unknown, :keys [[1 {:valid? :unknown}] [2 {:valid? :unknown}]]}\n\
+        §jeprun check --workload unique-ids --threads 3 → 0\n\
+        {:valid? true, :attempted 0, :acknowledged 0, :duplicated []}\n\
+        §jeprun check --workload unique-ids --threads 3 --independent → 0\n\
+        {:valid? true, :keys [[1 {:valid? true, :attempted 0, :acknowledged 0, :duplicated []}] \
+        [2 {:valid? true, :attempted 0, :acknowledged 0, :duplicated []}]]}\n";
+    for row in rows.split('§') {
+        let (arguments, expected) = row.split_once(" → ").unwrap_or(("", ""));
+        let is_right = is_answer(
+            &rt,
+            rt.alloc(),
+            arguments,
+            TWO_KEYS.as_bytes(),
+            expected.as_bytes(),
+        );
+        assert!(rt; is_right, "{row}");
+    }
+}
+
+#[test]
+fn refuses_histories_of_keys(rt: HostRuntime) {
+    let rows = r#"→ 0
+{:valid? true, :keys []}
+§ {:type :invoke, :f :add, :value 1, :process 0} → 3 operation 0: bad value
+§ {:type :invoke, :f :add, :value ["a" 1], :process 0} {:type :ok, :f :add, :value ["b" 1], :process 0}
+→ 3 operation 1: no invocation
+§ {:type :invoke, :f :add, :value #t [1 1], :process 0} → 3 operation 0: bad value
+§ {:type :invoke, :f :add, :value (2 -1), :process 0} {:type :invoke, :f :add, :value [1 -1], :process 1}
+→ 3 operation 1: negative add
+"#;
+    let texts = Texts::Inputs("jeprun check --workload counter --independent --threads 2");
+    assert_eq!(rt; first_wrong(&rt, rt.alloc(), texts, rows), None);
 }

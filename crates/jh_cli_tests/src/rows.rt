@@ -5,6 +5,9 @@
 //! space, the message and a line feed. Where an allocation is refused, all is done once more, so that the tests stand one
 //! refused allocation.
 
+ghost use Rattle.std.specs.Prelude.{IfSome};
+ghost use Rattle.jh_arguments.specs.Commands.{TakesThreads};
+
 use crate::arguments::asked_once;
 use crate::errors::named_once;
 use jh_arguments::{Command, command_of, parse, run};
@@ -16,7 +19,9 @@ use std::sync::Wait;
 use std::thread::Threads;
 
 /// The command that these arguments ask for; `None` also where memory was refused.
-pub(crate) fn command(alloc: Global, arguments: &str) -> Option<Command> {
+pub(crate) fn command(alloc: Global, arguments: &str) -> Option<Command>
+    ensures { IfSome result TakesThreads }
+{
     let arguments: Vec<&str> = arguments.split(' ').collect(alloc).ok()?;
     command_of(&parse(alloc, arguments.as_slice()).ok()?)
 }

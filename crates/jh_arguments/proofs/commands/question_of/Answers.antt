@@ -1,7 +1,7 @@
-use Rattle.std.proofs.Common.{rules, sym, ◌≡◌, ◌∙◌, Some, None}
+use Rattle.std.proofs.Common.{rules, codes, sym, ◌≡◌, ◌∙◌, Some, None}
 use Rattle.clap.specs.Words.{found_of}
 use Rattle.jh_arguments.specs.Commands.{name_of}
-use Rattle.jh_arguments.proofs.OptionLemmas.{initial_read, name_given}
+use Rattle.jh_arguments.proofs.OptionLemmas.{flag_read, initial_read, name_given}
 use Rattle.jh_arguments.proofs.commands.question_of.Goals as goal
 
 pub returns-in_err-get_str-clause-taken : goal.returns-in_err-get_str-clause-taken
@@ -16,8 +16,11 @@ returns-in_err-workload-clause-taken c = λ none question asks.
     let same : Some c.in_ok-get_str.field-0.now ≡ Some (name_of question.workload) = sym given ∙ asks.workload in
     c.workload_of.ensures.taken (search rules) question.workload (search rules)
 
-pub returns-in_err-budget_of-clause-taken : goal.returns-in_err-budget_of-clause-taken
-returns-in_err-budget_of-clause-taken c = λ none question asks. c.budget_of.ensures.taken (search rules) question.budget asks.budget
+pub returns-in_err-number_of-clause-taken : goal.returns-in_err-number_of-clause-taken
+returns-in_err-number_of-clause-taken c = λ none question asks. c.number_of.ensures.taken (search rules) question.budget asks.budget
+
+pub returns-in_err-threads_of-clause-taken : goal.returns-in_err-threads_of-clause-taken
+returns-in_err-threads_of-clause-taken c = λ none question asks. c.threads_of.ensures.taken (search rules) question.threads asks.threads
 
 pub returns-clause-told : goal.returns-clause-told
 returns-clause-told c =
@@ -25,5 +28,7 @@ returns-clause-told c =
     record {
       workload = given ∙ search rules;
       initial = initial_read (found_of c.args.options.now) c.get_one.result (search rules) (search rules);
-      budget = c.in_ok-budget_of.ensures.told;
+      budget = c.in_ok-number_of.ensures.told;
+      independent = flag_read (found_of c.args.options.now) (codes "independent") c.get_flag.result c.get_flag.ensures.none c.get_flag.ensures.value c.get_flag.ensures.other;
+      threads = c.in_ok-threads_of.ensures.told;
     }

@@ -1,0 +1,4 @@
+pub mod RunLemmas
+pub mod SplitLemmas
+pub mod PartLemmas
+pub mod FoundLemmas

@@ -1,0 +1,10 @@
+-- What one history's checks go by: proofs rest on it, and no public clause names it.
+use Rattle.jh_check.specs.declared.error.CheckError.{CheckError}
+use Rattle.jh_check.specs.declared.error.CheckError.TheVariants.{BadValue, OutOfMemory}
+use Rattle.jh_linear.specs.declared.calls.RegOpsError.{RegOpsError}
+use Rattle.jh_linear.specs.declared.calls.RegOpsError.TheVariants as calls
+
+-- the same error
+abbrev pub error_of : RegOpsError → CheckError
+error_of (calls.BadValue place) = BadValue place
+error_of calls.OutOfMemory = OutOfMemory

@@ -1,0 +1,62 @@
+-- What the checker of a workload finds in a history, and why it judges none (Jepsen's checkers `set`, `counter`,
+-- `unique-ids` and `linearizable`; what each finds stands in the definitions of its own crate).
+use Rattle.std.specs.Prelude.{◌≡◌, ℕ, ℤ, List, Option, Some, None}
+use Rattle.jh_ops.specs.Operation.{Operation}
+use Rattle.jh_ops.specs.Pairing.{IsWellFormed, RefusesHistory as RefusesPairing, pairs_of}
+use Rattle.jh_ops.specs.declared.call.Workload.{Workload}
+use Rattle.jh_check.specs.CounterResults.{IsCountable, RefusesCounter, counter_result, refusal_of}
+use Rattle.jh_check.specs.IdsResults.{ids_result}
+use Rattle.jh_check.specs.SetResults.{IsJudgeable, RefusesSet, set_result}
+use Rattle.jh_check.specs.declared.error.CheckError.{CheckError}
+use Rattle.jh_check.specs.declared.error.CheckError.TheVariants.{Pair, BadValue, NegativeAdd, OutOfMemory}
+use Rattle.jh_check.specs.declared.verdict.Verdict.{Verdict}
+use Rattle.jh_linear.specs.Calls.{AreRegOps, IsLeastBad}
+use Rattle.jh_linear.specs.Verdict.{IsJudged}
+use Rattle.jh_linear.specs.declared.register.RegOp.{RegOp}
+use Rattle.jh_linear.specs.declared.verdict.LinVerdict.{LinVerdict}
+use Rattle.jh_linear.specs.declared.verdict.LinVerdict.TheVariants.{Valid, Invalid, Unknown}
+use Rattle.jh_keys.specs.declared.finding.Finding.{Finding}
+use Rattle.jh_keys.specs.declared.finding.Finding.TheVariants.{Set, Counter, Ids, Register}
+
+-- the operations of a register that a history tells
+abbrev pub AreCalls : List Operation → List RegOp → Type 0
+AreCalls history calls = IsWellFormed history × AreRegOps history (pairs_of history) calls
+
+-- The finding of the workload's checker. That of a register says what the judge promises: more than one may be right.
+abbrev pub IsFinding : Workload → Option ℤ → ℕ → List Operation → Finding → Type 0
+IsFinding Workload.Set initial budget history (Set found) = IsJudgeable history × (found ≡ set_result history)
+IsFinding Workload.Counter initial budget history (Counter found) = IsCountable history × (found ≡ counter_result history)
+IsFinding Workload.Ids initial budget history (Ids found) = found ≡ ids_result history
+IsFinding Workload.Register initial budget history (Register found) =
+    (calls : List RegOp) × AreCalls history calls × IsJudged calls initial budget found
+IsFinding workload initial budget history finding = ⊥
+
+-- ---- verdicts
+
+abbrev pub verdict_of_register : LinVerdict → Verdict
+verdict_of_register (Valid order) = Verdict.True
+verdict_of_register Invalid = Verdict.False
+verdict_of_register (Unknown reached) = Verdict.Unknown
+
+abbrev pub verdict_of : Finding → Verdict
+verdict_of (Set found) = found.verdict
+verdict_of (Counter found) = found.verdict
+verdict_of (Ids found) = found.verdict
+verdict_of (Register found) = verdict_of_register found
+
+-- ---- refusals
+
+-- A history of a register is refused for its pairs, then for the bad value at the least place. Want of memory has a name
+-- of its own.
+abbrev pub RefusesRegister : List Operation → CheckError → Type 0
+RefusesRegister history (Pair fault) = (refusal_of fault ≡ Pair fault) × RefusesPairing history fault
+RefusesRegister history (BadValue place) = IsWellFormed history × IsLeastBad history (pairs_of history) (Some place)
+RefusesRegister history (NegativeAdd place) = ⊥
+RefusesRegister history OutOfMemory = Unit {0}
+
+-- why the checker of a workload judges no history
+abbrev pub RefusesHistory : Workload → List Operation → CheckError → Type 0
+RefusesHistory Workload.Set history fault = RefusesSet history fault
+RefusesHistory Workload.Counter history fault = RefusesCounter history fault
+RefusesHistory Workload.Ids history fault = fault ≡ OutOfMemory
+RefusesHistory Workload.Register history fault = RefusesRegister history fault

@@ -1,0 +1,9 @@
+pub mod Keys
+pub mod Lines
+pub mod Findings
+pub mod Refusals
+pub mod FindingInside
+pub mod SplitInside
+pub mod PartsInside
+pub mod BoardInside
+pub mod FoundInside

@@ -1,0 +1,60 @@
+-- What splitting a history goes by: proofs rest on it, and no public clause names it.
+use Rattle.std.specs.Prelude.{◌≡◌, ℕ, Bool, List, [], map, filter, filter_map, Option, Some, None, option_map}
+use Rattle.std.specs.List.{enumerate_from}
+use Rattle.jh_edn.specs.Edn.{Edn}
+use Rattle.jh_edn.specs.Order.{is_below}
+use Rattle.jh_edn.specs.View.{view}
+use Rattle.jh_ops.specs.Operation.{Operation}
+use Rattle.jh_check.specs.Distinct.{is_same, once}
+use Rattle.jh_keys.specs.Keys.{AreTuples, IsFirstBad, key_of, keys_of, places_of}
+use Rattle.jh_keys.specs.declared.error.KeysError.{KeysError}
+use Rattle.jh_keys.specs.declared.error.KeysError.TheVariants.{BadValue, Key, Thread, OutOfMemory}
+use Rattle.jh_keys.specs.declared.split.KeyPlaces.{KeyPlaces}
+use Rattle.jh_keys.specs.declared.split.Keyed.{Keyed}
+
+-- ---- keys with places
+
+abbrev pub view_key : Keyed → Edn × ℕ
+view_key keyed = (view keyed.key, keyed.place)
+
+abbrev pub view_keyed : List Keyed → List (Edn × ℕ)
+view_keyed keyed = map view_key keyed
+
+-- the key of an operation with its place, where it has one
+abbrev pub with_key : ℕ × Operation → Option (Edn × ℕ)
+with_key placed = option_map (λ key. (key, placed.0)) (key_of placed.1)
+
+abbrev pub keyed_in : List Operation → List (Edn × ℕ)
+keyed_in history = filter_map with_key (enumerate_from 0 history)
+
+abbrev pub is_key_below : Edn × ℕ → Edn × ℕ → Bool
+is_key_below a b = is_below a.0 b.0
+
+abbrev pub keys_in : List (Edn × ℕ) → List Edn
+keys_in keyed = map (λ one. one.0) keyed
+
+-- ---- groups: keys with all their places
+
+abbrev pub view_group : KeyPlaces → Edn × List ℕ
+view_group group = (view group.key, group.places.items)
+
+abbrev pub view_groups : List KeyPlaces → List (Edn × List ℕ)
+view_groups groups = map view_group groups
+
+-- the places that stand with a key
+abbrev pub places_in : Edn → List (Edn × ℕ) → List ℕ
+places_in key keyed = map (λ one. one.1) (filter (λ one. is_same key one.0) keyed)
+
+abbrev pub groups_in : List (Edn × ℕ) → List (Edn × List ℕ)
+groups_in keyed = map (λ key. (key, places_in key keyed)) (once (keys_in keyed))
+
+-- those of a history
+abbrev pub groups_of : List Operation → List (Edn × List ℕ)
+groups_of history = map (λ key. (key, places_of key history)) (keys_of history)
+
+-- why a history is not split
+abbrev pub RefusesSplit : List Operation → KeysError → Type 0
+RefusesSplit history (BadValue place) = IsFirstBad history place
+RefusesSplit history (Key error) = ⊥
+RefusesSplit history Thread = ⊥
+RefusesSplit history OutOfMemory = AreTuples history

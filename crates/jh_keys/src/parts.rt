@@ -1,0 +1,123 @@
+//! The history of one key, and what its checker finds. `specs/Keys.antt` says what is left of an operation,
+//! `specs/Refusals.antt` how a fault is told.
+
+ghost use Rattle.std.specs.Prelude.{◌≡◌, ◌<◌, All, IfOk, IsErrOf, MatchResult, length, map, slice_index_or};
+ghost use Rattle.jh_edn.specs.View.{view};
+ghost use Rattle.jh_ops.specs.Operation.{operation, operations};
+ghost use Rattle.jh_keys.specs.Keys as rule;
+ghost use Rattle.jh_keys.specs.Keys.{places_of};
+ghost use Rattle.jh_keys.specs.PartsInside.{asked_of, op_at, told_of};
+ghost use Rattle.jh_keys.specs.Refusals as told;
+ghost use Rattle.jh_keys.specs.Refusals.{IsFindingOf, RefusesKey};
+
+use crate::error::KeysError;
+use crate::finding::{Finding, check_history};
+use crate::split::{KeyPlaces, tuple_of};
+use jh_check::CheckError;
+use jh_edn::{Pairs, Value};
+use jh_ops::{Op, PairError, Workload};
+use std::alloc::{AllocError, Global};
+
+/// What the histories of all keys are judged by.
+#[derive(Clone, Copy)]
+pub(crate) struct Judging {
+    pub(crate) workload: Workload,
+    pub(crate) initial: Option<i64>,
+    pub(crate) budget: u64,
+}
+
+/// The value behind the key.
+fn value_of(alloc: Global, value: &Value) -> Result<Value, AllocError>
+    ensures { IfOk result (λ copy. view copy ≡ rule.value_of (view value.now)) }
+{
+    match tuple_of(value) {
+        Some((_, value)) => value.copy(alloc),
+        None => Ok(Value::Nil),
+    }
+}
+
+fn without_key(alloc: Global, op: &Op) -> Result<Op, AllocError>
+    ensures { IfOk result (λ copy. operation copy ≡ rule.without_key (operation op.now)) }
+{
+    Ok(Op {
+        kind: op.kind,
+        f: op.f.copy(alloc)?,
+        value: value_of(alloc, &op.value)?,
+        process: op.process,
+        time: op.time,
+        index: op.index,
+        rest: Pairs::of(Vec::new(alloc)),
+    })
+}
+
+/// What stands at these places of a history, without the keys.
+fn part_of(alloc: Global, history: &[Op], places: &[usize]) -> Result<Vec<Op>, AllocError>
+    requires { All (λ place. place < length history.now) places.now }
+    ensures { IfOk result (λ part. operations part.items
+        ≡ map (λ place. rule.without_key (op_at (operations history.now) place)) places.now) }
+{
+    let mut part = Vec::with_capacity(alloc, places.len())?;
+    for place in places {
+        part.push(without_key(alloc, &history[*place])?)?;
+    }
+    Ok(part)
+}
+
+fn place_in(places: &[usize], place: usize) -> usize
+    ensures { result ≡ slice_index_or places.now place 0 }
+{
+    places.get(place).copied().unwrap_or(0)
+}
+
+fn pairing_in(places: &[usize], error: PairError) -> PairError
+    ensures { result ≡ told.pairing_in places.now error }
+{
+    match error {
+        PairError::AfterCrash(place) => PairError::AfterCrash(place_in(places, place)),
+        PairError::DoubleInvoke(place) => PairError::DoubleInvoke(place_in(places, place)),
+        PairError::NoInvoke(place) => PairError::NoInvoke(place_in(places, place)),
+        PairError::OutOfMemory => PairError::OutOfMemory,
+    }
+}
+
+/// A fault of a key's history, told at its place in the whole one.
+fn error_in(places: &[usize], error: CheckError) -> KeysError
+    ensures { result ≡ told_of places.now error }
+{
+    match error {
+        CheckError::Pair(fault) => KeysError::Key(CheckError::Pair(pairing_in(places, fault))),
+        CheckError::BadValue(place) => {
+            KeysError::Key(CheckError::BadValue(place_in(places, place)))
+        }
+        CheckError::NegativeAdd(place) => {
+            KeysError::Key(CheckError::NegativeAdd(place_in(places, place)))
+        }
+        CheckError::OutOfMemory => KeysError::OutOfMemory,
+    }
+}
+
+/// Judges the history of one key.
+pub(crate) fn check_key(
+    alloc: Global,
+    history: &[Op],
+    judging: Judging,
+    group: &KeyPlaces,
+) -> Result<Finding, KeysError>
+    requires { group.now.places.items ≡ places_of (view group.now.key) (operations history.now) }
+    ensures judged { MatchResult result
+        (IsFindingOf (asked_of judging (operations history.now)) (view group.now.key))
+        (RefusesKey (asked_of judging (operations history.now)) (view group.now.key)) }
+    ensures alone { IsErrOf result KeysError.Thread → ⊥ }
+{
+    let part = part_of(alloc, history, &group.places)?;
+    match check_history(
+        alloc,
+        &part,
+        judging.workload,
+        judging.initial,
+        judging.budget,
+    ) {
+        Ok(finding) => Ok(finding),
+        Err(error) => Err(error_in(&group.places, error)),
+    }
+}
