@@ -2,3 +2,4 @@ pub mod RunLemmas
 pub mod SplitLemmas
 pub mod PartLemmas
 pub mod FoundLemmas
+pub mod LawLemmas

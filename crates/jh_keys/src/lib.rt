@@ -4,6 +4,7 @@
 mod board;
 mod error;
 mod finding;
+mod laws;
 mod lines;
 mod parts;
 mod serial;
@@ -12,6 +13,7 @@ mod threads;
 
 pub use error::KeysError;
 pub use finding::{Finding, check_history};
+pub use laws::findings_agree;
 pub use lines::{verdict_of_all, write_finding, write_findings};
 pub use serial::{KeyFinding, check_keys_serial};
 pub use threads::{Gate, check_keys, check_keys_at};
