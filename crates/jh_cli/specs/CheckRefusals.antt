@@ -42,12 +42,12 @@ RefusesValues independent workload initial budget values OutOfMemory = Unit {0}
 RefusesValues independent workload initial budget values e =
     (history : List Operation) × told.AreTold values history × RefusesBy independent workload initial budget history e
 
--- Why an input is refused. A failed read and want of memory may come with any input; a failed write comes only where there
+-- Why an input is refused, where for its text then for its first fault. A failed read and want of memory may come with any input; a failed write comes only where there
 -- is something to write.
 abbrev pub RefusesCheck : Bool → Workload → Option ℤ → ℕ → List ℕ → CliError → Type 0
 RefusesCheck independent workload initial budget input OnlyForRegister = TakesInitial workload initial → ⊥
 RefusesCheck independent workload initial budget input (Input fault) =
-    (edn_fault fault ≡ Input fault) × edn.RefusesText input fault
+    (edn_fault fault ≡ Input fault) × edn.RefusesText input fault × edn.IsFirstFault input fault
 RefusesCheck independent workload initial budget input Read = Unit {0}
 RefusesCheck independent workload initial budget input Write =
     (status : ℕ) × (output : List ℕ) × IsCheckTextOf independent workload initial budget input status output

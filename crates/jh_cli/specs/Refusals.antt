@@ -58,10 +58,10 @@ RefusesValues values Read = ⊥
 RefusesValues values Write = ⊥
 RefusesValues values OutOfMemory = Unit {0}
 
--- Why an input is refused: for its text, or for the values that it spells. A failed read and want of memory have names of
+-- Why an input is refused: for the first fault of its text, or for the values that it spells. A failed read and want of memory have names of
 -- their own and may come with any input; a failed write comes only where there is something to write.
 abbrev pub RefusesInput : List ℕ → CliError → Type 0
-RefusesInput input (Input fault) = (edn_fault fault ≡ Input fault) × edn.RefusesText input fault
+RefusesInput input (Input fault) = (edn_fault fault ≡ Input fault) × edn.RefusesText input fault × edn.IsFirstFault input fault
 RefusesInput input EnvironmentMissing = (values : List Edn) × SpellsAll values input × RefusesValues values EnvironmentMissing
 RefusesInput input (Environment fault) = (values : List Edn) × SpellsAll values input × RefusesValues values (Environment fault)
 RefusesInput input (Element place fault) = (values : List Edn) × SpellsAll values input × RefusesValues values (Element place fault)

@@ -374,3 +374,32 @@ fn refuses_bytes(rt: HostRuntime) {
     );
     assert!(rt; is_answer(&rt, rt.alloc(), "jeprun env", b"\xff", b"3 not UTF-8\n"));
 }
+
+/// The first fault of a text is told with its line, whichever command reads it.
+#[test]
+fn tells_the_line_of_a_fault(rt: HostRuntime) {
+    let rows = r#"{:nodes ["n1"]}
+[:undo → 3 line 2: unexpected end
+§ {:nodes ["n1"]}
+[:withdraw 01] 1.5 → 3 line 2: bad token
+§ {:nodes ["n1"]}
+; a float
+1.5 [:withdraw 01] → 3 line 3: float unsupported
+§ {:nodes ["n1"]}
+[:withdraw 9223372036854775808] → 3 line 2: integer out of range
+§ {:nodes ["n1"]} "a
+\q" → 3 line 2: bad escape
+§ {:nodes ["n1"]}
+
+{:a} → 3 line 3: odd map
+§ {:nodes ["n1"]}
+{:a 1, :b 2,
+:a 3} → 3 line 3: duplicate key
+§ {:nodes ["n1"]}
+[[[[[[[[[[[[[[[[[[[[[[[[[[[[[[[[[[[[[[[[[[[[[[[[[[[[[[[[[[[[[[[[[ → 3 line 2: too deep
+"#;
+    for arguments in ["jeprun env", "jeprun check --workload set"] {
+        let wrong = first_wrong(&rt, rt.alloc(), Texts::Inputs(arguments), rows);
+        assert_eq!(rt; wrong, None, "{arguments}");
+    }
+}

@@ -61,12 +61,20 @@ fn a_failing_reader_fails_the_command(rt: HostRuntime) {
     }
 }
 
-/// A writer that fails.
+/// A writer whose first write fails. It counts the bytes that are given to it behind that.
 #[derive(Drop)]
-struct Full;
+struct FailsOnce {
+    has_failed: bool,
+    behind: usize,
+}
 
-impl Write for Full {
-    fn write(&mut self, _buffer: &[u8]) -> io::Result<usize> {
+impl Write for FailsOnce {
+    fn write(&mut self, buffer: &[u8]) -> io::Result<usize> {
+        if self.has_failed {
+            self.behind = self.behind.saturating_add(buffer.len());
+            return Ok(buffer.len());
+        }
+        self.has_failed = true;
         Err(io::Error::other("full"))
     }
 
@@ -75,7 +83,7 @@ impl Write for Full {
     }
 }
 
-/// Whether the writer fails the command.
+/// Whether the writer fails the command, which then writes nothing more.
 fn fails_writing<T: Threads + Wait + Sync>(
     rt: &T,
     alloc: Global,
@@ -85,10 +93,12 @@ fn fails_writing<T: Threads + Wait + Sync>(
     let Some(command) = command(alloc, arguments) else {
         return false;
     };
-    matches!(
-        run(rt, alloc, command, &mut input, &mut Full, &mut Nobody),
-        Err(CliError::Write)
-    )
+    let mut writer = FailsOnce {
+        has_failed: false,
+        behind: 0,
+    };
+    let answer = run(rt, alloc, command, &mut input, &mut writer, &mut Nobody);
+    matches!(answer, Err(CliError::Write)) && writer.behind == 0
 }
 
 /// A row is arguments and an input.

@@ -50,7 +50,7 @@ fn no_budget_is_no_verdict(rt: HostRuntime) -> Result<(), Fail> {
     ask_all(&rt, rt.alloc(), ask, rows)
 }
 
-/// Two writes that may have happened come to five configurations of each key: a budget of six lasts for each key, and not
+/// Two writes that may have happened come to five configurations of each key: a budget of six lasts for each key and not
 /// for both together.
 #[test]
 fn each_key_has_the_whole_budget(rt: HostRuntime) -> Result<(), Fail> {
