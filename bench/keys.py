@@ -68,7 +68,7 @@ def show(name, program, parts, clients, budget, times):
 def main():
     words = argparse.ArgumentParser(description="How fast independent keys are judged.")
     words.add_argument("program")
-    words.add_argument("--calls", type=int, default=400, help="of a hard key")
+    words.add_argument("--calls", type=int, default=2000, help="of a hard key")
     words.add_argument("--clients", type=int, default=16, help="of a hard key")
     words.add_argument("--times", type=int, default=3)
     given = words.parse_args()

@@ -28,6 +28,7 @@ fn asks_for_commands(rt: HostRuntime) {
 § jeprun check --workload register --initial=-5 → Check(Question { workload: Register, initial: Some(-5), budget: 100000, independent: false, threads: 1 })
 § jeprun check --workload set --independent → Check(Question { workload: Set, initial: None, budget: 100000, independent: true, threads: 1 })
 § jeprun check --independent --threads 16 --workload counter → Check(Question { workload: Counter, initial: None, budget: 100000, independent: true, threads: 16 })
+§ jeprun check --workload set --budget 10000000 → Check(Question { workload: Set, initial: None, budget: 10000000, independent: false, threads: 1 })
 § jeprun shrink → Shrink(10000)
 § jeprun shrink --budget 10000000 → Shrink(10000000)
 § jeprun → 3
@@ -53,6 +54,22 @@ For more information, try '--help'.
 error: invalid value '10000001' for '--budget <N>': 10000001 is not in 0..=10000000
 
 For more information, try '--help'.
+§ jeprun check --workload set --initial x → 3
+error: invalid value 'x' for '--initial <N>': invalid digit found in string
+
+For more information, try '--help'.
+§ jeprun check --workload set --initial 9223372036854775808 → 3
+error: invalid value '9223372036854775808' for '--initial <N>': number too large to fit in target type
+
+For more information, try '--help'.
+§ jeprun shrink --budget x → 3
+error: invalid value 'x' for '--budget <N>': invalid digit found in string
+
+For more information, try '--help'.
+§ jeprun check --workload set --threads x → 3
+error: invalid value 'x' for '--threads <N>': invalid digit found in string
+
+For more information, try '--help'.
 § jeprun check --workload set --threads 0 → 3
 error: invalid value '0' for '--threads <N>': 0 is not in 1..=16
 
@@ -75,6 +92,24 @@ For more information, try '--help'.
 error: unrecognized subcommand 'bogus'
 
 Usage: jeprun <COMMAND>
+
+For more information, try '--help'.
+§ jeprun run extra → 3
+error: unexpected argument 'extra' found
+
+Usage: jeprun run
+
+For more information, try '--help'.
+§ jeprun shrink extra → 3
+error: unexpected argument 'extra' found
+
+Usage: jeprun shrink [OPTIONS]
+
+For more information, try '--help'.
+§ jeprun check --workload set extra → 3
+error: unexpected argument 'extra' found
+
+Usage: jeprun check [OPTIONS] --workload <NAME>
 
 For more information, try '--help'.
 § jeprun env extra → 3

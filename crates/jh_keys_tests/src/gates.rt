@@ -1,6 +1,6 @@
 //! Gates that show that threads run at once, and that say who may not be judged.
 
-use crate::rows::{Ask, is_always_answered, may_lack_memory, told};
+use crate::rows::{Ask, is_always_answered, is_told, may_lack_memory, told};
 use jh_keys::{Gate, check_keys_at};
 use jh_keys_plain::ops_of;
 use jh_ops::Workload;
@@ -85,11 +85,11 @@ fn is_met_by<R: Threads + Wait + Sync>(
     refused: usize,
     expected: &str,
 ) -> bool {
-    let mut found = answer_at(rt, alloc, history, 2, &Meeting::new(refused));
-    if may_lack_memory(&found) {
-        found = answer_at(rt, alloc, history, 2, &Meeting::new(refused));
+    let mut answer = answer_at(rt, alloc, history, 2, &Meeting::new(refused));
+    if may_lack_memory(&answer, expected) {
+        answer = answer_at(rt, alloc, history, 2, &Meeting::new(refused));
     }
-    found.is_some_and(|found| found.as_str() == expected)
+    is_told(&answer, expected)
 }
 
 const TWO_KEYS: &str =
@@ -127,11 +127,11 @@ fn is_answered<R: Threads + Wait + Sync>(
     expected: &str,
 ) -> bool {
     for threads in [1, 2, 16] {
-        let mut found = answer_at(rt, alloc, history, threads, gate);
-        if may_lack_memory(&found) {
-            found = answer_at(rt, alloc, history, threads, gate);
+        let mut answer = answer_at(rt, alloc, history, threads, gate);
+        if may_lack_memory(&answer, expected) {
+            answer = answer_at(rt, alloc, history, threads, gate);
         }
-        if !found.is_some_and(|found| found.as_str() == expected) {
+        if !is_told(&answer, expected) {
             return false;
         }
     }

@@ -68,10 +68,18 @@ pub(crate) fn told(alloc: Global, found: Result<Vec<KeyFinding>, KeysError>) -> 
     }
 }
 
-/// Whether an answer may come of refused memory: no thread is made, either, where that is wanting.
-pub(crate) fn may_lack_memory(answer: &Option<String>) -> bool {
+pub(crate) fn is_told(answer: &Option<String>, expected: &str) -> bool {
     match answer {
-        Some(answer) => answer.as_str() == "thread failed",
+        Some(answer) => answer.as_str() == expected,
+        None => false,
+    }
+}
+
+/// Whether an answer, which is not the expected one, may come of refused memory: no thread is made, either, where that is
+/// wanting.
+pub(crate) fn may_lack_memory(answer: &Option<String>, expected: &str) -> bool {
+    match answer {
+        Some(answer) => answer.as_str() == "thread failed" && expected != "thread failed",
         None => true,
     }
 }
@@ -85,10 +93,10 @@ fn is_answered<R: Threads + Wait + Sync>(
     expected: &str,
 ) -> bool {
     let mut answer = told(alloc, found(rt, alloc, ask, history, threads));
-    if may_lack_memory(&answer) {
+    if may_lack_memory(&answer, expected) {
         answer = told(alloc, found(rt, alloc, ask, history, threads));
     }
-    answer.is_some_and(|answer| answer.as_str() == expected)
+    is_told(&answer, expected)
 }
 
 /// Whether that is answered, serially and on each number of threads.
