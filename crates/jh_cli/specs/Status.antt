@@ -1,6 +1,6 @@
 -- How a command ends early (this project's own): refusals of the arguments and of the input have status 3, faults of the machine and
 -- runs that were not completed 4.
-use Rattle.std.specs.Prelude.{ℕ}
+use Rattle.std.specs.Prelude.{ℕ, List, Option, Some, None, codes}
 use Rattle.jh_edn.specs.declared.error.EdnError.TheVariants as EdnError
 use Rattle.jh_env.specs.declared.texts.EnvTextError.TheVariants as EnvTextError
 use Rattle.jh_ops.specs.declared.history.HistoryError.TheVariants as HistoryError
@@ -30,6 +30,18 @@ status_of OnlyForRegister = 3
 status_of Read = 4
 status_of Write = 4
 status_of OutOfMemory = 4
+
+-- The text of an error that is the commands' own. All others tell an error of a crate below, whose text no clause knows.
+abbrev pub own_text : CliError → Option (List ℕ)
+own_text EnvironmentMissing = Some (codes "environment missing")
+own_text HistoryFull = Some (codes "history full")
+own_text Mismatch = Some (codes "mismatch")
+own_text Thread = Some (codes "thread failed")
+own_text OnlyForRegister = Some (codes "--initial: only for register")
+own_text Read = Some (codes "read failed")
+own_text Write = Some (codes "write failed")
+own_text OutOfMemory = Some (codes "out of memory")
+own_text fault = None
 
 -- what a fault of the reader of EDN means to a command
 abbrev pub edn_fault : EdnError.the_data → CliError

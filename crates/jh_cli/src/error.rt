@@ -1,7 +1,9 @@
-//! Why a command ended before its work was done. The texts stand here, and docs/formats.md lists them.
+//! Why a command ended before its work was done. `specs/Status.antt` has the exit status of each, and the text of those that are
+//! the commands' own; docs/formats.md lists all texts.
 
-ghost use Rattle.std.specs.Prelude.{◌≡◌};
-ghost use Rattle.jh_cli.specs.Status.{status_of};
+ghost use Rattle.std.specs.Prelude.{◌≡◌, IfSome, OnOk};
+ghost use Rattle.std.specs.Io.KnownBytes.{Appends};
+ghost use Rattle.jh_cli.specs.Status.{own_text, status_of};
 
 use jh_check::CheckError;
 use jh_edn::EdnError;
@@ -12,54 +14,42 @@ use jh_ops::HistoryError;
 use jh_settings::SettingsError;
 use jh_simnode::{RunError, WorldError};
 use std::alloc::{AllocError, AllocFailed};
+use std::error::Error;
+use std::fmt::{self, Display, Formatter};
 use std::io::{self, Write};
-use thiserror::Error;
 
 /// Why a command ended early. `Read`, `Write`, `Thread` and `OutOfMemory` are faults of the machine, `Run`, `HistoryFull` and
 /// `Mismatch` say that a run was not completed, `OnlyForRegister` refuses the arguments, and all others what was read.
-#[derive(Debug, Drop, Error)]
+#[derive(Debug, Drop)]
 pub enum CliError {
     /// The input is no text of EDN values.
-    #[error("{0}")]
     Input(EdnError),
     /// The input holds no element.
-    #[error("environment missing")]
     EnvironmentMissing,
     /// The first element is no environment.
-    #[error("environment: {0}")]
     Environment(EnvTextError),
     /// The element at this place, the environment's being 1, is no step.
-    #[error("element {place}: {fault}")]
     Element { place: u64, fault: StepTextError },
     /// An element is no operation.
-    #[error("{0}")]
     History(HistoryError),
     /// The history is none that its checker can judge.
-    #[error("{0}")]
     Check(CheckError),
     /// The input is no settings of a run.
-    #[error("settings: {0}")]
     Settings(SettingsError),
     /// The run was not completed.
-    #[error("{0}")]
     Run(RunError),
     /// The log of a run on threads has too few rows for its records.
-    #[error("history full")]
     HistoryFull,
     /// What a run did does not agree: its threads, its world and its plan, or its own history can't be judged.
-    #[error("mismatch")]
     Mismatch,
     /// A thread could not be had.
-    #[error("thread failed")]
     Thread,
     /// There is an initial value, and no register.
-    #[error("--initial: only for register")]
     OnlyForRegister,
-    #[error("read failed")]
+    /// The input could not be read.
     Read,
-    #[error("write failed")]
+    /// The output could not be written.
     Write,
-    #[error("out of memory")]
     OutOfMemory,
 }
 
@@ -88,10 +78,38 @@ impl CliError {
     }
 
     /// Writes the text of the error, without `jeprun: ` before it or a line feed behind it.
-    pub fn text<W: Write>(&self, writer: &mut W) -> io::Result<()> {
+    pub fn text<W: Write>(&self, writer: &mut W) -> io::Result<()>
+        ensures { OnOk result (IfSome (own_text self.now) (Appends (W.contents writer.old) (W.contents writer.new))) }
+    {
         write!(writer, "{self}")
     }
 }
+
+impl Display for CliError {
+    ghost output = { own_text };
+
+    fn fmt<W: fmt::Write>(&self, f: &mut Formatter<W>) -> fmt::Result {
+        match self {
+            CliError::Input(fault) => write!(f, "{fault}"),
+            CliError::EnvironmentMissing => f.write_str("environment missing"),
+            CliError::Environment(fault) => write!(f, "environment: {fault}"),
+            CliError::Element { place, fault } => write!(f, "element {place}: {fault}"),
+            CliError::History(fault) => write!(f, "{fault}"),
+            CliError::Check(fault) => write!(f, "{fault}"),
+            CliError::Settings(fault) => write!(f, "settings: {fault}"),
+            CliError::Run(fault) => write!(f, "{fault}"),
+            CliError::HistoryFull => f.write_str("history full"),
+            CliError::Mismatch => f.write_str("mismatch"),
+            CliError::Thread => f.write_str("thread failed"),
+            CliError::OnlyForRegister => f.write_str("--initial: only for register"),
+            CliError::Read => f.write_str("read failed"),
+            CliError::Write => f.write_str("write failed"),
+            CliError::OutOfMemory => f.write_str("out of memory"),
+        }
+    }
+}
+
+impl Error for CliError {}
 
 impl From<EdnError> for CliError {
     ghost use Rattle.jh_cli.specs.Status.{edn_fault};
