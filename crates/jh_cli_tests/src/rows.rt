@@ -59,7 +59,7 @@ pub(crate) fn answer_once<T: Threads + Wait + Sync, R: Read + Drop>(
 }
 
 /// A status, and what was written.
-fn with_status(alloc: Global, status: u8, output: &[u8]) -> Option<Vec<u8>> {
+pub(crate) fn with_status(alloc: Global, status: u8, output: &[u8]) -> Option<Vec<u8>> {
     let mut text = Vec::new(alloc);
     write!(&mut text, "{status}\n").ok()?;
     text.extend_from_slice(output).ok()?;
