@@ -1,4 +1,5 @@
-//! Inputs that are cut anywhere, readers that give one byte at a time, and writers that take one, or none from some byte on.
+//! Inputs that are cut anywhere or too long, readers that give one byte at a time, and writers that take one, or none from some byte
+//! on.
 
 use crate::rows::{answer_once, command, with_status};
 use jh_arguments::run;
@@ -160,5 +161,51 @@ fn reads_and_writes_byte_by_byte(rt: HostRuntime) {
             is_written_up_to(&rt, rt.alloc(), whole.as_bytes(), room),
             "{room}"
         );
+    }
+}
+
+/// Settings whose schedule has so many entries, each an undo where there is nothing to undo.
+fn settings_with(alloc: Global, entries: usize) -> Option<String> {
+    let mut text = String::from_str(alloc, SETTINGS).ok()?;
+    text.push_str("'[0 [:undo]]', ".repeat(alloc, entries).ok()?.as_str())
+        .ok()?;
+    text.push_str("]\n").ok()?;
+    Some(text)
+}
+
+const SETTINGS: &str = r#"start = '{:nodes ["n1"]}'
+mode = "serial"
+store = "local"
+workload = "register"
+clients = 1
+ops = 1
+generator = '[:once :read]'
+schedule = ["#;
+
+/// Whether the answer to settings with so many entries begins so.
+fn begins_with<T: Threads + Wait + Sync>(
+    rt: &T,
+    alloc: Global,
+    entries: usize,
+    expected: &str,
+) -> Option<bool> {
+    let input = settings_with(alloc, entries)?;
+    let answer = answer_once(rt, alloc, "jeprun run", input.as_bytes())?;
+    Some(answer.starts_with(expected.as_bytes()))
+}
+
+#[test]
+fn takes_a_schedule_of_1024_entries(rt: HostRuntime) {
+    for (entries, expected) in [
+        (1_024, "0\n{:index 0,"),
+        (1_025, "3 settings: schedule: bad value\n"),
+    ] {
+        let begins = begins_with(&rt, rt.alloc(), entries, expected).or_else(|| begins_with(
+            &rt,
+            rt.alloc(),
+            entries,
+            expected,
+        ));
+        assert_eq!(rt; begins, Some(true), "{entries}");
     }
 }
