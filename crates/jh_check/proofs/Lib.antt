@@ -5,4 +5,3 @@ pub mod FinalLemmas
 pub mod SumLemmas
 pub mod FaultLemmas
 pub mod LineLemmas
-pub mod EqualLemmas

@@ -11,8 +11,8 @@ use Rattle.jh_edn.specs.Edn.{Edn}
 use Rattle.jh_edn.specs.Order.{edn_cmp, is_below, in_order, put_in_order}
 use Rattle.jh_edn.specs.View.{view, views}
 use Rattle.jh_edn.specs.declared.value.Value.{Value}
-use Rattle.jh_edn.proofs.OrderLemmas.{edn_total, below_order}
-use Rattle.jh_edn.proofs.Sorting.{in_order_ascends}
+use Rattle.jh_edn.proofs.Facts.{edn_total, below_order}
+use Rattle.jh_edn.proofs.Facts.{in_order_ascends}
 use Rattle.jh_check.specs.Distinct.{is_same, count_of, once, IsLeast, Ascends}
 
 pub same_itself : (x : Edn) → is_same x x ≡ true

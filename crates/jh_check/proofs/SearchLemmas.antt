@@ -11,7 +11,7 @@ use Rattle.jh_edn.specs.Edn.{Edn}
 use Rattle.jh_edn.specs.Order.{edn_cmp, is_below, in_order, put_in_order}
 use Rattle.jh_edn.specs.View.{view, views}
 use Rattle.jh_edn.specs.declared.value.Value.{Value}
-use Rattle.jh_edn.proofs.OrderLemmas.{edn_total}
+use Rattle.jh_edn.proofs.Facts.{edn_total}
 use Rattle.jh_check.specs.Distinct.{is_same, is_among, is_wanted, count_of, Ascends}
 use Rattle.jh_check.proofs.OnceLemmas.{same_back, count_cons}
 

@@ -36,7 +36,8 @@ fn keeps_to_the_budget(rt: HostRuntime) -> Result<(), Fail> {
         0 :invoke :write 1; 0 :info :write 1; 1 :invoke :read nil; 1 :ok :read 0; 1 :invoke :read nil; \
         1 :ok :read 1 => unknown 2
         0 :invoke :read nil; 0 :ok :read 1 => none";
-    ask_all(rt.alloc(), Ask::Judge(2), rows)
+    ask_all(rt.alloc(), Ask::Judge(2), rows)?;
+    ask_all(rt.alloc(), Ask::Judge(1), ":nemesis :info :add 1 => order")
 }
 
 #[test]

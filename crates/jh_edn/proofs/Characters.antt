@@ -78,7 +78,7 @@ record Hex (c v : ℕ) : Type 0 where
   pub value : digit_value c ≡ v
   pub below : v < 16
 
-hex_below : (c : ℕ) → is_hex c ≡ true → digit_value c < 16
+pub hex_below : (c : ℕ) → is_hex c ≡ true → digit_value c < 16
 unfolding is_hex
 hex_below c h = ltb-true (digit_value c) 16 h
 

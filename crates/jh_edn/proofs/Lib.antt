@@ -22,3 +22,6 @@ pub mod Joining
 pub mod Printing
 pub mod NormalLemmas
 pub mod PrintedBack
+pub mod SpelledLemmas
+pub mod TiedLemmas
+pub mod Facts

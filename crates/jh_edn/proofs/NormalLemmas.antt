@@ -315,6 +315,67 @@ not_equal depth x y h k less e =
     let bad : Less ≡ Equal = sym less ∙ by_parts x y ∙ ap (λ w. key_cmp w (parts y)) same ∙ tied_itself key_total (parts y) in
     cc
 
+mutual
+  -- two in normal form that compare as equal are one
+  pub exact : (depth : ℕ) (x y : Edn) → is_normal_within depth x ≡ true → is_normal_within depth y ≡ true → edn_cmp x y ≡ Equal → x ≡ y
+  exact depth nil nil h k e = refl
+  exact depth (boolean b) (boolean c) h k e = ap boolean (bool_exact b c e)
+  exact depth (int z) (int w) h k e = ap int (exact_signed z w e)
+  exact depth (char c) (char d) h k e = ap char (exact_unsigned c d e)
+  exact depth (str s) (str t) h k e = ap str (exact_bytes s t e)
+  exact depth (keyword s) (keyword t) h k e = ap keyword (exact_bytes s t e)
+  exact depth (symbol s) (symbol t) h k e = ap symbol (exact_bytes s t e)
+  exact depth (list xs) (list ys) h k e = absurd cc
+  exact depth (list xs) (vector ys) h k e = absurd cc
+  exact depth (vector xs) (list ys) h k e = absurd cc
+  exact depth (vector xs) (vector ys) h k e =
+      ap vector (exact_items (depth - 1) xs ys (both (nat_lt 0 depth) (are_normal_within (depth - 1) xs) h).1 (both (nat_lt 0 depth) (are_normal_within (depth - 1) ys) k).1 e)
+  exact depth (mapping ms) (mapping ns) h k e =
+      let p = both (nat_lt 0 depth) (pairs_normal_within (depth - 1) ms && ascends (keys_of ms)) h in
+      let q = both (nat_lt 0 depth) (pairs_normal_within (depth - 1) ns && ascends (keys_of ns)) k in
+      ap mapping (exact_members (depth - 1) ms ns (both (pairs_normal_within (depth - 1) ms) (ascends (keys_of ms)) p.1).0 (both (pairs_normal_within (depth - 1) ns) (ascends (keys_of ns)) q.1).0 e)
+  exact depth (set xs) (set ys) h k e =
+      let p = both (nat_lt 0 depth) (are_normal_within (depth - 1) xs && ascends xs) h in
+      let q = both (nat_lt 0 depth) (are_normal_within (depth - 1) ys && ascends ys) k in
+      ap set (exact_items (depth - 1) xs ys (both (are_normal_within (depth - 1) xs) (ascends xs) p.1).0 (both (are_normal_within (depth - 1) ys) (ascends ys) q.1).0 e)
+  exact depth (tagged s x) (tagged t y) h k e =
+      let p = both (nat_lt 0 depth) (is_tag s && is_normal_within (depth - 1) x) h in
+      let q = both (nat_lt 0 depth) (is_tag t && is_normal_within (depth - 1) y) k in
+      let both_equal = then_equal (text_cmp s t) (edn_cmp x y) e in
+      let tags : s ≡ t = exact_bytes s t both_equal.0 in
+      let inner : x ≡ y =
+      exact (depth - 1) x y (both (is_tag s) (is_normal_within (depth - 1) x) p.1).1 (both (is_tag t) (is_normal_within (depth - 1) y) q.1).1 both_equal.1 in
+      λ i. tagged (tags i) (inner i)
+  exact depth x y h k e = absurd cc
+
+  exact_items : (depth : ℕ) (xs ys : Items) → are_normal_within depth xs ≡ true → are_normal_within depth ys ≡ true → items_cmp xs ys ≡ Equal → xs ≡ ys
+  exact_items depth no_items no_items h k e = refl
+  exact_items depth no_items (item y ys) h k e = absurd cc
+  exact_items depth (item x xs) no_items h k e = absurd cc
+  exact_items depth (item x xs) (item y ys) h k e =
+      let p = both (is_normal_within depth x) (are_normal_within depth xs) h in
+      let q = both (is_normal_within depth y) (are_normal_within depth ys) k in
+      let equal = then_equal (edn_cmp x y) (items_cmp xs ys) e in
+      let first : x ≡ y = exact depth x y p.0 q.0 equal.0 in
+      let others : xs ≡ ys = exact_items depth xs ys p.1 q.1 equal.1 in
+      λ i. item (first i) (others i)
+
+  exact_members : (depth : ℕ) (ms ns : Members) → pairs_normal_within depth ms ≡ true → pairs_normal_within depth ns ≡ true → members_cmp ms ns ≡ Equal → ms ≡ ns
+  exact_members depth no_members no_members h k e = refl
+  exact_members depth no_members (member l w ns) h k e = absurd cc
+  exact_members depth (member x v ms) no_members h k e = absurd cc
+  exact_members depth (member x v ms) (member y w ns) h k e =
+      let p = both (is_normal_within depth x) (is_normal_within depth v && pairs_normal_within depth ms) h in
+      let q = both (is_normal_within depth y) (is_normal_within depth w && pairs_normal_within depth ns) k in
+      let pv = both (is_normal_within depth v) (pairs_normal_within depth ms) p.1 in
+      let qw = both (is_normal_within depth w) (pairs_normal_within depth ns) q.1 in
+      let equal = then_equal (edn_cmp x y) (ordering_then (edn_cmp v w) (members_cmp ms ns)) e in
+      let behind = then_equal (edn_cmp v w) (members_cmp ms ns) equal.1 in
+      let key : x ≡ y = exact depth x y p.0 q.0 equal.0 in
+      let value : v ≡ w = exact depth v w pv.0 qw.0 behind.0 in
+      let others : ms ≡ ns = exact_members depth ms ns pv.1 qw.1 behind.1 in
+      λ i. member (key i) (value i) (others i)
+
 new_above : (depth : ℕ) (x : Edn) (xs : Items) → is_normal_within depth x ≡ true → are_normal_within depth xs ≡ true → AllAbove x xs → IsNew x xs
 new_above depth x no_items h k a = tt
 new_above depth x (item y ys) h k a =
@@ -374,3 +435,12 @@ mutual
       let p = both (is_normal_within depth k) (is_normal_within depth v && pairs_normal_within depth ms) h in
       let q = both (is_normal_within depth v) (pairs_normal_within depth ms) p.1 in
       (can_print depth k p.0, can_print depth v q.0, can_print_pairs depth ms q.1)
+
+-- equal values that can be printed have one normal form
+pub one_normal : (depth : ℕ) (x y : Edn) → IsPrintable depth x → IsPrintable depth y → Equals x y → normal x ≡ normal y
+one_normal depth x y p q e =
+    let h : is_normal_within depth (normal x) ≡ true = made_normal depth x p in
+    let k : is_normal_within depth (normal y) ≡ true = made_normal depth y q in
+    let keys : key_of (normal x) ≡ key_of (normal y) = normal_key x ∙ same_key x y e ∙ sym (normal_key y) in
+    let same : parts (normal x) ≡ parts (normal y) = sym (normal_parts depth (normal x) h) ∙ keys ∙ normal_parts depth (normal y) k in
+    exact depth (normal x) (normal y) h k (by_parts (normal x) (normal y) ∙ ap (λ w. key_cmp w (parts (normal y))) same ∙ tied_itself key_total (parts (normal y)))

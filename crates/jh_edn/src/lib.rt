@@ -26,7 +26,7 @@ mod writer;
 pub use all::read_all;
 pub use bytes::read_bytes;
 pub use error::EdnError;
-pub use laws::{equality_laws, normal_laws, print_laws, spelled_once};
+pub use laws::{equality_laws, normal_laws, order_laws, print_laws, spelled_once};
 pub use reader::read_one;
 pub use value::{Pairs, Tagged, Text, Value, Values};
 pub use writer::write;

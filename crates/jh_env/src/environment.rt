@@ -1,7 +1,7 @@
 //! An environment: names, and the tables of their cells. `specs/Overlay.antt` says which faults it stands for.
 
 ghost use Rattle.std.specs.Prelude.{◌≡◌, ◌<◌, ◌≤◌, ◌+◌, [], length, IfOk, IfSome};
-ghost use Rattle.jh_tables.specs.Standing.{IsLinkInRange, IsNodeInRange, IsPut, IsTaken, StandsAtSome};
+ghost use Rattle.jh_tables.specs.Standing.{IsLinkInRange, IsNodeInRange, IsPut, IsTaken, StandsAtSome, most_put};
 ghost use Rattle.jh_env.specs.Names.{AreFew, AreNodeNames};
 ghost use Rattle.jh_env.specs.Overlay.{StandsFor, StandsWith, SamePlace, cells_of, link_of, node_of, tables_of, work_of};
 ghost use Rattle.jh_env.specs.Faults.{FitsCount, size_of};
@@ -113,7 +113,7 @@ impl Env {
     /// no memory. At most one cell is written for each link or node that the fault names, and one entry for a fix.
     pub fn put(&mut self, fault: &Fault, stamp: u32)
         requires fits { FitsCount (length self.old.names) fault.now }
-        requires room { self.old.laid < MOST_LAID }
+        requires room { self.old.laid < most_put }
         ensures stands { IsPut (stamp, fault.now) (tables_of self.old) (tables_of self.new) }
         ensures kept { SamePlace self.old self.new }
         ensures work { work_of self.new ≤ work_of self.old + size_of fault.now }

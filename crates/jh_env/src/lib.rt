@@ -3,6 +3,7 @@
 
 mod environment;
 mod faults;
+mod laws;
 mod names;
 mod starting;
 mod texts;
@@ -10,6 +11,7 @@ mod texts;
 pub use environment::{Env, MOST_DELAY, MOST_LAID, MOST_OFFSET};
 pub use faults::{Fault, FaultError, MOST_BUMPED, MOST_FIXED, MOST_LOSS, MOST_SLOWED};
 pub use jh_tables::{Life, Link, Node, NodeCell};
+pub use laws::limits;
 pub use names::{Nodes, NodesError};
 pub use starting::{Start, StartError};
 pub use texts::{

@@ -12,8 +12,8 @@ use Rattle.std.proofs.lemmas.List.MinMax.{ranks_by}
 use Rattle.jh_edn.specs.Edn.{Edn}
 use Rattle.jh_edn.specs.Order.{edn_cmp, in_order, is_below, put_in_order}
 use Rattle.jh_edn.specs.View.{view}
-use Rattle.jh_edn.proofs.OrderLemmas.{edn_total}
-use Rattle.jh_edn.proofs.Sorting.{map_in_order, sorted_is}
+use Rattle.jh_edn.proofs.Facts.{edn_total}
+use Rattle.jh_edn.proofs.Facts.{map_in_order, sorted_is}
 use Rattle.jh_ops.specs.Operation.{Operation}
 use Rattle.jh_check.specs.Distinct.{Ascends, is_same, once}
 use Rattle.jh_check.proofs.OnceLemmas.{same_along, sorted_ascends}

@@ -12,7 +12,7 @@ use Rattle.jh_env.specs.Faults.{Cut, Slow, Loss, Fix, Pause, Kill, Bump}
 use Rattle.jh_env.specs.declared.faults.FaultError.TheVariants as FaultError
 use Rattle.jh_nemesis.specs.declared.texts.StepTextError.{StepTextError}
 use Rattle.jh_nemesis.specs.declared.texts.StepTextError.TheVariants.{UnknownNode, SelfLink, BadAmount, OutOfMemory}
-use Rattle.jh_nemesis.specs.NamedFaults.{links_that, named_links, touches}
+use Rattle.jh_nemesis.specs.NamedFaults.{links_that, named_links, touches, IsOverAll}
 use Rattle.jh_nemesis.specs.declared.texts.shapes.Named.{Named}
 use Rattle.jh_nemesis.specs.declared.texts.shapes.OnLinks.{OnLinks}
 use Rattle.jh_nemesis.specs.declared.texts.shapes.OnNodes.{OnNodes}
@@ -99,6 +99,11 @@ spelled_in _ = None
 -- how a value spells a fault, if it does
 abbrev pub spelled : Edn → Option Spelled
 spelled v = option_and_then spelled_in (elements_of v)
+
+-- a ring that is spelled is laid over all n nodes
+abbrev pub IsRingOverAll : ℕ → Option Spelled → Type 0
+IsRingOverAll n (Some (Grudge named)) = IsOverAll n named
+IsRingOverAll n _ = Unit {0}
 
 -- the place of a node
 abbrev pub place_of : List (List ℕ) → List ℕ → Option ℕ

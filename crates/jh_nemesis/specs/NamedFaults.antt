@@ -2,7 +2,7 @@
 -- `majorities-ring`; their texts, and the rings in another order, are this project's own). Each cuts the links between all
 -- nodes on which its grudge drops messages. A link is the pair of its source's place and its destination's. A new name is
 -- a new case of `named_links`.
-use Rattle.std.specs.Prelude.{◌≢◌, ◌<◌, ℕ, ◌+◌, ◌-◌, ◌/◌, ◌%◌, ◌==◌, ◌&&◌, ◌||◌, Bool, false, not, pos, negsuc, List, map, length, filter, flat_map, nat_lt, slice_get, Option, Some, None}
+use Rattle.std.specs.Prelude.{◌≢◌, ◌<◌, ℕ, ◌+◌, ◌-◌, ◌/◌, ◌%◌, ◌==◌, ◌&&◌, ◌||◌, Bool, false, not, pos, negsuc, List, map, length, filter, flat_map, nat_lt, slice_get, Option, Some, None, IsPermutation}
 use Rattle.std.specs.List.{All, list_any, range_with_len}
 use Rattle.rand_core.specs.Pcg32Seed.{pcg32_seed}
 use Rattle.rand_core.specs.Steps.{steps_u32, stream_of}
@@ -64,6 +64,11 @@ ring_links order n = links_that (leaves_majority order) n
 -- the order that a seed gives: the places, shuffled by the generator that is seeded with it
 abbrev pub order_of : ℕ → ℕ → List ℕ
 order_of seed n = (shuffled (places n) 0 (stream_of (steps_u32 pcg32) (pcg32_of_seed (pcg32_seed 16 seed)))).0
+
+-- a ring in the order that a seed gives is laid over all n nodes, each once
+abbrev pub IsOverAll : ℕ → Named → Type 0
+IsOverAll n (Named.ShuffledRing (pos seed)) = IsPermutation (places n) (order_of seed n)
+IsOverAll n _ = Unit {0}
 
 -- the links that a named fault cuts between n nodes; a seed below zero is none
 abbrev pub named_links : Named → ℕ → Option (List (ℕ × ℕ))

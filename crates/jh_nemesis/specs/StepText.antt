@@ -1,6 +1,6 @@
 -- Steps as EDN values (this project's own): `[:begin ID FAULT]`, `[:withdraw ID]`, `[:withdraw-all]`, `[:undo]` and
 -- `[:redo]`, where an ID is an integer of 32 bits. A new step is a new case here.
-use Rattle.std.specs.Prelude.{ℕ, ◌^◌, ℤ, pos, negsuc, List, [], ◌∷◌, codes, nat_lt, if◌then◌else◌, Option, Some, None, Result, Ok, Err}
+use Rattle.std.specs.Prelude.{ℕ, ◌^◌, ℤ, pos, negsuc, List, [], ◌∷◌, codes, nat_lt, if◌then◌else◌, option_and_then, Option, Some, None, Result, Ok, Err}
 use Rattle.std.specs.Str.{bytes_eq}
 use Rattle.jh_edn.specs.Edn.{Edn, int, keyword, elements_of}
 use Rattle.jh_env.specs.Faults.{FaultValue}
@@ -44,3 +44,11 @@ told_in names _ = Err BadStep
 -- the id, then the fault.
 abbrev pub step_told : List (List ℕ) → Edn → Result Step StepTextError
 step_told names v = needed (elements_of v) BadStep (told_in names)
+
+abbrev fault_in : List Edn → Option Edn
+fault_in (keyword word ∷ int z ∷ fault ∷ []) = Some fault
+fault_in _ = None
+
+-- the value of the fault that a begin has
+abbrev pub fault_of_begin : Edn → Option Edn
+fault_of_begin v = option_and_then fault_in (elements_of v)

@@ -1,8 +1,7 @@
 -- The steps of a nemesis (this project's own): the answer to a step and the state that it leaves.
-use Rattle.std.specs.Prelude.{◌≡◌, ℕ, ◌<◌, Bool, true, false, List, [], ◌∷◌, ◌++◌, length, take, filter, not, nat_le, if◌then◌else◌}
+use Rattle.std.specs.Prelude.{◌≡◌, ◌⊎◌, ℕ, Bool, true, false, List, [], ◌∷◌, ◌++◌, length, filter, not, nat_le, if◌then◌else◌}
 use Rattle.jh_env.specs.Faults.{FitsCount}
 use Rattle.jh_nemesis.specs.State.{State, Active, has_id, is_active, is_empty, moved_on, back_to, forth_to}
-use Rattle.jh_nemesis.specs.declared.steps.TheConstants.{MOST_ACTIVE, MOST_STEPS}
 use Rattle.jh_nemesis.specs.declared.steps.Step.{Step}
 use Rattle.jh_nemesis.specs.declared.steps.Step.TheVariants.{Begin, Withdraw, WithdrawAll, Undo, Redo}
 use Rattle.jh_nemesis.specs.declared.steps.StepAnswer.{StepAnswer}
@@ -11,26 +10,34 @@ use Rattle.jh_nemesis.specs.declared.steps.BeginError.TheVariants as BeginError
 use Rattle.jh_nemesis.specs.declared.steps.WithdrawError.TheVariants as WithdrawError
 use Rattle.jh_nemesis.specs.declared.steps.WithdrawAllError.TheVariants as WithdrawAllError
 
+-- how many faults are active at once, at most
+abbrev pub most_active : ℕ
+most_active = 256
+
+-- how many steps lie in the past, at most
+abbrev pub most_steps : ℕ
+most_steps = 4096
+
 -- the answer to the begin of a fault under this id: the first refusal that applies
 abbrev pub begin_answer : State → ℕ → StepAnswer
 begin_answer s id =
     if is_active s.now id then IdTaken
-    else if nat_le MOST_ACTIVE (length s.now) then TooManyActive
-    else if nat_le MOST_STEPS (length s.past) then TooManySteps
+    else if nat_le most_active (length s.now) then TooManyActive
+    else if nat_le most_steps (length s.past) then TooManySteps
     else Ok
 
 -- the answer to the withdrawal of the fault of this id: the first refusal that applies
 abbrev pub withdraw_answer : State → ℕ → StepAnswer
 withdraw_answer s id =
     if not (is_active s.now id) then NotActive
-    else if nat_le MOST_STEPS (length s.past) then TooManySteps
+    else if nat_le most_steps (length s.past) then TooManySteps
     else Ok
 
 -- the answer to the withdrawal of all faults: the first refusal that applies
 abbrev pub withdraw_all_answer : State → StepAnswer
 withdraw_all_answer s =
     if is_empty s.now then NothingActive
-    else if nat_le MOST_STEPS (length s.past) then TooManySteps
+    else if nat_le most_steps (length s.past) then TooManySteps
     else Ok
 
 -- the answer to a step; a step back or forth needs no room, for it was made when its step was accepted
@@ -98,10 +105,16 @@ abbrev pub state_after_all : State → List Step → State
 state_after_all s [] = s
 state_after_all s (step ∷ steps) = state_after_all (state_after s step) steps
 
--- the first steps alone were taken, with these answers, and left this state; at least one was not
+-- a step that would be accepted, and takes memory
+abbrev pub NeedsMemory : State → Step → Type 0
+NeedsMemory s step = (answer_of s step ≡ Ok) × (is_free step ≡ false)
+
+-- Memory was refused: the steps before one were taken, with these answers, and left this state. It was refused to that step, or
+-- to the room for all answers before any step was taken.
 abbrev pub TakesFirst : State → List Step → List StepAnswer → State → Type 0
 TakesFirst s steps answers after =
-    (n : ℕ) × (n < length steps) × (answers ≡ answers_of s (take n steps)) × (after ≡ state_after_all s (take n steps))
+    (taken : List Step) × (next : Step) × (rest : List Step) × (steps ≡ taken ++ (next ∷ rest))
+    × (answers ≡ answers_of s taken) × (after ≡ state_after_all s taken) × ((taken ≡ []) ⊎ NeedsMemory after next)
 
 -- why a fault is not begun: what the step is answered, or memory was refused where it would be accepted
 abbrev pub RefusesBegin : State → ℕ → BeginError.the_data → Type 0

@@ -1,6 +1,8 @@
 //! Laws of the steps, each a function that does nothing and whose contract is the law. `specs/Laws.antt` states
 //! them, and `specs/WorkLaws.antt` those of what is written.
 
+ghost use Rattle.std.specs.Prelude.{◌≡◌};
+ghost use Rattle.jh_nemesis.specs.Steps.{most_active, most_steps};
 ghost use Rattle.jh_nemesis.specs.Laws.{
   RefusedStays,
   UndoRestores,
@@ -31,6 +33,14 @@ ghost use Rattle.jh_nemesis.specs.GrudgeLaws.{
   RingIsRing,
   SplitIsComplete,
 };
+
+use crate::steps::{MOST_ACTIVE, MOST_STEPS};
+
+/// The limits that code can name are the numbers of the definitions.
+pub fn limits()
+    ensures active { MOST_ACTIVE ≡ most_active }
+    ensures steps { MOST_STEPS ≡ most_steps }
+{}
 
 /// A refused step changes nothing.
 pub fn refused_stays()

@@ -10,7 +10,7 @@ mod steps;
 mod texts;
 
 pub use laws::{
-    change_ends_future, cuts_of_others_stay, cuts_of_start_stay, environment_is_overlay,
+    change_ends_future, cuts_of_others_stay, cuts_of_start_stay, environment_is_overlay, limits,
     named_faults_are_grudges, redo_restores, refused_stays, steps_write_their_faults,
     undo_restores, withdrawal_ends_begin, withdrawal_leaves_others, withdrawing_all_leaves_start,
 };

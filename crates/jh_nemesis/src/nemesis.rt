@@ -46,6 +46,8 @@ impl Model for Nemesis {
 
 impl Nemesis {
     ghost use Rattle.jh_nemesis.specs.Steps.{
+      most_active,
+      most_steps,
       begin_answer,
       withdraw_answer,
       withdraw_all_answer,
@@ -91,7 +93,7 @@ impl Nemesis {
     /// How many faults are active, at most 256.
     pub fn active_len(&self) -> usize
         ensures len { result ≡ length self.now.state.now }
-        ensures few { result ≤ MOST_ACTIVE }
+        ensures few { result ≤ most_active }
     {
         self.active.len()
     }
@@ -109,7 +111,7 @@ impl Nemesis {
 
     // Whether so many steps lie in the past that none can follow.
     fn is_full(&self) -> bool
-        ensures { result ≡ nat_le MOST_STEPS (length self.now.state.past) }
+        ensures { result ≡ nat_le most_steps (length self.now.state.past) }
     {
         self.cursor >= MOST_STEPS
     }
@@ -282,23 +284,23 @@ impl Nemesis {
 
     /// Takes steps, one after another, and answers each. The fault of each begin must fit the environment.
     ///
-    /// Error: memory was refused before all were taken. What was taken until then stands, and `Stopped` has its
-    /// answers; the next step changed nothing.
+    /// Error: memory was refused, for all answers before any step was taken, or to a step that would be accepted. What was
+    /// taken until then stands, and `Stopped` has its answers; the next step changed nothing.
     pub fn apply_all(&mut self, alloc: Global, steps: Vec<Step>) -> Result<Vec<StepAnswer>, Stopped>
         requires { All (StepFits self.old.state) steps.items }
         ensures answer { MatchResult result
             (λ answers. (answers.items ≡ answers_of self.old.state steps.items) × (self.new.state ≡ state_after_all self.old.state steps.items))
-            (λ stopped. TakesFirst self.old.state steps.items stopped.answers.items self.new.state) }
+            (λ stopped. TakesFirst self.old.state steps.items stopped self.new.state) }
         ensures work { self.new.work ≤ self.old.work + size_of_steps self.old.state steps.items }
     {
         let mut answers = Vec::new(alloc);
         if answers.reserve(steps.len()).is_err() {
-            return Err(Stopped { answers });
+            return Err(Stopped { taken: answers });
         }
         for step in steps {
             match self.apply(step) {
                 Ok(answer) => answers.push_reserved(answer),
-                Err(_) => return Err(Stopped { answers }),
+                Err(_) => return Err(Stopped { taken: answers }),
             }
         }
         Ok(answers)

@@ -5,6 +5,7 @@ ghost use Rattle.std.specs.Prelude.{◌≡◌, ◌==◌, ◌≤◌, ◌<◌, ◌
 ghost use Rattle.std.specs.List.{Contains, position_or_len};
 ghost use Rattle.jh_nemesis.specs.State as spec;
 ghost use Rattle.jh_nemesis.specs.RecordsInside.{faults_at, fault_of, played, played_back, record_at, AreStamps, IsBegin};
+ghost use Rattle.jh_nemesis.specs.Steps.{most_active};
 
 use crate::steps::MOST_ACTIVE;
 use arrayvec::ArrayVec;
@@ -47,7 +48,7 @@ fn take_out(active: &mut Stamps, stamp: usize)
 
 // Puts a stamp back, before those that are higher.
 fn put_back(active: &mut Stamps, stamp: usize)
-    requires { length active.old.items < MOST_ACTIVE }
+    requires { length active.old.items < most_active }
     ensures { active.new.items ≡ insert active.old.items (position_or_len (nat_lt stamp) active.old.items) stamp }
 {
     let higher = active.iter().position(|other| *other > stamp);
@@ -56,7 +57,7 @@ fn put_back(active: &mut Stamps, stamp: usize)
 
 // Makes the stamps active that are in the list.
 fn put_all(active: &mut Stamps, stamps: &[usize])
-    requires { length stamps.now ≤ MOST_ACTIVE }
+    requires { length stamps.now ≤ most_active }
     ensures { active.new.items ≡ stamps.now }
 {
     active.clear();
@@ -66,7 +67,7 @@ fn put_all(active: &mut Stamps, stamps: &[usize])
 /// Takes the step at this index, over the active stamps.
 pub fn play(records: &[Record], index: usize, active: &mut Stamps)
     requires known { index < length records.now }
-    requires room { length (played index (record_at records.now index) active.old.items) ≤ MOST_ACTIVE }
+    requires room { length (played index (record_at records.now index) active.old.items) ≤ most_active }
     ensures { active.new.items ≡ played index (record_at records.now index) active.old.items }
 {
     match &records[index] {
@@ -79,7 +80,7 @@ pub fn play(records: &[Record], index: usize, active: &mut Stamps)
 /// Takes the step at this index back, over the active stamps.
 pub fn play_back(records: &[Record], index: usize, active: &mut Stamps)
     requires known { index < length records.now }
-    requires room { length (played_back (record_at records.now index) active.old.items) ≤ MOST_ACTIVE }
+    requires room { length (played_back (record_at records.now index) active.old.items) ≤ most_active }
     ensures { active.new.items ≡ played_back (record_at records.now index) active.old.items }
 {
     match &records[index] {

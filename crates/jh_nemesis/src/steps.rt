@@ -5,6 +5,7 @@ ghost use Rattle.std.specs.Prelude.{◌≡◌, ◌↔◌, IfOk, IsTrue};
 
 use jh_env::Fault;
 use std::alloc::{AllocError, Global};
+use std::marker::Model;
 use thiserror::Error;
 
 /// The most faults that are active at once.
@@ -125,9 +126,26 @@ pub struct NothingToUndo;
 #[error("nothing to redo")]
 pub struct NothingToRedo;
 
-/// Memory was refused before all steps were taken.
+/// Memory was refused before all steps were taken. A contract sees the answers to those that were.
 #[derive(Debug, Drop)]
 pub struct Stopped {
+    pub(crate) taken: Vec<StepAnswer>,
+}
+
+impl Model for Stopped {
+    ghost use Rattle.std.specs.Prelude.{List};
+    ghost use Rattle.jh_nemesis.specs.declared.steps.StepAnswer.{StepAnswer};
+
+    ghost Value = { List StepAnswer };
+
+    ghost view = { λ a. a.taken.items };
+}
+
+impl Stopped {
     /// The answers to the steps that were taken, in order.
-    pub answers: Vec<StepAnswer>,
+    pub fn answers(&self) -> &[StepAnswer]
+        ensures { result.now ≡ self.now }
+    {
+        &self.taken
+    }
 }

@@ -1,10 +1,10 @@
 //! Steps as EDN values. `specs/StepText.antt` has the rule, case by case.
 
-ghost use Rattle.std.specs.Prelude.{◌≡◌, IfOk, length};
+ghost use Rattle.std.specs.Prelude.{◌≡◌, IfOk, length, option_and_then};
 ghost use Rattle.jh_edn.specs.View.{view};
-ghost use Rattle.jh_nemesis.specs.FaultText.{Answers};
+ghost use Rattle.jh_nemesis.specs.FaultText.{Answers, IsRingOverAll, spelled};
 ghost use Rattle.jh_nemesis.specs.StepText as rule;
-ghost use Rattle.jh_nemesis.specs.StepText.{step_told, begin_told, withdraw_told, word_told};
+ghost use Rattle.jh_nemesis.specs.StepText.{step_told, begin_told, fault_of_begin, withdraw_told, word_told};
 ghost use Rattle.jh_nemesis.specs.Steps.{FitsNodes};
 
 mod faults;
@@ -72,6 +72,7 @@ fn id_of(id: i64) -> Option<u32>
 
 fn begin_of(alloc: Global, nodes: &Nodes, id: i64, fault: &Value) -> Result<Step, StepTextError>
     ensures told { Answers result (begin_told nodes.now id (view fault.now)) }
+    ensures ring { IfOk result (λ _. IsRingOverAll (length nodes.now) (spelled (view fault.now))) }
     ensures fits { IfOk result (FitsNodes (length nodes.now)) }
 {
     let Some(shape) = shapes::shape_of(fault) else {
@@ -110,14 +111,16 @@ fn word_of(word: &str) -> Result<Step, StepTextError>
 /// `[:withdraw-all]`, `[:undo]` or `[:redo]`, ids from 0 to 4,294,967,295. A fault is `[:cut LINKS]`,
 /// `[:slow MS LINKS]`, `[:loss LEVEL LINKS]`, `[:fix MS LINKS]`, `[:pause NODES]`, `[:kill NODES]` or `[:bump {NODE MS, ..}]`;
 /// or it is the cut of a grudge over all nodes: `[:halves]`, `[:split-one NODE]`, `[:bridge]`, `[:ring]`, which takes the nodes as they
-/// are listed, or `[:ring SEED]`, which shuffles them first, for one seed always alike. `named_faults_are_grudges` ties these
-/// to their grudges.
+/// are listed, or `[:ring SEED]`, which shuffles them first, for one seed always alike, and leaves none out.
+/// `named_faults_are_grudges` ties these to their grudges.
 ///
 /// Errors: `BadStep` where the value has none of these shapes, its fault's looked at too; `BadId`; then over the
 /// whole fault `UnknownNode`, `SelfLink`, `BadAmount` also where a node is bumped twice or the seed is below zero;
 /// `OutOfMemory`.
 pub fn step_of_value(alloc: Global, nodes: &Nodes, value: &Value) -> Result<Step, StepTextError>
     ensures told { Answers result (step_told nodes.now (view value.now)) }
+    ensures ring { IfOk result (λ _. IsRingOverAll (length nodes.now)
+        (option_and_then spelled (fault_of_begin (view value.now)))) }
     ensures fits { IfOk result (FitsNodes (length nodes.now)) }
 {
     let Some(parts) = value.elements() else {

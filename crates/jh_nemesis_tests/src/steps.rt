@@ -249,6 +249,7 @@ fn steps_are_answered(rt: HostRuntime) {
         undo; redo; withdraw-all → nothing to undo; nothing to redo; nothing active; \n\
         begin 1; withdraw-all; active; link; undo; link → ok; ok; ; open; ok; cut; \n\
         few → nothing to undo, nothing to redo, not active, ; \n\
+        begin 1; few; link → ok; ok, ok, not active, ; cut; \n\
         begin 1; begin 2; withdraw 1; withdraw 2; work → ok; ok; ok; ok; 4; \n\
         begin 1; withdraw 1; undo; redo; work → ok; ok; ok; ok; 4; \n\
         slow 1; slow 2; withdraw 1; withdraw-all; undo; undo; redo; work → ok; ok; ok; ok; ok; ok; ok; 7; \n\

@@ -2,6 +2,7 @@
 
 ghost use Rattle.std.specs.Prelude.{◌≡◌, ◌↔◌, ◌≤◌, [], length, slice_set, IfOk, IsErr, IsTrue, MatchResult, OnErr, OnOk};
 ghost use Rattle.std.specs.List.{insert, remove};
+ghost use Rattle.jh_simnode.specs.Limits.{most_entries};
 ghost use Rattle.jh_shrink.specs.Edits.{edited, redone, undone, unedited, HasRoom, MayEdit, MayInsert, RefusesEdit, RefusesInsert};
 ghost use Rattle.jh_shrink.specs.ChangesInside.{changed, Fits};
 
@@ -84,6 +85,7 @@ pub struct Editor {
 }
 
 impl Model for Editor {
+    ghost use Rattle.jh_simnode.specs.Limits.{most_entries};
     ghost use Rattle.jh_shrink.specs.Edits.{EditState};
 
     ghost Value = { EditState };
@@ -114,7 +116,7 @@ impl Editor {
     /// The entries of the schedule, at most 1,024.
     pub fn schedule(&self) -> &[Entry]
         ensures entries { result.now ≡ self.now.now }
-        ensures few { length result.now ≤ MOST_ENTRIES }
+        ensures few { length result.now ≤ most_entries }
     {
         &self.entries
     }

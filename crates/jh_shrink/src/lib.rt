@@ -3,7 +3,9 @@
 
 mod changes;
 mod editor;
+mod laws;
 mod shrinking;
 
 pub use editor::{EditError, Editor, InsertError, MAX_EDITS, NothingToRedo, NothingToUndo};
+pub use laws::limits;
 pub use shrinking::{Nobody, Observer, ShrinkError, Shrunk, shrink, shrink_observed};

@@ -7,10 +7,10 @@ use Rattle.jh_nemesis.specs.State.{State, faults_in}
 use Rattle.jh_nemesis.specs.Steps.{answer_of, state_after, FitsNodes}
 use Rattle.jh_simnode.specs.declared.settings.Settings.{Settings}
 use Rattle.jh_simnode.specs.declared.copies.NodeCopy.{NodeCopy}
-use Rattle.jh_simnode.specs.declared.events.TheConstants.{MOST_EVENTS}
 use Rattle.jh_simnode.specs.declared.events.Event.{Event}
 use Rattle.jh_simnode.specs.declared.events.WorldError.{WorldError}
 use Rattle.jh_simnode.specs.declared.events.WorldError.TheVariants.{UnknownNode, TooManyEvents, OutOfMemory}
+use Rattle.jh_simnode.specs.Limits.{most_events}
 use Rattle.jh_simnode.specs.Copies.{first_copy}
 use Rattle.jh_simnode.specs.Reach.{Cells, cells_over}
 use Rattle.jh_simnode.specs.Stores.{serve, ticked, dead, forgotten, version_at}
@@ -107,7 +107,7 @@ pub record IsWorldOf (u : Setup) (state : State) (all : List NodeCopy) (events :
   pub faults : state ≡ (moment_at u events).faults
   pub copies : all ≡ (moment_at u events).copies
   pub tidy : AreTidy (length u.names) (length events) all
-  pub few : length events ≤ MOST_EVENTS
+  pub few : length events ≤ most_events
 
 -- the event is the last, its number is told, and what the world keeps for good stays
 pub record Adds (old : WorldValue) (event : Event) (told : ℕ) (new : WorldValue) : Type 0 where
@@ -118,5 +118,5 @@ pub record Adds (old : WorldValue) (event : Event) (told : ℕ) (new : WorldValu
 -- why an event is refused, whose nodes are there if the fact `known` holds
 abbrev pub Refuses : Type 0 → List Event → WorldError → Type 0
 Refuses known journal UnknownNode = known → ⊥
-Refuses known journal TooManyEvents = known × (MOST_EVENTS ≤ length journal)
-Refuses known journal OutOfMemory = known × (length journal < MOST_EVENTS)
+Refuses known journal TooManyEvents = known × (most_events ≤ length journal)
+Refuses known journal OutOfMemory = known × (length journal < most_events)

@@ -13,3 +13,4 @@ pub mod Running
 pub mod Inside
 pub mod Laws
 pub mod Replay
+pub mod Limits

@@ -9,7 +9,7 @@ use Rattle.jh_gen.specs.Suits.{suits}
 use Rattle.jh_simnode.specs.declared.settings.Settings.{Settings}
 use Rattle.jh_simnode.specs.declared.settings.Store.{Store}
 use Rattle.jh_simnode.specs.declared.schedule.Entry.{Entry}
-use Rattle.jh_simnode.specs.declared.schedule.TheConstants.{MOST_ENTRIES}
+use Rattle.jh_simnode.specs.Limits.{most_entries, most_rows}
 use Rattle.jh_simnode.specs.declared.plan.PlanError.{PlanError}
 use Rattle.jh_simnode.specs.declared.plan.PlanError.TheVariants.{BadClients, BadOps, BadRows, BadGenerator, BadStep, OutOfMemory}
 
@@ -69,7 +69,7 @@ HasOps p = (1 ≤ p.ops) × (p.ops ≤ most_ops p.settings.workload)
 
 -- how many rows are allowed
 abbrev pub HasRows : PlanValue → Type 0
-HasRows p = (1 ≤ p.rows) × (p.rows ≤ 65536)
+HasRows p = (1 ≤ p.rows) × (p.rows ≤ most_rows)
 
 -- each node that a fault of the schedule names is in the environment
 abbrev pub HasSteps : PlanValue → Type 0
@@ -106,4 +106,4 @@ RefusesSchedule p schedule _ = ⊥
 pub record IsKept (p : PlanValue) : Type 0 where
   pub fit : IsFit p
   pub calm : StandsFor p.env []
-  pub few : length p.schedule ≤ MOST_ENTRIES
+  pub few : length p.schedule ≤ most_entries

@@ -12,13 +12,13 @@ use Rattle.jh_gen.specs.declared.answers.Ended.TheVariants as ends
 use Rattle.jh_simnode.specs.declared.copies.Reply.{Reply}
 use Rattle.jh_simnode.specs.declared.copies.Reply.TheVariants.{Ok, Fail, Info}
 use Rattle.jh_simnode.specs.declared.events.Event.{Event}
-use Rattle.jh_simnode.specs.declared.events.TheConstants.{MOST_EVENTS}
 use Rattle.jh_simnode.specs.declared.schedule.Entry.{Entry}
 use Rattle.jh_simnode.specs.declared.turns.Asked.{Asked}
 use Rattle.jh_simnode.specs.declared.turns.Asked.TheVariants as asked
 use Rattle.jh_simnode.specs.declared.turns.Run.{Run}
 use Rattle.jh_simnode.specs.Counts.{answered, applied, calls_by, process_of, last}
 use Rattle.jh_simnode.specs.Events.{WorldValue, IsLegal}
+use Rattle.jh_simnode.specs.Limits.{most_events}
 use Rattle.jh_simnode.specs.Plans.{PlanValue}
 use Rattle.jh_simnode.specs.Runs.{Turns, Reached, Runs, ask_move, ended, is_due, move_of, run_generator, setup_of, thread_of, first_turns, ticks_after, ticks_at, waited, words_after, words_taken}
 use Rattle.jh_simnode.specs.Runs.Move.{Calls, Waits, Ends, Rests}
@@ -119,7 +119,7 @@ pub record MayCall (p : PlanValue) (run : Run) (w : WorldValue) (thread process 
   pub process_is : process ≡ process_of p.clients (thread_of p turns) w.journal
   pub has : HasCall p turns w.journal path run
   pub legal : IsLegal w.setup w.journal
-  pub few : length w.journal ≤ MOST_EVENTS
+  pub few : length w.journal ≤ most_events
   pub few_asks : turns.asks ≤ 17 * length w.journal + turns.waits
   pub setup : w.setup ≡ setup_of p
 
@@ -162,11 +162,11 @@ pub record IsAsking (p : PlanValue) (r : Turns) (journal : List Event) (run : Ru
   pub keeps : Keeps p r journal run
   pub going : r.has_ended ≡ false
   pub turn : thread ≡ thread_of p r
-  pub within : length journal ≤ MOST_EVENTS
+  pub within : length journal ≤ most_events
 
 -- a turn brings the end nearer: another event, another wait, or the end itself
 abbrev pub left : Run → WorldValue → ℕ
-left run w = (MOST_EVENTS - length w.journal) * 17 + (16 - run.waits) + (if run.has_ended then 0 else 1)
+left run w = (most_events - length w.journal) * 17 + (16 - run.waits) + (if run.has_ended then 0 else 1)
 
 -- less is left than before
 abbrev pub Falls : Run → WorldValue → Run → WorldValue → Type 0

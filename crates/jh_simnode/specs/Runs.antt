@@ -17,13 +17,13 @@ use Rattle.jh_gen.specs.DriverState.{all_seats}
 use Rattle.jh_nemesis.specs.declared.steps.StepAnswer.{StepAnswer}
 use Rattle.jh_simnode.specs.declared.copies.Reply.{Reply}
 use Rattle.jh_simnode.specs.declared.events.Event.{Event}
-use Rattle.jh_simnode.specs.declared.events.TheConstants.{MOST_EVENTS}
 use Rattle.jh_simnode.specs.declared.events.WorldError.TheVariants as world
 use Rattle.jh_simnode.specs.declared.schedule.Entry.{Entry}
 use Rattle.jh_simnode.specs.declared.serial.RunError.{RunError}
 use Rattle.jh_simnode.specs.declared.serial.RunError.TheVariants as error
 use Rattle.jh_simnode.specs.Counts.{answered, applied, calls_by, process_of, last}
 use Rattle.jh_simnode.specs.Events.{Setup, IsLegal}
+use Rattle.jh_simnode.specs.Limits.{most_events}
 use Rattle.jh_simnode.specs.Histories.{history_of}
 use Rattle.jh_simnode.specs.Plans.{PlanValue}
 
@@ -180,7 +180,7 @@ pub record Serial (p : PlanValue) (journal : List Event) (history : List Operati
 abbrev pub Stops : PlanValue → RunError → Type 0
 Stops p (error.World world.UnknownNode) = ⊥
 Stops p (error.World world.TooManyEvents) =
-    (r : Turns) × (journal : List Event) × Reached p r journal × (MOST_EVENTS ≤ length journal)
+    (r : Turns) × (journal : List Event) × Reached p r journal × (most_events ≤ length journal)
 Stops p (error.World world.OutOfMemory) = Unit {0}
 Stops p error.Stuck = (r : Turns) × (journal : List Event) × Reached p r journal × (p.clients ≤ r.waits)
 Stops p error.OutOfMemory = Unit {0}

@@ -23,7 +23,7 @@ pub use events::{Event, MOST_EVENTS, WorldError};
 pub use history::{
     code_of, completion, entry_begun, entry_ended, invocation, kind_of, push_placed,
 };
-pub use laws::world_laws;
+pub use laws::{limits, world_laws};
 pub use plan::{MOST_ROWS, Plan, PlanError};
 pub use replay::nemesis_after;
 pub use schedule::{Entry, MOST_ENTRIES, Schedule, TooLong};

@@ -2,6 +2,7 @@
 
 ghost use Rattle.std.specs.Prelude.{◌≡◌, ◌<◌, ◌≤◌, ◌++◌, length, IfOk, MatchResult, OnOk};
 ghost use Rattle.std.specs.List.{remove_range};
+ghost use Rattle.jh_simnode.specs.Limits.{most_entries};
 
 use jh_nemesis::Step;
 use std::alloc::{AllocError, Global};
@@ -49,13 +50,13 @@ pub struct Schedule {
 impl Model for Schedule {
     ghost use Rattle.std.specs.Prelude.{◌≤◌, List, length};
     ghost use Rattle.jh_simnode.specs.declared.schedule.Entry.{Entry};
-    ghost use Rattle.jh_simnode.specs.declared.schedule.TheConstants.{MOST_ENTRIES};
+    ghost use Rattle.jh_simnode.specs.Limits.{most_entries};
 
     ghost Value = { List Entry };
 
     ghost view = { λ a. a.items.items };
 
-    ghost invariant = { λ a. length a.items.items ≤ MOST_ENTRIES };
+    ghost invariant = { λ a. length a.items.items ≤ most_entries };
 }
 
 /// There are more entries than a schedule has.
@@ -69,8 +70,8 @@ impl Schedule {
     /// Error: there are more than 1,024.
     pub fn of(items: Vec<Entry>) -> Result<Schedule, TooLong>
         ensures { MatchResult result
-            (λ schedule. (schedule ≡ items.items) × (length items.items ≤ MOST_ENTRIES))
-            (λ _. MOST_ENTRIES < length items.items) }
+            (λ schedule. (schedule ≡ items.items) × (length items.items ≤ most_entries))
+            (λ _. most_entries < length items.items) }
     {
         if items.len() > MOST_ENTRIES {
             return Err(TooLong);
@@ -80,7 +81,7 @@ impl Schedule {
 
     pub fn entries(&self) -> &[Entry]
         ensures entries { result.now ≡ self.now }
-        ensures few { length self.now ≤ MOST_ENTRIES }
+        ensures few { length self.now ≤ most_entries }
     {
         &self.items
     }
@@ -88,7 +89,7 @@ impl Schedule {
     /// Its entries. Takes no memory.
     pub fn into_entries(self) -> Vec<Entry>
         ensures entries { result.items ≡ self }
-        ensures few { length self ≤ MOST_ENTRIES }
+        ensures few { length self ≤ most_entries }
     {
         self.items
     }

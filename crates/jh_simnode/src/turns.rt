@@ -2,6 +2,7 @@
 //! the rules, `specs/Running.antt` what holds between two turns.
 
 ghost use Rattle.std.specs.Prelude.{◌≡◌, ◌%◌, ◌<◌, ◌≤◌, List, length, IfOk, IfErr, OnOk, OnErr, false};
+ghost use Rattle.jh_simnode.specs.Limits.{most_events};
 ghost use Rattle.jh_simnode.specs.Runs as rule;
 ghost use Rattle.jh_simnode.specs.Runs.{Stops, Turns};
 ghost use Rattle.jh_simnode.specs.Running as running;
@@ -9,7 +10,6 @@ ghost use Rattle.jh_simnode.specs.Running.{Asks, HasCalled, IsFirst, Keeps, MayC
 ghost use Rattle.jh_simnode.specs.declared.events.Event.{Event};
 
 use crate::copies::Reply;
-use crate::events::MOST_EVENTS;
 use crate::plan::Plan;
 use crate::schedule::Entry;
 use crate::serial::RunError;
@@ -224,7 +224,7 @@ impl Run {
         requires { HasCalled plan.now self.now world.old thread }
         ensures stands { OnOk result (Stands plan.now self.now world.new) }
         ensures grown { OnOk result (length world.old.journal ≤ length world.new.journal) }
-        ensures few { length world.old.journal ≤ MOST_EVENTS }
+        ensures few { length world.old.journal ≤ most_events }
         ensures stopped { IfErr result (Stops plan.now) }
     {
         let _events = world.journal().len();

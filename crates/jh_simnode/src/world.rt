@@ -6,6 +6,7 @@ ghost use Rattle.jh_env.specs.Overlay.{StandsFor};
 ghost use Rattle.jh_nemesis.specs.Steps.{FitsNodes};
 ghost use Rattle.jh_nemesis.specs.Work.{size_of_step};
 ghost use Rattle.jh_simnode.specs.Events.{Adds, Refuses, IsLegal, IsNew, moment_at};
+ghost use Rattle.jh_simnode.specs.Limits.{most_events};
 ghost use Rattle.jh_simnode.specs.declared.events.Event.TheVariants as Event;
 
 use crate::copies::{NodeCopy, Reply, first_copies};
@@ -75,7 +76,7 @@ impl World {
     pub fn journal(&self) -> &[Event]
         ensures events { result.now ≡ self.now.journal }
         ensures legal { IsLegal self.now.setup self.now.journal }
-        ensures few { length self.now.journal ≤ MOST_EVENTS }
+        ensures few { length self.now.journal ≤ most_events }
     {
         &self.journal
     }
@@ -86,6 +87,13 @@ impl World {
         ensures work { result.now.work ≡ self.now.work }
     {
         &self.nemesis
+    }
+
+    /// The copies of the database, one for each node by its place: those that the journal leads to.
+    pub fn copies(&self) -> &[NodeCopy]
+        ensures { result.now ≡ (moment_at self.now.setup self.now.journal).copies }
+    {
+        &self.copies
     }
 
     /// A client's call of a node. Answers the number of the event and the reply, which is the one that is due. `draw`

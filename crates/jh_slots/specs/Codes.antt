@@ -3,7 +3,7 @@ use Rattle.std.specs.Prelude.{◌≡◌, ℕ, List, Bool, Some, None, Option, re
 use Rattle.std.specs.Coded.{Coded, code_by, coded×, coded_ℕ, coded_list, coded_bool, coded_option}
 use Rattle.std.specs.FinMap as map
 use Rattle.atomic_table.specs.Seated.{TableId, table_id_coded}
-use Rattle.jh_slots.specs.Seats.{Mark, Words, Void, Claim, Marks, Claims, Knowledge, Seated, Log}
+use Rattle.jh_slots.specs.Seats.{Mark, Words, Void, Claim, Claimed, Marks, Claims, Knowledge, Seated, Log}
 use Rattle.jh_slots.specs.Stored.{Note, View}
 
 abbrev pub plain : Mark → Option (List ℕ)
@@ -35,6 +35,9 @@ view_code = code_by (Bool × (ℕ × (Knowledge × (Option Note × Option (Knowl
 
 abbrev pub seated_code : Coded Seated
 seated_code = code_by (TableId × Knowledge) (coded× table_id_coded knows_code) (λ s. (s.table, s.knows)) (λ p. record { table = p.0; knows = p.1 }) (λ _. refl)
+
+abbrev pub claimed_code : Coded Claimed
+claimed_code = code_by (ℕ × ℕ) (coded× coded_ℕ coded_ℕ) (λ c. (c.first, c.rows)) (λ p. record { first = p.0; rows = p.1 }) (λ _. refl)
 
 abbrev pub log_code : Coded Log
 log_code = code_by (TableId × ℕ) (coded× table_id_coded coded_ℕ) (λ s. (s.table, s.rows)) (λ p. record { table = p.0; rows = p.1 }) (λ _. refl)

@@ -16,6 +16,11 @@ pub record Claim : Type 0 where
   pub rows : ℕ
   pub words : List ℕ
 
+-- a claim as its owner holds it: the first of its rows, and how many there are
+pub record Claimed : Type 0 where
+  pub first : ℕ
+  pub rows : ℕ
+
 abbrev pub Marks : Type 0
 Marks = map.FinMap nat_cmp Mark
 

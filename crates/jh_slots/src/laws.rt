@@ -1,6 +1,17 @@
-//! What no schedule of the seats changes.
+//! Laws, each the contract of a function that does nothing.
 
+ghost use Rattle.std.specs.Prelude.{◌≡◌};
 ghost use Rattle.jh_slots.specs.Events.{SlotLaws};
+ghost use Rattle.jh_slots.specs.Sizes.{most_claimed, most_rows, row_words};
+
+use crate::answers::{MOST_CLAIMED, MOST_ROWS, ROW_WORDS};
+
+/// The sizes that code can name are the numbers of the definitions.
+pub fn limits()
+    ensures rows { MOST_ROWS ≡ most_rows }
+    ensures claimed { MOST_CLAIMED ≡ most_claimed }
+    ensures words { ROW_WORDS ≡ row_words }
+{}
 
 /// After every list of events of a log's seats, by any of them in any order: a row that was seen keeps its mark for
 /// every seat, a publisher has seen its own record, claims are disjoint and lie above what their seats had seen, and

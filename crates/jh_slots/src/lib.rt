@@ -9,5 +9,5 @@ mod slots;
 mod steps;
 
 pub use answers::{Full, MOST_CLAIMED, MOST_ROWS, ROW_WORDS, Read, Receipt, SlotsError};
-pub use laws::slot_laws;
+pub use laws::{limits, slot_laws};
 pub use slots::{Claim, Seat, Slots};

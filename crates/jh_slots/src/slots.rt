@@ -5,7 +5,7 @@ ghost use Rattle.std.specs.Prelude.{◌≡◌, ℕ, ◌+◌, ◌*◌, ◌<◌, �
 ghost use Rattle.std.specs.FinMap as fin;
 ghost use Rattle.jh_slots.specs.Seats.{Mark, newcomer, looked, took, wrote, published, voided, copied, joined, Agree, Holds, AreApart, BeginsAbove};
 ghost use Rattle.jh_slots.specs.Reading.{Reads};
-ghost use Rattle.jh_slots.specs.Sizes.{IsSize, RefusesSize};
+ghost use Rattle.jh_slots.specs.Sizes.{IsSize, RefusesSize, most_claimed};
 
 use crate::answers::{Full, MOST_ROWS, Read, Receipt, SlotsError};
 use crate::steps::{Copy, End, Gather, Law, Look, Peek, Recall, Take, Unite, View, Write};
@@ -59,10 +59,21 @@ impl Model for Seat {
 }
 
 /// Rows that a seat has claimed, one after the other. It can't be dropped: it ends in [`Slots::publish`] or
-/// [`Slots::void`].
+/// [`Slots::void`]. A contract sees the first row and the number of rows.
 pub struct Claim {
     first: u32,
     rows: u32,
+}
+
+impl Model for Claim {
+    ghost use Rattle.jh_slots.specs.Seats.{Claimed};
+    ghost use Rattle.jh_slots.specs.Codes.{claimed_code};
+
+    ghost Value = { Claimed };
+
+    ghost coded = { claimed_code };
+
+    ghost view = { λ c. record { first = c.first; rows = c.rows } };
 }
 
 // So many words, each 0.
@@ -156,7 +167,7 @@ impl Slots {
     /// Error: `Full` where fewer rows are left. The seat may then know more of the rows that are taken.
     pub fn claim(&self, seat: &mut Seat, rows: u32) -> Result<Claim, Full>
         requires own { seat.old.table ≡ self.now.table }
-        requires rows { (1 ≤ rows) × (rows ≤ 255) }
+        requires rows { (1 ≤ rows) × (rows ≤ most_claimed) }
         ensures table { seat.new.table ≡ seat.old.table }
         ensures claimed { IfOk result (λ c. seat.new.knows ≡ took c.first rows seat.old.knows) }
         ensures rows { IfOk result (λ c. (c.rows ≡ rows) × (c.first + rows ≤ self.now.rows)) }
@@ -166,6 +177,7 @@ impl Slots {
         ensures full { IfErr result (λ _. self.now.rows < seat.new.knows.low + rows) }
         ensures looked { IfErr result (λ _. seat.new.knows ≡ looked seat.new.knows.low seat.old.knows) }
         ensures rises { seat.old.knows.low ≤ seat.new.knows.low }
+        ensures within { seat.new.knows.low ≤ self.now.rows }
     {
         let mut first = self.look(seat);
         while first as usize + rows as usize <= self.rows {

@@ -119,11 +119,22 @@ IsWithin most z = (pos 0 ≤ℤ (z +ℤ pos most)) × (z ≤ℤ pos most)
 abbrev pub IsStartingNode : NodeCell → Type 0
 IsStartingNode n = IsWithin (10 ^ 12) n.clock
 
--- a link as 256 faults can make it at most: a minute at the start or of a fix, and one more for
--- each
-abbrev pub IsLinkInRange : Link → Type 0
-IsLinkInRange l = (l.delay ≤ 60000 * 257) × (l.loss ≤ 20)
+-- how many faults can be put and not taken
+abbrev pub most_put : ℕ
+most_put = 256
 
--- a node as 256 faults can make it at most
+-- the most milliseconds by which a message is late: a minute at the start or of a fix, and one more for each fault
+abbrev pub most_delay : ℕ
+most_delay = 60000 * 257
+
+-- the most milliseconds by which a clock is off: 10^12 at the start, and 10^9 for each fault
+abbrev pub most_offset : ℕ
+most_offset = 10 ^ 12 + 256 * 10 ^ 9
+
+-- a link as so many faults can make it at most
+abbrev pub IsLinkInRange : Link → Type 0
+IsLinkInRange l = (l.delay ≤ most_delay) × (l.loss ≤ 20)
+
+-- a node as so many faults can make it at most
 abbrev pub IsNodeInRange : NodeCell → Type 0
-IsNodeInRange n = IsWithin (10 ^ 12 + 256 * 10 ^ 9) n.clock
+IsNodeInRange n = IsWithin most_offset n.clock

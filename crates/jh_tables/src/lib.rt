@@ -6,6 +6,7 @@ mod cells;
 mod counted;
 mod entries;
 mod faults;
+mod laws;
 mod nodes;
 mod reading;
 mod tables;
@@ -13,5 +14,6 @@ mod turning;
 
 pub use cells::{Life, Link, NodeCell};
 pub use faults::{LinkFault, NodeFault, PlainFault};
+pub use laws::limits;
 pub use nodes::Node;
 pub use tables::{MAX_LAID, Tables};

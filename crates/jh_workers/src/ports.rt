@@ -1,12 +1,13 @@
 //! What threads call a world by.
 
 ghost use Rattle.std.specs.Prelude.{◌≡◌, ℕ, ◌+◌, ◌<◌, List, IfOk, IfSome, OnOk, OnErr};
+ghost use Rattle.jh_simnode.specs.Limits.{most_events};
 ghost use Rattle.jh_simnode.specs.declared.events.Event.{Event};
 
 use jh_env::Node;
 use jh_nemesis::{Step, StepAnswer};
 use jh_ops::Request;
-use jh_simnode::{Event, MOST_EVENTS, Reply, WorldError};
+use jh_simnode::{Event, Reply, WorldError};
 use std::alloc::{AllocError, Global};
 use std::sync::Wait;
 
@@ -45,7 +46,7 @@ pub trait Port {
     ) -> Result<(u64, Reply), WorldError>
         ensures accepted { OnOk result (Self.Share.total mine.new ≡ Self.Share.total mine.old + 1) }
         ensures refused { OnErr result (Self.Share.total mine.new ≡ Self.Share.total mine.old) }
-        ensures numbered { IfOk result (λ told. told.0 < MOST_EVENTS) };
+        ensures numbered { IfOk result (λ told. told.0 < most_events) };
 
     /// A step of the nemesis, as of `World::step`.
     fn step<R: Wait>(
@@ -56,7 +57,7 @@ pub trait Port {
     ) -> Result<(u64, StepAnswer), WorldError>
         ensures accepted { OnOk result (Self.Share.total mine.new ≡ Self.Share.total mine.old + 1) }
         ensures refused { OnErr result (Self.Share.total mine.new ≡ Self.Share.total mine.old) }
-        ensures numbered { IfOk result (λ told. told.0 < MOST_EVENTS) };
+        ensures numbered { IfOk result (λ told. told.0 < most_events) };
 
     /// A tick, as of `World::tick`.
     fn tick<R: Wait>(&self, rt: &R, mine: &mut Self::Share) -> Result<u64, WorldError>

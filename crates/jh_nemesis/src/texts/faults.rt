@@ -5,7 +5,7 @@ ghost use Rattle.std.specs.List.{filter_map, list_all, list_any};
 ghost use Rattle.jh_edn.specs.View.{view, views, view_pair, view_pairs};
 ghost use Rattle.jh_env.specs.Faults.{FitsCount, AreLinksOf, RefusesNodes, is_self_link};
 ghost use Rattle.jh_nemesis.specs.FaultText as rule;
-ghost use Rattle.jh_nemesis.specs.FaultText.{Answers, fault_told, links_told, nodes_told, bumps_told};
+ghost use Rattle.jh_nemesis.specs.FaultText.{Answers, IsRingOverAll, fault_told, links_told, nodes_told, bumps_told};
 ghost use Rattle.jh_nemesis.specs.ShapeInside.{said};
 
 use super::StepTextError;
@@ -257,6 +257,7 @@ fn of_bumps(alloc: Global, nodes: &Nodes, bumps: &[(Value, Value)]) -> Result<Fa
 /// The fault of this shape, if its nodes are known and its amounts are in their ranges.
 pub fn fault_of(alloc: Global, nodes: &Nodes, shape: Shape) -> Result<Fault, StepTextError>
     ensures told { Answers result (fault_told nodes.now (said shape.entry)) }
+    ensures ring { IfOk result (λ _. IsRingOverAll (length nodes.now) (Some (said shape.entry))) }
     ensures fits { IfOk result (FitsCount (length nodes.now)) }
 {
     match shape {

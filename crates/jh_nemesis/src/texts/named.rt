@@ -1,11 +1,12 @@
 //! Faults that are named by a grudge over all nodes. `specs/NamedFaults.antt` says which links each cuts.
 
-ghost use Rattle.std.specs.Prelude.{◌≡◌, ◌<◌, IfOk, IsPermutation, IsSome, MatchOption, MatchResult, None, Some, length};
+ghost use Rattle.std.specs.Prelude.{◌≡◌, ◌<◌, IfOk, IfSome, IsPermutation, IsSome, MatchOption, MatchResult, None, Some, length};
 ghost use Rattle.jh_env.specs.Faults.{FitsCount};
 ghost use Rattle.jh_nemesis.specs.FaultText.{Answers, cut_of, named_told, split_told};
 ghost use Rattle.jh_nemesis.specs.declared.texts.StepTextError.TheVariants.{OutOfMemory};
 ghost use Rattle.jh_nemesis.specs.NamedFaults.{
   AreLinksAmong,
+  IsOverAll,
   crosses_bridge,
   crosses_halves,
   links_that,
@@ -105,6 +106,7 @@ fn listed_ring(alloc: Global, nodes: &Nodes) -> Result<Grudge, AllocError>
 fn shuffled_ring(alloc: Global, nodes: &Nodes, seed: u64) -> Result<Grudge, AllocError>
     ensures links { IfOk result (λ grudge. grudge ≡ ring_links (order_of seed (length nodes.now)) (length nodes.now)) }
     ensures among { IfOk result (AreLinksAmong (length nodes.now)) }
+    ensures all { IfOk result (λ _. IsPermutation (places (length nodes.now)) (order_of seed (length nodes.now))) }
 {
     let order = ring_order(alloc, nodes, seed)?;
     ring(alloc, nodes, &order)
@@ -112,7 +114,8 @@ fn shuffled_ring(alloc: Global, nodes: &Nodes, seed: u64) -> Result<Grudge, Allo
 
 // The grudge of this name; none where its seed is below zero.
 fn grudge_of(alloc: Global, nodes: &Nodes, named: Named) -> Option<Result<Grudge, AllocError>>
-    ensures { MatchOption result
+    ensures all { IfSome result (λ made. IfOk made (λ _. IsOverAll (length nodes.now) named)) }
+    ensures links { MatchOption result
         (named_links named (length nodes.now) ≡ None)
         (λ made. IsSome (named_links named (length nodes.now))
         × IfOk made (λ grudge. (Some grudge ≡ named_links named (length nodes.now)) × AreLinksAmong (length nodes.now) grudge)) }
@@ -169,6 +172,7 @@ fn cut(alloc: Global, nodes: &Nodes, grudge: &Grudge) -> Result<Fault, StepTextE
 /// The cut of the grudge of this name.
 pub fn named_fault(alloc: Global, nodes: &Nodes, named: Named) -> Result<Fault, StepTextError>
     ensures told { Answers result (named_told (length nodes.now) named) }
+    ensures all { IfOk result (λ _. IsOverAll (length nodes.now) named) }
     ensures fits { IfOk result (FitsCount (length nodes.now)) }
 {
     let made = grudge_of(alloc, nodes, named).ok_or(StepTextError::BadAmount)?;

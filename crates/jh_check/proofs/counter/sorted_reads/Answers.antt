@@ -4,7 +4,7 @@ use Rattle.std.proofs.lemmas.List.{take_all}
 use Rattle.std.proofs.lemmas.List.Elements.{All-filter, All-same}
 use Rattle.std.proofs.lemmas.List.Sorted.{answers_always, All-permutation, IsStrictWeakOrder-by_number}
 use Rattle.jh_edn.specs.Order.{in_order}
-use Rattle.jh_edn.proofs.Sorting.{sorted_is}
+use Rattle.jh_edn.proofs.Facts.{sorted_is}
 use Rattle.jh_ops.specs.Operation.{operations}
 use Rattle.jh_ops.specs.Pairing.{IsWithin}
 use Rattle.jh_check.specs.CounterResults.{ends_before, end_of, is_ok_read}

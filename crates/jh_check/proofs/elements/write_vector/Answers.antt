@@ -1,5 +1,5 @@
 use Rattle.std.proofs.lemmas.Result.{on_ok_weaker}
-use Rattle.jh_edn.proofs.Printing.{appends_then}
+use Rattle.jh_edn.proofs.Facts.{appends_then}
 use Rattle.jh_check.proofs.LineLemmas.{item_texts_map}
 use Rattle.jh_check.proofs.elements.write_vector.Goals as goal
 

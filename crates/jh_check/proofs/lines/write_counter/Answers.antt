@@ -1,7 +1,7 @@
 use Rattle.std.proofs.Common.{codes, subst, ap}
 use Rattle.std.specs.Io.KnownBytes.{Appends}
 use Rattle.std.proofs.lemmas.Result.{on_ok_weaker}
-use Rattle.jh_edn.proofs.Printing.{appends_then}
+use Rattle.jh_edn.proofs.Facts.{appends_then}
 use Rattle.jh_check.specs.Lines.{reads_value}
 use Rattle.jh_check.proofs.LineLemmas.{three_parts}
 use Rattle.jh_check.proofs.lines.write_counter.Goals as goal

@@ -2,7 +2,7 @@ use Rattle.std.proofs.Common.{◌≡◌, codes, map, refl, subst, ap, ◌∙◌}
 use Rattle.std.specs.Prelude.{pos}
 use Rattle.std.specs.Io.KnownBytes.{Appends}
 use Rattle.std.proofs.lemmas.Result.{on_ok_weaker}
-use Rattle.jh_edn.proofs.Printing.{appends_then}
+use Rattle.jh_edn.proofs.Facts.{appends_then}
 use Rattle.jh_edn.specs.Edn.{Edn, int}
 use Rattle.jh_check.specs.IdsInside.{view_duplicate}
 use Rattle.jh_check.specs.Lines.{duplicate_value, vector_of}

@@ -6,7 +6,7 @@ use Rattle.std.proofs.lemmas.List.MinMax.{ranks_by}
 use Rattle.std.proofs.lemmas.List.Sorted.{answers_always}
 use Rattle.jh_edn.specs.Order.{in_order}
 use Rattle.jh_edn.specs.View.{view}
-use Rattle.jh_edn.proofs.OrderLemmas.{edn_total}
+use Rattle.jh_edn.proofs.Facts.{edn_total}
 use Rattle.jh_ops.specs.Operation.{operation, operations}
 use Rattle.jh_check.proofs.ListLemmas.{mapped_more}
 use Rattle.jh_keys.specs.SplitInside.{is_key_below, keyed_in, view_keyed, with_key}
