@@ -20,6 +20,9 @@ fn judges_sets(rt: HostRuntime) -> Result<(), Fail> {
         => {:valid? :unknown, :error \"Set was never read\"}
         0 :invoke :add (1); 0 :ok :add [1]; 1 :ok :read #{[1]} \
         => {:valid? true, :ok [[1]], :lost [], :unexpected [], :recovered []}
+        0 :invoke :add {:a #{1 2}}; 0 :ok :add {:a #{2 1}}; 0 :invoke :add #{[1] {2 3 4 5}}; \
+        0 :ok :add #{{4 5 2 3} (1)}; 1 :ok :read [#{{4 5, 2 3} [1]} {:a #{1 2}} #{(1) {2 3 4 5}}] \
+        => {:valid? true, :ok [{:a #{1 2}} #{[1] {2 3, 4 5}}], :lost [], :unexpected [], :recovered []}
         1 :ok :read [:b 7 \"a\" 7 nil] \
         => {:valid? false, :ok [], :lost [], :unexpected [nil 7 \"a\" :b], :recovered []}
         1 :ok :read 5; 1 :ok :read []; 1 :fail :read [1]; :nemesis :ok :read [2] \
@@ -63,6 +66,9 @@ fn judges_ids(rt: HostRuntime) -> Result<(), Fail> {
         => {:valid? false, :attempted 3, :acknowledged 2, :duplicated [[7 2]]}
         0 :ok :generate (1); 0 :ok :generate :b; 0 :ok :generate [1]; 0 :ok :generate 2; 0 :ok :generate :b; \
         0 :ok :generate :b => {:valid? false, :attempted 0, :acknowledged 6, :duplicated [[:b 3] [[1] 2]]}
+        0 :ok :generate {:a 1 :b [2]}; 0 :ok :generate {:b (2) :a 1}; 0 :ok :generate #{1 #{2 3}}; \
+        0 :ok :generate #{#{3 2} 1}; 0 :ok :generate nil; 0 :ok :generate nil \
+        => {:valid? false, :attempted 0, :acknowledged 6, :duplicated [[nil 2] [{:a 1, :b [2]} 2] [#{1 #{2 3}} 2]]}
         0 :invoke :generate; :nemesis :ok :generate 1; 0 :ok :generate 1; 0 :fail :generate 1; \
         0 :ok generate 1 => {:valid? true, :attempted 1, :acknowledged 1, :duplicated []}";
     ask_all(rt.alloc(), Ask::Checker(Workload::Ids), rows)

@@ -13,6 +13,8 @@ mod environments;
 #[cfg(test)]
 mod errors;
 #[cfg(test)]
+mod examples;
+#[cfg(test)]
 mod histories;
 #[cfg(test)]
 mod hostile;

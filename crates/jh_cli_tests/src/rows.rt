@@ -87,6 +87,10 @@ pub(crate) enum Texts<'a> {
     Inputs(&'a str),
     /// The same, and of the answer only what is alike for every order of threads: no operations, and no order.
     Orders(&'a str),
+    /// Settings of a run, and of its answer only the first line, which is the status.
+    Statuses,
+    /// Settings of a run, and the status of `check` for the history that it prints; nothing where another line is printed of it.
+    Histories,
     /// Arguments.
     Arguments,
     /// Names of errors.
@@ -106,6 +110,60 @@ fn alike_in(alloc: Global, answer: &[u8]) -> Option<Vec<u8>> {
     Some(alike)
 }
 
+/// A line by itself.
+fn line_of(alloc: Global, line: &str) -> Option<Vec<u8>> {
+    let mut text = Vec::from_slice(alloc, line.as_bytes()).ok()?;
+    text.push(b'\n').ok()?;
+    Some(text)
+}
+
+/// The first line of the answer to a run of these settings.
+fn status_once<T: Threads + Wait + Sync>(rt: &T, alloc: Global, settings: &str) -> Option<Vec<u8>> {
+    let answer = answer_once(rt, alloc, "jeprun run", settings.as_bytes())?;
+    let (status, _) = str::from_utf8(&answer).ok()?.split_once('\n')?;
+    line_of(alloc, status)
+}
+
+/// The lines of operations in an answer.
+fn operations_in(alloc: Global, answer: &str) -> Option<Vec<u8>> {
+    let mut operations = Vec::new(alloc);
+    for line in answer.lines() {
+        if line.starts_with("{:index") {
+            operations.extend_from_slice(line.as_bytes()).ok()?;
+            operations.push(b'\n').ok()?;
+        }
+    }
+    Some(operations)
+}
+
+/// How the history of these settings is judged by itself.
+fn arguments_for(settings: &str) -> &'static str {
+    if settings.contains("workload = \"register\"") {
+        "jeprun check --workload register --initial 0"
+    } else if settings.contains("workload = \"counter\"") {
+        "jeprun check --workload counter"
+    } else if settings.contains("workload = \"set\"") {
+        "jeprun check --workload set"
+    } else {
+        "jeprun check --workload unique-ids"
+    }
+}
+
+/// The status of `check` for the history that a run of these settings prints, where both print the same line of it.
+fn judged_once<T: Threads + Wait + Sync>(rt: &T, alloc: Global, settings: &str) -> Option<Vec<u8>> {
+    let answer = answer_once(rt, alloc, "jeprun run", settings.as_bytes())?;
+    let answer = str::from_utf8(&answer).ok()?;
+    let (status, _) = answer.split_once('\n')?;
+    let (_, line) = answer.trim_end().rsplit_once('\n')?;
+    let operations = operations_in(alloc, answer)?;
+    let judged = answer_once(rt, alloc, arguments_for(settings), operations.as_slice())?;
+    let judged = str::from_utf8(&judged).ok()?;
+    if judged.trim_end().split_once('\n') == Some((status, line)) {
+        return line_of(alloc, status);
+    }
+    Some(Vec::new(alloc))
+}
+
 /// What is shown for a text; `None` where memory was refused.
 fn shown_once<T: Threads + Wait + Sync>(
     rt: &T,
@@ -118,6 +176,8 @@ fn shown_once<T: Threads + Wait + Sync>(
         Texts::Orders(arguments) => {
             alike_in(alloc, &answer_once(rt, alloc, arguments, text.as_bytes())?)
         }
+        Texts::Statuses => status_once(rt, alloc, text),
+        Texts::Histories => judged_once(rt, alloc, text),
         Texts::Arguments => asked_once(alloc, text),
         Texts::Errors => named_once(alloc, text),
     }

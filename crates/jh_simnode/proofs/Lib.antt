@@ -13,3 +13,5 @@ pub mod Asking
 pub mod Going
 pub mod Writing
 pub mod ReplayLemmas
+pub mod GivenLemmas
+pub mod CountLemmas

@@ -20,7 +20,10 @@ use Rattle.jh_simnode.specs.Counts.{answered, applied, calls_by, process_of, las
 use Rattle.jh_simnode.specs.Events.{WorldValue, IsLegal}
 use Rattle.jh_simnode.specs.Limits.{most_events}
 use Rattle.jh_simnode.specs.Plans.{PlanValue}
-use Rattle.jh_simnode.specs.Runs.{Turns, Reached, Runs, ask_move, ended, is_due, move_of, run_generator, setup_of, thread_of, first_turns, ticks_after, ticks_at, waited, words_after, words_taken}
+use Rattle.jh_simnode.specs.declared.events.WorldError.TheVariants as world
+use Rattle.jh_simnode.specs.declared.serial.RunError.{RunError}
+use Rattle.jh_simnode.specs.declared.serial.RunError.TheVariants as error
+use Rattle.jh_simnode.specs.Runs.{Stops, Turns, Reached, Runs, ask_move, ended, is_due, move_of, run_generator, setup_of, thread_of, first_turns, ticks_after, ticks_at, waited, words_after, words_taken}
 use Rattle.jh_simnode.specs.Runs.Move.{Calls, Waits, Ends, Rests}
 
 -- how an operation ends by a reply
@@ -177,3 +180,9 @@ abbrev pub HasSmallProcess : Event → Type 0
 HasSmallProcess (Event.Call process node request draw reply) = process < 2 ^ 63
 HasSmallProcess (Event.Step step answer) = Unit {0}
 HasSmallProcess Event.Tick = Unit {0}
+
+-- Why the turns of a run end before it is over. (That a world is never full is shown of the whole run.)
+abbrev pub Halts : PlanValue → RunError → Type 0
+Halts p (error.World world.TooManyEvents) =
+    (r : Turns) × (journal : List Event) × Reached p r journal × (most_events ≤ length journal)
+Halts p e = Stops p e

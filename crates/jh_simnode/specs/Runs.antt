@@ -23,7 +23,6 @@ use Rattle.jh_simnode.specs.declared.serial.RunError.{RunError}
 use Rattle.jh_simnode.specs.declared.serial.RunError.TheVariants as error
 use Rattle.jh_simnode.specs.Counts.{answered, applied, calls_by, process_of, last}
 use Rattle.jh_simnode.specs.Events.{Setup, IsLegal}
-use Rattle.jh_simnode.specs.Limits.{most_events}
 use Rattle.jh_simnode.specs.Histories.{history_of}
 use Rattle.jh_simnode.specs.Plans.{PlanValue}
 
@@ -176,14 +175,12 @@ pub record Serial (p : PlanValue) (journal : List Event) (history : List Operati
   pub over : move_of p turns journal ≡ Rests
   pub told : history ≡ history_of journal
 
--- why a run of a plan is not completed
+-- why a run of a plan is not completed: no thread got a call in a whole round, or memory was refused
 abbrev pub Stops : PlanValue → RunError → Type 0
-Stops p (error.World world.UnknownNode) = ⊥
-Stops p (error.World world.TooManyEvents) =
-    (r : Turns) × (journal : List Event) × Reached p r journal × (most_events ≤ length journal)
-Stops p (error.World world.OutOfMemory) = Unit {0}
 Stops p error.Stuck = (r : Turns) × (journal : List Event) × Reached p r journal × (p.clients ≤ r.waits)
 Stops p error.OutOfMemory = Unit {0}
+Stops p (error.World world.OutOfMemory) = Unit {0}
+Stops p (error.World refusal) = ⊥
 
 -- a plan has one run and one history at most
 abbrev pub OneRun : Type 0

@@ -5,7 +5,7 @@ ghost use Rattle.jh_env.specs.Overlay.{StandsFor};
 ghost use Rattle.jh_nemesis.specs.Steps.{FitsNodes};
 ghost use Rattle.jh_gen.specs.View.{generator_of};
 ghost use Rattle.jh_simnode.specs.Plans as rule;
-ghost use Rattle.jh_simnode.specs.Plans.{IsFit, RefusesPlan, RefusesSchedule};
+ghost use Rattle.jh_simnode.specs.Plans.{IsFit, IsKept, RefusesPlan, RefusesSchedule};
 ghost use Rattle.jh_simnode.specs.declared.plan.PlanError.TheVariants.{OutOfMemory};
 
 use crate::events::fits;
@@ -258,10 +258,11 @@ impl Plan {
         self.settings.initial
     }
 
-    /// The number of client threads, from 1 to 16.
+    /// The number of client threads, from 1 to 16, of a plan that can be run, as every plan.
     pub fn clients(&self) -> u32
         ensures clients { result ≡ self.now.clients }
         ensures few { rule.HasClients self.now }
+        ensures kept { IsKept self.now }
     {
         self.clients
     }

@@ -4,7 +4,8 @@
 ghost use Rattle.std.specs.Prelude.{◌≡◌, [], All, MatchResult, IfOk, IfErr, OnOk};
 ghost use Rattle.jh_ops.specs.Operation.{operations};
 ghost use Rattle.jh_ops.specs.OperationWritten.{IsWritable};
-ghost use Rattle.jh_simnode.specs.Running.{HasSmallProcess, IsOver};
+ghost use Rattle.jh_simnode.specs.Plans.{IsFit, IsKept};
+ghost use Rattle.jh_simnode.specs.Running.{Halts, HasSmallProcess, IsOver};
 ghost use Rattle.jh_simnode.specs.Runs.{OneRun, Serial, Stops, setup_of};
 
 use crate::events::WorldError;
@@ -72,7 +73,8 @@ fn run_turns(alloc: Global, plan: &Plan, world: &mut World) -> Result<(), RunErr
     ensures over { OnOk result (IsOver plan.now world.new) }
     ensures setup { OnOk result (world.new.setup ≡ setup_of plan.now) }
     ensures small { OnOk result (All HasSmallProcess world.new.journal) }
-    ensures stopped { IfErr result (Stops plan.now) }
+    ensures stopped { IfErr result (Halts plan.now) }
+    ensures kept { IsKept plan.now }
 {
     let clients = plan.clients();
     let mut run = Run::new(alloc, plan)?;
@@ -93,13 +95,14 @@ fn run_turns(alloc: Global, plan: &Plan, world: &mut World) -> Result<(), RunErr
 ///
 /// Takes time for each call and step, and for what the generator is large.
 ///
-/// Errors: `World` where the world refused an event, as after 65,536 of them; `Stuck` where in one round no thread got a
-/// call; `OutOfMemory`.
+/// Errors: `Stuck` where in one round no thread got a call; `OutOfMemory`, or `World` with the same. A run never fills its world:
+/// it has at most two events for each call, and one for each entry of its schedule.
 pub fn run_serial(alloc: Global, plan: &Plan) -> Result<(World, Vec<Op>), RunError>
     ensures judged { MatchResult result
         (λ run. (run.0.setup ≡ setup_of plan.now) × Serial plan.now run.0.journal (operations run.1.items))
         (Stops plan.now) }
     ensures writable { IfOk result (λ run. All (λ op. IsWritable op.process) (operations run.1.items)) }
+    ensures fit { IfOk result (λ _. IsFit plan.now) }
 {
     let mut world = world_of(alloc, plan)?;
     run_turns(alloc, plan, &mut world)?;

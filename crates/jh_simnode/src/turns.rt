@@ -4,9 +4,9 @@
 ghost use Rattle.std.specs.Prelude.{◌≡◌, ◌%◌, ◌<◌, ◌≤◌, List, length, IfOk, IfErr, OnOk, OnErr, false};
 ghost use Rattle.jh_simnode.specs.Limits.{most_events};
 ghost use Rattle.jh_simnode.specs.Runs as rule;
-ghost use Rattle.jh_simnode.specs.Runs.{Stops, Turns};
+ghost use Rattle.jh_simnode.specs.Runs.{Turns};
 ghost use Rattle.jh_simnode.specs.Running as running;
-ghost use Rattle.jh_simnode.specs.Running.{Asks, HasCalled, IsFirst, Keeps, MayCall, Settled, Stands};
+ghost use Rattle.jh_simnode.specs.Running.{Asks, Halts, HasCalled, IsFirst, Keeps, MayCall, Settled, Stands};
 ghost use Rattle.jh_simnode.specs.declared.events.Event.{Event};
 
 use crate::copies::Reply;
@@ -90,7 +90,7 @@ pub fn node_of(plan: &Plan, thread: u32) -> Node
 /// The driver of the plan's generator, cut off after as many calls as the plan has, for clients alone.
 pub fn driver_of(alloc: Global, plan: &Plan) -> Result<Driver, RunError>
     ensures driver { IfOk result (running.IsFirstDriver plan.now) }
-    ensures stopped { IfErr result (Stops plan.now) }
+    ensures stopped { IfErr result (Halts plan.now) }
 {
     let limited = Gen::Limit(plan.ops(), Inner::of(alloc, plan.generator().copy(alloc)?)?);
     let source = Gen::Clients(Inner::of(alloc, limited)?);
@@ -104,7 +104,7 @@ impl Run {
     /// A run of a plan before its first turn.
     pub(crate) fn new(alloc: Global, plan: &Plan) -> Result<Run, RunError>
         ensures first { IfOk result (IsFirst plan.now) }
-        ensures stopped { IfErr result (Stops plan.now) }
+        ensures stopped { IfErr result (Halts plan.now) }
     {
         Ok(Run {
             driver: driver_of(alloc, plan)?,
@@ -136,7 +136,7 @@ impl Run {
         ensures settled { OnOk result (Settled plan.now self.new world.new) }
         ensures turns { OnOk result ((self.new.waits ≡ self.old.waits) × (self.new.has_ended ≡ self.old.has_ended)) }
         ensures grown { OnOk result (length world.old.journal ≤ length world.new.journal) }
-        ensures stopped { IfErr result (Stops plan.now) }
+        ensures stopped { IfErr result (Halts plan.now) }
     {
         let entries = plan.schedule().entries();
         while self.applied < entries.len() {
@@ -202,7 +202,7 @@ impl Run {
         ensures called { OnOk result (HasCalled plan.now self.new world.new thread) }
         ensures grown { OnOk result (length world.old.journal < length world.new.journal) }
         ensures turns { OnOk result ((self.new.waits ≡ 0) × (self.new.has_ended ≡ false)) }
-        ensures stopped { IfErr result (Stops plan.now) }
+        ensures stopped { IfErr result (Halts plan.now) }
     {
         let draw = self.words.next_word();
         let (_, reply) = world.call(process, node_of(plan, thread), request, draw)?;
@@ -225,7 +225,7 @@ impl Run {
         ensures stands { OnOk result (Stands plan.now self.now world.new) }
         ensures grown { OnOk result (length world.old.journal ≤ length world.new.journal) }
         ensures few { length world.old.journal ≤ most_events }
-        ensures stopped { IfErr result (Stops plan.now) }
+        ensures stopped { IfErr result (Halts plan.now) }
     {
         let _events = world.journal().len();
         if ticks_at(plan, self.calls[thread as usize]) {
@@ -242,7 +242,7 @@ impl Run {
         requires crowd { plan.now.clients ≤ 16 }
         ensures stands { OnOk result (Stands plan.now self.new world.new) }
         ensures falls { OnOk result (running.Falls self.old world.old self.new world.new) }
-        ensures stopped { IfErr result (Stops plan.now) }
+        ensures stopped { IfErr result (Halts plan.now) }
     {
         let _events = world.journal().len();
         let thread = self.next_thread(plan);

@@ -1,6 +1,8 @@
 use Rattle.std.proofs.Common.{◌∙◌, All, ap, sym, subst}
 use Rattle.jh_ops.specs.OperationWritten.{IsWritable}
+use Rattle.std.proofs.lemmas.Result.{err_from_is_err_and}
 use Rattle.jh_simnode.specs.Histories.{history_of}
+use Rattle.jh_simnode.proofs.CountLemmas.{halts_stops}
 use Rattle.jh_simnode.proofs.Writing.{writable_from}
 use Rattle.jh_simnode.proofs.serial.run_serial.Goals as goal
 
@@ -12,3 +14,8 @@ returns-clause-judged c =
 pub returns-clause-writable : goal.returns-clause-writable
 returns-clause-writable c =
     subst (All (λ op. IsWritable op.process)) (sym (c.in_ok-history.ensures ∙ ap history_of c.journal.ensures.events)) (writable_from c.run_turns.new.world.journal 0 0 0 c.in_ok-run_turns.ensures.small)
+
+pub returns-in_err-run_turns-clause-judged : goal.returns-in_err-run_turns-clause-judged
+returns-in_err-run_turns-clause-judged c =
+    let p = err_from_is_err_and c.from_residual-in_err-run_turns.result c.from_residual-in_err-run_turns.ensures.1 in
+    rw (p.1, p.2) (halts_stops c.args.plan.now c.in_err-run_turns.ensures.kept c.in_err-run_turns.field-0.0 c.in_err-run_turns.ensures.stopped)

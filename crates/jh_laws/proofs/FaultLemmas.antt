@@ -1,0 +1,230 @@
+-- What is written of a fault tells that fault, with its links, nodes or bumps in order.
+use Rattle.std.proofs.Common.{◌≡◌, ℕ, ◌^◌, ◌<◌, ◌≤◌, Bool, true, false, List, [], ◌∷◌, ◌++◌, length, map, filter_map, Option, Some, None, Ok, refl, sym, ap, ◌∙◌, arith}
+use Rattle.std.specs.Prelude.{ℤ, pos, negsuc, not, is_none, is_some, ◌==◌, slice_index_or, option_map, option_and_then, if◌then◌else◌}
+use Rattle.std.specs.List.{AllByRecursion, list_all, list_any, All, cons_option}
+use Rattle.std.proofs.lemmas.Bool.{and_from, or_from, eqb-true, eq-eqb, lt-ltb, le-leb, not_from_false}
+use Rattle.std.proofs.lemmas.Grind.{common_steps}
+use Rattle.std.proofs.lemmas.Int.{ints}
+use Rattle.std.proofs.lemmas.List.Elements.{recursion_from_All}
+use Rattle.std.proofs.lemmas.List.Folds.{list_any-append}
+use Rattle.std.proofs.lemmas.Option.{slice_get-get_or}
+use Rattle.jh_edn.specs.Edn.{Edn, vector, items_of, members_of, elements_of}
+use Rattle.jh_edn.specs.Order.{in_order}
+use Rattle.jh_edn.proofs.Facts.{list_of-items_of}
+use Rattle.jh_env.specs.Faults.{FaultValue, AreApart, IsBumpAmount, kept_links, kept_nodes, is_self_link, same_link, same_node, same_bumped}
+use Rattle.jh_env.specs.Faults.{Cut, Slow, Loss, Fix, Pause, Kill, Bump}
+use Rattle.jh_env.specs.FaultWritten.{is_link_before, is_node_before, is_bump_before, fault_in_order, name_text, link_text, links_text, nodes_text, bump_text, bumps_text, text_of_fault}
+use Rattle.jh_env.specs.Names.{AreNodeNames}
+use Rattle.jh_env.specs.Text.{pairs_in}
+use Rattle.jh_env.proofs.TextPlaceLemmas.{place_of-at}
+use Rattle.jh_nemesis.specs.FaultText.{Links, Nodes, Bumps, link_names, node_name, bump_said, all_of, links_in, nodes_in, bumps_in, place_of, ends_of, node_of, bump_of, amount_within, is_bump_amount, are_apart_after, are_bumps, links_fault, nodes_fault, links_told, nodes_told, bumps_told}
+use Rattle.jh_nemesis.specs.declared.texts.shapes.OnLinks.{OnLinks}
+use Rattle.jh_nemesis.specs.declared.texts.shapes.OnNodes.{OnNodes}
+use Rattle.jh_laws.specs.StepLines.{IsFaultOn, IsTextOfFault}
+use Rattle.jh_laws.proofs.OrderLemmas.{Apart, apart_behind, apart_in_order, all_in_order, none_in_order, none_each}
+
+-- ---- what is spelled
+
+all_pass : {A B : Type 0} (p : B → Bool) (text : A → B) → ((x : A) → p (text x) ≡ true) → (xs : List A) → list_all p (map text xs) ≡ true
+all_pass p text each [] = refl
+all_pass p text each (x ∷ xs) = and_from (p (text x)) (list_all p (map text xs)) (each x) (all_pass p text each xs)
+
+-- a sequence of what passes a test
+sequence_of : {A : Type 0} (p : Edn → Bool) (text : A → Edn) → ((x : A) → p (text x) ≡ true) → (xs : List A)
+    → option_and_then (all_of p) (elements_of (vector (items_of (map text xs)))) ≡ Some (map text xs)
+sequence_of p text each xs =
+    ap (all_of p) (list_of-items_of (map text xs)) ∙ ap (λ t. if t then Some (map text xs) else None) (all_pass p text each xs)
+
+pub pairs_of-members : (pairs : List (Edn × Edn)) → pairs_in (members_of pairs) ≡ pairs
+pairs_of-members [] = refl
+pairs_of-members (p ∷ ps) = ap (λ rest. p ∷ rest) (pairs_of-members ps)
+
+links_are : (names : List (List ℕ)) (links : List (ℕ × ℕ)) → links_in (links_text names links) ≡ Some (map (link_text names) links)
+links_are names links = sequence_of (λ l. is_some (link_names l)) (link_text names) (λ l. refl) links
+
+nodes_are : (names : List (List ℕ)) (nodes : List ℕ) → nodes_in (nodes_text names nodes) ≡ Some (map (name_text names) nodes)
+nodes_are names nodes = sequence_of (λ n. is_some (node_name n)) (name_text names) (λ n. refl) nodes
+
+bumps_are : (names : List (List ℕ)) (bumps : List (ℕ × ℤ)) → bumps_in (bumps_text names bumps) ≡ Some (map (bump_text names) bumps)
+bumps_are names bumps =
+    ap (all_of (λ b. is_some (bump_said b))) (pairs_of-members (map (bump_text names) bumps))
+    ∙ ap (λ t. if t then Some (map (bump_text names) bumps) else None) (all_pass (λ b. is_some (bump_said b)) (bump_text names) (λ b. refl) bumps)
+
+-- ---- where the names stand
+
+pub place_again : (names : List (List ℕ)) → AreNodeNames names → (a : ℕ) → a < length names → place_of names (slice_index_or names a []) ≡ Some a
+place_again names named a below = place_of-at names a (slice_index_or names a []) named (slice_get-get_or names a [] below)
+
+ends_again : (names : List (List ℕ)) → AreNodeNames names → (l : ℕ × ℕ) → (l.0 < length names) × (l.1 < length names) → ends_of names (link_text names l) ≡ Some l
+ends_again names named l below = rw (place_again names named l.0 below.0, place_again names named l.1 below.1) refl
+
+node_again : (names : List (List ℕ)) → AreNodeNames names → (a : ℕ) → a < length names → node_of names (name_text names a) ≡ Some a
+node_again names named a below = place_again names named a below
+
+bump_again : (names : List (List ℕ)) → AreNodeNames names → (b : ℕ × ℤ) → b.0 < length names → bump_of names (bump_text names b) ≡ Some b
+bump_again names named b below = ap (option_map (λ node. (node, b.1))) (place_again names named b.0 below)
+
+-- what a list of texts tells, where each tells what it was written of
+module _ {A B : Type 0} (text : A → B) (tell : B → Option A) (P : A → Type 0) (again : (x : A) → P x → tell (text x) ≡ Some x) where
+  all_known : (xs : List A) → AllByRecursion P xs → list_any (λ v. is_none (tell v)) (map text xs) ≡ false
+  all_known [] all = refl
+  all_known (x ∷ xs) all = or_from (is_none (tell (text x))) (list_any (λ v. is_none (tell v)) (map text xs)) (ap is_none (again x all.0)) (all_known xs all.1)
+
+  all_again : (xs : List A) → AllByRecursion P xs → filter_map tell (map text xs) ≡ xs
+  all_again [] all = refl
+  all_again (x ∷ xs) all = ap (λ o. cons_option o (filter_map tell (map text xs))) (again x all.0) ∙ ap (λ ys. x ∷ ys) (all_again xs all.1)
+
+-- ---- faults of links
+
+abbrev AreKnown : List (List ℕ) → List (ℕ × ℕ) → Type 0
+AreKnown names links = AllByRecursion (λ l. (l.0 < length names) × (l.1 < length names)) links
+
+links_again : (names : List (List ℕ)) → AreNodeNames names → (effect : OnLinks) (links : List (ℕ × ℕ)) (fault : FaultValue) → AreKnown names links
+    → list_any is_self_link links ≡ false → links_fault effect links ≡ Some fault → links_told names effect (map (link_text names) links) ≡ Ok fault
+links_again names named effect links fault known others made =
+    let tell = all_known (link_text names) (ends_of names) (λ l. (l.0 < length names) × (l.1 < length names)) (ends_again names named) links known in
+    let again = all_again (link_text names) (ends_of names) (λ l. (l.0 < length names) × (l.1 < length names)) (ends_again names named) links known in
+    rw (tell, again, others, made) refl
+
+within : (least most n : ℕ) → least ≤ n → n ≤ most → amount_within least most (pos n) ≡ Some n
+within least most n low high = rw (le-leb least n low, le-leb n most high) refl
+
+-- ---- faults of nodes
+
+nodes_again : (names : List (List ℕ)) → AreNodeNames names → (effect : OnNodes) (nodes : List ℕ) → AllByRecursion (λ n. n < length names) nodes
+    → nodes_told names effect (map (name_text names) nodes) ≡ Ok (nodes_fault effect nodes)
+nodes_again names named effect nodes known =
+    let tell = all_known (name_text names) (node_of names) (λ n. n < length names) (node_again names named) nodes known in
+    let again = all_again (name_text names) (node_of names) (λ n. n < length names) (node_again names named) nodes known in
+    rw (tell, again) refl
+
+-- ---- bumps
+
+bump_amount : (z : ℤ) → IsBumpAmount z → is_bump_amount z ≡ true
+bump_amount (pos n) h =
+    let some : 0 < n = omega (arith, ints, h.0) in
+    let most : n ≤ 10 ^ 9 = omega (arith, ints, h.2) in
+    rw (lt-ltb 0 n some, le-leb n (10 ^ 9) most) refl
+bump_amount (negsuc n) h = let most : n < 10 ^ 9 = omega (arith, ints, h.1) in lt-ltb n (10 ^ 9) most
+
+amounts : (bumps : List (ℕ × ℤ)) → AllByRecursion (λ b. IsBumpAmount b.1) bumps → list_all (λ b. is_bump_amount b.1) bumps ≡ true
+amounts [] all = refl
+amounts (b ∷ bs) all = and_from (is_bump_amount b.1) (list_all (λ x. is_bump_amount x.1) bs) (bump_amount b.1 all.0) (amounts bs all.1)
+
+-- no bump before these is the same as one of them
+abbrev Unlike : List (ℕ × ℤ) → List (ℕ × ℤ) → Type 0
+Unlike before bumps = AllByRecursion (λ b. list_any (λ x. same_bumped x b) before ≡ false) bumps
+
+one_more : (before : List (ℕ × ℤ)) (b : ℕ × ℤ) (bs : List (ℕ × ℤ)) → Unlike before bs → AllByRecursion (λ c. same_bumped b c ≡ false) bs → Unlike (before ++ b ∷ []) bs
+one_more before b [] unlike apart = tt
+one_more before b (c ∷ cs) unlike apart =
+    let last = or_from (same_bumped b c) false apart.0 refl in
+    let all = list_any-append (λ x. same_bumped x c) before (b ∷ []) ∙ or_from (list_any (λ x. same_bumped x c) before) (list_any (λ x. same_bumped x c) (b ∷ [])) unlike.0 last in
+    (all, one_more before b cs unlike.1 apart.1)
+
+apart_after : (before bumps : List (ℕ × ℤ)) → Unlike before bumps → Apart same_bumped bumps → are_apart_after before bumps ≡ true
+apart_after before [] unlike apart = refl
+apart_after before (b ∷ bs) unlike apart =
+    and_from (not (list_any (λ x. same_bumped x b) before)) (are_apart_after (before ++ b ∷ []) bs) (not_from_false (list_any (λ x. same_bumped x b) before) unlike.0)
+    (apart_after (before ++ b ∷ []) bs (one_more before b bs unlike.1 (none_each (same_bumped b) bs apart.0)) apart.1)
+
+nothing_before : (bumps : List (ℕ × ℤ)) → Unlike [] bumps
+nothing_before [] = tt
+nothing_before (b ∷ bs) = (refl, nothing_before bs)
+
+are_bumps_again : (bumps : List (ℕ × ℤ)) → AllByRecursion (λ b. IsBumpAmount b.1) bumps → Apart same_bumped bumps → are_bumps bumps ≡ true
+are_bumps_again bumps right apart =
+    and_from (list_all (λ b. is_bump_amount b.1) bumps) (are_apart_after [] bumps) (amounts bumps right) (apart_after [] bumps (nothing_before bumps) apart)
+
+bumps_again : (names : List (List ℕ)) → AreNodeNames names → (bumps : List (ℕ × ℤ)) → AllByRecursion (λ b. b.0 < length names) bumps
+    → are_bumps bumps ≡ true → bumps_told names (map (bump_text names) bumps) ≡ Ok (Bump bumps)
+bumps_again names named bumps known right =
+    let tell = all_known (bump_text names) (bump_of names) (λ b. b.0 < length names) (bump_again names named) bumps known in
+    let again = all_again (bump_text names) (bump_of names) (λ b. b.0 < length names) (bump_again names named) bumps known in
+    rw (tell, again, right) refl
+
+-- ---- any fault
+
+turned : (x y : ℕ × ℤ) → same_bumped x y ≡ same_bumped y x
+turned x y =
+    elim (x.0 == y.0) as (λ t. (x.0 == y.0) ≡ t → t ≡ (y.0 == x.0)) [
+      | true ↦ λ is. sym (eq-eqb y.0 x.0 (sym (eqb-true x.0 y.0 is)))
+      | false ↦ λ is. grind (arith, common_steps, is)
+    ] refl
+
+-- the bumps in order
+pub known_bumps : (count : ℕ) (bumps : List (ℕ × ℤ)) → All (λ b. b.0 < count) bumps → AllByRecursion (λ b. b.0 < count) (in_order is_bump_before bumps)
+known_bumps count bumps fits = all_in_order is_bump_before (λ b. b.0 < count) bumps (recursion_from_All (λ b. b.0 < count) bumps fits)
+
+pub right_bumps : (bumps : List (ℕ × ℤ)) → All (λ b. IsBumpAmount b.1) bumps → AllByRecursion (λ b. IsBumpAmount b.1) (in_order is_bump_before bumps)
+right_bumps bumps right = all_in_order is_bump_before (λ b. IsBumpAmount b.1) bumps (recursion_from_All (λ b. IsBumpAmount b.1) bumps right)
+
+pub apart_bumps : (bumps : List (ℕ × ℤ)) → AreApart same_bumped bumps → Apart same_bumped (in_order is_bump_before bumps)
+apart_bumps bumps apart = apart_in_order same_bumped turned is_bump_before bumps (apart_behind same_bumped bumps apart)
+
+abbrev pub LinksKept : Type 0
+LinksKept = (links : List (ℕ × ℕ)) → AreApart same_link links → kept_links (in_order is_link_before links) ≡ in_order is_link_before links
+
+abbrev pub NodesKept : Type 0
+NodesKept = (nodes : List ℕ) → AreApart same_node nodes → kept_nodes (in_order is_node_before nodes) ≡ in_order is_node_before nodes
+
+module _ (links_kept : LinksKept) (nodes_kept : NodesKept) (names : List (List ℕ)) (named : AreNodeNames names) where
+  links_tell : (effect : OnLinks) (links : List (ℕ × ℕ)) (fault : FaultValue) → All (λ l. (l.0 < length names) × (l.1 < length names)) links
+      → list_any is_self_link links ≡ false → links_fault effect (in_order is_link_before links) ≡ Some fault
+      → links_told names effect (map (link_text names) (in_order is_link_before links)) ≡ Ok fault
+  links_tell effect links fault fits others made =
+      links_again names named effect (in_order is_link_before links) fault
+      (all_in_order is_link_before (λ l. (l.0 < length names) × (l.1 < length names)) links (recursion_from_All (λ l. (l.0 < length names) × (l.1 < length names)) links fits))
+      (none_in_order is_link_before is_self_link links others) made
+
+  nodes_tell : (effect : OnNodes) (nodes : List ℕ) → All (λ n. n < length names) nodes
+      → nodes_told names effect (map (name_text names) (in_order is_node_before nodes)) ≡ Ok (nodes_fault effect (in_order is_node_before nodes))
+  nodes_tell effect nodes fits =
+      nodes_again names named effect (in_order is_node_before nodes) (all_in_order is_node_before (λ n. n < length names) nodes (recursion_from_All (λ n. n < length names) nodes fits))
+
+  pub fault_again : (fault : FaultValue) → IsFaultOn (length names) fault → IsTextOfFault (text_of_fault names fault) names (fault_in_order fault)
+  fault_again (Cut links) h =
+      let ls = in_order is_link_before links in (
+        Links OnLinks.Cut (map (link_text names) ls),
+        ap (option_map (Links OnLinks.Cut)) (links_are names ls),
+        links_tell OnLinks.Cut links (Cut ls) h.fits h.others (ap (λ kept. Some (Cut kept)) (links_kept links h.is_fault)),
+      )
+  fault_again (Slow ms links) h =
+      let ls = in_order is_link_before links in (
+        Links (OnLinks.Slow (pos ms)) (map (link_text names) ls),
+        ap (option_map (Links (OnLinks.Slow (pos ms)))) (links_are names ls),
+        links_tell (OnLinks.Slow (pos ms)) links (Slow ms ls) h.fits h.others
+            (ap (option_map (λ n. Slow n (kept_links ls))) (within 1 60000 ms (omega (arith, h.is_fault.0.0)) h.is_fault.0.1) ∙ ap (λ kept. Some (Slow ms kept)) (links_kept links h.is_fault.1)),
+      )
+  fault_again (Loss level links) h =
+      let ls = in_order is_link_before links in (
+        Links (OnLinks.Loss (pos level)) (map (link_text names) ls),
+        ap (option_map (Links (OnLinks.Loss (pos level)))) (links_are names ls),
+        links_tell (OnLinks.Loss (pos level)) links (Loss level ls) h.fits h.others
+            (ap (option_map (λ n. Loss n (kept_links ls))) (within 1 20 level (omega (arith, h.is_fault.0.0)) h.is_fault.0.1) ∙ ap (λ kept. Some (Loss level kept)) (links_kept links h.is_fault.1)),
+      )
+  fault_again (Fix ms links) h =
+      let ls = in_order is_link_before links in (
+        Links (OnLinks.Fix (pos ms)) (map (link_text names) ls),
+        ap (option_map (Links (OnLinks.Fix (pos ms)))) (links_are names ls),
+        links_tell (OnLinks.Fix (pos ms)) links (Fix ms ls) h.fits h.others
+            (ap (option_map (λ n. Fix n (kept_links ls))) (within 0 60000 ms (omega arith) h.is_fault.0) ∙ ap (λ kept. Some (Fix ms kept)) (links_kept links h.is_fault.1)),
+      )
+  fault_again (Pause nodes) h =
+      let ns = in_order is_node_before nodes in (
+        Nodes OnNodes.Pause (map (name_text names) ns),
+        ap (option_map (Nodes OnNodes.Pause)) (nodes_are names ns),
+        nodes_tell OnNodes.Pause nodes h.fits ∙ ap (λ kept. Ok (Pause kept)) (nodes_kept nodes h.is_fault),
+      )
+  fault_again (Kill nodes) h =
+      let ns = in_order is_node_before nodes in (
+        Nodes OnNodes.Kill (map (name_text names) ns),
+        ap (option_map (Nodes OnNodes.Kill)) (nodes_are names ns),
+        nodes_tell OnNodes.Kill nodes h.fits ∙ ap (λ kept. Ok (Kill kept)) (nodes_kept nodes h.is_fault),
+      )
+  fault_again (Bump bumps) h =
+      let bs = in_order is_bump_before bumps in (
+        Bumps (map (bump_text names) bs),
+        ap (option_map Bumps) (bumps_are names bs),
+        bumps_again names named bs (known_bumps (length names) bumps h.fits) (are_bumps_again bs (right_bumps bumps h.is_fault.0) (apart_bumps bumps h.is_fault.1)),
+      )

@@ -1,0 +1,11 @@
+pub mod LineLemmas
+pub mod KeyLemmas
+pub mod EnvironmentLemmas
+pub mod OrderLemmas
+pub mod DepthLemmas
+pub mod FaultLemmas
+pub mod StepLemmas
+pub mod OperationLemmas
+pub mod ParsedOperationLemmas
+pub mod HistoryLemmas
+pub mod ParsedStepLemmas

@@ -1,0 +1,315 @@
+-- A step that is a value's can be written.
+use Rattle.std.proofs.Common.{◌≡◌, ℕ, ◌+◌, ◌*◌, ◌/◌, ◌%◌, ◌-◌, ◌^◌, ◌<◌, ◌≤◌, inl, inr, Bool, true, false, List, [], length, get_or, codes, filter_map, Option, Some, None, Ok, Err, refl, sym, ap, subst, ◌∙◌, arith}
+use Rattle.std.specs.Prelude.{◌≢◌, ℤ, pos, negsuc, is_none, ◌&&◌, ◌||◌, ◌==◌, nat_le, nat_lt, slice_get, option_map, option_and_then, if◌then◌else◌, IfSome, IfOk, Result}
+use Rattle.std.specs.List.{All, AllPairs, list_any, range_with_len}
+use Rattle.std.specs.Str.{bytes_eq}
+use Rattle.std.proofs.lemmas.Bool.{and_parts, or_cases, eqb-true, leb-true, ltb-true, ne_eqb, cases_lt, cases_order}
+use Rattle.std.proofs.lemmas.List.Elements.{All-from_recursion, All-nil, All-weaker, Contains-get_or}
+use Rattle.std.proofs.lemmas.List.Folds.{list_any_none}
+use Rattle.std.proofs.lemmas.List.Quantifiers.{position-Some}
+use Rattle.std.proofs.lemmas.Nat.{mod-mul-add}
+use Rattle.std.proofs.lemmas.Option.{slice_get_within, get_or_from_slice_get}
+use Rattle.jh_edn.specs.Edn.{Edn, int, keyword, list, vector, Items, no_items, item, list_of}
+use Rattle.jh_env.specs.Faults.{FaultValue, AreApart, kept_links, is_self_link, same_link, same_node}
+use Rattle.jh_env.specs.Faults.{Slow, Loss, Fix, Bump}
+use Rattle.jh_env.proofs.FaultLemmas.{kept_apart, kept_all, none_apart}
+use Rattle.jh_nemesis.specs.FaultText.{Spelled, Links, Nodes, Bumps, SplitOne, Grudge, IsRingOverAll, needed, link_names, node_name, bump_said, place_of, both, ends_of, node_of, bump_of, amount_within, are_bumps, links_fault, nodes_fault, links_told, nodes_told, bumps_told, cut_of, split_told, named_told, fault_told, spelled}
+use Rattle.jh_nemesis.specs.NamedFaults.{AreLinksAmong, places, links_that, crosses, crosses_halves, crosses_bridge, touches, leaves_majority, is_at, option_is, ring_links, order_of}
+use Rattle.jh_nemesis.specs.StepText.{id_of, begun, begin_told, withdraw_told, word_told, told_in, step_told, fault_of_begin}
+use Rattle.jh_nemesis.specs.declared.steps.Step.{Step}
+use Rattle.jh_nemesis.specs.declared.steps.Step.TheVariants.{Withdraw, WithdrawAll, Undo, Redo}
+use Rattle.jh_nemesis.specs.declared.texts.StepTextError.{StepTextError}
+use Rattle.jh_nemesis.specs.declared.texts.StepTextError.TheVariants.{BadStep, BadId, UnknownNode, SelfLink, BadAmount}
+use Rattle.jh_nemesis.specs.declared.texts.shapes.Named.{Named}
+use Rattle.jh_nemesis.specs.declared.texts.shapes.OnLinks.{OnLinks}
+use Rattle.jh_nemesis.specs.declared.texts.shapes.OnNodes.{OnNodes}
+use Rattle.jh_nemesis.proofs.FaultTextLemmas.{bumps_right}
+use Rattle.jh_nemesis.proofs.GrudgeLemmas.{made_crossing, places_apart, order_distinct}
+use Rattle.jh_nemesis.proofs.LinkLemmas.{some_of_any, in_range, in_links}
+use Rattle.jh_laws.specs.StepLines.{IsFaultOn, IsStepOver}
+use Rattle.jh_laws.proofs.EnvironmentLemmas.{all_kept}
+use Rattle.jh_laws.proofs.OrderLemmas.{none_each}
+
+-- ---- names that are known
+
+below_place : (names : List (List ℕ)) (name : List ℕ) → IfSome (place_of names name) (λ i. i < length names)
+below_place names name =
+    elim (place_of names name) as (λ o. place_of names name ≡ o → IfSome o (λ i. i < length names)) [
+      | None ↦ λ is. tt
+      | Some i ↦ λ is. (position-Some (bytes_eq name) names i [] is).0
+    ] refl
+
+abbrev Joins : ℕ → ℕ × ℕ → Type 0
+Joins n l = (l.0 < n) × (l.1 < n)
+
+both_below : (n : ℕ) (a b : Option ℕ) → IfSome a (λ i. i < n) → IfSome b (λ i. i < n) → IfSome (both a b) (Joins n)
+both_below n (Some i) (Some j) h k = (h, k)
+both_below n (Some i) None h k = tt
+both_below n None b h k = tt
+
+ends_below : (names : List (List ℕ)) (value : Edn) → IfSome (ends_of names value) (Joins (length names))
+ends_below names value =
+    elim (link_names value) as (λ o. IfSome (option_and_then (λ l. both (place_of names l.0) (place_of names l.1)) o) (Joins (length names))) [
+      | None ↦ tt
+      | Some l ↦ both_below (length names) (place_of names l.0) (place_of names l.1) (below_place names l.0) (below_place names l.1)
+    ]
+
+node_below : (names : List (List ℕ)) (value : Edn) → IfSome (node_of names value) (λ n. n < length names)
+node_below names value =
+    elim (node_name value) as (λ o. IfSome (option_and_then (place_of names) o) (λ n. n < length names)) [
+      | None ↦ tt
+      | Some name ↦ below_place names name
+    ]
+
+moved_below : (n : ℕ) (ms : ℤ) (o : Option ℕ) → IfSome o (λ i. i < n) → IfSome {T = ℕ × ℤ} (option_map (λ node. (node, ms)) o) (λ b. b.0 < n)
+moved_below n ms None h = tt
+moved_below n ms (Some i) h = h
+
+bump_below : (names : List (List ℕ)) (value : Edn × Edn) → IfSome (bump_of names value) (λ b. b.0 < length names)
+bump_below names value =
+    elim (bump_said value) as (λ o. IfSome {T = ℕ × ℤ} (option_and_then (λ said. option_map (λ node. (node, said.1)) (place_of names said.0)) o) (λ b. b.0 < length names)) [
+      | None ↦ tt
+      | Some said ↦ moved_below (length names) said.1 (place_of names said.0) (below_place names said.0)
+    ]
+
+-- ---- faults of links
+
+kept_known : (n : ℕ) (links : List (ℕ × ℕ)) → All (Joins n) links → All (Joins n) (kept_links links)
+kept_known n links known = kept_all (Joins n) same_link links [] (All-nil (Joins n)) known
+
+kept_others : (links : List (ℕ × ℕ)) → list_any is_self_link links ≡ false → list_any is_self_link (kept_links links) ≡ false
+kept_others links others =
+    list_any_none is_self_link (kept_links links)
+    (kept_all (λ l. is_self_link l ≡ false) same_link links [] (All-nil (λ l. is_self_link l ≡ false))
+    (All-from_recursion (λ l. is_self_link l ≡ false) links (none_each is_self_link links others)))
+
+kept_once : (links : List (ℕ × ℕ)) → AreApart same_link (kept_links links)
+kept_once links = kept_apart same_link links [] (none_apart same_link)
+
+amount_is : (least most : ℕ) (z : ℤ) → IfSome (amount_within least most z) (λ n. (least ≤ n) × (n ≤ most))
+amount_is least most (pos n) =
+    elim (nat_le least n && nat_le n most) as (λ t. (nat_le least n && nat_le n most) ≡ t → IfSome (if t then Some n else None) (λ n. (least ≤ n) × (n ≤ most))) [
+      | true ↦ λ is. let parts = and_parts (nat_le least n) (nat_le n most) is in (leb-true least n parts.0, leb-true n most parts.1)
+      | false ↦ λ is. tt
+    ] refl
+amount_is least most (negsuc n) = tt
+
+if_mapped : {A B : Type 0} (o : Option A) (f : A → B) (P : A → Type 0) (Q : B → Type 0) → IfSome o P → ((x : A) → P x → Q (f x)) → IfSome (option_map f o) Q
+if_mapped None f P Q h each = tt
+if_mapped (Some x) f P Q h each = each x h
+
+links_made : (n : ℕ) (effect : OnLinks) (links : List (ℕ × ℕ)) → All (Joins n) links → list_any is_self_link links ≡ false → IfSome (links_fault effect links) (IsFaultOn n)
+links_made n OnLinks.Cut links known others = record { fits = kept_known n links known; is_fault = kept_once links; others = kept_others links others }
+links_made n (OnLinks.Slow z) links known others =
+    if_mapped (amount_within 1 60000 z) (λ ms. Slow ms (kept_links links)) (λ ms. (1 ≤ ms) × (ms ≤ 60000)) (IsFaultOn n) (amount_is 1 60000 z)
+    (λ ms h. record { fits = kept_known n links known; is_fault = ((omega (arith, h.0), h.1), kept_once links); others = kept_others links others })
+links_made n (OnLinks.Loss z) links known others =
+    if_mapped (amount_within 1 20 z) (λ level. Loss level (kept_links links)) (λ level. (1 ≤ level) × (level ≤ 20)) (IsFaultOn n) (amount_is 1 20 z)
+    (λ level h. record { fits = kept_known n links known; is_fault = ((omega (arith, h.0), h.1), kept_once links); others = kept_others links others })
+links_made n (OnLinks.Fix z) links known others =
+    if_mapped (amount_within 0 60000 z) (λ ms. Fix ms (kept_links links)) (λ ms. (0 ≤ ms) × (ms ≤ 60000)) (IsFaultOn n) (amount_is 0 60000 z)
+    (λ ms h. record { fits = kept_known n links known; is_fault = (h.1, kept_once links); others = kept_others links others })
+
+if_needed : {A B : Type 0} (o : Option A) (refusal : StepTextError) (made : A → Result B StepTextError) (P : A → Type 0) (Q : B → Type 0) → IfSome o P
+    → ((x : A) → P x → IfOk (made x) Q) → IfOk (needed o refusal made) Q
+if_needed None refusal made P Q h each = tt
+if_needed (Some x) refusal made P Q h each = each x h
+
+links_parsed : (names : List (List ℕ)) (effect : OnLinks) (values : List Edn) → IfOk (links_told names effect values) (IsFaultOn (length names))
+links_parsed names effect values =
+    let n = length names in
+    let ends = filter_map (ends_of names) values in
+    let known = All-from_recursion (Joins n) ends (all_kept (ends_of names) (Joins n) (ends_below names) values) in
+    elim (list_any (λ l. is_none (ends_of names l)) values)
+    as (λ t. IfOk (if t then Err UnknownNode else if list_any is_self_link ends then Err SelfLink else needed (links_fault effect ends) BadAmount (λ fault. Ok fault)) (IsFaultOn n)) [
+      | true ↦ tt
+      | false ↦ elim (list_any is_self_link ends)
+          as (λ t. list_any is_self_link ends ≡ t → IfOk (if t then Err SelfLink else needed (links_fault effect ends) BadAmount (λ fault. Ok fault)) (IsFaultOn n)) [
+            | true ↦ λ is. tt
+            | false ↦ λ is. if_needed (links_fault effect ends) BadAmount (λ fault. Ok fault) (IsFaultOn n) (IsFaultOn n) (links_made n effect ends known is) (λ fault h. h)
+          ] refl
+    ]
+
+-- ---- faults of nodes, and bumps
+
+nodes_made : (n : ℕ) (effect : OnNodes) (nodes : List ℕ) → All (λ a. a < n) nodes → IsFaultOn n (nodes_fault effect nodes)
+nodes_made n OnNodes.Pause nodes known =
+    record { fits = kept_all (λ a. a < n) same_node nodes [] (All-nil (λ a. a < n)) known; is_fault = kept_apart same_node nodes [] (none_apart same_node); others = refl }
+nodes_made n OnNodes.Kill nodes known =
+    record { fits = kept_all (λ a. a < n) same_node nodes [] (All-nil (λ a. a < n)) known; is_fault = kept_apart same_node nodes [] (none_apart same_node); others = refl }
+
+nodes_parsed : (names : List (List ℕ)) (effect : OnNodes) (values : List Edn) → IfOk (nodes_told names effect values) (IsFaultOn (length names))
+nodes_parsed names effect values =
+    let n = length names in
+    let nodes = filter_map (node_of names) values in
+    let known = All-from_recursion (λ a. a < n) nodes (all_kept (node_of names) (λ a. a < n) (node_below names) values) in
+    elim (list_any (λ v. is_none (node_of names v)) values) as (λ t. IfOk (if t then Err UnknownNode else Ok (nodes_fault effect nodes)) (IsFaultOn n)) [
+      | true ↦ tt
+      | false ↦ nodes_made n effect nodes known
+    ]
+
+bumps_parsed : (names : List (List ℕ)) (values : List (Edn × Edn)) → IfOk (bumps_told names values) (IsFaultOn (length names))
+bumps_parsed names values =
+    let n = length names in
+    let bumps = filter_map (bump_of names) values in
+    let known = All-from_recursion (λ b. b.0 < n) bumps (all_kept (bump_of names) (λ b. b.0 < n) (bump_below names) values) in
+    elim (list_any (λ b. is_none (bump_of names b)) values)
+    as (λ t. IfOk (if t then Err UnknownNode else if are_bumps bumps then Ok (Bump bumps) else Err BadAmount) (IsFaultOn n)) [
+      | true ↦ tt
+      | false ↦ elim (are_bumps bumps) as (λ t. are_bumps bumps ≡ t → IfOk (if t then Ok (Bump bumps) else Err BadAmount) (IsFaultOn n)) [
+        | true ↦ λ is. record { fits = known; is_fault = bumps_right bumps is; others = refl }
+        | false ↦ λ is. tt
+      ] refl
+    ]
+
+-- ---- faults that are named by a grudge
+
+cut_made : (n : ℕ) (links : List (ℕ × ℕ)) → AreLinksAmong n links → IsFaultOn n (cut_of links)
+cut_made n links among =
+    let known = All-weaker (λ l. (l.0 < n) × (l.1 < n) × (l.0 ≢ l.1)) (Joins n) (λ l h. (h.0, h.1)) links among in
+    let others = list_any_none is_self_link links (All-weaker (λ l. (l.0 < n) × (l.1 < n) × (l.0 ≢ l.1)) (λ l. is_self_link l ≡ false) (λ l h. ne_eqb l.0 l.1 h.2) links among) in
+    record { fits = kept_known n links known; is_fault = kept_once links; others = kept_others links others }
+
+crossing : (is : ℕ → Bool) (n : ℕ) → AreLinksAmong n (links_that (crosses is) n)
+crossing is n = made_crossing {E = StepTextError} (Ok (links_that (crosses is) n)) is n refl
+
+off_bridge : (h a b : ℕ) → ((nat_lt a h && nat_lt h b) || (nat_lt h a && nat_lt b h)) ≡ true → a ≢ b
+off_bridge h a b hit same =
+    elim (or_cases (nat_lt a h && nat_lt h b) (nat_lt h a && nat_lt b h) hit) [
+      | inl low ↦ (let parts = and_parts (nat_lt a h) (nat_lt h b) low in omega (arith, ltb-true a h parts.0, ltb-true h b parts.1, same))
+      | inr high ↦ (let parts = and_parts (nat_lt h a) (nat_lt b h) high in omega (arith, ltb-true h a parts.0, ltb-true b h parts.1, same))
+    ]
+
+bridging : (n : ℕ) → AreLinksAmong n (links_that (crosses_bridge n) n)
+bridging n k d within =
+    let link = get_or (links_that (crosses_bridge n) n) k d in
+    let ends = in_links (crosses_bridge n) n link (Contains-get_or (links_that (crosses_bridge n) n) k d within) in
+    (ends.0, ends.1, off_bridge (n / 2) link.0 link.1 ends.2)
+
+at_place : (order : List ℕ) (place node : ℕ) → is_at order place node ≡ true → slice_get order place ≡ Some node
+at_place order place node hit = go (slice_get order place) hit where
+  go : (o : Option ℕ) → option_is node o ≡ true → o ≡ Some node
+  go None hit = absurd cc
+  go (Some b) hit = ap Some (eqb-true b node hit)
+
+-- a node stands at one place of different nodes
+one_place : (order : List ℕ) → AllPairs (λ a b. a ≢ b) order → (i j a : ℕ) → slice_get order i ≡ Some a → slice_get order j ≡ Some a → i ≡ j
+one_place order apart i j a at there =
+    elim (cases_order i j) [
+      | inl same ↦ same
+      | inr other ↦ elim other [
+        | inl less ↦ absurd (apart i j a less (slice_get_within order j a there) (get_or_from_slice_get order i a a at ∙ sym (get_or_from_slice_get order j a a there)))
+        | inr more ↦ absurd (apart j i a more (slice_get_within order i a at) (get_or_from_slice_get order j a a there ∙ sym (get_or_from_slice_get order i a a at)))
+      ]
+    ]
+
+-- going on around by less than all leads elsewhere
+elsewhere : (i k m : ℕ) → i < m → 0 < k → k < m → i ≡ (i + k) % m → ⊥
+elsewhere i k m within some less same =
+    elim (cases_lt (i + k) m) [
+      | inl low ↦ (let near : 0 * m + (i + k) ≡ i + k = omega arith in
+          let stays : (i + k) % m ≡ i + k = ap (λ x. x % m) (sym near) ∙ mod-mul-add 0 m (i + k) low in
+          omega (arith, same, stays))
+      | inr high ↦ (let rest : i + k - m < m = omega (arith, within, less, high) in
+          let far : 1 * m + (i + k - m) ≡ i + k = omega (arith, high) in
+          let turns : (i + k) % m ≡ i + k - m = ap (λ x. x % m) (sym far) ∙ mod-mul-add 1 m (i + k - m) rest in
+          omega (arith, same, turns, high))
+    ]
+
+ringing : (order : List ℕ) (n : ℕ) → AllPairs (λ a b. a ≢ b) order → AreLinksAmong n (ring_links order n)
+ringing order n apart k d within =
+    let link = get_or (ring_links order n) k d in
+    let ends = in_links (leaves_majority order) n link (Contains-get_or (ring_links order n) k d within) in
+    (ends.0, ends.1, λ same. leaves link.0 link.1 same ends.2)
+  where
+    leaves : (src dst : ℕ) → src ≡ dst → leaves_majority order (src, dst) ≡ true → ⊥
+    leaves src dst same hit =
+        let m = length order in
+        let seen = some_of_any (λ i. is_at order i dst && list_any (λ k. is_at order ((i + k) % m) src) (range_with_len (m / 2 + 1) (m - (m / 2 + 1)))) (range_with_len 0 m) hit in
+        let parts = and_parts (is_at order seen.0 dst) (list_any (λ k. is_at order ((seen.0 + k) % m) src) (range_with_len (m / 2 + 1) (m - (m / 2 + 1)))) seen.2 in
+        let dropped = some_of_any (λ k. is_at order ((seen.0 + k) % m) src) (range_with_len (m / 2 + 1) (m - (m / 2 + 1))) parts.1 in
+        let steps = in_range (m / 2 + 1) (m - (m / 2 + 1)) dropped.0 dropped.1 in
+        let to = at_place order seen.0 dst parts.0 in
+        let from = at_place order ((seen.0 + dropped.0) % m) src dropped.2 in
+        elsewhere seen.0 dropped.0 m (slice_get_within order seen.0 dst to) (omega (arith, steps.0)) (omega (arith, steps.0, steps.1))
+        (one_place order apart seen.0 ((seen.0 + dropped.0) % m) dst to (subst (λ a. slice_get order ((seen.0 + dropped.0) % m) ≡ Some a) same from))
+
+named_parsed : (n : ℕ) (named : Named) → IsRingOverAll n (Some (Grudge named)) → IfOk (named_told n named) (IsFaultOn n)
+named_parsed n Named.Halves ring = cut_made n (links_that (crosses_halves n) n) (crossing (λ a. nat_lt a (n / 2)) n)
+named_parsed n Named.Bridge ring = cut_made n (links_that (crosses_bridge n) n) (bridging n)
+named_parsed n Named.Ring ring = cut_made n (ring_links (places n) n) (ringing (places n) n (places_apart n))
+named_parsed n (Named.ShuffledRing (pos seed)) ring = cut_made n (ring_links (order_of seed n) n) (ringing (order_of seed n) n (order_distinct n (order_of seed n) ring))
+named_parsed n (Named.ShuffledRing (negsuc z)) ring = tt
+
+split_parsed : (names : List (List ℕ)) (loner : List ℕ) → IfOk (split_told names loner) (IsFaultOn (length names))
+split_parsed names loner =
+    if_needed (place_of names loner) UnknownNode (λ place. Ok (cut_of (links_that (touches place) (length names)))) (λ place. place < length names) (IsFaultOn (length names))
+    (below_place names loner) (λ place below. cut_made (length names) (links_that (touches place) (length names)) (crossing (λ a. a == place) (length names)))
+
+-- ---- steps
+
+fault_parsed : (names : List (List ℕ)) (parts : Spelled) → IsRingOverAll (length names) (Some parts) → IfOk (fault_told names parts) (IsFaultOn (length names))
+fault_parsed names (Links effect links) ring = links_parsed names effect links
+fault_parsed names (Nodes effect nodes) ring = nodes_parsed names effect nodes
+fault_parsed names (Bumps bumps) ring = bumps_parsed names bumps
+fault_parsed names (SplitOne loner) ring = split_parsed names loner
+fault_parsed names (Grudge named) ring = named_parsed (length names) named ring
+
+id_below : (z : ℤ) → IfSome (id_of z) (λ id. id < 2 ^ 32)
+id_below (pos n) =
+    elim (nat_lt n (2 ^ 32)) as (λ t. nat_lt n (2 ^ 32) ≡ t → IfSome (if t then Some n else None) (λ id. id < 2 ^ 32)) [
+      | true ↦ λ is. ltb-true n (2 ^ 32) is
+      | false ↦ λ is. tt
+    ] refl
+id_below (negsuc n) = tt
+
+begun_is : (n id : ℕ) (answer : Result FaultValue StepTextError) → id < 2 ^ 32 → IfOk answer (IsFaultOn n) → IfOk (begun id answer) (IsStepOver n)
+begun_is n id (Ok fault) less h = (less, h)
+begun_is n id (Err refusal) less h = tt
+
+begin_parsed : (names : List (List ℕ)) (z : ℤ) (fault : Edn) → IsRingOverAll (length names) (spelled fault) → IfOk (begin_told names z fault) (IsStepOver (length names))
+begin_parsed names z fault ring =
+    elim (spelled fault)
+    as (λ o. IsRingOverAll (length names) o → IfOk (needed o BadStep (λ parts. needed (id_of z) BadId (λ id. begun id (fault_told names parts)))) (IsStepOver (length names))) [
+      | None ↦ λ h. tt
+      | Some parts ↦ λ h.
+          if_needed (id_of z) BadId (λ id. begun id (fault_told names parts)) (λ id. id < 2 ^ 32) (IsStepOver (length names)) (id_below z)
+          (λ id less. begun_is (length names) id (fault_told names parts) less (fault_parsed names parts h))
+    ] ring
+
+withdraw_parsed : (n : ℕ) (z : ℤ) → IfOk (withdraw_told z) (IsStepOver n)
+withdraw_parsed n z = if_needed (id_of z) BadId (λ id. Ok (Withdraw id)) (λ id. id < 2 ^ 32) (IsStepOver n) (id_below z) (λ id less. less)
+
+word_parsed : (n : ℕ) (word : List ℕ) → IfOk (word_told word) (IsStepOver n)
+word_parsed n word =
+    elim (bytes_eq word (codes "withdraw-all"))
+    as (λ t. IfOk (if t then Ok WithdrawAll else if bytes_eq word (codes "undo") then Ok Undo else if bytes_eq word (codes "redo") then Ok Redo else Err BadStep) (IsStepOver n)) [
+      | true ↦ tt
+      | false ↦ elim (bytes_eq word (codes "undo")) as (λ t. IfOk (if t then Ok Undo else if bytes_eq word (codes "redo") then Ok Redo else Err BadStep) (IsStepOver n)) [
+        | true ↦ tt
+        | false ↦ elim (bytes_eq word (codes "redo")) as (λ t. IfOk (if t then Ok Redo else Err BadStep) (IsStepOver n)) [ true ↦ tt | false ↦ tt ]
+      ]
+    ]
+
+if_chosen : (t : Bool) (answer : Result Step StepTextError) (P : Step → Type 0) → IfOk answer P → IfOk (if t then answer else Err BadStep) P
+if_chosen true answer P h = h
+if_chosen false answer P h = tt
+
+items_parsed : (names : List (List ℕ)) (xs : Items) → IsRingOverAll (length names) (option_and_then spelled (fault_of_begin (vector xs)))
+    → IfOk (told_in names (list_of xs)) (IsStepOver (length names))
+items_parsed names (item (keyword word) no_items) ring = word_parsed (length names) word
+items_parsed names (item (keyword word) (item (int z) no_items)) ring =
+    if_chosen (bytes_eq word (codes "withdraw")) (withdraw_told z) (IsStepOver (length names)) (withdraw_parsed (length names) z)
+items_parsed names (item (keyword word) (item (int z) (item fault no_items))) ring =
+    if_chosen (bytes_eq word (codes "begin")) (begin_told names z fault) (IsStepOver (length names)) (begin_parsed names z fault ring)
+items_parsed names xs ring = tt
+
+value_parsed : (names : List (List ℕ)) (value : Edn) → IsRingOverAll (length names) (option_and_then spelled (fault_of_begin value))
+    → IfOk (step_told names value) (IsStepOver (length names))
+value_parsed names (list xs) ring = items_parsed names xs ring
+value_parsed names (vector xs) ring = items_parsed names xs ring
+value_parsed names value ring = tt
+
+pub step_parsed : (names : List (List ℕ)) (value : Edn) (step : Step) → step_told names value ≡ Ok step
+    → IsRingOverAll (length names) (option_and_then spelled (fault_of_begin value)) → IsStepOver (length names) step
+step_parsed names value step parsed ring = subst (λ answer. IfOk answer (IsStepOver (length names))) parsed (value_parsed names value ring)

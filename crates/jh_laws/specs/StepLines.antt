@@ -1,0 +1,58 @@
+-- Which faults and steps are written so that they are read back, as what, and what is read of bytes (this project's
+-- own).
+use Rattle.std.specs.Prelude.{◌≡◌, ℕ, ◌^◌, ◌<◌, false, List, [], ◌∷◌, map, Some, Ok}
+use Rattle.std.specs.List.{list_any}
+use Rattle.jh_edn.specs.Edn.{Edn}
+use Rattle.jh_edn.specs.Spelling.{SpellsAll}
+use Rattle.jh_env.specs.Cells.{Table}
+use Rattle.jh_env.specs.Faults.{FaultValue, FitsCount, IsFault, is_self_link}
+use Rattle.jh_env.specs.Faults.{Cut, Slow, Loss, Fix, Pause, Kill, Bump}
+use Rattle.jh_env.specs.FaultWritten.{fault_in_order}
+use Rattle.jh_env.specs.TextCells.{IsTextOf}
+use Rattle.jh_nemesis.specs.FaultText.{Spelled, spelled, fault_told}
+use Rattle.jh_nemesis.specs.StepText.{step_told}
+use Rattle.jh_nemesis.specs.declared.steps.Step.{Step}
+use Rattle.jh_nemesis.specs.declared.steps.Step.TheVariants.{Begin, Withdraw, WithdrawAll, Undo, Redo}
+
+-- the links of a fault of links
+abbrev pub links_of : FaultValue → List (ℕ × ℕ)
+links_of (Cut links) = links
+links_of (Slow ms links) = links
+links_of (Loss level links) = links
+links_of (Fix ms links) = links
+links_of (Pause nodes) = []
+links_of (Kill nodes) = []
+links_of (Bump bumps) = []
+
+-- A fault on so many nodes: its nodes are among them, its amount is in its range, no link, node or bump stands twice,
+-- and no link leads from a node to itself.
+pub record IsFaultOn (count : ℕ) (fault : FaultValue) : Type 0 where
+  pub fits : FitsCount count fault
+  pub is_fault : IsFault fault
+  pub others : list_any is_self_link (links_of fault) ≡ false
+
+-- a step over so many nodes: its id has 32 bits, and its fault is one on them
+abbrev pub IsStepOver : ℕ → Step → Type 0
+IsStepOver count (Begin id fault) = (id < 2 ^ 32) × IsFaultOn count fault
+IsStepOver count (Withdraw id) = id < 2 ^ 32
+IsStepOver count WithdrawAll = Unit {0}
+IsStepOver count Undo = Unit {0}
+IsStepOver count Redo = Unit {0}
+
+-- the same step, with the links, nodes or bumps of its fault in order
+abbrev pub step_in_order : Step → Step
+step_in_order (Begin id fault) = Begin id (fault_in_order fault)
+step_in_order step = step
+
+-- the value's fault is this one, where these are the names of the nodes
+abbrev pub IsTextOfFault : Edn → List (List ℕ) → FaultValue → Type 0
+IsTextOfFault value names fault = (parts : Spelled) × (spelled value ≡ Some parts) × (fault_told names parts ≡ Ok fault)
+
+-- The bytes spell a text of an environment of these names and cells, and then these steps over its nodes, as
+-- `jeprun env` reads them.
+pub record AreBytesOf (names : List (List ℕ)) (cells : Table) (steps : List Step) (bytes : List ℕ) : Type 0 where
+  pub first : Edn
+  pub others : List Edn
+  pub spelled : SpellsAll (first ∷ others) bytes
+  pub environment : IsTextOf first names cells
+  pub parsed : map (step_told names) others ≡ map Ok steps

@@ -1,0 +1,13 @@
+//! Laws over bytes: what is written of an environment, a step or an operation is printed so that it is read back. Each
+//! is a function that does nothing and whose contract is the law; in its body stand the laws that it rests on.
+#![tactic(auto)]
+
+mod environments;
+mod lines;
+mod operations;
+mod steps;
+
+pub use environments::environment_lines_read_back;
+pub use lines::lines_read_back;
+pub use operations::{histories_read_back, operation_lines_read_back};
+pub use steps::{faults_read_back, inputs_read_back, parsed_steps_are_steps, steps_read_back};

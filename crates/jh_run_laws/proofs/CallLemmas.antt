@@ -1,0 +1,67 @@
+-- Each call of a run is of its workload, and by the process whose turn it is.
+use Rattle.std.proofs.Common.{◌≡◌, ℕ, suc, zero, ◌+◌, ◌%◌, ◌*◌, ◌≤◌, ◌<◌, Bool, true, false, ◌&&◌, List, [], ◌∷◌, ◌++◌, length, Option, Some, None, refl, sym, ap, subst, ◌∙◌, append_assoc, arith}
+use Rattle.std.specs.Prelude.{if◌then◌else◌, slice_get, nat_le}
+use Rattle.std.proofs.lemmas.List.{append-nil}
+use Rattle.std.proofs.lemmas.Nat.{mod_below}
+use Rattle.jh_ops.specs.declared.call.Call.{Call}
+use Rattle.jh_ops.specs.declared.call.Call.TheVariants.{Client, Step}
+use Rattle.jh_ops.specs.declared.call.Request.{Request}
+use Rattle.jh_ops.specs.declared.call.Workload.{Workload}
+use Rattle.jh_gen.specs.DriverState.{all_seats}
+use Rattle.jh_gen.specs.Fits.{fits}
+use Rattle.jh_gen.specs.Generator.{Generator}
+use Rattle.jh_gen.specs.Offers.{Offer, offer, spent}
+use Rattle.jh_gen.specs.Suits.{has_only, is_call_for}
+use Rattle.jh_gen.specs.Tally.{Path}
+use Rattle.jh_simnode.specs.declared.copies.Reply.{Reply}
+use Rattle.jh_simnode.specs.declared.events.Event.{Event}
+use Rattle.jh_simnode.specs.declared.schedule.Entry.{Entry}
+use Rattle.jh_simnode.specs.Counts.{applied, last, process_of}
+use Rattle.jh_simnode.specs.Plans.{PlanValue, IsFit}
+use Rattle.jh_simnode.specs.Runs.{Turns, Move, Comes, Reaches, Runs, ask_move, call_event, entry_move, is_due, move_of, move_offered, question, run_generator, thread_of, ticks_after, turn_move}
+use Rattle.jh_simnode.specs.Runs.Move.{Ticks, Applies, Waits, Calls, Ends, Rests}
+use Rattle.jh_simnode.proofs.GivenLemmas.{call_is}
+use Rattle.jh_simnode.proofs.Turning.{process_thread}
+use Rattle.jh_run_laws.specs.OwnHistory.{Passes, FitsAfter, CallsFit}
+use Rattle.jh_run_laws.proofs.OfferLemmas.{offers_suit}
+
+second : (a b : Bool) → (a && b) ≡ true → b ≡ true
+second true b h = h
+second false b h = absurd cc
+
+-- the request of a call is one of the workload
+request_fits : (p : PlanValue) → IsFit p → (r : Turns) (journal : List Event) (path : Path) (request : Request) → move_of p r journal ≡ Calls path request
+    → is_call_for p.settings.workload (Client request) ≡ true
+request_fits p fit r journal path request h =
+    let w = p.settings.workload in
+    let only : has_only (is_call_for w) (run_generator p) ≡ true = second (fits p.clients p.generator) (has_only (is_call_for w) p.generator) fit.generator in
+    subst (Passes (is_call_for w)) (call_is p r journal path request h) (offers_suit w (run_generator p) only r.tally (all_seats p.clients) (question p r journal))
+
+-- ---- all calls of a journal
+
+calls_push : (w : Workload) (c : ℕ) (before es : List Event) (e : Event) → CallsFit w c before es → FitsAfter w c (before ++ es) e → CallsFit w c before (es ++ e ∷ [])
+calls_push w c before [] e a h = (subst (λ (l : List Event). FitsAfter w c l e) (append-nil before) h, tt)
+calls_push w c before (x ∷ es) e a h = (a.0, calls_push w c (before ++ x ∷ []) es e a.1 (subst (λ (l : List Event). FitsAfter w c l e) (sym (append_assoc before (x ∷ []) es)) h))
+
+comes_fit : (p : PlanValue) → IsFit p → (r r' : Turns) (journal journal' : List Event) (m : Move) → move_of p r journal ≡ m → Comes p r journal r' journal' m
+    → CallsFit p.settings.workload p.clients [] journal → CallsFit p.settings.workload p.clients [] journal'
+comes_fit p fit r r' journal journal' Ticks is s a = subst (CallsFit p.settings.workload p.clients []) (sym s.1) (calls_push p.settings.workload p.clients [] journal Event.Tick a tt)
+comes_fit p fit r r' journal journal' (Applies entry) is s a = subst (CallsFit p.settings.workload p.clients []) (sym s.1.1) (calls_push p.settings.workload p.clients [] journal (Event.Step entry.step s.1.0) a tt)
+comes_fit p fit r r' journal journal' Waits is s a = subst (CallsFit p.settings.workload p.clients []) (sym s.1) a
+comes_fit p fit r r' journal journal' (Calls path request) is s a =
+    let c = p.clients in
+    let t = thread_of p r in
+    let some : 0 < c = omega (arith, fit.clients.0) in
+    let below : t < c = mod_below r.asks c some in
+    let own : process_of c t journal ≡ process_of c (process_of c t journal % c) journal = ap (λ (x : ℕ). process_of c x journal) (sym (process_thread c t journal below)) in
+    subst (CallsFit p.settings.workload c []) (sym s.1.1) (calls_push p.settings.workload c [] journal (call_event p r journal request s.1.0) a (own, request_fits p fit r journal path request is))
+comes_fit p fit r r' journal journal' Ends is s a = subst (CallsFit p.settings.workload p.clients []) (sym s.1) a
+comes_fit p fit r r' journal journal' Rests is s a = absurd s
+
+reaches_fit : (p : PlanValue) → IsFit p → (n : ℕ) (r : Turns) (journal : List Event) → Reaches p n r journal → CallsFit p.settings.workload p.clients [] journal
+reaches_fit p fit zero r journal h = subst (CallsFit p.settings.workload p.clients []) (sym h.1) tt
+reaches_fit p fit (suc n) r journal h =
+    comes_fit p fit h.0 r h.1.0 journal (move_of p h.0 h.1.0) refl h.1.1.1 (reaches_fit p fit n h.0 h.1.0 h.1.1.0)
+
+pub run_fits : (p : PlanValue) → IsFit p → (r : Turns) (journal : List Event) → Runs p r journal → CallsFit p.settings.workload p.clients [] journal
+run_fits p fit r journal h = reaches_fit p fit h.0 r journal h.1

@@ -1,0 +1,52 @@
+-- No call of a run of a counter or of a set has a bad value.
+use Rattle.std.proofs.Common.{◌≡◌, ℕ, zero, suc, ◌+◌, Bool, true, false, ◌&&◌, List, [], ◌∷◌, ◌++◌, length, refl, sym, ap, subst, ◌∙◌, arith}
+use Rattle.std.specs.Prelude.{ℤ, pos, negsuc, if◌then◌else◌, slice_get, Option, Some, None, codes, IsSome, ⊤}
+use Rattle.std.specs.List.{Contains, filter_map, enumerate_from}
+use Rattle.jh_edn.specs.Edn.{Edn, vector, items_of, int}
+use Rattle.jh_ops.specs.Operation.{Operation}
+use Rattle.jh_ops.specs.Pairing.{pairs_of}
+use Rattle.jh_ops.specs.declared.call.Call.TheVariants.{Client}
+use Rattle.jh_ops.specs.declared.call.Request.{Request}
+use Rattle.jh_ops.specs.declared.call.Request.TheVariants.{Read, Write, Cas, Add, Generate}
+use Rattle.jh_ops.specs.declared.call.Workload.{Workload}
+use Rattle.jh_ops.specs.declared.call.Workload.TheVariants.{Register, Counter, Set, Ids}
+use Rattle.jh_ops.specs.declared.pairs.Pair.{Pair}
+use Rattle.jh_check.specs.CounterResults.{call_fault, faults_in, IsFirst, RefusesCounter}
+use Rattle.jh_check.specs.declared.error.CheckError.{CheckError}
+use Rattle.jh_gen.specs.Suits.{is_call_for}
+use Rattle.jh_simnode.specs.declared.copies.Got.{Got}
+use Rattle.jh_simnode.specs.declared.copies.Reply.{Reply}
+use Rattle.jh_simnode.specs.declared.copies.Reply.TheVariants as said
+use Rattle.jh_simnode.specs.declared.events.Event.{Event}
+use Rattle.jh_simnode.specs.Histories.{completed, history_of, invoked}
+use Rattle.jh_run_laws.specs.OwnHistory.{CallsFit, RepliesFit, ReplyFits}
+use Rattle.jh_run_laws.proofs.PairLemmas.{Each, FromCall, each_pair, pair_at}
+
+-- the call at a place is not at fault
+abbrev NoFault : List Operation → Pair → Type 0
+NoFault history pair = call_fault history pair ≡ None
+
+counted : FromCall Counter NoFault
+counted history place number process Read (said.Ok (Got.One (Some z))) here there suits fits = rw (here, there) refl
+counted history place number process Read (said.Ok (Got.One None)) here there suits fits = absurd fits
+counted history place number process Read (said.Ok (Got.Many xs)) here there suits fits = absurd fits
+counted history place number process Read (said.Ok Got.Nothing) here there suits fits = absurd fits
+counted history place number process Read said.Fail here there suits fits = rw (here, there) refl
+counted history place number process Read said.Info here there suits fits = rw (here, there) refl
+counted history place number process (Write v) reply here there suits fits = absurd cc
+counted history place number process (Cas a b) reply here there suits fits = absurd cc
+counted history place number process (Add (pos n)) reply here there suits fits = rw here refl
+counted history place number process (Add (negsuc n)) reply here there suits fits = absurd cc
+counted history place number process Generate reply here there suits fits = absurd cc
+
+none_in : (history : List Operation) (pairs : List Pair) → Each (NoFault history) pairs → faults_in history pairs ≡ []
+none_in history [] h = refl
+none_in history (p ∷ ps) h = rw h.0 (none_in history ps h.1)
+
+not_there : {X : Type 0} (x : X) → Contains [] x → ⊥
+not_there x h = absurd (omega (arith, h.1))
+
+pub no_fault : (c : ℕ) (journal : List Event) → CallsFit Counter c [] journal → RepliesFit Counter journal → (fault : CheckError) → IsFirst fault (faults_in (history_of journal) (pairs_of (history_of journal))) → ⊥
+no_fault c journal a b fault first =
+    let none = none_in (history_of journal) (pairs_of (history_of journal)) (each_pair Counter NoFault counted c journal a b) in
+    not_there fault (subst (λ (faults : List CheckError). Contains faults fault) none first.0)

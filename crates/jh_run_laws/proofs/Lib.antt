@@ -1,0 +1,9 @@
+pub mod OfferLemmas
+pub mod CallLemmas
+pub mod FormLemmas
+pub mod ShapeLemmas
+pub mod PairLemmas
+pub mod CounterLemmas
+pub mod SetLemmas
+pub mod RegisterLemmas
+pub mod OwnLemmas

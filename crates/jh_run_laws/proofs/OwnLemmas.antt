@@ -1,0 +1,55 @@
+-- No checker refuses the history of a run.
+use Rattle.std.proofs.Common.{◌≡◌, ℕ, ◌<◌, List, [], ◌∷◌, refl, sym, subst, arith}
+use Rattle.jh_ops.specs.Operation.{Operation}
+use Rattle.jh_ops.specs.Pairing.{IsWellFormed, RefusesHistory as RefusesPairing}
+use Rattle.jh_ops.specs.declared.call.Workload.{Workload}
+use Rattle.jh_ops.specs.declared.call.Workload.TheVariants.{Register, Counter, Set, Ids}
+use Rattle.jh_ops.specs.declared.pairs.PairError.{PairError}
+use Rattle.jh_ops.specs.declared.pairs.PairError.TheVariants as pairing
+use Rattle.jh_ops.proofs.PlaceLemmas.{not_well_formed}
+use Rattle.jh_check.specs.CounterResults.{refusal_of}
+use Rattle.jh_check.specs.declared.error.CheckError.{CheckError}
+use Rattle.jh_check.specs.declared.error.CheckError.TheVariants.{Pair, BadValue, NegativeAdd, OutOfMemory}
+use Rattle.jh_keys.specs.Findings.{RefusesHistory}
+use Rattle.jh_simnode.specs.declared.events.Event.{Event}
+use Rattle.jh_simnode.specs.Histories.{history_of}
+use Rattle.jh_simnode.specs.Plans.{PlanValue, IsFit}
+use Rattle.jh_simnode.specs.Runs.{Serial, setup_of}
+use Rattle.jh_run_laws.specs.OwnHistory.{CallsFit, RepliesFit, OwnHistoryIsFormed, OwnHistoryIsJudged}
+use Rattle.jh_run_laws.proofs.CallLemmas.{run_fits}
+use Rattle.jh_run_laws.proofs.CounterLemmas.{no_fault}
+use Rattle.jh_run_laws.proofs.FormLemmas.{is_formed}
+use Rattle.jh_run_laws.proofs.RegisterLemmas.{not_bad}
+use Rattle.jh_run_laws.proofs.SetLemmas.{last_shows}
+use Rattle.jh_run_laws.proofs.ShapeLemmas.{replies_fit}
+
+unpaired : (history : List Operation) → IsWellFormed history → (fault : PairError) → refusal_of fault ≡ Pair fault → RefusesPairing history fault → ⊥
+unpaired history formed (pairing.AfterCrash place) e h = not_well_formed history (pairing.AfterCrash place) h formed
+unpaired history formed (pairing.DoubleInvoke place) e h = not_well_formed history (pairing.DoubleInvoke place) h formed
+unpaired history formed (pairing.NoInvoke place) e h = not_well_formed history (pairing.NoInvoke place) h formed
+unpaired history formed pairing.OutOfMemory e h = absurd cc
+
+never_refused : (w : Workload) (c : ℕ) → 0 < c → (journal : List Event) → CallsFit w c [] journal → RepliesFit w journal → (e : CheckError) → RefusesHistory w (history_of journal) e → e ≡ OutOfMemory
+never_refused w c some journal a b OutOfMemory h = refl
+never_refused Register c some journal a b (Pair fault) h = absurd (unpaired (history_of journal) (is_formed Register c some journal a) fault h.0 h.1)
+never_refused Register c some journal a b (BadValue place) h = absurd (not_bad c journal a b place h.1)
+never_refused Register c some journal a b (NegativeAdd place) h = absurd h
+never_refused Counter c some journal a b (Pair fault) h = absurd (unpaired (history_of journal) (is_formed Counter c some journal a) fault h.0 h.1)
+never_refused Counter c some journal a b (BadValue place) h = absurd (no_fault c journal a b (BadValue place) h.1)
+never_refused Counter c some journal a b (NegativeAdd place) h = absurd (no_fault c journal a b (NegativeAdd place) h.1)
+never_refused Set c some journal a b (Pair fault) h = absurd h
+never_refused Set c some journal a b (BadValue place) h = absurd (last_shows journal b place h.0 h.1 h.2)
+never_refused Set c some journal a b (NegativeAdd place) h = absurd h
+never_refused Ids c some journal a b e h = h
+
+some_client : (p : PlanValue) → IsFit p → 0 < p.clients
+some_client p fit = omega (arith, fit.clients.0)
+
+pub own_formed : OwnHistoryIsFormed
+own_formed p journal history fit run =
+    subst IsWellFormed (sym run.told) (is_formed p.settings.workload p.clients (some_client p fit) journal (run_fits p fit run.turns journal run.reached.run))
+
+pub own_judged : OwnHistoryIsJudged
+own_judged p journal history fit run e refused =
+    never_refused p.settings.workload p.clients (some_client p fit) journal (run_fits p fit run.turns journal run.reached.run) (replies_fit (setup_of p) journal run.reached.legal) e
+    (subst (λ (h : List Operation). RefusesHistory p.settings.workload h e) run.told refused)

@@ -1,0 +1,6 @@
+//! Laws of runs, each the contract of a function that does nothing: what holds of every history that a run tells.
+#![tactic(auto)]
+
+mod laws;
+
+pub use laws::{calls_are_of_their_workload, own_histories_are_judged};
