@@ -5,7 +5,9 @@ use Rattle.jh_check.specs.declared.error.CheckError.TheVariants as CheckFault
 use Rattle.jh_edn.specs.declared.error.EdnError.TheVariants as EdnError
 use Rattle.jh_ops.specs.declared.call.Workload.{Workload}
 use Rattle.jh_settings.specs.declared.words.Mode.{Mode}
-use Rattle.jh_simnode.specs.Runs.{Serial}
+use Rattle.jh_run_laws.specs.OwnHistory.{OwnHistoryIsJudged}
+use Rattle.jh_simnode.specs.Runs.{Serial, Stops}
+use Rattle.jh_simnode.specs.declared.serial.RunError.TheVariants as RunError
 use Rattle.jh_simnode.specs.declared.events.Event.{Event}
 use Rattle.jh_simnode.specs.declared.events.WorldError.TheVariants as WorldError
 use Rattle.jh_workers.specs.declared.desk.RunError.TheVariants as ThreadsError
@@ -13,14 +15,14 @@ use Rattle.std.proofs.lemmas.List.Elements.{All-cons, All-head, All-tail}
 use Rattle.jh_ops.specs.Operation.{Operation, operation, operations}
 use Rattle.jh_ops.specs.OperationWritten.{IsWritable}
 use Rattle.jh_ops.specs.declared.operation.Op.{Op}
-use Rattle.jh_simnode.specs.Plans.{PlanValue}
+use Rattle.jh_simnode.specs.Plans.{IsFit, PlanValue}
 use Rattle.jh_settings.specs.Settings as settings
 use Rattle.jh_settings.specs.Settings.{AreSettingsOf}
 use Rattle.jh_settings.specs.declared.error.SettingsError.TheVariants as SettingsError
 use Rattle.jh_cli.specs.CheckRefusals.{RefusesLine, RefusesWhole}
 use Rattle.jh_cli.specs.RunInside.{own_error}
 use Rattle.jh_cli.specs.RunRefusals.{RefusesBytes, RefusesOwn, RefusesRun, RefusesSerial, RefusesSettings, RefusesThreads}
-use Rattle.jh_cli.specs.Status.{check_fault, settings_fault, threads_fault, world_fault}
+use Rattle.jh_cli.specs.Status.{check_fault, run_fault, settings_fault, threads_fault, world_fault}
 use Rattle.jh_cli.specs.declared.error.CliError.{CliError}
 use Rattle.jh_cli.specs.declared.error.CliError.TheVariants.{Input, EnvironmentMissing, Environment, Element, History, Check, Settings, Run, HistoryFull, Mismatch, Thread, OnlyForRegister, Read, Write, OutOfMemory}
 
@@ -101,24 +103,32 @@ pub own_refused : (workload : Workload) (history : List Operation) (e : CliError
     → RefusesOwn workload history (own_error e)
 own_refused workload history e h = subst (λ x. RefusesOwn workload history (own_error x)) (sym h.2) (own_of workload history h.0 h.1)
 
--- the history of a serial run is refused
-pub serial_refused : (p : PlanValue) (journal : List Event) (history : List Operation) (e : CliError) → Serial p journal history
+-- the history of a serial run is refused for want of memory alone
+pub serial_refused : (p : PlanValue) (journal : List Event) (history : List Operation) (e : CliError) → OwnHistoryIsJudged → IsFit p → Serial p journal history
     → RefusesOwn p.settings.workload history e → RefusesSerial p e
-serial_refused p journal history Mismatch run h = (journal, history, run, h)
-serial_refused p journal history OutOfMemory run h = tt
-serial_refused p journal history (Check fault) run h = absurd h
-serial_refused p journal history (Input fault) run h = absurd h
-serial_refused p journal history EnvironmentMissing run h = absurd h
-serial_refused p journal history (Environment fault) run h = absurd h
-serial_refused p journal history (Element place fault) run h = absurd h
-serial_refused p journal history (History fault) run h = absurd h
-serial_refused p journal history (Settings fault) run h = absurd h
-serial_refused p journal history (Run fault) run h = absurd h
-serial_refused p journal history HistoryFull run h = absurd h
-serial_refused p journal history Thread run h = absurd h
-serial_refused p journal history OnlyForRegister run h = absurd h
-serial_refused p journal history Read run h = absurd h
-serial_refused p journal history Write run h = absurd h
+serial_refused p journal history Mismatch judged fit run h = absurd (h.1 (judged p journal history fit run h.0 h.2))
+serial_refused p journal history OutOfMemory judged fit run h = tt
+serial_refused p journal history (Check fault) judged fit run h = absurd h
+serial_refused p journal history (Input fault) judged fit run h = absurd h
+serial_refused p journal history EnvironmentMissing judged fit run h = absurd h
+serial_refused p journal history (Environment fault) judged fit run h = absurd h
+serial_refused p journal history (Element place fault) judged fit run h = absurd h
+serial_refused p journal history (History fault) judged fit run h = absurd h
+serial_refused p journal history (Settings fault) judged fit run h = absurd h
+serial_refused p journal history (Run fault) judged fit run h = absurd h
+serial_refused p journal history HistoryFull judged fit run h = absurd h
+serial_refused p journal history Thread judged fit run h = absurd h
+serial_refused p journal history OnlyForRegister judged fit run h = absurd h
+serial_refused p journal history Read judged fit run h = absurd h
+serial_refused p journal history Write judged fit run h = absurd h
+
+-- a serial run is not completed
+pub stop_refused : (p : PlanValue) (fault : RunError.the_data) → Stops p fault → RefusesSerial p (run_fault fault)
+stop_refused p RunError.Stuck h = (refl, h)
+stop_refused p RunError.OutOfMemory h = tt
+stop_refused p (RunError.World WorldError.OutOfMemory) h = tt
+stop_refused p (RunError.World WorldError.UnknownNode) h = absurd h
+stop_refused p (RunError.World WorldError.TooManyEvents) h = absurd h
 
 -- the history of a run on threads is refused
 pub threads_refused : (workload : Workload) (history : List Operation) (e : CliError) → RefusesOwn workload history e → RefusesThreads e

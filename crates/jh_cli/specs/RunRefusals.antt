@@ -7,32 +7,29 @@ use Rattle.jh_ops.specs.declared.call.Workload.{Workload}
 use Rattle.jh_check.specs.declared.error.CheckError.{CheckError}
 use Rattle.jh_check.specs.declared.error.CheckError.TheVariants as fault
 use Rattle.jh_keys.specs.Findings.{RefusesHistory}
-use Rattle.jh_simnode.specs.declared.events.Event.{Event}
 use Rattle.jh_simnode.specs.declared.events.WorldError.TheVariants as WorldError
 use Rattle.jh_simnode.specs.declared.serial.RunError.TheVariants as RunError
 use Rattle.jh_simnode.specs.Plans.{PlanValue}
-use Rattle.jh_simnode.specs.Runs.{Serial, Stops}
+use Rattle.jh_simnode.specs.Runs.{Stops}
 use Rattle.jh_settings.specs.Settings as settings
 use Rattle.jh_settings.specs.Settings.{AreSettingsOf}
 use Rattle.jh_settings.specs.declared.words.Mode.{Mode}
 use Rattle.jh_cli.specs.RunText.{IsRunTextOf}
-use Rattle.jh_cli.specs.Status.{edn_fault, run_fault, settings_fault}
+use Rattle.jh_cli.specs.Status.{edn_fault, settings_fault}
 use Rattle.jh_cli.specs.declared.error.CliError.{CliError}
 use Rattle.jh_cli.specs.declared.error.CliError.TheVariants.{Input, Settings, Run, HistoryFull, Mismatch, Thread, Read, Write, OutOfMemory}
 
--- The checker of a workload refuses the history of a run, which is a mismatch. (No plan is known whose history its checker
--- refuses.)
+-- The checker of a workload refuses the history of a run on threads, which is a mismatch. (No plan is known whose run comes to
+-- this; that of a serial run never does.)
 abbrev pub RefusesOwn : Workload → List Operation → CliError → Type 0
 RefusesOwn workload history Mismatch = (refusal : CheckError) × (refusal ≢ fault.OutOfMemory) × RefusesHistory workload history refusal
 RefusesOwn workload history OutOfMemory = Unit {0}
 RefusesOwn workload history _ = ⊥
 
--- Why the serial run of a plan is not completed, or its history not judged.
+-- Why the serial run of a plan is not completed: in a whole round no thread got a call, or memory was refused. Once it is
+-- completed, its history is judged.
 abbrev pub RefusesSerial : PlanValue → CliError → Type 0
-RefusesSerial p (Run fault) = (run_fault fault ≡ Run fault) × Stops p fault
-RefusesSerial p Mismatch =
-    (journal : List Event) × (history : List Operation) × Serial p journal history
-    × RefusesOwn p.settings.workload history Mismatch
+RefusesSerial p (Run fault) = (fault ≡ RunError.Stuck) × Stops p fault
 RefusesSerial p OutOfMemory = Unit {0}
 RefusesSerial p _ = ⊥
 

@@ -18,6 +18,7 @@ use crate::error::CliError;
 use jh_edn::read_bytes;
 use jh_nemesis::Nemesis;
 use jh_ops::{Op, value_of};
+use jh_run_laws::own_histories_are_judged;
 use jh_settings::{Mode, RunSettings, settings_of};
 use jh_simnode::{Event, Plan, World, nemesis_after, run_serial, world_of};
 use jh_workers::{LockedWorld, Outcome, RunError as ThreadsError, run};
@@ -40,9 +41,9 @@ const WORLD_PARTS: u64 = 32;
 /// returns; it may give another history each time, which comes from an outcome of `jh_workers::run`, and its two lines of
 /// faults are what the steps of the outcome's journal make of the settings' start.
 ///
-/// Errors: a fault of reading (`Input`, `Read`); `Settings`; `Run`, `HistoryFull`, `Thread` or `Mismatch` where the run was
-/// not completed; `Mismatch` where its history can't be judged; `OutOfMemory`; `Write`. Nothing is written before any of
-/// them but `Write`.
+/// Errors: a fault of reading (`Input`, `Read`); `Settings`; of a serial run `Run` where in a whole round no thread got a call;
+/// of one on threads `HistoryFull`, `Thread`, `Mismatch` or `Run` where it was not completed, and `Mismatch` where its history
+/// can't be judged; `OutOfMemory`; `Write`. Nothing is written before any of them but `Write`.
 pub fn run_run<T: Threads + Wait + Sync, R: Read, W: Write>(
     rt: &T,
     alloc: Global,
@@ -102,6 +103,7 @@ fn serial_text(alloc: Global, plan: &Plan, budget: u64) -> Result<Judgement, Cli
         (λ found. IsSerialText plan.now budget found.verdict found.text.items)
         (RefusesSerial plan.now) }
 {
+    own_histories_are_judged();
     let (world, history) = run_serial(alloc, plan)?;
     let found = match judge_own(alloc, plan, &history, budget) {
         Ok(found) => found,

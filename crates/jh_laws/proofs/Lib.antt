@@ -9,3 +9,7 @@ pub mod OperationLemmas
 pub mod ParsedOperationLemmas
 pub mod HistoryLemmas
 pub mod ParsedStepLemmas
+pub mod MemberLemmas
+pub mod EqualLemmas
+pub mod FoundLemmas
+pub mod HeldLemmas

@@ -1,3 +1,4 @@
 pub mod Lines
 pub mod StepLines
 pub mod HistoryLines
+pub mod EqualResults

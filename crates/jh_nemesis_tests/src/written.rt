@@ -58,6 +58,18 @@ fn steps_are_written(rt: HostRuntime) {
     }
 }
 
+#[test]
+fn what_is_written_is_read_back(rt: HostRuntime) {
+    for row in ROWS.lines().filter(|row| row.contains("→ [")) {
+        let (_, text) = row.split_once(" → ").unwrap_or((row, ""));
+        let again = rewritten_once(rt.alloc(), text).or_else(|| rewritten_once(rt.alloc(), text));
+        assert!(rt;
+            again.is_some_and(|it| it.as_slice() == text.as_bytes()),
+            "at {row}"
+        );
+    }
+}
+
 /// The order of three nodes that a seed gives. None: memory was refused.
 fn order_once(alloc: Global, seed: u64) -> Option<Vec<u8>> {
     ring_order(alloc, &three(alloc)?, seed).ok()

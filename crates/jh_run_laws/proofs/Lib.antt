@@ -7,3 +7,6 @@ pub mod CounterLemmas
 pub mod SetLemmas
 pub mod RegisterLemmas
 pub mod OwnLemmas
+pub mod StartLemmas
+pub mod SettingsLemmas
+pub mod LineLemmas

@@ -1,1 +1,2 @@
 pub mod OwnHistory
+pub mod SameSettings

@@ -1,5 +1,6 @@
--- What holds of the history that a serial run tells (this project's own): it is well formed, and no checker refuses it.
-use Rattle.std.specs.Prelude.{◌≡◌, ℕ, ◌%◌, Bool, true, List, [], ◌∷◌, ◌++◌, Option, Some, None}
+-- What holds of the history that a serial run tells (this project's own): it is well formed, no checker refuses it, and it is
+-- read back from its lines.
+use Rattle.std.specs.Prelude.{◌≡◌, All, ℕ, ◌%◌, Bool, true, List, [], ◌∷◌, ◌++◌, Option, Some, None}
 use Rattle.jh_ops.specs.declared.call.Call.{Call}
 use Rattle.jh_ops.specs.declared.call.Call.TheVariants.{Client}
 use Rattle.jh_ops.specs.declared.call.Workload.{Workload}
@@ -8,6 +9,7 @@ use Rattle.jh_ops.specs.Pairing.{IsWellFormed}
 use Rattle.jh_check.specs.declared.error.CheckError.{CheckError}
 use Rattle.jh_check.specs.declared.error.CheckError.TheVariants.{OutOfMemory}
 use Rattle.jh_keys.specs.Findings.{RefusesHistory}
+use Rattle.jh_laws.specs.HistoryLines.{CanPrint, IsTextOfHistory, history_lines}
 use Rattle.jh_simnode.specs.Plans.{PlanValue, IsFit}
 use Rattle.jh_simnode.specs.Runs.{Serial}
 use Rattle.jh_gen.specs.Generator.{Generator}
@@ -89,3 +91,8 @@ OwnHistoryIsFormed = (p : PlanValue) (journal : List Event) (history : List Oper
 abbrev pub OwnHistoryIsJudged : Type 0
 OwnHistoryIsJudged = (p : PlanValue) (journal : List Event) (history : List Operation) → IsFit p → Serial p journal history
     → (e : CheckError) → RefusesHistory p.settings.workload history e → e ≡ OutOfMemory
+
+-- the lines that are printed of the history are a text of it, where its operations can be printed
+abbrev pub OwnLinesTell : Type 0
+OwnLinesTell = (p : PlanValue) (journal : List Event) (history : List Operation) → Serial p journal history
+    → All CanPrint history → IsTextOfHistory (history_lines history) history

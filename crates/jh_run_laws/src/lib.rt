@@ -3,4 +3,6 @@
 
 mod laws;
 
-pub use laws::{calls_are_of_their_workload, own_histories_are_judged};
+pub use laws::{
+    calls_are_of_their_workload, own_histories_are_judged, own_lines_tell, same_settings_same_run,
+};
