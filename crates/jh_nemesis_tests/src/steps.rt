@@ -157,12 +157,17 @@ fn few_steps(alloc: Global) -> Result<Vec<Step>, AllocError>
     Ok(steps)
 }
 
-/// The answers of a list of steps, with `, ` behind each.
+/// The answers of a list of steps, with `, ` behind each. None of these steps takes memory, so it is refused before the
+/// first or not at all.
 fn few(alloc: Global, nemesis: &mut Nemesis) -> Option<String> {
     let Ok(steps) = few_steps(alloc) else {
         return None;
     };
-    let answers = nemesis.apply_all(alloc, steps).ok()?;
+    let answers = match nemesis.apply_all(alloc, steps) {
+        Ok(answers) => answers,
+        Err(stopped) if stopped.answers().is_empty() => return None,
+        Err(_) => return "stopped behind a step".to_string(alloc).ok(),
+    };
     let mut texts = String::new(alloc);
     for answer in answers {
         texts.push_str(answer_text(answer)).ok()?;
