@@ -37,9 +37,10 @@ const WORLD_PARTS: u64 = 32;
 /// workload's checker. The answer is the exit status: 0 where the history is valid, 1 where it is not, 2 where that is not
 /// known. All is read, run and judged before the first byte is written.
 ///
-/// A serial run gives the same bytes for the same input each time. A run on threads may wait, and promises only if it
-/// returns; it may give another history each time, which comes from an outcome of `jh_workers::run`, and its two lines of
-/// faults are what the steps of the outcome's journal make of the settings' start.
+/// A serial run gives the same history for the same input each time (`jh_run_laws::same_settings_same_run`), and the same
+/// order of a register, as tests show. A run on threads may wait, and promises only if it returns; it may give another
+/// history each time, which comes from an outcome of `jh_workers::run`, and its two lines of faults are what the steps of
+/// the outcome's journal make of the settings' start.
 ///
 /// Errors: a fault of reading (`Input`, `Read`); `Settings`; of a serial run `Run` where in a whole round no thread got a call;
 /// of one on threads `HistoryFull`, `Thread`, `Mismatch` or `Run` where it was not completed, and `Mismatch` where its history

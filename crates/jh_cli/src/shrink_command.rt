@@ -43,8 +43,9 @@ struct Told {
 /// | `:budget` | the fewest with which it failed, when `budget` runs were made; or the given ones | 2 |
 /// | `:not-failing` | the given ones: the run does not fail, or that is not known | 0 |
 ///
-/// The mode that the settings say means nothing. The same input gives the same bytes each time. All is read and done before
-/// the first byte is written.
+/// The mode that the settings say means nothing. The same input gives the same runs each time
+/// (`jh_run_laws::same_settings_same_run`), and the same bytes, as tests show. All is read and done before the first byte is
+/// written.
 ///
 /// Errors: a fault of reading (`Input`, `Read`); `Settings`; `OutOfMemory`, also where a run is refused or its history can't be
 /// judged; `Write`. Nothing is written before any of them but `Write`.
