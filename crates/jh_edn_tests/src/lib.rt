@@ -6,10 +6,14 @@
 //! A test is a text of rows: a question, what it is given to, and the answer, which comes from the format's description
 //! and not from the program. `rows` asks them, and asks once more where memory was refused, so each test passes, too,
 //! where one allocation is.
+//!
+//! `plain` has the reader beside a plain slow one, at each text of the table and at random ones.
 #![tactic(auto)]
 
 #[cfg(test)]
 mod errors;
+#[cfg(test)]
+mod plain;
 #[cfg(test)]
 mod reading;
 #[cfg(test)]

@@ -4,7 +4,7 @@
 //! proof of an array takes a second for each row, and answers are compared as texts, since a proof takes each
 //! comparison that is written out by itself.
 
-use crate::{reading, values};
+use crate::{plain, reading, values};
 use jh_edn::EdnError;
 use std::alloc::{AllocError, Global};
 use std::test::Fail;
@@ -26,10 +26,19 @@ pub(crate) enum Ask {
 /// The error of a row that cannot be asked. It is no row's answer, as `holds` takes it for memory that was refused.
 pub(crate) const MALFORMED: EdnError = EdnError::Write;
 
+/// The values of a text, where the plain reader answers the same.
+fn both(alloc: Global, text: &str) -> Result<Vec<u8>, EdnError> {
+    if plain::agree(alloc, text)? {
+        reading::all(alloc, text)
+    } else {
+        Ok(b"not what the plain reader answers".to_vec(alloc)?)
+    }
+}
+
 /// What the calls of `jh_edn` say to a question.
 fn answer(alloc: Global, ask: &Ask, question: &str) -> Result<Vec<u8>, EdnError> {
     match ask {
-        Ask::Values => reading::all(alloc, question),
+        Ask::Values => both(alloc, question),
         Ask::Element => reading::element(alloc, question),
         Ask::Nested => reading::nested(alloc, question),
         Ask::Turns => reading::in_turns(alloc, question),

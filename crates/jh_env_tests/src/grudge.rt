@@ -9,7 +9,7 @@ use std::alloc::{AllocError, Global};
 use std::test::Fail;
 
 // Each maker asks once more where memory was refused, so that the tests stand one refused allocation.
-fn ring(alloc: Global, nodes: &[u8]) -> Option<Grudge> {
+pub(crate) fn ring(alloc: Global, nodes: &[u8]) -> Option<Grudge> {
     if !distinct(nodes) {
         return None;
     }
@@ -19,7 +19,7 @@ fn ring(alloc: Global, nodes: &[u8]) -> Option<Grudge> {
     }
 }
 
-fn bridged(alloc: Global, nodes: &[u8]) -> Option<Grudge> {
+pub(crate) fn bridged(alloc: Global, nodes: &[u8]) -> Option<Grudge> {
     if !distinct(nodes) {
         return None;
     }
@@ -29,7 +29,7 @@ fn bridged(alloc: Global, nodes: &[u8]) -> Option<Grudge> {
     }
 }
 
-fn complete(alloc: Global, components: &[Vec<u8>]) -> Option<Grudge> {
+pub(crate) fn complete(alloc: Global, components: &[Vec<u8>]) -> Option<Grudge> {
     if !distinct_components(components) {
         return None;
     }
@@ -39,7 +39,7 @@ fn complete(alloc: Global, components: &[Vec<u8>]) -> Option<Grudge> {
     }
 }
 
-fn split(alloc: Global, nodes: &[u8], loner: u8) -> Result<Vec<Vec<u8>>, SplitError> {
+pub(crate) fn split(alloc: Global, nodes: &[u8], loner: u8) -> Result<Vec<Vec<u8>>, SplitError> {
     match split_one(alloc, nodes, loner) {
         Err(SplitError::OutOfMemory) => split_one(alloc, nodes, loner),
         answer => answer,

@@ -20,6 +20,8 @@ mod names;
 #[cfg(test)]
 mod rows;
 #[cfg(test)]
+mod same_grudges;
+#[cfg(test)]
 mod starting;
 #[cfg(test)]
 mod taking;

@@ -2,7 +2,8 @@
 //! proved: a test is for values and texts that come from outside, and shows that memory suffices where there is some.
 //!
 //! The tests of `jh_ops` are rows of calls with their answers: `rows` says what a row is, `operations`, `words` and
-//! `names` what may be called. The tests of `jh_slots` are worked examples.
+//! `names` what may be called. The tests of `jh_slots` are worked examples. `random` and `same_slots` compare both with
+//! plain slow programs on what looks random.
 #![tactic(auto)]
 
 #[cfg(test)]
@@ -10,7 +11,13 @@ mod names;
 #[cfg(test)]
 mod operations;
 #[cfg(test)]
+mod players;
+#[cfg(test)]
+mod random;
+#[cfg(test)]
 mod rows;
+#[cfg(test)]
+mod same_slots;
 #[cfg(test)]
 mod slots;
 #[cfg(test)]

@@ -1,0 +1,17 @@
+//! Operations and their pairs told slowly, straight from their definitions, and records that look random. They serve
+//! tests alone: `jh_ops_tests` compares `jh_ops` with them.
+//!
+//! A value is its text, as it is printed.
+#![tactic(auto)]
+
+mod dice;
+mod pairs;
+mod random;
+mod records;
+mod told;
+
+pub use dice::Dice;
+pub use pairs::{Step, pairs_slowly};
+pub use random::{random_records, random_steps};
+pub use records::{Held, Record, Records, Words};
+pub use told::{Told, history_slowly, op_slowly};

@@ -1,0 +1,233 @@
+//! Random records and steps, on which `op_of`, `history_of` and `pair` are compared with the plain slow programs.
+//!
+//! None is answered where memory was refused.
+
+use jh_edn::{Pairs, Tagged, Text, Value, Values, read_one, write};
+use jh_ops::{HistoryError, Op, OpError, PairError, history_of, op_of, pair};
+use jh_ops_plain::{
+    Dice, Held, Record, Records, Step, Told, Words, history_slowly, op_slowly, pairs_slowly,
+    random_records, random_steps,
+};
+use std::alloc::Global;
+use std::ops::Range;
+
+/// How often a history or its pairs were answered in each way, by the number of the way.
+type Counts = [u32; 11];
+
+/// The first value of a text.
+fn read(alloc: Global, text: &str) -> Option<Value> {
+    let (value, _) = read_one(alloc, text, 0).ok()??;
+    Some(value)
+}
+
+fn tagged(alloc: Global, value: Value, tags: u64) -> Option<Value> {
+    let mut value = value;
+    for _ in 0..tags {
+        let tag = Text::of("t".to_string(alloc).ok()?);
+        value = Value::Tagged(Tagged::of(alloc, tag, value).ok()?);
+    }
+    Some(value)
+}
+
+/// The value of a record, with so many tags around it.
+fn value_of(alloc: Global, record: &Record, tags: u64) -> Option<Value> {
+    let pairs = match record {
+        Record::Map(pairs) => pairs,
+        Record::Other(text) => return tagged(alloc, read(alloc, text)?, tags),
+    };
+    let mut made = Vec::new(alloc);
+    for pair in pairs {
+        made.push((read(alloc, pair.0)?, read(alloc, pair.1)?))
+            .ok()?;
+    }
+    tagged(alloc, Value::Map(Pairs::of(made)), tags)
+}
+
+fn values_of(alloc: Global, records: &Records) -> Option<Vec<Value>> {
+    let mut items = Vec::new(alloc);
+    for record in &records.records {
+        items.push(value_of(alloc, record, records.tags)?).ok()?;
+    }
+    let whole = match records.held {
+        Held::Apart => return Some(items),
+        Held::InList => Value::List(Values::of(items)),
+        Held::InVector => Value::Vector(Values::of(items)),
+        Held::InSet => Value::Set(Values::of(items)),
+    };
+    vec![in alloc; tagged(alloc, whole, records.tags)?].ok()
+}
+
+fn is_text(alloc: Global, value: &Value, text: &str) -> Option<bool> {
+    let mut printed = Vec::new(alloc);
+    write(value, &mut printed).ok()?;
+    Some(printed.as_slice() == text.as_bytes())
+}
+
+fn are_texts(alloc: Global, pairs: &[(Value, Value)], texts: &[Words]) -> Option<bool> {
+    for (pair, text) in pairs.iter().zip(texts) {
+        if !is_text(alloc, &pair.0, text.0)? || !is_text(alloc, &pair.1, text.1)? {
+            return Some(false);
+        }
+    }
+    Some(pairs.len() == texts.len())
+}
+
+fn is_same_op(alloc: Global, op: &Op, told: &Told) -> Option<bool> {
+    let is_same = op.kind == told.kind && op.process == told.process;
+    let has_same_numbers = op.time == told.time && op.index == told.index;
+    let has_same_f = is_text(alloc, &op.f, told.f)?;
+    let has_same_value = is_text(alloc, &op.value, told.value)?;
+    let has_same_rest = are_texts(alloc, op.rest.as_slice(), &told.rest)?;
+    Some(is_same && has_same_numbers && has_same_f && has_same_value && has_same_rest)
+}
+
+/// Whether both tell the same operation of a record, or refuse it alike.
+fn is_same_record(alloc: Global, record: &Record, tags: u64) -> Option<bool> {
+    match (
+        op_of(alloc, value_of(alloc, record, tags)?),
+        op_slowly(alloc, record),
+    ) {
+        (Err(OpError::OutOfMemory), _) | (_, Err(OpError::OutOfMemory)) => None,
+        (Ok(op), Ok(told)) => is_same_op(alloc, &op, &told),
+        (Err(error), Err(expected)) => Some(error == expected),
+        _ => Some(false),
+    }
+}
+
+fn are_same_ops(alloc: Global, ops: &[Op], told: &[Told]) -> Option<bool> {
+    for (op, told) in ops.iter().zip(told) {
+        if !is_same_op(alloc, op, told)? {
+            return Some(false);
+        }
+    }
+    Some(ops.len() == told.len())
+}
+
+/// Whether both tell the same operation of each record, or refuse it alike.
+fn are_same_records(alloc: Global, records: &Records) -> Option<bool> {
+    for record in &records.records {
+        if !is_same_record(alloc, record, records.tags)? {
+            return Some(false);
+        }
+    }
+    Some(true)
+}
+
+fn way_of(error: OpError) -> Option<usize> {
+    match error {
+        OpError::NotMap => Some(1),
+        OpError::MissingType => Some(2),
+        OpError::BadType => Some(3),
+        OpError::MissingF => Some(4),
+        OpError::MissingProcess => Some(5),
+        OpError::BadProcess => Some(6),
+        OpError::OutOfMemory => None,
+    }
+}
+
+/// In which way both answer to records. None, too: they differ.
+fn history_way(alloc: Global, records: &Records) -> Option<usize> {
+    let history = history_of(alloc, values_of(alloc, records)?);
+    match (history, history_slowly(alloc, records)) {
+        (Ok(ops), Ok(told)) => are_same_ops(alloc, &ops, &told)?.then_some(0),
+        (Err(HistoryError::Op(place, error)), Err(expected)) => {
+            (HistoryError::Op(place, error) == expected).then_some(way_of(error)?)
+        }
+        _ => None,
+    }
+}
+
+fn ops_of(alloc: Global, steps: &[Step]) -> Option<Vec<Op>> {
+    let mut ops = Vec::new(alloc);
+    for (kind, process) in steps {
+        ops.push(Op {
+            kind: *kind,
+            f: Value::Nil,
+            value: Value::Nil,
+            process: *process,
+            time: None,
+            index: None,
+            rest: Pairs::of(Vec::new(alloc)),
+        })
+        .ok()?;
+    }
+    Some(ops)
+}
+
+fn way_of_pairs(error: PairError) -> Option<usize> {
+    match error {
+        PairError::AfterCrash(_) => Some(8),
+        PairError::DoubleInvoke(_) => Some(9),
+        PairError::NoInvoke(_) => Some(10),
+        PairError::OutOfMemory => None,
+    }
+}
+
+/// In which way both pair steps. None, too: they differ.
+fn pairs_way(alloc: Global, steps: &[Step]) -> Option<usize> {
+    let found = pair(alloc, &ops_of(alloc, steps)?);
+    if found != pairs_slowly(alloc, steps) {
+        return None;
+    }
+    match found {
+        Ok(_) => Some(7),
+        Err(error) => way_of_pairs(error),
+    }
+}
+
+/// What is compared.
+#[derive(Clone, Copy)]
+enum Ask {
+    Histories,
+    Pairs,
+}
+
+fn way(alloc: Global, ask: Ask, seed: u64) -> Option<usize> {
+    let mut dice = Dice::new(seed);
+    match ask {
+        Ask::Histories => {
+            let records = random_records(alloc, &mut dice).ok()?;
+            are_same_records(alloc, &records)?.then_some(history_way(alloc, &records)?)
+        }
+        Ask::Pairs => pairs_way(alloc, &random_steps(alloc, &mut dice, 40).ok()?),
+    }
+}
+
+/// How often both answered in each way, or the first seed at which they differ.
+fn counts(alloc: Global, ask: Ask) -> Result<Counts, u64> {
+    let mut counts = [0u32; 11];
+    for seed in 0..1_000 {
+        let found = match way(alloc, ask, seed) {
+            None => way(alloc, ask, seed),
+            found => found,
+        };
+        let place = found.ok_or(seed)?;
+        if let Some(count) = counts.get_mut(place) {
+            *count = count.saturating_add(1);
+        }
+    }
+    Ok(counts)
+}
+
+/// Whether both answered often in each of these ways, so that the comparison says something.
+fn are_met(counts: Result<Counts, u64>, ways: Range<usize>) -> bool {
+    for way in ways {
+        match counts {
+            Ok(counts) if counts.get(way).copied() > Some(20) => {}
+            _ => return false,
+        }
+    }
+    true
+}
+
+#[test]
+fn histories_agree(rt: HostRuntime) {
+    let counts = counts(rt.alloc(), Ask::Histories);
+    assert!(rt; are_met(counts, 0..7), "{counts:?}");
+}
+
+#[test]
+fn pairs_agree(rt: HostRuntime) {
+    let counts = counts(rt.alloc(), Ask::Pairs);
+    assert!(rt; are_met(counts, 7..11), "{counts:?}");
+}
