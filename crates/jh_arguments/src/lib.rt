@@ -6,6 +6,7 @@
 #![tactic(auto)]
 
 mod commands;
+mod help;
 mod line;
 mod program;
 

@@ -1,5 +1,5 @@
 //! The commands and their options, as `clap` reads them, and what its refusals mean to the program. Its texts stand here
-//! alone: help and complaints are shown by tests.
+//! and in `help` alone: help and complaints are shown by tests.
 
 ghost use Rattle.std.specs.Prelude.{◌≡◌, ◌≢◌, ◌↔◌, false, IfOk, IfErr, IsErrOf, Ok, map};
 ghost use Rattle.clap.specs.Words.{app_of, kind_of, rule_of};
@@ -8,6 +8,7 @@ ghost use Rattle.jh_cli.specs.declared.error.CliError.TheVariants as CliError;
 ghost use Rattle.jh_arguments.specs.Line as text;
 ghost use Rattle.jh_arguments.specs.Line.{IsCheck, IsFound, IsLine, IsRefused, workload_names};
 
+use crate::help;
 use clap::builder::ValueParser;
 use clap::error::ErrorKind;
 use clap::{Arg, ArgAction, ArgMatches, Command, Error, value_parser};
@@ -33,14 +34,18 @@ fn command_line<'a>(alloc: Global) -> Result<Command<'a>, Error>
     ensures line { IfOk result (λ line. IsLine (app_of line)) }
     ensures memory { IfErr result (λ e. kind_of e ≡ ErrorKind.OutOfMemory) }
 {
-    let env = Command::new(alloc, "env").about(
-        "Applies fault steps to an environment, both read from standard input as EDN",
-    );
-    let run = Command::new(alloc, "run").about(
-        "Runs a simulated cluster by settings, read from standard input as TOML, and judges its history",
-    );
+    let env = Command::new(alloc, "env")
+        .about("Applies fault steps to an environment, both read from standard input as EDN")
+        .after_help(help::ENV);
+    let run = Command::new(alloc, "run")
+        .about(
+            "Runs a simulated cluster by settings, read from standard input as TOML, and judges its history",
+        )
+        .after_help(help::RUN);
     let jeprun = Command::new(alloc, "jeprun")
         .about("A test harness for databases, over a simulated cluster under faults")
+        .after_help(help::JEPRUN)
+        .version(help::VERSION)
         .subcommand_required(true)
         .subcommand(env)?
         .subcommand(check_command(alloc)?)?
@@ -76,6 +81,7 @@ fn check_command<'a>(alloc: Global) -> Result<Command<'a>, Error>
         .action(ArgAction::SetTrue);
     let check = Command::new(alloc, "check")
         .about("Judges a history of operations, read from standard input as EDN")
+        .after_help(help::CHECK)
         .arg(workload)?
         .arg(initial)?
         .arg(budget)?
@@ -94,6 +100,7 @@ fn shrink_command<'a>(alloc: Global) -> Result<Command<'a>, Error>
         .about(
             "Makes the schedule of a failing run small, whose settings are read from standard input as TOML",
         )
+        .after_help(help::SHRINK)
         .arg(budget)?;
     Ok(shrink)
 }
@@ -136,7 +143,7 @@ fn number_option<'a>(
 }
 
 /// What `clap` finds in these arguments, of which the first is the program's name; or its refusal, which is a request for
-/// help, a complaint, or want of memory.
+/// help or for the version, a complaint, or want of memory.
 pub fn parse<'a, S: AsStr>(alloc: Global, arguments: &'a [S]) -> Result<ArgMatches<'a>, Error>
     ensures found { IfOk result (IsFound (map S.text arguments.entry.now)) }
     ensures refused { IfErr result (IsRefused (map S.text arguments.entry.now)) }
@@ -144,11 +151,12 @@ pub fn parse<'a, S: AsStr>(alloc: Global, arguments: &'a [S]) -> Result<ArgMatch
     command_line(alloc)?.try_get_matches_from(arguments)
 }
 
-/// The exit status of a refusal: 0 where the arguments ask for help, 3 where they are wrong. Where memory ran out that is an
-/// error, as it is of any command.
+/// The exit status of a refusal: 0 where the arguments ask for help or for the version, 3 where they are wrong. Where memory
+/// ran out that is an error, as it is of any command.
 pub fn status_of_refusal(refusal: &Error) -> Result<u8, CliError>
     ensures memory { IsErrOf result CliError.OutOfMemory ↔ (kind_of refusal.now ≡ ErrorKind.OutOfMemory) }
     ensures help { (kind_of refusal.now ≡ ErrorKind.DisplayHelp) → result ≡ Ok 0 }
+    ensures version { (kind_of refusal.now ≡ ErrorKind.DisplayVersion) → result ≡ Ok 0 }
     ensures wrong { (kind_of refusal.now ≢ ErrorKind.OutOfMemory) → (kind_of refusal.now ≢ ErrorKind.DisplayHelp)
         → (kind_of refusal.now ≢ ErrorKind.DisplayVersion) → result ≡ Ok 3 }
 {

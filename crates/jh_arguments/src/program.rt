@@ -89,8 +89,8 @@ fn arguments_of(rt: &(impl Env + Alloc<A = Global>)) -> io::Result<Vec<String>> 
     Ok(env::args(rt)?.collect(rt.alloc())?)
 }
 
-/// The exit status of the process, once it has done what its arguments ask for: 0, 1 or 2 as `run` answers, 0 where help was
-/// asked for, 3 where the arguments or the input are refused, 4 where the machine failed or a run was not completed.
+/// The exit status of the process, once it has done what its arguments ask for: 0, 1 or 2 as `run` answers, 0 where help or
+/// the version was asked for, 3 where the arguments or the input are refused, 4 where the machine failed or a run was not completed.
 ///
 /// `has_terminal` says whether standard error is a terminal; where it is, `shrink` tells there how far it is, and nowhere else.
 ///

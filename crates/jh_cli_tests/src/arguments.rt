@@ -131,7 +131,15 @@ Commands:
   help    Print this message or the help of the given subcommand(s)
 
 Options:
-  -h, --help  Print help
+  -h, --help     Print help
+  -V, --version  Print version
+
+Exit status: 0 valid or done, 1 not valid, 2 unknown, 3 refused arguments or input,
+4 where memory ran out, a read or a write failed, or a run was not completed
+
+Examples:
+  jeprun env < examples/two-cuts.edn
+  jeprun run < examples/run/quorum-register.toml
 § jeprun run --help → 0
 Runs a simulated cluster by settings, read from standard input as TOML, and judges its history
 
@@ -139,6 +147,16 @@ Usage: jeprun run
 
 Options:
   -h, --help  Print help
+
+It writes the history, the ids of the faults that are active at the end, the environment,
+and the verdict.
+
+Exit status: 0 valid, 1 not valid, 2 unknown, 3 refused arguments or settings, 4 where
+memory ran out, a read or a write failed, or the run was not completed
+
+Examples:
+  jeprun run < examples/run/quorum-register.toml
+  jeprun run < examples/run/threads-set.toml
 § jeprun shrink --help → 0
 Makes the schedule of a failing run small, whose settings are read from standard input as TOML
 
@@ -147,6 +165,15 @@ Usage: jeprun shrink [OPTIONS]
 Options:
       --budget <N>  How many runs may be made [default: 10000]
   -h, --help        Print help
+
+It writes :minimal, :budget or :not-failing, and then the entries that are left.
+
+Exit status: 0 not failing, 1 minimal, 2 the budget was used up, 3 refused arguments or
+settings, 4 where memory ran out, a read or a write failed, or a run was not completed
+
+Examples:
+  jeprun shrink < examples/shrink/twenty-entries.toml
+  jeprun shrink --budget 20 < examples/shrink/twenty-entries.toml
 § jeprun check --help → 0
 Judges a history of operations, read from standard input as EDN
 
@@ -159,6 +186,15 @@ Options:
       --independent      Judges each key by itself; values are tuples of a key and a value
       --threads <N>      How many threads judge keys [default: 1]
   -h, --help             Print help
+
+It writes the verdict, and what it stands on.
+
+Exit status: 0 valid, 1 not valid, 2 unknown, 3 refused arguments or input, 4 where
+memory ran out, a read or a write failed, or a thread could not be had
+
+Examples:
+  jeprun check --workload set < examples/check/set-lost.edn
+  jeprun check --workload register --independent < examples/check/register-keys.edn
 § jeprun --help → 0
 A test harness for databases, over a simulated cluster under faults
 
@@ -172,7 +208,15 @@ Commands:
   help    Print this message or the help of the given subcommand(s)
 
 Options:
-  -h, --help  Print help
+  -h, --help     Print help
+  -V, --version  Print version
+
+Exit status: 0 valid or done, 1 not valid, 2 unknown, 3 refused arguments or input,
+4 where memory ran out, a read or a write failed, or a run was not completed
+
+Examples:
+  jeprun env < examples/two-cuts.edn
+  jeprun run < examples/run/quorum-register.toml
 § jeprun env --help → 0
 Applies fault steps to an environment, both read from standard input as EDN
 
@@ -180,6 +224,17 @@ Usage: jeprun env
 
 Options:
   -h, --help  Print help
+
+It writes the answer to each step, the ids of the active faults, and the environment.
+
+Exit status: 0 done, 3 refused arguments or input, 4 where memory ran out, or a read
+or a write failed
+
+Examples:
+  jeprun env < examples/two-cuts.edn
+  jeprun env < examples/undo-and-redo.edn
+§ jeprun --version → 0
+jeprun 0.1.0
 "#;
     assert_eq!(rt; first_wrong(&rt, rt.alloc(), Texts::Arguments, rows), None);
 }

@@ -26,7 +26,8 @@ returns-clause-check c =
     let independent_is : rule_of c.action-independent.result ≡ independent = ap rule_of c.action-independent.ensures ∙ ap (acting SetTrue) (ap rule_of c.help-3.ensures
     ∙ (ap rule_of c.long-3.ensures ∙ ap (longed (codes "independent")) c.new-3.ensures.rule)) in
     let independent_local : c.action-independent.result.global ≡ false = rw (c.action-independent.ensures, c.help-3.ensures, c.long-3.ensures) c.new-3.ensures.optional.1 in
-    let top : app_of c.about.result ≡ new_app (codes "check") = search rules in
+    let about : app_of c.about.result ≡ new_app (codes "check") = search rules in
+    let top : app_of c.after_help.result ≡ new_app (codes "check") = search rules in
     let three : app_of c.in_ok-arg-3.field-0 ≡ with_rule (with_rule (with_rule (new_app (codes "check")) (workload names)) initial) (budget (codes "100000")) =
     c.in_ok-arg-3.ensures.shape c.budget_option-budget.ensures.local ∙ ap₂ with_rule (c.in_ok-arg-2.ensures.shape initial_local
     ∙ ap₂ with_rule (c.in_ok-arg.ensures.shape workload_local ∙ ap₂ with_rule top workload_is) initial_is) c.budget_option-budget.ensures.rule in

@@ -1,0 +1,54 @@
+//! What stands at the end of help: what a command writes, its exit statuses, and two examples that work as typed at the top of
+//! a clone.
+
+/// The version that `--version` prints.
+pub(crate) const VERSION: &str = "0.1.0";
+
+pub(crate) const JEPRUN: &str = "\
+Exit status: 0 valid or done, 1 not valid, 2 unknown, 3 refused arguments or input,
+4 where memory ran out, a read or a write failed, or a run was not completed
+
+Examples:
+  jeprun env < examples/two-cuts.edn
+  jeprun run < examples/run/quorum-register.toml";
+
+pub(crate) const ENV: &str = "\
+It writes the answer to each step, the ids of the active faults, and the environment.
+
+Exit status: 0 done, 3 refused arguments or input, 4 where memory ran out, or a read
+or a write failed
+
+Examples:
+  jeprun env < examples/two-cuts.edn
+  jeprun env < examples/undo-and-redo.edn";
+
+pub(crate) const CHECK: &str = "\
+It writes the verdict, and what it stands on.
+
+Exit status: 0 valid, 1 not valid, 2 unknown, 3 refused arguments or input, 4 where
+memory ran out, a read or a write failed, or a thread could not be had
+
+Examples:
+  jeprun check --workload set < examples/check/set-lost.edn
+  jeprun check --workload register --independent < examples/check/register-keys.edn";
+
+pub(crate) const RUN: &str = "\
+It writes the history, the ids of the faults that are active at the end, the environment,
+and the verdict.
+
+Exit status: 0 valid, 1 not valid, 2 unknown, 3 refused arguments or settings, 4 where
+memory ran out, a read or a write failed, or the run was not completed
+
+Examples:
+  jeprun run < examples/run/quorum-register.toml
+  jeprun run < examples/run/threads-set.toml";
+
+pub(crate) const SHRINK: &str = "\
+It writes :minimal, :budget or :not-failing, and then the entries that are left.
+
+Exit status: 0 not failing, 1 minimal, 2 the budget was used up, 3 refused arguments or
+settings, 4 where memory ran out, a read or a write failed, or a run was not completed
+
+Examples:
+  jeprun shrink < examples/shrink/twenty-entries.toml
+  jeprun shrink --budget 20 < examples/shrink/twenty-entries.toml";
