@@ -13,7 +13,7 @@ use Rattle.jh_cli.specs.CheckRefusals.{RefusesCheck}
 use Rattle.jh_cli.specs.RunRefusals.{RefusesRun}
 use Rattle.jh_cli.specs.ShrinkRefusals.{RefusesShrinking}
 use Rattle.jh_cli.specs.declared.error.CliError.{CliError}
-use Rattle.jh_arguments.specs.declared.commands.Question.{Question}
+use Rattle.jh_cli.specs.declared.check_command.Question.{Question}
 use Rattle.jh_arguments.specs.declared.commands.Command.{Command}
 use Rattle.jh_arguments.specs.declared.commands.Command.TheVariants.{Env, Check, Run, Shrink}
 
@@ -56,6 +56,7 @@ pub record Asks (options : List Row) (question : Question) : Type 0 where
   pub workload : first_of (codes "workload") options ≡ Some (name_of question.workload)
   pub initial : IsInitial (one_of (codes "initial") options) question.initial
   pub budget : IsNumber (one_of (codes "budget") options) question.budget
+  pub explain : IsFlag (one_of (codes "explain") options) question.explain
   pub independent : IsFlag (one_of (codes "independent") options) question.independent
   pub threads : IsThreads (one_of (codes "threads") options) question.threads
 
@@ -77,14 +78,13 @@ TakesThreads _ = Unit {0}
 -- what it writes for an input, with the exit status
 abbrev pub IsTextOf : Command → List ℕ → ℕ → List ℕ → Type 0
 IsTextOf Env input status output = IsEnvTextOf input output × (status ≡ 0)
-IsTextOf (Check question) input status output =
-    IsCheckTextOf question.independent question.workload question.initial question.budget input status output
+IsTextOf (Check question) input status output = IsCheckTextOf question input status output
 IsTextOf Run input status output = IsRunTextOf input status output
 IsTextOf (Shrink budget) input status output = IsShrinkTextOf input status output
 
 -- why it refuses an input, or does not do its work
 abbrev pub Refuses : Command → List ℕ → CliError → Type 0
 Refuses Env input e = RefusesInput input e
-Refuses (Check question) input e = RefusesCheck question.independent question.workload question.initial question.budget input e
+Refuses (Check question) input e = RefusesCheck question input e
 Refuses Run input e = RefusesRun input e
 Refuses (Shrink budget) input e = RefusesShrinking input e

@@ -30,9 +30,9 @@ number name parser default = record (option name) { parser = Some parser; defaul
 abbrev pub budget : Text → Rule
 budget default = number (codes "budget") (Unsigned 0 10000000) default
 
--- whether each key is judged by itself
-abbrev pub independent : Rule
-independent = record (new_rule (codes "independent")) { long = Some (codes "independent"); action = Some SetTrue }
+-- an option that is there or not
+abbrev pub flag : Text → Rule
+flag name = record (new_rule name) { long = Some name; action = Some SetTrue }
 
 -- by how many threads: from 1 to 16
 abbrev pub threads : Rule
@@ -40,8 +40,8 @@ threads = number (codes "threads") (Unsigned 1 16) (codes "1")
 
 abbrev pub check : Bor (List (Bor Text)) → App
 check names =
-    with_rule (with_rule (with_rule (with_rule (with_rule (new_app (codes "check")) (workload names)) initial) (budget (codes "100000")))
-    independent) threads
+    with_rule (with_rule (with_rule (with_rule (with_rule (with_rule (new_app (codes "check")) (workload names)) initial)
+    (budget (codes "100000"))) (flag (codes "explain"))) (flag (codes "independent"))) threads
 
 abbrev pub shrink : App
 shrink = with_rule (new_app (codes "shrink")) (budget (codes "10000"))

@@ -10,29 +10,17 @@ ghost use Rattle.jh_arguments.specs.Commands as text;
 ghost use Rattle.jh_arguments.specs.Commands.{Asks, AsksFor, IsNumber, IsTextOf, IsThreads, Refuses, TakesThreads};
 ghost use Rattle.jh_arguments.specs.declared.commands.Command.{Command};
 ghost use Rattle.jh_arguments.specs.declared.commands.Command.TheVariants.{Check};
-ghost use Rattle.jh_arguments.specs.declared.commands.Question.{Question};
+ghost use Rattle.jh_cli.specs.declared.check_command.Question.{Question};
 ghost use Rattle.jh_ops.specs.declared.call.Workload.{Workload};
 
 use clap::ArgMatches;
-use jh_cli::{CliError, check_run, env_run, run_run, shrink_run_observed};
+use jh_cli::{CliError, Question, check_run, env_run, run_run, shrink_run_observed};
 use jh_ops::Workload;
 use jh_shrink::Observer;
 use std::alloc::Global;
 use std::io::{Read, Write};
 use std::sync::Wait;
 use std::thread::Threads;
-
-/// What `check` is asked of a history.
-#[derive(Clone, Copy, Debug, PartialEq, Eq)]
-pub struct Question {
-    pub workload: Workload,
-    pub initial: Option<i64>,
-    pub budget: u64,
-    /// Whether each key is judged by itself.
-    pub independent: bool,
-    /// By how many threads keys are judged, from 1 to 16.
-    pub threads: u32,
-}
 
 /// What the arguments ask for.
 #[derive(Clone, Copy, Debug, PartialEq, Eq)]
@@ -73,6 +61,7 @@ pub fn question_of(options: &ArgMatches<'_>) -> Option<Question>
         workload,
         initial: options.get_one::<i64>("initial"),
         budget: number_of(options, "budget")?,
+        explain: options.get_flag("explain"),
         independent: options.get_flag("independent"),
         threads: threads_of(options)?,
     })
@@ -143,25 +132,7 @@ pub fn run<T: Threads + Wait + Sync, R: Read, W: Write, O: Observer>(
 {
     match command {
         Command::Env => env_run(alloc, reader, writer),
-        Command::Check(
-            Question {
-                workload,
-                initial,
-                budget,
-                independent,
-                threads,
-            },
-        ) => check_run(
-            rt,
-            alloc,
-            reader,
-            writer,
-            workload,
-            initial,
-            budget,
-            independent,
-            threads,
-        ),
+        Command::Check(question) => check_run(rt, alloc, reader, writer, question),
         Command::Run => run_run(rt, alloc, reader, writer),
         Command::Shrink(budget) => shrink_run_observed(alloc, reader, writer, budget, observer),
     }

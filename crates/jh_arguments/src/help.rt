@@ -23,13 +23,16 @@ Examples:
   jeprun env < examples/undo-and-redo.edn";
 
 pub(crate) const CHECK: &str = "\
-It writes the verdict, and what it stands on.
+It writes the verdict, and what it stands on. Of a register that is not valid, --explain
+adds the completion at which it is stuck, an order of what is before that, the value that
+this order leads to, and the numbers of the operations that are pending there. Other
+workloads say themselves what is wrong.
 
 Exit status: 0 valid, 1 not valid, 2 unknown, 3 refused arguments or input, 4 where
 memory ran out, a read or a write failed, or a thread could not be had
 
 Examples:
-  jeprun check --workload set < examples/check/set-lost.edn
+  jeprun check --workload register --explain < examples/check/register-stale.edn
   jeprun check --workload register --independent < examples/check/register-keys.edn";
 
 pub(crate) const RUN: &str = "\

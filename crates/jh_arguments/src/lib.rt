@@ -10,6 +10,7 @@ mod help;
 mod line;
 mod program;
 
-pub use commands::{Command, Question, command_of, question_of, run};
+pub use commands::{Command, command_of, question_of, run};
+pub use jh_cli::Question;
 pub use line::{REFUSED, parse, status_of_refusal};
 pub use program::status;

@@ -75,16 +75,23 @@ fn check_command<'a>(alloc: Global) -> Result<Command<'a>, Error>
         "How many configurations the judge of a register may reach",
         "100000",
     );
-    let independent = Arg::new(alloc, "independent")
-        .long("independent")
-        .help("Judges each key by itself; values are tuples of a key and a value")
-        .action(ArgAction::SetTrue);
+    let explain = flag_option(
+        alloc,
+        "explain",
+        "Says of a register that is not valid where it is stuck",
+    );
+    let independent = flag_option(
+        alloc,
+        "independent",
+        "Judges each key by itself; values are tuples of a key and a value",
+    );
     let check = Command::new(alloc, "check")
         .about("Judges a history of operations, read from standard input as EDN")
         .after_help(help::CHECK)
         .arg(workload)?
         .arg(initial)?
         .arg(budget)?
+        .arg(explain)?
         .arg(independent)?
         .arg(threads_option(alloc))?;
     Ok(check)
@@ -121,6 +128,17 @@ fn threads_option<'a>(alloc: Global) -> Arg<'a>
 {
     let parser = value_parser!(u64).range(1..=16);
     number_option(alloc, "threads", "How many threads judge keys", parser, "1")
+}
+
+/// An option that is there or not.
+fn flag_option<'a>(alloc: Global, name: &'static str, help: &'static str) -> Arg<'a>
+    ensures rule { rule_of result ≡ text.flag name.now }
+    ensures local { result.global ≡ false }
+{
+    Arg::new(alloc, name)
+        .long(name)
+        .help(help)
+        .action(ArgAction::SetTrue)
 }
 
 /// An option that takes a number.

@@ -59,18 +59,13 @@ fn keeps_precedence(ops: &[RegOp], order: &[usize]) -> bool {
     true
 }
 
-fn runs(ops: &[RegOp], initial: Option<i64>, order: &[usize]) -> bool {
+/// What the register holds after these operations, where they run.
+pub fn value_after(ops: &[RegOp], initial: Option<i64>, order: &[usize]) -> Option<Option<i64>> {
     let mut value = initial;
     for place in order {
-        let Some(op) = ops.get(*place) else {
-            return false;
-        };
-        let Some(next) = after(op.call, value) else {
-            return false;
-        };
-        value = next;
+        value = after(ops.get(*place)?.call, value)?;
     }
-    true
+    Some(value)
 }
 
 /// What is wrong with an order, part by part.
@@ -89,11 +84,38 @@ pub fn judged_slowly(
         Err(OrderFault::Missing)
     } else if !keeps_precedence(ops, order) {
         Err(OrderFault::Precedence)
-    } else if !runs(ops, initial, order) {
+    } else if value_after(ops, initial, order).is_none() {
         Err(OrderFault::Illegal)
     } else {
         Ok(())
     }
+}
+
+/// Whether what happened ended at this place of the history, some of it.
+pub fn ends_at(ops: &[RegOp], end: usize) -> bool {
+    ops.iter()
+        .any(|op| op.outcome == Outcome::Done && op.ended == Some(end))
+}
+
+/// What the first so many places of a history tell of an operation.
+fn op_in(count: usize, op: RegOp) -> RegOp {
+    let is_there = op.invoked < count;
+    let is_over = op.ended.is_some_and(|end| end < count);
+    let outcome = match op.outcome {
+        Outcome::Done if is_there && is_over => Outcome::Done,
+        Outcome::Done | Outcome::Unsure if is_there => Outcome::Unsure,
+        _ => Outcome::Failed,
+    };
+    RegOp { outcome, ..op }
+}
+
+/// The operations, as the first so many places of the history tell them.
+pub fn cut(alloc: Global, ops: &[RegOp], count: usize) -> Result<Vec<RegOp>, AllocError> {
+    let mut parts = Vec::with_capacity(alloc, ops.len())?;
+    for op in ops {
+        parts.push(op_in(count, *op))?;
+    }
+    Ok(parts)
 }
 
 /// Whether there is an order that begins with these places and has at most this many more.

@@ -4,8 +4,11 @@ ghost use Rattle.jh_linear.specs.Order.{EndAfterInvoked};
 
 use crate::register::found;
 use crate::rows::{Ask, answer, told};
-use jh_check_plain::{Dice, busy_history, is_possible, judged_slowly, random_case, random_history};
-use jh_linear::{LinVerdict, RegOp, check, check_order};
+use jh_check_plain::{
+    Dice, busy_history, cut, ends_at, is_possible, judged_slowly, random_case, random_history,
+    value_after,
+};
+use jh_linear::{LinVerdict, RegOp, Stuck, check, check_order};
 use jh_ops::Workload;
 use std::alloc::Global;
 
@@ -56,10 +59,31 @@ fn is_right(calls: &[RegOp], verdict: &LinVerdict, budget: u64, possible: bool) 
                 && judged_slowly(calls, Some(0), order.as_slice()).is_ok()
                 && check_order(calls, Some(0), order.as_slice()).is_ok()
         }
-        LinVerdict::Invalid => !possible && budget > 0,
+        LinVerdict::Invalid(_) => !possible && budget > 0,
         LinVerdict::Unknown(reached) => {
             budget < 1000 && reached.as_slice().len() as u64 == budget
         }
+    }
+}
+
+/// Whether a no is stuck where it says: at the completion of what happened, with an order before it and none behind it.
+fn is_stuck(alloc: Global, calls: &[RegOp], stuck: &Stuck) -> Option<bool> {
+    let before = cut(alloc, calls, stuck.end).ok()?;
+    let behind = cut(alloc, calls, stuck.end.saturating_add(1)).ok()?;
+    let order = stuck.order.as_slice();
+    let is_order = judged_slowly(&before, Some(0), order).is_ok();
+    let is_held = value_after(&before, Some(0), order) == Some(stuck.value);
+    let is_end = ends_at(calls, stuck.end);
+    Some(is_order && is_held && is_end && !is_possible(alloc, &behind, Some(0)).ok()?)
+}
+
+/// Whether the judge, where its budget suffices, says rightly where it is stuck, if it is. None: memory was refused.
+fn is_stuck_if_at_all(alloc: Global, calls: &[RegOp]) -> Option<bool>
+    requires { EndAfterInvoked calls.now }
+{
+    match check(alloc, calls, Some(0), 1000).ok()? {
+        LinVerdict::Invalid(stuck) => is_stuck(alloc, calls, &stuck),
+        _ => Some(true),
     }
 }
 
@@ -96,6 +120,7 @@ fn compared(alloc: Global, mut dice: Dice) -> Option<(bool, Dice)> {
     let history = random_history(alloc, &mut dice, most).ok()?;
     let calls = told(alloc, &history)?.ok()?;
     let possible = judged(alloc, &calls)?;
+    is_stuck_if_at_all(alloc, &calls)?.then_some(())?;
     is_refused_alike(alloc, &calls, &mut dice)?.then_some((possible, dice))
 }
 

@@ -9,19 +9,20 @@ use std::test::Fail;
 fn judges_histories(rt: HostRuntime) -> Result<(), Fail> {
     let rows = "
         0 :invoke :write 1; 0 :info :write 1; 1 :invoke :read nil; 1 :ok :read 1; 1 :invoke :read nil; \
-        1 :ok :read 0 => none
+        1 :ok :read 0 => none at 5
         0 :invoke :write 1; 0 :info :write 1; 1 :invoke :read nil; 1 :ok :read 0; 1 :invoke :read nil; \
         1 :ok :read 1 => order 1 0 2
         0 :invoke :write 1; 1 :invoke :read nil; 0 :ok :write 1; 1 :ok :read 0 => order 1 0
-        0 :invoke :cas [0 1]; 1 :invoke :cas [0 2]; 0 :ok :cas [0 1]; 1 :ok :cas [0 2] => none
+        0 :invoke :cas [0 1]; 1 :invoke :cas [0 2]; 0 :ok :cas [0 1]; 1 :ok :cas [0 2] => none at 3
         0 :invoke :cas [0 1]; 1 :invoke :cas [0 2]; 2 :invoke :write 0; 0 :ok :cas nil; 1 :ok :cas nil; \
-        2 :fail :write 0 => none
+        2 :fail :write 0 => none at 4
         0 :invoke :write 1; 0 :info :write 1; 1 :invoke :read nil; 1 :ok :read 1; 1 :invoke :read nil; \
-        1 :ok :read 0; 1 :invoke :read nil; 1 :ok :read nil => none
+        1 :ok :read 0; 1 :invoke :read nil; 1 :ok :read nil => none at 5
         0 :invoke :read nil; 0 :ok :read 0 => order 0
-        0 :invoke :read nil; 0 :ok :read 1 => none
+        0 :invoke :read nil; 0 :ok :read 1 => none at 1
         0 :invoke :write 1; 0 :fail :write 1; 1 :invoke :read nil; 1 :ok :read 0 => order 1
-        0 :invoke :read nil; 0 :info :read nil; 1 :invoke :write 2 => order";
+        0 :invoke :read nil; 0 :info :read nil; 1 :invoke :write 2 => order
+        :nemesis :info :add 1 => order";
     ask_all(rt.alloc(), Ask::Judge(100), rows)
 }
 
@@ -33,11 +34,16 @@ fn keeps_to_the_budget(rt: HostRuntime) -> Result<(), Fail> {
         0 :invoke :read nil; 0 :ok :read 1 => unknown 0";
     ask_all(rt.alloc(), Ask::Judge(0), rows)?;
     let rows = "
+        0 :invoke :write 1; 1 :invoke :write 2; 2 :invoke :write 3; 0 :ok :write 1; 1 :ok :write 2; \
+        2 :ok :write 3; 0 :invoke :read nil; 0 :ok :read 9 => unknown 2
         0 :invoke :write 1; 0 :info :write 1; 1 :invoke :read nil; 1 :ok :read 0; 1 :invoke :read nil; \
-        1 :ok :read 1 => unknown 2
-        0 :invoke :read nil; 0 :ok :read 1 => none";
+        1 :ok :read 1 => order 1 0 2
+        0 :invoke :read nil; 0 :ok :read 1 => none at 1";
     ask_all(rt.alloc(), Ask::Judge(2), rows)?;
-    ask_all(rt.alloc(), Ask::Judge(1), ":nemesis :info :add 1 => order")
+    let rows = "
+        0 :invoke :write 1; 1 :invoke :write 2; 2 :invoke :write 3; 0 :ok :write 1; 1 :ok :write 2; \
+        2 :ok :write 3; 0 :invoke :read nil; 0 :ok :read 9 => none at 7";
+    ask_all(rt.alloc(), Ask::Judge(4), rows)
 }
 
 #[test]

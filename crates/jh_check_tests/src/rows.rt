@@ -21,8 +21,8 @@ use std::test::Fail;
 pub(crate) enum Ask<'a> {
     /// The line of a checker on a history, or the words of its error.
     Checker(Workload),
-    /// What the judge of a register says of a history within a budget: `order` with its places, `none`, or `unknown`
-    /// with the number of pairs; or the words of the error.
+    /// What the judge of a register says of a history within a budget: `order` with its places, `none` with the place of
+    /// the completion at which it is stuck, or `unknown` with the number of steps; or the words of the error.
     Judge(u64),
     /// What is wrong with places as an order of this history: the words of the fault, or `order`.
     Places(&'a str),
@@ -96,7 +96,7 @@ fn verdict_text(alloc: Global, verdict: &LinVerdict) -> Option<String> {
             }
             Some(text)
         }
-        LinVerdict::Invalid => "none".to_string(alloc).ok(),
+        LinVerdict::Invalid(stuck) => format!(in alloc; "none at {}", stuck.end).ok(),
         LinVerdict::Unknown(reached) => {
             format!(in alloc; "unknown {}", reached.as_slice().len()).ok()
         }

@@ -1,6 +1,6 @@
 -- What `jeprun run` writes (this project's own): a line for each operation of the run's history, as Jepsen writes histories, a
 -- line with the ids of the active faults, one with the environment, and the line of the checker of the workload.
-use Rattle.std.specs.Prelude.{◌≡◌, ℕ, List, ◌++◌}
+use Rattle.std.specs.Prelude.{◌≡◌, ℕ, false, List, ◌++◌}
 use Rattle.std.specs.List.{flat_map}
 use Rattle.jh_edn.specs.Print.{print}
 use Rattle.jh_env.specs.Overlay.{EnvValue}
@@ -8,6 +8,7 @@ use Rattle.jh_nemesis.specs.State.{State}
 use Rattle.jh_ops.specs.Operation.{Operation}
 use Rattle.jh_ops.specs.OperationWritten.{value_written}
 use Rattle.jh_check.specs.declared.verdict.Verdict.{Verdict}
+use Rattle.jh_keys.specs.declared.finding.Judging.{Judging}
 use Rattle.jh_simnode.specs.declared.events.Event.{Event}
 use Rattle.jh_simnode.specs.Laws.{state_at}
 use Rattle.jh_simnode.specs.Plans.{PlanValue}
@@ -29,11 +30,15 @@ abbrev pub IsTold : State → List Operation → List ℕ → List ℕ → Type 
 IsTold last history judged output =
     (env : EnvValue) × IsEnvOf last env × (output ≡ history_lines history ++ (active_line last.now ++ (environment_line env ++ line judged)))
 
+-- what the history of a run is judged by; its no is not explained
+abbrev pub own_judging : PlanValue → ℕ → Judging
+own_judging p budget = record { workload = p.settings.workload; initial = p.settings.initial; budget = budget; explain = false }
+
 -- for a plan that is run serially, with the verdict on its history
 abbrev pub IsSerialText : PlanValue → ℕ → Verdict → List ℕ → Type 0
 IsSerialText p budget verdict output =
     (journal : List Event) × (history : List Operation) × (judged : List ℕ) × Serial p journal history
-    × IsJudgement p.settings.workload p.settings.initial budget history verdict judged
+    × IsJudgement (own_judging p budget) history verdict judged
     × IsTold (state_at (setup_of p) journal) history judged output
 
 -- what a run of a plan on threads gives: a legal journal and a history that tell the same and keep to the plan
@@ -47,7 +52,7 @@ pub record IsOutcome (p : PlanValue) (journal : List Event) (history : List Oper
 abbrev pub IsThreadsText : PlanValue → ℕ → Verdict → List ℕ → Type 0
 IsThreadsText p budget verdict output =
     (journal : List Event) × (history : List Operation) × (judged : List ℕ) × IsOutcome p journal history
-    × IsJudgement p.settings.workload p.settings.initial budget history verdict judged
+    × IsJudgement (own_judging p budget) history verdict judged
     × IsTold (state_at (setup_of p) journal) history judged output
 
 -- for a plan that is run in this mode

@@ -18,6 +18,7 @@ use Rattle.jh_settings.specs.Settings.{AreSettingsOf}
 use Rattle.jh_settings.specs.declared.words.Mode.{Mode}
 use Rattle.jh_cli.specs.CheckText.{IsJudgement}
 use Rattle.jh_cli.specs.EnvText.{line}
+use Rattle.jh_cli.specs.RunText.{own_judging}
 
 -- ---- when a run fails
 
@@ -30,7 +31,7 @@ is_failure _ = false
 abbrev pub IsOutcomeOf : PlanValue → ℕ → Bool → Type 0
 IsOutcomeOf p budget fails =
     (journal : List Event) × (history : List Operation) × (verdict : Verdict) × (judged : List ℕ) × Serial p journal history
-    × IsJudgement p.settings.workload p.settings.initial budget history verdict judged × (fails ≡ is_failure verdict)
+    × IsJudgement (own_judging p budget) history verdict judged × (fails ≡ is_failure verdict)
 
 -- What is answered of a schedule: whether the run of the plan with it fails. There is no answer where that run was refused.
 abbrev pub RunAnswers : PlanValue → ℕ → List Entry → Option Bool → Type 0

@@ -6,6 +6,7 @@ ghost use Rattle.std.specs.Prelude.{◌≡◌, ◌≢◌, ◌↔◌, ◌≤◌, 
 ghost use Rattle.std.specs.Io.KnownBytes.{Appends};
 ghost use Rattle.jh_edn.specs.View.{views};
 ghost use Rattle.jh_ops.specs.Operation.{operations};
+ghost use Rattle.jh_keys.specs.Lines.{finding_line};
 ghost use Rattle.jh_cli.specs.CheckRefusals.{RefusesBy, RefusesByKeys, RefusesCheck, RefusesValues, RefusesWhole};
 ghost use Rattle.jh_cli.specs.CheckText as text;
 ghost use Rattle.jh_cli.specs.CheckText.{IsCheckText, IsCheckTextOf, IsJudgement, IsJudgementBy, IsKeysJudgement, TakesInitial};
@@ -14,9 +15,11 @@ use crate::env_command::MOST_READS;
 use crate::error::CliError;
 use jh_check::Verdict;
 use jh_edn::{Value, read_all};
-use jh_keys::{check_history, check_keys, verdict_of_all, write_finding, write_findings};
+use jh_keys::{
+    Found, Judging, check_history, check_keys, verdict_of_all, write_finding, write_findings,
+};
 use jh_ops::{Op, Workload, history_of};
-use std::alloc::Global;
+use std::alloc::{AllocError, Global};
 use std::io::{Read, Write};
 use std::sync::Wait;
 use std::thread::Threads;
@@ -29,13 +32,28 @@ pub(crate) struct Judgement {
     pub(crate) text: Vec<u8>,
 }
 
+/// What `check` is asked of a history.
+#[derive(Clone, Copy, Debug, PartialEq, Eq)]
+pub struct Question {
+    pub workload: Workload,
+    /// The value that a register has at first, and nil where it is missing.
+    pub initial: Option<i64>,
+    /// How many configurations the judge of a register may reach.
+    pub budget: u64,
+    /// Whether the no of a register is explained.
+    pub explain: bool,
+    /// Whether each key is judged by itself.
+    pub independent: bool,
+    /// By how many threads keys are judged, from 1 to 16.
+    pub threads: u32,
+}
+
 /// Reads a history as `jh_ops::history_of` does, judges it by the checker of the workload, and writes one line with what
 /// is found. The answer is the exit status: 0 where the history is valid, 1 where it is not, 2 where that is not known.
-/// `initial` is the value that a register has at first, and nil where it is missing; `budget` is how many configurations
-/// the judge of a register may reach. Both mean nothing to the other workloads. All is read and judged before the first
-/// byte is written.
+/// The initial value and the budget mean nothing to other workloads than the register, nor does it mean anything there that a no
+/// is explained. All is read and judged before the first byte is written.
 ///
-/// Where its keys are independent, each is judged by itself with the whole budget, on so many threads from 1 to 16, as
+/// Where its keys are independent, each is judged by itself with the whole budget, on so many threads, as
 /// `jh_keys::check_keys` does. Then the call may wait, and promises only if it returns. Otherwise the threads mean nothing.
 ///
 /// Errors: `OnlyForRegister` where there is an initial value and no register, before anything is read; a fault of
@@ -46,36 +64,22 @@ pub fn check_run<T: Threads + Wait + Sync, R: Read, W: Write>(
     alloc: Global,
     reader: &mut R,
     writer: &mut W,
-    workload: Workload,
-    initial: Option<i64>,
-    budget: u64,
-    independent: bool,
-    threads: u32,
+    question: Question,
 ) -> Result<u8, CliError>
-    requires { (1 ≤ threads) × (threads ≤ 16) }
+    requires { (1 ≤ question.threads) × (question.threads ≤ 16) }
     ensures written { IfOk result (λ status. IfSome (R.remaining reader.old) (λ input.
-        (output : List ℕ) × IsCheckTextOf independent workload initial budget input status output
+        (output : List ℕ) × IsCheckTextOf question input status output
         × Appends (W.contents writer.old) (W.contents writer.new) output)) }
-    ensures asked { IsErrOf result CliError.OnlyForRegister ↔ (TakesInitial workload initial → ⊥) }
+    ensures asked { IsErrOf result CliError.OnlyForRegister ↔ (TakesInitial question.workload question.initial → ⊥) }
     ensures unread { IsErrOf result CliError.OnlyForRegister → reader.new ≡ reader.old }
-    ensures refused { IfErr result (λ e. IfSome (R.remaining reader.old) (λ input.
-        RefusesCheck independent workload initial budget input e)) }
+    ensures refused { IfErr result (λ e. IfSome (R.remaining reader.old) (λ input. RefusesCheck question input e)) }
     ensures unwritten { IfErr result (λ e. e ≢ CliError.Write → writer.new ≡ writer.old) }
 {
-    if initial.is_some() && !is_register(workload) {
+    if question.initial.is_some() && !is_register(question.workload) {
         return Err(CliError::OnlyForRegister);
     }
     let values = read_all(alloc, reader, MOST_READS)?;
-    let found = judge_values(
-        rt,
-        alloc,
-        values,
-        workload,
-        initial,
-        budget,
-        independent,
-        threads,
-    )?;
+    let found = judge_values(rt, alloc, values, question)?;
     match writer.write_all(&found.text) {
         Ok(()) => Ok(status_of(found.verdict)),
         Err(_) => Err(CliError::Write),
@@ -98,27 +102,36 @@ pub(crate) fn status_of(verdict: Verdict) -> u8
     }
 }
 
+// What a history is judged by.
+fn judging_of(question: Question) -> Judging
+    ensures { result ≡ text.judging_of question }
+{
+    Judging {
+        workload: question.workload,
+        initial: question.initial,
+        budget: question.budget,
+        explain: question.explain,
+    }
+}
+
 // What is found in the history that these values tell, with the line feed.
 fn judge_values<T: Threads + Wait + Sync>(
     rt: &T,
     alloc: Global,
     values: Vec<Value>,
-    workload: Workload,
-    initial: Option<i64>,
-    budget: u64,
-    independent: bool,
-    threads: u32,
+    question: Question,
 ) -> Result<Judgement, CliError>
-    requires { (1 ≤ threads) × (threads ≤ 16) }
+    requires { (1 ≤ question.threads) × (question.threads ≤ 16) }
     ensures { MatchResult result
-        (λ found. IsCheckText independent workload initial budget (views values.items) found.verdict found.text.items)
-        (RefusesValues independent workload initial budget (views values.items)) }
+        (λ found. IsCheckText question (views values.items) found.verdict found.text.items)
+        (RefusesValues question (views values.items)) }
 {
     let history = history_of(alloc, values)?;
-    let judged = if independent {
-        judge_keys(rt, alloc, &history, workload, initial, budget, threads)
+    let judging = judging_of(question);
+    let judged = if question.independent {
+        judge_keys(rt, alloc, &history, judging, question.threads)
     } else {
-        judge(alloc, &history, workload, initial, budget)
+        judge(alloc, &history, judging)
     };
     let mut found = match judged {
         Ok(found) => found,
@@ -129,26 +142,28 @@ fn judge_values<T: Threads + Wait + Sync>(
 }
 
 // What is found in a history as one.
-pub(crate) fn judge(
-    alloc: Global,
-    history: &[Op],
-    workload: Workload,
-    initial: Option<i64>,
-    budget: u64,
-) -> Result<Judgement, CliError>
+pub(crate) fn judge(alloc: Global, history: &[Op], judging: Judging) -> Result<Judgement, CliError>
     ensures { MatchResult result
-        (λ found. IsJudgement workload initial budget (operations history.now) found.verdict found.text.items)
-        (RefusesWhole workload (operations history.now)) }
+        (λ found. IsJudgement judging (operations history.now) found.verdict found.text.items)
+        (RefusesWhole judging.workload (operations history.now)) }
 {
-    let found = check_history(alloc, history, workload, initial, budget)?;
-    let mut text = Vec::new(alloc);
-    if write_finding(&found, &mut text).is_err() {
-        return Err(CliError::OutOfMemory);
-    }
+    let found = check_history(alloc, history, judging)?;
+    let text = line_of(alloc, &found)?;
     Ok(Judgement {
-        verdict: found.verdict(),
+        verdict: found.finding.verdict(),
         text,
     })
+}
+
+// The line of what is found in a history as one.
+fn line_of(alloc: Global, found: &Found) -> Result<Vec<u8>, AllocError>
+    ensures { IfOk result (λ text. text.items ≡ finding_line found.now) }
+{
+    let mut text = Vec::new(alloc);
+    match write_finding(found, &mut text) {
+        Ok(()) => Ok(text),
+        Err(_) => Err(AllocError),
+    }
 }
 
 // What is found in the history of each key.
@@ -156,17 +171,15 @@ fn judge_keys<T: Threads + Wait + Sync>(
     rt: &T,
     alloc: Global,
     history: &[Op],
-    workload: Workload,
-    initial: Option<i64>,
-    budget: u64,
+    judging: Judging,
     threads: u32,
 ) -> Result<Judgement, CliError>
     requires { (1 ≤ threads) × (threads ≤ 16) }
     ensures { MatchResult result
-        (λ found. IsKeysJudgement workload initial budget (operations history.now) found.verdict found.text.items)
-        (RefusesByKeys workload initial budget (operations history.now)) }
+        (λ found. IsKeysJudgement judging (operations history.now) found.verdict found.text.items)
+        (RefusesByKeys judging (operations history.now)) }
 {
-    let found = check_keys(rt, alloc, history, workload, initial, budget, threads)?;
+    let found = check_keys(rt, alloc, history, judging, threads)?;
     let verdict = verdict_of_all(alloc, &found)?;
     let mut text = Vec::new(alloc);
     if write_findings(verdict, &found, &mut text).is_err() {

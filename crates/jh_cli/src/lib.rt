@@ -10,7 +10,7 @@ mod error;
 mod run_command;
 mod shrink_command;
 
-pub use check_command::check_run;
+pub use check_command::{Question, check_run};
 pub use env_command::env_run;
 pub use error::CliError;
 pub use run_command::run_run;

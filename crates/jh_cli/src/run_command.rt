@@ -16,6 +16,7 @@ use crate::check_command::{Judgement, judge, status_of};
 use crate::env_command::{MOST_READS, write_active, write_environment, write_line};
 use crate::error::CliError;
 use jh_edn::read_bytes;
+use jh_keys::Judging;
 use jh_nemesis::Nemesis;
 use jh_ops::{Op, value_of};
 use jh_run_laws::own_histories_are_judged;
@@ -199,14 +200,25 @@ fn own_error(error: CliError) -> CliError
     }
 }
 
+// What the history of a run of the plan is judged by.
+pub(crate) fn own_judging(plan: &Plan, budget: u64) -> Judging
+    ensures { result ≡ text.own_judging plan.now budget }
+{
+    Judging {
+        workload: plan.workload(),
+        initial: plan.initial(),
+        budget,
+        explain: false,
+    }
+}
+
 // The judgement of the history of a run of the plan.
 fn judge_own(alloc: Global, plan: &Plan, history: &[Op], budget: u64) -> Result<Judgement, CliError>
     ensures { MatchResult result
-        (λ found. IsJudgement plan.now.settings.workload plan.now.settings.initial budget
-        (operations history.now) found.verdict found.text.items)
+        (λ found. IsJudgement (text.own_judging plan.now budget) (operations history.now) found.verdict found.text.items)
         (RefusesOwn plan.now.settings.workload (operations history.now)) }
 {
-    match judge(alloc, history, plan.workload(), plan.initial(), budget) {
+    match judge(alloc, history, own_judging(plan, budget)) {
         Ok(found) => Ok(found),
         Err(error) => Err(own_error(error)),
     }

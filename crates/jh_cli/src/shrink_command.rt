@@ -15,6 +15,7 @@ ghost use Rattle.jh_cli.specs.ShrinkText.{IsOutcomeOf, IsShrinkTextOf, RunAnswer
 use crate::check_command::judge;
 use crate::env_command::{MOST_READS, write_line};
 use crate::error::CliError;
+use crate::run_command::own_judging;
 use jh_check::Verdict;
 use jh_edn::{Value, Values, read_bytes};
 use jh_env::Nodes;
@@ -152,7 +153,7 @@ fn fails(alloc: Global, plan: &Plan, judging: u64) -> Option<bool>
     let Ok((_world, history)) = run_serial(alloc, plan) else {
         return None;
     };
-    match judge(alloc, &history, plan.workload(), plan.initial(), judging) {
+    match judge(alloc, &history, own_judging(plan, judging)) {
         Ok(found) => Some(is_failure(found.verdict)),
         Err(_) => None,
     }

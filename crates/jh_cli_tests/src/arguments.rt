@@ -23,12 +23,13 @@ pub(crate) fn asked_once(alloc: Global, arguments: &str) -> Option<Vec<u8>> {
 fn asks_for_commands(rt: HostRuntime) {
     let rows = r#"jeprun env → Env
 § jeprun run → Run
-§ jeprun check --workload set → Check(Question { workload: Set, initial: None, budget: 100000, independent: false, threads: 1 })
-§ jeprun check --workload=unique-ids --budget 0 → Check(Question { workload: Ids, initial: None, budget: 0, independent: false, threads: 1 })
-§ jeprun check --workload register --initial=-5 → Check(Question { workload: Register, initial: Some(-5), budget: 100000, independent: false, threads: 1 })
-§ jeprun check --workload set --independent → Check(Question { workload: Set, initial: None, budget: 100000, independent: true, threads: 1 })
-§ jeprun check --independent --threads 16 --workload counter → Check(Question { workload: Counter, initial: None, budget: 100000, independent: true, threads: 16 })
-§ jeprun check --workload set --budget 10000000 → Check(Question { workload: Set, initial: None, budget: 10000000, independent: false, threads: 1 })
+§ jeprun check --workload set → Check(Question { workload: Set, initial: None, budget: 100000, explain: false, independent: false, threads: 1 })
+§ jeprun check --workload=unique-ids --budget 0 → Check(Question { workload: Ids, initial: None, budget: 0, explain: false, independent: false, threads: 1 })
+§ jeprun check --workload register --initial=-5 → Check(Question { workload: Register, initial: Some(-5), budget: 100000, explain: false, independent: false, threads: 1 })
+§ jeprun check --workload set --independent → Check(Question { workload: Set, initial: None, budget: 100000, explain: false, independent: true, threads: 1 })
+§ jeprun check --independent --threads 16 --workload counter → Check(Question { workload: Counter, initial: None, budget: 100000, explain: false, independent: true, threads: 16 })
+§ jeprun check --explain --workload register → Check(Question { workload: Register, initial: None, budget: 100000, explain: true, independent: false, threads: 1 })
+§ jeprun check --workload set --budget 10000000 → Check(Question { workload: Set, initial: None, budget: 10000000, explain: false, independent: false, threads: 1 })
 § jeprun shrink → Shrink(10000)
 § jeprun shrink --budget 10000000 → Shrink(10000000)
 § jeprun → 3
@@ -82,6 +83,12 @@ For more information, try '--help'.
 error: unexpected value '1' for '--independent' found; no more were expected
 
 Usage: jeprun check --workload <NAME> --independent
+
+For more information, try '--help'.
+§ jeprun check --workload set --explain=no → 3
+error: unexpected value 'no' for '--explain' found; no more were expected
+
+Usage: jeprun check --workload <NAME> --explain
 
 For more information, try '--help'.
 § jeprun shrink --budget 10000001 → 3
@@ -183,17 +190,21 @@ Options:
       --workload <NAME>  What the database was to be [possible values: register, set, counter, unique-ids]
       --initial <N>      The register's first value; nil where it is left out
       --budget <N>       How many configurations the judge of a register may reach [default: 100000]
+      --explain          Says of a register that is not valid where it is stuck
       --independent      Judges each key by itself; values are tuples of a key and a value
       --threads <N>      How many threads judge keys [default: 1]
   -h, --help             Print help
 
-It writes the verdict, and what it stands on.
+It writes the verdict, and what it stands on. Of a register that is not valid, --explain
+adds the completion at which it is stuck, an order of what is before that, the value that
+this order leads to, and the numbers of the operations that are pending there. Other
+workloads say themselves what is wrong.
 
 Exit status: 0 valid, 1 not valid, 2 unknown, 3 refused arguments or input, 4 where
 memory ran out, a read or a write failed, or a thread could not be had
 
 Examples:
-  jeprun check --workload set < examples/check/set-lost.edn
+  jeprun check --workload register --explain < examples/check/register-stale.edn
   jeprun check --workload register --independent < examples/check/register-keys.edn
 § jeprun --help → 0
 A test harness for databases, over a simulated cluster under faults

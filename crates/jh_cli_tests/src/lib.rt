@@ -15,6 +15,8 @@ mod errors;
 #[cfg(test)]
 mod examples;
 #[cfg(test)]
+mod explained;
+#[cfg(test)]
 mod histories;
 #[cfg(test)]
 mod hostile;

@@ -10,13 +10,12 @@ use Rattle.jh_ops.specs.Operation.{Operation}
 use Rattle.jh_keys.specs.BoardInside.{AreAnswers, IsAnswer, IsAnswerAt}
 use Rattle.jh_keys.specs.FoundInside.{AreCollected, IsFoundSoFar}
 use Rattle.jh_keys.specs.Keys.{AreTuples, keys_of, places_of}
-use Rattle.jh_keys.specs.Refusals.{Question, AreFindings, AreFoundBefore, IsFindingOf, RefusesKey, RefusesKeys}
-use Rattle.jh_keys.specs.PartsInside.{asked_of}
-use Rattle.jh_keys.specs.SplitInside.{groups_of, view_group, view_groups}
+use Rattle.jh_keys.specs.Refusals.{Question, AreFindings, IsFindingOf, RefusesKey, RefusesKeys, asked_by}
+use Rattle.jh_keys.specs.SplitInside.{groups_of, view_groups}
 use Rattle.jh_keys.specs.declared.error.KeysError.{KeysError}
 use Rattle.jh_keys.specs.declared.error.KeysError.TheVariants.{BadValue, Key, Thread, OutOfMemory}
-use Rattle.jh_keys.specs.declared.finding.Finding.{Finding}
-use Rattle.jh_keys.specs.declared.parts.Judging.{Judging}
+use Rattle.jh_keys.specs.Findings.{Found}
+use Rattle.jh_keys.specs.declared.finding.Judging.{Judging}
 use Rattle.jh_keys.specs.declared.serial.KeyFinding.{KeyFinding}
 use Rattle.jh_keys.specs.declared.split.KeyPlaces.{KeyPlaces}
 
@@ -61,7 +60,7 @@ place_of_all history groups place group all at =
 pub none_found : (asked : Question) (groups : List KeyPlaces) → view_groups groups ≡ groups_of asked.history → IsFoundSoFar asked [] groups
 none_found asked groups h = record {
   keys = groups_keys asked.history groups h;
-  each = All-nil (λ one. IsFindingOf asked (view one.key) one.finding);
+  each = All-nil (λ one. IsFindingOf asked (view one.key) one.found);
   places = groups_places asked.history groups h;
 }
 
@@ -69,13 +68,13 @@ pub first_places : (asked : Question) (found : List KeyFinding) (group : KeyPlac
 first_places asked found group rest h = All-head (HasPlaces asked.history) group rest h.places
 
 pub one_more : (asked : Question) (found : List KeyFinding) (group : KeyPlaces) (rest : List KeyPlaces) (one : KeyFinding) → IsFoundSoFar asked found (group ∷ rest)
-    → view one.key ≡ view group.key → IsFindingOf asked (view group.key) one.finding → IsFoundSoFar asked (found ++ one ∷ []) rest
+    → view one.key ≡ view group.key → IsFindingOf asked (view group.key) one.found → IsFoundSoFar asked (found ++ one ∷ []) rest
 one_more asked found group rest one h same judged =
     let others : List Edn = map (λ group. view group.key) rest in
     record {
       keys = ap (λ w. w ++ others) (map_push (λ one. view one.key) found one) ∙ append_assoc (map (λ one. view one.key) found) (view one.key ∷ []) others
           ∙ ap (λ k. map (λ one. view one.key) found ++ k ∷ others) same ∙ h.keys;
-      each = All-push (λ one. IsFindingOf asked (view one.key) one.finding) found one h.each (subst (λ k. IsFindingOf asked k one.finding) (sym same) judged);
+      each = All-push (λ one. IsFindingOf asked (view one.key) one.found) found one h.each (subst (λ k. IsFindingOf asked k one.found) (sym same) judged);
       places = All-tail (HasPlaces asked.history) group rest h.places;
     }
 
@@ -89,14 +88,14 @@ behind : (xs : List Edn) (y : Edn) (ys : List Edn) → slice_get (xs ++ y ∷ ys
 behind [] y ys = refl
 behind (x ∷ xs) y ys = behind xs y ys
 
-before : (asked : Question) (found : List KeyFinding) (rest : List Edn) → All (λ one. IsFindingOf asked (view one.key) one.finding) found → (earlier : ℕ) (key : Edn)
-    → earlier < length (map (λ one. view one.key) found) → slice_get (map (λ one. view one.key) found ++ rest) earlier ≡ Some key → (finding : Finding) × IsFindingOf asked key finding
+before : (asked : Question) (found : List KeyFinding) (rest : List Edn) → All (λ one. IsFindingOf asked (view one.key) one.found) found → (earlier : ℕ) (key : Edn)
+    → earlier < length (map (λ one. view one.key) found) → slice_get (map (λ one. view one.key) found ++ rest) earlier ≡ Some key → (found : Found) × IsFindingOf asked key found
 before asked [] rest each earlier key less at = absurd (omega arith)
 before asked (one ∷ found) rest each zero key less at =
     let same : view one.key ≡ key = cc in
-    (one.finding, subst (λ k. IsFindingOf asked k one.finding) same (All-head (λ one. IsFindingOf asked (view one.key) one.finding) one found each))
+    (one.found, subst (λ k. IsFindingOf asked k one.found) same (All-head (λ one. IsFindingOf asked (view one.key) one.found) one found each))
 before asked (one ∷ found) rest each (suc earlier) key less at =
-    before asked found rest (All-tail (λ one. IsFindingOf asked (view one.key) one.finding) one found each) earlier key (omega arith) at
+    before asked found rest (All-tail (λ one. IsFindingOf asked (view one.key) one.found) one found each) earlier key (omega arith) at
 
 pub keys_refused : (asked : Question) (found : List KeyFinding) (group : KeyPlaces) (rest : List KeyPlaces) (error : KeysError) → AreTuples asked.history
     → IsFoundSoFar asked found (group ∷ rest) → RefusesKey asked (view group.key) error → RefusesKeys asked error
@@ -109,7 +108,7 @@ keys_refused asked found group rest (Key told) tuples h refused =
         length keys,
         view group.key,
         subst (λ all. slice_get all (length keys) ≡ Some (view group.key)) h.keys (behind keys (view group.key) others),
-        subst (λ all. (earlier : ℕ) (key : Edn) → earlier < length keys → slice_get all earlier ≡ Some key → (finding : Finding) × IsFindingOf asked key finding) h.keys (before asked found (view group.key ∷ others) h.each),
+        subst (λ all. (earlier : ℕ) (key : Edn) → earlier < length keys → slice_get all earlier ≡ Some key → (found : Found) × IsFindingOf asked key found) h.keys (before asked found (view group.key ∷ others) h.each),
         refused,
       ),
     )
@@ -126,14 +125,14 @@ front_key asked found group rest h =
     ∙ behind keys (view group.key) others
 
 -- what was answered of it, where that was answered
-pub front_answer : (asked : Question) (found : List KeyFinding) (group : KeyPlaces) (rest : List KeyPlaces) (answer : Option (Result Finding KeysError)) (answers : List (Option (Result Finding KeysError)))
+pub front_answer : (asked : Question) (found : List KeyFinding) (group : KeyPlaces) (rest : List KeyPlaces) (answer : Option (Result Found KeysError)) (answers : List (Option (Result Found KeysError)))
     → AreCollected asked found (group ∷ rest) (answer ∷ answers) → IsAnswer asked (view group.key) (unwrap_or answer (Err Thread))
 front_answer asked found group rest None answers h = tt
 front_answer asked found group rest (Some answer) answers h =
     let e : length found + 0 ≡ length found = omega arith in
     h.answers 0 answer refl (view group.key) (ap (slice_get (keys_of asked.history)) e ∙ front_key asked found group rest h.keys)
 
-pub first_collected : (asked : Question) (groups : List KeyPlaces) (answers : List (Option (Result Finding KeysError)))
+pub first_collected : (asked : Question) (groups : List KeyPlaces) (answers : List (Option (Result Found KeysError)))
     → view_groups groups ≡ groups_of asked.history → AreAnswers asked answers → AreCollected asked [] groups answers
 first_collected asked groups answers h are = record {
   keys = none_found asked groups h;
@@ -141,8 +140,8 @@ first_collected asked groups answers h are = record {
   size = are.size ∙ ap length (sym (groups_keys asked.history groups h)) ∙ length-map groups (λ group. view group.key);
 }
 
-pub more_collected : (asked : Question) (found : List KeyFinding) (group : KeyPlaces) (rest : List KeyPlaces) (answer : Option (Result Finding KeysError)) (answers : List (Option (Result Finding KeysError))) (one : KeyFinding)
-    → AreCollected asked found (group ∷ rest) (answer ∷ answers) → view one.key ≡ view group.key → IsFindingOf asked (view group.key) one.finding → AreCollected asked (found ++ one ∷ []) rest answers
+pub more_collected : (asked : Question) (found : List KeyFinding) (group : KeyPlaces) (rest : List KeyPlaces) (answer : Option (Result Found KeysError)) (answers : List (Option (Result Found KeysError))) (one : KeyFinding)
+    → AreCollected asked found (group ∷ rest) (answer ∷ answers) → view one.key ≡ view group.key → IsFindingOf asked (view group.key) one.found → AreCollected asked (found ++ one ∷ []) rest answers
 more_collected asked found group rest answer answers one h same judged = record {
   keys = one_more asked found group rest one h.keys same judged;
   answers = λ place told at.
@@ -151,12 +150,12 @@ more_collected asked found group rest answer answers one h same judged = record 
   size = (let e : length answers ≡ length rest = omega (arith, h.size) in e);
 }
 
-pub answered : (asked : Question) (key : Edn) (answer : Result Finding KeysError) → MatchResult answer (IsFindingOf asked key) (RefusesKey asked key) → IsAnswer asked key answer
+pub answered : (asked : Question) (key : Edn) (answer : Result Found KeysError) → MatchResult answer (IsFindingOf asked key) (RefusesKey asked key) → IsAnswer asked key answer
 answered asked key (Ok finding) h = h
 answered asked key (Err error) h = h
 
 -- a place for each key is filled with what was answered of that key
-pub answer_at : (asked : Question) (groups : List KeyPlaces) (place : ℕ) (group : KeyPlaces) (answer : Result Finding KeysError)
+pub answer_at : (asked : Question) (groups : List KeyPlaces) (place : ℕ) (group : KeyPlaces) (answer : Result Found KeysError)
     → view_groups groups ≡ groups_of asked.history → slice_get groups place ≡ Some group → IsAnswer asked (view group.key) answer → IsAnswerAt asked place answer
 answer_at asked groups place group answer h at judged = λ key key_at.
     let here : slice_get (keys_of asked.history) place ≡ Some (view group.key) =
@@ -166,5 +165,5 @@ answer_at asked groups place group answer h at judged = λ key key_at.
 
 -- the question that a history and a judge ask
 pub whole_question : (judging : Judging) (history : List Operation) (asked : Question) → history ≡ asked.history
-    → asked_of judging asked.history ≡ asked → asked_of judging history ≡ asked
-whole_question judging history asked is h = ap (asked_of judging) is ∙ h
+    → asked_by judging asked.history ≡ asked → asked_by judging history ≡ asked
+whole_question judging history asked is h = ap (asked_by judging) is ∙ h

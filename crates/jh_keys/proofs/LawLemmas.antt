@@ -1,11 +1,11 @@
 -- Two findings of one history.
-use Rattle.std.proofs.Common.{◌≡◌, ◌∙◌, ℕ, ℤ, List, [], ◌∷◌, codes, map, refl, sym, ap, subst}
-use Rattle.std.specs.Prelude.{◌≢◌, All, Option, Some}
+use Rattle.std.proofs.Common.{◌≡◌, ◌∙◌, ◌+◌, ◌<◌, ℕ, ℤ, Bool, true, false, List, [], ◌∷◌, codes, map, refl, sym, ap, subst, arith}
+use Rattle.std.specs.Prelude.{◌≢◌, All, Option, Some, None, IsSomeAnd, slice_get}
 use Rattle.std.proofs.lemmas.List.Elements.{All-head, All-tail}
-use Rattle.jh_edn.specs.Edn.{Edn, keyword}
+use Rattle.jh_edn.specs.Edn.{keyword}
 use Rattle.jh_edn.specs.Print.{print}
 use Rattle.jh_edn.specs.View.{view}
-use Rattle.jh_ops.specs.Operation.{Operation}
+use Rattle.jh_ops.specs.Operation.{Operation, operation}
 use Rattle.jh_ops.specs.declared.call.Workload.{Workload}
 use Rattle.jh_check.specs.CounterResults.{counter_result}
 use Rattle.jh_check.specs.IdsResults.{ids_result}
@@ -13,62 +13,74 @@ use Rattle.jh_check.specs.Lines.{vector_of}
 use Rattle.jh_check.specs.SetResults.{set_result}
 use Rattle.jh_check.specs.Verdicts.{merged}
 use Rattle.jh_check.specs.declared.verdict.Verdict.{Verdict}
+use Rattle.jh_linear.specs.Stuck.{IsStuck}
 use Rattle.jh_linear.specs.Verdict.{IsJudged}
 use Rattle.jh_linear.specs.declared.register.RegOp.{RegOp}
 use Rattle.jh_linear.specs.declared.verdict.LinVerdict.{LinVerdict}
 use Rattle.jh_linear.specs.declared.verdict.LinVerdict.TheVariants.{Valid, Invalid, Unknown}
-use Rattle.jh_keys.specs.Findings.{AreCalls, IsFinding, verdict_of, verdict_of_register}
+use Rattle.jh_linear.specs.declared.verdict.Stuck.{Stuck}
+use Rattle.jh_keys.specs.Explanations.{Explains, IsExplained, pending_at, where_stuck}
+use Rattle.jh_keys.specs.Findings.{AreCalls, IsFindingBy, verdict_of, verdict_of_register}
 use Rattle.jh_keys.specs.Lines.{finding_value, key_value, keys_line, with_verdict}
 use Rattle.jh_keys.specs.Refusals.{Question, AreFindings, IsFindingOf}
+use Rattle.jh_keys.specs.declared.explanation.Explanation.{Explanation}
 use Rattle.jh_keys.specs.declared.finding.Finding.{Finding}
 use Rattle.jh_keys.specs.declared.finding.Finding.TheVariants.{Set, Counter, Ids, Register}
+use Rattle.jh_keys.specs.declared.finding.Judging.{Judging}
 use Rattle.jh_keys.specs.declared.serial.KeyFinding.{KeyFinding}
 
--- ---- what a finding is
+-- ---- what is found
 
-found_set : (initial : Option ℤ) (budget : ℕ) (history : List Operation) (f : Finding) → IsFinding Workload.Set initial budget history f → f ≡ Set (set_result history)
-found_set initial budget history (Set found) h = ap Set h.1
-found_set initial budget history (Counter found) h = absurd h
-found_set initial budget history (Ids found) h = absurd h
-found_set initial budget history (Register found) h = absurd h
+found_set : (judging : Judging) (history : List Operation) (f : Finding) (e : Option Explanation) → IsFindingBy Workload.Set judging history f e
+    → (f ≡ Set (set_result history)) × (e ≡ None)
+found_set judging history (Set found) e h = (ap Set h.1, h.2)
+found_set judging history (Counter found) e h = absurd h
+found_set judging history (Ids found) e h = absurd h
+found_set judging history (Register judged) e h = absurd h
 
-found_counter : (initial : Option ℤ) (budget : ℕ) (history : List Operation) (f : Finding) → IsFinding Workload.Counter initial budget history f → f ≡ Counter (counter_result history)
-found_counter initial budget history (Set found) h = absurd h
-found_counter initial budget history (Counter found) h = ap Counter h.1
-found_counter initial budget history (Ids found) h = absurd h
-found_counter initial budget history (Register found) h = absurd h
+found_counter : (judging : Judging) (history : List Operation) (f : Finding) (e : Option Explanation) → IsFindingBy Workload.Counter judging history f e
+    → (f ≡ Counter (counter_result history)) × (e ≡ None)
+found_counter judging history (Set found) e h = absurd h
+found_counter judging history (Counter found) e h = (ap Counter h.1, h.2)
+found_counter judging history (Ids found) e h = absurd h
+found_counter judging history (Register judged) e h = absurd h
 
-found_ids : (initial : Option ℤ) (budget : ℕ) (history : List Operation) (f : Finding) → IsFinding Workload.Ids initial budget history f → f ≡ Ids (ids_result history)
-found_ids initial budget history (Set found) h = absurd h
-found_ids initial budget history (Counter found) h = absurd h
-found_ids initial budget history (Ids found) h = ap Ids h
-found_ids initial budget history (Register found) h = absurd h
+found_ids : (judging : Judging) (history : List Operation) (f : Finding) (e : Option Explanation) → IsFindingBy Workload.Ids judging history f e
+    → (f ≡ Ids (ids_result history)) × (e ≡ None)
+found_ids judging history (Set found) e h = absurd h
+found_ids judging history (Counter found) e h = absurd h
+found_ids judging history (Ids found) e h = (ap Ids h.0, h.1)
+found_ids judging history (Register judged) e h = absurd h
 
-one_finding : (workload : Workload) (initial : Option ℤ) (budget : ℕ) (history : List Operation) (a b : Finding) → workload ≢ Workload.Register
-    → IsFinding workload initial budget history a → IsFinding workload initial budget history b → a ≡ b
-one_finding Workload.Set initial budget history a b other x y = found_set initial budget history a x ∙ sym (found_set initial budget history b y)
-one_finding Workload.Counter initial budget history a b other x y = found_counter initial budget history a x ∙ sym (found_counter initial budget history b y)
-one_finding Workload.Ids initial budget history a b other x y = found_ids initial budget history a x ∙ sym (found_ids initial budget history b y)
-one_finding Workload.Register initial budget history a b other x y = absurd (other refl)
+both_same : (f g found : Finding) (d e : Option Explanation) → (f ≡ found) × (d ≡ None) → (g ≡ found) × (e ≡ None) → (f ≡ g) × (d ≡ e)
+both_same f g found d e x y = (x.0 ∙ sym y.0, x.1 ∙ sym y.1)
+
+one_finding : (workload : Workload) (judging : Judging) (history : List Operation) (a b : Finding) (d e : Option Explanation) → workload ≢ Workload.Register
+    → IsFindingBy workload judging history a d → IsFindingBy workload judging history b e → (a ≡ b) × (d ≡ e)
+one_finding Workload.Set judging history a b d e other x y = both_same a b _ d e (found_set judging history a d x) (found_set judging history b e y)
+one_finding Workload.Counter judging history a b d e other x y = both_same a b _ d e (found_counter judging history a d x) (found_counter judging history b e y)
+one_finding Workload.Ids judging history a b d e other x y = both_same a b _ d e (found_ids judging history a d x) (found_ids judging history b e y)
+one_finding Workload.Register judging history a b d e other x y = absurd (other refl)
 
 -- ---- one line
 
-same_parts : (asked : Question) → asked.workload ≢ Workload.Register → (a b : List KeyFinding) → map (λ one. view one.key) a ≡ map (λ one. view one.key) b
-    → All (λ one. IsFindingOf asked (view one.key) one.finding) a → All (λ one. IsFindingOf asked (view one.key) one.finding) b
-    → (map key_value a ≡ map key_value b) × (map (λ one. verdict_of one.finding) a ≡ map (λ one. verdict_of one.finding) b)
+same_parts : (asked : Question) → asked.judging.workload ≢ Workload.Register → (a b : List KeyFinding) → map (λ one. view one.key) a ≡ map (λ one. view one.key) b
+    → All (λ one. IsFindingOf asked (view one.key) one.found) a → All (λ one. IsFindingOf asked (view one.key) one.found) b
+    → (map key_value a ≡ map key_value b) × (map (λ one. verdict_of one.found.finding) a ≡ map (λ one. verdict_of one.found.finding) b)
 same_parts asked other [] [] keys x y = (refl, refl)
 same_parts asked other [] (two ∷ b) keys x y = absurd cc
 same_parts asked other (one ∷ a) [] keys x y = absurd cc
 same_parts asked other (one ∷ a) (two ∷ b) keys x y =
-    let P : KeyFinding → Type 0 = λ one. IsFindingOf asked (view one.key) one.finding in
+    let P : KeyFinding → Type 0 = λ one. IsFindingOf asked (view one.key) one.found in
     let key : view one.key ≡ view two.key = cc in
     let rest : map (λ one. view one.key) a ≡ map (λ one. view one.key) b = cc in
-    let finding : one.finding ≡ two.finding =
-    one_finding asked.workload asked.initial asked.budget _ one.finding two.finding other (All-head P one a x) (subst (λ k. IsFindingOf asked k two.finding) (sym key) (All-head P two b y)) in
+    let same : (one.found.finding ≡ two.found.finding) × (one.found.explanation ≡ two.found.explanation) =
+    one_finding asked.judging.workload asked.judging _ one.found.finding two.found.finding one.found.explanation two.found.explanation other
+    (All-head P one a x) (subst (λ k. IsFindingOf asked k two.found) (sym key) (All-head P two b y)) in
     let others = same_parts asked other a b rest (All-tail P one a x) (All-tail P two b y) in
-    (λ i. vector_of (key i ∷ finding_value (finding i) ∷ []) ∷ others.0 i, λ i. verdict_of (finding i) ∷ others.1 i)
+    (λ i. vector_of (key i ∷ finding_value (same.0 i) (same.1 i) ∷ []) ∷ others.0 i, λ i. verdict_of (same.0 i) ∷ others.1 i)
 
-pub one_line : (asked : Question) (a b : List KeyFinding) → asked.workload ≢ Workload.Register → AreFindings asked a → AreFindings asked b → keys_line a ≡ keys_line b
+pub one_line : (asked : Question) (a b : List KeyFinding) → asked.judging.workload ≢ Workload.Register → AreFindings asked a → AreFindings asked b → keys_line a ≡ keys_line b
 one_line asked a b other x y =
     let parts = same_parts asked other a b (x.keys ∙ sym y.keys) x.each y.each in
     λ i. print (with_verdict (merged (parts.1 i)) ((keyword (codes "keys"), vector_of (parts.0 i)) ∷ []))
@@ -90,31 +102,86 @@ calls_one history a b x y = somes_one a b (sym x.1 ∙ y.1)
 
 orders_agree : (calls : List RegOp) (initial : Option ℤ) (budget : ℕ) (a b : LinVerdict) → IsJudged calls initial budget a → IsJudged calls initial budget b
     → verdict_of_register a ≡ Verdict.True → verdict_of_register b ≡ Verdict.False → ⊥
-orders_agree calls initial budget (Valid order) Invalid x y yes_a no_b = y order x
+orders_agree calls initial budget (Valid order) (Invalid stuck) x y yes_a no_b = y.0 order x
 orders_agree calls initial budget (Valid order) (Valid other) x y yes_a no_b = absurd cc
 orders_agree calls initial budget (Valid order) (Unknown reached) x y yes_a no_b = absurd cc
-orders_agree calls initial budget Invalid b x y yes_a no_b = absurd cc
+orders_agree calls initial budget (Invalid stuck) b x y yes_a no_b = absurd cc
 orders_agree calls initial budget (Unknown reached) b x y yes_a no_b = absurd cc
 
-registers_agree : (initial : Option ℤ) (budget : ℕ) (history : List Operation) (a b : Finding) → IsFinding Workload.Register initial budget history a
-    → IsFinding Workload.Register initial budget history b → verdict_of a ≡ Verdict.True → verdict_of b ≡ Verdict.False → ⊥
-registers_agree initial budget history (Register a) (Register b) x y yes_a no_b =
-    orders_agree x.0 initial budget a b x.2 (subst (λ calls. IsJudged calls initial budget b) (calls_one history y.0 x.0 y.1 x.1) y.2) yes_a no_b
-registers_agree initial budget history (Register a) (Set b) x y yes_a no_b = y
-registers_agree initial budget history (Register a) (Counter b) x y yes_a no_b = y
-registers_agree initial budget history (Register a) (Ids b) x y yes_a no_b = y
-registers_agree initial budget history (Set a) b x y yes_a no_b = x
-registers_agree initial budget history (Counter a) b x y yes_a no_b = x
-registers_agree initial budget history (Ids a) b x y yes_a no_b = x
+registers_agree : (judging : Judging) (history : List Operation) (a b : Finding) (d e : Option Explanation) → IsFindingBy Workload.Register judging history a d
+    → IsFindingBy Workload.Register judging history b e → verdict_of a ≡ Verdict.True → verdict_of b ≡ Verdict.False → ⊥
+registers_agree judging history (Register a) (Register b) d e x y yes_a no_b =
+    orders_agree x.0 judging.initial judging.budget a b x.2
+    (subst (λ calls. IsJudged calls judging.initial judging.budget b) (calls_one history y.0 x.0 y.1 x.1) y.2) yes_a no_b
+registers_agree judging history (Register a) (Set b) d e x y yes_a no_b = y
+registers_agree judging history (Register a) (Counter b) d e x y yes_a no_b = y
+registers_agree judging history (Register a) (Ids b) d e x y yes_a no_b = y
+registers_agree judging history (Set a) b d e x y yes_a no_b = x
+registers_agree judging history (Counter a) b d e x y yes_a no_b = x
+registers_agree judging history (Ids a) b d e x y yes_a no_b = x
 
 same_verdict : (a b : Finding) → a ≡ b → verdict_of a ≡ Verdict.True → verdict_of b ≡ Verdict.False → ⊥
 same_verdict a b same yes_a no_b =
     let both : Verdict.True ≡ Verdict.False = sym yes_a ∙ ap verdict_of same ∙ no_b in
     absurd cc
 
-pub verdicts_agree : (workload : Workload) (initial : Option ℤ) (budget : ℕ) (history : List Operation) (a b : Finding) → IsFinding workload initial budget history a
-    → IsFinding workload initial budget history b → verdict_of a ≡ Verdict.True → verdict_of b ≡ Verdict.False → ⊥
-verdicts_agree Workload.Set initial budget history a b x y = same_verdict a b (found_set initial budget history a x ∙ sym (found_set initial budget history b y))
-verdicts_agree Workload.Counter initial budget history a b x y = same_verdict a b (found_counter initial budget history a x ∙ sym (found_counter initial budget history b y))
-verdicts_agree Workload.Ids initial budget history a b x y = same_verdict a b (found_ids initial budget history a x ∙ sym (found_ids initial budget history b y))
-verdicts_agree Workload.Register initial budget history a b x y = registers_agree initial budget history a b x y
+pub verdicts_agree : (workload : Workload) (judging : Judging) (history : List Operation) (a b : Finding) (d e : Option Explanation)
+    → IsFindingBy workload judging history a d → IsFindingBy workload judging history b e
+    → verdict_of a ≡ Verdict.True → verdict_of b ≡ Verdict.False → ⊥
+verdicts_agree Workload.Set judging history a b d e x y = same_verdict a b ((found_set judging history a d x).0 ∙ sym (found_set judging history b e y).0)
+verdicts_agree Workload.Counter judging history a b d e x y = same_verdict a b ((found_counter judging history a d x).0 ∙ sym (found_counter judging history b e y).0)
+verdicts_agree Workload.Ids judging history a b d e x y = same_verdict a b ((found_ids judging history a d x).0 ∙ sym (found_ids judging history b e y).0)
+verdicts_agree Workload.Register judging history a b d e x y = registers_agree judging history a b d e x y
+
+-- ---- one place where a register is stuck
+
+same_end : (calls : List RegOp) (initial : Option ℤ) (a b : Stuck) → IsStuck calls initial a → IsStuck calls initial b → a.end ≡ b.end
+same_end calls initial a b x y =
+    let not_below : a.end < b.end → ⊥ = λ less. (let order = y.least (a.end + 1) (omega arith) in x.behind order.0 order.1) in
+    let not_above : b.end < a.end → ⊥ = λ less. (let order = x.least (b.end + 1) (omega arith) in y.behind order.0 order.1) in
+    omega (arith, not_below, not_above)
+
+somes_same : {X : Type 0} (x y : X) → Some x ≡ Some y → x ≡ y
+somes_same x y e = cc
+
+same_told : (history : List Operation) (calls : List RegOp) (a b : ℕ) (d e : Option Explanation) → a ≡ b
+    → IsSomeAnd d (Explains history calls a) → IsSomeAnd e (Explains history calls b) → where_stuck d ≡ where_stuck e
+same_told history calls a b None e same x y = absurd x
+same_told history calls a b (Some d) None same x y = absurd y
+same_told history calls a b (Some d) (Some e) same x y =
+    let one : operation d.completion ≡ operation e.completion =
+    somes_same (operation d.completion) (operation e.completion) (sym x.completion ∙ ap (slice_get history) same ∙ y.completion) in
+    let pending : d.pending.items ≡ e.pending.items = x.pending ∙ ap (pending_at calls) same ∙ sym y.pending in
+    λ i. Some (one i, pending i)
+
+same_stuck : (explain : Bool) (history : List Operation) (calls : List RegOp) (initial : Option ℤ) (budget : ℕ) (a b : LinVerdict) (d e : Option Explanation)
+    → IsJudged calls initial budget a → IsJudged calls initial budget b → IsExplained explain history calls a d → IsExplained explain history calls b e
+    → verdict_of_register a ≡ Verdict.False → verdict_of_register b ≡ Verdict.False → where_stuck d ≡ where_stuck e
+same_stuck true history calls initial budget (Invalid a) (Invalid b) d e x y m n no_a no_b =
+    same_told history calls a.end b.end d e (same_end calls initial a b x.1 y.1) m n
+same_stuck false history calls initial budget (Invalid a) (Invalid b) d e x y m n no_a no_b = ap where_stuck (m ∙ sym n)
+same_stuck explain history calls initial budget (Invalid a) (Valid order) d e x y m n no_a no_b = absurd cc
+same_stuck explain history calls initial budget (Invalid a) (Unknown reached) d e x y m n no_a no_b = absurd cc
+same_stuck explain history calls initial budget (Valid order) b d e x y m n no_a no_b = absurd cc
+same_stuck explain history calls initial budget (Unknown reached) b d e x y m n no_a no_b = absurd cc
+
+registers_stuck : (judging : Judging) (history : List Operation) (a b : Finding) (d e : Option Explanation) → IsFindingBy Workload.Register judging history a d
+    → IsFindingBy Workload.Register judging history b e → verdict_of a ≡ Verdict.False → verdict_of b ≡ Verdict.False → where_stuck d ≡ where_stuck e
+registers_stuck judging history (Register a) (Register b) d e x y no_a no_b =
+    let Q : List RegOp → Type 0 = λ calls. IsJudged calls judging.initial judging.budget b × IsExplained judging.explain history calls b e in
+    let also = subst Q (calls_one history y.0 x.0 y.1 x.1) (y.2, y.3) in
+    same_stuck judging.explain history x.0 judging.initial judging.budget a b d e x.2 also.0 x.3 also.1 no_a no_b
+registers_stuck judging history (Register a) (Set b) d e x y no_a no_b = absurd y
+registers_stuck judging history (Register a) (Counter b) d e x y no_a no_b = absurd y
+registers_stuck judging history (Register a) (Ids b) d e x y no_a no_b = absurd y
+registers_stuck judging history (Set a) b d e x y no_a no_b = absurd x
+registers_stuck judging history (Counter a) b d e x y no_a no_b = absurd x
+registers_stuck judging history (Ids a) b d e x y no_a no_b = absurd x
+
+pub stuck_agree : (workload : Workload) (judging : Judging) (history : List Operation) (a b : Finding) (d e : Option Explanation)
+    → IsFindingBy workload judging history a d → IsFindingBy workload judging history b e
+    → verdict_of a ≡ Verdict.False → verdict_of b ≡ Verdict.False → where_stuck d ≡ where_stuck e
+stuck_agree Workload.Set judging history a b d e x y no_a no_b = ap where_stuck ((found_set judging history a d x).1 ∙ sym (found_set judging history b e y).1)
+stuck_agree Workload.Counter judging history a b d e x y no_a no_b = ap where_stuck ((found_counter judging history a d x).1 ∙ sym (found_counter judging history b e y).1)
+stuck_agree Workload.Ids judging history a b d e x y no_a no_b = ap where_stuck ((found_ids judging history a d x).1 ∙ sym (found_ids judging history b e y).1)
+stuck_agree Workload.Register judging history a b d e x y no_a no_b = registers_stuck judging history a b d e x y no_a no_b

@@ -3,3 +3,5 @@ pub mod SplitLemmas
 pub mod PartLemmas
 pub mod FoundLemmas
 pub mod LawLemmas
+pub mod OperationLemmas
+pub mod StuckLemmas

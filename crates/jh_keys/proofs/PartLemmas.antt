@@ -1,16 +1,15 @@
 -- The history of a key by its places in the whole one.
-use Rattle.std.proofs.Common.{◌≡◌, ℕ, zero, suc, ◌+◌, ◌<◌, Bool, true, false, cond, List, [], ◌∷◌, length, map, get_or, refl, sym, ap, subst, ◌∙◌, arith}
-use Rattle.std.specs.Prelude.{Option, Some, None, slice_index_or, All}
+use Rattle.std.proofs.Common.{◌≡◌, ℕ, suc, ◌+◌, ◌<◌, Bool, true, false, cond, List, [], ◌∷◌, length, map, refl, ap, subst, ◌∙◌, arith}
+use Rattle.std.specs.Prelude.{All}
 use Rattle.std.specs.List.{filter, enumerate_from}
 use Rattle.std.proofs.lemmas.List.Elements.{All-nil, All-cons}
 use Rattle.jh_edn.specs.Edn.{Edn}
 use Rattle.jh_ops.specs.Operation.{Operation}
-use Rattle.jh_ops.specs.declared.pairs.PairError.TheVariants as pairing
 use Rattle.jh_check.specs.declared.error.CheckError.{CheckError}
 use Rattle.jh_check.specs.declared.error.CheckError.TheVariants as fault
 use Rattle.jh_keys.specs.Findings.{RefusesHistory}
 use Rattle.jh_keys.specs.Keys.{has_key, history_of, places_of, without_key}
-use Rattle.jh_keys.specs.PartsInside.{no_op, op_at, told_of}
+use Rattle.jh_keys.specs.PartsInside.{op_at, told_of}
 use Rattle.jh_keys.specs.Refusals.{Question, RefusesKey}
 
 abbrev is_of : Edn → ℕ × Operation → Bool
@@ -49,7 +48,7 @@ pub part_is : (key : Edn) (ops : List Operation) → map (λ place. without_key 
 part_is key ops = parts_from key ops 0 ops (λ i. let e : 0 + i ≡ i = omega arith in ap (op_at ops) e)
 
 -- an error of a key's checker is why the key was not judged
-pub key_refused : (asked : Question) (key : Edn) (inner : CheckError) → RefusesHistory asked.workload (history_of key asked.history) inner → RefusesKey asked key (told_of (places_of key asked.history) inner)
+pub key_refused : (asked : Question) (key : Edn) (inner : CheckError) → RefusesHistory asked.judging.workload (history_of key asked.history) inner → RefusesKey asked key (told_of (places_of key asked.history) inner)
 key_refused asked key (fault.Pair error) h = (fault.Pair error, h, (λ e. cc), refl)
 key_refused asked key (fault.BadValue place) h = (fault.BadValue place, h, (λ e. cc), refl)
 key_refused asked key (fault.NegativeAdd place) h = (fault.NegativeAdd place, h, (λ e. cc), refl)

@@ -1,6 +1,5 @@
 -- What stands side by side with the same key, where the keys ascend: all that has the key.
-use Rattle.std.proofs.Common.{◌≡◌, ℕ, Bool, true, false, cond, not, List, [], ◌∷◌, ◌++◌, map, refl, sym, ap, ◌∙◌, append_assoc, append-nil}
-use Rattle.std.specs.List.{filter}
+use Rattle.std.proofs.Common.{◌≡◌, ℕ, true, false, cond, not, List, [], ◌∷◌, ◌++◌, map, refl, sym, ap, ◌∙◌, append_assoc, append-nil}
 use Rattle.jh_edn.specs.Edn.{Edn}
 use Rattle.jh_check.specs.Distinct.{is_same, once, IsLeast, Ascends}
 use Rattle.jh_check.proofs.OnceLemmas.{Apart, apart_above, others, others_apart, others_twice, apart_once, same_along, same_back, same_itself}

@@ -17,7 +17,7 @@ use Rattle.jh_edn.proofs.Facts.{map_in_order, sorted_is}
 use Rattle.jh_ops.specs.Operation.{Operation}
 use Rattle.jh_check.specs.Distinct.{Ascends, is_same, once}
 use Rattle.jh_check.proofs.OnceLemmas.{same_along, sorted_ascends}
-use Rattle.jh_keys.specs.Keys.{has_key, key_of, keys_of, places_of}
+use Rattle.jh_keys.specs.Keys.{has_key, key_of, places_of}
 use Rattle.jh_keys.specs.SplitInside.{groups_in, groups_of, is_key_below, keyed_in, keys_in, places_in, view_keyed, view_key, with_key}
 use Rattle.jh_keys.specs.declared.split.Keyed.{Keyed}
 

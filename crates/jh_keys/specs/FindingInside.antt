@@ -3,6 +3,13 @@ use Rattle.jh_check.specs.declared.error.CheckError.{CheckError}
 use Rattle.jh_check.specs.declared.error.CheckError.TheVariants.{BadValue, OutOfMemory}
 use Rattle.jh_linear.specs.declared.calls.RegOpsError.{RegOpsError}
 use Rattle.jh_linear.specs.declared.calls.RegOpsError.TheVariants as calls
+use Rattle.std.specs.Prelude.{None}
+use Rattle.jh_keys.specs.Findings.{Found}
+use Rattle.jh_keys.specs.declared.finding.Finding.{Finding}
+
+-- with no explanation
+abbrev pub alone : Finding → Found
+alone finding = record { finding = finding; explanation = None }
 
 -- the same error
 abbrev pub error_of : RegOpsError → CheckError

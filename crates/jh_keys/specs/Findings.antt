@@ -1,6 +1,6 @@
 -- What the checker of a workload finds in a history, and why it judges none (Jepsen's checkers `set`, `counter`,
 -- `unique-ids` and `linearizable`; what each finds stands in the definitions of its own crate).
-use Rattle.std.specs.Prelude.{◌≡◌, ℕ, ℤ, List, Option, Some, None}
+use Rattle.std.specs.Prelude.{◌≡◌, List, Option, Some, None}
 use Rattle.jh_ops.specs.Operation.{Operation}
 use Rattle.jh_ops.specs.Pairing.{IsWellFormed, RefusesHistory as RefusesPairing, pairs_of}
 use Rattle.jh_ops.specs.declared.call.Workload.{Workload}
@@ -15,38 +15,58 @@ use Rattle.jh_linear.specs.Verdict.{IsJudged}
 use Rattle.jh_linear.specs.declared.register.RegOp.{RegOp}
 use Rattle.jh_linear.specs.declared.verdict.LinVerdict.{LinVerdict}
 use Rattle.jh_linear.specs.declared.verdict.LinVerdict.TheVariants.{Valid, Invalid, Unknown}
+use Rattle.jh_keys.specs.Explanations.{IsExplained}
+use Rattle.jh_keys.specs.declared.explanation.Explanation.{Explanation}
+use Rattle.jh_keys.specs.declared.finding.Explained.{Explained}
 use Rattle.jh_keys.specs.declared.finding.Finding.{Finding}
 use Rattle.jh_keys.specs.declared.finding.Finding.TheVariants.{Set, Counter, Ids, Register}
+use Rattle.jh_keys.specs.declared.finding.Judging.{Judging}
 
 -- the operations of a register that a history tells
 abbrev pub AreCalls : List Operation → List RegOp → Type 0
 AreCalls history calls = IsWellFormed history × AreRegOps history (pairs_of history) calls
 
--- The finding of the workload's checker. That of a register says what the judge promises: more than one may be right.
-abbrev pub IsFinding : Workload → Option ℤ → ℕ → List Operation → Finding → Type 0
-IsFinding Workload.Set initial budget history (Set found) = IsJudgeable history × (found ≡ set_result history)
-IsFinding Workload.Counter initial budget history (Counter found) = IsCountable history × (found ≡ counter_result history)
-IsFinding Workload.Ids initial budget history (Ids found) = found ≡ ids_result history
-IsFinding Workload.Register initial budget history (Register found) =
-    (calls : List RegOp) × AreCalls history calls × IsJudged calls initial budget found
-IsFinding workload initial budget history finding = ⊥
+-- what is found in a history, with its explanation
+abbrev pub Found : Type 0
+Found = Explained Finding Explanation
+
+-- Of a register: what the judge promises, of which more than one may be right, and the explanation that is asked for.
+abbrev pub IsRegister : Judging → List Operation → LinVerdict → Option Explanation → Type 0
+IsRegister judging history judged explanation =
+    (calls : List RegOp) × AreCalls history calls × IsJudged calls judging.initial judging.budget judged
+    × IsExplained judging.explain history calls judged explanation
+
+-- The finding of the checker of this workload. Only a register's is explained: the others say themselves what is wrong.
+abbrev pub IsFindingBy : Workload → Judging → List Operation → Finding → Option Explanation → Type 0
+IsFindingBy Workload.Set judging history (Set found) explanation = IsJudgeable history × (found ≡ set_result history) × (explanation ≡ None)
+IsFindingBy Workload.Counter judging history (Counter found) explanation =
+    IsCountable history × (found ≡ counter_result history) × (explanation ≡ None)
+IsFindingBy Workload.Ids judging history (Ids found) explanation = (found ≡ ids_result history) × (explanation ≡ None)
+IsFindingBy Workload.Register judging history (Register judged) explanation = IsRegister judging history judged explanation
+IsFindingBy workload judging history finding explanation = ⊥
+
+abbrev pub IsFinding : Judging → List Operation → Found → Type 0
+IsFinding judging history found = IsFindingBy judging.workload judging history found.finding found.explanation
+
+abbrev pub IsRegisterFound : Judging → List Operation → Found → Type 0
+IsRegisterFound judging history found = IsFindingBy Workload.Register judging history found.finding found.explanation
 
 -- ---- verdicts
 
 abbrev pub verdict_of_register : LinVerdict → Verdict
 verdict_of_register (Valid order) = Verdict.True
-verdict_of_register Invalid = Verdict.False
+verdict_of_register (Invalid stuck) = Verdict.False
 verdict_of_register (Unknown reached) = Verdict.Unknown
 
 abbrev pub verdict_of : Finding → Verdict
 verdict_of (Set found) = found.verdict
 verdict_of (Counter found) = found.verdict
 verdict_of (Ids found) = found.verdict
-verdict_of (Register found) = verdict_of_register found
+verdict_of (Register judged) = verdict_of_register judged
 
 -- ---- refusals
 
--- A history of a register is refused for its pairs, then for the bad value at the least place. Want of memory has a name
+-- A history of a register is refused for its pairs, then for the bad value at the least place. Out of memory has a name
 -- of its own.
 abbrev pub RefusesRegister : List Operation → CheckError → Type 0
 RefusesRegister history (Pair fault) = (refusal_of fault ≡ Pair fault) × RefusesPairing history fault

@@ -5,23 +5,23 @@ use Rattle.jh_keys.specs.BoardInside.{IsAnswerAt}
 use Rattle.jh_keys.specs.Keys.{keys_of, places_of}
 use Rattle.jh_keys.specs.Refusals.{Question, IsFindingOf}
 use Rattle.jh_keys.specs.declared.error.KeysError.{KeysError}
-use Rattle.jh_keys.specs.declared.finding.Finding.{Finding}
+use Rattle.jh_keys.specs.Findings.{Found}
 use Rattle.jh_keys.specs.declared.serial.KeyFinding.{KeyFinding}
 use Rattle.jh_keys.specs.declared.split.KeyPlaces.{KeyPlaces}
 
 -- The keys that are left stand behind those that were judged, each with its places.
 pub record IsFoundSoFar (asked : Question) (found : List KeyFinding) (rest : List KeyPlaces) : Type 0 where
   pub keys : map (λ one. view one.key) found ++ map (λ group. view group.key) rest ≡ keys_of asked.history
-  pub each : All (λ one. IsFindingOf asked (view one.key) one.finding) found
+  pub each : All (λ one. IsFindingOf asked (view one.key) one.found) found
   pub places : All (λ group. group.places.items ≡ places_of (view group.key) asked.history) rest
 
 -- the answers that are left, each at its place behind so many others
-abbrev pub AreAnswersFrom : Question → ℕ → List (Option (Result Finding KeysError)) → Type 0
+abbrev pub AreAnswersFrom : Question → ℕ → List (Option (Result Found KeysError)) → Type 0
 AreAnswersFrom asked front answers =
-    (place : ℕ) (answer : Result Finding KeysError) → slice_get answers place ≡ Some (Some answer) → IsAnswerAt asked (front + place) answer
+    (place : ℕ) (answer : Result Found KeysError) → slice_get answers place ≡ Some (Some answer) → IsAnswerAt asked (front + place) answer
 
 -- one answer is left for each key that is left
-pub record AreCollected (asked : Question) (found : List KeyFinding) (rest : List KeyPlaces) (left : List (Option (Result Finding KeysError))) : Type 0 where
+pub record AreCollected (asked : Question) (found : List KeyFinding) (rest : List KeyPlaces) (left : List (Option (Result Found KeysError))) : Type 0 where
   pub keys : IsFoundSoFar asked found rest
   pub answers : AreAnswersFrom asked (length found) left
   pub size : length left ≡ length rest

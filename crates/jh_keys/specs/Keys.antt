@@ -1,7 +1,7 @@
 -- The keys of a history, and the history of each (jepsen.independent: a value is a tuple of a key and a value, and the
 -- history of a key has the operations with that key, their values without it). That a list of two will do as well as a
 -- vector, that the nemesis is left out, and the order of the keys are this project's own. Places count from 0.
-use Rattle.std.specs.Prelude.{◌≡◌, ◌<◌, ℕ, ◌&&◌, Bool, true, false, not, List, [], ◌∷◌, map, filter, take, slice_get, if◌then◌else◌, Option, Some, None, is_some, unwrap_or, option_map, option_and_then, All, filter_map}
+use Rattle.std.specs.Prelude.{◌≡◌, ℕ, ◌&&◌, Bool, true, false, not, List, [], ◌∷◌, map, filter, take, slice_get, if◌then◌else◌, Option, Some, None, is_some, option_map, option_and_then, All, filter_map}
 use Rattle.std.specs.List.{enumerate_from}
 use Rattle.std.specs.Option.{option_map_or}
 use Rattle.jh_edn.specs.Edn.{Edn, nil, elements_of}
@@ -62,9 +62,13 @@ places_of key history = map (λ placed. placed.0) (placed_of key history)
 abbrev pub value_of : Edn → Edn
 value_of value = option_map_or (λ tuple. tuple.1) (tuple_of value) nil
 
--- The operation without its key. What no checker looks at, the other keys of its map, is left out.
+-- the operation with another value
+abbrev pub with_value : Edn → Operation → Operation
+with_value value op = record { kind = op.kind; process = op.process; f = op.f; value = value; time = op.time; index = op.index; rest = op.rest }
+
+-- the operation without its key
 abbrev pub without_key : Operation → Operation
-without_key op = record { kind = op.kind; process = op.process; f = op.f; value = value_of op.value; time = op.time; index = op.index; rest = [] }
+without_key op = with_value (value_of op.value) op
 
 abbrev pub history_of : Edn → List Operation → List Operation
 history_of key history = map (λ placed. without_key placed.1) (placed_of key history)

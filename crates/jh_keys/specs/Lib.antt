@@ -1,8 +1,10 @@
 pub mod Keys
 pub mod Lines
 pub mod Findings
+pub mod Explanations
 pub mod Refusals
 pub mod FindingInside
+pub mod OperationTextInside
 pub mod SplitInside
 pub mod PartsInside
 pub mod BoardInside

@@ -1,18 +1,22 @@
 -- The lines of what is found, without their line feed (this project's own; the keys are those of jepsen.checker): the
 -- printed text of a map. A history judged by keys has a line with the key and the result of each.
-use Rattle.std.specs.Prelude.{ℕ, pos, List, [], ◌∷◌, map, codes}
-use Rattle.jh_edn.specs.Edn.{Edn, int, keyword, mapping, members_of}
+use Rattle.std.specs.Prelude.{ℕ, ℤ, pos, List, [], ◌∷◌, map, codes, Option, Some, None}
+use Rattle.jh_edn.specs.Edn.{Edn, nil, int, keyword, mapping, members_of}
 use Rattle.jh_edn.specs.Print.{print}
 use Rattle.jh_edn.specs.View.{view}
+use Rattle.jh_ops.specs.Operation.{operation}
+use Rattle.jh_ops.specs.OperationWritten.{value_written}
 use Rattle.jh_check.specs.Lines.{counter_value, ids_value, set_value, vector_of, verdict_value}
 use Rattle.jh_check.specs.Verdicts.{merged}
 use Rattle.jh_check.specs.declared.verdict.Verdict.{Verdict}
-use Rattle.jh_keys.specs.Findings.{verdict_of, verdict_of_register}
+use Rattle.jh_keys.specs.Findings.{Found, verdict_of, verdict_of_register}
+use Rattle.jh_keys.specs.declared.explanation.Explanation.{Explanation}
 use Rattle.jh_keys.specs.declared.finding.Finding.{Finding}
 use Rattle.jh_keys.specs.declared.finding.Finding.TheVariants.{Set, Counter, Ids, Register}
 use Rattle.jh_keys.specs.declared.serial.KeyFinding.{KeyFinding}
 use Rattle.jh_linear.specs.declared.verdict.LinVerdict.{LinVerdict}
-use Rattle.jh_linear.specs.declared.verdict.LinVerdict.TheVariants.{Valid, Invalid, Unknown}
+use Rattle.jh_linear.specs.declared.verdict.LinVerdict.TheVariants.{Valid, Invalid}
+use Rattle.jh_linear.specs.declared.verdict.Stuck.{Stuck}
 
 -- a map whose first pair is the verdict
 abbrev pub with_verdict : Verdict → List (Edn × Edn) → Edn
@@ -22,33 +26,50 @@ with_verdict verdict others = mapping (members_of ((keyword (codes "valid?"), ve
 abbrev pub order_value : List ℕ → Edn
 order_value order = vector_of (map (λ place. int (pos place)) order)
 
--- only a yes has more than its verdict: the order
-abbrev pub others_of : LinVerdict → List (Edn × Edn)
-others_of (Valid order) = (keyword (codes "order"), order_value order) ∷ []
-others_of _ = []
+-- what a register holds
+abbrev pub held_value : Option ℤ → Edn
+held_value None = nil
+held_value (Some number) = int number
 
-abbrev pub register_value : LinVerdict → Edn
-register_value found = with_verdict (verdict_of_register found) (others_of found)
+-- where a history is stuck: at a completion, written as operations are; behind an order, which leads to a value; and what is
+-- pending there
+abbrev pub stuck_pairs : Stuck → Explanation → List (Edn × Edn)
+stuck_pairs stuck explanation =
+    (keyword (codes "stuck"), value_written (operation explanation.completion))
+    ∷ (keyword (codes "order"), order_value stuck.order) ∷ (keyword (codes "value"), held_value stuck.value)
+    ∷ (keyword (codes "pending"), order_value explanation.pending.items) ∷ []
 
-abbrev pub finding_value : Finding → Edn
-finding_value (Set found) = set_value found
-finding_value (Counter found) = counter_value found
-finding_value (Ids found) = ids_value found
-finding_value (Register found) = register_value found
+-- A yes has its order behind the verdict. A no has its explanation there, if it has one.
+abbrev pub others_of : LinVerdict → Option Explanation → List (Edn × Edn)
+others_of (Valid order) explanation = (keyword (codes "order"), order_value order) ∷ []
+others_of (Invalid stuck) (Some explanation) = stuck_pairs stuck explanation
+others_of _ _ = []
+
+abbrev pub register_value : LinVerdict → Option Explanation → Edn
+register_value judged explanation = with_verdict (verdict_of_register judged) (others_of judged explanation)
+
+abbrev pub finding_value : Finding → Option Explanation → Edn
+finding_value (Set found) explanation = set_value found
+finding_value (Counter found) explanation = counter_value found
+finding_value (Ids found) explanation = ids_value found
+finding_value (Register judged) explanation = register_value judged explanation
+
+abbrev pub found_value : Found → Edn
+found_value found = finding_value found.finding found.explanation
 
 -- the line of one history
-abbrev pub finding_line : Finding → List ℕ
-finding_line found = print (finding_value found)
+abbrev pub finding_line : Found → List ℕ
+finding_line found = print (found_value found)
 
 -- ---- several keys
 
 -- the verdict on all keys together
 abbrev pub verdict_of_all : List KeyFinding → Verdict
-verdict_of_all found = merged (map (λ one. verdict_of one.finding) found)
+verdict_of_all found = merged (map (λ one. verdict_of one.found.finding) found)
 
 -- a key with its result
 abbrev pub key_value : KeyFinding → Edn
-key_value one = vector_of (view one.key ∷ finding_value one.finding ∷ [])
+key_value one = vector_of (view one.key ∷ found_value one.found ∷ [])
 
 -- the line of all keys, with the verdict on them
 abbrev pub keys_line : List KeyFinding → List ℕ

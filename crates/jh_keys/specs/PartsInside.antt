@@ -1,19 +1,14 @@
 -- What judging one key goes by: proofs rest on it, and no public clause names it.
-use Rattle.std.specs.Prelude.{ℕ, ℤ, List, [], Option, None, slice_index_or}
+use Rattle.std.specs.Prelude.{ℕ, List, [], None, slice_index_or}
 use Rattle.jh_edn.specs.Edn.{nil}
 use Rattle.jh_ops.specs.Operation.{Operation}
-use Rattle.jh_ops.specs.declared.call.Workload.{Workload}
 use Rattle.jh_ops.specs.declared.operation.Kind.{Kind}
 use Rattle.jh_ops.specs.declared.operation.Process.{Process}
 use Rattle.jh_check.specs.declared.error.CheckError.{CheckError}
 use Rattle.jh_check.specs.declared.error.CheckError.TheVariants as fault
-use Rattle.jh_keys.specs.Refusals.{Question, asked_by, fault_in, pairing_in}
+use Rattle.jh_keys.specs.Refusals.{fault_in, pairing_in}
 use Rattle.jh_keys.specs.declared.error.KeysError.{KeysError}
 use Rattle.jh_keys.specs.declared.error.KeysError.TheVariants.{Key, OutOfMemory}
-use Rattle.jh_keys.specs.declared.parts.Judging.{Judging}
-
-abbrev pub asked_of : Judging → List Operation → Question
-asked_of judging history = asked_by judging.workload judging.initial judging.budget history
 
 -- what stands past the end of a history
 abbrev pub no_op : Operation

@@ -1,41 +1,37 @@
 -- What is found in the histories of all keys, and why nothing is (this project's own): first for a value that is no
 -- tuple, then for the first key, in normal order, that could not be judged.
-use Rattle.std.specs.Prelude.{◌≡◌, ◌≢◌, ◌<◌, ℕ, ℤ, List, map, length, slice_get, slice_index_or, All, Option, Some, None}
+use Rattle.std.specs.Prelude.{◌≡◌, ◌≢◌, ◌<◌, ℕ, List, map, slice_get, slice_index_or, All, Some}
 use Rattle.jh_edn.specs.Edn.{Edn}
 use Rattle.jh_edn.specs.View.{view}
 use Rattle.jh_ops.specs.Operation.{Operation}
-use Rattle.jh_ops.specs.declared.call.Workload.{Workload}
 use Rattle.jh_ops.specs.declared.pairs.PairError.{PairError}
 use Rattle.jh_ops.specs.declared.pairs.PairError.TheVariants as pairing
 use Rattle.jh_check.specs.declared.error.CheckError.{CheckError}
 use Rattle.jh_check.specs.declared.error.CheckError.TheVariants as fault
-use Rattle.jh_keys.specs.Findings.{IsFinding, RefusesHistory}
+use Rattle.jh_keys.specs.Findings.{Found, IsFinding, RefusesHistory}
 use Rattle.jh_keys.specs.Keys.{AreTuples, IsFirstBad, history_of, keys_of, places_of}
 use Rattle.jh_keys.specs.declared.error.KeysError.{KeysError}
 use Rattle.jh_keys.specs.declared.error.KeysError.TheVariants.{BadValue, Key, Thread, OutOfMemory}
-use Rattle.jh_keys.specs.declared.finding.Finding.{Finding}
+use Rattle.jh_keys.specs.declared.finding.Judging.{Judging}
 use Rattle.jh_keys.specs.declared.serial.KeyFinding.{KeyFinding}
 
--- what all keys of a history are judged by
+-- a history, and what all its keys are judged by
 pub record Question : Type 0 where
   pub history : List Operation
-  pub workload : Workload
-  pub initial : Option ℤ
-  pub budget : ℕ
+  pub judging : Judging
 
-abbrev pub asked_by : Workload → Option ℤ → ℕ → List Operation → Question
-asked_by workload initial budget history =
-    record { history = history; workload = workload; initial = initial; budget = budget }
+abbrev pub asked_by : Judging → List Operation → Question
+asked_by judging history = record { history = history; judging = judging }
 
 -- the finding of one key: of its history alone, with the whole budget
-abbrev pub IsFindingOf : Question → Edn → Finding → Type 0
-IsFindingOf asked key finding = IsFinding asked.workload asked.initial asked.budget (history_of key asked.history) finding
+abbrev pub IsFindingOf : Question → Edn → Found → Type 0
+IsFindingOf asked key found = IsFinding asked.judging (history_of key asked.history) found
 
 -- One finding for each key, in normal order.
 pub record AreFindings (asked : Question) (found : List KeyFinding) : Type 0 where
   pub tuples : AreTuples asked.history
   pub keys : map (λ one. view one.key) found ≡ keys_of asked.history
-  pub each : All (λ one. IsFindingOf asked (view one.key) one.finding) found
+  pub each : All (λ one. IsFindingOf asked (view one.key) one.found) found
 
 -- ---- refusals
 
@@ -55,10 +51,10 @@ fault_in places fault.OutOfMemory = fault.OutOfMemory
 -- the history of a key is refused, and this is told
 abbrev pub IsFaultOf : Question → Edn → CheckError → Type 0
 IsFaultOf asked key told =
-    (inner : CheckError) × RefusesHistory asked.workload (history_of key asked.history) inner
+    (inner : CheckError) × RefusesHistory asked.judging.workload (history_of key asked.history) inner
     × (inner ≢ fault.OutOfMemory) × (told ≡ fault_in (places_of key asked.history) inner)
 
--- Why a key was not judged: its history is refused, its thread was not let in, or memory was wanted.
+-- Why a key was not judged: its history is refused, its thread was not let in, or memory ran out.
 abbrev pub RefusesKey : Question → Edn → KeysError → Type 0
 RefusesKey asked key (BadValue place) = ⊥
 RefusesKey asked key (Key told) = IsFaultOf asked key told
@@ -69,9 +65,9 @@ RefusesKey asked key OutOfMemory = Unit {0}
 abbrev pub AreFoundBefore : Question → ℕ → Type 0
 AreFoundBefore asked place =
     (earlier : ℕ) (key : Edn) → earlier < place → slice_get (keys_of asked.history) earlier ≡ Some key
-    → (finding : Finding) × IsFindingOf asked key finding
+    → (found : Found) × IsFindingOf asked key found
 
--- Why nothing is found. A thread or memory may also be wanting before the first key is judged.
+-- Why nothing is found. A thread may fail, or memory run out, also before the first key is judged.
 abbrev pub RefusesKeys : Question → KeysError → Type 0
 RefusesKeys asked (BadValue place) = IsFirstBad asked.history place
 RefusesKeys asked (Key told) =

@@ -1,5 +1,5 @@
 -- What splitting a history goes by: proofs rest on it, and no public clause names it.
-use Rattle.std.specs.Prelude.{◌≡◌, ℕ, Bool, List, [], map, filter, filter_map, Option, Some, None, option_map}
+use Rattle.std.specs.Prelude.{ℕ, Bool, List, map, filter, filter_map, Option, option_map}
 use Rattle.std.specs.List.{enumerate_from}
 use Rattle.jh_edn.specs.Edn.{Edn}
 use Rattle.jh_edn.specs.Order.{is_below}

@@ -7,7 +7,7 @@ ghost use Rattle.jh_keys.specs.Keys.{keys_of};
 ghost use Rattle.jh_keys.specs.Refusals.{Question};
 
 use crate::error::KeysError;
-use crate::finding::Finding;
+use crate::finding::Found;
 use std::alloc::{AllocError, Global};
 use std::marker::{Brand, Model, PhantomData};
 
@@ -24,7 +24,7 @@ impl Asking for Brand {
 }
 
 /// What one key's check gave.
-pub(crate) type Answer = Result<Finding, KeysError>;
+pub(crate) type Answer = Result<Found, KeysError>;
 
 /// The answers of the keys, each at the place of its key, and the place of the key that is judged next.
 #[derive(Drop)]
@@ -79,9 +79,7 @@ impl<Q: Asking> Board<Q> {
     pub(crate) fn put(&mut self, place: usize, answer: Answer)
         requires { IsAnswerAt Q.asked place answer }
     {
-        if answer.is_err() {
-            self.is_open = false;
-        }
+        self.is_open &= answer.is_ok();
         if place < self.answers.len() {
             self.answers[place] = Some(answer);
         }

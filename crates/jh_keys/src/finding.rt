@@ -1,15 +1,13 @@
 //! One history judged by the checker of its workload. `specs/Findings.antt` has the rule; a new workload is a case of
 //! `Finding`, of the definitions there, and of `check_history`.
 
-ghost use Rattle.std.specs.Prelude.{◌≡◌, IfErr, MatchResult};
+ghost use Rattle.std.specs.Prelude.{◌≡◌, MatchResult};
 ghost use Rattle.jh_ops.specs.Operation.{operations};
 ghost use Rattle.jh_keys.specs.Findings as rule;
 ghost use Rattle.jh_keys.specs.FindingInside as inside;
-ghost use Rattle.jh_keys.specs.Findings.{AreCalls, IsFinding, RefusesHistory, RefusesRegister};
-ghost use Rattle.jh_linear.specs.Verdict.{IsJudged};
-ghost use Rattle.jh_linear.specs.declared.register.RegOp.{RegOp};
-ghost use Rattle.std.specs.Prelude.{List};
+ghost use Rattle.jh_keys.specs.Findings.{IsFinding, IsRegisterFound, RefusesHistory, RefusesRegister};
 
+use crate::explanation::{Explanation, explained};
 use jh_check::{
     CheckError, CounterResult, IdsResult, SetResult, Verdict, check_counter, check_set,
     check_unique,
@@ -17,6 +15,18 @@ use jh_check::{
 use jh_linear::{LinVerdict, RegOpsError, check, reg_ops};
 use jh_ops::{Op, Workload, pair};
 use std::alloc::Global;
+
+/// What a history is judged by.
+#[derive(Clone, Copy, Debug, PartialEq, Eq)]
+pub struct Judging {
+    pub workload: Workload,
+    /// The value that a register has at first, and nil where it is missing.
+    pub initial: Option<i64>,
+    /// How many configurations the judge of a register may reach.
+    pub budget: u64,
+    /// Whether the no of a register is explained.
+    pub explain: bool,
+}
 
 /// What a checker finds in a history.
 #[derive(Debug, Drop)]
@@ -27,6 +37,18 @@ pub enum Finding {
     Register(LinVerdict),
 }
 
+/// What is found, and what explains it. Both are type parameters, so that each is shown by itself to be safe to send to a
+/// thread.
+#[derive(Debug, Drop)]
+pub struct Explained<F, E> {
+    pub finding: F,
+    /// Of a register that is not valid, where it is asked for.
+    pub explanation: Option<E>,
+}
+
+/// What is found in a history.
+pub type Found = Explained<Finding, Explanation>;
+
 impl Finding {
     /// What the finding says of the history.
     pub fn verdict(&self) -> Verdict
@@ -36,18 +58,28 @@ impl Finding {
             Finding::Set(found) => found.verdict,
             Finding::Counter(found) => found.verdict,
             Finding::Ids(found) => found.verdict,
-            Finding::Register(found) => verdict_of_register(found),
+            Finding::Register(judged) => verdict_of_register(judged),
         }
     }
 }
 
-pub(crate) fn verdict_of_register(found: &LinVerdict) -> Verdict
-    ensures { result ≡ rule.verdict_of_register found.now }
+pub(crate) fn verdict_of_register(judged: &LinVerdict) -> Verdict
+    ensures { result ≡ rule.verdict_of_register judged.now }
 {
-    match found {
+    match judged {
         LinVerdict::Valid(_) => Verdict::True,
-        LinVerdict::Invalid => Verdict::False,
+        LinVerdict::Invalid(_) => Verdict::False,
         LinVerdict::Unknown(_) => Verdict::Unknown,
+    }
+}
+
+/// A finding with no explanation.
+fn alone(finding: Finding) -> Found
+    ensures { result ≡ inside.alone finding }
+{
+    Explained {
+        finding,
+        explanation: None,
     }
 }
 
@@ -61,14 +93,10 @@ fn error_of(error: RegOpsError) -> CheckError
     }
 }
 
-fn check_register(
-    alloc: Global,
-    history: &[Op],
-    initial: Option<i64>,
-    budget: u64,
-) -> Result<LinVerdict, CheckError>
+/// What the judge of a register finds in its operations, and the explanation that is asked for.
+fn check_register(alloc: Global, history: &[Op], judging: Judging) -> Result<Found, CheckError>
     ensures { MatchResult result
-        (λ found. (calls : List RegOp) × AreCalls (operations history.now) calls × IsJudged calls initial budget found)
+        (IsRegisterFound judging (operations history.now))
         (RefusesRegister (operations history.now)) }
 {
     let pairs = pair(alloc, history)?;
@@ -76,36 +104,33 @@ fn check_register(
         Ok(calls) => calls,
         Err(error) => return Err(error_of(error)),
     };
-    Ok(check(alloc, &calls, initial, budget)?)
+    let judged = check(alloc, &calls, judging.initial, judging.budget)?;
+    let explanation = explained(alloc, judging.explain, history, &calls, &judged)?;
+    Ok(Explained {
+        finding: Finding::Register(judged),
+        explanation,
+    })
 }
 
 /// Judges a history by the checker of its workload: `check_set`, `check_counter`, `check_unique`, or for a register the
 /// judge of `jh_linear` over its operations.
 ///
-/// `initial` is the value that a register has at first, and nil where it is missing; `budget` is how many configurations
-/// the judge of a register may reach. Both mean nothing to the other workloads.
+/// The initial value, the budget and whether a no is explained mean nothing to the other workloads. A no of a register that is
+/// explained tells the completion with which no order is left, and what is pending there.
 ///
 /// Errors: those of the checker. For a register `Pair`, then `BadValue` at the least place of one; `OutOfMemory` may come
 /// before either.
 ///
-/// Costs what the checker costs.
-pub fn check_history(
-    alloc: Global,
-    history: &[Op],
-    workload: Workload,
-    initial: Option<i64>,
-    budget: u64,
-) -> Result<Finding, CheckError>
+/// Costs what the checker costs; an explanation takes time linear in the operations beside it, and copies one of them.
+pub fn check_history(alloc: Global, history: &[Op], judging: Judging) -> Result<Found, CheckError>
     ensures { MatchResult result
-        (IsFinding workload initial budget (operations history.now))
-        (RefusesHistory workload (operations history.now)) }
+        (IsFinding judging (operations history.now))
+        (RefusesHistory judging.workload (operations history.now)) }
 {
-    match workload {
-        Workload::Set => Ok(Finding::Set(check_set(alloc, history)?)),
-        Workload::Counter => Ok(Finding::Counter(check_counter(alloc, history)?)),
-        Workload::Ids => Ok(Finding::Ids(check_unique(alloc, history)?)),
-        Workload::Register => Ok(Finding::Register(check_register(
-            alloc, history, initial, budget,
-        )?)),
+    match judging.workload {
+        Workload::Set => Ok(alone(Finding::Set(check_set(alloc, history)?))),
+        Workload::Counter => Ok(alone(Finding::Counter(check_counter(alloc, history)?))),
+        Workload::Ids => Ok(alone(Finding::Ids(check_unique(alloc, history)?))),
+        Workload::Register => check_register(alloc, history, judging),
     }
 }

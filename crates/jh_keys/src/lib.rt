@@ -2,17 +2,21 @@
 #![tactic(auto)]
 
 mod board;
+mod copies;
 mod error;
+mod explanation;
 mod finding;
 mod laws;
 mod lines;
+mod operation_text;
 mod parts;
 mod serial;
 mod split;
 mod threads;
 
 pub use error::KeysError;
-pub use finding::{Finding, check_history};
+pub use explanation::Explanation;
+pub use finding::{Explained, Finding, Found, Judging, check_history};
 pub use laws::findings_agree;
 pub use lines::{verdict_of_all, write_finding, write_findings};
 pub use serial::{KeyFinding, check_keys_serial};

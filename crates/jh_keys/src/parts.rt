@@ -6,25 +6,18 @@ ghost use Rattle.jh_edn.specs.View.{view};
 ghost use Rattle.jh_ops.specs.Operation.{operation, operations};
 ghost use Rattle.jh_keys.specs.Keys as rule;
 ghost use Rattle.jh_keys.specs.Keys.{places_of};
-ghost use Rattle.jh_keys.specs.PartsInside.{asked_of, op_at, told_of};
+ghost use Rattle.jh_keys.specs.PartsInside.{op_at, told_of};
 ghost use Rattle.jh_keys.specs.Refusals as told;
-ghost use Rattle.jh_keys.specs.Refusals.{IsFindingOf, RefusesKey};
+ghost use Rattle.jh_keys.specs.Refusals.{IsFindingOf, RefusesKey, asked_by};
 
+use crate::copies::with_value;
 use crate::error::KeysError;
-use crate::finding::{Finding, check_history};
+use crate::finding::{Found, Judging, check_history};
 use crate::split::{KeyPlaces, tuple_of};
 use jh_check::CheckError;
-use jh_edn::{Pairs, Value};
-use jh_ops::{Op, PairError, Workload};
+use jh_edn::Value;
+use jh_ops::{Op, PairError};
 use std::alloc::{AllocError, Global};
-
-/// What the histories of all keys are judged by.
-#[derive(Clone, Copy)]
-pub(crate) struct Judging {
-    pub(crate) workload: Workload,
-    pub(crate) initial: Option<i64>,
-    pub(crate) budget: u64,
-}
 
 /// The value behind the key.
 fn value_of(alloc: Global, value: &Value) -> Result<Value, AllocError>
@@ -39,15 +32,8 @@ fn value_of(alloc: Global, value: &Value) -> Result<Value, AllocError>
 fn without_key(alloc: Global, op: &Op) -> Result<Op, AllocError>
     ensures { IfOk result (λ copy. operation copy ≡ rule.without_key (operation op.now)) }
 {
-    Ok(Op {
-        kind: op.kind,
-        f: op.f.copy(alloc)?,
-        value: value_of(alloc, &op.value)?,
-        process: op.process,
-        time: op.time,
-        index: op.index,
-        rest: Pairs::of(Vec::new(alloc)),
-    })
+    let value = value_of(alloc, &op.value)?;
+    with_value(alloc, op, value)
 }
 
 /// What stands at these places of a history, without the keys.
@@ -102,22 +88,16 @@ pub(crate) fn check_key(
     history: &[Op],
     judging: Judging,
     group: &KeyPlaces,
-) -> Result<Finding, KeysError>
+) -> Result<Found, KeysError>
     requires { group.now.places.items ≡ places_of (view group.now.key) (operations history.now) }
     ensures judged { MatchResult result
-        (IsFindingOf (asked_of judging (operations history.now)) (view group.now.key))
-        (RefusesKey (asked_of judging (operations history.now)) (view group.now.key)) }
+        (IsFindingOf (asked_by judging (operations history.now)) (view group.now.key))
+        (RefusesKey (asked_by judging (operations history.now)) (view group.now.key)) }
     ensures alone { IsErrOf result KeysError.Thread → ⊥ }
 {
     let part = part_of(alloc, history, &group.places)?;
-    match check_history(
-        alloc,
-        &part,
-        judging.workload,
-        judging.initial,
-        judging.budget,
-    ) {
-        Ok(finding) => Ok(finding),
+    match check_history(alloc, &part, judging) {
+        Ok(found) => Ok(found),
         Err(error) => Err(error_in(&group.places, error)),
     }
 }

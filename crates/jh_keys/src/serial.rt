@@ -6,11 +6,11 @@ ghost use Rattle.jh_keys.specs.Refusals.{asked_by};
 ghost use Rattle.jh_keys.specs.Refusals.{AreFindings, RefusesKeys};
 
 use crate::error::KeysError;
-use crate::finding::Finding;
-use crate::parts::{Judging, check_key};
+use crate::finding::{Found, Judging};
+use crate::parts::check_key;
 use crate::split::split;
 use jh_edn::Value;
-use jh_ops::{Op, Workload};
+use jh_ops::Op;
 use std::alloc::Global;
 
 /// What is found of one key.
@@ -19,7 +19,7 @@ pub struct KeyFinding {
     /// The key in normal form.
     pub key: Value,
     /// What its checker finds in its own history.
-    pub finding: Finding,
+    pub found: Found,
 }
 
 /// Judges a history of independent keys, each key by itself, one after another (`jepsen.independent`).
@@ -27,37 +27,30 @@ pub struct KeyFinding {
 /// Each client's operation has a tuple of a key and a value, a vector or a list of two. What is equal as EDN says is one
 /// key. Its history has its operations in order, with their values without the key; it is judged by the checker of the
 /// workload, with the whole budget. Operations of the nemesis are left out. The findings stand in the normal order of
-/// their keys. The orders of a register count the places of the pairs in the key's own history.
+/// their keys. The orders of a register, and what is pending, count the places of the pairs in the key's own history.
 ///
 /// Errors: `BadValue` at the least place of a client's operation that has no tuple; then, in the normal order of the
 /// keys, `Key` with the error of the first whose history is refused, at the place in the whole history. `OutOfMemory`
 /// may come at any key. Never `Thread`.
 ///
-/// Takes O(n log n) comparisons of keys for n operations beside what the checkers take, and copies each value once.
+/// Takes O(n log n) comparisons of keys for n operations beside what the checkers take, and copies each operation once.
 pub fn check_keys_serial(
     alloc: Global,
     history: &[Op],
-    workload: Workload,
-    initial: Option<i64>,
-    budget: u64,
+    judging: Judging,
 ) -> Result<Vec<KeyFinding>, KeysError>
     ensures found { MatchResult result
-        (λ found. AreFindings (asked_by workload initial budget (operations history.now)) found.items)
-        (RefusesKeys (asked_by workload initial budget (operations history.now))) }
+        (λ found. AreFindings (asked_by judging (operations history.now)) found.items)
+        (RefusesKeys (asked_by judging (operations history.now))) }
     ensures alone { IsErrOf result KeysError.Thread → ⊥ }
 {
-    let judging = Judging {
-        workload,
-        initial,
-        budget,
-    };
     let groups = split(alloc, history)?;
     let mut found = Vec::with_capacity(alloc, groups.len())?;
     for group in groups {
-        let finding = check_key(alloc, history, judging, &group)?;
+        let one = check_key(alloc, history, judging, &group)?;
         found.push(KeyFinding {
             key: group.key,
-            finding,
+            found: one,
         })?;
     }
     Ok(found)

@@ -6,20 +6,21 @@ ghost use Rattle.std.specs.Thread.{IsSend, IsSync};
 ghost use Rattle.jh_ops.specs.Operation.{operations};
 ghost use Rattle.jh_keys.specs.BoardInside.{AreAnswers, AreKeysAsked, IsAnswerAt};
 ghost use Rattle.jh_keys.specs.Keys.{AreTuples};
-ghost use Rattle.jh_keys.specs.PartsInside.{asked_of};
 ghost use Rattle.jh_keys.specs.Refusals.{AreFindings, RefusesKeys, asked_by};
 ghost use Rattle.jh_keys.specs.SplitInside.{groups_of, view_groups};
+ghost use Rattle.jh_keys.specs.contracts.explanation.Explanation as explanation;
 ghost use Rattle.jh_keys.specs.contracts.finding.Finding as finding;
 ghost use Rattle.jh_keys.specs.contracts.split.KeyPlaces as places;
 ghost use Rattle.jh_ops.specs.contracts.operation.Op as op;
 
 use crate::board::{Answer, Asking, Board};
 use crate::error::KeysError;
-use crate::finding::Finding;
-use crate::parts::{Judging, check_key};
+use crate::explanation::Explanation;
+use crate::finding::{Finding, Judging};
+use crate::parts::check_key;
 use crate::serial::KeyFinding;
 use crate::split::{KeyPlaces, split};
-use jh_ops::{Op, Workload};
+use jh_ops::Op;
 use std::alloc::Global;
 use std::marker::{Brand, Model, PhantomData};
 use std::sync::{Mutex, Wait};
@@ -71,7 +72,7 @@ impl<Q: Asking> Model for Judge<Q> {
 
     ghost view = { λ j. tt };
 
-    ghost invariant = { λ j. asked_of j.judging Q.asked.history ≡ Q.asked };
+    ghost invariant = { λ j. asked_by j.judging Q.asked.history ≡ Q.asked };
 }
 
 impl<Q: Asking> Keys<'_, Q> {
@@ -165,6 +166,13 @@ fn can_be_shared<T: Sync>()
     ensures { IsSync T.row }
 {}
 
+/// Explanations can be sent.
+fn explanations_can_be_sent()
+    ensures { IsSend explanation.the_row }
+{
+    can_be_sent::<Explanation>()
+}
+
 /// Findings can be sent.
 fn findings_can_be_sent()
     ensures { IsSend finding.the_row }
@@ -196,6 +204,7 @@ fn shared<Q: Asking + Send + Sync, G: Gate + Sync, R: Threads + Wait + Sync>(
     others: usize,
 ) {
     findings_can_be_sent();
+    explanations_can_be_sent();
     operations_can_be_shared();
     places_can_be_shared();
     work_all::<Keys<'_, Q>, Judge<Q>, G, Mutex<Board<Q>>, R>(rt, keys, judge, gate, board, others)
@@ -214,10 +223,10 @@ fn collected<Q: Asking>(
 {
     let mut found = Vec::with_capacity(alloc, groups.len())?;
     for (group, answer) in groups.into_iter().zip(answers) {
-        let finding = answer.unwrap_or(Err(KeysError::Thread))?;
+        let one = answer.unwrap_or(Err(KeysError::Thread))?;
         found.push(KeyFinding {
             key: group.key,
-            finding,
+            found: one,
         })?;
     }
     Ok(found)
@@ -233,12 +242,12 @@ fn judged<'a, Q: Asking + Send + Sync, G: Gate + Sync, R: Threads + Wait + Sync>
     threads: u32,
     gate: &'a G,
 ) -> Result<Vec<KeyFinding>, KeysError>
-    requires asks { asked_of judging (operations history.now) ≡ Q.asked }
+    requires asks { asked_by judging (operations history.now) ≡ Q.asked }
     requires tuples { AreTuples (operations history.now) }
     requires groups { view_groups groups.items ≡ groups_of (operations history.now) }
     ensures { MatchResult result
-        (λ found. AreFindings (asked_of judging (operations history.now)) found.items)
-        (RefusesKeys (asked_of judging (operations history.now))) }
+        (λ found. AreFindings (asked_by judging (operations history.now)) found.items)
+        (RefusesKeys (asked_by judging (operations history.now))) }
 {
     let board = Mutex::new(Board::<Q>::new(alloc, groups.len())?);
     let others = groups.len().min(threads as usize).saturating_sub(1);
@@ -271,22 +280,15 @@ pub fn check_keys_at<G: Gate + Sync, R: Threads + Wait + Sync>(
     rt: &R,
     alloc: Global,
     history: &[Op],
-    workload: Workload,
-    initial: Option<i64>,
-    budget: u64,
+    judging: Judging,
     threads: u32,
     gate: &G,
 ) -> Result<Vec<KeyFinding>, KeysError>
     requires { (1 ≤ threads) × (threads ≤ 16) }
     ensures { MatchResult result
-        (λ found. AreFindings (asked_by workload initial budget (operations history.now)) found.items)
-        (RefusesKeys (asked_by workload initial budget (operations history.now))) }
+        (λ found. AreFindings (asked_by judging (operations history.now)) found.items)
+        (RefusesKeys (asked_by judging (operations history.now))) }
 {
-    let judging = Judging {
-        workload,
-        initial,
-        budget,
-    };
     let groups = split(alloc, history)?;
     judged::<Brand, G, R>(rt, alloc, history, judging, groups, threads, gate)
 }
@@ -298,17 +300,13 @@ pub fn check_keys<R: Threads + Wait + Sync>(
     rt: &R,
     alloc: Global,
     history: &[Op],
-    workload: Workload,
-    initial: Option<i64>,
-    budget: u64,
+    judging: Judging,
     threads: u32,
 ) -> Result<Vec<KeyFinding>, KeysError>
     requires { (1 ≤ threads) × (threads ≤ 16) }
     ensures { MatchResult result
-        (λ found. AreFindings (asked_by workload initial budget (operations history.now)) found.items)
-        (RefusesKeys (asked_by workload initial budget (operations history.now))) }
+        (λ found. AreFindings (asked_by judging (operations history.now)) found.items)
+        (RefusesKeys (asked_by judging (operations history.now))) }
 {
-    check_keys_at(
-        rt, alloc, history, workload, initial, budget, threads, &Open,
-    )
+    check_keys_at(rt, alloc, history, judging, threads, &Open)
 }

@@ -3,7 +3,7 @@
 use crate::text::ops_of;
 use jh_check::CheckError;
 use jh_check_plain::{Case, Dice, random_case, random_history};
-use jh_keys::{check_history, write_finding};
+use jh_keys::{Judging, check_history, write_finding};
 use jh_ops::Workload;
 use std::alloc::Global;
 
@@ -65,7 +65,13 @@ pub(crate) struct Part {
 /// The line of a register, or why there is none. It holds 0 at first.
 fn register_answer(alloc: Global, budget: u64, history: &str) -> Option<String> {
     let ops = ops_of(alloc, history)?;
-    match check_history(alloc, &ops, Workload::Register, Some(0), budget) {
+    let judging = Judging {
+        workload: Workload::Register,
+        initial: Some(0),
+        budget,
+        explain: false,
+    };
+    match check_history(alloc, &ops, judging) {
         Ok(found) => {
             let mut line = Vec::new(alloc);
             write_finding(&found, &mut line).ok()?;

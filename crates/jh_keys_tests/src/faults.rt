@@ -1,6 +1,6 @@
 //! Faults of one key or of several, told at the place in the whole history.
 
-use crate::rows::{Ask, ask_all};
+use crate::rows::{ask_all, by};
 use jh_ops::Workload;
 use std::test::Fail;
 
@@ -15,7 +15,7 @@ fn faults_have_places_in_the_whole_history(rt: HostRuntime) -> Result<(), Fail> 
         :nemesis :info :cut nil; 0 :invoke :add [1 5]; 0 :invoke :add [2 -1] => operation 2: negative add
         0 :invoke :add [2 1]; 0 :invoke :read [1 nil]; 0 :ok :add [2 1]; 1 :invoke :read [2 nil]; \
         0 :ok :read [1 1]; 1 :ok :read [2 :a] => operation 5: bad value";
-    ask_all(&rt, rt.alloc(), Ask::by(Workload::Counter), rows)
+    ask_all(&rt, rt.alloc(), by(Workload::Counter), rows)
 }
 
 #[test]
@@ -30,7 +30,7 @@ fn the_first_key_decides(rt: HostRuntime) -> Result<(), Fail> {
         => operation 3: double invoke
         0 :ok :add [1 1]; 0 :ok :add [2 1]; 0 :ok :add 5 => operation 2: bad value
         0 :ok :add [1 1]; 0 :ok :add [3]; 0 :ok :add 5 => operation 1: bad value";
-    ask_all(&rt, rt.alloc(), Ask::by(Workload::Counter), rows)
+    ask_all(&rt, rt.alloc(), by(Workload::Counter), rows)
 }
 
 #[test]
@@ -41,11 +41,11 @@ fn registers_and_sets_have_faults_by_key(rt: HostRuntime) -> Result<(), Fail> {
         0 :invoke :read [2 nil]; 0 :invoke :read [1 nil]; 0 :ok :read [1 0]; 0 :ok :read [2 [0]] \
         => operation 3: bad value
         0 :invoke :cas [1 0]; 0 :ok :write [0 1] => operation 1: no invocation";
-    ask_all(&rt, rt.alloc(), Ask::by(Workload::Register), rows)?;
+    ask_all(&rt, rt.alloc(), by(Workload::Register), rows)?;
     let rows = "
         1 :ok :read [1 []]; 0 :invoke :add [2 1]; 1 :ok :read [2 nil]; 1 :ok :read [1 []] => operation 2: bad value
         1 :ok :read [1 []]; 1 :ok :read [2 nil]; 1 :ok :read [2 [1]] \
         => {:valid? false, :keys [[1 {:valid? true, :ok [], :lost [], :unexpected [], :recovered []}] \
         [2 {:valid? false, :ok [], :lost [], :unexpected [1], :recovered []}]]}";
-    ask_all(&rt, rt.alloc(), Ask::by(Workload::Set), rows)
+    ask_all(&rt, rt.alloc(), by(Workload::Set), rows)
 }

@@ -1,6 +1,6 @@
 //! Gates that show that threads run at once, and that say who may not be judged.
 
-use crate::rows::{Ask, is_always_answered, is_told, may_lack_memory, told};
+use crate::rows::{by, is_always_answered, is_told, may_lack_memory, told};
 use jh_keys::{Gate, check_keys_at};
 use jh_keys_plain::ops_of;
 use jh_ops::Workload;
@@ -71,7 +71,7 @@ fn answer_at<G: Gate + Sync, R: Threads + Wait + Sync>(
     match threads {
         1..=16 => told(
             alloc,
-            check_keys_at(rt, alloc, &ops, Workload::Counter, None, 0, threads, gate),
+            check_keys_at(rt, alloc, &ops, by(Workload::Counter), threads, gate),
         ),
         _ => None,
     }
@@ -102,8 +102,8 @@ const LINE_OF_TWO: &str = "{:valid? true, :keys [[1 {:valid? true, :reads [[0 0 
 #[test]
 fn threads_run_at_once(rt: HostRuntime) {
     assert!(rt; is_met_by(&rt, rt.alloc(), TWO_KEYS, 2, LINE_OF_TWO));
-    let ask = Ask::by(Workload::Counter);
-    assert!(rt; is_always_answered(&rt, rt.alloc(), ask, TWO_KEYS, LINE_OF_TWO));
+    let judging = by(Workload::Counter);
+    assert!(rt; is_always_answered(&rt, rt.alloc(), judging, TWO_KEYS, LINE_OF_TWO));
 }
 
 #[test]

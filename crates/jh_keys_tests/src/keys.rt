@@ -1,6 +1,7 @@
 //! Which keys a history has: those that are equal are one, in normal form and in normal order.
 
-use crate::rows::{Ask, ask_all};
+use crate::rows::{ask_all, by};
+use jh_keys::Judging;
 use jh_ops::Workload;
 use std::test::Fail;
 
@@ -24,15 +25,15 @@ fn equal_keys_are_one(rt: HostRuntime) -> Result<(), Fail> {
         => {:valid? false, :keys [[1 {:valid? false, :attempted 0, :acknowledged 2, :duplicated [[8 2]]}] \
         [\\1 {:valid? true, :attempted 0, :acknowledged 1, :duplicated []}] \
         [\"1\" {:valid? true, :attempted 0, :acknowledged 1, :duplicated []}]]}";
-    ask_all(&rt, rt.alloc(), Ask::by(Workload::Ids), rows)
+    ask_all(&rt, rt.alloc(), by(Workload::Ids), rows)
 }
 
 /// A register that is judged within no budget has the shortest line.
 #[test]
 fn keys_stand_in_normal_order(rt: HostRuntime) -> Result<(), Fail> {
-    let ask = Ask {
+    let judging = Judging {
         budget: 0,
-        ..Ask::by(Workload::Register)
+        ..by(Workload::Register)
     };
     let rows = "
         0 :invoke :read [#a 1 0]; 0 :invoke :read [#{} 0]; 0 :invoke :read [{} 0]; 0 :invoke :read [[1 2] 0]; \
@@ -46,7 +47,7 @@ fn keys_stand_in_normal_order(rt: HostRuntime) -> Result<(), Fail> {
         [:a {:valid? :unknown}] [:b {:valid? :unknown}] [b {:valid? :unknown}] [[1] {:valid? :unknown}] \
         [[1 2] {:valid? :unknown}] [[2] {:valid? :unknown}] [{} {:valid? :unknown}] [#{} {:valid? :unknown}] \
         [#a 1 {:valid? :unknown}]]}";
-    ask_all(&rt, rt.alloc(), ask, rows)
+    ask_all(&rt, rt.alloc(), judging, rows)
 }
 
 #[test]
@@ -70,5 +71,5 @@ fn only_tuples_have_keys(rt: HostRuntime) -> Result<(), Fail> {
         :nemesis :ok :generate [0 1]; 0 :ok :other [4 4] \
         => {:valid? true, :keys [[2 {:valid? true, :attempted 0, :acknowledged 1, :duplicated []}] \
         [4 {:valid? true, :attempted 0, :acknowledged 0, :duplicated []}]]}";
-    ask_all(&rt, rt.alloc(), Ask::by(Workload::Ids), rows)
+    ask_all(&rt, rt.alloc(), by(Workload::Ids), rows)
 }

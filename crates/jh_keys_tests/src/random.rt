@@ -1,7 +1,8 @@
 //! Random histories of up to forty keys, on each of which the serial call and several threads are compared with the plain
 //! slow program.
 
-use crate::rows::{Ask, is_always_answered};
+use crate::rows::is_always_answered;
+use jh_keys::Judging;
 use jh_keys_plain::random_keys;
 use jh_ops::Workload;
 use std::alloc::Global;
@@ -19,13 +20,14 @@ fn is_line<R: Threads + Wait + Sync>(
     workload: Workload,
     seed: u64,
 ) -> Option<bool> {
-    let ask = Ask {
+    let judging = Judging {
         workload,
         initial: Some(0),
         budget: seed % 5 * 4,
+        explain: false,
     };
-    let case = random_keys(alloc, workload, ask.budget, seed)?;
-    if !is_always_answered(rt, alloc, ask, &case.history, &case.answer) {
+    let case = random_keys(alloc, workload, judging.budget, seed)?;
+    if !is_always_answered(rt, alloc, judging, &case.history, &case.answer) {
         return None;
     }
     Some(case.answer.starts_with("{"))

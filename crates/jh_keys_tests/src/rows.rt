@@ -5,7 +5,7 @@
 //! takes a second for each row.
 
 use jh_keys::{
-    KeyFinding, KeysError, check_keys, check_keys_serial, verdict_of_all, write_findings,
+    Judging, KeyFinding, KeysError, check_keys, check_keys_serial, verdict_of_all, write_findings,
 };
 use jh_keys_plain::ops_of;
 use jh_ops::{Op, Workload};
@@ -14,22 +14,13 @@ use std::sync::Wait;
 use std::test::Fail;
 use std::thread::Threads;
 
-/// What the keys of a history are judged by.
-#[derive(Clone, Copy)]
-pub(crate) struct Ask {
-    pub(crate) workload: Workload,
-    pub(crate) initial: Option<i64>,
-    pub(crate) budget: u64,
-}
-
-impl Ask {
-    /// By a workload, where a register holds nil at first and the budget is large.
-    pub(crate) fn by(workload: Workload) -> Ask {
-        Ask {
-            workload,
-            initial: None,
-            budget: 1_000,
-        }
+/// By a workload, where a register holds nil at first, the budget is large, and nothing is explained.
+pub(crate) fn by(workload: Workload) -> Judging {
+    Judging {
+        workload,
+        initial: None,
+        budget: 1_000,
+        explain: false,
     }
 }
 
@@ -37,18 +28,13 @@ impl Ask {
 fn found<R: Threads + Wait + Sync>(
     rt: &R,
     alloc: Global,
-    ask: Ask,
+    judging: Judging,
     history: &[Op],
     threads: u32,
 ) -> Result<Vec<KeyFinding>, KeysError> {
-    let Ask {
-        workload,
-        initial,
-        budget,
-    } = ask;
     match threads {
-        1..=16 => check_keys(rt, alloc, history, workload, initial, budget, threads),
-        _ => check_keys_serial(alloc, history, workload, initial, budget),
+        1..=16 => check_keys(rt, alloc, history, judging, threads),
+        _ => check_keys_serial(alloc, history, judging),
     }
 }
 
@@ -87,14 +73,14 @@ pub(crate) fn may_lack_memory(answer: &Option<String>, expected: &str) -> bool {
 fn is_answered<R: Threads + Wait + Sync>(
     rt: &R,
     alloc: Global,
-    ask: Ask,
+    judging: Judging,
     history: &[Op],
     threads: u32,
     expected: &str,
 ) -> bool {
-    let mut answer = told(alloc, found(rt, alloc, ask, history, threads));
+    let mut answer = told(alloc, found(rt, alloc, judging, history, threads));
     if may_lack_memory(&answer, expected) {
-        answer = told(alloc, found(rt, alloc, ask, history, threads));
+        answer = told(alloc, found(rt, alloc, judging, history, threads));
     }
     is_told(&answer, expected)
 }
@@ -103,7 +89,7 @@ fn is_answered<R: Threads + Wait + Sync>(
 pub(crate) fn is_always_answered<R: Threads + Wait + Sync>(
     rt: &R,
     alloc: Global,
-    ask: Ask,
+    judging: Judging,
     history: &str,
     expected: &str,
 ) -> bool {
@@ -111,7 +97,7 @@ pub(crate) fn is_always_answered<R: Threads + Wait + Sync>(
         return false;
     };
     for threads in [0, 1, 2, 3, 16] {
-        if !is_answered(rt, alloc, ask, &ops, threads, expected) {
+        if !is_answered(rt, alloc, judging, &ops, threads, expected) {
             return false;
         }
     }
@@ -122,12 +108,12 @@ pub(crate) fn is_always_answered<R: Threads + Wait + Sync>(
 pub(crate) fn ask_all<R: Threads + Wait + Sync>(
     rt: &R,
     alloc: Global,
-    ask: Ask,
+    judging: Judging,
     rows: &str,
 ) -> Result<(), Fail> {
     for row in rows.trim().lines() {
         let (history, expected) = row.split_once("=> ").ok_or("no answer")?;
-        if !is_always_answered(rt, alloc, ask, history, expected) {
+        if !is_always_answered(rt, alloc, judging, history, expected) {
             return Err(Fail::new(row));
         }
     }

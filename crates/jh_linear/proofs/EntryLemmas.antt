@@ -1,4 +1,4 @@
--- Pairs of a number and a place, which are sorted.
+-- Entries that name a place, which are sorted.
 use Rattle.std.proofs.Common.{◌≡◌, ℕ, ◌+◌, ◌<◌, ◌≤◌, true, false, eqb, List, [], ◌∷◌, ◌++◌, get_or, map, sym, ap, subst, ◌∙◌, inl, inr, arith, ne_eqb}
 use Rattle.std.specs.List.{All, IsDistinct, Contains}
 use Rattle.std.specs.List.Sorted.{IsPermutation, IsSorted}
@@ -17,45 +17,44 @@ use Rattle.jh_linear.proofs.SetLemmas.{same_tests, eqb_self}
 flips : (x y : ℕ) → eqb x y ≡ eqb y x
 flips x y = same_tests (eqb x y) (eqb y x) (λ e. subst (λ z. eqb z x ≡ true) (eqb-true x y e) (eqb_self x)) (λ e. subst (λ z. eqb z y ≡ true) (eqb-true y x e) (eqb_self y))
 
-module _ (Kept : ℕ → Type 0) (key : ℕ → ℕ) where
-  pub entries_none : AreEntries Kept key 0 []
+module _ {X : Type 0} (Kept : ℕ → Type 0) (entry : ℕ → X) (place : X → ℕ) where
+  pub entries_none : AreEntries Kept entry place 0 []
   entries_none = record {
-    each = All-nil (λ x. (x.1 < 0) × Kept x.1 × (key x.1 ≡ x.0));
+    each = All-nil (λ x. (place x < 0) × Kept (place x) × (entry (place x) ≡ x));
     all = λ p lt k. absurd (omega arith);
     distinct = IsDistinct-from_apart eqb [] (λ i j d lt inside. absurd (omega arith));
   }
 
-  wider : (n : ℕ) (pairs : List (ℕ × ℕ)) → All (λ x. (x.1 < n) × Kept x.1 × (key x.1 ≡ x.0)) pairs → All (λ x. (x.1 < n + 1) × Kept x.1 × (key x.1 ≡ x.0)) pairs
-  wider n pairs h = λ k d lt. let r = h k d lt in (omega (arith, r.0), r.1, r.2)
+  wider : (n : ℕ) (xs : List X) → All (λ x. (place x < n) × Kept (place x) × (entry (place x) ≡ x)) xs → All (λ x. (place x < n + 1) × Kept (place x) × (entry (place x) ≡ x)) xs
+  wider n xs h = λ k d lt. let r = h k d lt in (omega (arith, r.0), r.1, r.2)
 
-  pub entries_skip : (n : ℕ) (pairs : List (ℕ × ℕ)) → (Kept n → ⊥) → AreEntries Kept key n pairs → AreEntries Kept key (n + 1) pairs
-  entries_skip n pairs out e = record {
-    each = wider n pairs e.each;
-    all = λ p lt k. elim (cases_lt p n) as (λ _. Contains pairs (key p, p)) [
+  pub entries_skip : (n : ℕ) (xs : List X) → (Kept n → ⊥) → AreEntries Kept entry place n xs → AreEntries Kept entry place (n + 1) xs
+  entries_skip n xs out e = record {
+    each = wider n xs e.each;
+    all = λ p lt k. elim (cases_lt p n) as (λ _. Contains xs (entry p)) [
       | inl low ↦ e.all p low k
-      | inr high ↦ let is : p ≡ n = omega arith in absurd (out (subst Kept is k))
+      | inr high ↦ let is : p ≡ n = omega (arith, lt, high) in absurd (out (subst Kept is k))
     ];
     distinct = e.distinct;
   }
 
-  pub entries_push : (n : ℕ) (pairs : List (ℕ × ℕ)) (x : ℕ × ℕ) → x.1 ≡ n → key n ≡ x.0 → Kept n → AreEntries Kept key n pairs → AreEntries Kept key (n + 1) (pairs ++ x ∷ [])
-  entries_push n pairs x one is kept e = record {
-    each = All-push (λ y. (y.1 < n + 1) × Kept y.1 × (key y.1 ≡ y.0)) pairs x (wider n pairs e.each) (omega (arith, one), subst Kept (sym one) kept, ap key one ∙ is);
-    all = λ p lt k. elim (cases_lt p n) as (λ _. Contains (pairs ++ x ∷ []) (key p, p)) [
-      | inl low ↦ Contains-append_left pairs (x ∷ []) (key p, p) (e.all p low k)
-      | inr high ↦ let here : p ≡ n = omega arith in
-          let same : x ≡ (key p, p) = λ i. ((sym is ∙ ap key (sym here)) i, (one ∙ sym here) i) in
-          subst (λ y. Contains (pairs ++ x ∷ []) y) same (Contains-push pairs x)
+  pub entries_push : (n : ℕ) (xs : List X) (x : X) → place x ≡ n → entry n ≡ x → Kept n → AreEntries Kept entry place n xs → AreEntries Kept entry place (n + 1) (xs ++ x ∷ [])
+  entries_push n xs x one is kept e = record {
+    each = All-push (λ y. (place y < n + 1) × Kept (place y) × (entry (place y) ≡ y)) xs x (wider n xs e.each) (omega (arith, one), subst Kept (sym one) kept, ap entry one ∙ is);
+    all = λ p lt k. elim (cases_lt p n) as (λ _. Contains (xs ++ x ∷ []) (entry p)) [
+      | inl low ↦ Contains-append_left xs (x ∷ []) (entry p) (e.all p low k)
+      | inr high ↦ let here : p ≡ n = omega (arith, lt, high) in
+          subst (λ y. Contains (xs ++ x ∷ []) y) (sym is ∙ ap entry (sym here)) (Contains-push xs x)
     ];
-    distinct = subst (IsDistinct eqb) (sym (map-append (λ y. y.1) pairs (x ∷ []))) (IsDistinct-push nat_eq_equiv (map (λ y. y.1) pairs) x.1 e.distinct
-        (list_any_none (eqb x.1) (map (λ y. y.1) pairs) (All-map (λ q. eqb x.1 q ≡ false) (λ y. y.1) pairs (λ k d lt. ne_eqb _ _ (λ same. let low = e.each k d lt in absurd (omega (arith, low.0, same, one)))))));
+    distinct = subst (IsDistinct eqb) (sym (map-append place xs (x ∷ []))) (IsDistinct-push nat_eq_equiv (map place xs) (place x) e.distinct
+        (list_any_none (eqb (place x)) (map place xs) (All-map (λ q. eqb (place x) q ≡ false) place xs (λ k d lt. ne_eqb _ _ (λ same. let low = e.each k d lt in absurd (omega (arith, low.0, same, one)))))));
   }
 
-  pub entries_moved : (n : ℕ) (xs ys : List (ℕ × ℕ)) → IsPermutation xs ys → AreEntries Kept key n xs → AreEntries Kept key n ys
+  pub entries_moved : (n : ℕ) (xs ys : List X) → IsPermutation xs ys → AreEntries Kept entry place n xs → AreEntries Kept entry place n ys
   entries_moved n xs ys moved e = record {
-    each = All-permutation (λ x. (x.1 < n) × Kept x.1 × (key x.1 ≡ x.0)) xs ys moved e.each;
-    all = λ p lt k. Contains-permutation xs ys (key p, p) moved (e.all p lt k);
-    distinct = IsDistinct-IsPermutation eqb flips (map (λ x. x.1) xs) (map (λ x. x.1) ys) (IsPermutation-map (λ x. x.1) xs ys moved) e.distinct;
+    each = All-permutation (λ x. (place x < n) × Kept (place x) × (entry (place x) ≡ x)) xs ys moved e.each;
+    all = λ p lt k. Contains-permutation xs ys (entry p) moved (e.all p lt k);
+    distinct = IsDistinct-IsPermutation eqb flips (map place xs) (map place ys) (IsPermutation-map place xs ys moved) e.distinct;
   }
 
 not_below : (a b : ℕ × ℕ) → is_lt (ordering_then (nat_cmp b.0 a.0) (nat_cmp b.1 a.1)) ≡ false → a.0 ≤ b.0

@@ -1,237 +1,218 @@
--- A search that goes on.
-use Rattle.std.proofs.Common.{◌≡◌, ℕ, ◌+◌, ◌-◌, ◌<◌, ◌≤◌, ℤ, true, false, Option, Some, List, [], ◌∷◌, ◌++◌, length, get_or, slice_get, refl, sym, ap, subst, ◌∙◌, inl, inr, arith}
-use Rattle.std.specs.Prelude.{◌⊎◌}
+-- A search that goes on: by one move and a walk, then by all of them.
+use Rattle.std.proofs.Common.{◌≡◌, ℕ, ◌+◌, ◌-◌, ◌<◌, ◌≤◌, true, Some, List, [], ◌∷◌, ◌++◌, length, get_or, slice_get, sym, ap, subst, ◌∙◌, inl, inr, arith}
+use Rattle.std.specs.Prelude.{Result, Ok, Err, IfOk}
 use Rattle.std.proofs.lemmas.Bool.{cases_lt}
-use Rattle.std.proofs.lemmas.List.{length_push, get_or_read}
-use Rattle.jh_linear.specs.declared.register.RegOp.{RegOp}
-use Rattle.jh_linear.specs.declared.history.Stage.{Stage}
+use Rattle.std.proofs.lemmas.List.{length-append}
+use Rattle.std.proofs.lemmas.Option.{get_or_from_slice_get, slice_get-get_or}
+use Rattle.jh_linear.specs.declared.history.Problem.{Problem}
 use Rattle.jh_linear.specs.declared.config.Config.{Config}
+use Rattle.jh_linear.specs.declared.moves.Move.{Move}
+use Rattle.jh_linear.specs.declared.moves.Source.{Source}
+use Rattle.jh_linear.specs.declared.moves.Source.TheVariants.{Happened, Unknown}
+use Rattle.jh_linear.specs.declared.search.Added.TheVariants.{Known, New}
+use Rattle.jh_linear.specs.declared.search.Furthest.{Furthest}
 use Rattle.jh_linear.specs.declared.search.Search.{Search}
-use Rattle.jh_linear.specs.declared.judge.Problem.{Problem}
+use Rattle.jh_linear.specs.declared.verdict.Step.{Step}
 use Rattle.jh_linear.specs.declared.judge.Progress.{Progress}
-use Rattle.jh_linear.specs.declared.judge.Progress.TheVariants.{More, Complete, Full as NoRoom}
-use Rattle.jh_linear.specs.Order.{no_op, EndAfterInvoked, op_at, has, Allows}
-use Rattle.jh_linear.specs.Search.{MayFollow, Follows, stage_at, IsHistory, IsAt, StandsFor, IsSearch, IsReached, IsSpread, IsSettled, AreSame, Grows, IsNext, IsProblem, IsBegun, IsThere, Tried, Expanded}
-use Rattle.jh_linear.specs.Order.{HasAllDone}
+use Rattle.jh_linear.specs.declared.judge.Progress.TheVariants.{More, Complete as Whole, Full as NoRoom}
+use Rattle.jh_linear.specs.declared.walk.WalkEnd.TheVariants.{Several, Stuck, Complete}
+use Rattle.jh_linear.specs.Order.{Allows, has, op_at}
 use Rattle.jh_linear.specs.Reached.{order_at}
-use Rattle.jh_linear.proofs.SetLemmas.{place_of, has_here, has_self, has_kept, has_push_cases}
-use Rattle.std.proofs.lemmas.Option.{slice_get_within}
-use Rattle.jh_linear.proofs.StageLemmas.{may_follow, is_pending}
-use Rattle.jh_linear.proofs.PairLemmas.{order_kept}
-use Rattle.jh_linear.proofs.GrowthLemmas.{get_kept, get_cases, reached_kept, reached_new, reached_known, search_push}
+use Rattle.jh_linear.specs.Search.{Adds, AreMoves, AreSame, AreTried, CanReach, EndsAs, Entered, Grows, GrowsTo, HasGone, IsBegun, IsFurthest, IsGoneOn, IsMadeBy, IsMove, IsMoved, IsProblem, IsThere, IsWhole, LeadsOn, Notes, StandsFor, Tried, WasReached, call_of, class_at, end_at, invoked_at, next_at, place_of, stage_place, stages_in, unknown_at}
+use Rattle.jh_linear.proofs.GrowthLemmas.{below, grows_far, grows_none, grows_push, grows_trans, known_leads, leads_more, new_leads, stands_copy}
+use Rattle.jh_linear.proofs.LeadLemmas.{one_leads}
 
--- a copy of a configuration stands for the same orders
-pub stands_copy : (ops : List RegOp) (initial : Option ℤ) (arrivals : List ℕ) (stages : List Stage) (order : List ℕ) (a b : Config) → AreSame a b → StandsFor ops initial arrivals stages order a → StandsFor ops initial arrivals stages order b
-stands_copy ops initial arrivals stages order a b same stands = record {
-  follows = subst (λ v. Follows ops [] initial order v) same.2 stands.follows;
-  known = subst (λ p. IsAt arrivals stages order b.stage p) same.1 (subst (λ s. IsAt arrivals stages order s a.pending.items) same.0 stands.known);
-  low = subst (λ s. s ≤ length stages) same.0 stands.low;
-  waits = let Waits : ℕ → Type 0 = λ s. s < length stages → has order (stage_at stages s).place ≡ false in subst Waits same.0 stands.waits;
-}
+pub if_ok : {X E : Type 0} {P Q : X → Type 0} (r : Result X E) → ((x : X) → P x → Q x) → IfOk r P → IfOk r Q
+if_ok (Ok x) f h = f x h
+if_ok (Err e) f h = h
 
--- where every stage is passed, all that happened stands in the order
-pub all_done : (ops : List RegOp) (initial : Option ℤ) (arrivals : List ℕ) (stages : List Stage) (order : List ℕ) (c : Config) → IsHistory ops arrivals stages → StandsFor ops initial arrivals stages order c → c.stage ≡ length stages → HasAllDone ops order
-all_done ops initial arrivals stages order c history stands is place done =
-    let r = history.each_done place done in
-    subst (λ p. has order p ≡ true) r.2 (stands.known.passed r.0 (omega (arith, r.1, is)))
+-- ---- copies
 
--- the configuration at a place, or a copy of it
-module _ (ops : List RegOp) (initial : Option ℤ) (arrivals : List ℕ) (stages : List Stage) (history : IsHistory ops arrivals stages) (cs : List Config) (ss : List (ℕ × ℕ)) (known : IsSearch ops initial arrivals stages cs ss)
-    (at : ℕ) (found config : Config) (is : slice_get cs at ≡ Some found) (same : AreSame found config) where
-  pub stands_at : StandsFor ops initial arrivals stages (order_at ss at) config
-  stands_at = stands_copy ops initial arrivals stages (order_at ss at) found config same (known.stands at found is)
+pub place_same : (problem : Problem) (a b : Config) → AreSame a b → (source : Source) → place_of problem a source ≡ place_of problem b source
+place_same problem a b same (Happened i) = ap (λ xs. get_or xs i 0) same.1
+place_same problem a b same (Unknown k) = ap (λ ns. unknown_at problem.history.unknown.items (next_at ns k)) same.2
 
-  pub stage_at_low : config.stage < length stages
-  stage_at_low = subst (λ s. s < length stages) same.0 (known.open' at found is)
+there_same : (problem : Problem) (a b : Config) → AreSame a b → (source : Source) → IsThere problem a source → IsThere problem b source
+there_same problem a b same (Happened i) h = subst (λ xs. i < length xs) same.1 h
+there_same problem a b same (Unknown k) h = (
+  (h.0.0, subst (λ ns. next_at ns k < (class_at problem.history.classes.items k).upto) same.2 h.0.1),
+  subst (λ s. invoked_at problem.ops.now (place_of problem b (Unknown k)) ≤ end_at problem.ops.now (stage_place problem s)) same.0
+      (subst (λ p. invoked_at problem.ops.now p ≤ end_at problem.ops.now (stage_place problem a.stage)) (place_same problem a b same (Unknown k)) h.1),
+)
 
-  pub at_low : at < length ss
-  at_low = subst (λ n. at < n) known.sizes (slice_get_within cs at found is)
+pub move_same : (problem : Problem) (a b : Config) → AreSame a b → (move : Move) → IsMove problem a move → IsMove problem b move
+move_same problem a b same move h = (
+  there_same problem a b same move.source h.0,
+  subst (λ v. Allows (call_of problem b move.source) v move.value) same.3
+      (subst (λ p. Allows (op_at problem.ops.now p).call a.value move.value) (place_same problem a b same move.source) h.1),
+)
 
-  pub may_place : (i : ℕ) → i < length config.pending.items → MayFollow ops (order_at ss at) (get_or config.pending.items i 0)
-  may_place i lt = may_follow ops initial arrivals stages history (order_at ss at) config.stage config.pending.items _ stands_at.known stage_at_low (has_here config.pending.items i lt)
+-- ---- what is kept where lists are the same
 
-module _ (ops : List RegOp) (initial : Option ℤ) (arrivals : List ℕ) (stages : List Stage) (budget : ℕ) where
-  abbrev pub On : List Config → List (ℕ × ℕ) → List ℕ → List Config → List (ℕ × ℕ) → List ℕ → Type 0
-  On = Grows ops initial arrivals stages budget
+module _ (problem : Problem) where
+  pub grows_is : (cs : List Config) (ss : List Step) (ws : List ℕ) (f : Furthest) (a a' : List Config) (b b' : List Step) (c c' : List ℕ) (d d' : Furthest) → a' ≡ a → b' ≡ b → c' ≡ c → d' ≡ d
+      → Grows problem cs ss ws f a b c d → Grows problem cs ss ws f a' b' c' d'
+  grows_is cs ss ws f a a' b b' c c' d d' p q r s h =
+      subst (λ x. Grows problem cs ss ws f x b' c' d') (sym p) (subst (λ x. Grows problem cs ss ws f a x c' d') (sym q) (subst (λ x. Grows problem cs ss ws f a b x d') (sym r) (subst (λ x. Grows problem cs ss ws f a b c x) (sym s) h)))
 
-  pub grows_none : (cs : List Config) (ss : List (ℕ × ℕ)) (ws : List ℕ) → IsSearch ops initial arrivals stages cs ss → length ss ≤ budget → On cs ss ws cs ss ws
-  grows_none cs ss ws known few = record {
-    known = known;
-    few = few;
-    longer = omega arith;
-    orders = λ i lt. refl;
-    kept = λ i c is. is;
-    reached = λ o v r. r;
-    fresh = λ i c is. inl is;
-    waits = λ i h. h;
-    inside = λ f i h. f i h;
-    balance = refl;
-  }
+  leads_is : (a a' : List Config) (b b' : List Step) (size n : ℕ) → a' ≡ a → b' ≡ b → LeadsOn problem a b size n → LeadsOn problem a' b' size n
+  leads_is a a' b b' size n p q h = subst (λ x. LeadsOn problem x b' size n) (sym p) (subst (λ x. LeadsOn problem a x size n) (sym q) h)
 
-  pub grows_same : (cs : List Config) (ss : List (ℕ × ℕ)) (ws : List ℕ) (cs' : List Config) (ss' : List (ℕ × ℕ)) (ws' : List ℕ) → IsSearch ops initial arrivals stages cs ss → length ss ≤ budget → cs' ≡ cs → ss' ≡ ss → ws' ≡ ws → On cs ss ws cs' ss' ws'
-  grows_same cs ss ws cs' ss' ws' known few e f g =
-      subst (λ c. On cs ss ws c ss' ws') (sym e) (subst (λ s. On cs ss ws cs s ws') (sym f) (subst (λ w. On cs ss ws cs ss w) (sym g) (grows_none cs ss ws known few)))
+longer_with : (a b : List ℕ) → 0 < length b → length a < length (a ++ b)
+longer_with a b some = omega (arith, some, length-append a b)
 
-  pub grows_push : (cs : List Config) (ss : List (ℕ × ℕ)) (ws : List ℕ) (config : Config) (parent place : ℕ) → IsSearch ops initial arrivals stages cs ss → length ss ≤ budget → (length ss ≡ budget → ⊥) → parent < length ss
-      → StandsFor ops initial arrivals stages (order_at ss parent ++ place ∷ []) config → config.stage < length stages → ((i : ℕ) (found : Config) → slice_get cs i ≡ Some found → AreSame config found → ⊥)
-      → On cs ss ws (cs ++ config ∷ []) (ss ++ (parent, place) ∷ []) (ws ++ length cs ∷ [])
-  grows_push cs ss ws config parent place known few room lt stands open'' none =
-      let step : ℕ × ℕ = (parent, place) in
-      record {
-        known = search_push ops initial arrivals stages cs ss known config parent place lt stands open'' none;
-        few = omega (arith, length_push ss step, few, room);
-        longer = omega (arith, length_push ss step);
-        orders = λ i low. order_kept ss step i low;
-        kept = λ i c is. get_kept cs config c i is;
-        reached = λ o v r. reached_kept ops initial arrivals stages cs ss known config step o v r;
-        fresh = λ i c is. elim (get_cases cs config c i is) as (λ _. (slice_get cs i ≡ Some c) ⊎ (has (ws ++ length cs ∷ []) i ≡ true)) [
-          | inl old ↦ inl old
-          | inr new ↦ inr (subst (λ n. has (ws ++ length cs ∷ []) n ≡ true) (sym new.0) (has_self ws (length cs)))
-        ];
-        waits = λ i h. has_kept ws (length cs) i h;
-        inside = λ f i h. elim (has_push_cases ws (length cs) i h) as (λ _. i < length (ss ++ step ∷ [])) [
-          | inl old ↦ omega (arith, f i old, length_push ss step)
-          | inr new ↦ omega (arith, new, known.sizes, length_push ss step)
-        ];
-        balance = omega (arith, length_push ss step, length_push ws (length cs));
-      }
+-- ---- entering a configuration
 
-  pub grows_trans : (cs : List Config) (ss : List (ℕ × ℕ)) (ws : List ℕ) (cs' : List Config) (ss' : List (ℕ × ℕ)) (ws' : List ℕ) (cs'' : List Config) (ss'' : List (ℕ × ℕ)) (ws'' : List ℕ) → On cs ss ws cs' ss' ws' → On cs' ss' ws' cs'' ss'' ws'' → On cs ss ws cs'' ss'' ws''
-  grows_trans cs ss ws cs' ss' ws' cs'' ss'' ws'' a b = record {
-    known = b.known;
-    few = b.few;
-    longer = omega (arith, a.longer, b.longer);
-    orders = λ i lt. b.orders i (omega (arith, a.longer, lt)) ∙ a.orders i lt;
-    kept = λ i c is. b.kept i c (a.kept i c is);
-    reached = λ o v r. b.reached o v (a.reached o v r);
-    fresh = λ i c is. elim (b.fresh i c is) as (λ _. (slice_get cs i ≡ Some c) ⊎ (has ws'' i ≡ true)) [
-      | inl old ↦ elim (a.fresh i c old) as (λ _. (slice_get cs i ≡ Some c) ⊎ (has ws'' i ≡ true)) [ inl older ↦ inl older | inr w ↦ inr (b.waits i w) ]
-      | inr w ↦ inr w
-    ];
-    waits = λ i h. b.waits i (a.waits i h);
-    inside = λ f i h. b.inside (a.inside f) i h;
-    balance = omega (arith, a.balance, b.balance);
-  }
+module _ (problem : Problem) (stood : IsProblem problem) (old new : Search) (begun : IsBegun problem old) (at : ℕ) (low : at < length old.steps.items) (placed : List ℕ) (some : 0 < length placed)
+    (config : Config) (stands : StandsFor problem (order_at old.steps.items at ++ placed) config) where
+  pub entered_known : Adds old new problem.budget at placed config Known → Entered problem old new at placed config More
+  entered_known e =
+      let cs = old.configs.keys in
+      let ss = old.steps.items in
+      let order : List ℕ = order_at ss at in (
+        grows_is problem cs ss old.waiting.items old.furthest cs new.configs.keys ss new.steps.items old.waiting.items new.waiting.items old.furthest new.furthest e.0 e.1 e.2 e.3 (grows_none problem stood cs ss old.waiting.items old.furthest begun.known begun.far begun.few),
+        e.3,
+        λ n reach. leads_is problem cs new.configs.keys ss new.steps.items (length order) n e.0 e.1
+            (known_leads problem stood cs ss begun.known config e.4.1 e.4.0 (length order) n (order ++ placed) stands e.4.2 e.4.3 (longer_with order placed some) reach),
+      )
 
-  -- the steps after one more configuration, as lists of it
-  pub grows_new : (cs : List Config) (ss : List (ℕ × ℕ)) (ws : List ℕ) (cs' : List Config) (ss' : List (ℕ × ℕ)) (ws' : List ℕ) (config : Config) (parent place : ℕ) → IsSearch ops initial arrivals stages cs ss → length ss ≤ budget → (length ss ≡ budget → ⊥) → parent < length ss
-      → StandsFor ops initial arrivals stages (order_at ss parent ++ place ∷ []) config → config.stage < length stages → ((i : ℕ) (found : Config) → slice_get cs i ≡ Some found → AreSame config found → ⊥)
-      → cs' ≡ cs ++ config ∷ [] → ss' ≡ ss ++ (parent, place) ∷ [] → ws' ≡ ws ++ length cs ∷ []
-      → On cs ss ws cs' ss' ws' × IsReached cs' ss' (order_at ss parent ++ place ∷ []) config.value
-  grows_new cs ss ws cs' ss' ws' config parent place known few room lt stands open'' none e f g = (
-    subst (λ c. On cs ss ws c ss' ws') (sym e) (subst (λ s. On cs ss ws (cs ++ config ∷ []) s ws') (sym f) (subst (λ w. On cs ss ws (cs ++ config ∷ []) (ss ++ (parent, place) ∷ []) w) (sym g) (grows_push cs ss ws config parent place known few room lt stands open'' none))),
-    subst (λ c. IsReached c ss' (order_at ss parent ++ place ∷ []) config.value) (sym e) (subst (λ s. IsReached (cs ++ config ∷ []) s (order_at ss parent ++ place ∷ []) config.value) (sym f) (reached_new ops initial arrivals stages cs ss known config (parent, place))),
+  pub entered_new : config.stage < stages_in problem → config.stage ≤ old.furthest.stage → Adds old new problem.budget at placed config New → Entered problem old new at placed config More
+  entered_new open'' near e =
+      let cs = old.configs.keys in
+      let ss = old.steps.items in
+      let order : List ℕ = order_at ss at in
+      let step : Step = record { parent = at; placed = placed } in (
+        grows_is problem cs ss old.waiting.items old.furthest (cs ++ config ∷ []) new.configs.keys (ss ++ step ∷ []) new.steps.items (old.waiting.items ++ length cs ∷ []) new.waiting.items old.furthest new.furthest e.0 e.1 e.2 e.3
+            (grows_push problem stood cs ss old.waiting.items old.furthest config step begun.known begun.far begun.few e.5 low stands open'' near e.4),
+        e.3,
+        λ n reach. leads_is problem (cs ++ config ∷ []) new.configs.keys (ss ++ step ∷ []) new.steps.items (length order) n e.0 e.1
+            (new_leads problem stood cs ss begun.known config step (length order) n (longer_with order placed some) reach),
+      )
+
+-- ---- noting how far a configuration came
+
+pub noted : (problem : Problem) (stood : IsProblem problem) (old new : Search) (at : ℕ) (placed : List ℕ) (config : Config) → IsBegun problem old → at < length old.steps.items → StandsFor problem (order_at old.steps.items at ++ placed) config → config.stage < stages_in problem
+    → Notes old new at placed config.stage → GrowsTo problem old new × (config.stage ≤ new.furthest.stage)
+noted problem stood old new at placed config begun low stands open'' notes =
+    let cs = old.configs.keys in
+    let ss = old.steps.items in
+    elim notes.furthest as (λ _. GrowsTo problem old new × (config.stage ≤ new.furthest.stage)) [
+      | inl same ↦ (
+        grows_is problem cs ss old.waiting.items old.furthest cs new.configs.keys ss new.steps.items old.waiting.items new.waiting.items old.furthest new.furthest notes.configs notes.steps notes.waiting same.1 (grows_none problem stood cs ss old.waiting.items old.furthest begun.known begun.far begun.few),
+        subst (λ (f : Furthest). config.stage ≤ f.stage) (sym same.1) same.0,
+      )
+      | inr more ↦
+          let here : Furthest = record { stage = config.stage; step = record { parent = at; placed = placed } } in
+          let far : IsFurthest problem cs ss here = record {
+            named = low;
+            open' = open'';
+            value = config.value;
+            follows = stands.follows;
+            passed = stands.known.passed;
+            most = λ i c is. omega (arith, begun.far.most i c is, more.0);
+          } in (
+            grows_is problem cs ss old.waiting.items old.furthest cs new.configs.keys ss new.steps.items old.waiting.items new.waiting.items here new.furthest notes.configs notes.steps notes.waiting more.1 (grows_far problem stood cs ss old.waiting.items old.furthest here begun.known far begun.few (omega (arith, more.0))),
+            subst (λ (f : Furthest). config.stage ≤ f.stage) (sym more.1) (omega arith),
+          )
+    ]
+
+-- ---- one move, and a walk
+
+module _ (problem : Problem) (stood : IsProblem problem) (old : Search) (begun : IsBegun problem old) (at : ℕ) (config : Config) (was : WasReached old at config)
+    (copy : Config) (same : AreSame config copy) (step : Move) (made : Config) (first : List ℕ) (makes : IsMadeBy problem copy [] step made first) (next : Config) (placed : List ℕ) (gone : HasGone problem made first next placed) where
+  abbrev order : List ℕ
+  order = order_at old.steps.items at
+
+  pub at_low : at < length old.steps.items
+  at_low = below problem stood old.configs.keys old.steps.items begun.known at was.0 was.1
+
+  pub stands_here : StandsFor problem order copy
+  stands_here = stands_copy problem order config copy same (stands_copy problem order was.0 config was.2 (begun.known.stands at was.0 was.1))
+
+  place_is : place_of problem config step.source ≡ place_of problem copy step.source
+  place_is = place_same problem config copy same step.source
+
+  stands_made : StandsFor problem (order ++ first) made
+  stands_made = subst (λ o. StandsFor problem (order ++ o) made) (sym makes.placed_is) (makes.after.stands order stands_here)
+
+  pub stands_next : StandsFor problem (order ++ placed) next
+  stands_next = gone.stands order stands_made
+
+  pub some_placed : 0 < length placed
+  some_placed = omega (arith, gone.longer, ap length makes.placed_is)
+
+  pub reach_next : (n : ℕ) → next.stage < n → n ≤ stages_in problem → CanReach problem n (order ++ place_of problem config step.source ∷ []) step.value → CanReach problem n (order ++ placed) next.value
+  reach_next n past few reach =
+      let here : CanReach problem n (order ++ first) step.value = subst (λ o. CanReach problem n (order ++ o) step.value) (sym makes.placed_is) (subst (λ p. CanReach problem n (order ++ p ∷ []) step.value) place_is reach) in
+      gone.carries order stands_made n past few (subst (λ v. CanReach problem n (order ++ first) v) (sym makes.after.value_is) here)
+
+  pub whole : EndsAs problem next placed Complete → IsWhole problem (order ++ placed)
+  whole end = (
+    (next.value, stands_next.follows),
+    λ q done. let r = stood.history.each_done q done in subst (λ p. has (order ++ placed) p ≡ true) r.2 (stands_next.known.passed r.0 (omega (arith, r.1, end))),
   )
 
--- what came of one pending operation that the value allows
-module _ (ops : List RegOp) (initial : Option ℤ) (arrivals : List ℕ) (stages : List Stage) (budget : ℕ) (history : IsHistory ops arrivals stages) (ends : EndAfterInvoked ops)
-    (cs : List Config) (ss : List (ℕ × ℕ)) (known : IsSearch ops initial arrivals stages cs ss) (few : length ss ≤ budget)
-    (at : ℕ) (found config : Config) (is : slice_get cs at ≡ Some found) (same : AreSame found config) (index : ℕ) (inside : index < length config.pending.items) where
-  pub place_low : (place : ℕ) → place ≡ get_or config.pending.items index place → place < length ops
-  place_low place read =
-      let p = get_or_read config.pending.items index place inside read 0 in
-      subst (λ n. n < length ops) (sym p) (may_place ops initial arrivals stages history cs ss known at found config is same index inside).there
+  pub tried_stuck : (new : Search) → EndsAs problem next placed Stuck → Notes old new at placed next.stage → Tried problem old new at config step More
+  tried_stuck new ends notes =
+      let n = noted problem stood old new at placed next begun at_low stands_next ends.0 notes in
+      (n.0, λ stages past few reach. absurd (ends.1 order stands_next stages (omega (arith, n.1, past)) few (reach_next stages (omega (arith, n.1, past)) few reach)))
 
-  module _ (place : ℕ) (read : place ≡ get_or config.pending.items index place) (op : RegOp) (op_is : op ≡ get_or ops place op) (value : Option ℤ)
-      (allowed : Allows op.call config.value value) (only : (next : Option ℤ) → Allows op.call config.value next → Some value ≡ Some next)
-      (next : Config) (value_is : next.value ≡ value) (leads : IsNext arrivals stages config (get_or config.pending.items index 0) value next) where
-    place_is : place ≡ get_or config.pending.items index 0
-    place_is = get_or_read config.pending.items index place inside read 0
+  pub begun_mid : (mid : Search) → EndsAs problem next placed Several → Notes old mid at placed next.stage → IsBegun problem mid × (next.stage ≤ mid.furthest.stage)
+  begun_mid mid ends notes =
+      let n = noted problem stood old mid at placed next begun at_low stands_next ends notes in
+      (record { known = n.0.known; far = n.0.far; few = n.0.few }, n.1)
 
-    call_is : op ≡ op_at ops (get_or config.pending.items index 0)
-    call_is = get_or_read ops place op (place_low place read) op_is no_op ∙ ap (op_at ops) place_is
+  pub tried_several : (mid new : Search) → EndsAs problem next placed Several → Notes old mid at placed next.stage → Entered problem mid new at placed next More → Tried problem old new at config step More
+  tried_several mid new ends notes entered =
+      let n = noted problem stood old mid at placed next begun at_low stands_next ends notes in (
+        grows_trans problem stood old.configs.keys old.steps.items old.waiting.items old.furthest mid.configs.keys mid.steps.items mid.waiting.items mid.furthest new.configs.keys new.steps.items new.waiting.items new.furthest n.0 entered.0,
+        λ stages past few reach.
+            let beyond : next.stage < stages = omega (arith, n.1, ap (λ (f : Furthest). f.stage) entered.1, past) in
+            let there = reach_next stages beyond few reach in
+            subst (λ (ss : List Step). LeadsOn problem new.configs.keys new.steps.items (length (order_at ss at)) stages) notes.steps
+            (entered.2 stages (subst (λ (ss : List Step). CanReach problem stages (order_at ss at ++ placed) next.value) (sym notes.steps) there)),
+      )
 
-    pub stands_after : StandsFor ops initial arrivals stages (order_at ss at ++ place ∷ []) next
-    stands_after =
-        subst (λ p. StandsFor ops initial arrivals stages (order_at ss at ++ p ∷ []) next) (sym place_is)
-        (leads ops initial (order_at ss at) ends history (stands_at ops initial arrivals stages history cs ss known at found config is same)
-        (subst (λ o. Allows o.call config.value value) call_is allowed))
+  pub tried_entered : (mid new : Search) → EndsAs problem next placed Several → Notes old mid at placed next.stage → (progress : Progress) → Entered problem mid new at placed next progress → Tried problem old new at config step progress
+  tried_entered mid new ends notes More entered = tried_several mid new ends notes entered
+  tried_entered mid new ends notes (Whole places) entered = absurd entered
+  tried_entered mid new ends notes NoRoom entered = entered
 
-    told : (cs' : List Config) (ss' : List (ℕ × ℕ)) → IsReached cs' ss' (order_at ss at ++ place ∷ []) next.value
-        → (other : Config) (after : Option ℤ) → slice_get cs at ≡ Some other → Allows (op_at ops (get_or config.pending.items index 0)).call other.value after
-        → IsReached cs' ss' (order_at ss at ++ get_or config.pending.items index 0 ∷ []) after
-    told cs' ss' reached other after there allows =
-        let one : found ≡ other = cc in
-        let held : other.value ≡ config.value = ap (λ x. x.value) (sym one) ∙ same.2 in
-        let some = only after (subst (λ o. Allows o.call config.value after) (sym call_is) (subst (λ v. Allows (op_at ops (get_or config.pending.items index 0)).call v after) held allows)) in
-        let now : value ≡ after = cc in
-        subst (λ p. IsReached cs' ss' (order_at ss at ++ p ∷ []) after) place_is (subst (λ v. IsReached cs' ss' (order_at ss at ++ place ∷ []) v) (value_is ∙ now) reached)
+-- ---- all moves
 
-    abbrev pub CameOn : List ℕ → List Config → List (ℕ × ℕ) → List ℕ → Type 0
-    CameOn ws cs' ss' ws' =
-        Grows ops initial arrivals stages budget cs ss ws cs' ss' ws'
-        × ((other : Config) (after : Option ℤ) → slice_get cs at ≡ Some other → Allows (op_at ops (get_or config.pending.items index 0)).call other.value after
-        → IsReached cs' ss' (order_at ss at ++ get_or config.pending.items index 0 ∷ []) after)
+-- what led on past the furthest stage still does
+moved_more : (problem : Problem) (stood : IsProblem problem) (old mid new : Search) (at : ℕ) (config : Config) (move : Move) → IsBegun problem mid → GrowsTo problem mid new → IsMoved problem old mid at config move → IsMoved problem old new at config move
+moved_more problem stood old mid new at config move begun on moved stages past few reach =
+    leads_more problem stood mid.configs.keys mid.steps.items mid.waiting.items mid.furthest new.configs.keys new.steps.items new.waiting.items new.furthest (length (order_at old.steps.items at)) stages begun.known on
+    (moved stages (omega (arith, on.further, past)) few reach)
 
-    pub came_known : (ws : List ℕ) (cs' : List Config) (ss' : List (ℕ × ℕ)) (ws' : List ℕ) → cs' ≡ cs → ss' ≡ ss → ws' ≡ ws → (i : ℕ) (old : Config) → slice_get cs i ≡ Some old → AreSame next old → CameOn ws cs' ss' ws'
-    came_known ws cs' ss' ws' e f g i old there alike =
-        let on = grows_same ops initial arrivals stages budget cs ss ws cs' ss' ws' known few e f g in
-        (on, told cs' ss' (on.reached _ _ (reached_known ops initial arrivals stages cs ss known next old i (order_at ss at ++ place ∷ []) stands_after there alike)))
+pub tried_more : (problem : Problem) (stood : IsProblem problem) (old mid new : Search) (at : ℕ) (config : Config) (moves : List Move) (step index : ℕ) (d : Move) → at < length old.steps.items → index ≡ length moves - 1 - step → step < length moves → IsBegun problem mid → GrowsTo problem old mid → GrowsTo problem mid new
+    → IsMoved problem mid new at config (get_or moves index d) → AreTried problem old mid at config moves step → AreTried problem old new at config moves (step + 1)
+tried_more problem stood old mid new at config moves step index d low is room begun before on one tried i move high there =
+    elim (cases_lt i (length moves - step)) as (λ _. IsMoved problem old new at config move) [
+      | inl new' ↦
+          let here : i ≡ index = omega (arith, is, high, room, new') in
+          let this : get_or moves index d ≡ move = ap (λ k. get_or moves k d) (sym here) ∙ get_or_from_slice_get moves i move d there in
+          let moved : IsMoved problem mid new at config move = subst (IsMoved problem mid new at config) this one in
+          subst (λ (o : List ℕ). (stages : ℕ) → new.furthest.stage < stages → stages ≤ stages_in problem → CanReach problem stages (o ++ place_of problem config move.source ∷ []) move.value → LeadsOn problem new.configs.keys new.steps.items (length o) stages)
+          (before.orders at low) moved
+      | inr old' ↦ moved_more problem stood old mid new at config move begun on (tried i move (omega (arith, old')) there)
+    ]
 
-    pub came_new : (ws : List ℕ) (cs' : List Config) (ss' : List (ℕ × ℕ)) (ws' : List ℕ) → (next.stage ≡ length stages → ⊥) → (length ss ≡ budget → ⊥)
-        → cs' ≡ cs ++ next ∷ [] → ss' ≡ ss ++ (at, place) ∷ [] → ws' ≡ ws ++ length cs ∷ []
-        → ((i : ℕ) (old : Config) → slice_get cs i ≡ Some old → AreSame next old → ⊥) → CameOn ws cs' ss' ws'
-    came_new ws cs' ss' ws' open'' room e f g none =
-        let on = grows_new ops initial arrivals stages budget cs ss ws cs' ss' ws' next at place known few room (at_low ops initial arrivals stages history cs ss known at found config is same) stands_after (omega (arith, stands_after.low, open'')) none e f g in
-        (on.0, told cs' ss' on.1)
-
-    pub came_whole : next.stage ≡ length stages → ((end : Option ℤ) × Follows ops [] initial (order_at ss at ++ place ∷ []) end) × HasAllDone ops (order_at ss at ++ place ∷ [])
-    came_whole whole = ((next.value, stands_after.follows), all_done ops initial arrivals stages _ next history stands_after whole)
-
--- a configuration is gone on from when each pending operation was tried
-module _ (ops : List RegOp) (initial : Option ℤ) (arrivals : List ℕ) (stages : List Stage) (history : IsHistory ops arrivals stages)
-    (cs : List Config) (ss : List (ℕ × ℕ)) (known : IsSearch ops initial arrivals stages cs ss)
-    (at : ℕ) (found config : Config) (is : slice_get cs at ≡ Some found) (same : AreSame found config) (cs' : List Config) (ss' : List (ℕ × ℕ)) where
-  pub gone_on : ((k : ℕ) (other : Config) (next : Option ℤ) → k < length config.pending.items → slice_get cs at ≡ Some other → Allows (op_at ops (get_or config.pending.items k 0)).call other.value next
-      → IsReached cs' ss' (order_at ss at ++ get_or config.pending.items k 0 ∷ []) next)
-      → (other : Config) → slice_get cs at ≡ Some other → IsSpread ops cs' ss' (order_at ss at) other.value
-  gone_on tried other there = λ p next worth may allowed.
-      let stands = stands_at ops initial arrivals stages history cs ss known at found config is same in
-      let low = stage_at_low ops initial arrivals stages history cs ss known at found config is same in
-      let inside = is_pending ops initial arrivals stages history (order_at ss at) config.stage config.pending.items p stands.known low (stands.waits low) worth may in
-      let k = place_of config.pending.items p inside in
-      subst (λ q. IsReached cs' ss' (order_at ss at ++ q ∷ []) next) k.2 (tried k.0 other next k.1 there (subst (λ q. Allows (op_at ops q).call other.value next) (sym k.2) allowed))
-
--- one that is settled was placed at once and alone
-pub settled_on : (problem : Problem) (old new : Search) (at : ℕ) (config : Config) (place : ℕ) → IsProblem problem → IsBegun problem old → IsThere old at config → has config.pending.items place ≡ true
-    → IsSettled (op_at problem.ops.now place) config.value → (progress : Progress) → Tried problem old new at place progress → Expanded problem old new at progress
-settled_on problem old new at config place stood begun there inside settled More tried =
-    let ops : List RegOp = problem.ops.now in
-    let arrivals : List ℕ = problem.history.arrivals.items in
-    let stages : List Stage = problem.history.stages.items in
+-- a configuration is gone on from when each of its moves was tried
+pub gone_all : (problem : Problem) (stood : IsProblem problem) (old new : Search) (at : ℕ) (config : Config) (moves : List Move) → IsBegun problem old → WasReached old at config → GrowsTo problem old new → AreMoves problem config moves
+    → ((i : ℕ) (move : Move) → slice_get moves i ≡ Some move → IsMoved problem old new at config move)
+    → (other : Config) → slice_get old.configs.keys at ≡ Some other → IsGoneOn problem new.configs.keys new.steps.items new.furthest.stage (order_at old.steps.items at) other.value
+gone_all problem stood old new at config moves begun was on are tried other is stages past few reach =
+    let found : Config = was.0 in
+    let here : slice_get old.configs.keys at ≡ Some found = was.1 in
+    let one : found ≡ other = cc in
+    let held : other.value ≡ config.value = ap (λ x. x.value) (sym one) ∙ was.2.3 in
     let order : List ℕ = order_at old.steps.items at in
-    let stands = stands_at ops problem.initial arrivals stages stood.history old.configs.keys old.steps.items begun.known at there.0 config there.1 there.2 in
-    let low = stage_at_low ops problem.initial arrivals stages stood.history old.configs.keys old.steps.items begun.known at there.0 config there.1 there.2 in
-    let may = may_follow ops problem.initial arrivals stages stood.history order config.stage config.pending.items place stands.known low inside in (
-      tried.0,
-      λ other is.
-          let found : Config = there.0 in
-          let here : slice_get old.configs.keys at ≡ Some found = there.1 in
-          let one : found ≡ other = cc in
-          let held : other.value ≡ config.value = ap (λ x. x.value) (sym one) ∙ there.2.2 in
-          let allowed = subst (λ v. Allows (op_at ops place).call v v) (sym held) settled.2 in
-          inr (place, settled.0, may.fresh, settled.1, tried.1 other other.value is allowed),
-    )
-settled_on problem old new at config place stood begun there inside settled (Complete last) tried = tried
-settled_on problem old new at config place stood begun there inside settled NoRoom tried = tried
+    let stands = stands_copy problem order found config was.2 (begun.known.stands at found here) in
+    let low : config.stage < stages = omega (arith, ap (λ (x : Config). x.stage) (sym one), was.2.0, begun.far.most at found here, on.further, past) in
+    let led = one_leads problem stood stages few order config stands low moves are (subst (λ v. CanReach problem stages order v) held reach) in
+    tried led.0 led.1 led.2 stages past few led.3
 
--- one more pending operation was tried
-module _ (ops : List RegOp) (initial : Option ℤ) (arrivals : List ℕ) (stages : List Stage) (budget : ℕ)
-    (cs : List Config) (ss : List (ℕ × ℕ)) (ws : List ℕ) (cs1 : List Config) (ss1 : List (ℕ × ℕ)) (ws1 : List ℕ) (cs2 : List Config) (ss2 : List (ℕ × ℕ)) (ws2 : List ℕ)
-    (at : ℕ) (low : at < length ss) (pending : List ℕ) (step index : ℕ) (is : index ≡ length pending - 1 - step) (room : step < length pending) where
-  abbrev pub Tries : List Config → List (ℕ × ℕ) → ℕ → Type 0
-  Tries cs' ss' count =
-      (k : ℕ) (config : Config) (next : Option ℤ) → length pending ≤ k + count → k < length pending → slice_get cs at ≡ Some config
-      → Allows (op_at ops (get_or pending k 0)).call config.value next → IsReached cs' ss' (order_at ss at ++ get_or pending k 0 ∷ []) next
-
-  pub tried_more : Grows ops initial arrivals stages budget cs ss ws cs1 ss1 ws1 → Grows ops initial arrivals stages budget cs1 ss1 ws1 cs2 ss2 ws2
-      → ((config : Config) (next : Option ℤ) → slice_get cs1 at ≡ Some config → Allows (op_at ops (get_or pending index 0)).call config.value next → IsReached cs2 ss2 (order_at ss1 at ++ get_or pending index 0 ∷ []) next)
-      → Tries cs1 ss1 step → Tries cs2 ss2 (step + 1)
-  tried_more on then' one tried = λ k config next high lt there allowed.
-      elim (cases_lt k (length pending - step)) as (λ _. IsReached cs2 ss2 (order_at ss at ++ get_or pending k 0 ∷ []) next) [
-        | inl new ↦
-            let here : index ≡ k = omega (arith, is, high, room, new) in
-            let reached = one config next (on.kept at config there) (subst (λ i. Allows (op_at ops (get_or pending i 0)).call config.value next) (sym here) allowed) in
-            subst (λ i. IsReached cs2 ss2 (order_at ss at ++ get_or pending i 0 ∷ []) next) here (subst (λ o. IsReached cs2 ss2 (o ++ get_or pending index 0 ∷ []) next) (on.orders at low) reached)
-        | inr old ↦ then'.reached (order_at ss at ++ get_or pending k 0 ∷ []) next (tried k config next (omega (arith, old)) lt there allowed)
-      ]
+pub read_at : (moves : List Move) (i : ℕ) (x : Move) → i < length moves → x ≡ get_or moves i x → slice_get moves i ≡ Some x
+read_at moves i x lt is = slice_get-get_or moves i x lt ∙ ap Some (sym is)

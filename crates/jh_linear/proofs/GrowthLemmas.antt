@@ -1,113 +1,243 @@
 -- One more configuration that was reached.
-use Rattle.std.proofs.Common.{◌≡◌, ℕ, zero, suc, ◌<◌, ℤ, true, Option, Some, List, [], ◌∷◌, ◌++◌, length, get_or, slice_get, refl, sym, ap, subst, ◌∙◌, inl, inr, arith}
-use Rattle.std.specs.Prelude.{◌⊎◌}
+use Rattle.std.proofs.Common.{◌≡◌, ℕ, ◌<◌, ◌≤◌, ℤ, true, false, not, Option, Some, List, [], ◌∷◌, ◌++◌, length, get_or, slice_get, refl, sym, ap, subst, ◌∙◌, inl, inr, arith}
+use Rattle.std.specs.Prelude.{◌⊎◌, ◌||◌}
 use Rattle.std.proofs.lemmas.Bool.{cases_lt}
 use Rattle.std.proofs.lemmas.List.{length_push, get_or_append_left, get_or_push}
+use Rattle.std.proofs.lemmas.List.Elements.{filter_agree}
 use Rattle.std.proofs.lemmas.Option.{slice_get_within}
-use Rattle.jh_linear.specs.declared.register.RegOp.{RegOp}
+use Rattle.jh_linear.specs.declared.history.Problem.{Problem}
 use Rattle.jh_linear.specs.declared.history.Stage.{Stage}
 use Rattle.jh_linear.specs.declared.config.Config.{Config}
+use Rattle.jh_linear.specs.declared.search.Furthest.{Furthest}
+use Rattle.jh_linear.specs.declared.verdict.Step.{Step}
 use Rattle.jh_linear.specs.Order.{has}
-use Rattle.jh_linear.specs.Search.{arrived_by, without, StandsFor, IsSearch, IsReached, IsGoneOn, AreSame}
 use Rattle.jh_linear.specs.Reached.{order_at, root}
-use Rattle.jh_linear.proofs.SetLemmas.{has_without, in_without, not_true, true_if, same_tests}
-use Rattle.jh_linear.proofs.PairLemmas.{order_kept, order_new}
-
-pub get_kept : {X : Type 0} (xs : List X) (y x : X) (i : ℕ) → slice_get xs i ≡ Some x → slice_get (xs ++ y ∷ []) i ≡ Some x
-get_kept [] y x i h = absurd (let bad = h in cc)
-get_kept (z ∷ xs) y x zero h = h
-get_kept (z ∷ xs) y x (suc i) h = get_kept xs y x i h
-
-pub get_last : {X : Type 0} (xs : List X) (y : X) → slice_get (xs ++ y ∷ []) (length xs) ≡ Some y
-get_last [] y = refl
-get_last (z ∷ xs) y = get_last xs y
-
-pub get_cases : {X : Type 0} (xs : List X) (y x : X) (i : ℕ) → slice_get (xs ++ y ∷ []) i ≡ Some x → (slice_get xs i ≡ Some x) ⊎ ((i ≡ length xs) × (y ≡ x))
-get_cases [] y x zero h = let same : y ≡ x = cc in inr (refl, same)
-get_cases [] y x (suc i) h = absurd (let bad = h in cc)
-get_cases (z ∷ xs) y x zero h = inl h
-get_cases (z ∷ xs) y x (suc i) h = elim (get_cases xs y x i h) as (λ _. (slice_get xs i ≡ Some x) ⊎ ((suc i ≡ length (z ∷ xs)) × (y ≡ x))) [
-  | inl e ↦ inl e
-  | inr e ↦ inr (ap suc e.0, e.1)
-]
-
--- what was gone on from stays so where all that was reached does
-pub gone_more : (ops : List RegOp) (cs : List Config) (ss : List (ℕ × ℕ)) (cs' : List Config) (ss' : List (ℕ × ℕ)) (order : List ℕ) (value : Option ℤ)
-    → ((o : List ℕ) (v : Option ℤ) → IsReached cs ss o v → IsReached cs' ss' o v) → IsGoneOn ops cs ss order value → IsGoneOn ops cs' ss' order value
-gone_more ops cs ss cs' ss' order value more gone = elim gone as (λ _. IsGoneOn ops cs' ss' order value) [
-  | inl spread ↦ inl (λ p next worth may allowed. more (order ++ p ∷ []) next (spread p next worth may allowed))
-  | inr r ↦ inr (r.0, r.1, r.2, r.3, more (order ++ r.0 ∷ []) value r.4)
-]
+use Rattle.jh_linear.specs.Search.{AreSame, CanReach, Follows, Grows, IsAt, IsFurthest, IsProblem, IsSearch, LeadsOn, StandsFor, AreNext, arrived_by, furthest_order, stage_place, stages_in, without}
+use Rattle.jh_linear.proofs.SetLemmas.{has_append, has_kept, has_push_cases, has_self, has_without, in_without, not_true, same_tests, true_if}
+use Rattle.jh_linear.proofs.MoveLemmas.{get_cases, get_kept, get_last}
+use Rattle.jh_linear.proofs.NextLemmas.{same_next, same_unknown}
+use Rattle.jh_linear.proofs.OrderLemmas.{no_more}
+use Rattle.jh_linear.proofs.FollowLemmas.{follows_same}
+use Rattle.jh_linear.proofs.PartialLemmas.{distinct}
+use Rattle.jh_linear.proofs.StepLemmas.{order_kept, order_new}
 
 pub same_flip : (a b : Config) → AreSame a b → AreSame b a
-same_flip a b h = (sym h.0, sym h.1, sym h.2)
+same_flip a b h = (sym h.0, sym h.1, sym h.2, sym h.3)
 
-module _ (ops : List RegOp) (initial : Option ℤ) (arrivals : List ℕ) (stages : List Stage) where
-  -- the same configuration stands for the same places
-  pub same_places : (a b : List ℕ) (x y : Config) → StandsFor ops initial arrivals stages a x → StandsFor ops initial arrivals stages b y → AreSame x y → y.stage < length stages → (q : ℕ) → has a q ≡ has b q
-  same_places a b x y ax by same lt q =
-      let also : x.stage < length stages = omega (arith, same.0) in
-      let pending : without a (arrived_by arrivals stages x.stage) ≡ without b (arrived_by arrivals stages y.stage) = sym (ax.known.pending_is also) ∙ same.1 ∙ by.known.pending_is lt in
+-- a copy of a configuration stands for the same orders
+pub stands_copy : (problem : Problem) (order : List ℕ) (a b : Config) → AreSame a b → StandsFor problem order a → StandsFor problem order b
+stands_copy problem order a b same stands = record {
+  follows = subst (λ v. Follows problem.ops.now [] problem.initial order v) same.3 stands.follows;
+  searched = stands.searched;
+  known = subst (λ p. IsAt problem.history.arrivals.items problem.history.stages.items order b.stage p) same.1 (subst (λ s. IsAt problem.history.arrivals.items problem.history.stages.items order s a.pending.items) same.0 stands.known);
+  used = subst (λ n. AreNext problem.history.unknown.items problem.history.classes.items order n) same.2 stands.used;
+  low = subst (λ s. s ≤ stages_in problem) same.0 stands.low;
+  waits = let Waits : ℕ → Type 0 = λ s. s < stages_in problem → has order (stage_place problem s) ≡ false in subst Waits same.0 stands.waits;
+}
+
+-- what can be reached does not hang on how the places so far stand
+reach_same : (problem : Problem) (n : ℕ) (a b : List ℕ) (v w : Option ℤ) → ((q : ℕ) → has a q ≡ has b q) → v ≡ w → CanReach problem n a v → CanReach problem n b w
+reach_same problem n a b v w places value reach = (
+  reach.0,
+  reach.1,
+  follows_same problem.ops.now a b reach.0 w reach.1 places (subst (λ x. Follows problem.ops.now a x reach.0 reach.1) value reach.2),
+  λ k lt. has_append b reach.0 (stage_place problem k) ∙ ap (λ t. t || has reach.0 (stage_place problem k)) (sym (places _)) ∙ sym (has_append a reach.0 (stage_place problem k)) ∙ reach.3 k lt,
+)
+
+module _ (problem : Problem) (stood : IsProblem problem) where
+  abbrev arrivals : List ℕ
+  arrivals = problem.history.arrivals.items
+
+  abbrev stages : List Stage
+  stages = problem.history.stages.items
+
+  -- a place in one of the orders of a configuration is in the other
+  placed_too : (a b : List ℕ) (x y : Config) → StandsFor problem a x → StandsFor problem b y → AreSame x y → y.stage < stages_in problem → (q : ℕ) → has a q ≡ true → has b q ≡ true
+  placed_too a b x y ax by same lt q h =
+      let also : x.stage < stages_in problem = omega (arith, same.0, lt) in
       let where' : arrived_by arrivals stages x.stage ≡ arrived_by arrivals stages y.stage = ap (λ k. arrived_by arrivals stages k) same.0 in
-      same_tests (has a q) (has b q)
-      (λ in'. true_if _ (λ out.
-      let here = subst (λ xs. has xs q ≡ true) where' (ax.known.arrived also q in') in
-      let left = has_without b _ q here out in
-      not_true _ in' (in_without a _ q (subst (λ xs. has xs q ≡ true) (sym pending) left)).1))
-      (λ in'. true_if _ (λ out.
-      let here = subst (λ xs. has xs q ≡ true) (sym where') (by.known.arrived lt q in') in
-      let left = has_without a _ q here out in
-      not_true _ in' (in_without b _ q (subst (λ xs. has xs q ≡ true) pending left)).1))
+      let pending : without a (arrived_by arrivals stages x.stage) ≡ without b (arrived_by arrivals stages y.stage) = sym (ax.known.pending_is also) ∙ same.1 ∙ by.known.pending_is lt in
+      elim (ax.searched q h) as (λ _. has b q ≡ true) [
+        | inl done ↦ true_if _ (λ out.
+            let here = subst (λ xs. has xs q ≡ true) where' (ax.known.arrived also q h (stood.history.all q done)) in
+            let left = has_without b _ q here out in
+            not_true _ h (in_without a _ q (subst (λ xs. has xs q ≡ true) (sym pending) left)).1)
+        | inr un ↦ sym (same_unknown problem.ops.now problem.history.unknown.items problem.history.classes.items stood.classes a b x.next.items y.next.items ax.used by.used same.2 q un) ∙ h
+      ]
 
-  module _ (configs : List Config) (steps : List (ℕ × ℕ)) (search : IsSearch ops initial arrivals stages configs steps) where
-    below : (i : ℕ) (c : Config) → slice_get configs i ≡ Some c → i < length steps
-    below i c is = subst (λ n. i < n) search.sizes (slice_get_within configs i c is)
+  -- the same configuration stands for the same places
+  pub same_places : (a b : List ℕ) (x y : Config) → StandsFor problem a x → StandsFor problem b y → AreSame x y → y.stage < stages_in problem → (q : ℕ) → has a q ≡ has b q
+  same_places a b x y ax by same lt q =
+      same_tests (has a q) (has b q) (placed_too a b x y ax by same lt q) (placed_too b a y x by ax (same_flip x y same) (omega (arith, same.0, lt)) q)
 
-    pub reached_kept : (config : Config) (step : ℕ × ℕ) (order : List ℕ) (value : Option ℤ) → IsReached configs steps order value → IsReached (configs ++ config ∷ []) (steps ++ step ∷ []) order value
-    reached_kept config step order value r =
-        (r.0, r.1, get_kept configs config r.1 r.0 r.2, r.3, λ q. r.4 q ∙ ap (λ o. has o q) (sym (order_kept steps step r.0 (below r.0 r.1 r.2))))
+  -- configurations with the same places and the same value are the same
+  same_stage : (a b : List ℕ) (x y : Config) → StandsFor problem a x → StandsFor problem b y → x.stage < stages_in problem → ((q : ℕ) → has a q ≡ has b q) → x.stage < y.stage → ⊥
+  same_stage a b x y ax by low same lt = not_true _ (same _ ∙ by.known.passed x.stage lt) (ax.waits low)
 
-    pub reached_new : (config : Config) (step : ℕ × ℕ) → IsReached (configs ++ config ∷ []) (steps ++ step ∷ []) (order_at steps step.0 ++ step.1 ∷ []) config.value
-    reached_new config step =
-        (length steps, config, subst (λ n. slice_get (configs ++ config ∷ []) n ≡ Some config) search.sizes (get_last configs config), refl, λ q. ap (λ o. has o q) (sym (order_new steps step search.some)))
+  pub are_alike : (a b : List ℕ) (x y : Config) → StandsFor problem a x → StandsFor problem b y → x.stage < stages_in problem → y.stage < stages_in problem → ((q : ℕ) → has a q ≡ has b q) → x.value ≡ y.value → AreSame x y
+  are_alike a b x y ax by xl yl same value =
+      let one : x.stage ≡ y.stage = elim (cases_lt x.stage y.stage) as (λ _. x.stage ≡ y.stage) [
+        | inl lt ↦ absurd (same_stage a b x y ax by xl same lt)
+        | inr le ↦ elim (cases_lt y.stage x.stage) as (λ _. x.stage ≡ y.stage) [
+          | inl lt ↦ absurd (same_stage b a y x by ax yl (λ q. sym (same q)) lt)
+          | inr ge ↦ omega (arith, le, ge)
+        ]
+      ] in (
+        one,
+        ax.known.pending_is xl
+            ∙ filter_agree (λ p. not (has a p)) (λ p. not (has b p)) (λ p. ap not (same p)) (arrived_by arrivals stages x.stage)
+            ∙ ap (λ k. without b (arrived_by arrivals stages k)) one
+            ∙ sym (by.known.pending_is yl),
+        same_next problem.ops.now problem.history.unknown.items problem.history.classes.items stood.classes a b x.next.items y.next.items ax.used by.used same,
+        value,
+      )
 
-    pub reached_known : (config found : Config) (i : ℕ) (order : List ℕ) → StandsFor ops initial arrivals stages order config → slice_get configs i ≡ Some found → AreSame config found → IsReached configs steps order config.value
-    reached_known config found i order stands is same =
-        (i, found, is, sym same.2, same_places order (order_at steps i) config found stands (search.stands i found is) same (search.open' i found is))
+  -- two orders with the same places are as long as each other
+  same_length : (a b : List ℕ) (x y : Config) → StandsFor problem a x → StandsFor problem b y → ((q : ℕ) → has a q ≡ has b q) → length a ≤ length b
+  same_length a b x y ax by same = no_more a b (distinct problem.ops.now [] a problem.initial x.value ax.follows) (λ q h. sym (same q) ∙ h)
 
-    pub search_push : (config : Config) (parent place : ℕ) → parent < length steps → StandsFor ops initial arrivals stages (order_at steps parent ++ place ∷ []) config → config.stage < length stages
-        → ((i : ℕ) (found : Config) → slice_get configs i ≡ Some found → AreSame config found → ⊥)
-        → IsSearch ops initial arrivals stages (configs ++ config ∷ []) (steps ++ (parent, place) ∷ [])
-    search_push config parent place lt stands room none =
-        let step : ℕ × ℕ = (parent, place) in
+  module _ (cs : List Config) (ss : List Step) (search : IsSearch problem cs ss) where
+    pub below : (i : ℕ) (c : Config) → slice_get cs i ≡ Some c → i < length ss
+    below i c is = subst (λ n. i < n) search.sizes (slice_get_within cs i c is)
+
+    -- a configuration that was known leads on as far as one that is the same
+    pub known_leads : (config found : Config) (i size n : ℕ) (order : List ℕ) → StandsFor problem order config → slice_get cs i ≡ Some found → AreSame config found → size < length order → CanReach problem n order config.value → LeadsOn problem cs ss size n
+    known_leads config found i size n order stands is same longer reach =
+        let there = search.stands i found is in
+        let places = same_places order (order_at ss i) config found stands there same (search.open' i found is) in
+        let long : length order ≤ length (order_at ss i) = same_length order (order_at ss i) config found stands there places in
+        (i, found, is, omega (arith, longer, long), reach_same problem n order (order_at ss i) config.value found.value places same.3 reach)
+
+    pub new_leads : (config : Config) (step : Step) (size n : ℕ) → size < length (order_at ss step.parent ++ step.placed) → CanReach problem n (order_at ss step.parent ++ step.placed) config.value
+        → LeadsOn problem (cs ++ config ∷ []) (ss ++ step ∷ []) size n
+    new_leads config step size n longer reach =
+        let is : order_at (ss ++ step ∷ []) (length ss) ≡ order_at ss step.parent ++ step.placed = order_new ss step search.some in (
+          length ss,
+          config,
+          subst (λ k. slice_get (cs ++ config ∷ []) k ≡ Some config) search.sizes (get_last cs config),
+          subst (λ o. size < length o) (sym is) longer,
+          subst (λ o. CanReach problem n o config.value) (sym is) reach,
+        )
+
+    pub search_push : (config : Config) (step : Step) → step.parent < length ss → StandsFor problem (order_at ss step.parent ++ step.placed) config → config.stage < stages_in problem
+        → ((i : ℕ) (found : Config) → slice_get cs i ≡ Some found → AreSame config found → ⊥)
+        → IsSearch problem (cs ++ config ∷ []) (ss ++ step ∷ [])
+    search_push config step lt stands room none =
         record {
-          sizes = omega (arith, length_push configs config, length_push steps step, search.sizes);
-          some = omega (arith, length_push steps step, search.some);
-          begins = get_or_append_left steps (step ∷ []) root 0 search.some ∙ search.begins;
-          earlier = λ i low high. elim (cases_lt i (length steps)) as (λ _. (get_or (steps ++ step ∷ []) i root).0 < i) [
-            | inl old ↦ subst (λ s. s.0 < i) (sym (get_or_append_left steps (step ∷ []) root i old)) (search.earlier i low old)
-            | inr new ↦ let is : length steps ≡ i = omega (arith, length_push steps step, high, new) in
-                subst (λ s. s.0 < i) (sym (get_or_push steps step root i is)) (subst (λ n. parent < n) is lt)
+          sizes = omega (arith, length_push cs config, length_push ss step, search.sizes);
+          some = omega (arith, length_push ss step, search.some);
+          begins = get_or_append_left ss (step ∷ []) root 0 search.some ∙ search.begins;
+          earlier = λ i low high. elim (cases_lt i (length ss)) as (λ _. (get_or (ss ++ step ∷ []) i root).parent < i) [
+            | inl old ↦ subst (λ s. s.parent < i) (sym (get_or_append_left ss (step ∷ []) root i old)) (search.earlier i low old)
+            | inr new ↦ let is : length ss ≡ i = omega (arith, length_push ss step, high, new) in
+                subst (λ s. s.parent < i) (sym (get_or_push ss step root i is)) (subst (λ n. step.parent < n) is lt)
           ];
-          stands = λ i c is. elim (get_cases configs config c i is) as (λ _. StandsFor ops initial arrivals stages (order_at (steps ++ step ∷ []) i) c) [
-            | inl old ↦ subst (λ o. StandsFor ops initial arrivals stages o c) (sym (order_kept steps step i (below i c old))) (search.stands i c old)
+          stands = λ i c is. elim (get_cases cs config c i is) as (λ _. StandsFor problem (order_at (ss ++ step ∷ []) i) c) [
+            | inl old ↦ subst (λ o. StandsFor problem o c) (sym (order_kept ss step i (below i c old))) (search.stands i c old)
             | inr new ↦
-                let here : StandsFor ops initial arrivals stages (order_at (steps ++ step ∷ []) (length steps)) config = subst (λ o. StandsFor ops initial arrivals stages o config) (sym (order_new steps step search.some)) stands in
-                let at : length steps ≡ i = sym (new.0 ∙ search.sizes) in
-                subst (λ n. StandsFor ops initial arrivals stages (order_at (steps ++ step ∷ []) n) c) at (subst (λ d. StandsFor ops initial arrivals stages (order_at (steps ++ step ∷ []) (length steps)) d) new.1 here)
+                let here : StandsFor problem (order_at (ss ++ step ∷ []) (length ss)) config = subst (λ o. StandsFor problem o config) (sym (order_new ss step search.some)) stands in
+                let at : length ss ≡ i = sym (new.0 ∙ search.sizes) in
+                subst (λ n. StandsFor problem (order_at (ss ++ step ∷ []) n) c) at (subst (λ d. StandsFor problem (order_at (ss ++ step ∷ []) (length ss)) d) new.1 here)
           ];
-          open' = λ i c is. elim (get_cases configs config c i is) as (λ _. c.stage < length stages) [
+          open' = λ i c is. elim (get_cases cs config c i is) as (λ _. c.stage < stages_in problem) [
             | inl old ↦ search.open' i c old
-            | inr new ↦ subst (λ d. d.stage < length stages) new.1 room
+            | inr new ↦ subst (λ d. d.stage < stages_in problem) new.1 room
           ];
-          apart = λ i j a b before ia jb same. elim (get_cases configs config b j jb) as (λ _. ⊥) [
-            | inl old ↦ elim (get_cases configs config a i ia) as (λ _. ⊥) [
+          apart = λ i j a b before ia jb same. elim (get_cases cs config b j jb) as (λ _. ⊥) [
+            | inl old ↦ elim (get_cases cs config a i ia) as (λ _. ⊥) [
               | inl first ↦ search.apart i j a b before first old same
-              | inr last ↦ let high = slice_get_within configs j b old in absurd (omega (arith, high, last.0, before))
+              | inr last ↦ let high = slice_get_within cs j b old in absurd (omega (arith, high, last.0, before))
             ]
-            | inr new ↦ elim (get_cases configs config a i ia) as (λ _. ⊥) [
+            | inr new ↦ elim (get_cases cs config a i ia) as (λ _. ⊥) [
               | inl first ↦ none i a first (same_flip a config (subst (λ d. AreSame a d) (sym new.1) same))
               | inr last ↦ absurd (omega (arith, last.0, new.0, before))
             ]
           ];
         }
+
+    -- the furthest order stays so, where a configuration that is not further comes
+    pub far_push : (furthest : Furthest) (config : Config) (step : Step) → IsFurthest problem cs ss furthest → config.stage ≤ furthest.stage → IsFurthest problem (cs ++ config ∷ []) (ss ++ step ∷ []) furthest
+    far_push furthest config step far low =
+        let same : furthest_order (ss ++ step ∷ []) furthest ≡ furthest_order ss furthest = ap (λ o. o ++ furthest.step.placed) (order_kept ss step furthest.step.parent far.named) in
+        record {
+          named = omega (arith, far.named, length_push ss step);
+          open' = far.open';
+          value = far.value;
+          follows = subst (λ o. Follows problem.ops.now [] problem.initial o far.value) (sym same) far.follows;
+          passed = λ k lt. subst (λ o. has o (stage_place problem k) ≡ true) (sym same) (far.passed k lt);
+          most = λ i c is. elim (get_cases cs config c i is) as (λ _. c.stage ≤ furthest.stage) [
+            | inl old ↦ far.most i c old
+            | inr new ↦ subst (λ d. d.stage ≤ furthest.stage) new.1 low
+          ];
+        }
+
+  abbrev pub On : List Config → List Step → List ℕ → Furthest → List Config → List Step → List ℕ → Furthest → Type 0
+  On = Grows problem
+
+  -- a further order was noted
+  pub grows_far : (cs : List Config) (ss : List Step) (ws : List ℕ) (f f' : Furthest) → IsSearch problem cs ss → IsFurthest problem cs ss f' → length ss ≤ problem.budget → f.stage ≤ f'.stage → On cs ss ws f cs ss ws f'
+  grows_far cs ss ws f f' known far few further = record {
+    known = known;
+    far = far;
+    few = few;
+    longer = omega arith;
+    further = further;
+    orders = λ i lt. refl;
+    kept = λ i c is. is;
+    fresh = λ i c is. inl is;
+    waits = λ i h. h;
+    inside = λ g i h. g i h;
+    balance = refl;
+  }
+
+  pub grows_none : (cs : List Config) (ss : List Step) (ws : List ℕ) (f : Furthest) → IsSearch problem cs ss → IsFurthest problem cs ss f → length ss ≤ problem.budget → On cs ss ws f cs ss ws f
+  grows_none cs ss ws f known far few = grows_far cs ss ws f f known far few (omega arith)
+
+  pub grows_push : (cs : List Config) (ss : List Step) (ws : List ℕ) (f : Furthest) (config : Config) (step : Step) → IsSearch problem cs ss → IsFurthest problem cs ss f → length ss ≤ problem.budget → (length ss ≡ problem.budget → ⊥) → step.parent < length ss
+      → StandsFor problem (order_at ss step.parent ++ step.placed) config → config.stage < stages_in problem → config.stage ≤ f.stage → ((i : ℕ) (found : Config) → slice_get cs i ≡ Some found → AreSame config found → ⊥)
+      → On cs ss ws f (cs ++ config ∷ []) (ss ++ step ∷ []) (ws ++ length cs ∷ []) f
+  grows_push cs ss ws f config step known far few room lt stands open'' low none =
+      record {
+        known = search_push cs ss known config step lt stands open'' none;
+        far = far_push cs ss known f config step far low;
+        few = omega (arith, length_push ss step, few, room);
+        longer = omega (arith, length_push ss step);
+        further = omega arith;
+        orders = λ i low'. order_kept ss step i low';
+        kept = λ i c is. get_kept cs config c i is;
+        fresh = λ i c is. elim (get_cases cs config c i is) as (λ _. (slice_get cs i ≡ Some c) ⊎ (has (ws ++ length cs ∷ []) i ≡ true)) [
+          | inl old ↦ inl old
+          | inr new ↦ inr (subst (λ n. has (ws ++ length cs ∷ []) n ≡ true) (sym new.0) (has_self ws (length cs)))
+        ];
+        waits = λ i h. has_kept ws (length cs) i h;
+        inside = λ g i h. elim (has_push_cases ws (length cs) i h) as (λ _. i < length (ss ++ step ∷ [])) [
+          | inl old ↦ omega (arith, g i old, length_push ss step)
+          | inr new ↦ omega (arith, new, known.sizes, length_push ss step)
+        ];
+        balance = omega (arith, length_push ss step, length_push ws (length cs));
+      }
+
+  pub grows_trans : (cs : List Config) (ss : List Step) (ws : List ℕ) (f : Furthest) (cs' : List Config) (ss' : List Step) (ws' : List ℕ) (f' : Furthest) (cs'' : List Config) (ss'' : List Step) (ws'' : List ℕ) (f'' : Furthest)
+      → On cs ss ws f cs' ss' ws' f' → On cs' ss' ws' f' cs'' ss'' ws'' f'' → On cs ss ws f cs'' ss'' ws'' f''
+  grows_trans cs ss ws f cs' ss' ws' f' cs'' ss'' ws'' f'' a b = record {
+    known = b.known;
+    far = b.far;
+    few = b.few;
+    longer = omega (arith, a.longer, b.longer);
+    further = omega (arith, a.further, b.further);
+    orders = λ i lt. b.orders i (omega (arith, a.longer, lt)) ∙ a.orders i lt;
+    kept = λ i c is. b.kept i c (a.kept i c is);
+    fresh = λ i c is. elim (b.fresh i c is) as (λ _. (slice_get cs i ≡ Some c) ⊎ (has ws'' i ≡ true)) [
+      | inl old ↦ elim (a.fresh i c old) as (λ _. (slice_get cs i ≡ Some c) ⊎ (has ws'' i ≡ true)) [ inl older ↦ inl older | inr w ↦ inr (b.waits i w) ]
+      | inr w ↦ inr w
+    ];
+    waits = λ i h. b.waits i (a.waits i h);
+    inside = λ g i h. b.inside (a.inside g) i h;
+    balance = omega (arith, a.balance, b.balance);
+  }
+
+  -- what led on still does
+  pub leads_more : (cs : List Config) (ss : List Step) (ws : List ℕ) (f : Furthest) (cs' : List Config) (ss' : List Step) (ws' : List ℕ) (f' : Furthest) (size n : ℕ) → IsSearch problem cs ss → On cs ss ws f cs' ss' ws' f' → LeadsOn problem cs ss size n → LeadsOn problem cs' ss' size n
+  leads_more cs ss ws f cs' ss' ws' f' size n known on led =
+      let same : order_at ss' led.0 ≡ order_at ss led.0 = on.orders led.0 (below cs ss known led.0 led.1 led.2) in
+      (led.0, led.1, on.kept led.0 led.1 led.2, subst (λ o. size < length o) (sym same) led.3, subst (λ o. CanReach problem n o led.1.value) (sym same) led.4)

@@ -1,20 +1,24 @@
 -- The search at its start and at its end.
-use Rattle.std.proofs.Common.{◌≡◌, ℕ, zero, suc, ◌<◌, ℤ, true, not, Option, Some, List, [], ◌∷◌, ◌++◌, length, slice_get, refl, sym, ap, subst, ◌∙◌, inl, inr, arith}
+use Rattle.std.proofs.Common.{◌≡◌, Vec, Global, ℕ, zero, suc, ◌+◌, ◌<◌, ◌≤◌, ℤ, true, eqb, Option, Some, List, [], ◌∷◌, ◌++◌, length, slice_get, refl, sym, ap, subst, ◌∙◌, inl, inr, arith}
 use Rattle.std.specs.Prelude.{◌⊎◌}
-use Rattle.std.proofs.lemmas.Bool.{cases_lt, false≢true}
-use Rattle.std.proofs.lemmas.Option.{slice_get_within}
+use Rattle.std.specs.List.{list_any}
+use Rattle.std.proofs.lemmas.Bool.{false≢true}
+use Rattle.std.proofs.lemmas.Map.Steps.{length-le_from_distinct_below}
 use Rattle.jh_linear.specs.declared.register.RegOp.{RegOp}
-use Rattle.jh_linear.specs.declared.history.Stage.{Stage}
+use Rattle.jh_linear.specs.declared.history.Problem.{Problem}
 use Rattle.jh_linear.specs.declared.config.Config.{Config}
-use Rattle.jh_linear.specs.Order.{has, IsOrder}
+use Rattle.jh_linear.specs.declared.search.Furthest.{Furthest}
+use Rattle.jh_linear.specs.declared.search.Search.{Search}
+use Rattle.jh_linear.specs.declared.verdict.Step.{Step}
+use Rattle.jh_linear.specs.Order.{has, IsDone, IsOrder}
 use Rattle.jh_linear.specs.Reached.{AreReached, order_at, root}
-use Rattle.jh_linear.specs.Search.{Follows, arrived_by, without, IsHistory, StandsFor, IsSearch, IsReached, IsGoneOn, AreSame, AreSteps, IsKept, Grows}
-use Rattle.jh_linear.specs.Order.{HasAllDone}
-use Rattle.jh_linear.proofs.SetLemmas.{not_true, has_one, has_kept, has_push_cases}
-use Rattle.jh_linear.proofs.GrowthLemmas.{get_cases, gone_more}
-use Rattle.jh_linear.proofs.PartialLemmas.{partial, follows_of, one_last, runs}
-use Rattle.std.proofs.lemmas.List.Elements.{filter_agree}
-use Rattle.jh_linear.proofs.NoOrderLemmas.{no_order}
+use Rattle.jh_linear.specs.Search.{CanReach, Grows, IsExhausted, IsFull, IsFurthest, IsGoneOn, IsKept, IsProblem, IsSearch, IsWhole, StandsFor, stages_in}
+use Rattle.jh_linear.proofs.SetLemmas.{has_kept, has_one, has_push_cases, place_of}
+use Rattle.jh_linear.proofs.MoveLemmas.{get_cases, nothing_there}
+use Rattle.jh_linear.proofs.PartialLemmas.{distinct, one_last, partial, places, runs}
+use Rattle.jh_linear.proofs.OrderLemmas.{member_is}
+use Rattle.jh_linear.proofs.StepLemmas.{order_first}
+use Rattle.jh_linear.proofs.GrowthLemmas.{are_alike, below, leads_more}
 
 held : (cs : List Config) (i : ℕ) → i < length cs → (c : Config) × (slice_get cs i ≡ Some c)
 held [] i lt = absurd (omega arith)
@@ -23,12 +27,22 @@ held (c ∷ cs) (suc i) lt = held cs i (omega arith)
 
 only_one : (config c : Config) (i : ℕ) → slice_get (config ∷ []) i ≡ Some c → (i ≡ 0) × (config ≡ c)
 only_one config c i is = elim (get_cases [] config c i is) as (λ _. (i ≡ 0) × (config ≡ c)) [
-  | inl none ↦ absurd (let bad = none in cc)
+  | inl none ↦ absurd (nothing_there i c none)
   | inr here ↦ here
 ]
 
-module _ (ops : List RegOp) (initial : Option ℤ) (arrivals : List ℕ) (stages : List Stage) where
-  pub started : (config : Config) → StandsFor ops initial arrivals stages [] config → config.stage < length stages → IsSearch ops initial arrivals stages (config ∷ []) (root ∷ [])
+-- where nothing happened, the empty order will do
+pub empty_order : (ops : List RegOp) (initial : Option ℤ) → ((p : ℕ) → IsDone ops p → ⊥) → IsOrder ops initial []
+empty_order ops initial none = record { last = initial; partial = partial ops initial [] initial refl; whole = λ p done. absurd (none p done) }
+
+turned : (xs : List ℕ) (q : ℕ) → list_any (eqb q) xs ≡ true → has xs q ≡ true
+turned xs q h = sym (member_is xs q) ∙ h
+
+module _ (problem : Problem) (stood : IsProblem problem) where
+  abbrev pub first_far : Furthest
+  first_far = record { stage = 0; step = root }
+
+  started : (config : Config) → StandsFor problem [] config → config.stage < stages_in problem → IsSearch problem (config ∷ []) (root ∷ [])
   started config stands low = record {
     sizes = refl;
     some = omega arith;
@@ -36,101 +50,133 @@ module _ (ops : List RegOp) (initial : Option ℤ) (arrivals : List ℕ) (stages
     earlier = λ i a b. absurd (omega arith);
     stands = λ i c is.
         let r = only_one config c i is in
-        subst (λ n. StandsFor ops initial arrivals stages (order_at (root ∷ []) n) c) (sym r.0) (subst (λ d. StandsFor ops initial arrivals stages [] d) r.1 stands);
-    open' = λ i c is. subst (λ d. d.stage < length stages) (only_one config c i is).1 low;
+        subst (λ n. StandsFor problem (order_at (root ∷ []) n) c) (sym r.0) (subst (λ d. StandsFor problem [] d) r.1 stands);
+    open' = λ i c is. subst (λ d. d.stage < stages_in problem) (only_one config c i is).1 low;
     apart = λ i j a b before ia jb same. absurd (omega (arith, (only_one config b j jb).0, before));
   }
 
-  pub begun : (config : Config) → StandsFor ops initial arrivals stages [] config → IsReached (config ∷ []) (root ∷ []) [] initial
-  begun config stands = (0, config, refl, stands.follows, λ q. refl)
+  far_first : (config : Config) → config.stage ≡ 0 → 0 < stages_in problem → IsFurthest problem (config ∷ []) (root ∷ []) first_far
+  far_first config zero' some = record {
+    named = omega arith;
+    open' = some;
+    value = problem.initial;
+    follows = refl;
+    passed = λ k lt. absurd (omega (arith, lt));
+    most = λ i c is. omega (arith, zero', ap (λ (d : Config). d.stage) (only_one config c i is).1);
+  }
 
-  -- configurations with the same places and the same value are the same
-  same_stage : (a b : List ℕ) (x y : Config) → StandsFor ops initial arrivals stages a x → StandsFor ops initial arrivals stages b y → x.stage < length stages → ((q : ℕ) → has a q ≡ has b q) → x.stage < y.stage → ⊥
-  same_stage a b x y ax by low same lt = not_true _ (same _ ∙ by.known.passed x.stage lt) (ax.waits low)
+  pub kept_start : (search : Search) (config : Config) → search.configs.keys ≡ config ∷ [] → search.steps.items ≡ root ∷ [] → search.waiting.items ≡ 0 ∷ [] → search.furthest ≡ first_far → 0 < problem.budget → 0 < stages_in problem
+      → StandsFor problem [] config → config.stage ≡ 0 → config.value ≡ problem.initial → IsKept problem search
+  kept_start search config e f g h room some stands stage value =
+      let low : config.stage < stages_in problem = omega (arith, stage, some) in
+      record {
+        begun = record {
+          known = subst (λ cs. IsSearch problem cs search.steps.items) (sym e) (subst (λ ss. IsSearch problem (config ∷ []) ss) (sym f) (started config stands low));
+          far = subst (λ cs. IsFurthest problem cs search.steps.items search.furthest) (sym e) (subst (λ ss. IsFurthest problem (config ∷ []) ss search.furthest) (sym f) (subst (λ x. IsFurthest problem (config ∷ []) (root ∷ []) x) (sym h) (far_first config stage some)));
+          few = omega (arith, ap (λ (ss : List Step). length ss) f, room);
+        };
+        first = (config, subst (λ (cs : List Config). slice_get cs 0 ≡ Some config) (sym e) refl, value);
+        inside = λ i there. omega (arith, has_one 0 i (subst (λ ws. has ws i ≡ true) g there), ap (λ (ss : List Step). length ss) f);
+        gone = λ i c is. inl (subst (λ ws. has ws i ≡ true) (sym g) (subst (λ n. has (0 ∷ []) n ≡ true) (sym (only_one config c i (subst (λ (cs : List Config). slice_get cs i ≡ Some c) e is)).0) refl));
+      }
 
-  pub are_alike : (a b : List ℕ) (x y : Config) → StandsFor ops initial arrivals stages a x → StandsFor ops initial arrivals stages b y → x.stage < length stages → y.stage < length stages → ((q : ℕ) → has a q ≡ has b q) → x.value ≡ y.value → AreSame x y
-  are_alike a b x y ax by xl yl same value =
-      let one : x.stage ≡ y.stage = elim (cases_lt x.stage y.stage) as (λ _. x.stage ≡ y.stage) [
-        | inl lt ↦ absurd (same_stage a b x y ax by xl same lt)
-        | inr le ↦ elim (cases_lt y.stage x.stage) as (λ _. x.stage ≡ y.stage) [
-          | inl lt ↦ absurd (same_stage b a y x by ax yl (λ q. sym (same q)) lt)
-          | inr ge ↦ omega arith
-        ]
-      ] in (
-        one,
-        ax.known.pending_is xl
-            ∙ filter_agree (λ p. not (has a p)) (λ p. not (has b p)) (λ p. ap not (same p)) (arrived_by arrivals stages x.stage)
-            ∙ ap (λ k. without b (arrived_by arrivals stages k)) one
-            ∙ sym (by.known.pending_is yl),
-        value,
+  -- one configuration was taken from those that wait, and was gone on from
+  pub kept_on : (old new : Search) (at : ℕ) (left : List ℕ) → old.waiting.items ≡ left ++ at ∷ [] → IsKept problem old
+      → Grows problem old.configs.keys old.steps.items left old.furthest new.configs.keys new.steps.items new.waiting.items new.furthest
+      → ((config : Config) → slice_get old.configs.keys at ≡ Some config → IsGoneOn problem new.configs.keys new.steps.items new.furthest.stage (order_at old.steps.items at) config.value)
+      → IsKept problem new
+  kept_on old new at left is kept on went =
+      let known = kept.begun.known in
+      let ss = old.steps.items in
+      let ss' = new.steps.items in
+      let cs' = new.configs.keys in
+      record {
+        begun = record { known = on.known; far = on.far; few = on.few };
+        first = (kept.first.0, on.kept 0 kept.first.0 kept.first.1, kept.first.2);
+        inside = on.inside (λ i h. kept.inside i (subst (λ w. has w i ≡ true) (sym is) (has_kept left at i h)));
+        gone = λ i c there. elim (on.fresh i c there) as (λ _. (has new.waiting.items i ≡ true) ⊎ IsGoneOn problem cs' ss' new.furthest.stage (order_at ss' i) c.value) [
+          | inr waits ↦ inl waits
+          | inl before ↦
+              let low : i < length ss = below problem stood old.configs.keys ss known i c before in
+              let same : order_at ss' i ≡ order_at ss i = on.orders i low in
+              elim (kept.gone i c before) as (λ _. (has new.waiting.items i ≡ true) ⊎ IsGoneOn problem cs' ss' new.furthest.stage (order_at ss' i) c.value) [
+                | inl waited ↦ elim (has_push_cases left at i (subst (λ w. has w i ≡ true) is waited)) as (λ _. (has new.waiting.items i ≡ true) ⊎ IsGoneOn problem cs' ss' new.furthest.stage (order_at ss' i) c.value) [
+                  | inl still ↦ inl (on.waits i still)
+                  | inr here ↦ inr (subst (λ o. IsGoneOn problem cs' ss' new.furthest.stage o c.value) (sym same) (subst (λ n. IsGoneOn problem cs' ss' new.furthest.stage (order_at ss n) c.value) here (went c (subst (λ n. slice_get old.configs.keys n ≡ Some c) (sym here) before))))
+                ]
+                | inr went' ↦ inr (subst (λ o. IsGoneOn problem cs' ss' new.furthest.stage o c.value) (sym same) (λ n past few reach.
+                    leads_more problem stood old.configs.keys ss left old.furthest cs' ss' new.waiting.items new.furthest (length (order_at ss i)) n known on
+                    (went' n (omega (arith, on.further, past)) few reach)))
+              ]
+        ];
+      }
+
+  -- nothing waits, as before
+  pub kept_emptied : (old new : Search) → old.waiting.items ≡ [] → new.waiting.items ≡ [] → new.configs ≡ old.configs → new.steps ≡ old.steps → new.furthest ≡ old.furthest → IsKept problem old → IsExhausted problem new
+  kept_emptied old new none none' e f g kept =
+      let same : (w : Vec ℕ Global) → w.items ≡ [] → IsKept problem (record { configs = old.configs; steps = old.steps; waiting = w; furthest = old.furthest }) = λ w empty. record {
+        begun = record { known = kept.begun.known; far = kept.begun.far; few = kept.begun.few };
+        first = kept.first;
+        inside = λ i h. absurd (false≢true (subst (λ ws. has ws i ≡ true) empty h));
+        gone = λ i c is. elim (kept.gone i c is) as (λ _. (has w.items i ≡ true) ⊎ IsGoneOn problem old.configs.keys old.steps.items old.furthest.stage (order_at old.steps.items i) c.value) [
+          | inl waits ↦ absurd (false≢true (subst (λ ws. has ws i ≡ true) none waits))
+          | inr went ↦ inr went
+        ];
+      } in (
+        subst (λ x. IsKept problem (record { configs = x; steps = new.steps; waiting = new.waiting; furthest = new.furthest })) (sym e)
+            (subst (λ x. IsKept problem (record { configs = old.configs; steps = x; waiting = new.waiting; furthest = new.furthest })) (sym f)
+            (subst (λ x. IsKept problem (record { configs = old.configs; steps = old.steps; waiting = new.waiting; furthest = x })) (sym g) (same new.waiting none'))),
+        none',
       )
 
-  pub all_reached : (budget : ℕ) (steps : List (ℕ × ℕ)) → AreSteps ops initial arrivals stages steps → length steps ≡ budget → AreReached ops initial budget steps
-  all_reached budget steps known full =
-      let cs : List Config = known.0 in
-      let search = known.1 in
-      let config_at : (i : ℕ) → i < length steps → (c : Config) × (slice_get cs i ≡ Some c) = λ i lt. held cs i (subst (λ n. i < n) (sym search.sizes) lt) in
+  -- the budget is used up
+  pub all_reached : (search : Search) → IsFull problem search → AreReached problem.ops.now problem.initial problem.budget search.steps.items
+  all_reached search full =
+      let ops : List RegOp = problem.ops.now in
+      let initial = problem.initial in
+      let steps : List Step = search.steps.items in
+      let cs : List Config = full.0.0 in
+      let known = full.0.1 in
+      let config_at : (i : ℕ) → i < length steps → (c : Config) × (slice_get cs i ≡ Some c) = λ i lt. held cs i (subst (λ n. i < n) (sym known.sizes) lt) in
       record {
-        count = full;
-        begins = λ _. search.begins;
-        earlier = search.earlier;
-        partial = λ i lt. let c = config_at i lt in (c.0.value, partial ops initial (order_at steps i) c.0.value (search.stands i c.0 c.1).follows);
+        count = full.1;
+        begins = λ _. known.begins;
+        earlier = known.earlier;
+        partial = λ i lt. let c = config_at i lt in (c.0.value, partial ops initial (order_at steps i) c.0.value (known.stands i c.0 c.1).follows);
         apart = λ i j last before high pi pj same.
             let c = config_at i (omega (arith, before, high)) in
             let d = config_at j high in
-            let cs' = search.stands i c.0 c.1 in
-            let ds' = search.stands j d.0 d.1 in
+            let cs' = known.stands i c.0 c.1 in
+            let ds' = known.stands j d.0 d.1 in
             let cv = one_last ops (order_at steps i) initial c.0.value last (runs ops [] (order_at steps i) initial c.0.value cs'.follows) pi.runs in
             let dv = one_last ops (order_at steps j) initial d.0.value last (runs ops [] (order_at steps j) initial d.0.value ds'.follows) pj.runs in
-            search.apart i j c.0 d.0 before c.1 d.1 (are_alike (order_at steps i) (order_at steps j) c.0 d.0 cs' ds' (search.open' i c.0 c.1) (search.open' j d.0 d.1) same (cv ∙ sym dv));
+            known.apart i j c.0 d.0 before c.1 d.1 (are_alike problem stood (order_at steps i) (order_at steps j) c.0 d.0 cs' ds' (known.open' i c.0 c.1) (known.open' j d.0 d.1) same (cv ∙ sym dv));
       }
 
-pub is_order : (ops : List RegOp) (initial : Option ℤ) (order : List ℕ) (last : Option ℤ) → Follows ops [] initial order last → HasAllDone ops order → IsOrder ops initial order
-is_order ops initial order last follows whole = record { last = last; partial = partial ops initial order last follows; whole = whole }
+  pub is_order : (order : List ℕ) → IsWhole problem order → IsOrder problem.ops.now problem.initial order
+  is_order order whole = record { last = whole.0.0; partial = partial problem.ops.now problem.initial order whole.0.0 whole.0.1; whole = whole.1 }
 
-module _ (ops : List RegOp) (initial : Option ℤ) (arrivals : List ℕ) (stages : List Stage) (budget : ℕ) where
-  pub kept_start : (config : Config) (cs : List Config) (ss : List (ℕ × ℕ)) (ws : List ℕ) → cs ≡ config ∷ [] → ss ≡ root ∷ [] → ws ≡ 0 ∷ [] → 0 < budget → StandsFor ops initial arrivals stages [] config → config.stage < length stages
-      → IsKept ops initial arrivals stages budget cs ss ws
-  kept_start config cs ss ws e f g room stands low =
-      subst (λ c. IsKept ops initial arrivals stages budget c ss ws) (sym e) (subst (λ s. IsKept ops initial arrivals stages budget (config ∷ []) s ws) (sym f) (subst (λ w. IsKept ops initial arrivals stages budget (config ∷ []) (root ∷ []) w) (sym g) (record {
-        known = started ops initial arrivals stages config stands low;
-        few = omega arith;
-        begun = begun ops initial arrivals stages config stands;
-        inside = λ i h. let is = has_one 0 i h in omega (arith, is);
-        gone = λ i c is. inl (subst (λ n. has (0 ∷ []) n ≡ true) (sym (only_one config c i is).0) refl);
-      })))
+  -- ---- where nothing waits
 
-  -- one configuration was taken from those that wait, and was gone on from
-  pub kept_on : (cs : List Config) (ss : List (ℕ × ℕ)) (ws : List ℕ) (at : ℕ) (left : List ℕ) (cs' : List Config) (ss' : List (ℕ × ℕ)) (ws' : List ℕ) → ws ≡ left ++ at ∷ []
-      → IsKept ops initial arrivals stages budget cs ss ws → Grows ops initial arrivals stages budget cs ss left cs' ss' ws'
-      → ((config : Config) → slice_get cs at ≡ Some config → IsGoneOn ops cs' ss' (order_at ss at) config.value)
-      → IsKept ops initial arrivals stages budget cs' ss' ws'
-  kept_on cs ss ws at left cs' ss' ws' is kept on went = record {
-    known = on.known;
-    few = on.few;
-    begun = on.reached [] initial kept.begun;
-    inside = on.inside (λ i h. kept.inside i (subst (λ w. has w i ≡ true) (sym is) (has_kept left at i h)));
-    gone = λ i c there. elim (on.fresh i c there) as (λ _. (has ws' i ≡ true) ⊎ IsGoneOn ops cs' ss' (order_at ss' i) c.value) [
-      | inr waits ↦ inl waits
-      | inl old ↦
-          let low : i < length ss = subst (λ n. i < n) kept.known.sizes (slice_get_within cs i c old) in
-          let same : order_at ss' i ≡ order_at ss i = on.orders i low in
-          elim (kept.gone i c old) as (λ _. (has ws' i ≡ true) ⊎ IsGoneOn ops cs' ss' (order_at ss' i) c.value) [
-            | inl waited ↦ elim (has_push_cases left at i (subst (λ w. has w i ≡ true) is waited)) as (λ _. (has ws' i ≡ true) ⊎ IsGoneOn ops cs' ss' (order_at ss' i) c.value) [
-              | inl still ↦ inl (on.waits i still)
-              | inr here ↦ inr (subst (λ o. IsGoneOn ops cs' ss' o c.value) (sym same) (subst (λ n. IsGoneOn ops cs' ss' (order_at ss n) c.value) here (went c (subst (λ n. slice_get cs n ≡ Some c) (sym here) old))))
-            ]
-            | inr went' ↦ inr (subst (λ o. IsGoneOn ops cs' ss' o c.value) (sym same) (gone_more ops cs ss cs' ss' (order_at ss i) c.value on.reached went'))
-          ]
-    ];
-  }
+  module _ (search : Search) (done : IsExhausted problem search) (n : ℕ) (past : search.furthest.stage < n) (few : n ≤ stages_in problem) where
+    climb : (fuel i : ℕ) (c : Config) → slice_get search.configs.keys i ≡ Some c → length problem.ops.now < length (order_at search.steps.items i) + fuel → CanReach problem n (order_at search.steps.items i) c.value → ⊥
+    climb zero i c is long reach =
+        let ops : List RegOp = problem.ops.now in
+        let order : List ℕ = order_at search.steps.items i in
+        let stands = done.0.begun.known.stands i c is in
+        let there = places ops [] order problem.initial c.value stands.follows in
+        let short = length-le_from_distinct_below order (length ops) (distinct ops [] order problem.initial c.value stands.follows)
+        (λ q h. let r = place_of order q (turned order q h) in subst (λ p. p < length ops) r.2 (there r.0 0 r.1)) in
+        omega (arith, long, short)
+    climb (suc fuel) i c is long reach =
+        elim (done.0.gone i c is) as (λ _. ⊥) [
+          | inl waits ↦ false≢true (subst (λ w. has w i ≡ true) done.1 waits)
+          | inr went ↦ let led = went n past few reach in climb fuel led.0 led.1 led.2 (omega (arith, long, led.3)) led.4
+        ]
 
-  -- nothing waits any more
-  pub no_order_left : (cs : List Config) (ss : List (ℕ × ℕ)) (ws : List ℕ) → IsHistory ops arrivals stages → IsKept ops initial arrivals stages budget cs ss ws → ws ≡ [] → (order : List ℕ) → IsOrder ops initial order → ⊥
-  no_order_left cs ss ws history kept none order is =
-      no_order ops initial arrivals stages history cs ss kept.known
-      (λ i c there. elim (kept.gone i c there) as (λ _. IsGoneOn ops cs ss (order_at ss i) c.value) [
-        | inl waits ↦ absurd (false≢true (subst (λ w. has w i ≡ true) none waits))
-        | inr went ↦ went
-      ])
-      order is.last kept.begun (follows_of ops initial order is.last is.partial) is.whole
+    pub none_reaches : CanReach problem n [] problem.initial → ⊥
+    none_reaches reach =
+        let first = done.0.first in
+        let is : order_at search.steps.items 0 ≡ [] = order_first search.steps.items done.0.begun.known.some in
+        climb (length problem.ops.now + 1) 0 first.0 first.1 (omega (arith, ap length is))
+        (subst (λ v. CanReach problem n (order_at search.steps.items 0) v) (sym first.2) (subst (λ o. CanReach problem n o problem.initial) (sym is) reach))

@@ -163,12 +163,12 @@ not_behind ops place behind k low none late so_far = false_if _ (λ there.
 
 -- What happened, counted.
 
-done_test : (outcome : Outcome) → is_done outcome ≡ true → outcome ≡ Done
+pub done_test : (outcome : Outcome) → is_done outcome ≡ true → outcome ≡ Done
 done_test Done h = refl
 done_test Failed h = absurd (false≢true h)
 done_test Unsure h = absurd (false≢true h)
 
-is_done_if : (ops : List RegOp) (place : ℕ) → IsDone ops place → is_done_at ops place ≡ true
+pub is_done_if : (ops : List RegOp) (place : ℕ) → IsDone ops place → is_done_at ops place ≡ true
 is_done_if ops place done = ap is_done done
 
 module _ (ops : List RegOp) where
@@ -218,12 +218,12 @@ module _ (ops : List RegOp) where
 flips : (x y : ℕ) → eqb x y ≡ eqb y x
 flips x y = same_tests (eqb x y) (eqb y x) (λ e. subst (λ z. eqb z x ≡ true) (eqb-true x y e) (eqb_self x)) (λ e. subst (λ z. eqb z y ≡ true) (eqb-true y x e) (eqb_self y))
 
-member_is : (xs : List ℕ) (q : ℕ) → is_member eqb xs q ≡ has xs q
+pub member_is : (xs : List ℕ) (q : ℕ) → is_member eqb xs q ≡ has xs q
 member_is [] q = refl
 member_is (x ∷ xs) q = ap (λ b. b || is_member eqb xs q) (flips q x) ∙ ap (λ b. eqb x q || b) (member_is xs q)
 
 -- distinct places that are all among others are no more than those
-no_more : (xs ys : List ℕ) → IsDistinct eqb xs → ((q : ℕ) → has xs q ≡ true → has ys q ≡ true) → length xs ≤ length ys
+pub no_more : (xs ys : List ℕ) → IsDistinct eqb xs → ((q : ℕ) → has xs q ≡ true → has ys q ≡ true) → length xs ≤ length ys
 no_more xs ys apart inside = length-le_from_is_member nat_eq_equiv xs ys apart (λ q h. member_is ys q ∙ inside q (sym (member_is xs q) ∙ h))
 
 outside_all : (p : ℕ) (xs : List ℕ) → has xs p ≡ false → AllByRecursion (λ y. eqb p y ≡ false) xs

@@ -1,14 +1,20 @@
--- One more place in an order.
-use Rattle.std.proofs.Common.{◌≡◌, ℕ, ◌+◌, ◌<◌, ◌≤◌, ℤ, Bool, true, false, Option, None, List, [], ◌∷◌, ◌++◌, length, get_or, refl, sym, ap, subst, ◌∙◌}
+-- One more place in an order, and what a configuration knows of it then.
+use Rattle.std.proofs.Common.{◌≡◌, ℕ, ◌+◌, ◌<◌, ◌≤◌, ℤ, Bool, true, false, Option, List, [], ◌∷◌, ◌++◌, length, refl, sym, ap, subst, ◌∙◌, inl, inr, arith}
+use Rattle.std.specs.Prelude.{◌⊎◌, set}
 use Rattle.std.specs.List.{remove}
-use Rattle.std.proofs.lemmas.List.{append_assoc, append-nil}
+use Rattle.std.proofs.lemmas.Bool.{le-ltb}
+use Rattle.std.proofs.lemmas.List.{append_assoc, append-nil, length-set}
 use Rattle.jh_linear.specs.declared.register.RegOp.{RegOp}
+use Rattle.jh_linear.specs.declared.history.Problem.{Problem}
 use Rattle.jh_linear.specs.declared.history.Stage.{Stage}
 use Rattle.jh_linear.specs.declared.config.Config.{Config}
-use Rattle.jh_linear.specs.Order.{op_at, has, Allows}
-use Rattle.jh_linear.specs.Search.{MayFollow, Follows, stage_at, IsAt, IsStep, IsNext, coming_after}
-use Rattle.jh_linear.proofs.SetLemmas.{has_here, in_without}
-use Rattle.jh_linear.proofs.StageLemmas.{may_follow, at_placed, is_placed, at_next}
+use Rattle.jh_linear.specs.declared.moves.Source.TheVariants.{Happened, Unknown}
+use Rattle.jh_linear.specs.Order.{op_at, has, Allows, IsDone}
+use Rattle.jh_linear.specs.Search.{AreNext, Follows, IsAfter, IsAt, IsProblem, IsThere, IsUnknown, MayFollow, PassesStages, call_of, coming_after, next_at, place_of, stage_at, stage_place, stages_in}
+use Rattle.jh_linear.proofs.SetLemmas.{has_here, has_push_cases, false_if, place_of as index_of}
+use Rattle.jh_linear.proofs.StageLemmas.{at_next, at_other, at_placed, done_possible, is_placed, may_come, not_arrival, of_pending, unknown_not_done, unknown_possible}
+use Rattle.jh_linear.proofs.NextLemmas.{is_unknown_at, next_other, next_placed}
+use Rattle.jh_linear.proofs.FollowLemmas.{not_pushed}
 
 pub follows_push : (ops : List RegOp) (front order : List ℕ) (value last next : Option ℤ) (p : ℕ) → Follows ops front value order last → MayFollow ops (front ++ order) p → Allows (op_at ops p).call last next → Follows ops front value (order ++ p ∷ []) next
 follows_push ops front [] value last next p is may allowed =
@@ -16,38 +22,93 @@ follows_push ops front [] value last next p is may allowed =
 follows_push ops front (q ∷ order) value last next p is may allowed =
     (is.0, (is.1.0, is.1.1, follows_push ops (front ++ q ∷ []) order is.1.0 last next p is.1.2 (subst (λ o. MayFollow ops o p) (sym (append_assoc front (q ∷ []) order)) may) allowed))
 
--- a pending place is placed
-pub first_step : (arrivals : List ℕ) (stages : List Stage) (stage : ℕ) (pending left : List ℕ) (i : ℕ) → stage < length stages → i < length pending → left ≡ remove pending i → IsStep arrivals stages stage pending (get_or pending i 0) stage left
-first_step arrivals stages stage pending left i lt inside is = λ ops order ends history known.
-    subst (λ xs. IsAt arrivals stages (order ++ get_or pending i 0 ∷ []) stage xs) (sym is) (at_placed ops None arrivals stages history order stage pending i known lt inside)
-
--- a stage whose place is not pending is passed
-pub on_step : (arrivals : List ℕ) (stages : List Stage) (from stage place : ℕ) (before pending next : List ℕ) → stage < length stages → has pending (stage_at stages stage).place ≡ false
-    → (stage + 1 < length stages → next ≡ pending ++ coming_after arrivals stages stage)
-    → IsStep arrivals stages from before place stage pending → IsStep arrivals stages from before place (stage + 1) next
-on_step arrivals stages from stage place before pending next lt gone more step = λ ops order ends history known.
-    let now = step ops order ends history known in
-    let here = is_placed ops None arrivals stages history ends (order ++ place ∷ []) stage pending now lt gone in
-    at_next ops None arrivals stages history (order ++ place ∷ []) stage pending next now lt here more
-
 pub seen_at : (stages stages' : List Stage) (pending pending' : List ℕ) (k : ℕ) (b : Bool) → stages' ≡ stages → pending' ≡ pending → has pending' (stage_at stages' k).place ≡ b → has pending (stage_at stages k).place ≡ b
 seen_at stages stages' pending pending' k b e f h = subst (λ s. has pending (stage_at s k).place ≡ b) e (subst (λ p. has p (stage_at stages' k).place ≡ b) f h)
 
 pub coming_same : (arrivals arrivals' : List ℕ) (stages stages' : List Stage) (k : ℕ) → arrivals' ≡ arrivals → stages' ≡ stages → coming_after arrivals' stages' k ≡ coming_after arrivals stages k
 coming_same arrivals arrivals' stages stages' k e f = ap (λ a. coming_after a stages' k) e ∙ ap (λ s. coming_after arrivals s k) f
 
--- the configuration after a pending place
-pub stands_next : (arrivals : List ℕ) (stages : List Stage) (config next : Config) (i : ℕ) (value : Option ℤ) → i < length config.pending.items → config.stage < length stages → next.value ≡ value → next.stage ≤ length stages
-    → IsStep arrivals stages config.stage config.pending.items (get_or config.pending.items i 0) next.stage next.pending.items
-    → (next.stage < length stages → has next.pending.items (stage_at stages next.stage).place ≡ true)
-    → IsNext arrivals stages config (get_or config.pending.items i 0) value next
-stands_next arrivals stages config next i value inside lt is low step waits = λ ops initial order ends history stands allowed.
-    let p : ℕ = get_or config.pending.items i 0 in
-    let may = may_follow ops initial arrivals stages history order config.stage config.pending.items p stands.known lt (has_here config.pending.items i inside) in
-    let known = step ops order ends history stands.known in
-    record {
-      follows = subst (λ v. Follows ops [] initial (order ++ p ∷ []) v) (sym is) (follows_push ops [] order initial config.value value p stands.follows may allowed);
-      known = known;
-      low = low;
-      waits = λ room. (in_without (order ++ p ∷ []) _ _ (subst (λ xs. has xs (stage_at stages next.stage).place ≡ true) (known.pending_is room) (waits room))).1;
-    }
+module _ (problem : Problem) (stood : IsProblem problem) where
+  abbrev ops : List RegOp
+  ops = problem.ops.now
+
+  abbrev At : List ℕ → ℕ → List ℕ → Type 0
+  At = IsAt problem.history.arrivals.items problem.history.stages.items
+
+  -- what is known where nothing is passed yet
+  pub passes_none : (stage : ℕ) (pending pending' : List ℕ) → pending' ≡ pending → (order : List ℕ) → At order stage pending → At order stage pending'
+  passes_none stage pending pending' is order known = subst (At order stage) (sym is) known
+
+  -- a stage whose place is not pending is passed
+  pub passes_one : (stage : ℕ) (pending : List ℕ) (later : ℕ) (left next : List ℕ) → later < stages_in problem → has left (stage_place problem later) ≡ false
+      → (later + 1 < stages_in problem → next ≡ left ++ coming_after problem.history.arrivals.items problem.history.stages.items later)
+      → ((order : List ℕ) → At order stage pending → At order later left)
+      → (order : List ℕ) → At order stage pending → At order (later + 1) next
+  passes_one stage pending later left next lt gone more so_far order known =
+      let now = so_far order known in
+      let here = is_placed ops problem.history.arrivals.items problem.history.stages.items stood.history stood.ends order later left now lt gone in
+      at_next ops problem.history.arrivals.items problem.history.stages.items stood.history order later left next now lt here more
+
+  not_unknown : (p : ℕ) → IsDone ops p → has problem.history.unknown.items p ≡ false
+  not_unknown p done = false_if _ (λ h. let r = index_of problem.history.unknown.items p h in unknown_not_done ops p (subst (IsUnknown ops) r.2 (stood.classes.each r.0 0 r.1)) done)
+
+  -- what is pending is not placed
+  in_order : (order : List ℕ) (stage : ℕ) (pending : List ℕ) → At order stage pending → stage < stages_in problem → has pending (stage_place problem stage) ≡ true → has order (stage_place problem stage) ≡ false
+  in_order order stage pending known lt h = (of_pending ops problem.history.arrivals.items problem.history.stages.items stood.history order stage pending (stage_place problem stage) known lt h).1
+
+  -- an operation that happened is placed
+  pub stands_happened : (config config' : Config) (i : ℕ) (value : Option ℤ) (left : List ℕ) → config.stage < stages_in problem → i < length config.pending.items → Allows (call_of problem config (Happened i)) config.value value
+      → left ≡ remove config.pending.items i → PassesStages problem config.stage left config'.stage config'.pending.items → config'.next.items ≡ config.next.items → config'.value ≡ value
+      → IsAfter problem config (place_of problem config (Happened i)) value config'
+  stands_happened config config' i value left lt inside allowed left_is passes next_is value_is =
+      let arrivals : List ℕ = problem.history.arrivals.items in
+      let stages : List Stage = problem.history.stages.items in
+      let p : ℕ = place_of problem config (Happened i) in
+      record {
+        rises = passes.rises;
+        value_is = value_is;
+        sizes = ap length next_is;
+        stands = λ order stands.
+            let r = of_pending ops arrivals stages stood.history order config.stage config.pending.items p stands.known lt (has_here config.pending.items i inside) in
+            let may = may_come ops arrivals stages stood.history order config.stage config.pending.items p stands.known lt (done_possible ops p r.0) r.1 r.2 in
+            let placed = at_placed ops arrivals stages stood.history order config.stage config.pending.items i stands.known lt inside in
+            let known = passes.at (order ++ p ∷ []) (subst (At (order ++ p ∷ []) config.stage) (sym left_is) placed) in
+            record {
+              follows = subst (λ v. Follows ops [] problem.initial (order ++ p ∷ []) v) (sym value_is) (follows_push ops [] order problem.initial config.value value p stands.follows may allowed);
+              searched = λ q h. elim (has_push_cases order p q h) as (λ _. IsDone ops q ⊎ IsUnknown ops q) [ inl old ↦ stands.searched q old | inr is ↦ inl (subst (IsDone ops) is r.0) ];
+              known = known;
+              used = next_other ops problem.history.unknown.items problem.history.classes.items stood.classes order config'.next.items p (not_unknown p r.0) (subst (λ ns. AreNext problem.history.unknown.items problem.history.classes.items order ns) (sym next_is) stands.used);
+              low = passes.low;
+              waits = λ room. in_order (order ++ p ∷ []) config'.stage config'.pending.items known room (passes.waits room);
+            };
+      }
+
+  -- an operation of unknown outcome is placed
+  pub stands_unknown : (config config' : Config) (k : ℕ) (value : Option ℤ) → config.stage < stages_in problem → IsThere problem config (Unknown k) → Allows (call_of problem config (Unknown k)) config.value value
+      → config'.stage ≡ config.stage → config'.pending.items ≡ config.pending.items → config'.next.items ≡ set config.next.items k (next_at config.next.items k + 1) → config'.value ≡ value
+      → IsAfter problem config (place_of problem config (Unknown k)) value config'
+  stands_unknown config config' k value lt there allowed stage_is pending_is next_is value_is =
+      let arrivals : List ℕ = problem.history.arrivals.items in
+      let stages : List Stage = problem.history.stages.items in
+      let p : ℕ = place_of problem config (Unknown k) in
+      let bound = stood.classes.bounded k there.0.0 in
+      let un = is_unknown_at ops problem.history.unknown.items problem.history.classes.items stood.classes (next_at config.next.items k) (omega (arith, there.0.1, bound.1)) in
+      let not_done : IsDone ops p → ⊥ = unknown_not_done ops p un in
+      record {
+        rises = omega (arith, stage_is);
+        value_is = value_is;
+        sizes = ap length next_is ∙ length-set config.next.items k (next_at config.next.items k + 1);
+        stands = λ order stands.
+            let fresh : has order p ≡ false = stands.used.placed k (next_at config.next.items k) there.0.0 ((stands.used.bounds k there.0.0).0, there.0.1) ∙ le-ltb (next_at config.next.items k) (next_at config.next.items k) (omega arith) in
+            let may = may_come ops arrivals stages stood.history order config.stage config.pending.items p stands.known lt (unknown_possible ops p un) fresh there.1 in
+            let known = at_other ops arrivals stages stood.history order config.stage config.pending.items p stands.known (not_arrival ops arrivals stages stood.history p not_done) in
+            record {
+              follows = subst (λ v. Follows ops [] problem.initial (order ++ p ∷ []) v) (sym value_is) (follows_push ops [] order problem.initial config.value value p stands.follows may allowed);
+              searched = λ q h. elim (has_push_cases order p q h) as (λ _. IsDone ops q ⊎ IsUnknown ops q) [ inl old ↦ stands.searched q old | inr is ↦ inr (subst (IsUnknown ops) is un) ];
+              known = subst (λ s. At (order ++ p ∷ []) s config'.pending.items) (sym stage_is) (subst (At (order ++ p ∷ []) config.stage) (sym pending_is) known);
+              used = next_placed ops problem.history.unknown.items problem.history.classes.items stood.classes order config.next.items config'.next.items k there.0.0 there.0.1 next_is stands.used;
+              low = subst (λ s. s ≤ stages_in problem) (sym stage_is) stands.low;
+              waits = λ room. subst (λ s. has (order ++ p ∷ []) (stage_place problem s) ≡ false) (sym stage_is)
+                  (not_pushed order p (stage_place problem config.stage) (stands.waits lt) (λ is. not_done (subst (IsDone ops) (sym is) (stood.history.are_done config.stage lt))));
+            };
+      }

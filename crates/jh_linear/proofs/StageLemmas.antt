@@ -1,5 +1,5 @@
 -- What a configuration knows of an order, and how it changes when one more operation is placed.
-use Rattle.std.proofs.Common.{◌≡◌, ℕ, ◌+◌, ◌-◌, ◌<◌, ◌≤◌, ℤ, true, false, not, eqb, Option, Some, None, List, [], ◌∷◌, ◌++◌, length, take, drop, get_or, refl, sym, ap, subst, ◌∙◌, inl, inr, arith}
+use Rattle.std.proofs.Common.{◌≡◌, ℕ, ◌+◌, ◌-◌, ◌^◌, ◌<◌, ◌≤◌, true, false, not, cond, eqb, Some, None, List, [], ◌∷◌, ◌++◌, length, take, drop, get_or, unwrap_or, refl, sym, ap, subst, ◌∙◌, inl, inr, arith}
 use Rattle.std.specs.List.{IsDistinct, remove}
 use Rattle.std.proofs.lemmas.Bool.{false≢true, cases_lt}
 use Rattle.std.proofs.lemmas.Map.Keys.{IsDistinct-from_apart, apart_from_distinct}
@@ -11,9 +11,8 @@ use Rattle.jh_linear.specs.Order.{no_op, op_at, IsPossible, IsDone, IsBefore, En
 use Rattle.jh_linear.specs.declared.register.Outcome.{Outcome}
 use Rattle.jh_linear.specs.declared.register.Outcome.TheVariants.{Done, Failed, Unsure}
 use Rattle.jh_linear.specs.declared.register.RegCall.{RegCall}
-use Rattle.jh_linear.specs.declared.register.RegCall.TheVariants.{Read, Write, Cas}
-use Rattle.jh_linear.specs.Search.{is_worth, IsSearched, LeavesValue, MayFollow, stage_at, arrived_by, IsHistory, without, IsAt}
-use Rattle.jh_linear.proofs.SetLemmas.{has_append, has_kept, has_push_cases, has_here, place_of, has_without, in_without, apart_halves, has_taken, without_none, without_push, not_true, true_if, false_if, or_left}
+use Rattle.jh_linear.specs.Search.{is_unknown, IsUnknown, MayFollow, stage_at, arrived_by, IsHistory, without, IsAt, invoked_at, end_at, coming_after}
+use Rattle.jh_linear.proofs.SetLemmas.{has_append, has_kept, has_push_cases, has_here, place_of, has_without, in_without, apart_halves, has_taken, has_dropped, without_none, without_push, not_true, true_if, false_if, or_left, or_right, eqb_self, same_tests}
 
 -- nothing is before itself
 pub not_before_itself : (ops : List RegOp) → EndAfterInvoked ops → (p : ℕ) → IsBefore ops p p → ⊥
@@ -26,28 +25,33 @@ not_before_itself ops ends p h =
 pub done_possible : (ops : List RegOp) (p : ℕ) → IsDone ops p → IsPossible ops p
 done_possible ops p done failed = let both = sym done ∙ failed in cc
 
-pub done_searched : (ops : List RegOp) (p : ℕ) → IsDone ops p → IsSearched ops p
-done_searched ops p done = subst (λ o. is_worth o (op_at ops p).call ≡ true) (sym done) refl
+unknown_unsure : (outcome : Outcome) (call : RegCall) → is_unknown outcome call ≡ true → outcome ≡ Unsure
+unknown_unsure Failed call h = absurd (false≢true h)
+unknown_unsure Done call h = absurd (false≢true h)
+unknown_unsure Unsure call h = refl
 
-pub searched_possible : (ops : List RegOp) (p : ℕ) → IsSearched ops p → IsPossible ops p
-searched_possible ops p worth failed = false≢true (subst (λ o. is_worth o (op_at ops p).call ≡ true) failed worth)
+pub unknown_is : (ops : List RegOp) (p : ℕ) → IsUnknown ops p → (op_at ops p).outcome ≡ Unsure
+unknown_is ops p h = unknown_unsure (op_at ops p).outcome (op_at ops p).call h
 
--- what is left out of the search and did not fail leaves the value
-pub left_out : (outcome : Outcome) (call : RegCall) → (outcome ≡ Failed → ⊥) → is_worth outcome call ≡ false → LeavesValue call
-left_out Failed call possible h = absurd (possible refl)
-left_out Done call possible h = absurd (false≢true (sym h))
-left_out Unsure (Read None) possible h = λ value next allowed. allowed
-left_out Unsure (Read (Some seen)) possible h = λ value next allowed. allowed.1
-left_out Unsure (Write new) possible h = absurd (false≢true (sym h))
-left_out Unsure (Cas old new) possible h = absurd (false≢true (sym h))
+pub unknown_possible : (ops : List RegOp) (p : ℕ) → IsUnknown ops p → IsPossible ops p
+unknown_possible ops p h failed = let both = sym (unknown_is ops p h) ∙ failed in cc
+
+pub unknown_not_done : (ops : List RegOp) (p : ℕ) → IsUnknown ops p → IsDone ops p → ⊥
+unknown_not_done ops p h done = let both = sym (unknown_is ops p h) ∙ done in cc
 
 -- past the end of the list all have failed
-pub done_there : (ops : List RegOp) (p : ℕ) → IsDone ops p → p < length ops
-done_there ops p done =
+past_failed : (ops : List RegOp) (p : ℕ) → length ops ≤ p → (op_at ops p).outcome ≡ Failed
+past_failed ops p le = let past : op_at ops p ≡ no_op = get_or_past ops p no_op le in ap (λ o. o.outcome) past
+
+pub possible_there : (ops : List RegOp) (p : ℕ) → IsPossible ops p → p < length ops
+possible_there ops p possible =
     elim (cases_lt p (length ops)) as (λ _. p < length ops) [
       | inl lt ↦ lt
-      | inr le ↦ let past : op_at ops p ≡ no_op = get_or_past ops p no_op le in let both = sym done ∙ ap (λ o. o.outcome) past in absurd (cc)
+      | inr le ↦ absurd (possible (past_failed ops p le))
     ]
+
+pub done_there : (ops : List RegOp) (p : ℕ) → IsDone ops p → p < length ops
+done_there ops p done = possible_there ops p (done_possible ops p done)
 
 pub distinct_take : (n : ℕ) (xs : List ℕ) → IsDistinct eqb xs → IsDistinct eqb (take n xs)
 distinct_take n xs d = IsDistinct-from_apart eqb (take n xs) (λ i j e lt inside.
@@ -66,24 +70,65 @@ taken_on xs n m le =
     let is : m ≡ n + k = omega arith in
     ap (λ j. take j xs) is ∙ sym (take-append-drop n (take (n + k) xs)) ∙ rw (take-take n (n + k) xs (omega arith), drop-take n k xs) refl
 
-module _ (ops : List RegOp) (initial : Option ℤ) (arrivals : List ℕ) (stages : List Stage) (history : IsHistory ops arrivals stages) where
-  -- a pending place may come next
+-- an operation that comes before another ends before that one is invoked
+pub end_before : (ops : List RegOp) (a b : ℕ) → IsBefore ops a b → end_at ops a < invoked_at ops b
+end_before ops a b h = elim (op_at ops a).ended as (λ e. EndsBefore e (op_at ops b).invoked → unwrap_or e (2 ^ 64 - 1) < (op_at ops b).invoked) [
+  | None ↦ λ k. absurd k
+  | Some e ↦ λ k. k
+] h.1
+
+without_same : (a b xs : List ℕ) → ((q : ℕ) → has xs q ≡ true → has a q ≡ has b q) → without a xs ≡ without b xs
+without_same a b [] same = refl
+without_same a b (x ∷ xs) same =
+    let rest = without_same a b xs (λ q h. same q (or_right (eqb x q) _ h)) in
+    rw (same x (or_left (eqb x x) _ (eqb_self x))) (elim (has b x) as (λ v. cond (not v) (x ∷ without a xs) (without a xs) ≡ cond (not v) (x ∷ without b xs) (without b xs)) [
+      | true ↦ rest
+      | false ↦ ap (λ ys. x ∷ ys) rest
+    ])
+
+-- where an order has none of the list, a longer one leaves out what is not the new place
+pub without_other : (order xs : List ℕ) (p : ℕ) → has xs p ≡ false → without (order ++ p ∷ []) xs ≡ without order xs
+without_other order xs p out = without_same (order ++ p ∷ []) order xs (λ q there. same_tests (has (order ++ p ∷ []) q) (has order q)
+    (λ h. elim (has_push_cases order p q h) as (λ _. has order q ≡ true) [
+      | inl old ↦ old
+      | inr is ↦ absurd (not_true _ there (subst (λ x. has xs x ≡ false) is out))
+    ])
+    (λ h. has_kept order p q h))
+
+module _ (ops : List RegOp) (arrivals : List ℕ) (stages : List Stage) (history : IsHistory ops arrivals stages) where
+  abbrev End : ℕ → ℕ
+  End k = end_at ops (stage_at stages k).place
+
+  -- what is possible, not placed and invoked before the end of the stage may come next
+  pub may_come : (order : List ℕ) (stage : ℕ) (pending : List ℕ) (p : ℕ) → IsAt arrivals stages order stage pending → stage < length stages → IsPossible ops p → has order p ≡ false → invoked_at ops p ≤ End stage → MayFollow ops order p
+  may_come order stage pending p known lt possible fresh early = record {
+    there = possible_there ops p possible;
+    possible = possible;
+    fresh = fresh;
+    ready = λ first before. let r = history.needs stage first p lt early before in subst (λ q. has order q ≡ true) r.2 (known.passed r.0 r.1);
+  }
+
+  pub arrival_done : (p : ℕ) → has arrivals p ≡ true → IsDone ops p
+  arrival_done p h = let r = place_of arrivals p h in subst (IsDone ops) r.2 (history.happened r.0 0 r.1)
+
+  pub not_arrival : (p : ℕ) → (IsDone ops p → ⊥) → has arrivals p ≡ false
+  not_arrival p out = false_if _ (λ h. out (arrival_done p h))
+
+  -- what is pending happened, is not placed and was invoked before the end of the stage
+  pub of_pending : (order : List ℕ) (stage : ℕ) (pending : List ℕ) (p : ℕ) → IsAt arrivals stages order stage pending → stage < length stages → has pending p ≡ true → IsDone ops p × (has order p ≡ false) × (invoked_at ops p ≤ End stage)
+  of_pending order stage pending p known lt h =
+      let both = in_without order (arrived_by arrivals stages stage) p (subst (λ xs. has xs p ≡ true) (known.pending_is lt) h) in
+      (arrival_done p (has_taken arrivals _ p both.0), both.1, history.in_time stage p lt both.0)
+
   pub may_follow : (order : List ℕ) (stage : ℕ) (pending : List ℕ) (p : ℕ) → IsAt arrivals stages order stage pending → stage < length stages → has pending p ≡ true → MayFollow ops order p
   may_follow order stage pending p known lt h =
-      let both = in_without order (arrived_by arrivals stages stage) p (subst (λ xs. has xs p ≡ true) (known.pending_is lt) h) in
-      let inside : has arrivals p ≡ true = has_taken arrivals _ p both.0 in
-      let where' = place_of arrivals p inside in
-      record {
-        there = subst (λ q. q < length ops) where'.2 (history.there where'.0 0 where'.1);
-        possible = subst (IsPossible ops) where'.2 (history.possible where'.0 0 where'.1);
-        fresh = both.1;
-        ready = λ first before. let r = history.needs stage first p lt both.0 before in subst (λ q. has order q ≡ true) r.2 (known.passed r.0 r.1);
-      }
+      let r = of_pending order stage pending p known lt h in
+      may_come order stage pending p known lt (done_possible ops p r.0) r.1 r.2
 
-  -- what may come next is pending
-  pub is_pending : (order : List ℕ) (stage : ℕ) (pending : List ℕ) (p : ℕ) → IsAt arrivals stages order stage pending → (lt : stage < length stages) → has order (stage_at stages stage).place ≡ false → IsSearched ops p → MayFollow ops order p → has pending p ≡ true
-  is_pending order stage pending p known lt waits worth may =
-      let here : has (arrived_by arrivals stages stage) p ≡ true = history.enough stage p lt may.there worth (λ before. not_true _ (may.ready _ before) waits) in
+  -- what happened and may come next is pending
+  pub is_pending : (order : List ℕ) (stage : ℕ) (pending : List ℕ) (p : ℕ) → IsAt arrivals stages order stage pending → (lt : stage < length stages) → has order (stage_at stages stage).place ≡ false → IsDone ops p → MayFollow ops order p → has pending p ≡ true
+  is_pending order stage pending p known lt waits done may =
+      let here : has (arrived_by arrivals stages stage) p ≡ true = history.enough stage p lt done (λ before. not_true _ (may.ready _ before) waits) in
       subst (λ xs. has xs p ≡ true) (sym (known.pending_is lt)) (has_without order _ p here may.fresh)
 
   -- the first stage
@@ -91,7 +136,7 @@ module _ (ops : List RegOp) (initial : Option ℤ) (arrivals : List ℕ) (stages
   at_first n is = record {
     passed = λ k lt. absurd (omega arith);
     pending_is = λ lt. ap (λ m. take m arrivals) (is lt) ∙ sym (without_none [] _ (λ q _. refl));
-    arrived = λ lt p h. absurd (false≢true h);
+    arrived = λ lt p h _. absurd (false≢true h);
   }
 
   -- one of the pending places is placed, and the stage is not passed yet
@@ -102,28 +147,35 @@ module _ (ops : List RegOp) (initial : Option ℤ) (arrivals : List ℕ) (stages
       record {
         passed = λ k below. has_kept order p _ (known.passed k below);
         pending_is = λ _. removed order all pending i (known.pending_is lt) (distinct_take _ arrivals history.distinct) inside;
-        arrived = λ _ q h. elim (has_push_cases order p q h) as (λ _. has all q ≡ true) [
-          | inl e ↦ known.arrived lt q e
+        arrived = λ _ q h in'. elim (has_push_cases order p q h) as (λ _. has all q ≡ true) [
+          | inl e ↦ known.arrived lt q e in'
           | inr e ↦ subst (λ x. has all x ≡ true) e (in_without order all p (subst (λ xs. has xs p ≡ true) (known.pending_is lt) (has_here pending i inside))).0
         ];
       }
+
+  -- something that is no arrival is placed
+  pub at_other : (order : List ℕ) (stage : ℕ) (pending : List ℕ) (p : ℕ) → IsAt arrivals stages order stage pending → has arrivals p ≡ false → IsAt arrivals stages (order ++ p ∷ []) stage pending
+  at_other order stage pending p known out = record {
+    passed = λ k below. has_kept order p _ (known.passed k below);
+    pending_is = λ lt. known.pending_is lt ∙ sym (without_other order (arrived_by arrivals stages stage) p (false_if _ (λ h. not_true _ (has_taken arrivals _ p h) out)));
+    arrived = λ lt q h in'. elim (has_push_cases order p q h) as (λ _. has (arrived_by arrivals stages stage) q ≡ true) [
+      | inl e ↦ known.arrived lt q e in'
+      | inr e ↦ absurd (not_true _ in' (subst (λ x. has arrivals x ≡ false) e out))
+    ];
+  }
 
   -- a stage whose place is not pending is passed
   pub is_placed : EndAfterInvoked ops → (order : List ℕ) (stage : ℕ) (pending : List ℕ) → IsAt arrivals stages order stage pending → (lt : stage < length stages) → has pending (stage_at stages stage).place ≡ false → has order (stage_at stages stage).place ≡ true
   is_placed ends order stage pending known lt h =
       let p : ℕ = (stage_at stages stage).place in
-      let done = history.are_done stage lt in
-      let here : has (arrived_by arrivals stages stage) p ≡ true = history.enough stage p lt (done_there ops p done) (done_searched ops p done) (not_before_itself ops ends p) in
+      let here : has (arrived_by arrivals stages stage) p ≡ true = history.enough stage p lt (history.are_done stage lt) (not_before_itself ops ends p) in
       true_if _ (λ no. not_true _ (subst (λ xs. has xs p ≡ true) (sym (known.pending_is lt)) (has_without order _ p here no)) h)
 
-  -- what else was invoked before the end of the next stage
-  abbrev pub coming : ℕ → List ℕ
-  coming stage = take ((stage_at stages (stage + 1)).arrived - (stage_at stages stage).arrived) (drop (stage_at stages stage).arrived arrivals)
-
   -- the next stage, which is the last or brings what is coming
-  pub at_next : (order : List ℕ) (stage : ℕ) (pending next : List ℕ) → IsAt arrivals stages order stage pending → stage < length stages → has order (stage_at stages stage).place ≡ true → (stage + 1 < length stages → next ≡ pending ++ coming stage) → IsAt arrivals stages order (stage + 1) next
+  pub at_next : (order : List ℕ) (stage : ℕ) (pending next : List ℕ) → IsAt arrivals stages order stage pending → stage < length stages → has order (stage_at stages stage).place ≡ true → (stage + 1 < length stages → next ≡ pending ++ coming_after arrivals stages stage) → IsAt arrivals stages order (stage + 1) next
   at_next order stage pending next known lt here more =
       let now : List ℕ = arrived_by arrivals stages stage in
+      let coming : List ℕ = coming_after arrivals stages stage in
       record {
         passed = λ k below. elim (cases_lt k stage) as (λ _. has order (stage_at stages k).place ≡ true) [
           | inl before ↦ known.passed k before
@@ -132,11 +184,13 @@ module _ (ops : List RegOp) (initial : Option ℤ) (arrivals : List ℕ) (stages
         pending_is = λ room.
             let whole = taken_on arrivals (stage_at stages stage).arrived (stage_at stages (stage + 1)).arrived (history.rises stage room) in
             more room
-            ∙ ap (λ xs. xs ++ coming stage) (known.pending_is lt)
-            ∙ ap (λ xs. without order now ++ xs) (sym (without_none order (coming stage) (λ q h. false_if _ (λ placed. apart_halves arrivals _ q history.distinct (known.arrived lt q placed) (has_taken _ _ q h)))))
-            ∙ sym (filter-append (λ p. not (has order p)) now (coming stage))
+            ∙ ap (λ xs. xs ++ coming) (known.pending_is lt)
+            ∙ ap (λ xs. without order now ++ xs) (sym (without_none order coming (λ q h. false_if _ (λ placed.
+            let late = has_taken _ _ q h in
+            apart_halves arrivals _ q history.distinct (known.arrived lt q placed (has_dropped arrivals _ q late)) late))))
+            ∙ sym (filter-append (λ p. not (has order p)) now coming)
             ∙ ap (without order) (sym whole);
-        arrived = λ room q h.
+        arrived = λ room q h in'.
             let whole = taken_on arrivals (stage_at stages stage).arrived (stage_at stages (stage + 1)).arrived (history.rises stage room) in
-            subst (λ xs. has xs q ≡ true) (sym whole) (has_append now (coming stage) q ∙ or_left _ _ (known.arrived lt q h));
+            subst (λ xs. has xs q ≡ true) (sym whole) (has_append now coming q ∙ or_left _ _ (known.arrived lt q h in'));
       }

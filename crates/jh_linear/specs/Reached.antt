@@ -1,31 +1,32 @@
--- What the judge hands over where its budget was used up: pairs, each of which stands for some operations in an order
+-- What the judge hands over where its budget was used up: steps, each of which stands for some operations in an order
 -- in which they can have happened. All of it is this project's own; what an order is stands in Order.antt.
 use Rattle.std.specs.Prelude.{◌≡◌, ◌<◌, ℕ, ℤ, Option, List, [], ◌∷◌, ◌++◌, length, slice_index_or}
 use Rattle.jh_linear.specs.declared.register.RegOp.{RegOp}
+use Rattle.jh_linear.specs.declared.verdict.Step.{Step}
 use Rattle.jh_linear.specs.Order.{IsPartialOrder, has}
 
--- Pairs stand for orders, one for each: that of the earlier pair that it names, and one more place.
-abbrev pub orders_from : List (List ℕ) → List (ℕ × ℕ) → List (List ℕ)
+-- Steps stand for orders, one for each: that of the earlier step that it names, with its own places behind it.
+abbrev pub orders_from : List (List ℕ) → List Step → List (List ℕ)
 orders_from known [] = known
-orders_from known (step ∷ steps) = orders_from (known ++ (slice_index_or known step.0 [] ++ step.1 ∷ []) ∷ []) steps
+orders_from known (step ∷ steps) = orders_from (known ++ (slice_index_or known step.parent [] ++ step.placed) ∷ []) steps
 
--- the first pair stands for the empty order
-abbrev pub orders_of : List (ℕ × ℕ) → List (List ℕ)
+-- the first step stands for the empty order
+abbrev pub orders_of : List Step → List (List ℕ)
 orders_of [] = []
 orders_of (first ∷ steps) = orders_from ([] ∷ []) steps
 
-abbrev pub order_at : List (ℕ × ℕ) → ℕ → List ℕ
+abbrev pub order_at : List Step → ℕ → List ℕ
 order_at steps i = slice_index_or (orders_of steps) i []
 
-abbrev pub root : ℕ × ℕ
-root = (0, 0)
+abbrev pub root : Step
+root = record { parent = 0; placed = [] }
 
--- each pair but the first names an earlier one
-abbrev pub NameEarlier : List (ℕ × ℕ) → Type 0
-NameEarlier steps = (i : ℕ) → 0 < i → i < length steps → (slice_index_or steps i root).0 < i
+-- each step but the first names an earlier one
+abbrev pub NameEarlier : List Step → Type 0
+NameEarlier steps = (i : ℕ) → 0 < i → i < length steps → (slice_index_or steps i root).parent < i
 
--- As many pairs as the budget, which stand for partial orders, no two of them with the same places and last value.
-pub record AreReached (ops : List RegOp) (initial : Option ℤ) (budget : ℕ) (steps : List (ℕ × ℕ)) : Type 0 where
+-- As many steps as the budget, which stand for partial orders, no two of them with the same places and last value.
+pub record AreReached (ops : List RegOp) (initial : Option ℤ) (budget : ℕ) (steps : List Step) : Type 0 where
   pub count : length steps ≡ budget
   pub begins : 0 < length steps → slice_index_or steps 0 root ≡ root
   pub earlier : NameEarlier steps

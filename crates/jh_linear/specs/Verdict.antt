@@ -8,11 +8,17 @@ use Rattle.jh_linear.specs.declared.verdict.LinVerdict.{LinVerdict}
 use Rattle.jh_linear.specs.declared.verdict.LinVerdict.TheVariants.{Valid, Invalid, Unknown}
 use Rattle.jh_linear.specs.Order.{IsOrder, AreThere, AreApart, ArePossible, HasAllDone, KeepsPrecedence, Runs}
 use Rattle.jh_linear.specs.Reached.{AreReached}
+use Rattle.jh_linear.specs.Stuck.{IsStuck}
 
--- Valid: it carries an order. Invalid: there is none. Unknown: it carries as much as the budget of what was reached.
+-- no order explains the operations
+abbrev pub HaveNoOrder : List RegOp → Option ℤ → Type 0
+HaveNoOrder ops initial = (order : List ℕ) → IsOrder ops initial order → ⊥
+
+-- Valid: it carries an order. Invalid: there is none, and it says up to where there is one. Unknown: it carries as much
+-- as the budget of what was reached.
 abbrev pub IsJudged : List RegOp → Option ℤ → ℕ → LinVerdict → Type 0
 IsJudged ops initial budget (Valid order) = IsOrder ops initial order
-IsJudged ops initial budget Invalid = (order : List ℕ) → IsOrder ops initial order → ⊥
+IsJudged ops initial budget (Invalid stuck) = HaveNoOrder ops initial × IsStuck ops initial stuck
 IsJudged ops initial budget (Unknown steps) = AreReached ops initial budget steps
 
 -- Why places are refused as an order: the first of its parts, in this order, that does not hold.

@@ -1,41 +1,73 @@
-//! A history, sorted for the search: invocations by their places, and the stages by the ends of what happened.
-//! `specs/Search.antt` says what it keeps of the operations.
+//! A history, sorted for the search: what happened by invocations and, stage by stage, by ends; and what is not known to
+//! have happened by calls. `specs/Search.antt` says what it keeps of the operations.
 
-ghost use Rattle.std.specs.Prelude.{◌≡◌, ℕ, ◌<◌, ◌≤◌, ◌-◌, ◌^◌, IfOk, length, map, slice_index_or};
-ghost use Rattle.jh_linear.specs.Search.{IsHistory, AreEntries, DoNotFall, AreStages, IsSearched, invoked_at, end_at};
+ghost use Rattle.std.specs.Prelude.{◌≡◌, ℕ, ◌<◌, ◌≤◌, ◌-◌, ◌^◌, IfOk, length, map, slice_index_or, true};
+ghost use Rattle.jh_linear.specs.Search.{IsHistory, AreClasses, AreEntries, DoNotFall, AreStages, AreRuns, IsUnknown};
+ghost use Rattle.jh_linear.specs.Search.{GoTogether, arrival_entry, end_entry, unknown_entry, no_entry};
+ghost use Rattle.jh_linear.specs.Search.{no_call};
 ghost use Rattle.jh_linear.specs.Order.{IsDone};
-ghost use Rattle.jh_linear.specs.Reached.{root};
+ghost use Rattle.jh_linear.specs.Checking.{is_done};
+ghost use Rattle.std.specs.Prelude.{false};
 
-use crate::register::{Outcome, RegOp, is_searched};
+use crate::register::{Outcome, RegCall, RegOp, is_same, is_unknown};
 use std::alloc::{AllocError, Global};
 
 /// The search goes from stage to stage. It leaves one when the stage's operation is placed.
 #[derive(Clone, Copy, Debug)]
 pub(crate) struct Stage {
-    /// Of the operations that are done and not placed at this stage, the one that ended first.
+    /// Of the operations that happened and are not placed at this stage, the one that ended first.
     pub(crate) place: usize,
-    /// How many operations were invoked before that one ended.
+    /// How many of those that happened were invoked before that one ended.
     pub(crate) arrived: usize,
 }
 
-/// The operations in the two orders that the search goes by.
-#[derive(Drop)]
-pub(crate) struct History {
-    /// The operations that are searched, in the order of invocation.
-    pub(crate) arrivals: Vec<usize>,
-    /// The operations that are done, in the order of their ends.
-    pub(crate) stages: Vec<Stage>,
+/// Operations of unknown outcome with the same call, those from one index up to another, in the order of invocation. They
+/// are placed in this order: whichever of them took effect first, the first one invoked can stand in its place.
+#[derive(Clone, Copy, Debug)]
+pub(crate) struct Class {
+    pub(crate) from: usize,
+    pub(crate) upto: usize,
 }
 
-/// The places of the operations that are searched, each with that of its invocation, which do not fall.
+/// The operations in the orders that the search goes by.
+#[derive(Drop)]
+pub(crate) struct History {
+    /// What happened, in the order of invocation.
+    pub(crate) arrivals: Vec<usize>,
+    /// What happened, in the order of the ends.
+    pub(crate) stages: Vec<Stage>,
+    /// What is not known to have happened and is tried, class by class.
+    pub(crate) unknown: Vec<usize>,
+    pub(crate) classes: Vec<Class>,
+}
+
+/// What is searched.
+#[derive(Drop)]
+pub(crate) struct Problem<'a> {
+    pub(crate) ops: &'a [RegOp],
+    pub(crate) initial: Option<i64>,
+    pub(crate) history: History,
+    pub(crate) budget: u64,
+}
+
+fn is_done(op: RegOp) -> bool
+    ensures { result ≡ is_done op.outcome }
+{
+    match op.outcome {
+        Outcome::Done => true,
+        _ => false,
+    }
+}
+
+/// The places of the operations that happened, each with that of its invocation, which do not fall.
 fn arrivals_of(alloc: Global, ops: &[RegOp]) -> Result<Vec<(usize, usize)>, AllocError>
     ensures entries { IfOk result (λ pairs.
-        AreEntries (IsSearched ops.now) (invoked_at ops.now) (length ops.now) pairs.items) }
+        AreEntries (IsDone ops.now) (arrival_entry ops.now) (λ x. x.1) (length ops.now) pairs.items) }
     ensures rises { IfOk result (λ pairs. DoNotFall pairs.items) }
 {
     let mut arrivals = Vec::new(alloc);
     for (place, op) in ops.iter().enumerate() {
-        if is_searched(*op) {
+        if is_done(*op) {
             arrivals.push((op.invoked, place))?;
         }
     }
@@ -43,21 +75,68 @@ fn arrivals_of(alloc: Global, ops: &[RegOp]) -> Result<Vec<(usize, usize)>, Allo
     Ok(arrivals)
 }
 
-/// The places of the operations that are done, each with that of its end, which do not fall.
+/// The places of the operations that happened, each with that of its end, which do not fall.
 fn ends_of(alloc: Global, ops: &[RegOp]) -> Result<Vec<(usize, usize)>, AllocError>
     ensures entries { IfOk result (λ pairs.
-        AreEntries (IsDone ops.now) (end_at ops.now) (length ops.now) pairs.items) }
+        AreEntries (IsDone ops.now) (end_entry ops.now) (λ x. x.1) (length ops.now) pairs.items) }
     ensures rises { IfOk result (λ pairs. DoNotFall pairs.items) }
 {
     let mut ends = Vec::new(alloc);
     for (place, op) in ops.iter().enumerate() {
-        match op.outcome {
-            Outcome::Done => ends.push((op.ended.unwrap_or(usize::MAX), place))?,
-            _ => {}
+        if is_done(*op) {
+            ends.push((op.ended.unwrap_or(usize::MAX), place))?;
         }
     }
     ends.sort()?;
     Ok(ends)
+}
+
+/// The places of the operations of unknown outcome that are tried, each with its call and the place of its invocation.
+/// Sorted, so that equal calls are neighbours; nothing else rests on how.
+fn unknown_of(alloc: Global, ops: &[RegOp]) -> Result<Vec<(RegCall, usize, usize)>, AllocError>
+    ensures { IfOk result (λ entries.
+        AreEntries (IsUnknown ops.now) (unknown_entry ops.now) (λ x. x.2) (length ops.now) entries.items) }
+{
+    let mut unknown = Vec::new(alloc);
+    for (place, op) in ops.iter().enumerate() {
+        if is_unknown(*op) {
+            unknown.push((op.call, op.invoked, place))?;
+        }
+    }
+    unknown.sort()?;
+    Ok(unknown)
+}
+
+/// Whether the second of two neighbours belongs to the class of the first.
+fn go_together(first: (RegCall, usize, usize), second: (RegCall, usize, usize)) -> bool
+    ensures { result ≡ true → GoTogether first second }
+{
+    is_same(first.0, second.0) && first.1 <= second.1
+}
+
+/// Whether a class ends at an index: there is no entry, or one that begins another.
+fn ends_at(entries: &[(RegCall, usize, usize)], index: usize) -> bool
+    requires { 0 < index }
+    ensures { result ≡ false → (index < length entries.now)
+        × GoTogether (slice_index_or entries.now (index - 1) no_call) (slice_index_or entries.now index no_call) }
+{
+    index >= entries.len() || !go_together(entries[index - 1], entries[index])
+}
+
+/// The classes of sorted entries.
+fn classes_of(alloc: Global, entries: &[(RegCall, usize, usize)]) -> Result<Vec<Class>, AllocError>
+    ensures { IfOk result (λ classes. AreRuns entries.now classes.items (length entries.now)) }
+{
+    let mut classes = Vec::new(alloc);
+    let mut from = 0;
+    for index in 0..entries.len() {
+        let upto = index + 1;
+        if ends_at(entries, upto) {
+            classes.push(Class { from, upto })?;
+            from = upto;
+        }
+    }
+    Ok(classes)
 }
 
 /// The places of the pairs.
@@ -71,14 +150,28 @@ fn places_of(alloc: Global, pairs: &[(usize, usize)]) -> Result<Vec<usize>, Allo
     Ok(places)
 }
 
+/// The places of the entries.
+fn unknown_places(
+    alloc: Global,
+    entries: &[(RegCall, usize, usize)],
+) -> Result<Vec<usize>, AllocError>
+    ensures { IfOk result (λ places. places.items ≡ map (λ x. x.2) entries.now) }
+{
+    let mut places = Vec::with_capacity(alloc, entries.len())?;
+    for entry in entries {
+        places.push(entry.2)?;
+    }
+    Ok(places)
+}
+
 /// How many of the invocations are not after an end, from a count of those that are known not to be.
 fn arrived_by(invocations: &[(usize, usize)], end: usize, from: usize) -> usize
     requires from { from ≤ length invocations.now }
-    requires before { (i : ℕ) → i < from → (slice_index_or invocations.now i root).0 ≤ end }
+    requires before { (i : ℕ) → i < from → (slice_index_or invocations.now i no_entry).0 ≤ end }
     ensures bounded { result ≤ length invocations.now }
-    ensures before { (i : ℕ) → i < result → (slice_index_or invocations.now i root).0 ≤ end }
+    ensures before { (i : ℕ) → i < result → (slice_index_or invocations.now i no_entry).0 ≤ end }
     ensures after { result < length invocations.now
-        → (end < (slice_index_or invocations.now result root).0) × (end < 2 ^ 64 - 1) }
+        → (end < (slice_index_or invocations.now result no_entry).0) × (end < 2 ^ 64 - 1) }
 {
     let mut arrived = from;
     'arriving: while arrived < invocations.len() && invocations[arrived].0 <= end {
@@ -110,11 +203,20 @@ fn stages_of(
 
 /// The history of some operations.
 pub(crate) fn history_of(alloc: Global, ops: &[RegOp]) -> Result<History, AllocError>
-    ensures { IfOk result (λ history. IsHistory ops.now history.arrivals.items history.stages.items) }
+    ensures history { IfOk result (λ history. IsHistory ops.now history.arrivals.items history.stages.items) }
+    ensures classes { IfOk result (λ history. AreClasses ops.now history.unknown.items history.classes.items) }
 {
     let invocations = arrivals_of(alloc, ops)?;
     let ends = ends_of(alloc, ops)?;
+    let entries = unknown_of(alloc, ops)?;
     let arrivals = places_of(alloc, invocations.as_slice())?;
     let stages = stages_of(alloc, invocations.as_slice(), ends.as_slice())?;
-    Ok(History { arrivals, stages })
+    let unknown = unknown_places(alloc, entries.as_slice())?;
+    let classes = classes_of(alloc, entries.as_slice())?;
+    Ok(History {
+        arrivals,
+        stages,
+        unknown,
+        classes,
+    })
 }

@@ -1,95 +1,95 @@
 //! The search for an order.
 //!
 //! It goes through configurations, each reached once, with the one that it was reached from. `specs/Search.antt` says what
-//! it keeps: each configuration that was reached waits, or all that may come next was reached. Where none waits, there is
-//! no order. Which one is taken next may be changed, and so may what is left out, where no order is lost by it: here the
-//! deepest is taken first, a read that happened and matches the value is placed at once and alone, and a read that is not
-//! known to have happened is never placed.
+//! it keeps: each configuration that was reached waits, or all that may lead past the furthest stage was reached from it.
+//! Where none waits, no order passes that stage. Which one is taken next may be changed: here the deepest is taken first,
+//! and of the ways to go on from it first what happened and was invoked first.
 
-ghost use Rattle.std.specs.Prelude.{◌≡◌, ◌<◌, length, slice_index, slice_get, Some, vec_len, IfOk, IfSome};
+ghost use Rattle.std.specs.Prelude.{◌≡◌, ◌++◌, ◌<◌, ◌≤◌, length, slice_get, Some, vec_len, IfOk};
 ghost use Rattle.jh_linear.specs.declared.config.Config.{Config};
 ghost use Rattle.jh_linear.specs.Order.{EndAfterInvoked};
-ghost use Rattle.jh_linear.specs.Order as rule;
-ghost use Rattle.jh_linear.specs.Reached.{NameEarlier, order_at};
+ghost use Rattle.jh_linear.specs.Reached.{order_at, root};
 ghost use Rattle.jh_linear.specs.Verdict.{IsJudged};
-ghost use Rattle.jh_linear.specs.Search.{IsProblem, IsBegun, IsThere, Tried, Expanded, AreSame, Keeps, IsSettled};
+ghost use Rattle.jh_linear.specs.Search.{AreSame, Entered, Expanded, IsBegun, IsKept, IsMove, IsProblem, StandsFor, Tried};
+ghost use Rattle.jh_linear.specs.Search.{WasReached, stages_in};
 
-use crate::config::{Config, first_config, next_config};
-use crate::history::{History, history_of};
-use crate::order_check::op_at;
-use crate::register::{RegOp, after, is_settled};
-use crate::search::{Added, Search, add};
-use crate::verdict::{LinVerdict, Order, Reached};
+use crate::config::{Config, copy_config, first_config};
+use crate::history::{Problem, history_of};
+use crate::moves::{Move, find_moves};
+use crate::register::RegOp;
+use crate::search::{Added, Furthest, Search, add, note};
+use crate::stuck::{order_of, stuck_of};
+use crate::verdict::{LinVerdict, Order, Reached, Step};
+use crate::walk::{WalkEnd, make, walk};
 use indexmap::IndexSet;
 use std::alloc::{AllocError, Global};
-
-/// What is searched.
-#[derive(Drop)]
-pub(crate) struct Problem<'a> {
-    pub(crate) ops: &'a [RegOp],
-    pub(crate) initial: Option<i64>,
-    pub(crate) history: History,
-    pub(crate) budget: u64,
-}
 
 /// What came of going on.
 pub(crate) enum Progress {
     More,
-    /// With this operation the order is complete.
-    Complete(usize),
+    /// With these operations the order is complete.
+    Complete(Vec<usize>),
     Full,
 }
 
-/// Goes on from a configuration by one of its pending operations.
-fn place_one(
+/// Goes on from a configuration by a move, and in place as long as there is one way to go on.
+fn try_move(
     alloc: Global,
     problem: &Problem,
     search: &mut Search,
     at: usize,
     config: &Config,
-    index: usize,
+    step: Move,
 ) -> Result<Progress, AllocError>
     requires problem { IsProblem problem.now }
     requires begun { IsBegun problem.now search.old }
-    requires there { IsThere search.old at config.now }
-    requires index { index < vec_len config.now.pending }
-    ensures { IfOk result (λ progress.
-        Tried problem.now search.old search.new at (slice_index config.now.pending.items index) progress) }
+    requires reached { WasReached search.old at config.now }
+    requires moves { IsMove problem.now config.now step }
+    ensures { IfOk result (λ progress. Tried problem.now search.old search.new at config.now step progress) }
 {
-    let place = config.pending[index];
-    let Some(value) = after(problem.ops[place].call, config.value) else {
-        return Ok(Progress::More);
-    };
-    let next = next_config(alloc, &problem.history, config, index, value)?;
-    if next.stage == problem.history.stages.len() {
-        if search.steps.len() as u64 == problem.budget {
-            return Ok(Progress::Full);
+    let mut next = copy_config(alloc, config)?;
+    let mut placed = Vec::new(alloc);
+    make(problem, &mut next, &mut placed, step)?;
+    let mut moves = Vec::new(alloc);
+    let end = walk(problem, &mut next, &mut placed, &mut moves)?;
+    match end {
+        WalkEnd::Complete => Ok(Progress::Complete(placed)),
+        WalkEnd::Stuck => {
+            note(alloc, search, at, placed.as_slice(), next.stage)?;
+            Ok(Progress::More)
         }
-        return Ok(Progress::Complete(place));
+        WalkEnd::Several => {
+            note(alloc, search, at, placed.as_slice(), next.stage)?;
+            enter(problem, search, at, placed, next)
+        }
     }
-    match add(search, problem.budget, at, place, next)? {
+}
+
+/// Enters a configuration that was reached from an earlier one.
+fn enter(
+    problem: &Problem,
+    search: &mut Search,
+    at: usize,
+    placed: Vec<usize>,
+    config: Config,
+) -> Result<Progress, AllocError>
+    requires problem { IsProblem problem.now }
+    requires begun { IsBegun problem.now search.old }
+    requires low { at < length search.old.steps.items }
+    requires longer { 0 < vec_len placed }
+    requires stands { StandsFor problem.now (order_at search.old.steps.items at ++ placed.items) config }
+    requires open { config.stage < stages_in problem.now }
+    requires far { config.stage ≤ search.old.furthest.stage }
+    ensures { IfOk result (λ progress. Entered problem.now search.old search.new at placed.items config progress) }
+{
+    match add(search, problem.budget, at, placed, config)? {
         Added::Known => Ok(Progress::More),
         Added::New => Ok(Progress::More),
         Added::Full => Ok(Progress::Full),
     }
 }
 
-/// The first of the pending operations that may be placed at once and alone.
-fn settled(ops: &[RegOp], config: &Config) -> Option<usize>
-    ensures { IfSome result (λ index.
-        (index < vec_len config.now.pending)
-        × IsSettled (rule.op_at ops.now (slice_index config.now.pending.items index)) config.now.value) }
-{
-    for (index, place) in config.pending.iter().enumerate() {
-        if is_settled(op_at(ops, *place), config.value) {
-            return Some(index);
-        }
-    }
-    None
-}
-
-/// Goes on from a configuration: by a settled operation alone, where there is one, else by each of those pending, at last
-/// by the one that was invoked first, so that its configuration is taken first.
+/// Goes on from a configuration by each of its moves, at last by the first, so that its configuration is taken first.
 fn expand(
     alloc: Global,
     problem: &Problem,
@@ -99,71 +99,70 @@ fn expand(
 ) -> Result<Progress, AllocError>
     requires problem { IsProblem problem.now }
     requires begun { IsBegun problem.now search.old }
-    requires there { IsThere search.old at config.now }
+    requires reached { WasReached search.old at config.now }
     ensures { IfOk result (λ progress. Expanded problem.now search.old search.new at progress) }
 {
-    if let Some(index) = settled(problem.ops, config) {
-        return place_one(alloc, problem, search, at, config, index);
-    }
-    let count = config.pending.len();
+    let mut moves = Vec::new(alloc);
+    find_moves(problem, config, &mut moves)?;
+    let count = moves.len();
     for step in 0..count {
-        match place_one(alloc, problem, search, at, config, count - 1 - step)? {
+        match try_move(alloc, problem, search, at, config, moves[count - 1 - step])? {
             Progress::More => {}
-            Progress::Complete(last) => return Ok(Progress::Complete(last)),
+            Progress::Complete(placed) => return Ok(Progress::Complete(placed)),
             Progress::Full => return Ok(Progress::Full),
         }
     }
     Ok(Progress::More)
 }
 
-/// The order of one of the steps.
-fn order_of(alloc: Global, steps: &[(usize, usize)], last: usize) -> Result<Vec<usize>, AllocError>
-    requires earlier { NameEarlier steps.now }
-    requires last { last < length steps.now }
-    ensures { IfOk result (λ order. order.items ≡ order_at steps.now last) }
-{
-    let mut order = Vec::new(alloc);
-    let mut at = last;
-    'steps: while 0 < at {
-        let (parent, place) = steps[at];
-        order.push(place)?;
-        at = parent;
-    }
-    order.reverse();
-    Ok(order)
-}
-
 /// A search at its start, with the configuration in which nothing is placed.
 fn start(alloc: Global, problem: &Problem) -> Result<Search, AllocError>
     requires problem { IsProblem problem.now }
-    requires some { 0 < vec_len problem.now.history.stages }
+    requires some { 0 < stages_in problem.now }
     requires budget { 0 < problem.now.budget }
-    ensures { IfOk result (λ search. Keeps problem.now search) }
+    ensures { IfOk result (λ search. IsKept problem.now search) }
 {
-    let config = first_config(alloc, &problem.history, problem.initial)?;
+    let config = first_config(alloc, problem)?;
     let mut configs = IndexSet::new(alloc);
     configs.insert(config)?;
-    let steps = vec![in alloc; (0, 0)]?;
+    let mut steps = Vec::new(alloc);
+    steps.push(first_step(alloc))?;
     let waiting = vec![in alloc; 0]?;
     Ok(Search {
         configs,
         steps,
         waiting,
+        furthest: Furthest {
+            stage: 0,
+            step: first_step(alloc),
+        },
     })
 }
 
+/// The step that stands for the empty order.
+fn first_step(alloc: Global) -> Step
+    ensures { result ≡ root }
+{
+    Step {
+        parent: 0,
+        placed: Order::of(Vec::new(alloc)),
+    }
+}
+
 /// Whether the operations can have happened one after another on a register with this initial value. `Valid` carries an
-/// order, `Invalid` says that there is none, and `Unknown` that the budget was used up. Each operation has to end after
-/// its invocation.
+/// order, `Invalid` says that there is none, and up to where there is one, and `Unknown` that the budget was used up. Each
+/// operation has to end after its invocation.
 ///
 /// The budget counts configurations: a set of operations that are placed, with the register's value, counts once, when it
-/// is reached. `Unknown` carries as many of them as the budget. With a budget of 0 the answer is `Unknown` of none.
+/// is entered. One from which there is one way to go on, or none, is not entered. `Unknown` carries as many as the budget.
+/// With a budget of 0 the answer is `Unknown` of none.
 ///
-/// Errors: want of memory.
+/// Errors: out of memory.
 ///
-/// Let w be how many operations may be pending at once: those in flight, and all writes and compare-and-sets so far that
-/// are not known to have happened. Takes O(n log n) for n operations, and for each configuration w words of memory and up
-/// to w * w steps. Between two ends of operations there are at most v * 2^w configurations, for v different values.
+/// Let w be how many operations may be in flight at once, and u how many different calls are not known to have happened.
+/// Takes O(n log n) for n operations, and for each configuration w + u words of memory, those for what was placed since
+/// the one before it, and for each way to go on from it (w + u) * (w + u) steps for each operation that is placed until
+/// there are several ways again. docs/register.md says more.
 pub fn check(
     alloc: Global,
     ops: &[RegOp],
@@ -188,31 +187,25 @@ pub fn check(
     };
     let mut search = start(alloc, &problem)?;
     'searching: while let Some(at) = search.waiting.pop() {
-        let config = copy_config(alloc, &search.configs, at)?;
+        let config = config_at(alloc, &search.configs, at)?;
         match expand(alloc, &problem, &mut search, at, &config)? {
             Progress::More => {}
             Progress::Full => return Ok(LinVerdict::Unknown(Reached::of(search.steps))),
-            Progress::Complete(last) => {
+            Progress::Complete(placed) => {
                 let mut order = order_of(alloc, search.steps.as_slice(), at)?;
-                order.push(last)?;
+                order.extend_from_slice(placed.as_slice())?;
                 return Ok(LinVerdict::Valid(Order::of(order)));
             }
         }
     }
-    Ok(LinVerdict::Invalid)
+    Ok(LinVerdict::Invalid(stuck_of(alloc, &problem, &search)?))
 }
 
-/// A copy of the configuration at a place.
-fn copy_config(alloc: Global, configs: &IndexSet<Config>, at: usize) -> Result<Config, AllocError>
+/// A copy of the configuration at an index.
+fn config_at(alloc: Global, configs: &IndexSet<Config>, at: usize) -> Result<Config, AllocError>
     requires { at < length configs.now.keys }
     ensures { IfOk result (λ config.
         (found : Config) × (slice_get configs.now.keys at ≡ Some found) × AreSame found config) }
 {
-    let config = &configs.as_slice()[at];
-    let pending = Vec::from_slice(alloc, config.pending.as_slice())?;
-    Ok(Config {
-        stage: config.stage,
-        pending,
-        value: config.value,
-    })
+    copy_config(alloc, &configs.as_slice()[at])
 }

@@ -6,13 +6,16 @@ mod calls;
 mod config;
 mod history;
 mod judge;
+mod moves;
 mod order_check;
 mod register;
 mod search;
+mod stuck;
 mod verdict;
+mod walk;
 
 pub use calls::{RegOpsError, reg_ops};
 pub use judge::check;
 pub use order_check::{OrderFault, check_order};
 pub use register::{Outcome, RegCall, RegOp};
-pub use verdict::{LinVerdict, Order, Reached};
+pub use verdict::{LinVerdict, Order, Reached, Step, Stuck};

@@ -5,7 +5,11 @@
 
 ghost use Rattle.std.specs.Prelude.{◌≡◌, ℤ, Option, Some, IfSome, IsTrue, ◌↔◌, true};
 ghost use Rattle.jh_linear.specs.Order.{Allows};
-ghost use Rattle.jh_linear.specs.Search.{is_worth, IsSettled};
+ghost use Rattle.jh_linear.specs.Search as rule;
+ghost use Rattle.jh_linear.specs.Search.{IsSettled, Needs};
+ghost use Rattle.std.specs.Prelude.{false, None};
+ghost use Rattle.jh_linear.specs.declared.register.Outcome.TheVariants.{Done};
+ghost use Rattle.jh_linear.specs.declared.register.RegCall.TheVariants.{Read};
 
 /// How an operation ended.
 #[derive(Clone, Copy, Debug, PartialEq, Eq)]
@@ -19,7 +23,7 @@ pub enum Outcome {
 }
 
 /// What was asked of the register, whose value is an integer or nil.
-#[derive(Clone, Copy, Debug, PartialEq, Eq)]
+#[derive(Clone, Copy, Debug, PartialEq, Eq, PartialOrd, Ord)]
 pub enum RegCall {
     /// Read this value, or any where none is told.
     Read(Option<i64>),
@@ -60,21 +64,45 @@ fn value_is(value: Option<i64>, wanted: i64) -> bool
     }
 }
 
-/// Whether the search places an operation. An order holds without a read that is not known to have happened.
-pub(crate) fn is_searched(op: RegOp) -> bool
-    ensures { result ≡ is_worth op.outcome op.call }
+/// Whether an operation is tried though it is not known to have happened. A read is not: an order holds without it.
+pub(crate) fn is_unknown(op: RegOp) -> bool
+    ensures { result ≡ rule.is_unknown op.outcome op.call }
 {
     match (op.outcome, op.call) {
-        (Outcome::Failed, _) => false,
-        (Outcome::Unsure, RegCall::Read(_)) => false,
-        _ => true,
+        (Outcome::Unsure, RegCall::Write(_)) => true,
+        (Outcome::Unsure, RegCall::Cas(_, _)) => true,
+        _ => false,
+    }
+}
+
+/// Whether a call finds this value, and no other would do.
+pub(crate) fn needs(call: RegCall, value: Option<i64>) -> bool
+    ensures { IsTrue result ↔ Needs call value }
+{
+    match call {
+        RegCall::Read(Some(seen)) => value_is(value, seen),
+        RegCall::Cas(old, _) => value_is(value, old),
+        _ => false,
+    }
+}
+
+/// Whether two calls are one call. Reads are never: nobody asks.
+pub(crate) fn is_same(first: RegCall, second: RegCall) -> bool
+    ensures { result ≡ true → first ≡ second }
+{
+    match (first, second) {
+        (RegCall::Write(new), RegCall::Write(other)) => new == other,
+        (RegCall::Cas(old, new), RegCall::Cas(other_old, other)) => old == other_old
+            && new == other,
+        _ => false,
     }
 }
 
 /// Whether an operation is a read that happened and that the value allows. Wherever one may come next, it may come at
 /// once: what follows it is not changed by it.
 pub(crate) fn is_settled(op: RegOp, value: Option<i64>) -> bool
-    ensures { result ≡ true → IsSettled op value }
+    ensures settled { result ≡ true → IsSettled op value }
+    ensures other { result ≡ false → op.outcome ≡ Done → op.call ≡ Read None → ⊥ }
 {
     match (op.outcome, op.call) {
         (Outcome::Done, RegCall::Read(None)) => true,

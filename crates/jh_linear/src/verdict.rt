@@ -43,42 +43,64 @@ impl Order {
     }
 }
 
-/// What the judge reached, as pairs. The first is (0, 0) and stands for the empty order; a pair (j, p) after it stands
-/// for the order of pair j with the place p behind it. A contract sees a list of pairs.
+/// A configuration that the judge reached, as one before it and what was placed since: it stands for the order of the
+/// step `parent` with `placed` behind it. The first step of all names itself, places nothing, and stands for the empty
+/// order.
+#[derive(Debug, Drop)]
+pub struct Step {
+    pub parent: usize,
+    pub placed: Order,
+}
+
+/// What the judge reached, step by step. A contract sees a list of steps.
 #[derive(Debug, Drop)]
 pub struct Reached {
-    pairs: Vec<(usize, usize)>,
+    steps: Vec<Step>,
 }
 
 impl Model for Reached {
-    ghost use Rattle.std.specs.Prelude.{List, ℕ};
+    ghost use Rattle.std.specs.Prelude.{List};
+    ghost use Rattle.jh_linear.specs.declared.verdict.Step.{Step};
 
-    ghost Value = { List (ℕ × ℕ) };
+    ghost Value = { List Step };
 
-    ghost view = { λ a. a.pairs.items };
+    ghost view = { λ a. a.steps.items };
 }
 
 impl Reached {
-    /// What the pairs of a vector stand for. Takes no memory.
-    pub fn of(pairs: Vec<(usize, usize)>) -> Reached
-        ensures { result ≡ pairs.items }
+    /// What the steps of a vector stand for. Takes no memory.
+    pub fn of(steps: Vec<Step>) -> Reached
+        ensures { result ≡ steps.items }
     {
-        Reached { pairs }
+        Reached { steps }
     }
 
-    pub fn as_slice(&self) -> &[(usize, usize)]
+    pub fn as_slice(&self) -> &[Step]
         ensures { result.now ≡ self.now }
     {
-        self.pairs.as_slice()
+        self.steps.as_slice()
     }
 
     /// The vector, given back without memory.
-    pub fn into_vec(self) -> Vec<(usize, usize)>
+    pub fn into_vec(self) -> Vec<Step>
         ensures { result.items ≡ self }
     {
-        let Reached { pairs } = self;
-        pairs
+        let Reached { steps } = self;
+        steps
     }
+}
+
+/// Why operations have no order: where the history is to be cut for them to have one. `specs/Stuck.antt` says what is
+/// known of operations in a history that is cut.
+#[derive(Debug, Drop)]
+pub struct Stuck {
+    /// The place of the first completion with which there is no order any more: where the operation ended that it
+    /// completes, and `usize::MAX` for one that happened and has no such place. Of several at one place any may be meant.
+    pub end: usize,
+    /// An order of the history cut right before that completion.
+    pub order: Order,
+    /// The register's value after that order.
+    pub value: Option<i64>,
 }
 
 /// The judge's answer on the operations of a register.
@@ -86,8 +108,8 @@ impl Reached {
 pub enum LinVerdict {
     /// They can have happened in this order.
     Valid(Order),
-    /// There is no order in which they can have happened.
-    Invalid,
-    /// The budget was used up: as many pairs as the budget, no two of which stand for the same places and value.
+    /// There is no order in which they can have happened, and this is where it ends.
+    Invalid(Stuck),
+    /// The budget was used up: as many steps as the budget, no two of which stand for the same places and value.
     Unknown(Reached),
 }

@@ -29,6 +29,7 @@ returns-clause-told c =
       workload = given ∙ search rules;
       initial = initial_read (found_of c.args.options.now) c.get_one.result (search rules) (search rules);
       budget = c.in_ok-number_of.ensures.told;
-      independent = flag_read (found_of c.args.options.now) (codes "independent") c.get_flag.result c.get_flag.ensures.none c.get_flag.ensures.value c.get_flag.ensures.other;
+      explain = flag_read (found_of c.args.options.now) (codes "explain") c.get_flag.result c.get_flag.ensures.none c.get_flag.ensures.value c.get_flag.ensures.other;
+      independent = flag_read (found_of c.args.options.now) (codes "independent") c.get_flag-2.result c.get_flag-2.ensures.none c.get_flag-2.ensures.value c.get_flag-2.ensures.other;
       threads = c.in_ok-threads_of.ensures.told;
     }

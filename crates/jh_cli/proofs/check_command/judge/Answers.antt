@@ -1,6 +1,4 @@
-use Rattle.std.proofs.Common.{refl}
-use Rattle.jh_check.specs.declared.error.CheckError.TheVariants as CheckFault
 use Rattle.jh_cli.proofs.check_command.judge.Goals as goal
 
-pub returns-then-is_err : goal.returns-then-is_err
-returns-then-is_err c = (CheckFault.OutOfMemory, tt, refl)
+pub returns : goal.returns
+returns c = (c.in_ok-found.found, c.in_ok-found.ensures, c.verdict.ensures, c.in_ok-text.ensures)

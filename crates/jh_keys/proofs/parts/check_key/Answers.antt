@@ -5,8 +5,8 @@ use Rattle.jh_edn.specs.View.{view}
 use Rattle.jh_ops.specs.Operation.{operation, operations}
 use Rattle.jh_keys.specs.Findings.{IsFinding, RefusesHistory}
 use Rattle.jh_keys.specs.Keys.{history_of, places_of, without_key}
-use Rattle.jh_keys.specs.PartsInside.{asked_of, op_at, told_of}
-use Rattle.jh_keys.specs.Refusals.{RefusesKey}
+use Rattle.jh_keys.specs.PartsInside.{op_at, told_of}
+use Rattle.jh_keys.specs.Refusals.{RefusesKey, asked_by}
 use Rattle.jh_keys.proofs.PartLemmas.{key_refused, part_is, places_within}
 use Rattle.jh_keys.proofs.parts.check_key.Goals as goal
 
@@ -25,7 +25,7 @@ returns-in-Ok-clause-judged c =
     let part : operations c.deref-2.result.now ≡ history_of key whole =
     ap operations c.deref-2.ensures.value ∙ c.in_ok-part.ensures
     ∙ ap (map (λ place. without_key (op_at whole place))) (c.deref.ensures.value ∙ c.requires) ∙ part_is key whole in
-    subst (λ part. IsFinding c.args.judging.workload c.args.judging.initial c.args.judging.budget part c.in-Ok.finding) part c.in-Ok.ensures
+    subst (λ part. IsFinding c.args.judging part c.in-Ok.found) part c.in-Ok.ensures
 
 pub returns-clause-judged : goal.returns-clause-judged
 returns-clause-judged c =
@@ -36,5 +36,5 @@ returns-clause-judged c =
     ∙ ap (map (λ place. without_key (op_at whole place))) (c.deref.ensures.value ∙ c.requires) ∙ part_is key whole in
     let told : c.error_in.result ≡ told_of (places_of key whole) c.in-Err.error =
     c.error_in.ensures ∙ ap (λ places. told_of places c.in-Err.error) (c.deref-in-Err.ensures.value ∙ c.requires) in
-    subst (RefusesKey (asked_of c.args.judging whole) key) (sym told)
-    (key_refused (asked_of c.args.judging whole) key c.in-Err.error (subst (λ part. RefusesHistory c.args.judging.workload part c.in-Err.error) part c.in-Err.ensures))
+    subst (RefusesKey (asked_by c.args.judging whole) key) (sym told)
+    (key_refused (asked_by c.args.judging whole) key c.in-Err.error (subst (λ part. RefusesHistory c.args.judging.workload part c.in-Err.error) part c.in-Err.ensures))

@@ -5,4 +5,4 @@ use Rattle.jh_keys.proofs.serial.check_keys_serial.Given as goal
 
 abbrev pub invariant-loop-group : goal.invariant-loop-group
 invariant-loop-group l =
-    IsFoundSoFar (asked_by l.fn.workload l.fn.initial l.fn.budget (operations l.fn.history)) l.found.items l.group-iterator.rest.items
+    IsFoundSoFar (asked_by l.fn.judging (operations l.fn.history)) l.found.items l.group-iterator.rest.items

@@ -1,4 +1,4 @@
-use Rattle.std.proofs.Common.{◌∙◌, ap, rules}
+use Rattle.std.proofs.Common.{◌∙◌, rules}
 use Rattle.jh_ops.specs.Operation.{operations}
 use Rattle.jh_keys.specs.SplitInside.{view_keyed}
 use Rattle.jh_keys.proofs.SplitLemmas.{groups_sorted}

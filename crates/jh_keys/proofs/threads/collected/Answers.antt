@@ -17,8 +17,8 @@ loop-group-init g c =
     (subst (λ answers. AreCollected asked [] c.args.groups.items answers) (sym answers)
     (first_collected asked c.args.groups.items c.args.answers.items c.requires.groups c.requires.answers)))
 
-pub returns-in_err-finding : goal.returns-in_err-finding
-returns-in_err-finding g c =
+pub returns-in_err-one : goal.returns-in_err-one
+returns-in_err-one g c =
     let asked = g.Q.Asking.asked in
     let found = c.loop-group.found.items in
     let groups = c.next.new.self.a.rest.items in
@@ -27,9 +27,9 @@ returns-in_err-finding g c =
     let here : AreCollected asked found (c.in-Some.group ∷ groups) (c.in-Some.answer ∷ answers) =
     subst (λ gs. AreCollected asked found gs (c.in-Some.answer ∷ answers)) steps.0.0
     (subst (λ left. AreCollected asked found c.loop-group.group-iterator.a.rest.items left) steps.1.0 c.loop-group.invariant) in
-    let refused : RefusesKeys asked c.in_err-finding.field-0.0 =
-    keys_refused asked found c.in-Some.group groups c.in_err-finding.field-0.0 c.requires.tuples here.keys
-    (subst (IsAnswer asked (view c.in-Some.group.key)) (sym c.in_err-finding.ensures) (front_answer asked found c.in-Some.group groups c.in-Some.answer answers here)) in
+    let refused : RefusesKeys asked c.in_err-one.field-0.0 =
+    keys_refused asked found c.in-Some.group groups c.in_err-one.field-0.0 c.requires.tuples here.keys
+    (subst (IsAnswer asked (view c.in-Some.group.key)) (sym c.in_err-one.ensures) (front_answer asked found c.in-Some.group groups c.in-Some.answer answers here)) in
     search (rules, refused)
 
 pub loop-group-preserved : goal.loop-group-preserved
@@ -44,7 +44,7 @@ loop-group-preserved g c =
     (subst (λ left. AreCollected asked found c.loop-group.group-iterator.a.rest.items left) steps.1.0 c.loop-group.invariant) in
     subst (λ found. AreCollected asked found groups answers) (sym c.in_ok-push.ensures.items)
     (more_collected asked found c.in-Some.group groups c.in-Some.answer answers _ here refl
-    (subst (IsAnswer asked (view c.in-Some.group.key)) (sym c.in_ok-finding.ensures) (front_answer asked found c.in-Some.group groups c.in-Some.answer answers here)))
+    (subst (IsAnswer asked (view c.in-Some.group.key)) (sym c.in_ok-one.ensures) (front_answer asked found c.in-Some.group groups c.in-Some.answer answers here)))
 
 pub returns : goal.returns
 returns g c =

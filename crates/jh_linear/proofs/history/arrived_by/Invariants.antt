@@ -1,11 +1,11 @@
 use Rattle.std.proofs.Common.{ℕ, ◌<◌, ◌≤◌, ◌-◌, length, get_or}
-use Rattle.jh_linear.specs.Reached.{root}
+use Rattle.jh_linear.specs.Search.{no_entry}
 use Rattle.jh_linear.proofs.history.arrived_by.Given as goal
 
 abbrev pub invariant-arriving : goal.invariant-arriving
 invariant-arriving l = record {
   low : l.arrived ≤ length l.invocations;
-  before : (i : ℕ) → i < l.arrived → (get_or l.invocations i root).0 ≤ l.end;
+  before : (i : ℕ) → i < l.arrived → (get_or l.invocations i no_entry).0 ≤ l.end;
 }
 
 abbrev pub decreases-arriving : goal.decreases-arriving

@@ -1,10 +1,10 @@
-use Rattle.std.proofs.Common.{map, sym, ap, subst, ◌∙◌}
-use Rattle.jh_linear.specs.Search.{IsHistory, AreStages}
-use Rattle.jh_linear.proofs.HistoryLemmas.{is_history}
+use Rattle.std.proofs.Common.{length, map, sym, ap, subst, ◌∙◌}
+use Rattle.jh_linear.specs.Search.{AreClasses, AreRuns, AreStages, IsHistory}
+use Rattle.jh_linear.proofs.HistoryLemmas.{are_classes, is_history}
 use Rattle.jh_linear.proofs.history.history_of.Goals as goal
 
-pub returns : goal.returns
-returns c =
+pub returns-clause-history : goal.returns-clause-history
+returns-clause-history c =
     let ops = c.args.ops.now in
     let inv = c.in_ok-invocations.invocations.items in
     let ends = c.in_ok-ends.ends.items in
@@ -12,3 +12,11 @@ returns c =
     let made : AreStages inv ends stages = subst (λ e. AreStages inv e stages) c.as_slice-3.ensures.value (subst (λ i. AreStages i c.as_slice-3.result.now stages) c.as_slice-2.ensures.value c.in_ok-stages.ensures) in
     subst (λ places. IsHistory ops places stages) (sym (c.in_ok-arrivals.ensures ∙ ap (map (λ x. x.1)) c.as_slice.ensures.value))
     (is_history ops inv ends stages c.in_ok-invocations.ensures.entries c.in_ok-invocations.ensures.rises c.in_ok-ends.ensures.entries c.in_ok-ends.ensures.rises made)
+
+pub returns-clause-classes : goal.returns-clause-classes
+returns-clause-classes c =
+    let ops = c.args.ops.now in
+    let entries = c.in_ok-entries.entries.items in
+    let classes = c.in_ok-classes.classes.items in
+    let runs : AreRuns entries classes (length entries) = subst (λ e. AreRuns e classes (length e)) c.as_slice-5.ensures.value c.in_ok-classes.ensures in
+    subst (λ places. AreClasses ops places classes) (sym (c.in_ok-unknown.ensures ∙ ap (map (λ x. x.2)) c.as_slice-4.ensures.value)) (are_classes ops entries classes c.in_ok-entries.ensures runs)

@@ -1,5 +1,5 @@
 use Rattle.std.proofs.Common.{ℕ, ◌<◌, ◌≤◌, take, length, get_or}
-use Rattle.jh_linear.specs.Reached.{root}
+use Rattle.jh_linear.specs.Search.{no_entry}
 use Rattle.jh_linear.specs.Search.{AreStages}
 use Rattle.jh_linear.proofs.history.stages_of.Given as goal
 
@@ -7,5 +7,5 @@ abbrev pub invariant-ending : goal.invariant-ending
 invariant-ending l = record {
   stages : AreStages l.invocations (take l.pair-index l.ends) l.stages.items;
   low : l.arrived ≤ length l.invocations;
-  before : (i k : ℕ) → i < l.arrived → l.pair-index ≤ k → k < length l.ends → (get_or l.invocations i root).0 ≤ (get_or l.ends k root).0;
+  before : (i k : ℕ) → i < l.arrived → l.pair-index ≤ k → k < length l.ends → (get_or l.invocations i no_entry).0 ≤ (get_or l.ends k no_entry).0;
 }

@@ -1,56 +1,71 @@
-use Rattle.std.proofs.Common.{◌≡◌, ℕ, ◌-◌, ◌<◌, ◌≤◌, List, length, subst, inl, arith}
-use Rattle.std.specs.Prelude.{slice_index, Result, Ok, Err, IfOk}
+use Rattle.std.proofs.Common.{◌≡◌, ℕ, ◌-◌, ◌<◌, ◌++◌, List, length, get_or, sym, subst, arith}
 use Rattle.jh_linear.specs.declared.judge.Progress.TheVariants.{More}
-use Rattle.jh_linear.specs.Search.{Tried}
-use Rattle.jh_linear.proofs.SetLemmas.{has_here}
-use Rattle.jh_linear.proofs.GoingOnLemmas.{settled_on, at_low, grows_trans, tried_more, gone_on}
+use Rattle.jh_linear.specs.declared.moves.Move.{Move}
+use Rattle.jh_linear.specs.declared.verdict.Step.{Step}
+use Rattle.jh_linear.specs.Reached.{order_at, NameEarlier}
+use Rattle.jh_linear.specs.Search.{IsBegun, IsMoved, IsWhole, Tried}
+use Rattle.jh_linear.proofs.GrowthLemmas.{below, grows_trans}
+use Rattle.jh_linear.proofs.GoingOnLemmas.{gone_all, tried_more, read_at}
 use Rattle.jh_linear.proofs.judge.expand.Goals as goal
 
-if_ok : {X E : Type 0} {P Q : X → Type 0} (r : Result X E) → ((x : X) → P x → Q x) → IfOk r P → IfOk r Q
-if_ok (Ok x) f h = f x h
-if_ok (Err e) f h = h
-
-pub place_one-requires-in-loop-step-clause-there : goal.place_one-requires-in-loop-step-clause-there
-place_one-requires-in-loop-step-clause-there c =
-    let t = c.requires.there in
+pub try_move-requires-clause-reached : goal.try_move-requires-clause-reached
+try_move-requires-clause-reached c =
+    let t = c.requires.reached in
     (t.0, c.loop-step.invariant.on.kept c.args.at t.0 t.1, t.2)
+
+pub try_move-requires-clause-begun : goal.try_move-requires-clause-begun
+try_move-requires-clause-begun c =
+    let on = c.loop-step.invariant.on in
+    record { known = on.known; far = on.far; few = on.few }
+
+pub try_move-requires-clause-moves : goal.try_move-requires-clause-moves
+try_move-requires-clause-moves c =
+    let moves : List Move = c.find_moves.new.moves.items in
+    let index : ℕ = c.len-count.result - 1 - c.loop-step.step in
+    c.in_ok-find_moves.ensures.each index c.index.result.now (read_at moves index c.index.result.now (omega arith) c.index.ensures)
 
 pub loop-step-preserved : goal.loop-step-preserved
 loop-step-preserved c =
     let p = c.args.problem.now in
     let s = c.args.search.now in
-    let t = c.requires.there in
+    let t = c.requires.reached in
     let l = c.loop-step in
     let m = l.search in
-    let n = c.place_one-in-loop-step.new.search in
-    let pending : List ℕ = c.args.config.now.pending.items in
-    let low = at_low p.ops.now p.initial p.history.arrivals.items p.history.stages.items c.requires.problem.history s.configs.keys s.steps.items c.requires.begun.known c.args.at t.0 c.args.config.now t.1 t.2 in
+    let n = c.try_move.new.search in
+    let moves : List Move = c.find_moves.new.moves.items in
+    let low = below p c.requires.problem s.configs.keys s.steps.items c.requires.begun.known c.args.at t.0 t.1 in
     let index : ℕ = c.len-count.result - 1 - l.step in
-    let is : index ≡ length pending - 1 - l.step = omega arith in
-    let room : l.step < length pending = omega arith in
-    let a : Tried p m n c.args.at (slice_index pending index) More = subst (Tried p m n c.args.at (slice_index pending index)) c.in-More.is c.in_ok-place_one.ensures in
+    let on = l.invariant.on in
+    let begun : IsBegun p m = record { known = on.known; far = on.far; few = on.few } in
+    let tried : Tried p m n c.args.at c.args.config.now c.index.result.now More = subst (Tried p m n c.args.at c.args.config.now c.index.result.now) c.in-More.is c.in_ok-try_move.ensures in
+    let this : get_or moves index c.index.result.now ≡ c.index.result.now = sym c.index.ensures in
     record {
-      on = grows_trans p.ops.now p.initial p.history.arrivals.items p.history.stages.items p.budget s.configs.keys s.steps.items s.waiting.items m.configs.keys m.steps.items m.waiting.items n.configs.keys n.steps.items n.waiting.items l.invariant.on a.0;
-      tried = tried_more p.ops.now p.initial p.history.arrivals.items p.history.stages.items p.budget s.configs.keys s.steps.items s.waiting.items m.configs.keys m.steps.items m.waiting.items n.configs.keys n.steps.items n.waiting.items
-          c.args.at low pending l.step index is room l.invariant.on a.0 a.1 l.invariant.tried;
+      on = grows_trans p c.requires.problem s.configs.keys s.steps.items s.waiting.items s.furthest m.configs.keys m.steps.items m.waiting.items m.furthest n.configs.keys n.steps.items n.waiting.items n.furthest on tried.0;
+      tried = tried_more p c.requires.problem s m n c.args.at c.args.config.now moves l.step index c.index.result.now low (omega arith) (omega arith) begun on tried.0
+          (subst (IsMoved p m n c.args.at c.args.config.now) (sym this) tried.1) l.invariant.tried;
     }
 
-pub returns-in-Some : goal.returns-in-Some
-returns-in-Some c =
+pub returns-in-Complete : goal.returns-in-Complete
+returns-in-Complete c =
     let p = c.args.problem.now in
-    let index = c.in-Some.index in
-    let pending : List ℕ = c.args.config.now.pending.items in
-    let told = c.in-Some.ensures in
-    if_ok c.place_one.result (settled_on p c.args.search.now c.place_one.new.search c.args.at c.args.config.now (slice_index pending index) c.requires.problem c.requires.begun c.requires.there (has_here pending index (omega (arith, told.0))) told.1) c.place_one.ensures
+    let s = c.args.search.now in
+    let t = c.requires.reached in
+    let m = c.loop-step.search in
+    let n = c.try_move.new.search in
+    let on = c.loop-step.invariant.on in
+    let tried = rw c.in-Complete.is at c.in_ok-try_move.ensures in
+    let low = below p c.requires.problem m.configs.keys m.steps.items on.known c.args.at t.0 (on.kept c.args.at t.0 t.1) in (
+      subst (λ (ss : List Step). IsWhole p (order_at ss c.args.at ++ c.in-Complete.placed.items)) (sym tried.0) tried.1,
+      subst (λ (ss : List Step). c.args.at < length ss) (sym tried.0) low,
+      subst (λ (ss : List Step). NameEarlier ss) (sym tried.0) on.known.earlier,
+    )
 
 pub returns : goal.returns
 returns c =
     let p = c.args.problem.now in
-    let s = c.args.search.now in
-    let t = c.requires.there in
     let l = c.loop-step in
-    let all : length c.args.config.now.pending.items ≤ l.step = omega arith in (
+    let moves : List Move = c.find_moves.new.moves.items in (
       l.invariant.on,
-      λ other is. inl (gone_on p.ops.now p.initial p.history.arrivals.items p.history.stages.items c.requires.problem.history s.configs.keys s.steps.items c.requires.begun.known c.args.at t.0 c.args.config.now t.1 t.2 l.search.configs.keys l.search.steps.items
-          (λ k other next lt there allowed. l.invariant.tried k other next (omega (arith, all)) lt there allowed) other is),
+      gone_all p c.requires.problem c.args.search.now l.search c.args.at c.args.config.now moves c.requires.begun c.requires.reached l.invariant.on c.in_ok-find_moves.ensures
+          (λ i move there. l.invariant.tried i move (omega arith) there),
     )

@@ -1,5 +1,9 @@
-use Rattle.std.proofs.Common.{◌≡◌, [], ◌∷◌, arith}
+use Rattle.std.proofs.Common.{◌≡◌, ◌++◌, [], ◌∷◌, List, ap, ◌∙◌}
 use Rattle.jh_linear.specs.declared.config.Config.{Config}
+use Rattle.jh_linear.specs.declared.search.Furthest.{Furthest}
+use Rattle.jh_linear.specs.declared.search.Search.{Search}
+use Rattle.jh_linear.specs.declared.verdict.Step.{Step}
+use Rattle.jh_linear.specs.Reached.{root}
 use Rattle.jh_linear.proofs.JudgeLemmas.{kept_start}
 use Rattle.jh_linear.proofs.judge.start.Goals as goal
 
@@ -9,5 +13,8 @@ returns c =
     let config : Config = c.in_ok-config.config in
     let empty : c.new-configs.result.keys ≡ [] = c.new-configs.ensures.empty in
     let keys : c.insert.new.self.keys ≡ config ∷ [] = rw empty at c.in_ok-insert.ensures.keys in
-    kept_start p.ops.now p.initial p.history.arrivals.items p.history.stages.items p.budget config c.insert.new.self.keys c.in_ok-steps.steps.items c.in_ok-waiting.waiting.items keys c.in_ok-steps.ensures.items c.in_ok-waiting.ensures.items c.requires.budget
-    (c.in_ok-config.ensures.stands p.ops.now c.requires.problem.history) (omega (arith, c.in_ok-config.ensures.stage, c.requires.some))
+    let steps : c.push.new.self.items ≡ root ∷ [] = c.in_ok-push.ensures.items ∙ ap (λ (ss : List Step). ss ++ c.first_step.result ∷ []) c.new-steps.ensures.items ∙ ap (λ (s : Step). s ∷ []) c.first_step.ensures in
+    let furthest : Furthest = record { stage = 0; step = c.first_step-2.result } in
+    let search : Search = record { configs = c.insert.new.self; steps = c.push.new.self; waiting = c.in_ok-waiting.waiting; furthest = furthest } in
+    kept_start p c.requires.problem search config keys steps c.in_ok-waiting.ensures.items (ap (λ s. record { stage = 0; step = s }) c.first_step-2.ensures) c.requires.budget c.requires.some
+    c.in_ok-config.ensures.stands c.in_ok-config.ensures.stage c.in_ok-config.ensures.value

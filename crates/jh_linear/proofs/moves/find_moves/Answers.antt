@@ -1,0 +1,27 @@
+use Rattle.std.proofs.Common.{length, refl, inl, inr, arith}
+use Rattle.jh_linear.specs.Search.{NoneSettled}
+use Rattle.jh_linear.proofs.MoveLemmas.{each_none}
+use Rattle.jh_linear.proofs.moves.find_moves.Goals as goal
+
+pub returns-in-Some : goal.returns-in-Some
+returns-in-Some c =
+    let p = c.args.problem.now in
+    let config = c.args.config.now in
+    let settled = c.in-Some.ensures.some in
+    let pushed = c.in_ok-push_move.ensures in
+    record {
+      each = pushed.more.each (each_none p config c.clear.new.self.items c.clear.ensures.items);
+      enough = inl (c.in-Some.index, settled, pushed.among config.value settled.1.2);
+    }
+
+pub returns : goal.returns
+returns c =
+    let p = c.args.problem.now in
+    let config = c.args.config.now in
+    let happened = c.in_ok-push_happened.ensures in
+    let unknown = c.in_ok-push_unknown.ensures in
+    let none : NoneSettled p config (length config.pending.items) = λ index lt. c.in_default.ensures.none refl index (omega (arith, lt)) in
+    record {
+      each = unknown.more.each (happened.more.each (each_none p config c.clear.new.self.items c.clear.ensures.items));
+      enough = inr (λ index next lt allowed. unknown.more.kept _ next (happened.happened index next (omega (arith, lt)) allowed), unknown.unknown, none);
+    }

@@ -1,0 +1,239 @@
+//! The ways to go on from a configuration.
+//!
+//! `specs/Search.antt` says which are enough for no order to be lost (`AreEnough`), and what is left out may be changed
+//! where none is. Here a read that happened and matches the value is placed at once and alone; of the operations of unknown
+//! outcome with one call only the one invoked first is tried, and only where something that may come next needs its value.
+
+ghost use Rattle.std.specs.Prelude.{◌≡◌, ℕ, ℤ, ◌<◌, ◌≤◌, length, vec_len, true, false, IfSome, OnOk, Option, None};
+ghost use Rattle.jh_linear.specs.Order.{Allows, EndsBefore};
+ghost use Rattle.jh_linear.specs.Search as rule;
+ghost use Rattle.jh_linear.specs.Search.{AreMoves, HasHappened, HasUnknown, IsProblem, IsReady, IsSettledAt, IsThere, IsWanted};
+ghost use Rattle.jh_linear.specs.Search.{IsAmong, MovesMore, Needs, NoneSettled, call_of, stages_in};
+ghost use Rattle.jh_linear.specs.Stuck.{end_of};
+ghost use Rattle.jh_linear.specs.declared.moves.Source.TheVariants as source;
+
+use crate::config::Config;
+use crate::history::{Class, Problem};
+use crate::order_check::op_at;
+use crate::register::{RegOp, after, is_settled, needs};
+use std::alloc::AllocError;
+
+/// Where a move takes its operation from.
+#[derive(Clone, Copy, Debug)]
+pub(crate) enum Source {
+    /// From what happened and is pending, at this index.
+    Happened(usize),
+    /// From a class of unknown operations: its next.
+    Unknown(usize),
+}
+
+/// An operation that may be placed next, with the value that it leads to.
+#[derive(Clone, Copy, Debug)]
+pub(crate) struct Move {
+    pub(crate) source: Source,
+    pub(crate) value: Option<i64>,
+}
+
+fn class_at(classes: &[Class], class: usize) -> Class
+    ensures { result ≡ rule.class_at classes.now class }
+{
+    match classes.get(class) {
+        Some(found) => *found,
+        None => Class { from: 0, upto: 0 },
+    }
+}
+
+fn at_or_zero(places: &[usize], index: usize) -> usize
+    ensures { result ≡ rule.next_at places.now index }
+{
+    match places.get(index) {
+        Some(place) => *place,
+        None => 0,
+    }
+}
+
+/// The operation that a move places.
+pub(crate) fn place_of(problem: &Problem, config: &Config, source: Source) -> usize
+    ensures { result ≡ rule.place_of problem.now config.now source }
+{
+    match source {
+        Source::Happened(index) => at_or_zero(config.pending.as_slice(), index),
+        Source::Unknown(class) => at_or_zero(
+            problem.history.unknown.as_slice(),
+            at_or_zero(config.next.as_slice(), class),
+        ),
+    }
+}
+
+fn op_of(problem: &Problem, config: &Config, source: Source) -> RegOp
+    ensures { result ≡ rule.op_of problem.now config.now source }
+{
+    op_at(problem.ops, place_of(problem, config, source))
+}
+
+/// Whether an operation was invoked before another one ended.
+fn is_in_time(op: RegOp, other: RegOp) -> bool
+    ensures in_time { result ≡ true → op.invoked ≤ end_of other }
+    ensures late { result ≡ false → EndsBefore other.ended op.invoked }
+{
+    match other.ended {
+        Some(end) => op.invoked <= end,
+        None => true,
+    }
+}
+
+/// Whether the next operation of a class is left and may come before the stage's operation.
+fn is_ready(problem: &Problem, config: &Config, class: usize) -> bool
+    requires problem { IsProblem problem.now }
+    requires stage { config.now.stage < stages_in problem.now }
+    requires class { class < length problem.now.history.classes.items }
+    ensures ready { result ≡ true → IsThere problem.now config.now (source.Unknown class) }
+    ensures other { result ≡ false → IsReady problem.now config.now class → ⊥ }
+{
+    let next = at_or_zero(config.next.as_slice(), class);
+    let upto = class_at(problem.history.classes.as_slice(), class).upto;
+    let last = op_at(problem.ops, problem.history.stages[config.stage].place);
+    next < upto && is_in_time(op_of(problem, config, Source::Unknown(class)), last)
+}
+
+fn happened_needs(problem: &Problem, config: &Config, value: Option<i64>) -> bool
+    ensures { result ≡ false → (index : ℕ) → index < vec_len config.now.pending
+        → Needs (call_of problem.now config.now (source.Happened index)) value → ⊥ }
+{
+    for index in 0..config.pending.len() {
+        if needs(op_of(problem, config, Source::Happened(index)).call, value) {
+            return true;
+        }
+    }
+    false
+}
+
+fn unknown_needs(problem: &Problem, config: &Config, value: Option<i64>) -> bool
+    requires problem { IsProblem problem.now }
+    requires stage { config.now.stage < stages_in problem.now }
+    ensures { result ≡ false → (class : ℕ) → IsReady problem.now config.now class
+        → Needs (call_of problem.now config.now (source.Unknown class)) value → ⊥ }
+{
+    for class in 0..problem.history.classes.len() {
+        if needs(op_of(problem, config, Source::Unknown(class)).call, value)
+            && is_ready(problem, config, class)
+        {
+            return true;
+        }
+    }
+    false
+}
+
+/// Whether something that may come next needs this value.
+fn is_wanted(problem: &Problem, config: &Config, value: Option<i64>) -> bool
+    requires problem { IsProblem problem.now }
+    requires stage { config.now.stage < stages_in problem.now }
+    ensures { result ≡ false → IsWanted problem.now config.now value → ⊥ }
+{
+    happened_needs(problem, config, value) || unknown_needs(problem, config, value)
+}
+
+/// The first of the pending operations that may be placed at once and alone.
+fn settled(problem: &Problem, config: &Config) -> Option<usize>
+    requires problem { IsProblem problem.now }
+    ensures some { IfSome result (λ index. IsSettledAt problem.now config.now index) }
+    ensures none { result ≡ None → NoneSettled problem.now config.now (vec_len config.now.pending) }
+{
+    for index in 0..config.pending.len() {
+        if is_settled(
+            op_of(problem, config, Source::Happened(index)),
+            config.value,
+        ) {
+            return Some(index);
+        }
+    }
+    None
+}
+
+/// Puts a move last, where the value allows it.
+fn push_move(
+    problem: &Problem,
+    config: &Config,
+    source: Source,
+    moves: &mut Vec<Move>,
+) -> Result<(), AllocError>
+    requires { IsThere problem.now config.now source }
+    ensures more { OnOk result (MovesMore problem.now config.now moves.old.items moves.new.items) }
+    ensures among { OnOk result ((next : Option ℤ) → Allows (call_of problem.now config.now source) config.now.value next
+        → IsAmong moves.new.items source next) }
+{
+    if let Some(value) = after(op_of(problem, config, source).call, config.value) {
+        moves.push(Move { source, value })?;
+    }
+    Ok(())
+}
+
+fn push_happened(
+    problem: &Problem,
+    config: &Config,
+    moves: &mut Vec<Move>,
+) -> Result<(), AllocError>
+    ensures more { OnOk result (MovesMore problem.now config.now moves.old.items moves.new.items) }
+    ensures happened { OnOk result (HasHappened problem.now config.now moves.new.items (vec_len config.now.pending)) }
+{
+    for index in 0..config.pending.len() {
+        push_move(problem, config, Source::Happened(index), moves)?;
+    }
+    Ok(())
+}
+
+/// Whether the next operation of a class is worth a try: it may come next, and leads to a value that is wanted.
+fn is_worth(problem: &Problem, config: &Config, class: usize) -> bool
+    requires problem { IsProblem problem.now }
+    requires stage { config.now.stage < stages_in problem.now }
+    requires class { class < length problem.now.history.classes.items }
+    ensures ready { result ≡ true → IsThere problem.now config.now (source.Unknown class) }
+    ensures other { result ≡ false → IsReady problem.now config.now class → (next : Option ℤ)
+        → Allows (call_of problem.now config.now (source.Unknown class)) config.now.value next
+        → IsWanted problem.now config.now next → ⊥ }
+{
+    if !is_ready(problem, config, class) {
+        return false;
+    }
+    match after(
+        op_of(problem, config, Source::Unknown(class)).call,
+        config.value,
+    ) {
+        Some(next) => is_wanted(problem, config, next),
+        None => false,
+    }
+}
+
+fn push_unknown(problem: &Problem, config: &Config, moves: &mut Vec<Move>) -> Result<(), AllocError>
+    requires problem { IsProblem problem.now }
+    requires stage { config.now.stage < stages_in problem.now }
+    ensures more { OnOk result (MovesMore problem.now config.now moves.old.items moves.new.items) }
+    ensures unknown { OnOk result (HasUnknown problem.now config.now moves.new.items (length problem.now.history.classes.items)) }
+{
+    for class in 0..problem.history.classes.len() {
+        if is_worth(problem, config, class) {
+            push_move(problem, config, Source::Unknown(class), moves)?;
+        }
+    }
+    Ok(())
+}
+
+/// Finds the ways to go on from a configuration: what happened by invocation, then what is unknown.
+pub(crate) fn find_moves(
+    problem: &Problem,
+    config: &Config,
+    moves: &mut Vec<Move>,
+) -> Result<(), AllocError>
+    requires problem { IsProblem problem.now }
+    requires stage { config.now.stage < stages_in problem.now }
+    ensures { OnOk result (AreMoves problem.now config.now moves.new.items) }
+{
+    moves.clear();
+    if let Some(index) = settled(problem, config) {
+        push_move(problem, config, Source::Happened(index), moves)?;
+        return Ok(());
+    }
+    push_happened(problem, config, moves)?;
+    push_unknown(problem, config, moves)?;
+    Ok(())
+}

@@ -1,0 +1,111 @@
+//! Where a search that came to its end got stuck. `specs/Stuck.antt` says what it stands for.
+
+ghost use Rattle.std.specs.Prelude.{◌≡◌, ◌++◌, ℤ, ◌<◌, Option, length, reverse, IfOk, OnOk};
+ghost use Rattle.jh_linear.specs.Order.{Runs};
+ghost use Rattle.jh_linear.specs.Reached.{NameEarlier, order_at};
+ghost use Rattle.jh_linear.specs.Search.{IsExhausted, IsProblem};
+ghost use Rattle.jh_linear.specs.Stuck as rule;
+ghost use Rattle.jh_linear.specs.Stuck.{IsStuck};
+ghost use Rattle.jh_linear.specs.StuckInside as inside;
+ghost use Rattle.jh_linear.specs.StuckInside.{IsKnownUntil};
+
+use crate::history::Problem;
+use crate::order_check::op_at;
+use crate::register::{Outcome, RegOp, after};
+use crate::search::Search;
+use crate::verdict::{Order, Step, Stuck};
+use std::alloc::{AllocError, Global};
+
+/// The order that a step stands for.
+pub(crate) fn order_of(alloc: Global, steps: &[Step], last: usize) -> Result<Vec<usize>, AllocError>
+    requires earlier { NameEarlier steps.now }
+    requires last { last < length steps.now }
+    ensures { IfOk result (λ order. order.items ≡ order_at steps.now last) }
+{
+    let mut order = Vec::new(alloc);
+    let mut at = last;
+    'steps: while 0 < at {
+        let step = &steps[at];
+        push_reversed(&mut order, step.placed.as_slice())?;
+        at = step.parent;
+    }
+    order.reverse();
+    Ok(order)
+}
+
+/// Puts places last, from the last to the first.
+fn push_reversed(order: &mut Vec<usize>, placed: &[usize]) -> Result<(), AllocError>
+    ensures { OnOk result (order.new.items ≡ order.old.items ++ reverse placed.now) }
+{
+    let count = placed.len();
+    for done in 0..count {
+        order.push(placed[count - 1 - done])?;
+    }
+    Ok(())
+}
+
+/// Where an operation ended; one with no such place ends after all others.
+fn end_of(op: RegOp) -> usize
+    ensures { result ≡ rule.end_of op }
+{
+    op.ended.unwrap_or(usize::MAX)
+}
+
+/// Whether an operation is known to have happened, in a history that is cut at a place.
+fn is_known(op: RegOp, cut: usize) -> bool
+    ensures { result ≡ inside.is_known op cut }
+{
+    match op.outcome {
+        Outcome::Done => end_of(op) < cut,
+        _ => false,
+    }
+}
+
+/// How many of the places there are up to the last that is known to have happened.
+fn known_until(ops: &[RegOp], order: &[usize], cut: usize) -> usize
+    ensures { IsKnownUntil ops.now order.now cut result }
+{
+    let mut count = 0;
+    for (index, place) in order.iter().enumerate() {
+        if is_known(op_at(ops, *place), cut) {
+            count = index + 1;
+        }
+    }
+    count
+}
+
+/// The value that an order leads to.
+fn value_after(ops: &[RegOp], initial: Option<i64>, order: &[usize]) -> Option<i64>
+    ensures { (last : Option ℤ) → Runs ops.now initial order.now last → result ≡ last }
+{
+    let mut value = initial;
+    for place in order {
+        if let Some(next) = after(op_at(ops, *place).call, value) {
+            value = next;
+        }
+    }
+    value
+}
+
+/// Why there is no order, where nothing waits any more.
+pub(crate) fn stuck_of(
+    alloc: Global,
+    problem: &Problem,
+    search: &Search,
+) -> Result<Stuck, AllocError>
+    requires problem { IsProblem problem.now }
+    requires exhausted { IsExhausted problem.now search.now }
+    ensures { IfOk result (λ stuck. IsStuck problem.now.ops.now problem.now.initial stuck) }
+{
+    let furthest = &search.furthest;
+    let mut order = order_of(alloc, search.steps.as_slice(), furthest.step.parent)?;
+    order.extend_from_slice(furthest.step.placed.as_slice())?;
+    let end = end_of(op_at(problem.ops, problem.history.stages[furthest.stage].place));
+    order.truncate(known_until(problem.ops, order.as_slice(), end));
+    let value = value_after(problem.ops, problem.initial, order.as_slice());
+    Ok(Stuck {
+        end,
+        order: Order::of(order),
+        value,
+    })
+}
