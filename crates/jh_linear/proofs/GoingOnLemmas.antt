@@ -1,9 +1,9 @@
 -- A search that goes on: by one move and a walk, then by all of them.
-use Rattle.std.proofs.Common.{◌≡◌, ℕ, ◌+◌, ◌-◌, ◌<◌, ◌≤◌, true, Some, List, [], ◌∷◌, ◌++◌, length, get_or, slice_get, sym, ap, subst, ◌∙◌, inl, inr, arith}
-use Rattle.std.specs.Prelude.{Result, Ok, Err, IfOk}
+use Rattle.std.proofs.Common.{◌≡◌, ℕ, ◌+◌, ◌-◌, ◌<◌, ◌≤◌, true, false, Some, List, [], ◌∷◌, ◌++◌, length, get_or, slice_get, take, refl, sym, ap, subst, ◌∙◌, inl, inr, arith}
+use Rattle.std.specs.Prelude.{Result, Ok, Err, IfOk, if◌then◌else◌}
 use Rattle.std.proofs.lemmas.Bool.{cases_lt}
 use Rattle.std.proofs.lemmas.List.{length-append}
-use Rattle.std.proofs.lemmas.Option.{get_or_from_slice_get, slice_get-get_or}
+use Rattle.std.proofs.lemmas.Option.{get_or_from_slice_get}
 use Rattle.jh_linear.specs.declared.history.Problem.{Problem}
 use Rattle.jh_linear.specs.declared.config.Config.{Config}
 use Rattle.jh_linear.specs.declared.moves.Move.{Move}
@@ -12,15 +12,20 @@ use Rattle.jh_linear.specs.declared.moves.Source.TheVariants.{Happened, Unknown}
 use Rattle.jh_linear.specs.declared.search.Added.TheVariants.{Known, New}
 use Rattle.jh_linear.specs.declared.search.Furthest.{Furthest}
 use Rattle.jh_linear.specs.declared.search.Search.{Search}
+use Rattle.jh_linear.specs.declared.queue.Turn.{Turn}
 use Rattle.jh_linear.specs.declared.verdict.Step.{Step}
 use Rattle.jh_linear.specs.declared.judge.Progress.{Progress}
 use Rattle.jh_linear.specs.declared.judge.Progress.TheVariants.{More, Complete as Whole, Full as NoRoom}
 use Rattle.jh_linear.specs.declared.walk.WalkEnd.TheVariants.{Several, Stuck, Complete}
 use Rattle.jh_linear.specs.Order.{Allows, has, op_at}
 use Rattle.jh_linear.specs.Reached.{order_at}
-use Rattle.jh_linear.specs.Search.{Adds, AreMoves, AreSame, AreTried, CanReach, EndsAs, Entered, Grows, GrowsTo, HasGone, IsBegun, IsFurthest, IsGoneOn, IsMadeBy, IsMove, IsMoved, IsProblem, IsThere, IsWhole, LeadsOn, Notes, StandsFor, Tried, WasReached, call_of, class_at, end_at, invoked_at, next_at, place_of, stage_place, stages_in, unknown_at}
-use Rattle.jh_linear.proofs.GrowthLemmas.{below, grows_far, grows_none, grows_push, grows_trans, known_leads, leads_more, new_leads, stands_copy}
+use Rattle.jh_linear.specs.Search.{Adds, AreMoves, AreSame, AreTried, CanReach, EachIsMove, EndsAs, Entered, Grows, GrowsTo, HasGone, IsBegun, IsFurthest, IsGoneOn, IsMadeBy, IsMove, IsMoved, IsProblem, IsThere, IsWhole, LeadsOn, Notes, StandsFor, Taken, Tried, WasReached, WereTried, call_of, class_at, end_at, invoked_at, next_at, place_of, stage_place, stages_in, unknown_at}
+use Rattle.jh_linear.proofs.GrowthLemmas.{below, grows_far, grows_none, grows_order, grows_push, grows_trans, known_leads, leads_more, new_leads, stands_copy}
+use Rattle.jh_linear.specs.Turns.{IsWith, awaits, turns_left}
 use Rattle.jh_linear.proofs.LeadLemmas.{one_leads}
+use Rattle.jh_linear.proofs.MoveLemmas.{get_taken}
+use Rattle.jh_linear.proofs.TurnLemmas.{awaits_is, awaits_only, only_at, some_turn, turns_is, turns_only}
+use Rattle.std.proofs.lemmas.Bool.{false≢true}
 
 pub if_ok : {X E : Type 0} {P Q : X → Type 0} (r : Result X E) → ((x : X) → P x → Q x) → IfOk r P → IfOk r Q
 if_ok (Ok x) f h = f x h
@@ -50,7 +55,7 @@ move_same problem a b same move h = (
 -- ---- what is kept where lists are the same
 
 module _ (problem : Problem) where
-  pub grows_is : (cs : List Config) (ss : List Step) (ws : List ℕ) (f : Furthest) (a a' : List Config) (b b' : List Step) (c c' : List ℕ) (d d' : Furthest) → a' ≡ a → b' ≡ b → c' ≡ c → d' ≡ d
+  pub grows_is : (cs : List Config) (ss : List Step) (ws : List Turn) (f : Furthest) (a a' : List Config) (b b' : List Step) (c c' : List Turn) (d d' : Furthest) → a' ≡ a → b' ≡ b → c' ≡ c → d' ≡ d
       → Grows problem cs ss ws f a b c d → Grows problem cs ss ws f a' b' c' d'
   grows_is cs ss ws f a a' b b' c c' d d' p q r s h =
       subst (λ x. Grows problem cs ss ws f x b' c' d') (sym p) (subst (λ x. Grows problem cs ss ws f a x c' d') (sym q) (subst (λ x. Grows problem cs ss ws f a b x d') (sym r) (subst (λ x. Grows problem cs ss ws f a b c x) (sym s) h)))
@@ -70,7 +75,7 @@ module _ (problem : Problem) (stood : IsProblem problem) (old new : Search) (beg
       let cs = old.configs.keys in
       let ss = old.steps.items in
       let order : List ℕ = order_at ss at in (
-        grows_is problem cs ss old.waiting.items old.furthest cs new.configs.keys ss new.steps.items old.waiting.items new.waiting.items old.furthest new.furthest e.0 e.1 e.2 e.3 (grows_none problem stood cs ss old.waiting.items old.furthest begun.known begun.far begun.few),
+        grows_is problem cs ss old.waiting old.furthest cs new.configs.keys ss new.steps.items old.waiting new.waiting old.furthest new.furthest e.0 e.1 e.2 e.3 (grows_none problem stood cs ss old.waiting old.furthest begun.known begun.far begun.few),
         e.3,
         λ n reach. leads_is problem cs new.configs.keys ss new.steps.items (length order) n e.0 e.1
             (known_leads problem stood cs ss begun.known config e.4.1 e.4.0 (length order) n (order ++ placed) stands e.4.2 e.4.3 (longer_with order placed some) reach),
@@ -82,8 +87,8 @@ module _ (problem : Problem) (stood : IsProblem problem) (old new : Search) (beg
       let ss = old.steps.items in
       let order : List ℕ = order_at ss at in
       let step : Step = record { parent = at; placed = placed } in (
-        grows_is problem cs ss old.waiting.items old.furthest (cs ++ config ∷ []) new.configs.keys (ss ++ step ∷ []) new.steps.items (old.waiting.items ++ length cs ∷ []) new.waiting.items old.furthest new.furthest e.0 e.1 e.2 e.3
-            (grows_push problem stood cs ss old.waiting.items old.furthest config step begun.known begun.far begun.few e.5 low stands open'' near e.4),
+        grows_is problem cs ss old.waiting old.furthest (cs ++ config ∷ []) new.configs.keys (ss ++ step ∷ []) new.steps.items new.waiting new.waiting old.furthest new.furthest e.0 e.1 refl e.3
+            (grows_push problem stood cs ss old.waiting new.waiting old.furthest config step e.2.0 begun.known begun.far begun.few e.5 low stands open'' near e.4 e.2.1 (ap (λ b. if b then 1 else 2) e.2.2) e.2.3),
         e.3,
         λ n reach. leads_is problem (cs ++ config ∷ []) new.configs.keys (ss ++ step ∷ []) new.steps.items (length order) n e.0 e.1
             (new_leads problem stood cs ss begun.known config step (length order) n (longer_with order placed some) reach),
@@ -98,7 +103,7 @@ noted problem stood old new at placed config begun low stands open'' notes =
     let ss = old.steps.items in
     elim notes.furthest as (λ _. GrowsTo problem old new × (config.stage ≤ new.furthest.stage)) [
       | inl same ↦ (
-        grows_is problem cs ss old.waiting.items old.furthest cs new.configs.keys ss new.steps.items old.waiting.items new.waiting.items old.furthest new.furthest notes.configs notes.steps notes.waiting same.1 (grows_none problem stood cs ss old.waiting.items old.furthest begun.known begun.far begun.few),
+        grows_is problem cs ss old.waiting old.furthest cs new.configs.keys ss new.steps.items old.waiting new.waiting old.furthest new.furthest notes.configs notes.steps notes.waiting same.1 (grows_none problem stood cs ss old.waiting old.furthest begun.known begun.far begun.few),
         subst (λ (f : Furthest). config.stage ≤ f.stage) (sym same.1) same.0,
       )
       | inr more ↦
@@ -111,7 +116,7 @@ noted problem stood old new at placed config begun low stands open'' notes =
             passed = stands.known.passed;
             most = λ i c is. omega (arith, begun.far.most i c is, more.0);
           } in (
-            grows_is problem cs ss old.waiting.items old.furthest cs new.configs.keys ss new.steps.items old.waiting.items new.waiting.items here new.furthest notes.configs notes.steps notes.waiting more.1 (grows_far problem stood cs ss old.waiting.items old.furthest here begun.known far begun.few (omega (arith, more.0))),
+            grows_is problem cs ss old.waiting old.furthest cs new.configs.keys ss new.steps.items old.waiting new.waiting here new.furthest notes.configs notes.steps notes.waiting more.1 (grows_far problem stood cs ss old.waiting old.furthest here begun.known far begun.few (omega (arith, more.0))),
             subst (λ (f : Furthest). config.stage ≤ f.stage) (sym more.1) (omega arith),
           )
     ]
@@ -165,7 +170,7 @@ module _ (problem : Problem) (stood : IsProblem problem) (old : Search) (begun :
   pub tried_several : (mid new : Search) → EndsAs problem next placed Several → Notes old mid at placed next.stage → Entered problem mid new at placed next More → Tried problem old new at config step More
   tried_several mid new ends notes entered =
       let n = noted problem stood old mid at placed next begun at_low stands_next ends notes in (
-        grows_trans problem stood old.configs.keys old.steps.items old.waiting.items old.furthest mid.configs.keys mid.steps.items mid.waiting.items mid.furthest new.configs.keys new.steps.items new.waiting.items new.furthest n.0 entered.0,
+        grows_trans problem stood old.configs.keys old.steps.items old.waiting old.furthest mid.configs.keys mid.steps.items mid.waiting mid.furthest new.configs.keys new.steps.items new.waiting new.furthest n.0 entered.0,
         λ stages past few reach.
             let beyond : next.stage < stages = omega (arith, n.1, ap (λ (f : Furthest). f.stage) entered.1, past) in
             let there = reach_next stages beyond few reach in
@@ -183,7 +188,7 @@ module _ (problem : Problem) (stood : IsProblem problem) (old : Search) (begun :
 -- what led on past the furthest stage still does
 moved_more : (problem : Problem) (stood : IsProblem problem) (old mid new : Search) (at : ℕ) (config : Config) (move : Move) → IsBegun problem mid → GrowsTo problem mid new → IsMoved problem old mid at config move → IsMoved problem old new at config move
 moved_more problem stood old mid new at config move begun on moved stages past few reach =
-    leads_more problem stood mid.configs.keys mid.steps.items mid.waiting.items mid.furthest new.configs.keys new.steps.items new.waiting.items new.furthest (length (order_at old.steps.items at)) stages begun.known on
+    leads_more problem stood mid.configs.keys mid.steps.items mid.waiting mid.furthest new.configs.keys new.steps.items new.waiting new.furthest (length (order_at old.steps.items at)) stages begun.known on
     (moved stages (omega (arith, on.further, past)) few reach)
 
 pub tried_more : (problem : Problem) (stood : IsProblem problem) (old mid new : Search) (at : ℕ) (config : Config) (moves : List Move) (step index : ℕ) (d : Move) → at < length old.steps.items → index ≡ length moves - 1 - step → step < length moves → IsBegun problem mid → GrowsTo problem old mid → GrowsTo problem mid new
@@ -214,5 +219,42 @@ gone_all problem stood old new at config moves begun was on are tried other is s
     let led = one_leads problem stood stages few order config stands low moves are (subst (λ v. CanReach problem stages order v) held reach) in
     tried led.0 led.1 led.2 stages past few led.3
 
-pub read_at : (moves : List Move) (i : ℕ) (x : Move) → i < length moves → x ≡ get_or moves i x → slice_get moves i ≡ Some x
-read_at moves i x lt is = slice_get-get_or moves i x lt ∙ ap Some (sym is)
+-- ---- a turn
+
+-- each of the first so many is a move, where each of all is
+pub each_taken : (problem : Problem) (config : Config) (count : ℕ) (moves : List Move) → EachIsMove problem config moves → EachIsMove problem config (take count moves)
+each_taken problem config count moves each i move there = each i move (get_taken count moves i move there)
+
+module _ (problem : Problem) (stood : IsProblem problem) (old : Search) (turn : Turn) (config : Config) where
+  -- all was tried
+  pub taken_all : (new : Search) (moves : List Move) → IsBegun problem old → WasReached old turn.at config → AreMoves problem config moves → (progress : Progress) → WereTried problem old new turn.at config moves progress → Taken problem old new turn progress
+  taken_all new moves begun was are More tried = record {
+    again = [];
+    fewer = some_turn turn;
+    own = λ i h. absurd (false≢true h);
+    on = tried.0;
+    gone = inr (gone_all problem stood old new turn.at config moves begun was tried.0 are tried.1);
+  }
+  taken_all new moves begun was are (Whole placed) tried = tried
+  taken_all new moves begun was are NoRoom tried = tried
+
+  -- some was tried, and the configuration waits for its second turn
+  pub taken_first : (later : Turn) (mid new : Search) (moves : List Move) → turn.is_last ≡ false → later.at ≡ turn.at → later.is_last ≡ true → IsWith later old.waiting mid.waiting
+      → mid.configs ≡ old.configs → mid.steps ≡ old.steps → mid.furthest ≡ old.furthest → (progress : Progress) → WereTried problem mid new turn.at config moves progress → Taken problem old new turn progress
+  taken_first later mid new moves first at last with' e f g More tried =
+      let one : turns_left later ≡ 1 = ap (λ b. if b then 1 else 2) last in
+      let two : turns_left turn ≡ 2 = ap (λ b. if b then 1 else 2) first in
+      let on : Grows problem old.configs.keys old.steps.items mid.waiting old.furthest new.configs.keys new.steps.items new.waiting new.furthest =
+      subst (λ x. Grows problem x.keys old.steps.items mid.waiting old.furthest new.configs.keys new.steps.items new.waiting new.furthest) e
+      (subst (λ x. Grows problem mid.configs.keys x.items mid.waiting old.furthest new.configs.keys new.steps.items new.waiting new.furthest) f
+      (subst (λ x. Grows problem mid.configs.keys mid.steps.items mid.waiting x new.configs.keys new.steps.items new.waiting new.furthest) g tried.0)) in
+      record {
+        again = later ∷ [];
+        fewer = omega (arith, one, two, turns_only later);
+        own = λ i h. sym (only_at later i h) ∙ at;
+        on = grows_order problem stood old.configs.keys old.steps.items mid.waiting (later ∷ old.waiting) old.furthest new.configs.keys new.steps.items new.waiting new.furthest
+            (λ i. sym (awaits_is later old.waiting mid.waiting with' i)) (turns_is later old.waiting mid.waiting with') on;
+        gone = inl (subst (λ n. awaits (later ∷ []) n ≡ true) at (awaits_only later));
+      }
+  taken_first later mid new moves first at last with' e f g (Whole placed) tried = tried
+  taken_first later mid new moves first at last with' e f g NoRoom tried = tried

@@ -9,11 +9,14 @@ use Rattle.jh_linear.specs.declared.history.Problem.{Problem}
 use Rattle.jh_linear.specs.declared.history.Stage.{Stage}
 use Rattle.jh_linear.specs.declared.config.Config.{Config}
 use Rattle.jh_linear.specs.declared.search.Furthest.{Furthest}
+use Rattle.jh_linear.specs.declared.queue.Turn.{Turn}
 use Rattle.jh_linear.specs.declared.verdict.Step.{Step}
 use Rattle.jh_linear.specs.Order.{has}
 use Rattle.jh_linear.specs.Reached.{order_at, root}
 use Rattle.jh_linear.specs.Search.{AreSame, CanReach, Follows, Grows, IsAt, IsFurthest, IsProblem, IsSearch, LeadsOn, StandsFor, AreNext, arrived_by, furthest_order, stage_place, stages_in, without}
-use Rattle.jh_linear.proofs.SetLemmas.{has_append, has_kept, has_push_cases, has_self, has_without, in_without, not_true, same_tests, true_if}
+use Rattle.jh_linear.specs.Turns.{IsWith, awaits, turns_in, turns_left}
+use Rattle.jh_linear.proofs.TurnLemmas.{awaits_cases, awaits_kept, awaits_own, turns_more}
+use Rattle.jh_linear.proofs.SetLemmas.{has_append, has_without, in_without, not_true, same_tests, true_if}
 use Rattle.jh_linear.proofs.MoveLemmas.{get_cases, get_kept, get_last}
 use Rattle.jh_linear.proofs.NextLemmas.{same_next, same_unknown}
 use Rattle.jh_linear.proofs.OrderLemmas.{no_more}
@@ -171,11 +174,11 @@ module _ (problem : Problem) (stood : IsProblem problem) where
           ];
         }
 
-  abbrev pub On : List Config → List Step → List ℕ → Furthest → List Config → List Step → List ℕ → Furthest → Type 0
+  abbrev pub On : List Config → List Step → List Turn → Furthest → List Config → List Step → List Turn → Furthest → Type 0
   On = Grows problem
 
   -- a further order was noted
-  pub grows_far : (cs : List Config) (ss : List Step) (ws : List ℕ) (f f' : Furthest) → IsSearch problem cs ss → IsFurthest problem cs ss f' → length ss ≤ problem.budget → f.stage ≤ f'.stage → On cs ss ws f cs ss ws f'
+  pub grows_far : (cs : List Config) (ss : List Step) (ws : List Turn) (f f' : Furthest) → IsSearch problem cs ss → IsFurthest problem cs ss f' → length ss ≤ problem.budget → f.stage ≤ f'.stage → On cs ss ws f cs ss ws f'
   grows_far cs ss ws f f' known far few further = record {
     known = known;
     far = far;
@@ -190,13 +193,14 @@ module _ (problem : Problem) (stood : IsProblem problem) where
     balance = refl;
   }
 
-  pub grows_none : (cs : List Config) (ss : List Step) (ws : List ℕ) (f : Furthest) → IsSearch problem cs ss → IsFurthest problem cs ss f → length ss ≤ problem.budget → On cs ss ws f cs ss ws f
+  pub grows_none : (cs : List Config) (ss : List Step) (ws : List Turn) (f : Furthest) → IsSearch problem cs ss → IsFurthest problem cs ss f → length ss ≤ problem.budget → On cs ss ws f cs ss ws f
   grows_none cs ss ws f known far few = grows_far cs ss ws f f known far few (omega arith)
 
-  pub grows_push : (cs : List Config) (ss : List Step) (ws : List ℕ) (f : Furthest) (config : Config) (step : Step) → IsSearch problem cs ss → IsFurthest problem cs ss f → length ss ≤ problem.budget → (length ss ≡ problem.budget → ⊥) → step.parent < length ss
+  pub grows_push : (cs : List Config) (ss : List Step) (ws ws' : List Turn) (f : Furthest) (config : Config) (step : Step) (turn : Turn) → IsSearch problem cs ss → IsFurthest problem cs ss f → length ss ≤ problem.budget → (length ss ≡ problem.budget → ⊥) → step.parent < length ss
       → StandsFor problem (order_at ss step.parent ++ step.placed) config → config.stage < stages_in problem → config.stage ≤ f.stage → ((i : ℕ) (found : Config) → slice_get cs i ≡ Some found → AreSame config found → ⊥)
-      → On cs ss ws f (cs ++ config ∷ []) (ss ++ step ∷ []) (ws ++ length cs ∷ []) f
-  grows_push cs ss ws f config step known far few room lt stands open'' low none =
+      → turn.at ≡ length cs → turns_left turn ≡ 2 → IsWith turn ws ws'
+      → On cs ss ws f (cs ++ config ∷ []) (ss ++ step ∷ []) ws' f
+  grows_push cs ss ws ws' f config step turn known far few room lt stands open'' low none at two with' =
       record {
         known = search_push cs ss known config step lt stands open'' none;
         far = far_push cs ss known f config step far low;
@@ -205,19 +209,19 @@ module _ (problem : Problem) (stood : IsProblem problem) where
         further = omega arith;
         orders = λ i low'. order_kept ss step i low';
         kept = λ i c is. get_kept cs config c i is;
-        fresh = λ i c is. elim (get_cases cs config c i is) as (λ _. (slice_get cs i ≡ Some c) ⊎ (has (ws ++ length cs ∷ []) i ≡ true)) [
+        fresh = λ i c is. elim (get_cases cs config c i is) as (λ _. (slice_get cs i ≡ Some c) ⊎ (awaits ws' i ≡ true)) [
           | inl old ↦ inl old
-          | inr new ↦ inr (subst (λ n. has (ws ++ length cs ∷ []) n ≡ true) (sym new.0) (has_self ws (length cs)))
+          | inr new ↦ inr (subst (λ n. awaits ws' n ≡ true) (at ∙ sym new.0) (awaits_own turn ws ws' with'))
         ];
-        waits = λ i h. has_kept ws (length cs) i h;
-        inside = λ g i h. elim (has_push_cases ws (length cs) i h) as (λ _. i < length (ss ++ step ∷ [])) [
+        waits = λ i h. awaits_kept turn ws ws' with' i h;
+        inside = λ g i h. elim (awaits_cases turn ws ws' with' i h) as (λ _. i < length (ss ++ step ∷ [])) [
           | inl old ↦ omega (arith, g i old, length_push ss step)
-          | inr new ↦ omega (arith, new, known.sizes, length_push ss step)
+          | inr new ↦ omega (arith, new, at, known.sizes, length_push ss step)
         ];
-        balance = omega (arith, length_push ss step, length_push ws (length cs));
+        balance = omega (arith, length_push ss step, turns_more turn ws ws' with', two);
       }
 
-  pub grows_trans : (cs : List Config) (ss : List Step) (ws : List ℕ) (f : Furthest) (cs' : List Config) (ss' : List Step) (ws' : List ℕ) (f' : Furthest) (cs'' : List Config) (ss'' : List Step) (ws'' : List ℕ) (f'' : Furthest)
+  pub grows_trans : (cs : List Config) (ss : List Step) (ws : List Turn) (f : Furthest) (cs' : List Config) (ss' : List Step) (ws' : List Turn) (f' : Furthest) (cs'' : List Config) (ss'' : List Step) (ws'' : List Turn) (f'' : Furthest)
       → On cs ss ws f cs' ss' ws' f' → On cs' ss' ws' f' cs'' ss'' ws'' f'' → On cs ss ws f cs'' ss'' ws'' f''
   grows_trans cs ss ws f cs' ss' ws' f' cs'' ss'' ws'' f'' a b = record {
     known = b.known;
@@ -227,8 +231,8 @@ module _ (problem : Problem) (stood : IsProblem problem) where
     further = omega (arith, a.further, b.further);
     orders = λ i lt. b.orders i (omega (arith, a.longer, lt)) ∙ a.orders i lt;
     kept = λ i c is. b.kept i c (a.kept i c is);
-    fresh = λ i c is. elim (b.fresh i c is) as (λ _. (slice_get cs i ≡ Some c) ⊎ (has ws'' i ≡ true)) [
-      | inl old ↦ elim (a.fresh i c old) as (λ _. (slice_get cs i ≡ Some c) ⊎ (has ws'' i ≡ true)) [ inl older ↦ inl older | inr w ↦ inr (b.waits i w) ]
+    fresh = λ i c is. elim (b.fresh i c is) as (λ _. (slice_get cs i ≡ Some c) ⊎ (awaits ws'' i ≡ true)) [
+      | inl old ↦ elim (a.fresh i c old) as (λ _. (slice_get cs i ≡ Some c) ⊎ (awaits ws'' i ≡ true)) [ inl older ↦ inl older | inr w ↦ inr (b.waits i w) ]
       | inr w ↦ inr w
     ];
     waits = λ i h. b.waits i (a.waits i h);
@@ -236,8 +240,25 @@ module _ (problem : Problem) (stood : IsProblem problem) where
     balance = omega (arith, a.balance, b.balance);
   }
 
+  -- in which order the turns were does not matter
+  pub grows_order : (cs : List Config) (ss : List Step) (ws ws° : List Turn) (f : Furthest) (cs' : List Config) (ss' : List Step) (ws' : List Turn) (f' : Furthest)
+      → ((i : ℕ) → awaits ws i ≡ awaits ws° i) → turns_in ws ≡ turns_in ws° → On cs ss ws f cs' ss' ws' f' → On cs ss ws° f cs' ss' ws' f'
+  grows_order cs ss ws ws° f cs' ss' ws' f' same count on = record {
+    known = on.known;
+    far = on.far;
+    few = on.few;
+    longer = on.longer;
+    further = on.further;
+    orders = on.orders;
+    kept = on.kept;
+    fresh = on.fresh;
+    waits = λ i h. on.waits i (same i ∙ h);
+    inside = λ g i h. on.inside (λ j k. g j (sym (same j) ∙ k)) i h;
+    balance = omega (arith, on.balance, count);
+  }
+
   -- what led on still does
-  pub leads_more : (cs : List Config) (ss : List Step) (ws : List ℕ) (f : Furthest) (cs' : List Config) (ss' : List Step) (ws' : List ℕ) (f' : Furthest) (size n : ℕ) → IsSearch problem cs ss → On cs ss ws f cs' ss' ws' f' → LeadsOn problem cs ss size n → LeadsOn problem cs' ss' size n
+  pub leads_more : (cs : List Config) (ss : List Step) (ws : List Turn) (f : Furthest) (cs' : List Config) (ss' : List Step) (ws' : List Turn) (f' : Furthest) (size n : ℕ) → IsSearch problem cs ss → On cs ss ws f cs' ss' ws' f' → LeadsOn problem cs ss size n → LeadsOn problem cs' ss' size n
   leads_more cs ss ws f cs' ss' ws' f' size n known on led =
       let same : order_at ss' led.0 ≡ order_at ss led.0 = on.orders led.0 (below cs ss known led.0 led.1 led.2) in
       (led.0, led.1, on.kept led.0 led.1 led.2, subst (λ o. size < length o) (sym same) led.3, subst (λ o. CanReach problem n o led.1.value) (sym same) led.4)

@@ -1,5 +1,5 @@
 -- The search at its start and at its end.
-use Rattle.std.proofs.Common.{◌≡◌, Vec, Global, ℕ, zero, suc, ◌+◌, ◌<◌, ◌≤◌, ℤ, true, eqb, Option, Some, List, [], ◌∷◌, ◌++◌, length, slice_get, refl, sym, ap, subst, ◌∙◌, inl, inr, arith}
+use Rattle.std.proofs.Common.{◌≡◌, ℕ, zero, suc, ◌+◌, ◌-◌, ◌*◌, ◌<◌, ◌≤◌, ℤ, true, eqb, Option, Some, List, [], ◌∷◌, ◌++◌, length, slice_get, refl, sym, ap, subst, ◌∙◌, inl, inr, arith}
 use Rattle.std.specs.Prelude.{◌⊎◌}
 use Rattle.std.specs.List.{list_any}
 use Rattle.std.proofs.lemmas.Bool.{false≢true}
@@ -7,13 +7,16 @@ use Rattle.std.proofs.lemmas.Map.Steps.{length-le_from_distinct_below}
 use Rattle.jh_linear.specs.declared.register.RegOp.{RegOp}
 use Rattle.jh_linear.specs.declared.history.Problem.{Problem}
 use Rattle.jh_linear.specs.declared.config.Config.{Config}
+use Rattle.jh_linear.specs.declared.queue.Turn.{Turn}
 use Rattle.jh_linear.specs.declared.search.Furthest.{Furthest}
 use Rattle.jh_linear.specs.declared.search.Search.{Search}
 use Rattle.jh_linear.specs.declared.verdict.Step.{Step}
 use Rattle.jh_linear.specs.Order.{has, IsDone, IsOrder}
 use Rattle.jh_linear.specs.Reached.{AreReached, order_at, root}
-use Rattle.jh_linear.specs.Search.{CanReach, Grows, IsExhausted, IsFull, IsFurthest, IsGoneOn, IsKept, IsProblem, IsSearch, IsWhole, StandsFor, stages_in}
-use Rattle.jh_linear.proofs.SetLemmas.{has_kept, has_one, has_push_cases, place_of}
+use Rattle.jh_linear.specs.Search.{CanReach, IsExhausted, IsFull, IsFurthest, IsGoneOn, IsKept, IsProblem, IsSearch, IsTurnTaken, IsWhole, StandsFor, stages_in}
+use Rattle.jh_linear.specs.Turns.{IsWith, awaits, turns_in}
+use Rattle.jh_linear.proofs.SetLemmas.{or_cases, or_left, or_right, place_of}
+use Rattle.jh_linear.proofs.TurnLemmas.{awaits_both, awaits_cases, awaits_kept, awaits_own, turns_both, turns_more}
 use Rattle.jh_linear.proofs.MoveLemmas.{get_cases, nothing_there}
 use Rattle.jh_linear.proofs.PartialLemmas.{distinct, one_last, partial, places, runs}
 use Rattle.jh_linear.proofs.OrderLemmas.{member_is}
@@ -65,9 +68,9 @@ module _ (problem : Problem) (stood : IsProblem problem) where
     most = λ i c is. omega (arith, zero', ap (λ (d : Config). d.stage) (only_one config c i is).1);
   }
 
-  pub kept_start : (search : Search) (config : Config) → search.configs.keys ≡ config ∷ [] → search.steps.items ≡ root ∷ [] → search.waiting.items ≡ 0 ∷ [] → search.furthest ≡ first_far → 0 < problem.budget → 0 < stages_in problem
+  pub kept_start : (search : Search) (config : Config) (turn : Turn) → search.configs.keys ≡ config ∷ [] → search.steps.items ≡ root ∷ [] → turn.at ≡ 0 → IsWith turn [] search.waiting → search.furthest ≡ first_far → 0 < problem.budget → 0 < stages_in problem
       → StandsFor problem [] config → config.stage ≡ 0 → config.value ≡ problem.initial → IsKept problem search
-  kept_start search config e f g h room some stands stage value =
+  kept_start search config turn e f at with' h room some stands stage value =
       let low : config.stage < stages_in problem = omega (arith, stage, some) in
       record {
         begun = record {
@@ -76,58 +79,80 @@ module _ (problem : Problem) (stood : IsProblem problem) where
           few = omega (arith, ap (λ (ss : List Step). length ss) f, room);
         };
         first = (config, subst (λ (cs : List Config). slice_get cs 0 ≡ Some config) (sym e) refl, value);
-        inside = λ i there. omega (arith, has_one 0 i (subst (λ ws. has ws i ≡ true) g there), ap (λ (ss : List Step). length ss) f);
-        gone = λ i c is. inl (subst (λ ws. has ws i ≡ true) (sym g) (subst (λ n. has (0 ∷ []) n ≡ true) (sym (only_one config c i (subst (λ (cs : List Config). slice_get cs i ≡ Some c) e is)).0) refl));
+        inside = λ i there. elim (awaits_cases turn [] search.waiting with' i there) as (λ _. i < length search.steps.items) [
+          | inl none ↦ absurd (false≢true none)
+          | inr own ↦ omega (arith, own, at, ap (λ (ss : List Step). length ss) f)
+        ];
+        gone = λ i c is. inl (subst (λ n. awaits search.waiting n ≡ true) (at ∙ sym (only_one config c i (subst (λ (cs : List Config). slice_get cs i ≡ Some c) e is)).0) (awaits_own turn [] search.waiting with'));
       }
 
-  -- one configuration was taken from those that wait, and was gone on from
-  pub kept_on : (old new : Search) (at : ℕ) (left : List ℕ) → old.waiting.items ≡ left ++ at ∷ [] → IsKept problem old
-      → Grows problem old.configs.keys old.steps.items left old.furthest new.configs.keys new.steps.items new.waiting.items new.furthest
-      → ((config : Config) → slice_get old.configs.keys at ≡ Some config → IsGoneOn problem new.configs.keys new.steps.items new.furthest.stage (order_at old.steps.items at) config.value)
-      → IsKept problem new
-  kept_on old new at left is kept on went =
-      let known = kept.begun.known in
-      let ss = old.steps.items in
-      let ss' = new.steps.items in
-      let cs' = new.configs.keys in
-      record {
-        begun = record { known = on.known; far = on.far; few = on.few };
-        first = (kept.first.0, on.kept 0 kept.first.0 kept.first.1, kept.first.2);
-        inside = on.inside (λ i h. kept.inside i (subst (λ w. has w i ≡ true) (sym is) (has_kept left at i h)));
-        gone = λ i c there. elim (on.fresh i c there) as (λ _. (has new.waiting.items i ≡ true) ⊎ IsGoneOn problem cs' ss' new.furthest.stage (order_at ss' i) c.value) [
-          | inr waits ↦ inl waits
-          | inl before ↦
-              let low : i < length ss = below problem stood old.configs.keys ss known i c before in
-              let same : order_at ss' i ≡ order_at ss i = on.orders i low in
-              elim (kept.gone i c before) as (λ _. (has new.waiting.items i ≡ true) ⊎ IsGoneOn problem cs' ss' new.furthest.stage (order_at ss' i) c.value) [
-                | inl waited ↦ elim (has_push_cases left at i (subst (λ w. has w i ≡ true) is waited)) as (λ _. (has new.waiting.items i ≡ true) ⊎ IsGoneOn problem cs' ss' new.furthest.stage (order_at ss' i) c.value) [
-                  | inl still ↦ inl (on.waits i still)
-                  | inr here ↦ inr (subst (λ o. IsGoneOn problem cs' ss' new.furthest.stage o c.value) (sym same) (subst (λ n. IsGoneOn problem cs' ss' new.furthest.stage (order_at ss n) c.value) here (went c (subst (λ n. slice_get old.configs.keys n ≡ Some c) (sym here) before))))
-                ]
-                | inr went' ↦ inr (subst (λ o. IsGoneOn problem cs' ss' new.furthest.stage o c.value) (sym same) (λ n past few reach.
-                    leads_more problem stood old.configs.keys ss left old.furthest cs' ss' new.waiting.items new.furthest (length (order_at ss i)) n known on
-                    (went' n (omega (arith, on.further, past)) few reach)))
-              ]
-        ];
-      }
+  -- the search, with these turns to come
+  abbrev pub waiting_for : Search → List Turn → Search
+  waiting_for search turns = record { configs = search.configs; steps = search.steps; waiting = turns; furthest = search.furthest }
+
+  -- a turn was taken from those that are to come
+  module _ (old new : Search) (turn : Turn) (rest : List Turn) (with' : IsWith turn rest old.waiting) (kept : IsKept problem old) (taken : IsTurnTaken problem (waiting_for old rest) new turn) where
+    -- what was to have a turn has one, or has had it
+    still_waits : (i : ℕ) → awaits rest i ≡ true → awaits new.waiting i ≡ true
+    still_waits i h = taken.on.waits i (awaits_both taken.again rest i ∙ or_right (awaits taken.again i) (awaits rest i) h)
+
+    again_waits : awaits taken.again turn.at ≡ true → awaits new.waiting turn.at ≡ true
+    again_waits h = taken.on.waits turn.at (awaits_both taken.again rest turn.at ∙ or_left (awaits taken.again turn.at) (awaits rest turn.at) h)
+
+    left_inside : (i : ℕ) → awaits (taken.again ++ rest) i ≡ true → i < length old.steps.items
+    left_inside i h = elim (or_cases (awaits taken.again i) (awaits rest i) (sym (awaits_both taken.again rest i) ∙ h)) as (λ _. i < length old.steps.items) [
+      | inl own ↦ omega (arith, taken.own i own, kept.inside turn.at (awaits_own turn rest old.waiting with'))
+      | inr other ↦ kept.inside i (awaits_kept turn rest old.waiting with' i other)
+    ]
+
+    abbrev Done : ℕ → Config → Type 0
+    Done i c = (awaits new.waiting i ≡ true) ⊎ IsGoneOn problem new.configs.keys new.steps.items new.furthest.stage (order_at new.steps.items i) c.value
+
+    turn_done : (c : Config) → slice_get old.configs.keys turn.at ≡ Some c → order_at new.steps.items turn.at ≡ order_at old.steps.items turn.at → Done turn.at c
+    turn_done c is same = elim taken.gone as (λ _. Done turn.at c) [
+      | inl once ↦ inl (again_waits once)
+      | inr went ↦ inr (subst (λ o. IsGoneOn problem new.configs.keys new.steps.items new.furthest.stage o c.value) (sym same) (went c is))
+    ]
+
+    old_done : (i : ℕ) (c : Config) → slice_get old.configs.keys i ≡ Some c → Done i c
+    old_done i c is =
+        let same : order_at new.steps.items i ≡ order_at old.steps.items i = taken.on.orders i (below problem stood old.configs.keys old.steps.items kept.begun.known i c is) in
+        elim (kept.gone i c is) as (λ _. Done i c) [
+          | inl waited ↦ elim (awaits_cases turn rest old.waiting with' i waited) as (λ _. Done i c) [
+            | inl still ↦ inl (still_waits i still)
+            | inr here ↦ subst (λ n. slice_get old.configs.keys n ≡ Some c → order_at new.steps.items n ≡ order_at old.steps.items n → Done n c) here (turn_done c) is same
+          ]
+          | inr went ↦ inr (subst (λ o. IsGoneOn problem new.configs.keys new.steps.items new.furthest.stage o c.value) (sym same) (λ n past few reach.
+              leads_more problem stood old.configs.keys old.steps.items (taken.again ++ rest) old.furthest new.configs.keys new.steps.items new.waiting new.furthest (length (order_at old.steps.items i)) n kept.begun.known taken.on
+              (went n (omega (arith, taken.on.further, past)) few reach)))
+        ]
+
+    pub kept_on : IsKept problem new
+    kept_on = record {
+      begun = record { known = taken.on.known; far = taken.on.far; few = taken.on.few };
+      first = (kept.first.0, taken.on.kept 0 kept.first.0 kept.first.1, kept.first.2);
+      inside = taken.on.inside left_inside;
+      gone = λ i c there. elim (taken.on.fresh i c there) as (λ _. Done i c) [ inl before ↦ old_done i c before | inr waits ↦ inl waits ];
+    }
+
+    -- fewer turns are left, with those of what may be entered yet
+    pub fewer_turns : 2 * (problem.budget - length new.steps.items) + turns_in new.waiting < 2 * (problem.budget - length old.steps.items) + turns_in old.waiting
+    fewer_turns = omega (arith, taken.on.balance, taken.on.few, taken.on.longer, taken.fewer, turns_both taken.again rest, turns_more turn rest old.waiting with')
 
   -- nothing waits, as before
-  pub kept_emptied : (old new : Search) → old.waiting.items ≡ [] → new.waiting.items ≡ [] → new.configs ≡ old.configs → new.steps ≡ old.steps → new.furthest ≡ old.furthest → IsKept problem old → IsExhausted problem new
-  kept_emptied old new none none' e f g kept =
-      let same : (w : Vec ℕ Global) → w.items ≡ [] → IsKept problem (record { configs = old.configs; steps = old.steps; waiting = w; furthest = old.furthest }) = λ w empty. record {
-        begun = record { known = kept.begun.known; far = kept.begun.far; few = kept.begun.few };
-        first = kept.first;
-        inside = λ i h. absurd (false≢true (subst (λ ws. has ws i ≡ true) empty h));
-        gone = λ i c is. elim (kept.gone i c is) as (λ _. (has w.items i ≡ true) ⊎ IsGoneOn problem old.configs.keys old.steps.items old.furthest.stage (order_at old.steps.items i) c.value) [
-          | inl waits ↦ absurd (false≢true (subst (λ ws. has ws i ≡ true) none waits))
-          | inr went ↦ inr went
-        ];
-      } in (
-        subst (λ x. IsKept problem (record { configs = x; steps = new.steps; waiting = new.waiting; furthest = new.furthest })) (sym e)
-            (subst (λ x. IsKept problem (record { configs = old.configs; steps = x; waiting = new.waiting; furthest = new.furthest })) (sym f)
-            (subst (λ x. IsKept problem (record { configs = old.configs; steps = old.steps; waiting = new.waiting; furthest = x })) (sym g) (same new.waiting none'))),
-        none',
-      )
+  pub kept_emptied : (old : Search) (left : List Turn) → old.waiting ≡ [] → left ≡ [] → IsKept problem old → IsExhausted problem (waiting_for old left)
+  kept_emptied old left none none' kept = (
+    record {
+      begun = record { known = kept.begun.known; far = kept.begun.far; few = kept.begun.few };
+      first = kept.first;
+      inside = λ i h. absurd (false≢true (subst (λ ws. awaits ws i ≡ true) none' h));
+      gone = λ i c is. elim (kept.gone i c is) as (λ _. (awaits left i ≡ true) ⊎ IsGoneOn problem old.configs.keys old.steps.items old.furthest.stage (order_at old.steps.items i) c.value) [
+        | inl waits ↦ absurd (false≢true (subst (λ ws. awaits ws i ≡ true) none waits))
+        | inr went ↦ inr went
+      ];
+    },
+    none',
+  )
 
   -- the budget is used up
   pub all_reached : (search : Search) → IsFull problem search → AreReached problem.ops.now problem.initial problem.budget search.steps.items
@@ -170,7 +195,7 @@ module _ (problem : Problem) (stood : IsProblem problem) where
         omega (arith, long, short)
     climb (suc fuel) i c is long reach =
         elim (done.0.gone i c is) as (λ _. ⊥) [
-          | inl waits ↦ false≢true (subst (λ w. has w i ≡ true) done.1 waits)
+          | inl waits ↦ false≢true (subst (λ w. awaits w i ≡ true) done.1 waits)
           | inr went ↦ let led = went n past few reach in climb fuel led.0 led.1 led.2 (omega (arith, long, led.3)) led.4
         ]
 

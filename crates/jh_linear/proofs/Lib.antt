@@ -8,6 +8,7 @@ pub mod MoveLemmas
 pub mod WalkLemmas
 pub mod KeyLemmas
 pub mod StepLemmas
+pub mod TurnLemmas
 pub mod PartialLemmas
 pub mod OrderLemmas
 pub mod EntryLemmas

@@ -1,5 +1,5 @@
 -- Lists of moves that grow.
-use Rattle.std.proofs.Common.{◌≡◌, ℕ, zero, suc, ◌+◌, ◌<◌, ℤ, Option, Some, List, [], ◌∷◌, ◌++◌, length, get_or, slice_get, refl, sym, ap, subst, inl, inr, arith}
+use Rattle.std.proofs.Common.{◌≡◌, ℕ, zero, suc, ◌+◌, ◌<◌, ℤ, Option, Some, List, [], ◌∷◌, ◌++◌, length, get_or, slice_get, take, refl, sym, ap, subst, inl, inr, arith}
 use Rattle.std.specs.Prelude.{◌⊎◌}
 use Rattle.std.proofs.lemmas.Bool.{cases_lt}
 use Rattle.jh_linear.specs.declared.history.Problem.{Problem}
@@ -30,6 +30,13 @@ get_cases (z ∷ xs) y x (suc i) h = elim (get_cases xs y x i h) as (λ _. (slic
 pub nothing_there : {X : Type 0} (i : ℕ) (x : X) → slice_get {X = X} [] i ≡ Some x → ⊥
 nothing_there zero x h = let bad = h in cc
 nothing_there (suc i) x h = let bad = h in cc
+
+-- what is among the first so many is there
+pub get_taken : {X : Type 0} (n : ℕ) (xs : List X) (i : ℕ) (x : X) → slice_get (take n xs) i ≡ Some x → slice_get xs i ≡ Some x
+get_taken zero xs i x h = absurd (nothing_there i x h)
+get_taken (suc n) [] i x h = h
+get_taken (suc n) (y ∷ xs) zero x h = h
+get_taken (suc n) (y ∷ xs) (suc i) x h = get_taken n xs i x h
 
 module _ (problem : Problem) (config : Config) where
   pub more_same : (moves : List Move) → MovesMore problem config moves moves

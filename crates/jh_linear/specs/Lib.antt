@@ -5,4 +5,5 @@ pub mod Reached
 pub mod Search
 pub mod Stuck
 pub mod StuckInside
+pub mod Turns
 pub mod Verdict

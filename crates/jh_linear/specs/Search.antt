@@ -1,5 +1,5 @@
 -- What the search for an order keeps: proofs rest on it, and no public clause names it.
-use Rattle.std.specs.Prelude.{◌⊎◌, ◌≡◌, ◌==◌, ℕ, ◌+◌, ◌<◌, ◌≤◌, ℤ, Bool, true, false, not, Option, Some, None, List, [], ◌∷◌, ◌++◌, length, take, drop, ◌-◌, slice_index_or, slice_get, nat_lt}
+use Rattle.std.specs.Prelude.{◌⊎◌, ◌≡◌, ◌==◌, ℕ, ◌+◌, ◌*◌, ◌<◌, ◌≤◌, ℤ, Bool, true, false, not, Option, Some, None, List, [], ◌∷◌, ◌++◌, length, take, drop, ◌-◌, slice_index_or, slice_get, nat_lt}
 use Rattle.std.specs.List.{All, IsDistinct, filter, Contains}
 use Rattle.std.specs.Prelude.{map, unwrap_or, ◌^◌}
 use Rattle.jh_linear.specs.declared.register.Outcome.{Outcome}
@@ -22,9 +22,11 @@ use Rattle.jh_linear.specs.declared.walk.WalkEnd.{WalkEnd}
 use Rattle.jh_linear.specs.declared.walk.WalkEnd.TheVariants.{Several, Stuck, Complete}
 use Rattle.jh_linear.specs.declared.verdict.Step.{Step}
 use Rattle.jh_linear.specs.declared.judge.Progress.{Progress}
+use Rattle.jh_linear.specs.declared.queue.Turn.{Turn}
 use Rattle.jh_linear.specs.declared.judge.Progress.TheVariants.{More, Complete as Whole, Full as NoRoom}
 use Rattle.jh_linear.specs.Order.{op_at, HasAllDone, IsPossible, IsDone, IsBefore, has, Allows, EndAfterInvoked}
 use Rattle.jh_linear.specs.Reached.{order_at, root, NameEarlier}
+use Rattle.jh_linear.specs.Turns.{IsWith, awaits, turns_in, turns_left}
 
 -- ---- orders, place by place
 
@@ -374,13 +376,13 @@ IsGoneOn problem configs steps stage order value =
 -- What a step adds: a configuration that was known, a new one, or none, since there is no room for one that is new.
 abbrev pub Adds : Search → Search → ℕ → ℕ → List ℕ → Config → Added → Type 0
 Adds old new budget parent placed config Known =
-    (new.configs.keys ≡ old.configs.keys) × (new.steps.items ≡ old.steps.items) × (new.waiting.items ≡ old.waiting.items)
+    (new.configs.keys ≡ old.configs.keys) × (new.steps.items ≡ old.steps.items) × (new.waiting ≡ old.waiting)
     × (new.furthest ≡ old.furthest)
     × ((i : ℕ) × (found : Config) × (slice_get old.configs.keys i ≡ Some found) × AreSame config found)
 Adds old new budget parent placed config New =
     (new.configs.keys ≡ old.configs.keys ++ config ∷ [])
     × (new.steps.items ≡ old.steps.items ++ record { parent = parent; placed = placed } ∷ [])
-    × (new.waiting.items ≡ old.waiting.items ++ length old.configs.keys ∷ [])
+    × ((turn : Turn) × (turn.at ≡ length old.configs.keys) × (turn.is_last ≡ false) × IsWith turn old.waiting new.waiting)
     × (new.furthest ≡ old.furthest)
     × ((i : ℕ) (found : Config) → slice_get old.configs.keys i ≡ Some found → AreSame config found → ⊥)
     × ((length old.steps.items ≡ budget) → ⊥)
@@ -390,13 +392,13 @@ Adds old new budget parent placed config Full = (new.steps.items ≡ old.steps.i
 pub record Notes (old new : Search) (parent : ℕ) (placed : List ℕ) (stage : ℕ) : Type 0 where
   pub configs : new.configs.keys ≡ old.configs.keys
   pub steps : new.steps.items ≡ old.steps.items
-  pub waiting : new.waiting.items ≡ old.waiting.items
+  pub waiting : new.waiting ≡ old.waiting
   pub furthest : ((stage ≤ old.furthest.stage) × (new.furthest ≡ old.furthest))
       ⊎ ((old.furthest.stage < stage) × (new.furthest ≡ record { stage = stage; step = record { parent = parent; placed = placed } }))
 
 -- What is kept of the lists while the search goes on.
-pub record Grows (problem : Problem) (configs : List Config) (steps : List Step) (waiting : List ℕ) (furthest : Furthest)
-    (configs' : List Config) (steps' : List Step) (waiting' : List ℕ) (furthest' : Furthest) : Type 0 where
+pub record Grows (problem : Problem) (configs : List Config) (steps : List Step) (waiting : List Turn) (furthest : Furthest)
+    (configs' : List Config) (steps' : List Step) (waiting' : List Turn) (furthest' : Furthest) : Type 0 where
   pub known : IsSearch problem configs' steps'
   pub far : IsFurthest problem configs' steps' furthest'
   pub few : length steps' ≤ problem.budget
@@ -404,15 +406,15 @@ pub record Grows (problem : Problem) (configs : List Config) (steps : List Step)
   pub further : furthest.stage ≤ furthest'.stage
   pub orders : (i : ℕ) → i < length steps → order_at steps' i ≡ order_at steps i
   pub kept : (i : ℕ) (config : Config) → slice_get configs i ≡ Some config → slice_get configs' i ≡ Some config
-  pub fresh : (i : ℕ) (config : Config) → slice_get configs' i ≡ Some config → (slice_get configs i ≡ Some config) ⊎ (has waiting' i ≡ true)
-  pub waits : (i : ℕ) → has waiting i ≡ true → has waiting' i ≡ true
-  pub inside : ((i : ℕ) → has waiting i ≡ true → i < length steps) → (i : ℕ) → has waiting' i ≡ true → i < length steps'
-  pub balance : length waiting' + length steps ≡ length waiting + length steps'
+  pub fresh : (i : ℕ) (config : Config) → slice_get configs' i ≡ Some config → (slice_get configs i ≡ Some config) ⊎ (awaits waiting' i ≡ true)
+  pub waits : (i : ℕ) → awaits waiting i ≡ true → awaits waiting' i ≡ true
+  pub inside : ((i : ℕ) → awaits waiting i ≡ true → i < length steps) → (i : ℕ) → awaits waiting' i ≡ true → i < length steps'
+  pub balance : turns_in waiting' + 2 * length steps ≡ turns_in waiting + 2 * length steps'
 
 abbrev pub GrowsTo : Problem → Search → Search → Type 0
 GrowsTo problem old new =
-    Grows problem old.configs.keys old.steps.items old.waiting.items old.furthest
-    new.configs.keys new.steps.items new.waiting.items new.furthest
+    Grows problem old.configs.keys old.steps.items old.waiting old.furthest
+    new.configs.keys new.steps.items new.waiting new.furthest
 
 -- An order that passes every stage.
 abbrev pub IsWhole : Problem → List ℕ → Type 0
@@ -455,33 +457,57 @@ Tried problem old new at config move More = GrowsTo problem old new × IsMoved p
 Tried problem old new at config move (Whole placed) = (new.steps.items ≡ old.steps.items) × IsWhole problem (order_at old.steps.items at ++ placed.items)
 Tried problem old new at config move NoRoom = IsFull problem new
 
--- What came of going on from the configuration at an index.
-abbrev pub Expanded : Problem → Search → Search → ℕ → Progress → Type 0
-Expanded problem old new at More =
-    GrowsTo problem old new
-    × ((config : Config) → slice_get old.configs.keys at ≡ Some config
-    → IsGoneOn problem new.configs.keys new.steps.items new.furthest.stage (order_at old.steps.items at) config.value)
-Expanded problem old new at (Whole placed) = IsWhole problem (order_at new.steps.items at ++ placed.items)
-    × (at < length new.steps.items) × NameEarlier new.steps.items
-Expanded problem old new at NoRoom = IsFull problem new
+-- each of the moves was tried from the configuration at an index
+abbrev pub EachTried : Problem → Search → Search → ℕ → Config → List Move → Type 0
+EachTried problem old new at config moves =
+    (i : ℕ) (move : Move) → slice_get moves i ≡ Some move → IsMoved problem old new at config move
 
 -- the last of the moves, this many, were tried from the configuration at an index
 abbrev pub AreTried : Problem → Search → Search → ℕ → Config → List Move → ℕ → Type 0
 AreTried problem old new at config moves count =
     (i : ℕ) (move : Move) → length moves ≤ i + count → slice_get moves i ≡ Some move → IsMoved problem old new at config move
 
+-- What is known where an order is complete, which goes on from the configuration at an index.
+abbrev pub IsCompleted : Problem → Search → ℕ → List ℕ → Type 0
+IsCompleted problem search at placed =
+    IsWhole problem (order_at search.steps.items at ++ placed)
+    × (at < length search.steps.items) × NameEarlier search.steps.items
+
+-- What came of trying moves from the configuration at an index.
+abbrev pub WereTried : Problem → Search → Search → ℕ → Config → List Move → Progress → Type 0
+WereTried problem old new at config moves More = GrowsTo problem old new × EachTried problem old new at config moves
+WereTried problem old new at config moves (Whole placed) = IsCompleted problem new at placed.items
+WereTried problem old new at config moves NoRoom = IsFull problem new
+
+-- A turn was taken: its configuration was gone on from, or it waits once more.
+pub record IsTurnTaken (problem : Problem) (old new : Search) (turn : Turn) : Type 0 where
+  pub again : List Turn
+  pub fewer : turns_in again < turns_left turn
+  pub own : (i : ℕ) → awaits again i ≡ true → i ≡ turn.at
+  pub on : Grows problem old.configs.keys old.steps.items (again ++ old.waiting) old.furthest
+      new.configs.keys new.steps.items new.waiting new.furthest
+  pub gone : (awaits again turn.at ≡ true)
+      ⊎ ((config : Config) → slice_get old.configs.keys turn.at ≡ Some config
+      → IsGoneOn problem new.configs.keys new.steps.items new.furthest.stage (order_at old.steps.items turn.at) config.value)
+
+-- What came of a turn.
+abbrev pub Taken : Problem → Search → Search → Turn → Progress → Type 0
+Taken problem old new turn More = IsTurnTaken problem old new turn
+Taken problem old new turn (Whole placed) = IsCompleted problem new turn.at placed.items
+Taken problem old new turn NoRoom = IsFull problem new
+
 -- Each configuration that was reached waits or was gone on from.
 pub record IsKept (problem : Problem) (search : Search) : Type 0 where
   pub begun : IsBegun problem search
   pub first : (config : Config) × (slice_get search.configs.keys 0 ≡ Some config) × (config.value ≡ problem.initial)
-  pub inside : (i : ℕ) → has search.waiting.items i ≡ true → i < length search.steps.items
+  pub inside : (i : ℕ) → awaits search.waiting i ≡ true → i < length search.steps.items
   pub gone : (i : ℕ) (config : Config) → slice_get search.configs.keys i ≡ Some config
-      → (has search.waiting.items i ≡ true)
+      → (awaits search.waiting i ≡ true)
       ⊎ IsGoneOn problem search.configs.keys search.steps.items search.furthest.stage (order_at search.steps.items i) config.value
 
 -- Nothing waits any more.
 abbrev pub IsExhausted : Problem → Search → Type 0
-IsExhausted problem search = IsKept problem search × (search.waiting.items ≡ [])
+IsExhausted problem search = IsKept problem search × (search.waiting ≡ [])
 
 -- ---- sorting
 

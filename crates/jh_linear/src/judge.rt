@@ -1,21 +1,21 @@
 //! The search for an order.
 //!
-//! It goes through configurations, each reached once, with the one that it was reached from. `specs/Search.antt` says what
-//! it keeps: each configuration that was reached waits, or all that may lead past the furthest stage was reached from it.
-//! Where none waits, no order passes that stage. Which one is taken next may be changed: here the deepest is taken first,
-//! and of the ways to go on from it first what happened and was invoked first.
+//! It goes through configurations, each entered once, with the one that it was reached from. `specs/Search.antt` says what
+//! it keeps: each configuration that was entered waits, or all that may lead past the furthest stage was reached from it.
+//! Where none waits, no order passes that stage. Which one is taken next may be changed: `queue.rt` has the ranks.
 
-ghost use Rattle.std.specs.Prelude.{◌≡◌, ◌++◌, ◌<◌, ◌≤◌, length, slice_get, Some, vec_len, IfOk};
+ghost use Rattle.std.specs.Prelude.{◌≡◌, ◌++◌, ◌<◌, ◌≤◌, length, slice_get, Some, vec_len, IfOk, false};
 ghost use Rattle.jh_linear.specs.declared.config.Config.{Config};
 ghost use Rattle.jh_linear.specs.Order.{EndAfterInvoked};
 ghost use Rattle.jh_linear.specs.Reached.{order_at, root};
 ghost use Rattle.jh_linear.specs.Verdict.{IsJudged};
-ghost use Rattle.jh_linear.specs.Search.{AreSame, Entered, Expanded, IsBegun, IsKept, IsMove, IsProblem, StandsFor, Tried};
-ghost use Rattle.jh_linear.specs.Search.{WasReached, stages_in};
+ghost use Rattle.jh_linear.specs.Search.{AreSame, EachIsMove, Entered, IsBegun, IsKept, IsMove, IsProblem, StandsFor, Taken};
+ghost use Rattle.jh_linear.specs.Search.{Tried, WasReached, WereTried, stages_in};
 
 use crate::config::{Config, copy_config, first_config};
 use crate::history::{Problem, history_of};
-use crate::moves::{Move, find_moves};
+use crate::moves::{Move, Source, find_moves};
+use crate::queue::{Queue, Turn, rank_of, second_turn};
 use crate::register::RegOp;
 use crate::search::{Added, Furthest, Search, add, note};
 use crate::stuck::{order_of, stuck_of};
@@ -82,28 +82,29 @@ fn enter(
     requires far { config.stage ≤ search.old.furthest.stage }
     ensures { IfOk result (λ progress. Entered problem.now search.old search.new at placed.items config progress) }
 {
-    match add(search, problem.budget, at, placed, config)? {
+    let rank = rank_of(problem, &config);
+    match add(search, problem.budget, at, placed, config, rank)? {
         Added::Known => Ok(Progress::More),
         Added::New => Ok(Progress::More),
         Added::Full => Ok(Progress::Full),
     }
 }
 
-/// Goes on from a configuration by each of its moves, at last by the first, so that its configuration is taken first.
-fn expand(
+/// Goes on from a configuration by these moves, at last by the first, which of the same rank is taken up first.
+fn try_moves(
     alloc: Global,
     problem: &Problem,
     search: &mut Search,
     at: usize,
     config: &Config,
+    moves: &[Move],
 ) -> Result<Progress, AllocError>
     requires problem { IsProblem problem.now }
     requires begun { IsBegun problem.now search.old }
     requires reached { WasReached search.old at config.now }
-    ensures { IfOk result (λ progress. Expanded problem.now search.old search.new at progress) }
+    requires moves { EachIsMove problem.now config.now moves.now }
+    ensures { IfOk result (λ progress. WereTried problem.now search.old search.new at config.now moves.now progress) }
 {
-    let mut moves = Vec::new(alloc);
-    find_moves(problem, config, &mut moves)?;
     let count = moves.len();
     for step in 0..count {
         match try_move(alloc, problem, search, at, config, moves[count - 1 - step])? {
@@ -113,6 +114,61 @@ fn expand(
         }
     }
     Ok(Progress::More)
+}
+
+/// How many of the moves are of operations that happened; these come first.
+fn happened_in(moves: &[Move]) -> usize
+    ensures { result ≤ length moves.now }
+{
+    for (index, step) in moves.iter().enumerate() {
+        if let Source::Unknown(_) = step.source {
+            return index;
+        }
+    }
+    moves.len()
+}
+
+/// Goes on from a configuration by what happened, and lets it wait for its second turn.
+fn put_off(
+    alloc: Global,
+    problem: &Problem,
+    search: &mut Search,
+    turn: Turn,
+    config: &Config,
+    happened: &[Move],
+) -> Result<Progress, AllocError>
+    requires problem { IsProblem problem.now }
+    requires begun { IsBegun problem.now search.old }
+    requires reached { WasReached search.old turn.at config.now }
+    requires moves { EachIsMove problem.now config.now happened.now }
+    requires first { turn.is_last ≡ false }
+    ensures { IfOk result (λ progress. Taken problem.now search.old search.new turn progress) }
+{
+    search.waiting.push(second_turn(problem, turn))?;
+    try_moves(alloc, problem, search, turn.at, config, happened)
+}
+
+/// Goes on from a configuration whose turn it is.
+fn expand(
+    alloc: Global,
+    problem: &Problem,
+    search: &mut Search,
+    turn: Turn,
+    config: &Config,
+) -> Result<Progress, AllocError>
+    requires problem { IsProblem problem.now }
+    requires begun { IsBegun problem.now search.old }
+    requires reached { WasReached search.old turn.at config.now }
+    ensures { IfOk result (λ progress. Taken problem.now search.old search.new turn progress) }
+{
+    let mut found = Vec::new(alloc);
+    find_moves(problem, config, &mut found)?;
+    let moves = found.as_slice();
+    let happened = happened_in(moves);
+    if turn.is_last || happened == moves.len() {
+        return try_moves(alloc, problem, search, turn.at, config, moves);
+    }
+    put_off(alloc, problem, search, turn, config, &moves[..happened])
 }
 
 /// A search at its start, with the configuration in which nothing is placed.
@@ -127,7 +183,12 @@ fn start(alloc: Global, problem: &Problem) -> Result<Search, AllocError>
     configs.insert(config)?;
     let mut steps = Vec::new(alloc);
     steps.push(first_step(alloc))?;
-    let waiting = vec![in alloc; 0]?;
+    let mut waiting = Queue::new(alloc);
+    waiting.push(Turn {
+        rank: 0,
+        at: 0,
+        is_last: false,
+    })?;
     Ok(Search {
         configs,
         steps,
@@ -186,13 +247,13 @@ pub fn check(
         budget,
     };
     let mut search = start(alloc, &problem)?;
-    'searching: while let Some(at) = search.waiting.pop() {
-        let config = config_at(alloc, &search.configs, at)?;
-        match expand(alloc, &problem, &mut search, at, &config)? {
+    'searching: while let Some(turn) = search.waiting.pop() {
+        let config = config_at(alloc, &search.configs, turn.at)?;
+        match expand(alloc, &problem, &mut search, turn, &config)? {
             Progress::More => {}
             Progress::Full => return Ok(LinVerdict::Unknown(Reached::of(search.steps))),
             Progress::Complete(placed) => {
-                let mut order = order_of(alloc, search.steps.as_slice(), at)?;
+                let mut order = order_of(alloc, search.steps.as_slice(), turn.at)?;
                 order.extend_from_slice(placed.as_slice())?;
                 return Ok(LinVerdict::Valid(Order::of(order)));
             }

@@ -8,6 +8,7 @@ mod history;
 mod judge;
 mod moves;
 mod order_check;
+mod queue;
 mod register;
 mod search;
 mod stuck;

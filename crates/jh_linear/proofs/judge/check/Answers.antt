@@ -1,18 +1,15 @@
-use Rattle.std.proofs.Common.{rules, ◌≡◌, ℕ, ◌<◌, ◌++◌, List, [], ◌∷◌, length, true, refl, sym, ap, subst, ◌∙◌, arith}
+use Rattle.std.proofs.Common.{◌≡◌, ◌<◌, ◌++◌, List, length, true, sym, ap, subst, ◌∙◌, arith}
 use Rattle.std.proofs.lemmas.Grind.{common_steps}
 use Rattle.jh_linear.specs.declared.history.Problem.{Problem}
 use Rattle.jh_linear.specs.declared.verdict.Step.{Step}
-use Rattle.jh_linear.specs.Order.{has, IsOrder}
+use Rattle.jh_linear.specs.Order.{IsOrder}
 use Rattle.jh_linear.specs.Reached.{order_at, AreReached, NameEarlier}
 use Rattle.jh_linear.specs.Search.{IsProblem}
-use Rattle.jh_linear.proofs.SetLemmas.{has_self}
-use Rattle.jh_linear.proofs.JudgeLemmas.{empty_order, is_order, all_reached, kept_emptied, kept_on}
+use Rattle.jh_linear.specs.Turns.{awaits}
+use Rattle.jh_linear.proofs.JudgeLemmas.{empty_order, is_order, all_reached, fewer_turns, kept_emptied, kept_on}
 use Rattle.jh_linear.proofs.StuckLemmas.{no_order}
+use Rattle.jh_linear.proofs.TurnLemmas.{awaits_own}
 use Rattle.jh_linear.proofs.judge.check.Goals as goal
-
-is_empty_list : (xs : List ℕ) → length xs ≡ 0 → xs ≡ []
-is_empty_list [] h = refl
-is_empty_list (x ∷ xs) h = absurd (omega (arith, h))
 
 pub returns-then-is_empty : goal.returns-then-is_empty
 returns-then-is_empty c =
@@ -28,8 +25,8 @@ start-requires-clause-problem c = record { ends = c.requires.ends; history = c.i
 pub config_at-requires : goal.config_at-requires
 config_at-requires c =
     let kept = c.searching.invariant in
-    let there : has c.searching.search.waiting.items c.in-Some.at ≡ true = subst (λ w. has w c.in-Some.at ≡ true) (sym c.in-Some.ensures.items) (has_self c.pop.new.self.items c.in-Some.at) in
-    omega (arith, kept.inside c.in-Some.at there, kept.begun.known.sizes)
+    let there : awaits c.searching.search.waiting c.in-Some.turn.at ≡ true = awaits_own c.in-Some.turn c.pop.new.self c.searching.search.waiting c.in-Some.ensures.some in
+    omega (arith, kept.inside c.in-Some.turn.at there, kept.begun.known.sizes)
 
 pub expand-requires-clause-problem : goal.expand-requires-clause-problem
 expand-requires-clause-problem c = record { ends = c.requires.ends; history = c.in_ok-history.ensures.history; classes = c.in_ok-history.ensures.classes }
@@ -59,7 +56,7 @@ order_of-requires-clause-earlier c =
 pub order_of-requires-clause-last : goal.order_of-requires-clause-last
 order_of-requires-clause-last c =
     let e = rw c.in-Complete.is at c.in_ok-expand.ensures in
-    subst (λ (ss : List Step). c.in-Some.at < length ss) (sym c.as_slice.ensures.value) e.1
+    subst (λ (ss : List Step). c.in-Some.turn.at < length ss) (sym c.as_slice.ensures.value) e.1
 
 pub returns-in-Complete : goal.returns-in-Complete
 returns-in-Complete c =
@@ -68,9 +65,9 @@ returns-in-Complete c =
     let e = rw c.in-Complete.is at c.in_ok-expand.ensures in
     record {
       judged = subst (λ o. IsOrder c.args.ops.now c.args.initial o)
-          (sym (c.of-in-Complete.ensures ∙ c.in_ok-extend_from_slice-in-Complete.ensures.items ∙ ap (λ o. o ++ c.as_slice-in-Complete.result.now) (c.in_ok-order-in-Complete.ensures ∙ ap (λ (ss : List Step). order_at ss c.in-Some.at) c.as_slice.ensures.value)
-          ∙ ap (λ o. order_at c.expand.new.search.steps.items c.in-Some.at ++ o) c.as_slice-in-Complete.ensures.value))
-          (is_order p stood (order_at c.expand.new.search.steps.items c.in-Some.at ++ c.in-Complete.placed.items) e.0);
+          (sym (c.of-in-Complete.ensures ∙ c.in_ok-extend_from_slice-in-Complete.ensures.items ∙ ap (λ o. o ++ c.as_slice-in-Complete.result.now) (c.in_ok-order-in-Complete.ensures ∙ ap (λ (ss : List Step). order_at ss c.in-Some.turn.at) c.as_slice.ensures.value)
+          ∙ ap (λ o. order_at c.expand.new.search.steps.items c.in-Some.turn.at ++ o) c.as_slice-in-Complete.ensures.value))
+          (is_order p stood (order_at c.expand.new.search.steps.items c.in-Some.turn.at ++ c.in-Complete.placed.items) e.0);
     }
 
 pub searching-preserved : goal.searching-preserved
@@ -78,7 +75,14 @@ searching-preserved c =
     let p : Problem = record { ops = c.args.ops; initial = c.args.initial; history = c.in_ok-history.history; budget = c.args.budget } in
     let stood : IsProblem p = record { ends = c.requires.ends; history = c.in_ok-history.ensures.history; classes = c.in_ok-history.ensures.classes } in
     let e = rw c.in-More.is at c.in_ok-expand.ensures in
-    kept_on p stood c.searching.search c.expand.new.search c.in-Some.at c.pop.new.self.items c.in-Some.ensures.items c.searching.invariant e.0 e.1
+    kept_on p stood c.searching.search c.expand.new.search c.in-Some.turn c.pop.new.self c.in-Some.ensures.some c.searching.invariant e
+
+pub searching-smaller : goal.searching-smaller
+searching-smaller c =
+    let p : Problem = record { ops = c.args.ops; initial = c.args.initial; history = c.in_ok-history.history; budget = c.args.budget } in
+    let stood : IsProblem p = record { ends = c.requires.ends; history = c.in_ok-history.ensures.history; classes = c.in_ok-history.ensures.classes } in
+    let e = rw c.in-More.is at c.in_ok-expand.ensures in
+    fewer_turns p stood c.searching.search c.expand.new.search c.in-Some.turn c.pop.new.self c.in-Some.ensures.some c.searching.invariant e
 
 pub stuck_of-requires-clause-problem : goal.stuck_of-requires-clause-problem
 stuck_of-requires-clause-problem c = record { ends = c.requires.ends; history = c.in_ok-history.ensures.history; classes = c.in_ok-history.ensures.classes }
@@ -87,15 +91,10 @@ pub stuck_of-requires-clause-exhausted : goal.stuck_of-requires-clause-exhausted
 stuck_of-requires-clause-exhausted c =
     let p : Problem = record { ops = c.args.ops; initial = c.args.initial; history = c.in_ok-history.history; budget = c.args.budget } in
     let stood : IsProblem p = record { ends = c.requires.ends; history = c.in_ok-history.ensures.history; classes = c.in_ok-history.ensures.classes } in
-    let s = c.searching.search in
-    let before : length s.waiting.items ≡ 0 = search rules in
-    let after : length c.pop.new.self.items ≡ 0 = search rules in
-    kept_emptied p stood s (record { configs = s.configs; steps = s.steps; waiting = c.pop.new.self; furthest = s.furthest }) (is_empty_list s.waiting.items before) (is_empty_list c.pop.new.self.items after) refl refl refl c.searching.invariant
+    kept_emptied p stood c.searching.search c.pop.new.self c.in_default.ensures.none.0 c.in_default.ensures.none.1 c.searching.invariant
 
 pub returns : goal.returns
 returns c =
     let p : Problem = record { ops = c.args.ops; initial = c.args.initial; history = c.in_ok-history.history; budget = c.args.budget } in
     let stood : IsProblem p = record { ends = c.requires.ends; history = c.in_ok-history.ensures.history; classes = c.in_ok-history.ensures.classes } in
-    let s = c.searching.search in
-    let before : length s.waiting.items ≡ 0 = search rules in
-    record { judged = (no_order p stood s (c.searching.invariant, is_empty_list s.waiting.items before), c.in_ok-stuck_of.ensures) }
+    record { judged = (no_order p stood c.searching.search (c.searching.invariant, c.in_default.ensures.none.0), c.in_ok-stuck_of.ensures) }
