@@ -7,3 +7,4 @@ pub mod Stuck
 pub mod StuckInside
 pub mod Turns
 pub mod Verdict
+pub mod Wanted

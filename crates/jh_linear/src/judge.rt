@@ -51,7 +51,7 @@ fn try_move(
     let mut placed = Vec::new(alloc);
     make(problem, &mut next, &mut placed, step)?;
     let mut moves = Vec::new(alloc);
-    let end = walk(problem, &mut next, &mut placed, &mut moves)?;
+    let end = walk(alloc, problem, &mut next, &mut placed, &mut moves)?;
     match end {
         WalkEnd::Complete => Ok(Progress::Complete(placed)),
         WalkEnd::Stuck => {
@@ -148,7 +148,7 @@ fn put_off(
     try_moves(alloc, problem, search, turn.at, config, happened)
 }
 
-/// Goes on from a configuration whose turn it is.
+/// Goes on from a configuration whose turn it is: at the first by what happened, where that is not all, else by all.
 fn expand(
     alloc: Global,
     problem: &Problem,
@@ -162,7 +162,7 @@ fn expand(
     ensures { IfOk result (λ progress. Taken problem.now search.old search.new turn progress) }
 {
     let mut found = Vec::new(alloc);
-    find_moves(problem, config, &mut found)?;
+    find_moves(alloc, problem, config, &mut found)?;
     let moves = found.as_slice();
     let happened = happened_in(moves);
     if turn.is_last || happened == moves.len() {
@@ -222,8 +222,8 @@ fn first_step(alloc: Global) -> Step
 ///
 /// Let w be how many operations may be in flight at once, and u how many different calls are not known to have happened.
 /// Takes O(n log n) for n operations, and for each configuration w + u words of memory, those for what was placed since
-/// the one before it, and for each way to go on from it (w + u) * (w + u) steps for each operation that is placed until
-/// there are several ways again. docs/register.md says more.
+/// the one before it, and for each way to go on from it w + u steps for each operation that is placed until there are
+/// several ways again. docs/register.md says more.
 pub fn check(
     alloc: Global,
     ops: &[RegOp],

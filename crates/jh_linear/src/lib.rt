@@ -14,6 +14,7 @@ mod search;
 mod stuck;
 mod verdict;
 mod walk;
+mod wanted;
 
 pub use calls::{RegOpsError, reg_ops};
 pub use judge::check;

@@ -8,15 +8,17 @@ ghost use Rattle.std.specs.Prelude.{◌≡◌, ℕ, ℤ, ◌<◌, ◌≤◌, len
 ghost use Rattle.jh_linear.specs.Order.{Allows, EndsBefore};
 ghost use Rattle.jh_linear.specs.Search as rule;
 ghost use Rattle.jh_linear.specs.Search.{AreMoves, HasHappened, HasUnknown, IsProblem, IsReady, IsSettledAt, IsThere, IsWanted};
-ghost use Rattle.jh_linear.specs.Search.{IsAmong, MovesMore, Needs, NoneSettled, call_of, stages_in};
+ghost use Rattle.jh_linear.specs.Search.{IsAmong, MovesMore, NoneSettled, call_of, stages_in};
+ghost use Rattle.jh_linear.specs.Wanted.{Holds};
 ghost use Rattle.jh_linear.specs.Stuck.{end_of};
 ghost use Rattle.jh_linear.specs.declared.moves.Source.TheVariants as source;
 
 use crate::config::Config;
 use crate::history::{Class, Problem};
 use crate::order_check::op_at;
-use crate::register::{RegOp, after, is_settled, needs};
-use std::alloc::AllocError;
+use crate::register::{RegOp, after, is_settled};
+use crate::wanted::{Wanted, is_held, wanted_by};
+use std::alloc::{AllocError, Global};
 
 /// Where a move takes its operation from.
 #[derive(Clone, Copy, Debug)]
@@ -65,7 +67,7 @@ pub(crate) fn place_of(problem: &Problem, config: &Config, source: Source) -> us
     }
 }
 
-fn op_of(problem: &Problem, config: &Config, source: Source) -> RegOp
+pub(crate) fn op_of(problem: &Problem, config: &Config, source: Source) -> RegOp
     ensures { result ≡ rule.op_of problem.now config.now source }
 {
     op_at(problem.ops, place_of(problem, config, source))
@@ -83,7 +85,7 @@ fn is_in_time(op: RegOp, other: RegOp) -> bool
 }
 
 /// Whether the next operation of a class is left and may come before the stage's operation.
-fn is_ready(problem: &Problem, config: &Config, class: usize) -> bool
+pub(crate) fn is_ready(problem: &Problem, config: &Config, class: usize) -> bool
     requires problem { IsProblem problem.now }
     requires stage { config.now.stage < stages_in problem.now }
     requires class { class < length problem.now.history.classes.items }
@@ -94,43 +96,6 @@ fn is_ready(problem: &Problem, config: &Config, class: usize) -> bool
     let upto = class_at(problem.history.classes.as_slice(), class).upto;
     let last = op_at(problem.ops, problem.history.stages[config.stage].place);
     next < upto && is_in_time(op_of(problem, config, Source::Unknown(class)), last)
-}
-
-fn happened_needs(problem: &Problem, config: &Config, value: Option<i64>) -> bool
-    ensures { result ≡ false → (index : ℕ) → index < vec_len config.now.pending
-        → Needs (call_of problem.now config.now (source.Happened index)) value → ⊥ }
-{
-    for index in 0..config.pending.len() {
-        if needs(op_of(problem, config, Source::Happened(index)).call, value) {
-            return true;
-        }
-    }
-    false
-}
-
-fn unknown_needs(problem: &Problem, config: &Config, value: Option<i64>) -> bool
-    requires problem { IsProblem problem.now }
-    requires stage { config.now.stage < stages_in problem.now }
-    ensures { result ≡ false → (class : ℕ) → IsReady problem.now config.now class
-        → Needs (call_of problem.now config.now (source.Unknown class)) value → ⊥ }
-{
-    for class in 0..problem.history.classes.len() {
-        if needs(op_of(problem, config, Source::Unknown(class)).call, value)
-            && is_ready(problem, config, class)
-        {
-            return true;
-        }
-    }
-    false
-}
-
-/// Whether something that may come next needs this value.
-fn is_wanted(problem: &Problem, config: &Config, value: Option<i64>) -> bool
-    requires problem { IsProblem problem.now }
-    requires stage { config.now.stage < stages_in problem.now }
-    ensures { result ≡ false → IsWanted problem.now config.now value → ⊥ }
-{
-    happened_needs(problem, config, value) || unknown_needs(problem, config, value)
 }
 
 /// The first of the pending operations that may be placed at once and alone.
@@ -183,14 +148,14 @@ fn push_happened(
 }
 
 /// Whether the next operation of a class is worth a try: it may come next, and leads to a value that is wanted.
-fn is_worth(problem: &Problem, config: &Config, class: usize) -> bool
+fn is_worth(problem: &Problem, config: &Config, wanted: &Wanted, class: usize) -> bool
     requires problem { IsProblem problem.now }
     requires stage { config.now.stage < stages_in problem.now }
     requires class { class < length problem.now.history.classes.items }
     ensures ready { result ≡ true → IsThere problem.now config.now (source.Unknown class) }
     ensures other { result ≡ false → IsReady problem.now config.now class → (next : Option ℤ)
         → Allows (call_of problem.now config.now (source.Unknown class)) config.now.value next
-        → IsWanted problem.now config.now next → ⊥ }
+        → Holds wanted.now next → ⊥ }
 {
     if !is_ready(problem, config, class) {
         return false;
@@ -199,19 +164,25 @@ fn is_worth(problem: &Problem, config: &Config, class: usize) -> bool
         op_of(problem, config, Source::Unknown(class)).call,
         config.value,
     ) {
-        Some(next) => is_wanted(problem, config, next),
+        Some(next) => is_held(wanted, next),
         None => false,
     }
 }
 
-fn push_unknown(problem: &Problem, config: &Config, moves: &mut Vec<Move>) -> Result<(), AllocError>
+fn push_unknown(
+    problem: &Problem,
+    config: &Config,
+    wanted: &Wanted,
+    moves: &mut Vec<Move>,
+) -> Result<(), AllocError>
     requires problem { IsProblem problem.now }
     requires stage { config.now.stage < stages_in problem.now }
+    requires wanted { (value : Option ℤ) → IsWanted problem.now config.now value → Holds wanted.now value }
     ensures more { OnOk result (MovesMore problem.now config.now moves.old.items moves.new.items) }
     ensures unknown { OnOk result (HasUnknown problem.now config.now moves.new.items (length problem.now.history.classes.items)) }
 {
     for class in 0..problem.history.classes.len() {
-        if is_worth(problem, config, class) {
+        if is_worth(problem, config, wanted, class) {
             push_move(problem, config, Source::Unknown(class), moves)?;
         }
     }
@@ -220,6 +191,7 @@ fn push_unknown(problem: &Problem, config: &Config, moves: &mut Vec<Move>) -> Re
 
 /// Finds the ways to go on from a configuration: what happened by invocation, then what is unknown.
 pub(crate) fn find_moves(
+    alloc: Global,
     problem: &Problem,
     config: &Config,
     moves: &mut Vec<Move>,
@@ -234,6 +206,10 @@ pub(crate) fn find_moves(
         return Ok(());
     }
     push_happened(problem, config, moves)?;
-    push_unknown(problem, config, moves)?;
+    if problem.history.classes.is_empty() {
+        return Ok(());
+    }
+    let wanted = wanted_by(alloc, problem, config)?;
+    push_unknown(problem, config, &wanted, moves)?;
     Ok(())
 }

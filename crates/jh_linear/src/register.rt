@@ -75,14 +75,14 @@ pub(crate) fn is_unknown(op: RegOp) -> bool
     }
 }
 
-/// Whether a call finds this value, and no other would do.
-pub(crate) fn needs(call: RegCall, value: Option<i64>) -> bool
-    ensures { IsTrue result ↔ Needs call value }
+/// The value that a call needs, where no other would do.
+pub(crate) fn needed(call: RegCall) -> Option<i64>
+    ensures { (value : Option ℤ) → Needs call value → (x : ℤ) × (result ≡ Some x) × (value ≡ Some x) }
 {
     match call {
-        RegCall::Read(Some(seen)) => value_is(value, seen),
-        RegCall::Cas(old, _) => value_is(value, old),
-        _ => false,
+        RegCall::Read(seen) => seen,
+        RegCall::Cas(old, _) => Some(old),
+        RegCall::Write(_) => None,
     }
 }
 

@@ -7,7 +7,7 @@ ghost use Rattle.jh_linear.specs.Search.{EndsAs, HasGone, IsMadeBy, IsMove, IsPr
 use crate::config::{Config, place};
 use crate::history::Problem;
 use crate::moves::{Move, find_moves, place_of};
-use std::alloc::AllocError;
+use std::alloc::{AllocError, Global};
 
 /// Where a configuration that goes on in place ends.
 pub(crate) enum WalkEnd {
@@ -38,6 +38,7 @@ pub(crate) fn make(
 
 /// Goes on as long as there is one way to go on. Each way is one operation more, so it ends.
 pub(crate) fn walk(
+    alloc: Global,
     problem: &Problem,
     config: &mut Config,
     placed: &mut Vec<usize>,
@@ -52,7 +53,7 @@ pub(crate) fn walk(
         if config.stage >= problem.history.stages.len() {
             return Ok(WalkEnd::Complete);
         }
-        find_moves(problem, config, moves)?;
+        find_moves(alloc, problem, config, moves)?;
         match moves.as_slice() {
             [] => return Ok(WalkEnd::Stuck),
             [only] => make(problem, config, placed, *only)?,

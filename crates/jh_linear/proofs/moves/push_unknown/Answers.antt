@@ -22,7 +22,7 @@ loop-class-preserved c =
           }
       | else-is_worth w ↦
           let is = ap (λ v. v.items) w.moves-is in
-          let so_far = unknown_more p config old old l.class (more_same p config old) (λ ready next allowed wanted. absurd (c.is_worth.ensures.other w.if-is_worth.false ready next allowed wanted)) l.invariant.so_far in
+          let so_far = unknown_more p config old old l.class (more_same p config old) (λ ready next allowed wanted. absurd (c.is_worth.ensures.other w.if-is_worth.false ready next allowed (c.requires.wanted next wanted))) l.invariant.so_far in
           record {
             more = subst (MovesMore p config c.args.moves.now.items) (sym is) l.invariant.more;
             so_far = subst (λ ms. HasUnknown p config ms (l.class + 1)) (sym is) so_far;

@@ -1,0 +1,27 @@
+-- A set of values of the register: proofs rest on it, and no public clause names it.
+use Rattle.std.specs.Prelude.{◌≡◌, ℕ, ◌<◌, ℤ, true, Option, Some}
+use Rattle.std.specs.Ordering.{int_eq}
+use Rattle.std.specs.HashSet.{contains}
+use Rattle.jh_linear.specs.declared.config.Config.{Config}
+use Rattle.jh_linear.specs.declared.history.Problem.{Problem}
+use Rattle.jh_linear.specs.declared.moves.Source.TheVariants.{Happened, Unknown}
+use Rattle.jh_linear.specs.declared.wanted.Wanted.{Wanted}
+use Rattle.jh_linear.specs.Search.{IsReady, Needs, call_of}
+
+-- the value is in the set
+abbrev pub Holds : Wanted → Option ℤ → Type 0
+Holds wanted value = (x : ℤ) × (value ≡ Some x) × (contains int_eq wanted.values x ≡ true)
+
+-- no value is lost
+abbrev pub HoldsMore : Wanted → Wanted → Type 0
+HoldsMore old new = (value : Option ℤ) → Holds old value → Holds new value
+
+-- what the operations below an index need, of those that happened and are pending
+abbrev pub HoldsHappened : Problem → Config → Wanted → ℕ → Type 0
+HoldsHappened problem config wanted bound =
+    (index : ℕ) (value : Option ℤ) → index < bound → Needs (call_of problem config (Happened index)) value → Holds wanted value
+
+-- what the first one left of each class below a bound needs, where it may come next
+abbrev pub HoldsUnknown : Problem → Config → Wanted → ℕ → Type 0
+HoldsUnknown problem config wanted bound =
+    (k : ℕ) (value : Option ℤ) → k < bound → IsReady problem config k → Needs (call_of problem config (Unknown k)) value → Holds wanted value

@@ -1,0 +1,101 @@
+//! The values that something which may come next needs. They are put into a set once for all ways to go on, since there may
+//! be as many of these as operations.
+
+ghost use Rattle.std.specs.Prelude.{◌≡◌, ℤ, ◌<◌, false, Option, Some, OnOk, IfOk, length, vec_len};
+ghost use Rattle.jh_linear.specs.Search.{IsProblem, IsReady, IsWanted, Needs, call_of, stages_in};
+ghost use Rattle.jh_linear.specs.declared.moves.Source.TheVariants as source;
+ghost use Rattle.jh_linear.specs.Wanted.{Holds, HoldsHappened, HoldsMore, HoldsUnknown};
+
+use crate::config::Config;
+use crate::history::Problem;
+use crate::moves::{Source, is_ready, op_of};
+use crate::register::{RegCall, needed};
+use std::alloc::{AllocError, Global};
+use std::collections::HashSet;
+
+/// Values of the register.
+#[derive(Drop)]
+pub(crate) struct Wanted {
+    pub(crate) values: HashSet<i64>,
+}
+
+/// Puts in the value that a call needs, if it needs one.
+fn put(wanted: &mut Wanted, call: RegCall) -> Result<(), AllocError>
+    ensures needs { OnOk result ((value : Option ℤ) → Needs call value → Holds wanted.new value) }
+    ensures more { OnOk result (HoldsMore wanted.old wanted.new) }
+{
+    if let Some(value) = needed(call) {
+        wanted.values.insert(value)?;
+    }
+    Ok(())
+}
+
+/// Whether a value is one of them.
+pub(crate) fn is_held(wanted: &Wanted, value: Option<i64>) -> bool
+    ensures { result ≡ false → Holds wanted.now value → ⊥ }
+{
+    match value {
+        Some(held) => wanted.values.contains(&held),
+        None => false,
+    }
+}
+
+fn put_happened(problem: &Problem, config: &Config, wanted: &mut Wanted) -> Result<(), AllocError>
+    ensures happened { OnOk result (HoldsHappened problem.now config.now wanted.new (vec_len config.now.pending)) }
+    ensures more { OnOk result (HoldsMore wanted.old wanted.new) }
+{
+    for index in 0..config.pending.len() {
+        put(wanted, op_of(problem, config, Source::Happened(index)).call)?;
+    }
+    Ok(())
+}
+
+/// Puts in what the next operation of a class needs, where it may come next.
+fn put_next(
+    problem: &Problem,
+    config: &Config,
+    class: usize,
+    wanted: &mut Wanted,
+) -> Result<(), AllocError>
+    requires problem { IsProblem problem.now }
+    requires stage { config.now.stage < stages_in problem.now }
+    requires class { class < length problem.now.history.classes.items }
+    ensures needs { OnOk result ((value : Option ℤ) → IsReady problem.now config.now class
+        → Needs (call_of problem.now config.now (source.Unknown class)) value → Holds wanted.new value) }
+    ensures more { OnOk result (HoldsMore wanted.old wanted.new) }
+{
+    if is_ready(problem, config, class) {
+        put(wanted, op_of(problem, config, Source::Unknown(class)).call)?;
+    }
+    Ok(())
+}
+
+fn put_unknown(problem: &Problem, config: &Config, wanted: &mut Wanted) -> Result<(), AllocError>
+    requires problem { IsProblem problem.now }
+    requires stage { config.now.stage < stages_in problem.now }
+    ensures unknown { OnOk result (HoldsUnknown problem.now config.now wanted.new (length problem.now.history.classes.items)) }
+    ensures more { OnOk result (HoldsMore wanted.old wanted.new) }
+{
+    for class in 0..problem.history.classes.len() {
+        put_next(problem, config, class, wanted)?;
+    }
+    Ok(())
+}
+
+/// The values that something which may come next needs.
+pub(crate) fn wanted_by(
+    alloc: Global,
+    problem: &Problem,
+    config: &Config,
+) -> Result<Wanted, AllocError>
+    requires problem { IsProblem problem.now }
+    requires stage { config.now.stage < stages_in problem.now }
+    ensures { IfOk result (λ wanted. (value : Option ℤ) → IsWanted problem.now config.now value → Holds wanted value) }
+{
+    let mut wanted = Wanted {
+        values: HashSet::new(alloc),
+    };
+    put_happened(problem, config, &mut wanted)?;
+    put_unknown(problem, config, &mut wanted)?;
+    Ok(wanted)
+}
