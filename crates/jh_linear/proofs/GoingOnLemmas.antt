@@ -21,7 +21,7 @@ use Rattle.jh_linear.specs.Order.{Allows, has, op_at}
 use Rattle.jh_linear.specs.Reached.{order_at}
 use Rattle.jh_linear.specs.Search.{Adds, AreMoves, AreSame, AreTried, CanReach, EachIsMove, EndsAs, Entered, Grows, GrowsTo, HasGone, IsBegun, IsFurthest, IsGoneOn, IsMadeBy, IsMove, IsMoved, IsProblem, IsThere, IsWhole, LeadsOn, Notes, StandsFor, Taken, Tried, WasReached, WereTried, call_of, class_at, end_at, invoked_at, next_at, place_of, stage_place, stages_in, unknown_at}
 use Rattle.jh_linear.proofs.GrowthLemmas.{below, grows_far, grows_none, grows_order, grows_push, grows_trans, known_leads, leads_more, new_leads, stands_copy}
-use Rattle.jh_linear.specs.Turns.{IsWith, awaits, turns_left}
+use Rattle.jh_linear.specs.TurnsInside.{IsWith, awaits, turns_left}
 use Rattle.jh_linear.proofs.LeadLemmas.{one_leads}
 use Rattle.jh_linear.proofs.MoveLemmas.{get_taken}
 use Rattle.jh_linear.proofs.TurnLemmas.{awaits_is, awaits_only, only_at, some_turn, turns_is, turns_only}

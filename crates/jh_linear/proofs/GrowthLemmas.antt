@@ -14,7 +14,7 @@ use Rattle.jh_linear.specs.declared.verdict.Step.{Step}
 use Rattle.jh_linear.specs.Order.{has}
 use Rattle.jh_linear.specs.Reached.{order_at, root}
 use Rattle.jh_linear.specs.Search.{AreSame, CanReach, Follows, Grows, IsAt, IsFurthest, IsProblem, IsSearch, LeadsOn, StandsFor, AreNext, arrived_by, furthest_order, stage_place, stages_in, without}
-use Rattle.jh_linear.specs.Turns.{IsWith, awaits, turns_in, turns_left}
+use Rattle.jh_linear.specs.TurnsInside.{IsWith, awaits, turns_in, turns_left}
 use Rattle.jh_linear.proofs.TurnLemmas.{awaits_cases, awaits_kept, awaits_own, turns_more}
 use Rattle.jh_linear.proofs.SetLemmas.{has_append, has_without, in_without, not_true, same_tests, true_if}
 use Rattle.jh_linear.proofs.MoveLemmas.{get_cases, get_kept, get_last}

@@ -14,7 +14,7 @@ use Rattle.jh_linear.specs.declared.verdict.Step.{Step}
 use Rattle.jh_linear.specs.Order.{has, IsDone, IsOrder}
 use Rattle.jh_linear.specs.Reached.{AreReached, order_at, root}
 use Rattle.jh_linear.specs.Search.{CanReach, IsExhausted, IsFull, IsFurthest, IsGoneOn, IsKept, IsProblem, IsSearch, IsTurnTaken, IsWhole, StandsFor, stages_in}
-use Rattle.jh_linear.specs.Turns.{IsWith, awaits, turns_in}
+use Rattle.jh_linear.specs.TurnsInside.{IsWith, awaits, turns_in}
 use Rattle.jh_linear.proofs.SetLemmas.{or_cases, or_left, or_right, place_of}
 use Rattle.jh_linear.proofs.TurnLemmas.{awaits_both, awaits_cases, awaits_kept, awaits_own, turns_both, turns_more}
 use Rattle.jh_linear.proofs.MoveLemmas.{get_cases, nothing_there}

@@ -5,6 +5,6 @@ pub mod Reached
 pub mod Search
 pub mod Stuck
 pub mod StuckInside
-pub mod Turns
+pub mod TurnsInside
 pub mod Verdict
-pub mod Wanted
+pub mod WantedInside

@@ -26,7 +26,7 @@ use Rattle.jh_linear.specs.declared.queue.Turn.{Turn}
 use Rattle.jh_linear.specs.declared.judge.Progress.TheVariants.{More, Complete as Whole, Full as NoRoom}
 use Rattle.jh_linear.specs.Order.{op_at, HasAllDone, IsPossible, IsDone, IsBefore, has, Allows, EndAfterInvoked}
 use Rattle.jh_linear.specs.Reached.{order_at, root, NameEarlier}
-use Rattle.jh_linear.specs.Turns.{IsWith, awaits, turns_in, turns_left}
+use Rattle.jh_linear.specs.TurnsInside.{IsWith, awaits, turns_in, turns_left}
 
 -- ---- orders, place by place
 

@@ -9,7 +9,7 @@ ghost use Rattle.jh_linear.specs.Order.{Allows, EndsBefore};
 ghost use Rattle.jh_linear.specs.Search as rule;
 ghost use Rattle.jh_linear.specs.Search.{AreMoves, HasHappened, HasUnknown, IsProblem, IsReady, IsSettledAt, IsThere, IsWanted};
 ghost use Rattle.jh_linear.specs.Search.{IsAmong, MovesMore, NoneSettled, call_of, stages_in};
-ghost use Rattle.jh_linear.specs.Wanted.{Holds};
+ghost use Rattle.jh_linear.specs.WantedInside.{Holds};
 ghost use Rattle.jh_linear.specs.Stuck.{end_of};
 ghost use Rattle.jh_linear.specs.declared.moves.Source.TheVariants as source;
 

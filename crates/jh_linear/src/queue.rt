@@ -7,7 +7,7 @@
 //! waits for the second. docs/performance.md has what comes of it.
 
 ghost use Rattle.std.specs.Prelude.{◌≡◌, [], IfSome, IfNone, OnOk, true};
-ghost use Rattle.jh_linear.specs.Turns.{IsWith};
+ghost use Rattle.jh_linear.specs.TurnsInside.{IsWith};
 ghost use Rattle.jh_linear.specs.declared.queue.Turn.{Turn};
 
 use crate::config::Config;

@@ -4,7 +4,7 @@
 ghost use Rattle.std.specs.Prelude.{◌≡◌, ℤ, ◌<◌, false, Option, Some, OnOk, IfOk, length, vec_len};
 ghost use Rattle.jh_linear.specs.Search.{IsProblem, IsReady, IsWanted, Needs, call_of, stages_in};
 ghost use Rattle.jh_linear.specs.declared.moves.Source.TheVariants as source;
-ghost use Rattle.jh_linear.specs.Wanted.{Holds, HoldsHappened, HoldsMore, HoldsUnknown};
+ghost use Rattle.jh_linear.specs.WantedInside.{Holds, HoldsHappened, HoldsMore, HoldsUnknown};
 
 use crate::config::Config;
 use crate::history::Problem;

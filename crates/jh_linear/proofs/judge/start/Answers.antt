@@ -5,7 +5,7 @@ use Rattle.jh_linear.specs.declared.search.Search.{Search}
 use Rattle.jh_linear.specs.declared.queue.Turn.{Turn}
 use Rattle.jh_linear.specs.declared.verdict.Step.{Step}
 use Rattle.jh_linear.specs.Reached.{root}
-use Rattle.jh_linear.specs.Turns.{IsWith}
+use Rattle.jh_linear.specs.TurnsInside.{IsWith}
 use Rattle.jh_linear.proofs.JudgeLemmas.{kept_start}
 use Rattle.jh_linear.proofs.judge.start.Goals as goal
 

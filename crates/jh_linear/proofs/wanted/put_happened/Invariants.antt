@@ -1,4 +1,4 @@
-use Rattle.jh_linear.specs.Wanted.{HoldsHappened, HoldsMore}
+use Rattle.jh_linear.specs.WantedInside.{HoldsHappened, HoldsMore}
 use Rattle.jh_linear.proofs.wanted.put_happened.Given as goal
 
 abbrev pub invariant-loop-index : goal.invariant-loop-index

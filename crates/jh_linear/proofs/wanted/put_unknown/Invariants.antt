@@ -1,4 +1,4 @@
-use Rattle.jh_linear.specs.Wanted.{HoldsMore, HoldsUnknown}
+use Rattle.jh_linear.specs.WantedInside.{HoldsMore, HoldsUnknown}
 use Rattle.jh_linear.proofs.wanted.put_unknown.Given as goal
 
 abbrev pub invariant-loop-class : goal.invariant-loop-class

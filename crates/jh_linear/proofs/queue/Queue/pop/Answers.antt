@@ -2,7 +2,7 @@ use Rattle.std.proofs.Common.{◌∷◌, subst}
 use Rattle.std.specs.Prelude.{Option, Some, None, IfSome}
 use Rattle.std.proofs.lemmas.List.Sorted.{IsPermutation-sym}
 use Rattle.jh_linear.specs.declared.queue.Turn.{Turn}
-use Rattle.jh_linear.specs.Turns.{IsWith}
+use Rattle.jh_linear.specs.TurnsInside.{IsWith}
 use Rattle.jh_linear.proofs.queue.Queue.pop.Goals as goal
 
 if_some : {X : Type 0} {P Q : X → Type 0} (r : Option X) → ((x : X) → P x → Q x) → IfSome r P → IfSome r Q
