@@ -12,3 +12,5 @@ pub use Rattle.jh_edn.proofs.SequenceLemmas.{list_of-items_of}
 pub use Rattle.jh_edn.proofs.Printing.{appends_then}
 -- one text has one next value, or a gap, and what spells a value reads as it
 pub use Rattle.jh_edn.proofs.Whole.{made, no_gap, one_next}
+-- elements read one by one are those of the whole text, and the first error behind them is the text's
+pub use Rattle.jh_edn.proofs.Joining.{Before, Behind, before_none, before_more, before_all, behind_none, behind_more, spells_nothing, refuses, first_behind}

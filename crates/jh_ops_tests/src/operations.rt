@@ -38,7 +38,8 @@ pub(crate) fn print(alloc: Global, op: &Op, text: &mut Vec<u8>) -> Option<()> {
     text.push(b'\n').ok()
 }
 
-fn print_all(alloc: Global, ops: &[Op]) -> Option<Vec<u8>> {
+/// Prints operations, a line feed behind each.
+pub(crate) fn print_all(alloc: Global, ops: &[Op]) -> Option<Vec<u8>> {
     let mut printed = Vec::new(alloc);
     for op in ops {
         print(alloc, op, &mut printed)?;

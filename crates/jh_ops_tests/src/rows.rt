@@ -5,7 +5,7 @@
 //!
 //! A call answers None where memory was refused, and is made once more.
 
-use crate::{names, operations, words};
+use crate::{histories, names, operations, words};
 use std::alloc::Global;
 use std::fmt::Debug;
 
@@ -14,6 +14,7 @@ fn answer(alloc: Global, name: &str, text: &str) -> Option<Vec<u8>> {
     match name {
         "op" => operations::op(alloc, text),
         "history" => operations::history(alloc, text),
+        "read" => histories::read(alloc, text),
         "pairs" => operations::pairs(alloc, text),
         "record" => words::record(alloc, text),
         "operation" => words::operation(alloc, text),

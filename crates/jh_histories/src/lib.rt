@@ -1,0 +1,10 @@
+//! The history that a text tells, read operation by operation: the values of a whole history never stand beside one
+//! another. `specs/Histories.antt` says which history a text tells, and why a text is refused.
+#![tactic(auto)]
+
+mod error;
+mod reading;
+mod telling;
+
+pub use error::ReadHistoryError;
+pub use reading::{history_in, read_history};

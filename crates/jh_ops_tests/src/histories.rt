@@ -1,0 +1,94 @@
+//! Histories that are read operation by operation.
+//!
+//! - `read TEXT`: the operations of the text, each printed, with a line feed behind it; or why it tells no history.
+
+use crate::operations::print_all;
+use crate::rows::{first_wrong, shown};
+use jh_edn::EdnError;
+use jh_histories::{ReadHistoryError, history_in, read_history};
+use jh_ops::{HistoryError, Op, OpError};
+use std::alloc::Global;
+
+fn print_found(alloc: Global, found: Result<Vec<Op>, ReadHistoryError>) -> Option<Vec<u8>> {
+    match found {
+        Ok(ops) => print_all(alloc, &ops),
+        Err(ReadHistoryError::Text(EdnError::OutOfMemory)) => None,
+        Err(
+            ReadHistoryError::History(
+                HistoryError::OutOfMemory | HistoryError::Op(_, OpError::OutOfMemory),
+            ),
+        ) => None,
+        Err(error) => Some(format!(in alloc; "{error}\n").ok()?.into_bytes()),
+    }
+}
+
+pub(crate) fn read(alloc: Global, text: &str) -> Option<Vec<u8>> {
+    print_found(alloc, read_history(alloc, &mut text.as_bytes(), 2))
+}
+
+#[test]
+fn reads_operation_by_operation(rt: HostRuntime) {
+    let rows = r#"read →
+§ read ; nothing
+#_ {:type :ok} →
+§ read {:type :invoke, :process 0, :f :write, :value 5} {:type :ok, :process 0, :f :write, :value 5} ; end →
+{:type :invoke, :process 0, :f :write, :value 5}
+{:type :ok, :process 0, :f :write, :value 5}
+§ read #jepsen.history.Op{:index 0, :type :invoke, :process 7, :f :read} #_ 3 #t #u {:type :info, :process :nemesis, :f :start}
+{:type :ok, :process 7, :f :read, :value (1 2), :time 9, :error :none} →
+{:index 0, :type :invoke, :process 7, :f :read, :value nil}
+{:type :info, :process :nemesis, :f :start, :value nil}
+{:time 9, :type :ok, :process 7, :f :read, :value (1 2), :error :none}
+"#;
+    assert_eq!(rt; first_wrong(rt.alloc(), rows), None);
+}
+
+/// A single value may be a sequence of operations, of several none is.
+#[test]
+fn reads_one_sequence(rt: HostRuntime) {
+    let rows = r#"read [] →
+§ read #t [#u {:type :ok :process 1 :f :a} {:type :ok :process 2 :f :b}] →
+{:type :ok, :process 1, :f :a, :value nil}
+{:type :ok, :process 2, :f :b, :value nil}
+§ read ({:type :ok :process 1 :f :a}) →
+{:type :ok, :process 1, :f :a, :value nil}
+§ read {:type :ok :process 1 :f :a} →
+{:type :ok, :process 1, :f :a, :value nil}
+§ read [{:type :ok :process 1 :f :a} [1] {}] → operation 1: not a map
+§ read [{:type :ok :process 1 :f :a}] [] → operation 0: not a map
+§ read 5 → operation 0: not a map
+"#;
+    assert_eq!(rt; first_wrong(rt.alloc(), rows), None);
+}
+
+/// An error of the text comes before a value that tells no operation, wherever both stand; of such values the first is told.
+#[test]
+fn tells_the_first_error(rt: HostRuntime) {
+    let rows = r#"read 1
+{:type :ok :process 1 :f :a}
+{:type → line 3: unexpected end
+§ read 1 2 {:type} → line 1: odd map
+§ read {:type :ok :process 1 :f :a} {:type :ok :process 1} 2 {} → operation 1: f missing
+§ read {:type :ok :process 1 :f :a} {:type :ok :process 1 :f :a} {:type :done} 7 → operation 2: bad type
+§ read {:a 1 :a 2} → line 1: duplicate key
+§ read 1 {:a 1
+:a 2} → line 2: duplicate key
+§ read #_ → line 1: unexpected end
+"#;
+    assert_eq!(rt; first_wrong(rt.alloc(), rows), None);
+}
+
+#[test]
+fn reads_what_is_no_text(rt: HostRuntime) {
+    let read = read_history(rt.alloc(), &mut b"\xff".as_slice(), 2);
+    assert!(rt; matches!(read, Err(ReadHistoryError::Text(EdnError::Utf8))));
+    let late = read_history(rt.alloc(), &mut b"1".as_slice(), 1);
+    assert!(rt; matches!(late, Err(ReadHistoryError::Text(EdnError::TooLong))));
+    let inside = history_in(rt.alloc(), "{");
+    assert!(rt;
+        matches!(
+            inside,
+            Err(ReadHistoryError::Text(EdnError::UnexpectedEnd(1)))
+        )
+    );
+}
