@@ -1,3 +1,4 @@
+pub mod CheckLemmas
 pub mod RefusalLemmas
 pub mod StepLemmas
 pub mod WritingLemmas

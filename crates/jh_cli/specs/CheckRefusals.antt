@@ -36,6 +36,11 @@ abbrev pub RefusesBy : Bool → Judging → List Operation → CliError → Type
 RefusesBy true judging history e = RefusesByKeys judging history e
 RefusesBy false judging history e = RefusesWhole judging.workload history e
 
+-- why a history is not judged; memory may run out in any
+abbrev pub RefusesJudging : Question → List Operation → CliError → Type 0
+RefusesJudging question history OutOfMemory = Unit {0}
+RefusesJudging question history e = RefusesBy question.independent (judging_of question) history e
+
 -- why values are refused
 abbrev pub RefusesValues : Question → List Edn → CliError → Type 0
 RefusesValues question values (History fault) =

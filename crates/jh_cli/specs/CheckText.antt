@@ -56,11 +56,15 @@ IsJudgementBy false judging history verdict text = IsJudgement judging history v
 
 -- ---- what is written
 
+-- for a history
+abbrev pub IsHistoryText : Question → List Operation → Verdict → List ℕ → Type 0
+IsHistoryText question history verdict output =
+    (text : List ℕ) × IsJudgementBy question.independent (judging_of question) history verdict text × (output ≡ line text)
+
 -- for values that tell a history
 abbrev pub IsCheckText : Question → List Edn → Verdict → List ℕ → Type 0
 IsCheckText question values verdict output =
-    (history : List Operation) × (text : List ℕ) × AreTold values history
-    × IsJudgementBy question.independent (judging_of question) history verdict text × (output ≡ line text)
+    (history : List Operation) × AreTold values history × IsHistoryText question history verdict output
 
 -- for an input, with the exit status: its values are those that it spells
 abbrev pub IsCheckTextOf : Question → List ℕ → ℕ → List ℕ → Type 0

@@ -5,6 +5,7 @@ use Rattle.jh_edn.specs.declared.error.EdnError.TheVariants as EdnError
 use Rattle.jh_env.specs.declared.texts.EnvTextError.TheVariants as EnvTextError
 use Rattle.jh_ops.specs.declared.history.HistoryError.TheVariants as HistoryError
 use Rattle.jh_check.specs.declared.error.CheckError.TheVariants as CheckError
+use Rattle.jh_histories.specs.declared.error.ReadHistoryError.TheVariants as ReadHistoryError
 use Rattle.jh_keys.specs.declared.error.KeysError.TheVariants as KeysError
 use Rattle.jh_nemesis.specs.declared.texts.StepTextError.TheVariants as StepTextError
 use Rattle.jh_settings.specs.declared.error.SettingsError.TheVariants as SettingsError
@@ -64,6 +65,11 @@ element_fault place fault = Element place fault
 abbrev pub history_fault : HistoryError.the_data → CliError
 history_fault HistoryError.OutOfMemory = OutOfMemory
 history_fault fault = History fault
+
+-- what it means to a command that no history is read
+abbrev pub reading_fault : ReadHistoryError.the_data → CliError
+reading_fault (ReadHistoryError.Text fault) = edn_fault fault
+reading_fault (ReadHistoryError.History fault) = history_fault fault
 
 -- what a refusal by a checker means to a command
 abbrev pub check_fault : CheckError.the_data → CliError

@@ -4,21 +4,20 @@
 
 ghost use Rattle.std.specs.Prelude.{◌≡◌, ◌≢◌, ◌↔◌, ◌≤◌, ℕ, List, IfOk, IfErr, IfSome, IsErrOf, MatchResult};
 ghost use Rattle.std.specs.Io.KnownBytes.{Appends};
-ghost use Rattle.jh_edn.specs.View.{views};
 ghost use Rattle.jh_ops.specs.Operation.{operations};
 ghost use Rattle.jh_keys.specs.Lines.{finding_line};
-ghost use Rattle.jh_cli.specs.CheckRefusals.{RefusesBy, RefusesByKeys, RefusesCheck, RefusesValues, RefusesWhole};
+ghost use Rattle.jh_cli.specs.CheckRefusals.{RefusesByKeys, RefusesCheck, RefusesJudging, RefusesWhole};
 ghost use Rattle.jh_cli.specs.CheckText as text;
-ghost use Rattle.jh_cli.specs.CheckText.{IsCheckText, IsCheckTextOf, IsJudgement, IsJudgementBy, IsKeysJudgement, TakesInitial};
+ghost use Rattle.jh_cli.specs.CheckText.{IsCheckTextOf, IsHistoryText, IsJudgement, IsKeysJudgement, TakesInitial};
 
 use crate::env_command::MOST_READS;
 use crate::error::CliError;
 use jh_check::Verdict;
-use jh_edn::{Value, read_all};
+use jh_histories::read_history;
 use jh_keys::{
     Found, Judging, check_history, check_keys, verdict_of_all, write_finding, write_findings,
 };
-use jh_ops::{Op, Workload, history_of};
+use jh_ops::{Op, Workload};
 use std::alloc::{AllocError, Global};
 use std::io::{Read, Write};
 use std::sync::Wait;
@@ -48,7 +47,7 @@ pub struct Question {
     pub threads: u32,
 }
 
-/// Reads a history as `jh_ops::history_of` does, judges it by the checker of the workload, and writes one line with what
+/// Reads a history as `jh_histories::read_history` does, one operation after another, judges it by the checker of the workload, and writes one line with what
 /// is found. The answer is the exit status: 0 where the history is valid, 1 where it is not, 2 where that is not known.
 /// The initial value and the budget mean nothing to other workloads than the register, nor does it mean anything there that a no
 /// is explained. All is read and judged before the first byte is written.
@@ -78,8 +77,8 @@ pub fn check_run<T: Threads + Wait + Sync, R: Read, W: Write>(
     if question.initial.is_some() && !is_register(question.workload) {
         return Err(CliError::OnlyForRegister);
     }
-    let values = read_all(alloc, reader, MOST_READS)?;
-    let found = judge_values(rt, alloc, values, question)?;
+    let history = read_history(alloc, reader, MOST_READS)?;
+    let found = judge_history(rt, alloc, &history, question)?;
     match writer.write_all(&found.text) {
         Ok(()) => Ok(status_of(found.verdict)),
         Err(_) => Err(CliError::Write),
@@ -114,24 +113,23 @@ fn judging_of(question: Question) -> Judging
     }
 }
 
-// What is found in the history that these values tell, with the line feed.
-fn judge_values<T: Threads + Wait + Sync>(
+// What is found in a history, with the line feed.
+fn judge_history<T: Threads + Wait + Sync>(
     rt: &T,
     alloc: Global,
-    values: Vec<Value>,
+    history: &[Op],
     question: Question,
 ) -> Result<Judgement, CliError>
     requires { (1 ≤ question.threads) × (question.threads ≤ 16) }
     ensures { MatchResult result
-        (λ found. IsCheckText question (views values.items) found.verdict found.text.items)
-        (RefusesValues question (views values.items)) }
+        (λ found. IsHistoryText question (operations history.now) found.verdict found.text.items)
+        (RefusesJudging question (operations history.now)) }
 {
-    let history = history_of(alloc, values)?;
     let judging = judging_of(question);
     let judged = if question.independent {
-        judge_keys(rt, alloc, &history, judging, question.threads)
+        judge_keys(rt, alloc, history, judging, question.threads)
     } else {
-        judge(alloc, &history, judging)
+        judge(alloc, history, judging)
     };
     let mut found = match judged {
         Ok(found) => found,

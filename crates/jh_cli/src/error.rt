@@ -8,6 +8,7 @@ ghost use Rattle.jh_cli.specs.Status.{own_text, status_of};
 use jh_check::CheckError;
 use jh_edn::EdnError;
 use jh_env::EnvTextError;
+use jh_histories::ReadHistoryError;
 use jh_keys::KeysError;
 use jh_nemesis::StepTextError;
 use jh_ops::HistoryError;
@@ -148,6 +149,19 @@ impl From<HistoryError> for CliError {
         match fault {
             HistoryError::OutOfMemory => CliError::OutOfMemory,
             _ => CliError::History(fault),
+        }
+    }
+}
+
+impl From<ReadHistoryError> for CliError {
+    ghost use Rattle.jh_cli.specs.Status.{reading_fault};
+
+    ghost from_gives = { λ fault e. e ≡ reading_fault fault };
+
+    fn from(fault: ReadHistoryError) -> CliError {
+        match fault {
+            ReadHistoryError::Text(fault) => CliError::from(fault),
+            ReadHistoryError::History(fault) => CliError::from(fault),
         }
     }
 }
