@@ -1,6 +1,9 @@
 //! Histories that are read operation by operation.
 //!
 //! - `read TEXT`: the operations of the text, each printed, with a line feed behind it; or why it tells no history.
+//! - `inside TEXT`: the same, by `history_in`.
+//! - `late TEXT`: the same, of a reader that may be read once.
+//! - `broken TEXT`: the same, where a byte that is no UTF-8 stands behind the text.
 
 use crate::operations::print_all;
 use crate::rows::{first_wrong, shown};
@@ -24,6 +27,20 @@ fn print_found(alloc: Global, found: Result<Vec<Op>, ReadHistoryError>) -> Optio
 
 pub(crate) fn read(alloc: Global, text: &str) -> Option<Vec<u8>> {
     print_found(alloc, read_history(alloc, &mut text.as_bytes(), 2))
+}
+
+pub(crate) fn inside(alloc: Global, text: &str) -> Option<Vec<u8>> {
+    print_found(alloc, history_in(alloc, text))
+}
+
+pub(crate) fn late(alloc: Global, text: &str) -> Option<Vec<u8>> {
+    print_found(alloc, read_history(alloc, &mut text.as_bytes(), 1))
+}
+
+pub(crate) fn broken(alloc: Global, text: &str) -> Option<Vec<u8>> {
+    let mut bytes = text.as_bytes().to_vec(alloc).ok()?;
+    bytes.push(0xff).ok()?;
+    print_found(alloc, read_history(alloc, &mut bytes.as_slice(), 2))
 }
 
 #[test]
@@ -78,17 +95,14 @@ fn tells_the_first_error(rt: HostRuntime) {
     assert_eq!(rt; first_wrong(rt.alloc(), rows), None);
 }
 
+/// The reader's errors, then bytes that are no text, come before the text's own.
 #[test]
 fn reads_what_is_no_text(rt: HostRuntime) {
-    let read = read_history(rt.alloc(), &mut b"\xff".as_slice(), 2);
-    assert!(rt; matches!(read, Err(ReadHistoryError::Text(EdnError::Utf8))));
-    let late = read_history(rt.alloc(), &mut b"1".as_slice(), 1);
-    assert!(rt; matches!(late, Err(ReadHistoryError::Text(EdnError::TooLong))));
-    let inside = history_in(rt.alloc(), "{");
-    assert!(rt;
-        matches!(
-            inside,
-            Err(ReadHistoryError::Text(EdnError::UnexpectedEnd(1)))
-        )
-    );
+    let rows = r#"late { → input too long
+§ broken { → not UTF-8
+§ inside { → line 1: unexpected end
+§ inside {:type :ok :process 1 :f :a} →
+{:type :ok, :process 1, :f :a, :value nil}
+"#;
+    assert_eq!(rt; first_wrong(rt.alloc(), rows), None);
 }
