@@ -1,5 +1,5 @@
 -- Texts and their fronts.
-use Rattle.std.proofs.Common.{◌≡◌, ℕ, ◌+◌, ◌<◌, Bool, true, false, cond, eqb, List, ◌∷◌, length, drop, get_or, refl, sym, ap, ◌∙◌, arith, take, zero, suc, [], ◌++◌}
+use Rattle.std.proofs.Common.{◌≡◌, ℕ, ◌+◌, ◌<◌, ◌≤◌, ◌⊎◌, Bool, true, false, cond, eqb, List, ◌∷◌, length, drop, get_or, refl, sym, ap, ◌∙◌, arith, take, zero, suc, [], ◌++◌}
 use Rattle.std.specs.Prelude.{not}
 use Rattle.std.proofs.lemmas.List.{drop_more}
 use Rattle.std.specs.Str.{IsCharBoundary, IsUtf8}
@@ -11,6 +11,11 @@ use Rattle.jh_edn.specs.Bytes.{semicolon, line_feed, is_run, is_space, is_delimi
 run_ascii : (c : ℕ) → is_run c ≡ false → c < 128
 unfolding is_run is_space is_delimiter
 run_ascii c h = grind (arith, common_steps)
+
+-- small letters and digits are bytes of runs
+pub letter_run : (c : ℕ) → ((97 ≤ c) × (c ≤ 122)) ⊎ ((48 ≤ c) × (c ≤ 57)) → is_run c ≡ true
+unfolding is_run is_space is_delimiter
+letter_run c h = grind (arith, common_steps)
 
 pub run_stops : (s : List ℕ) (i : ℕ) → i < length s → is_run (get_or s i 0) ≡ false → IsCharBoundary s i
 run_stops s i l h = IsCharBoundary-before_ascii s i l (run_ascii (get_or s i 0) h)

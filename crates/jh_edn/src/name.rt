@@ -2,34 +2,29 @@
 //!
 //! `is_name`, `is_symbol_name` and `is_tag` of `specs/Spelling.antt` say which there are.
 
-ghost use Rattle.std.specs.Prelude.{◌≡◌, ◌==◌};
+ghost use Rattle.std.specs.Prelude.{◌≡◌, ◌==◌, MatchOption, true, false};
 ghost use Rattle.std.specs.List.{list_all, count_by};
 ghost use Rattle.jh_edn.specs.Bytes as bytes;
 ghost use Rattle.jh_edn.specs.Spelling as spelling;
 
 use crate::scan::{is_digit, is_first, is_letter, is_symbol};
 
-fn all_symbols(name: &[u8]) -> bool
-    ensures { result ≡ list_all bytes.is_symbol name.now }
-{
-    for b in name {
-        if !is_symbol(*b) {
-            return false;
-        }
-    }
-    true
-}
-
-fn count_slashes(name: &[u8]) -> usize
-    ensures { result ≡ count_by (λ c. c == bytes.slash) name.now }
+/// How many slashes a name has whose characters are all those of symbols, or `None` where one is not.
+fn count_slashes(name: &[u8]) -> Option<usize>
+    ensures { MatchOption result
+        (list_all bytes.is_symbol name.now ≡ false)
+        (λ n. (list_all bytes.is_symbol name.now ≡ true) × (n ≡ count_by (λ c. c == bytes.slash) name.now)) }
 {
     let mut count = 0;
     for b in name {
+        if !is_symbol(*b) {
+            return None;
+        }
         if *b == b'/' {
             count += 1;
         }
     }
-    count
+    Some(count)
 }
 
 /// The name of a keyword.
@@ -40,7 +35,10 @@ pub(crate) fn is_name(name: &[u8]) -> bool
     let [first, ..] = name else {
         return false;
     };
-    is_first(*first) && all_symbols(name) && count_slashes(name) < 2 && name[name.len() - 1] != b'/'
+    let Some(slashes) = count_slashes(name) else {
+        return false;
+    };
+    is_first(*first) && slashes < 2 && name[name.len() - 1] != b'/'
 }
 
 #[tactic(auto, unfolding(crate::specs::Spelling::is_word))]

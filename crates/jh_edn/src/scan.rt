@@ -25,11 +25,12 @@ fn is_delimiter(b: u8) -> bool
     )
 }
 
-#[tactic(auto, unfolding(crate::specs::Bytes::is_run))]
+/// A byte of a run. Most are letters and digits, for which the first test is enough.
+#[tactic(auto, using(crate::proofs::Lists::letter_run), unfolding(crate::specs::Bytes::is_run))]
 pub(crate) fn is_run(b: u8) -> bool
     ensures { result ≡ bytes.is_run b }
 {
-    !is_space(b) && !is_delimiter(b)
+    matches!(b, b'a'..=b'z' | b'0'..=b'9') || (!is_space(b) && !is_delimiter(b))
 }
 
 #[tactic(auto, unfolding(crate::specs::Bytes::is_plain))]
