@@ -26,6 +26,9 @@ const SET_LEN: usize = 2;
 /// How many bytes the mark of a discard takes.
 const DISCARD_LEN: usize = 2;
 
+/// For how many keys and values of a map there is room at first: enough for an operation of a history.
+const MAP_ROOM: usize = 16;
+
 /// A fault at the closing bracket just before the text.
 fn fault_before(kind: Kind, after: &str) -> ReadError
     requires { length after.now < 2 ^ 63 }
@@ -82,15 +85,15 @@ pub(crate) fn element(alloc: Global, rest: &str, depth: usize) -> Result<(Value,
             Ok((Value::Str(text), after))
         }
         b'(' => {
-            let (items, after) = elements_inside(alloc, rest, 1, b')', depth)?;
+            let (items, after) = elements_inside(alloc, rest, 1, b')', 0, depth)?;
             Ok((Value::List(Values::of(items)), after))
         }
         b'[' => {
-            let (items, after) = elements_inside(alloc, rest, 1, b']', depth)?;
+            let (items, after) = elements_inside(alloc, rest, 1, b']', 0, depth)?;
             Ok((Value::Vector(Values::of(items)), after))
         }
         b'{' => {
-            let (items, after) = elements_inside(alloc, rest, 1, b'}', depth)?;
+            let (items, after) = elements_inside(alloc, rest, 1, b'}', MAP_ROOM, depth)?;
             close_map(alloc, items, after)
         }
         b'\\' => character(rest),
@@ -109,7 +112,7 @@ fn hashed(alloc: Global, rest: &str, depth: usize) -> Result<(Value, &str), Read
     ensures text { IfOk result (λ x. IsUtf8 x.1.now) }
 {
     if begins_set(rest.as_bytes()) {
-        let (items, after) = elements_inside(alloc, rest, SET_LEN, b'}', depth)?;
+        let (items, after) = elements_inside(alloc, rest, SET_LEN, b'}', 0, depth)?;
         return close_set(alloc, Values::of(items), after);
     }
     let behind = &rest[1..];
@@ -123,13 +126,14 @@ fn hashed(alloc: Global, rest: &str, depth: usize) -> Result<(Value, &str), Read
     Ok((Value::Tagged(Tagged::of(alloc, tag, value)?), after))
 }
 
-/// The elements behind an opening bracket of `front` bytes, up to the closing one.
+/// The elements behind an opening bracket of `front` bytes, up to the closing one, in a vector with `room` at first.
 #[cycle(read)]
 fn elements_inside(
     alloc: Global,
     rest: &str,
     front: usize,
     close: u8,
+    room: usize,
     depth: usize,
 ) -> Result<(Vec<Value>, &str), ReadError>
     requires ascii { IsAscii close }
@@ -141,7 +145,7 @@ fn elements_inside(
     if depth == 0 {
         return Err(fault_at(Kind::TooDeep, rest));
     }
-    elements(alloc, &rest[front..], close, depth - 1)
+    elements(alloc, &rest[front..], close, room, depth - 1)
 }
 
 /// The element behind a tag or a mark of `front` bytes.
@@ -181,12 +185,13 @@ pub(crate) fn after_gap(alloc: Global, rest: &str, depth: usize) -> Result<&str,
     }
 }
 
-/// The elements up to a closing bracket.
+/// The elements up to a closing bracket, in a vector with `room` at first.
 #[cycle(read)]
 fn elements(
     alloc: Global,
     rest: &str,
     close: u8,
+    room: usize,
     depth: usize,
 ) -> Result<(Vec<Value>, &str), ReadError>
     requires { IsAscii close }
@@ -194,7 +199,7 @@ fn elements(
         (items close (gap depth) (read depth) (suc (length rest.now)) rest.now) }
     ensures text { IfOk result (λ x. IsUtf8 x.1.now) }
 {
-    let mut found = Vec::new(alloc);
+    let mut found = Vec::with_capacity(alloc, room)?;
     let mut left = rest;
     'turns: loop {
         let here = after_gap(alloc, left, depth)?;

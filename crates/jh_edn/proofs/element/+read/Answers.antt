@@ -123,7 +123,7 @@ element-elements_inside-requires-in-91 t c =
 
 pub elements-returns-in_err-here-clause-gives : goal.elements-returns-in_err-here-clause-gives
 elements-returns-in_err-here-clause-gives t c =
-    let p = err_from_is_err_and c.from_residual.result c.from_residual.ensures.1 in
+    let p = err_from_is_err_and c.from_residual-in_err-here.result c.from_residual-in_err-here.ensures.1 in
     let l = c.turns in
     rw (p.1, p.2) (stuck c.args.close (gap c.args.depth) (read c.args.depth) (views l.found.items) l.invariant.1 l.left.now _ l.invariant.2 l.invariant.3 c.in_err-here.field-0.0 c.in_err-here.ensures.gives)
 
