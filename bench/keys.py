@@ -3,8 +3,8 @@
 
     bench/keys.py PROGRAM [--calls N] [--clients N] [--times N]
 
-PROGRAM is the program `jeprun`. Hard keys: 16 registers, each asked by clients that are busy all the time, with one stale read near
-the end, so that the judge has to go through all that can have happened. Easy keys: 10,000 registers of 20 calls each. It prints the
+PROGRAM is the program `jeprun`. Hard keys: 16 registers, each asked by clients that are busy all the time, with a read near the end
+of a value that was never written, so that the judge has to go through all that can have happened. Easy keys: 10,000 registers of 20 calls each. It prints the
 least seconds of so many times, and how many times as fast as one thread that is. Reading and cutting the history, which one thread
 does, is in it; for hard keys it is little.
 """
@@ -16,9 +16,14 @@ import subprocess
 import tempfile
 import time
 
-from linear import history, stale
+from register import Case, history_of, records
 
 THREADS = (1, 2, 4, 8)
+
+
+def history(clients, calls, kind, seed):
+    """The process, the type, the function and the text of the value of each operation, over five values."""
+    return list(records(history_of(Case(0, clients, "5", calls, kind, seed))))
 
 
 def by_key(parts):
@@ -35,8 +40,7 @@ def by_key(parts):
 
 
 def write(parts, clients, file):
-    for key, (process, kind, f, told) in by_key(parts):
-        value = f"[{told[0]} {told[1]}]" if isinstance(told, list) else told
+    for key, (process, kind, f, value) in by_key(parts):
         file.write(f"{{:type :{kind}, :process {key * clients + process}, :f :{f}, :value [{key} {value}]}}\n")
 
 
@@ -73,9 +77,9 @@ def main():
     words.add_argument("--times", type=int, default=3)
     given = words.parse_args()
     print(f"{os.cpu_count()} processors")
-    hard = [stale(given.clients, given.calls, seed) for seed in range(16)]
+    hard = [history(given.clients, given.calls, "never", seed) for seed in range(16)]
     show("16 hard keys", given.program, hard, given.clients, 10_000_000, given.times)
-    easy = [history(2, 20, seed) for seed in range(10_000)]
+    easy = [history(2, 20, "valid", seed) for seed in range(10_000)]
     show("10,000 easy keys", given.program, easy, 2, 100_000, given.times)
 
 
