@@ -2,6 +2,7 @@
 use Rattle.std.proofs.Common.{◌≡◌, ℕ, suc, ◌≤◌, ◌<◌, Bool, true, false, cond, eqb, List, [], ◌∷◌, ◌++◌, length, take, drop, get_or, Some, None, Result, Ok, Err, refl, sym, ap, ◌∙◌, append_assoc, arith}
 use Rattle.std.specs.Prelude.{◌≢◌}
 use Rattle.std.proofs.lemmas.Grind.{common_steps}
+use Rattle.std.proofs.lemmas.List.{append-nil}
 use Rattle.jh_edn.specs.declared.fault.Fault.{Fault}
 use Rattle.jh_edn.specs.declared.fault.Kind.TheVariants.{BadEscape}
 use Rattle.jh_edn.specs.Bytes.{is_plain, escaped, leading}
@@ -81,3 +82,9 @@ moved t u left here n total e f g so_far =
 
 pub ended : (u here : List ℕ) (total found : Result (List ℕ × List ℕ) Fault) → with_front u (body here) ≡ total → body here ≡ found → total ≡ with_front u found
 ended u here total found so_far e = sym so_far ∙ ap (with_front u) e
+
+-- a string without escapes
+pub closed : (s after : List ℕ) (n : ℕ) → n ≡ leading is_plain s → body (drop n s) ≡ Ok ([], after) → body s ≡ Ok (take n s, after)
+closed s after n e h =
+    let stop : body (drop (leading is_plain s) s) ≡ Ok ([], after) = rw (← e) h in
+    rw e (body_plain s ∙ ap (with_front (take (leading is_plain s) s)) stop ∙ ap (λ (t : List ℕ). Ok (t, after)) (append-nil (take (leading is_plain s) s)))

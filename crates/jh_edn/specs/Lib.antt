@@ -14,3 +14,4 @@ pub mod Printable
 pub mod Gives
 pub mod Refused
 pub mod Print
+pub mod TextInside

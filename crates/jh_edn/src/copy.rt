@@ -3,7 +3,8 @@
 ghost use Rattle.std.specs.Prelude.{◌≡◌, IfOk};
 ghost use Rattle.jh_edn.specs.View.{view};
 
-use crate::value::{Pairs, Tagged, Text, Value, Values};
+use crate::text::Text;
+use crate::value::{Pairs, Tagged, Value, Values};
 use std::alloc::{AllocError, Global};
 
 impl Text {
@@ -15,7 +16,7 @@ impl Text {
     pub fn copy(&self, alloc: Global) -> Result<Text, AllocError>
         ensures { IfOk result (λ text. text ≡ self.now) }
     {
-        Ok(Text::of(String::from_str(alloc, self.as_str())?))
+        Text::of(alloc, self.as_str())
     }
 }
 
@@ -51,7 +52,7 @@ impl Value {
 fn copy_items(alloc: Global, items: &Values) -> Result<Values, AllocError>
     ensures { IfOk result (λ copies. copies ≡ items.now) }
 {
-    let mut copies = Vec::new(alloc);
+    let mut copies = Vec::with_capacity(alloc, items.items.len())?;
     for item in &items.items {
         copies.push(item.copy(alloc)?)?;
     }
@@ -62,7 +63,7 @@ fn copy_items(alloc: Global, items: &Values) -> Result<Values, AllocError>
 fn copy_pairs(alloc: Global, pairs: &Pairs) -> Result<Pairs, AllocError>
     ensures { IfOk result (λ copies. copies ≡ pairs.now) }
 {
-    let mut copies = Vec::new(alloc);
+    let mut copies = Vec::with_capacity(alloc, pairs.items.len())?;
     for pair in &pairs.items {
         copies.push((pair.0.copy(alloc)?, pair.1.copy(alloc)?))?;
     }
@@ -73,5 +74,5 @@ fn copy_pairs(alloc: Global, pairs: &Pairs) -> Result<Pairs, AllocError>
 fn copy_tagged(alloc: Global, tagged: &Tagged) -> Result<Tagged, AllocError>
     ensures { IfOk result (λ copy. copy ≡ tagged.now) }
 {
-    Tagged::of(alloc, tagged.tag.copy(alloc)?, tagged.element.copy(alloc)?)
+    Tagged::of(alloc, tagged.inside.0.copy(alloc)?, tagged.inside.1.copy(alloc)?)
 }

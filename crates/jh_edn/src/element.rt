@@ -17,7 +17,8 @@ use crate::name::is_tag;
 use crate::pairs::{make_pairs, repeats_element, repeats_key};
 use crate::scan::{after_blank, begins_discard, begins_set, is_run, run_len};
 use crate::string::string;
-use crate::value::{Tagged, Text, Value, Values};
+use crate::text::Text;
+use crate::value::{Tagged, Value, Values};
 use std::alloc::Global;
 
 /// How many bytes open a set.
@@ -38,6 +39,14 @@ fn fault_before(kind: Kind, after: &str) -> ReadError
         kind,
         left: after.len() + 1,
     })
+}
+
+/// The values, in no more memory than they need: most vectors of a history are short and many.
+fn fitted(mut items: Vec<Value>) -> Values
+    ensures { result ≡ views items.items }
+{
+    items.shrink_to_fit();
+    Values::of(items)
 }
 
 /// The map of these elements, with what follows it.
@@ -86,11 +95,11 @@ pub(crate) fn element(alloc: Global, rest: &str, depth: usize) -> Result<(Value,
         }
         b'(' => {
             let (items, after) = elements_inside(alloc, rest, 1, b')', 0, depth)?;
-            Ok((Value::List(Values::of(items)), after))
+            Ok((Value::List(fitted(items)), after))
         }
         b'[' => {
             let (items, after) = elements_inside(alloc, rest, 1, b']', 0, depth)?;
-            Ok((Value::Vector(Values::of(items)), after))
+            Ok((Value::Vector(fitted(items)), after))
         }
         b'{' => {
             let (items, after) = elements_inside(alloc, rest, 1, b'}', MAP_ROOM, depth)?;
@@ -113,7 +122,7 @@ fn hashed(alloc: Global, rest: &str, depth: usize) -> Result<(Value, &str), Read
 {
     if begins_set(rest.as_bytes()) {
         let (items, after) = elements_inside(alloc, rest, SET_LEN, b'}', 0, depth)?;
-        return close_set(alloc, Values::of(items), after);
+        return close_set(alloc, fitted(items), after);
     }
     let behind = &rest[1..];
     let len = run_len(behind);
@@ -122,7 +131,7 @@ fn hashed(alloc: Global, rest: &str, depth: usize) -> Result<(Value, &str), Read
         return Err(fault_at(Kind::BadToken, rest));
     }
     let (value, after) = one_inside(alloc, rest, 1 + len, depth)?;
-    let tag = Text::of(String::from_str(alloc, tag)?);
+    let tag = Text::of(alloc, tag)?;
     Ok((Value::Tagged(Tagged::of(alloc, tag, value)?), after))
 }
 

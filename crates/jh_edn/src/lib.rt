@@ -20,6 +20,7 @@ mod pairs;
 mod reader;
 mod scan;
 mod string;
+mod text;
 mod value;
 mod writer;
 
@@ -28,5 +29,6 @@ pub use bytes::read_bytes;
 pub use error::EdnError;
 pub use laws::{equality_laws, normal_laws, order_laws, print_laws, spelled_once};
 pub use reader::read_one;
-pub use value::{Pairs, Tagged, Text, Value, Values};
+pub use text::Text;
+pub use value::{Pairs, Tagged, Value, Values};
 pub use writer::write;

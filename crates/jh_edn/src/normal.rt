@@ -47,8 +47,8 @@ impl Value {
                 Ok(Value::Set(Values::of(sorted)))
             }
             Value::Tagged(tagged) => {
-                let tag = tagged.tag.copy(alloc)?;
-                let element = tagged.element.normal(alloc)?;
+                let tag = tagged.inside.0.copy(alloc)?;
+                let element = tagged.inside.1.normal(alloc)?;
                 Ok(Value::Tagged(Tagged::of(alloc, tag, element)?))
             }
             _ => self.copy(alloc),
@@ -61,7 +61,7 @@ impl Value {
 fn normal_items(alloc: Global, items: &Values) -> Result<Vec<Value>, AllocError>
     ensures { IfOk result (λ v. views v.items ≡ normal.normal_list (items_of items.now)) }
 {
-    let mut found = Vec::new(alloc);
+    let mut found = Vec::with_capacity(alloc, items.items.len())?;
     for item in &items.items {
         found.push(item.normal(alloc)?)?;
     }
@@ -73,7 +73,7 @@ fn normal_items(alloc: Global, items: &Values) -> Result<Vec<Value>, AllocError>
 fn normal_pairs(alloc: Global, pairs: &Pairs) -> Result<Vec<(Value, Value)>, AllocError>
     ensures { IfOk result (λ v. view_pairs v.items ≡ normal.normal_pairs (members_of pairs.now)) }
 {
-    let mut found = Vec::new(alloc);
+    let mut found = Vec::with_capacity(alloc, pairs.items.len())?;
     for pair in &pairs.items {
         let key = pair.0.normal(alloc)?;
         let value = pair.1.normal(alloc)?;

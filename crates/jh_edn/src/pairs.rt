@@ -15,8 +15,12 @@ ghost use Rattle.jh_edn.specs.View.{views};
 use crate::fingerprint::fingerprint;
 use crate::key::{Part, item_keys, push_key};
 use crate::value::{Pairs, Value, Values};
+use smallvec::SmallVec;
 use std::alloc::{AllocError, Global};
 use std::collections::BTreeSet;
+
+/// Fingerprints. Those of a map of up to 16 keys take no memory.
+type Numbers = SmallVec<u64, 16>;
 
 /// The elements two by two, or `None` where one is left over.
 pub(crate) fn make_pairs(alloc: Global, items: Vec<Value>) -> Result<Option<Pairs>, AllocError>
@@ -60,19 +64,19 @@ fn ascend(numbers: &[u64]) -> bool
     true
 }
 
-/// Whether no number stands twice.
-fn each_once(mut numbers: Vec<u64>) -> bool
-    ensures { MatchBool result (EachOnce numbers.items) (EachOnce numbers.items → ⊥) }
+/// Whether no number stands twice. Sorts the numbers.
+fn each_once(numbers: &mut [u64]) -> bool
+    ensures { MatchBool result (EachOnce numbers.old) (EachOnce numbers.old → ⊥) }
 {
     numbers.sort_unstable();
-    ascend(&numbers)
+    ascend(numbers)
 }
 
 /// The fingerprint of each key.
-fn key_numbers(alloc: Global, pairs: &Pairs) -> Result<Vec<u64>, AllocError>
+fn key_numbers(alloc: Global, pairs: &Pairs) -> Result<Numbers, AllocError>
     ensures { IfOk result (λ ns. ns.items ≡ map (λ m. fingerprint m.0) pairs.now) }
 {
-    let mut numbers = Vec::with_capacity(alloc, pairs.items.len())?;
+    let mut numbers = SmallVec::with_capacity(alloc, pairs.items.len())?;
     for pair in &pairs.items {
         numbers.push(fingerprint(&pair.0))?;
     }
@@ -80,10 +84,10 @@ fn key_numbers(alloc: Global, pairs: &Pairs) -> Result<Vec<u64>, AllocError>
 }
 
 /// The fingerprint of each element.
-fn item_numbers(alloc: Global, items: &Values) -> Result<Vec<u64>, AllocError>
+fn item_numbers(alloc: Global, items: &Values) -> Result<Numbers, AllocError>
     ensures { IfOk result (λ ns. ns.items ≡ fingerprints items.now) }
 {
-    let mut numbers = Vec::with_capacity(alloc, items.items.len())?;
+    let mut numbers = SmallVec::with_capacity(alloc, items.items.len())?;
     for item in &items.items {
         numbers.push(fingerprint(item))?;
     }
@@ -109,7 +113,8 @@ fn map_keys(alloc: Global, pairs: &Pairs) -> Result<Vec<Vec<Part<'_>>>, AllocErr
 pub(crate) fn repeats_key(alloc: Global, pairs: &Pairs) -> Result<bool, AllocError>
     ensures { IfOk result (λ b. b ≡ reading.repeats_key pairs.now) }
 {
-    if each_once(key_numbers(alloc, pairs)?) {
+    let mut numbers = key_numbers(alloc, pairs)?;
+    if each_once(numbers.as_mut_slice()) {
         return Ok(false);
     }
     has_twice(alloc, &map_keys(alloc, pairs)?)
@@ -121,7 +126,8 @@ pub(crate) fn repeats_key(alloc: Global, pairs: &Pairs) -> Result<bool, AllocErr
 pub(crate) fn repeats_element(alloc: Global, items: &Values) -> Result<bool, AllocError>
     ensures { IfOk result (λ b. b ≡ reading.repeats_element items.now) }
 {
-    if each_once(item_numbers(alloc, items)?) {
+    let mut numbers = item_numbers(alloc, items)?;
+    if each_once(numbers.as_mut_slice()) {
         return Ok(false);
     }
     has_twice(alloc, &item_keys(alloc, items)?)

@@ -10,10 +10,11 @@ ghost use Rattle.jh_edn.specs.Reading.{body};
 
 use crate::fault::{Kind, ReadError, fault_at};
 use crate::scan::{plain_len, unescape};
-use crate::value::Text;
+use crate::text::Text;
 use std::alloc::Global;
 
 /// What stands where the bytes end that stand for themselves.
+#[derive(Drop)]
 enum Stop<'a> {
     End,
     Close(&'a str),
@@ -43,8 +44,20 @@ fn stop_at(rest: &str) -> Stop<'_>
     }
 }
 
-/// What follows a string's opening quote, up to its end.
+/// What follows a string's opening quote, up to its end. Most strings have no escape, and are taken as they stand.
 pub(crate) fn string(alloc: Global, rest: &str) -> Result<(Text, &str), ReadError>
+    ensures gives { Gives (λ x. (x.0, x.1.now)) result (body rest.now) }
+    ensures text { IfOk result (λ x. IsUtf8 x.1.now) }
+{
+    let len = plain_len(rest);
+    match stop_at(&rest[len..]) {
+        Stop::Close(after) => Ok((Text::of(alloc, &rest[..len])?, after)),
+        _ => string_in_pieces(alloc, rest),
+    }
+}
+
+/// The same, with escapes.
+fn string_in_pieces(alloc: Global, rest: &str) -> Result<(Text, &str), ReadError>
     ensures gives { Gives (λ x. (x.0, x.1.now)) result (body rest.now) }
     ensures text { IfOk result (λ x. IsUtf8 x.1.now) }
 {
@@ -56,7 +69,7 @@ pub(crate) fn string(alloc: Global, rest: &str) -> Result<(Text, &str), ReadErro
         left = &left[len..];
         match stop_at(left) {
             Stop::End => return Err(fault_at(Kind::UnexpectedEnd, "")),
-            Stop::Close(after) => return Ok((Text::of(text), after)),
+            Stop::Close(after) => return Ok((Text::of_string(alloc, text)?, after)),
             Stop::BadEscape => return Err(fault_at(Kind::BadEscape, left)),
             Stop::Escape(c, after) => {
                 text.push(c)?;
