@@ -8,7 +8,7 @@ use std::alloc::Global;
 use std::io::{ErrorKind, Read};
 
 /// How many bytes one read asks for at most.
-const BUFFER_LEN: usize = 4096;
+const BUFFER_LEN: usize = 65_536;
 
 /// The bytes that the reader gives, up to its end.
 ///

@@ -47,15 +47,18 @@ pub(crate) fn is_digit(b: u8) -> bool
     matches!(b, b'0'..=b'9')
 }
 
+/// A character of symbols. Most are small letters, for which the first test is enough.
 #[tactic(auto, unfolding(crate::specs::Bytes::is_symbol, crate::specs::Bytes::is_digit))]
 pub(crate) fn is_symbol(b: u8) -> bool
     ensures { result ≡ bytes.is_symbol b }
 {
+    if matches!(b, b'a'..=b'z') {
+        return true;
+    }
     matches!(
         b,
         b'0'..=b'9'
             | b'A'..=b'Z'
-            | b'a'..=b'z'
             | b'.'
             | b'*'
             | b'+'
