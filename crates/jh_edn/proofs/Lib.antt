@@ -18,6 +18,7 @@ pub mod Complete
 pub mod Loop
 pub mod Characters
 pub mod Whole
+pub mod Taking
 pub mod Joining
 pub mod Printing
 pub mod NormalLemmas

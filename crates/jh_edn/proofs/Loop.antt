@@ -1,5 +1,5 @@
 -- Reading elements one after the other, as a loop does.
-use Rattle.std.proofs.Common.{◌≡◌, ℕ, zero, suc, ◌-◌, ◌≤◌, ◌<◌, true, false, cond, eqb, List, [], ◌∷◌, ◌++◌, length, drop, get_or, Result, Ok, Err, refl, sym, ap, ◌∙◌, arith}
+use Rattle.std.proofs.Common.{◌≡◌, ℕ, zero, suc, ◌-◌, ◌≤◌, ◌<◌, true, false, cond, eqb, List, [], ◌∷◌, ◌++◌, length, drop, get_or, Option, Some, None, Result, Ok, Err, inl, inr, refl, sym, ap, ◌∙◌, arith}
 use Rattle.std.specs.Prelude.{◌≢◌}
 use Rattle.std.proofs.lemmas.List.{length-drop, append-nil}
 use Rattle.std.proofs.lemmas.Bool.{eqb-false, ne_eqb, true_from_ne_false}
@@ -12,56 +12,98 @@ use Rattle.jh_edn.specs.declared.fault.Kind.TheVariants.{UnexpectedEnd, TooDeep}
 use Rattle.jh_edn.specs.Edn.{Edn}
 use Rattle.jh_edn.specs.Bytes.{underscore, semicolon, line_feed, is_space, begins_discard}
 use Rattle.jh_edn.specs.Gives.{Fails}
-use Rattle.jh_edn.specs.Reading.{◌>>=◌, fault, with_front, Skip, Read, Deeper, after_blank, after_comment, gap_step, gap_turns, items_step, items, deeper, gap, read}
+use Rattle.jh_edn.specs.Reading.{◌>>=◌, fault, with_front, Read, Deeper, after_blank, after_comment, gap_step, gap_turns, items_step, items, deeper, gap, read}
+use Rattle.jh_edn.specs.Sequences.{one_item, item_step, item}
 use Rattle.jh_edn.proofs.Bodies.{with_front-append}
-use Rattle.jh_edn.proofs.Sound.{discard_is, sound, gap_sound, read_sound}
+use Rattle.jh_edn.proofs.Sound.{chosen, done, ok_is, bind_ok, err_not, discard_is, sound, gap_sound, read_sound}
 use Rattle.jh_edn.proofs.Complete as complete
 
 same_eqb : (a b : ℕ) → a ≡ b → eqb a b ≡ true
 same_eqb a b e = true_from_ne_false (eqb a b) (λ f. eqb-false a b f e)
 
-module _ (close : ℕ) (skip : Skip) (value : Read Edn) where
-  opened : (n : ℕ) (left : List ℕ) → length left < n → items close skip value n left ≡ (skip left >>= items_step close value (items close skip value (n - 1)))
+-- ---- what stands next inside a bracket
+
+module _ (close : ℕ) (value : Read Edn) where
+  step_end : (here : List ℕ) → length here ≡ 0 → item_step close value here ≡ fault UnexpectedEnd []
+  step_end [] e = refl
+  step_end (c ∷ s) e = absurd (omega arith)
+
+  step_close : (here : List ℕ) → 0 < length here → get_or here 0 0 ≡ close → item_step close value here ≡ Ok (None, drop 1 here)
+  step_close [] lt e = absurd (omega arith)
+  step_close (c ∷ s) lt e = let t : eqb c close ≡ true = same_eqb c close e in rw t refl
+
+  step_more : (here : List ℕ) → 0 < length here → get_or here 0 0 ≢ close → item_step close value here ≡ (value here >>= one_item)
+  step_more [] lt e = absurd (omega arith)
+  step_more (c ∷ s) lt e = let t : eqb c close ≡ false = ne_eqb c close e in rw t refl
+
+module _ (close depth : ℕ) (left : List ℕ) where
+  -- the fault is in the gap
+  pub stuck : (e : ReadError) → Fails e (gap depth left) → Fails e (item close depth left)
+  stuck errors.Memory h = tt
+  stuck (errors.Fault f) h = rw h refl
+
+  module _ (here : List ℕ) (is : gap depth left ≡ Ok here) where
+    found : item close depth left ≡ item_step close (read depth) here
+    found = ap (λ w. w >>= item_step close (read depth)) is
+
+    pub ends : length here ≡ 0 → item close depth left ≡ fault UnexpectedEnd []
+    ends e = found ∙ step_end close (read depth) here e
+
+    pub closes : 0 < length here → get_or here 0 0 ≡ close → item close depth left ≡ Ok (None, drop 1 here)
+    closes some e = found ∙ step_close close (read depth) here some e
+
+    pub fails : (e : ReadError) → 0 < length here → get_or here 0 0 ≢ close → Fails e (read depth here) → Fails e (item close depth left)
+    fails errors.Memory some other h = tt
+    fails (errors.Fault f) some other h = found ∙ step_more close (read depth) here some other ∙ ap (λ w. w >>= one_item) h
+
+    pub is_element : (x : Edn) (after : List ℕ) → 0 < length here → get_or here 0 0 ≢ close → read depth here ≡ Ok (x, after) → item close depth left ≡ Ok (Some x, after)
+    is_element x after some other h = found ∙ step_more close (read depth) here some other ∙ ap (λ w. w >>= one_item) h
+
+-- ---- and then the elements behind it
+
+-- and then what more gives
+abbrev and_more : Read (List Edn) → Option Edn → Read (List Edn)
+and_more more None s = Ok ([], s)
+and_more more (Some x) s = with_front (x ∷ []) (more s)
+
+value_then : (more : Read (List Edn)) (r : Result (Edn × List ℕ) Fault)
+    → (r >>= λ x. with_front (x.0 ∷ []) (more x.1)) ≡ ((r >>= one_item) >>= λ x. and_more more x.0 x.1)
+value_then more (Ok x) = refl
+value_then more (Err f) = refl
+
+step_then : (close : ℕ) (value : Read Edn) (more : Read (List Edn)) (here : List ℕ) → items_step close value more here ≡ (item_step close value here >>= λ x. and_more more x.0 x.1)
+step_then close value more [] = refl
+step_then close value more (c ∷ s) =
+    elim (eqb c close) as (λ b. cond b (Ok ([], s)) (value (c ∷ s) >>= λ x. with_front (x.0 ∷ []) (more x.1))
+    ≡ (cond b (Ok (None, s)) (value (c ∷ s) >>= one_item) >>= λ x. and_more more x.0 x.1)) [
+      | true ↦ refl
+      | false ↦ value_then more (value (c ∷ s))
+    ]
+
+skip_then : (close depth : ℕ) (more : Read (List Edn)) (r : Result (List ℕ) Fault)
+    → (r >>= items_step close (read depth) more) ≡ ((r >>= item_step close (read depth)) >>= λ x. and_more more x.0 x.1)
+skip_then close depth more (Ok here) = step_then close (read depth) more here
+skip_then close depth more (Err f) = refl
+
+module _ (close depth : ℕ) where
+  opened : (n : ℕ) (left : List ℕ) → length left < n → items close (gap depth) (read depth) n left ≡ (item close depth left >>= λ x. and_more (items close (gap depth) (read depth) (n - 1)) x.0 x.1)
   unfolding items
   opened zero left lt = absurd (omega arith)
-  opened (suc n) left lt = let k : suc n - 1 ≡ n = omega arith in rw k refl
+  opened (suc n) left lt = let k : suc n - 1 ≡ n = omega arith in rw k (skip_then close depth (items close (gap depth) (read depth) n) (gap depth left))
 
-  step_end : (more : Read (List Edn)) (here : List ℕ) → length here ≡ 0 → items_step close value more here ≡ fault UnexpectedEnd []
-  step_end more [] e = refl
-  step_end more (c ∷ s) e = absurd (omega arith)
+  module _ (front : List Edn) (n : ℕ) (left : List ℕ) (total : Result (List Edn × List ℕ) Fault) (lt : length left < n) (so_far : with_front front (items close (gap depth) (read depth) n left) ≡ total) where
+    before : (next : Result (Option Edn × List ℕ) Fault) → item close depth left ≡ next → total ≡ with_front front (next >>= λ x. and_more (items close (gap depth) (read depth) (n - 1)) x.0 x.1)
+    before next e = sym so_far ∙ ap (with_front front) (opened n left lt ∙ ap (λ w. w >>= λ x. and_more (items close (gap depth) (read depth) (n - 1)) x.0 x.1) e)
 
-  step_close : (more : Read (List Edn)) (here : List ℕ) → 0 < length here → get_or here 0 0 ≡ close → items_step close value more here ≡ Ok ([], drop 1 here)
-  step_close more [] lt e = absurd (omega arith)
-  step_close more (c ∷ s) lt e = let t : eqb c close ≡ true = same_eqb c close e in rw t refl
+    pub all_fail : (e : ReadError) → Fails e (item close depth left) → Fails e total
+    all_fail errors.Memory h = tt
+    all_fail (errors.Fault f) h = before (Err f) h
 
-  step_more : (more : Read (List Edn)) (here : List ℕ) → 0 < length here → get_or here 0 0 ≢ close → items_step close value more here ≡ (value here >>= λ x. with_front (x.0 ∷ []) (more x.1))
-  step_more more [] lt e = absurd (omega arith)
-  step_more more (c ∷ s) lt e = let t : eqb c close ≡ false = ne_eqb c close e in rw t refl
+    pub all_read : (after : List ℕ) → item close depth left ≡ Ok (None, after) → total ≡ Ok (front, after)
+    all_read after h = before (Ok (None, after)) h ∙ ap (λ (w : List Edn). Ok (w, after)) (append-nil front)
 
-  module _ (front : List Edn) (n : ℕ) (left : List ℕ) (total : Result (List Edn × List ℕ) Fault) (lt : length left < n) (so_far : with_front front (items close skip value n left) ≡ total) where
-    -- the fault is in the gap
-    pub stuck : (e : ReadError) → Fails e (skip left) → Fails e total
-    stuck errors.Memory h = tt
-    stuck (errors.Fault f) h = sym so_far ∙ ap (with_front front) (opened n left lt ∙ ap (λ w. w >>= items_step close value (items close skip value (n - 1))) h)
-
-    module _ (here : List ℕ) (is : skip left ≡ Ok here) where
-      before : (found : Result (List Edn × List ℕ) Fault) → items_step close value (items close skip value (n - 1)) here ≡ found → total ≡ with_front front found
-      before found e = sym so_far ∙ ap (with_front front) (opened n left lt ∙ ap (λ w. w >>= items_step close value (items close skip value (n - 1))) is ∙ e)
-
-      pub ends : length here ≡ 0 → total ≡ fault UnexpectedEnd []
-      ends e = before (fault UnexpectedEnd []) (step_end (items close skip value (n - 1)) here e)
-
-      pub closes : 0 < length here → get_or here 0 0 ≡ close → total ≡ Ok (front, drop 1 here)
-      closes some e = before (Ok ([], drop 1 here)) (step_close (items close skip value (n - 1)) here some e) ∙ ap (λ (w : List Edn). Ok (w, drop 1 here)) (append-nil front)
-
-      pub fails : (e : ReadError) → 0 < length here → get_or here 0 0 ≢ close → Fails e (value here) → Fails e total
-      fails errors.Memory some other h = tt
-      fails (errors.Fault f) some other h = before (Err f) (step_more (items close skip value (n - 1)) here some other ∙ ap (λ w. w >>= λ x. with_front (x.0 ∷ []) (items close skip value (n - 1) x.1)) h)
-
-      pub goes : (x : Edn) (after : List ℕ) → 0 < length here → get_or here 0 0 ≢ close → value here ≡ Ok (x, after) → with_front (front ++ x ∷ []) (items close skip value (n - 1) after) ≡ total
-      goes x after some other h =
-          sym (before (with_front (x ∷ []) (items close skip value (n - 1) after)) (step_more (items close skip value (n - 1)) here some other ∙ ap (λ w. w >>= λ y. with_front (y.0 ∷ []) (items close skip value (n - 1) y.1)) h)
-          ∙ with_front-append front (x ∷ []) (items close skip value (n - 1) after))
+    pub goes : (x : Edn) (after : List ℕ) → item close depth left ≡ Ok (Some x, after) → with_front (front ++ x ∷ []) (items close (gap depth) (read depth) (n - 1) after) ≡ total
+    goes x after h = sym (before (Ok (Some x, after)) h ∙ with_front-append front (x ∷ []) (items close (gap depth) (read depth) (n - 1) after))
 
 module _ (deep : Deeper) (n : ℕ) (left here : List ℕ) (total : Result (List ℕ) Fault) (lt : length left < n) (is : here ≡ after_blank left) (so_far : gap_turns deep n left ≡ total) where
   gap_opened : (m : ℕ) → length left < m → gap_turns deep m left ≡ gap_step deep (gap_turns deep (m - 1)) (after_blank left)
@@ -100,6 +142,25 @@ gap_shorter depth s here e = complete.gap_shorter depth s here (gap_sound depth 
 
 pub read_shorter : (depth : ℕ) (s : List ℕ) (x : Edn) (r : List ℕ) → read depth s ≡ Ok (x, r) → length r < length s
 read_shorter depth s x r e = complete.form_shorter depth x s r (read_sound depth s x r e)
+
+no_element : (x : Edn) (a b : Option Edn × List ℕ) → done a ≡ done b → a.0 ≡ None → b.0 ≡ Some x → ⊥
+no_element x a b e none some = let bad : None ≡ Some x = sym none ∙ ap (λ (w : Option Edn × List ℕ). w.0) (ok_is a b e) ∙ some in cc
+
+step_shorter : (close depth : ℕ) (here : List ℕ) (x : Edn) (after : List ℕ) → item_step close (read depth) here ≡ Ok (Some x, after) → length after < length here
+step_shorter close depth [] x after e = absurd (err_not _ _ e)
+step_shorter close depth (c ∷ s) x after e =
+    elim (chosen (eqb c close) (Ok (None, s)) (read depth (c ∷ s) >>= one_item) (Ok (Some x, after)) e) [
+      | inl p ↦ absurd (no_element x (None, s) (Some x, after) p.1 refl refl)
+      | inr p ↦
+          let q = bind_ok (read depth (c ∷ s)) one_item (Some x, after) p.1 in
+          let rest : q.0.1 ≡ after = ap (λ (w : Option Edn × List ℕ). w.1) (ok_is (Some q.0.0, q.0.1) (Some x, after) q.2) in
+          omega (arith, ap length rest, read_shorter depth (c ∷ s) q.0.0 q.0.1 q.1)
+    ]
+
+pub item_shorter : (close depth : ℕ) (left : List ℕ) (x : Edn) (after : List ℕ) → item close depth left ≡ Ok (Some x, after) → length after < length left
+item_shorter close depth left x after e =
+    let g = bind_ok (gap depth left) (item_step close (read depth)) (Some x, after) e in
+    omega (arith, gap_shorter depth left g.0 g.1, step_shorter close depth g.0 x after g.2)
 
 pub one_below : (depth : ℕ) (begin s : List ℕ) → 0 < depth → (deeper depth).one begin s ≡ (gap (depth - 1) s >>= read (depth - 1))
 unfolding deeper

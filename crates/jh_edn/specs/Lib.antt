@@ -11,6 +11,7 @@ pub mod Spelling
 pub mod Reading
 pub mod Normal
 pub mod Printable
+pub mod Sequences
 pub mod Gives
 pub mod Refused
 pub mod Print

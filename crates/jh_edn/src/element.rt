@@ -2,12 +2,13 @@
 //!
 //! `read` and `items` of `specs/Reading.antt` say what is read. A new kind of element is a new arm of `element`.
 
-ghost use Rattle.std.specs.Prelude.{◌≡◌, ◌+◌, ◌<◌, ◌^◌, suc, slice_index, drop, length, IfOk};
+ghost use Rattle.std.specs.Prelude.{◌≡◌, ◌+◌, ◌<◌, ◌^◌, suc, slice_index, drop, length, option_map, IfOk};
 ghost use Rattle.std.specs.Str.{IsUtf8, IsCharBoundary};
 ghost use Rattle.jh_edn.specs.Bytes.{IsAscii, hash};
 ghost use Rattle.jh_edn.specs.Gives.{Gives};
 ghost use Rattle.jh_edn.specs.Reading as reading;
 ghost use Rattle.jh_edn.specs.Reading.{read, gap, deeper, items, paired, pairs_of, unique};
+ghost use Rattle.jh_edn.specs.Sequences.{item};
 ghost use Rattle.jh_edn.specs.View.{view, views};
 
 use crate::atom::atom;
@@ -194,6 +195,30 @@ pub(crate) fn after_gap(alloc: Global, rest: &str, depth: usize) -> Result<&str,
     }
 }
 
+/// The next element up to a closing bracket, or `None` for the bracket, with what follows it.
+#[cycle(read)]
+pub(crate) fn next_item(
+    alloc: Global,
+    rest: &str,
+    close: u8,
+    depth: usize,
+) -> Result<(Option<Value>, &str), ReadError>
+    requires { IsAscii close }
+    ensures gives { Gives (λ x. (option_map view x.0, x.1.now)) result (item close depth rest.now) }
+    ensures text { IfOk result (λ x. IsUtf8 x.1.now) }
+{
+    let here = after_gap(alloc, rest, depth)?;
+    let bytes = here.as_bytes();
+    if bytes.is_empty() {
+        return Err(fault_at(Kind::UnexpectedEnd, ""));
+    }
+    if bytes[0] == close {
+        return Ok((None, &here[1..]));
+    }
+    let (value, after) = element(alloc, here, depth)?;
+    Ok((Some(value), after))
+}
+
 /// The elements up to a closing bracket, in a vector with `room` at first.
 #[cycle(read)]
 fn elements(
@@ -211,15 +236,10 @@ fn elements(
     let mut found = Vec::with_capacity(alloc, room)?;
     let mut left = rest;
     'turns: loop {
-        let here = after_gap(alloc, left, depth)?;
-        let bytes = here.as_bytes();
-        if bytes.is_empty() {
-            return Err(fault_at(Kind::UnexpectedEnd, ""));
-        }
-        if bytes[0] == close {
-            return Ok((found, &here[1..]));
-        }
-        let (value, after) = element(alloc, here, depth)?;
+        let (next, after) = next_item(alloc, left, close, depth)?;
+        let Some(value) = next else {
+            return Ok((found, after));
+        };
         found.push(value)?;
         left = after;
     }

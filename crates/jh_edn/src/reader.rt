@@ -34,7 +34,7 @@ fn line_of(text: &str, left: usize) -> u64
 }
 
 /// The error of a whole text.
-fn error_in(text: &str, error: ReadError) -> EdnError
+pub(crate) fn error_in(text: &str, error: ReadError) -> EdnError
     ensures { result ≡ reading.error_in text.now error }
 {
     match error {

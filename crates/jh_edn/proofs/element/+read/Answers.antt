@@ -6,8 +6,8 @@ use Rattle.std.proofs.lemmas.Result.{err_from_is_err_and}
 use Rattle.std.proofs.lemmas.List.{map_push}
 use Rattle.jh_edn.specs.Bytes.{hash, quote, open_paren, open_bracket, open_brace, begins_discard}
 use Rattle.jh_edn.specs.View.{view, views}
-use Rattle.jh_edn.specs.Reading.{deeper, gap, read}
-use Rattle.jh_edn.proofs.Loop.{ends, closes, stuck, fails, goes, gap_ends, gap_fails, gap_goes, blank_shorter, discard_shorter, discard_boundary, elements_below, elements_too_deep, one_below, one_too_deep, stuck_one, gap_shorter, read_shorter}
+use Rattle.jh_edn.specs.Reading.{deeper}
+use Rattle.jh_edn.proofs.Loop.{ends, closes, stuck, fails, is_element, gap_ends, gap_fails, gap_goes, blank_shorter, discard_shorter, discard_boundary, elements_below, elements_too_deep, one_below, one_too_deep, stuck_one, all_fail, all_read, goes, item_shorter}
 use Rattle.jh_edn.proofs.Lists.{within}
 use Rattle.jh_edn.proofs.element.+read.Goals as goal
 
@@ -18,52 +18,71 @@ element-range_from-requires t c =
     let some : 0 < length s = rw (← c.as_bytes-bytes.ensures.value) (grind arith) in
     λ _. IsCharBoundary-after_ascii s 0 (subst IsUtf8 c.as_bytes-bytes.ensures.value c.as_bytes-bytes.ensures.utf8) some (omega arith)
 
-pub elements-range_from-requires : goal.elements-range_from-requires
-elements-range_from-requires t c =
+pub next_item-range_from-requires : goal.next_item-range_from-requires
+next_item-range_from-requires t c =
     let s = c.in_ok-here.here.now in
     let first : get_or s 0 0 ≡ c.args.close = rw (← c.as_bytes-bytes.ensures.value) (grind arith) in
     let some : 0 < length s = rw (← c.as_bytes-bytes.ensures.value) (grind arith) in
     λ _. IsCharBoundary-after_ascii s 0 c.in_ok-here.ensures.text some (omega (arith, c.requires))
 
-pub elements-returns-then-is_empty-clause-gives : goal.elements-returns-then-is_empty-clause-gives
-elements-returns-then-is_empty-clause-gives t c =
+pub next_item-returns-in_err-here-clause-gives : goal.next_item-returns-in_err-here-clause-gives
+next_item-returns-in_err-here-clause-gives t c =
+    let p = err_from_is_err_and c.from_residual.result c.from_residual.ensures.1 in
+    rw (p.1, p.2) (stuck c.args.close c.args.depth c.args.rest.now c.in_err-here.field-0.0 c.in_err-here.ensures.gives)
+
+pub next_item-returns-then-is_empty-clause-gives : goal.next_item-returns-then-is_empty-clause-gives
+next_item-returns-then-is_empty-clause-gives t c =
     let here = c.in_ok-here.here.now in
     let none : length here ≡ 0 = rw (← c.as_bytes-bytes.ensures.value) (grind arith) in
-    let l = c.turns in
-    rw c.fault_at.ensures (ends c.args.close (gap c.args.depth) (read c.args.depth) (views l.found.items) l.invariant.1 l.left.now _ l.invariant.2 l.invariant.3 here c.in_ok-here.ensures.gives none)
+    rw c.fault_at.ensures (ends c.args.close c.args.depth c.args.rest.now here c.in_ok-here.ensures.gives none)
 
-pub elements-returns-then-bytes-close-clause-gives : goal.elements-returns-then-bytes-close-clause-gives
-elements-returns-then-bytes-close-clause-gives t c =
+pub next_item-returns-then-bytes-close-clause-gives : goal.next_item-returns-then-bytes-close-clause-gives
+next_item-returns-then-bytes-close-clause-gives t c =
     let here = c.in_ok-here.here.now in
     let some : 0 < length here = rw (← c.as_bytes-bytes.ensures.value) (grind arith) in
     let first : get_or here 0 0 ≡ c.args.close = rw (← c.as_bytes-bytes.ensures.value) (grind arith) in
-    let l = c.turns in
-    rw c.range_from.ensures.value (closes c.args.close (gap c.args.depth) (read c.args.depth) (views l.found.items) l.invariant.1 l.left.now _ l.invariant.2 l.invariant.3 here c.in_ok-here.ensures.gives some first)
+    rw c.range_from.ensures.value (closes c.args.close c.args.depth c.args.rest.now here c.in_ok-here.ensures.gives some first)
 
-pub elements-returns-in_err-value-clause-gives : goal.elements-returns-in_err-value-clause-gives
-elements-returns-in_err-value-clause-gives t c =
+pub next_item-returns-in_err-value-clause-gives : goal.next_item-returns-in_err-value-clause-gives
+next_item-returns-in_err-value-clause-gives t c =
     let p = err_from_is_err_and c.from_residual-in_err-value.result c.from_residual-in_err-value.ensures.1 in
     let here = c.in_ok-here.here.now in
     let some : 0 < length here = rw (← c.as_bytes-bytes.ensures.value) (grind arith) in
     let other : get_or here 0 0 ≢ c.args.close = rw (← c.as_bytes-bytes.ensures.value) (grind arith) in
-    let l = c.turns in
-    rw (p.1, p.2) (fails c.args.close (gap c.args.depth) (read c.args.depth) (views l.found.items) l.invariant.1 l.left.now _ l.invariant.2 l.invariant.3 here c.in_ok-here.ensures.gives c.in_err-value.field-0.0 some other c.in_err-value.ensures.gives)
+    rw (p.1, p.2) (fails c.args.close c.args.depth c.args.rest.now here c.in_ok-here.ensures.gives c.in_err-value.field-0.0 some other c.in_err-value.ensures.gives)
 
-pub elements-turns-smaller : goal.elements-turns-smaller
-elements-turns-smaller t c =
-    let here = c.in_ok-here.here.now in
-    omega (arith, gap_shorter c.args.depth c.turns.left.now here c.in_ok-here.ensures.gives, read_shorter c.args.depth here (view c.in_ok-value.value) c.in_ok-value.after.now c.in_ok-value.ensures.gives)
-
-pub elements-turns-preserved : goal.elements-turns-preserved
-elements-turns-preserved t c =
+pub next_item-returns-clause-gives : goal.next_item-returns-clause-gives
+next_item-returns-clause-gives t c =
     let here = c.in_ok-here.here.now in
     let some : 0 < length here = rw (← c.as_bytes-bytes.ensures.value) (grind arith) in
     let other : get_or here 0 0 ≢ c.args.close = rw (← c.as_bytes-bytes.ensures.value) (grind arith) in
+    is_element c.args.close c.args.depth c.args.rest.now here c.in_ok-here.ensures.gives (view c.in_ok-value.value) c.in_ok-value.after.now some other c.in_ok-value.ensures.gives
+
+pub elements-returns-in_err-next-clause-gives : goal.elements-returns-in_err-next-clause-gives
+elements-returns-in_err-next-clause-gives t c =
+    let p = err_from_is_err_and c.from_residual-in_err-next.result c.from_residual-in_err-next.ensures.1 in
+    let l = c.turns in
+    rw (p.1, p.2) (all_fail c.args.close c.args.depth (views l.found.items) l.invariant.1 l.left.now _ l.invariant.2 l.invariant.3 c.in_err-next.field-0.0 c.in_err-next.ensures.gives)
+
+pub elements-returns-in_default-clause-gives : goal.elements-returns-in_default-clause-gives
+elements-returns-in_default-clause-gives t c =
+    let l = c.turns in
+    all_read c.args.close c.args.depth (views l.found.items) l.invariant.1 l.left.now _ l.invariant.2 l.invariant.3 c.in_ok-next.after.now (rw c.in_default.is at c.in_ok-next.ensures.gives)
+
+pub elements-turns-smaller : goal.elements-turns-smaller
+elements-turns-smaller t c =
+    item_shorter c.args.close c.args.depth c.turns.left.now (view c.in-Some.value) c.in_ok-next.after.now (rw c.in-Some.is at c.in_ok-next.ensures.gives)
+
+pub elements-turns-preserved : goal.elements-turns-preserved
+elements-turns-preserved t c =
     let l = c.turns in
     let n = l.invariant.1 in
-    let pushed : views c.push.new.self.items ≡ views l.found.items ++ view c.in_ok-value.value ∷ [] = rw c.in_ok-push.ensures.items (map_push _ l.found.items c.in_ok-value.value) in
-    let short : length c.in_ok-value.after.now < n - 1 = omega (arith, l.invariant.2, gap_shorter c.args.depth l.left.now here c.in_ok-here.ensures.gives, read_shorter c.args.depth here (view c.in_ok-value.value) c.in_ok-value.after.now c.in_ok-value.ensures.gives) in
-    (c.in_ok-value.ensures.text, n - 1, short, rw pushed (goes c.args.close (gap c.args.depth) (read c.args.depth) (views l.found.items) n l.left.now _ l.invariant.2 l.invariant.3 here c.in_ok-here.ensures.gives (view c.in_ok-value.value) c.in_ok-value.after.now some other c.in_ok-value.ensures.gives))
+    let x = view c.in-Some.value in
+    let after = c.in_ok-next.after.now in
+    let is = rw c.in-Some.is at c.in_ok-next.ensures.gives in
+    let pushed : views c.push.new.self.items ≡ views l.found.items ++ x ∷ [] = rw c.in_ok-push.ensures.items (map_push _ l.found.items c.in-Some.value) in
+    let short : length after < n - 1 = omega (arith, l.invariant.2, item_shorter c.args.close c.args.depth l.left.now x after is) in
+    (c.in_ok-next.ensures.text, n - 1, short, rw pushed (goes c.args.close c.args.depth (views l.found.items) n l.left.now _ l.invariant.2 l.invariant.3 x after is))
 
 pub after_gap-returns-then-not-begins_discard-clause-gives : goal.after_gap-returns-then-not-begins_discard-clause-gives
 after_gap-returns-then-not-begins_discard-clause-gives t c =
@@ -120,12 +139,6 @@ element-elements_inside-requires-in-91 t c =
     let first : get_or s 0 0 ≡ open_bracket = rw (← c.as_bytes-bytes.ensures.value) (grind arith) in
     let some : 0 < length s = rw (← c.as_bytes-bytes.ensures.value) (grind arith) in
     (omega arith, (omega arith, IsCharBoundary-after_ascii s 0 (subst IsUtf8 c.as_bytes-bytes.ensures.value c.as_bytes-bytes.ensures.utf8) some (omega arith)))
-
-pub elements-returns-in_err-here-clause-gives : goal.elements-returns-in_err-here-clause-gives
-elements-returns-in_err-here-clause-gives t c =
-    let p = err_from_is_err_and c.from_residual-in_err-here.result c.from_residual-in_err-here.ensures.1 in
-    let l = c.turns in
-    rw (p.1, p.2) (stuck c.args.close (gap c.args.depth) (read c.args.depth) (views l.found.items) l.invariant.1 l.left.now _ l.invariant.2 l.invariant.3 c.in_err-here.field-0.0 c.in_err-here.ensures.gives)
 
 pub elements_inside-returns-then-depth-eq0-clause-gives : goal.elements_inside-returns-then-depth-eq0-clause-gives
 elements_inside-returns-then-depth-eq0-clause-gives t c =
