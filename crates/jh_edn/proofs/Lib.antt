@@ -21,6 +21,7 @@ pub mod Whole
 pub mod Taking
 pub mod Joining
 pub mod Printing
+pub mod Escaping
 pub mod NormalLemmas
 pub mod PrintedBack
 pub mod SpelledLemmas

@@ -1,10 +1,10 @@
 -- The one printed text of a value (this project's own; what it may look like is EDN's format description).
-use Rattle.std.specs.Prelude.{ℕ, ◌/◌, ◌%◌, Bool, ◌||◌, nat_lt, List, [], ◌∷◌, ◌++◌, if◌then◌else◌, ◌==◌, codes, encode_utf8}
+use Rattle.std.specs.Prelude.{ℕ, ◌/◌, ◌%◌, Bool, not, ◌||◌, nat_lt, List, [], ◌∷◌, ◌++◌, if◌then◌else◌, ◌==◌, codes, encode_utf8}
 use Rattle.std.specs.Char.{digit_char}
 use Rattle.std.specs.List.{flat_map}
 use Rattle.std.specs.Fmt.{signed_decimal}
 use Rattle.jh_edn.specs.Edn.{Edn, nil, boolean, int, char, str, keyword, symbol, list, vector, mapping, set, tagged, Items, no_items, item, Members, no_members, member}
-use Rattle.jh_edn.specs.Bytes.{backspace, tab, line_feed, form_feed, carriage_return, space, quote, hash, colon, backslash, open_paren, close_paren, open_bracket, close_bracket, open_brace, close_brace}
+use Rattle.jh_edn.specs.Bytes.{is_among, backspace, tab, line_feed, form_feed, carriage_return, space, quote, hash, colon, backslash, open_paren, close_paren, open_bracket, close_bracket, open_brace, close_brace}
 
 -- a byte of a string, as it stands between quotes
 abbrev pub escape : ℕ → List ℕ
@@ -12,6 +12,10 @@ escape c =
     if c == quote then codes "\\\"" else if c == backslash then codes "\\\\" else if c == line_feed then codes "\\n"
     else if c == tab then codes "\\t" else if c == carriage_return then codes "\\r" else if c == backspace then codes "\\b"
     else if c == form_feed then codes "\\f" else c ∷ []
+
+-- a byte that stands for itself between quotes
+unfoldable pub is_printed_bare : ℕ → Bool
+is_printed_bare c = not (is_among (quote ∷ backslash ∷ line_feed ∷ tab ∷ carriage_return ∷ backspace ∷ form_feed ∷ []) c)
 
 -- a character that would not show
 abbrev pub is_unshown : ℕ → Bool

@@ -2,18 +2,19 @@
 //!
 //! `print` of `specs/Print.antt` is the one printed text.
 
-ghost use Rattle.std.specs.Prelude.{◌≡◌, OnOk, IfErr, [], ◌∷◌, ◌++◌, ◌<◌, codes, encode_utf8};
+ghost use Rattle.std.specs.Prelude.{◌≡◌, OnOk, IfErr, [], ◌∷◌, ◌++◌, ◌+◌, ◌<◌, ◌≤◌, drop, length, codes, encode_utf8};
 ghost use Rattle.std.specs.Char.{digit_char};
 ghost use Rattle.std.specs.Fmt.{signed_decimal};
 ghost use Rattle.std.specs.Io.KnownBytes.{Appends};
 ghost use Rattle.std.specs.List.{flat_map};
-ghost use Rattle.jh_edn.specs.Bytes.{quote};
+ghost use Rattle.jh_edn.specs.Bytes.{leading, quote};
 ghost use Rattle.jh_edn.specs.Edn.{items_of, members_of};
-ghost use Rattle.jh_edn.specs.Print.{print, joined, item_texts, member_texts, unless_first, escape, char_number, char_text};
+ghost use Rattle.jh_edn.specs.Print.{print, joined, item_texts, member_texts, unless_first, escape, is_printed_bare, char_number, char_text};
 ghost use Rattle.jh_edn.specs.View.{view};
 
 use crate::error::EdnError;
 use crate::value::{Pairs, Value, Values};
+use itoa::Buffer;
 use std::io::Write;
 
 fn put<W: Write>(bytes: &[u8], writer: &mut W) -> Result<(), EdnError>
@@ -40,7 +41,7 @@ fn write_int<W: Write>(n: i64, writer: &mut W) -> Result<(), EdnError>
     ensures bytes { OnOk result (Appends (W.contents writer.old) (W.contents writer.new) (signed_decimal n)) }
     ensures error { IfErr result (λ e. e ≡ EdnError.Write) }
 {
-    write!(writer, "{n}").map_err(|_| EdnError::Write)
+    put(Buffer::new().format(n).as_bytes(), writer)
 }
 
 /// A byte of a string, as it stands between quotes.
@@ -60,17 +61,55 @@ fn write_byte<W: Write>(b: u8, writer: &mut W) -> Result<(), EdnError>
     }
 }
 
-/// A string in quotes.
+/// A byte that stands for itself between quotes.
+#[tactic(auto, unfolding(crate::specs::Print::is_printed_bare))]
+fn is_bare(b: u8) -> bool
+    ensures { result ≡ is_printed_bare b }
+{
+    !matches!(b, b'"' | b'\\' | b'\n' | b'\t' | b'\r' | b'\x08' | b'\x0c')
+}
+
+/// How many bytes from that place on stand for themselves.
+fn bare_len(bytes: &[u8]) -> usize
+    ensures len { result ≡ leading is_printed_bare bytes.now }
+    ensures within { result ≤ length bytes.now }
+{
+    let mut len = 0;
+    for b in bytes {
+        if !is_bare(*b) {
+            return len;
+        }
+        len += 1;
+    }
+    len
+}
+
+/// What stands behind the byte at that place.
+fn behind(bytes: &[u8], place: usize) -> &[u8]
+    requires { place < length bytes.now }
+    ensures { result.now ≡ drop (place + 1) bytes.now }
+{
+    &bytes[place + 1..]
+}
+
+/// A string in quotes. Goes from one byte that is escaped to the next, for most strings have none.
 fn write_text<W: Write>(text: &str, writer: &mut W) -> Result<(), EdnError>
     ensures bytes { OnOk result (Appends (W.contents writer.old) (W.contents writer.new)
         (quote ∷ (flat_map escape text.now ++ quote ∷ []))) }
     ensures error { IfErr result (λ e. e ≡ EdnError.Write) }
 {
     put(b"\"", writer)?;
-    for b in text.as_bytes() {
-        write_byte(*b, writer)?;
+    let mut left = text.as_bytes();
+    'pieces: loop {
+        let len = bare_len(left);
+        put(&left[..len], writer)?;
+        if len == left.len() {
+            put(b"\"", writer)?;
+            return Ok(());
+        }
+        write_byte(left[len], writer)?;
+        left = behind(left, len);
     }
-    put(b"\"", writer)
 }
 
 /// A hexadecimal digit, in lower case.
