@@ -89,9 +89,9 @@ pub fn history_in(alloc: Global, text: &str) -> Result<Vec<Op>, ReadHistoryError
     let Some((second, at)) = read_one(alloc, text, end)? else {
         return Ok(telling.history()?);
     };
-    let mut several = Telling::of_sequence(alloc);
-    several.take(alloc, second)?;
-    history_behind(alloc, text, at, several)
+    telling = Telling::of_sequence(alloc);
+    telling.take(alloc, second)?;
+    history_behind(alloc, text, at, telling)
 }
 
 /// The history that the text of a reader tells, as `history_in` tells it, read in at most `turns` reads. The text is dropped before

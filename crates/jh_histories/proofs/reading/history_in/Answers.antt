@@ -60,4 +60,4 @@ history_behind-requires-clause-begun c =
     let both : List Edn = q.0 ∷ second ∷ [] in
     let several : 1 < length both = omega arith in
     let other = rw c.in-Some-2.is at c.in_ok-second.ensures.some in
-    (both, several, (c.in-Some.end, q.2, (c.in-Some-2.at, other, refl)), c.in_ok-take.ensures (q.0 ∷ []) (c.of_sequence-several.ensures q.0 (q.1, q.3)))
+    (both, several, (c.in-Some.end, q.2, (c.in-Some-2.at, other, refl)), c.in_ok-take.ensures (q.0 ∷ []) (c.of_sequence-telling.ensures q.0 (q.1, q.3)))
