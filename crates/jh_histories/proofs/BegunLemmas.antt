@@ -1,6 +1,6 @@
 -- A text that is read up to a place, the values before it told.
-use Rattle.std.proofs.Common.{◌≡◌, ℕ, ◌⊎◌, List, [], ◌∷◌, ◌++◌, length, drop, Some, None, inl, inr, sym, subst, ap, ◌∙◌, append_assoc, arith}
-use Rattle.std.proofs.lemmas.List.{length-append}
+use Rattle.std.proofs.Common.{◌≡◌, ℕ, ◌⊎◌, List, [], ◌∷◌, ◌++◌, drop, Some, None, inl, inr, sym, subst, append_assoc, arith}
+use Rattle.std.proofs.lemmas.List.{append-nil, length-append}
 use Rattle.std.specs.Str.{IsUtf8}
 use Rattle.jh_edn.specs.Edn.{Edn}
 use Rattle.jh_edn.specs.Reading.{Reached, FirstFault}
@@ -10,10 +10,12 @@ use Rattle.jh_edn.specs.declared.error.EdnError.{EdnError}
 use Rattle.jh_edn.specs.declared.error.EdnError.TheVariants.{OutOfMemory}
 use Rattle.jh_edn.proofs.Facts.{Before, Behind, before_none, before_more, before_all, behind_none, behind_more, spells_nothing, refuses, first_behind}
 use Rattle.jh_histories.specs.Histories.{IsHistoryOf, RefusesHistoryOf}
-use Rattle.jh_histories.specs.TellingInside.{AreSeveral, Leave, RefusesOne}
+use Rattle.jh_histories.specs.TellingInside.{AreSeveral, HasTold, Leave, ReadsEach, RefusesOne}
+use Rattle.jh_histories.specs.declared.telling.Telling.{Telling}
 use Rattle.jh_histories.specs.declared.error.ReadHistoryError.TheVariants.{Text, History}
 use Rattle.jh_histories.proofs.TellingLemmas.{all_told, all_refused}
-use Rattle.jh_ops.specs.Operation.{Operation}
+use Rattle.jh_ops.specs.HistoryText.{elements_in}
+use Rattle.jh_ops.specs.Operation.{operations}
 use Rattle.jh_ops.specs.declared.history.HistoryError.{HistoryError}
 use Rattle.jh_ops.specs.declared.history.HistoryError.TheVariants as refusals
 
@@ -47,16 +49,20 @@ text_refused text values at error utf8 begun why first =
       ]
     ]
 
--- several values were read, and all were told
-pub history_read : (text : List ℕ) (values : List Edn) (at : ℕ) (ops : List Operation) → AreSeveral values → Begins text values at → IsGap (drop at text) → Leave values ops None → IsHistoryOf text ops
-history_read text values at ops several begun gap told = (values, before_all values text at begun.before gap, all_told values ops several told)
+-- values were read, and all elements in them told
+pub history_read : (text : List ℕ) (values elements : List Edn) (at : ℕ) (telling : Telling) → elements_in values ≡ elements → Begins text values at → IsGap (drop at text) → telling.refusal ≡ None → HasTold telling elements
+    → IsHistoryOf text (operations telling.ops.items)
+history_read text values elements at telling are begun gap none told =
+    let ops = operations telling.ops.items in
+    (values, before_all values text at begun.before gap, all_told values elements ops are (subst (Leave elements ops) none told.0))
 
--- several values were read, and one was refused
-pub history_refused : (text : List ℕ) (values : List Edn) (at : ℕ) (ops : List Operation) (refusal : HistoryError) → AreSeveral values → Begins text values at → IsGap (drop at text) → Leave values ops (Some refusal)
-    → RefusesHistoryOf text (History refusal)
-history_refused text values at ops refusals.OutOfMemory several begun gap told = tt
-history_refused text values at ops (refusals.Op place refusal) several begun gap told =
-    (values, before_all values text at begun.before gap, all_refused values ops (refusals.Op place refusal) several told)
+-- values were read, and an element in them was refused
+pub history_refused : (text : List ℕ) (values elements : List Edn) (at : ℕ) (telling : Telling) (refusal : HistoryError) → elements_in values ≡ elements → Begins text values at → IsGap (drop at text) → telling.refusal ≡ Some refusal
+    → HasTold telling elements → RefusesHistoryOf text (History refusal)
+history_refused text values elements at telling refusals.OutOfMemory are begun gap some told = tt
+history_refused text values elements at telling (refusals.Op place refusal) are begun gap some told =
+    let ops = operations telling.ops.items in
+    (values, before_all values text at begun.before gap, all_refused values elements ops (refusals.Op place refusal) are (subst (Leave elements ops) some told.0))
 
 -- a single value was read, and it is refused
 pub one_read_refused : (text : List ℕ) (value : Edn) (at : ℕ) (refusal : HistoryError) → Begins text (value ∷ []) at → IsGap (drop at text) → RefusesOne value refusal → RefusesHistoryOf text (History refusal)
@@ -66,3 +72,12 @@ one_read_refused text value at (refusals.Op place why) begun gap refused = (valu
 -- with one more, they are still several
 pub still_several : (values : List Edn) (value : Edn) → AreSeveral values → AreSeveral (values ++ value ∷ [])
 still_several values value several = let long = length-append values (value ∷ []) in omega (arith, several, long)
+
+each_further : (text : List ℕ) (front : List Edn) (at : ℕ) (values : List Edn) (end : ℕ) → Begins text front at → ReadsEach text at values end → Begins text (front ++ values) end
+each_further text front at [] end begun reads = subst (λ (vs : List Edn). Begins text vs end) (sym (append-nil front)) (subst (Begins text front) reads begun)
+each_further text front at (value ∷ values) end begun reads =
+    subst (λ (vs : List Edn). Begins text vs end) (append_assoc front (value ∷ []) values) (each_further text (front ++ value ∷ []) reads.0 values end (one_further text front at value reads.0 begun reads.1) reads.2)
+
+-- values that were read each behind the one before
+pub each_begun : (text : List ℕ) (values : List Edn) (end : ℕ) → ReadsEach text 0 values end → Begins text values end
+each_begun text values end reads = each_further text [] 0 values end (at_start text 0 (λ i. 0)) reads

@@ -4,6 +4,7 @@ ghost use Rattle.std.specs.Prelude.{◌≡◌};
 
 use jh_edn::EdnError;
 use jh_ops::HistoryError;
+use std::alloc::AllocError;
 use thiserror::Error;
 
 /// Why a reader gives no history. `specs/Histories.antt` says when each comes.
@@ -34,5 +35,16 @@ impl From<HistoryError> for ReadHistoryError {
 
     fn from(error: HistoryError) -> ReadHistoryError {
         ReadHistoryError::History(error)
+    }
+}
+
+impl From<AllocError> for ReadHistoryError {
+    ghost use Rattle.jh_histories.specs.declared.error.ReadHistoryError.TheVariants.{History};
+    ghost use Rattle.jh_ops.specs.declared.history.HistoryError.TheVariants.{OutOfMemory};
+
+    ghost from_gives = { λ _ e. e ≡ History OutOfMemory };
+
+    fn from(_error: AllocError) -> ReadHistoryError {
+        ReadHistoryError::History(HistoryError::OutOfMemory)
     }
 }

@@ -1,8 +1,10 @@
-//! Reading a history. Each value is told as soon as it is read, and dropped. `specs/Histories.antt` says what is read.
+//! Reading a history. Each value, or each element of a single list or vector, is told as soon as it is read, and dropped.
+//! `specs/Histories.antt` says what is read.
 
 ghost use Rattle.std.specs.Prelude.{◌∷◌, [], All, IfOk, IfErr, IfSome, MatchResult};
+ghost use Rattle.std.specs.Str.{IsCharBoundary};
 ghost use Rattle.jh_histories.specs.Histories.{IsHistoryOf, RefusesHistoryOf};
-ghost use Rattle.jh_histories.specs.TellingInside.{RefusesOne};
+ghost use Rattle.jh_histories.specs.TellingInside.{IsBegun, RefusesOne};
 ghost use Rattle.jh_ops.specs.HistoryText.{AreTold};
 ghost use Rattle.jh_ops.specs.Operation.{operations};
 ghost use Rattle.jh_edn.specs.View.{view};
@@ -10,7 +12,7 @@ ghost use Rattle.jh_ops.specs.OperationWritten.{IsWritable};
 
 use crate::error::ReadHistoryError;
 use crate::telling::Telling;
-use jh_edn::{EdnError, Value, read_bytes, read_one};
+use jh_edn::{EdnError, Sink, Value, read_bytes, read_one, read_sequence};
 use jh_ops::{HistoryError, Op, history_of};
 use std::alloc::Global;
 use std::io::Read;
@@ -27,14 +29,30 @@ fn history_of_one(alloc: Global, value: Value) -> Result<Vec<Op>, HistoryError>
     history_of(alloc, values)
 }
 
-/// The history that a text tells: one operation for each of its values, or of a single list or vector, with or without tags
-/// around it, one for each element. Of several values only one stands in memory at a time.
-///
-/// Takes the time of reading the text once.
-///
-/// Errors: the text's first error with its line, wherever it stands (`Text`); then the first value that tells no operation, with its
-/// place from 0 (`History`); out of memory, as either.
-pub fn history_in(alloc: Global, text: &str) -> Result<Vec<Op>, ReadHistoryError>
+// The history of several values, of which those up to `at` are told.
+fn history_behind(
+    alloc: Global,
+    text: &str,
+    at: usize,
+    telling: Telling,
+) -> Result<Vec<Op>, ReadHistoryError>
+    requires boundary { IsCharBoundary text.now at }
+    requires begun { IsBegun text.now at telling }
+    ensures told { IfOk result (λ ops. IsHistoryOf text.now (operations ops.items)) }
+    ensures writable { IfOk result (λ ops. All (λ op. IsWritable op.process) ops.items) }
+    ensures refused { IfErr result (RefusesHistoryOf text.now) }
+{
+    let mut telling = telling;
+    let mut at = at;
+    'values: while let Some((value, end)) = read_one(alloc, text, at)? {
+        telling.take(alloc, value)?;
+        at = end;
+    }
+    Ok(telling.history()?)
+}
+
+// The history that a text tells, whose first value is read whole.
+fn history_of_values(alloc: Global, text: &str) -> Result<Vec<Op>, ReadHistoryError>
     ensures told { IfOk result (λ ops. IsHistoryOf text.now (operations ops.items)) }
     ensures writable { IfOk result (λ ops. All (λ op. IsWritable op.process) ops.items) }
     ensures refused { IfErr result (RefusesHistoryOf text.now) }
@@ -46,14 +64,34 @@ pub fn history_in(alloc: Global, text: &str) -> Result<Vec<Op>, ReadHistoryError
         return Ok(history_of_one(alloc, first)?);
     };
     let mut telling = Telling::new(alloc);
-    telling.tell(alloc, first)?;
-    telling.tell(alloc, second)?;
-    let mut at = end;
-    'values: while let Some((value, end)) = read_one(alloc, text, at)? {
-        telling.tell(alloc, value)?;
-        at = end;
-    }
-    Ok(telling.history()?)
+    telling.take(alloc, first)?;
+    telling.take(alloc, second)?;
+    history_behind(alloc, text, end, telling)
+}
+
+/// The history that a text tells: one operation for each of its values, or of a single list or vector, with or without tags
+/// around it, one for each element. Only one of several values stands in memory at a time, and only one element of a single list or
+/// vector without tags; with tags around it, it is read whole.
+///
+/// Takes the time of reading the text once, and what stands before its first value once more.
+///
+/// Errors: the text's first error with its line, wherever it stands (`Text`); then the first value that tells no operation, with its
+/// place from 0 (`History`); out of memory, as either.
+pub fn history_in(alloc: Global, text: &str) -> Result<Vec<Op>, ReadHistoryError>
+    ensures told { IfOk result (λ ops. IsHistoryOf text.now (operations ops.items)) }
+    ensures writable { IfOk result (λ ops. All (λ op. IsWritable op.process) ops.items) }
+    ensures refused { IfErr result (RefusesHistoryOf text.now) }
+{
+    let mut telling = Telling::new(alloc);
+    let Some(end) = read_sequence(alloc, text, 0, &mut telling)? else {
+        return history_of_values(alloc, text);
+    };
+    let Some((second, at)) = read_one(alloc, text, end)? else {
+        return Ok(telling.history()?);
+    };
+    telling = Telling::of_sequence(alloc);
+    telling.take(alloc, second)?;
+    history_behind(alloc, text, at, telling)
 }
 
 /// The history that the text of a reader tells, as `history_in` tells it, read in at most `turns` reads. The text is dropped before

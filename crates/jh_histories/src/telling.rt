@@ -1,30 +1,28 @@
-//! What the values of a text told so far: operations, or the refusal of the first that told none. `specs/TellingInside.antt`
-//! says what each value adds. What is told here comes one by one; `jh_ops::history_of` tells a list of values.
+//! What elements told so far: operations, or the refusal of the first that told none. `specs/TellingInside.antt` says what each
+//! element adds. What is told here comes one by one; `jh_ops::history_of` tells a list of values.
 
-ghost use Rattle.std.specs.Prelude.{◌≡◌, ◌≢◌, ◌++◌, ◌∷◌, [], List, All, IfErr, OnOk, MatchResult, length};
+ghost use Rattle.std.specs.Prelude.{◌≡◌, ◌≢◌, ◌∷◌, [], All, IfErr, OnOk, MatchResult, length};
 ghost use Rattle.jh_edn.specs.Edn.{Edn};
-ghost use Rattle.jh_edn.specs.View.{view};
-ghost use Rattle.jh_histories.specs.TellingInside.{HasTold};
+ghost use Rattle.jh_histories.specs.TellingInside.{HasTold, IsSequence};
 ghost use Rattle.jh_ops.specs.HistoryText.{refusal_at};
 ghost use Rattle.jh_ops.specs.OperationWritten.{IsWritable};
 
-use jh_edn::Value;
+use jh_edn::{Sink, Value};
 use jh_ops::{HistoryError, Op, OpError, op_of};
-use std::alloc::Global;
+use std::alloc::{AllocError, Global};
 
-/// What the values so far told.
+/// What the elements so far told.
 #[derive(Drop)]
 pub(crate) struct Telling {
     pub(crate) ops: Vec<Op>,
-    /// Why the first value that told no operation was refused. Nothing is told behind it.
+    /// Why the first element that told no operation was refused. Nothing is told behind it.
     pub(crate) refusal: Option<HistoryError>,
 }
 
 impl Telling {
     /// Nothing told so far.
     pub(crate) fn new(alloc: Global) -> Telling
-        ensures told { HasTold [] result }
-        ensures writable { All (λ op. IsWritable op.process) result.ops.items }
+        ensures { HasTold result [] }
     {
         Telling {
             ops: Vec::new(alloc),
@@ -32,32 +30,24 @@ impl Telling {
         }
     }
 
-    /// One value more. Fails only where memory does.
-    pub(crate) fn tell(&mut self, alloc: Global, value: Value) -> Result<(), HistoryError>
-        ensures told { OnOk result
-            ((values : List Edn) → HasTold values self.old → HasTold (values ++ view value ∷ []) self.new) }
-        ensures writable { OnOk result (All (λ op. IsWritable op.process) self.old.ops.items
-            → All (λ op. IsWritable op.process) self.new.ops.items) }
-        ensures error { IfErr result (λ e. e ≡ HistoryError.OutOfMemory) }
+    /// What a list or a vector leaves that is the first of several values: it tells no operation.
+    pub(crate) fn of_sequence(alloc: Global) -> Telling
+        ensures { (value : Edn) → IsSequence value → HasTold result (value ∷ []) }
     {
-        match self.refusal {
-            Some(_) => Ok(()),
-            None => match op_of(alloc, value) {
-                Ok(op) => Ok(self.ops.push(op)?),
-                Err(error) => self.refuse(error),
-            },
+        Telling {
+            ops: Vec::new(alloc),
+            refusal: Some(HistoryError::Op(0, OpError::NotMap)),
         }
     }
 
-    // The value behind those told is refused, unless memory ran out.
-    fn refuse(&mut self, error: OpError) -> Result<(), HistoryError>
+    // The element behind those told is refused, unless memory ran out.
+    fn refuse(&mut self, error: OpError) -> Result<(), AllocError>
         ensures refusal { OnOk result (self.new ≡
             record self.old { refusal = Some (refusal_at (length self.old.ops.items) error) }) }
         ensures other { OnOk result (error ≢ OpError.OutOfMemory) }
-        ensures error { IfErr result (λ e. e ≡ HistoryError.OutOfMemory) }
     {
         match error {
-            OpError::OutOfMemory => Err(HistoryError::OutOfMemory),
+            OpError::OutOfMemory => Err(AllocError),
             _ => {
                 self.refusal = Some(HistoryError::Op(self.ops.len(), error));
                 Ok(())
@@ -65,7 +55,7 @@ impl Telling {
         }
     }
 
-    /// The operations, where each value told one.
+    /// The operations, where each element told one.
     pub(crate) fn history(self) -> Result<Vec<Op>, HistoryError>
         ensures told { MatchResult result
             (λ ops. (self.refusal ≡ None) × (ops ≡ self.ops))
@@ -75,6 +65,20 @@ impl Telling {
         match refusal {
             None => Ok(ops),
             Some(error) => Err(error),
+        }
+    }
+}
+
+impl Sink for Telling {
+    ghost has_taken = { HasTold };
+
+    fn take(&mut self, alloc: Global, element: Value) -> Result<(), AllocError> {
+        match self.refusal {
+            Some(_) => Ok(()),
+            None => match op_of(alloc, element) {
+                Ok(op) => Ok(self.ops.push(op)?),
+                Err(error) => self.refuse(error),
+            },
         }
     }
 }
