@@ -1,12 +1,10 @@
 -- A string as it stands between quotes: what stands for itself, and then a byte that is escaped.
-use Rattle.std.proofs.Common.{◌≡◌, ℕ, zero, suc, ◌+◌, ◌<◌, Bool, true, false, cond, List, [], ◌∷◌, ◌++◌, length, take, drop, get_or, Option, refl, sym, ap, ◌∙◌, append_assoc, arith}
-use Rattle.std.specs.Io.KnownBytes.{Appends}
+use Rattle.std.proofs.Common.{◌≡◌, ℕ, zero, suc, ◌+◌, ◌<◌, true, false, cond, List, [], ◌∷◌, ◌++◌, length, take, drop, get_or, refl, sym, ap, ◌∙◌, append_assoc, arith}
 use Rattle.std.specs.List.{flat_map}
 use Rattle.std.proofs.lemmas.Grind.{common_steps}
 use Rattle.std.proofs.lemmas.List.{append-nil, drop_all}
-use Rattle.jh_edn.specs.Bytes.{leading, quote}
+use Rattle.jh_edn.specs.Bytes.{leading}
 use Rattle.jh_edn.specs.Print.{escape, is_printed_bare}
-use Rattle.jh_edn.proofs.Printing.{appends_then}
 
 bare_escape : (c : ℕ) → is_printed_bare c ≡ true → escape c ≡ c ∷ []
 unfolding is_printed_bare

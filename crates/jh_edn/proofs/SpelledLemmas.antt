@@ -2,13 +2,12 @@
 use Rattle.std.proofs.Common.{◌≡◌, ℕ, zero, suc, ◌-◌, ◌<◌, inl, inr, Bool, true, false, cond, ◌&&◌, List, [], ◌∷◌, Option, Some, None, codes, refl, sym, subst, arith}
 use Rattle.std.specs.Prelude.{ℤ, FitsSigned, All, not, ◌==◌}
 use Rattle.std.specs.Int.{w64}
-use Rattle.std.specs.Char.{IsScalar, digit_value}
+use Rattle.std.specs.Char.{IsScalar}
 use Rattle.std.specs.List.{list_all}
 use Rattle.std.specs.Str.{byte, bytes_eq}
 use Rattle.std.specs.Str.Parse.{digits_value}
 use Rattle.std.proofs.lemmas.Grind.{common_steps}
 use Rattle.std.proofs.lemmas.List.Elements.{All-nil, All-cons}
-use lib.Utf8.{scalar}
 use Rattle.jh_edn.specs.Bytes.{backspace, carriage_return, form_feed, is_hex, line_feed, space, tab}
 use Rattle.jh_edn.specs.Edn.{Edn, nil, boolean, int, char, str, keyword, symbol, list, vector, mapping, set, tagged, Items, no_items, item, items_of, Members, no_members, member}
 use Rattle.jh_edn.specs.Printable.{IsPrintable, ArePrintable, PairsPrintable}

@@ -1,8 +1,7 @@
 -- Values that rank equal are equal.
 use Rattle.std.proofs.Common.{◌≡◌, Bool, true, false, refl, sym, ap, inl, inr}
 use Rattle.std.specs.Ordering.{bool_cmp}
-use Rattle.std.specs.declared.cmp.Ordering.{Ordering}
-use Rattle.std.specs.declared.cmp.Ordering.TheVariants.{Less, Equal, Greater}
+use Rattle.std.specs.declared.cmp.Ordering.TheVariants.{Equal}
 use Rattle.std.proofs.lemmas.Map.Lookups.{exact_unsigned, exact_signed, exact_bytes}
 use Rattle.jh_edn.specs.Edn.{Edn, nil, boolean, int, char, str, keyword, symbol, list, vector, mapping, set, tagged, Items, no_items, item, Members, no_members, member}
 use Rattle.jh_edn.specs.Equality.{Equals, EqualItems, EqualElements, EqualMembers}

@@ -74,5 +74,9 @@ fn copy_pairs(alloc: Global, pairs: &Pairs) -> Result<Pairs, AllocError>
 fn copy_tagged(alloc: Global, tagged: &Tagged) -> Result<Tagged, AllocError>
     ensures { IfOk result (λ copy. copy ≡ tagged.now) }
 {
-    Tagged::of(alloc, tagged.inside.0.copy(alloc)?, tagged.inside.1.copy(alloc)?)
+    Tagged::of(
+        alloc,
+        tagged.inside.0.copy(alloc)?,
+        tagged.inside.1.copy(alloc)?,
+    )
 }

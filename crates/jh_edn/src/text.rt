@@ -7,9 +7,8 @@ ghost use Rattle.std.specs.String.{string_bytes};
 
 use std::alloc::{AllocError, Global};
 use std::boxed::Box;
-use std::fmt;
 use std::marker::Model;
-use std::str;
+use std::{fmt, str};
 
 /// How many bytes a text may have that lies in the value itself. With one more for its length and eight for the kinds
 /// beside it, a value takes 32 bytes.

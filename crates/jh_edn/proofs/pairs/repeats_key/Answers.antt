@@ -1,4 +1,4 @@
-use Rattle.std.proofs.Common.{◌≡◌, sym, subst, ◌∙◌}
+use Rattle.std.proofs.Common.{sym, subst, ◌∙◌}
 use Rattle.jh_edn.specs.Fingerprint.{EachOnce}
 use Rattle.jh_edn.proofs.Fingerprints.{told_once, no_key_repeated}
 use Rattle.jh_edn.proofs.pairs.repeats_key.Goals as goal

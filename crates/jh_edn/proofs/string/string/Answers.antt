@@ -1,4 +1,4 @@
-use Rattle.std.proofs.Common.{◌≡◌, ℕ, List, [], Ok, drop, take, rules}
+use Rattle.std.proofs.Common.{◌≡◌, [], Ok, drop, take, rules}
 use Rattle.jh_edn.specs.Bytes.{is_plain}
 use Rattle.jh_edn.specs.Reading.{body}
 use Rattle.jh_edn.proofs.Bodies.{leading-past, closed}

@@ -1,8 +1,8 @@
-use Rattle.std.proofs.Common.{rules, ◌≡◌, OnOk, [], ◌∷◌, ◌++◌, ℕ, ◌+◌, ◌<◌, List, length, take, drop, get_or, arith, subst}
+use Rattle.std.proofs.Common.{rules, ◌≡◌, [], ◌∷◌, ◌++◌, ◌<◌, length, take, get_or, arith}
 use Rattle.std.specs.Io.KnownBytes.{Appends}
 use Rattle.std.specs.List.{flat_map}
-use Rattle.jh_edn.specs.Bytes.{leading, quote}
-use Rattle.jh_edn.specs.Print.{escape, is_printed_bare}
+use Rattle.jh_edn.specs.Bytes.{quote}
+use Rattle.jh_edn.specs.Print.{escape}
 use Rattle.jh_edn.proofs.Escaping.{piece_more, piece_last}
 use Rattle.jh_edn.proofs.Printing.{appends_then}
 use Rattle.jh_edn.proofs.writer.write_text.Goals as goal
@@ -27,10 +27,9 @@ pieces-preserved g c =
     let n = c.bare_len-len.result in
     let some : n < length left = grind (arith) in
     let bare : Appends (contents c.pieces.writer) (contents c.put-in-pieces.new.writer) (take n left) = search rules in
-    let escaped : Appends (contents c.put-in-pieces.new.writer) (contents c.write_byte.new.writer) (escape (get_or left n 0)) = search rules in
-    (
+    let escaped : Appends (contents c.put-in-pieces.new.writer) (contents c.write_byte.new.writer) (escape (get_or left n 0)) = search rules in (
       (so_far.0 ++ take n left) ++ escape (get_or left n 0),
       appends_then (contents c.args.writer.now) (contents c.put-in-pieces.new.writer) (contents c.write_byte.new.writer) (so_far.0 ++ take n left) (escape (get_or left n 0))
-      (appends_then (contents c.args.writer.now) (contents c.pieces.writer) (contents c.put-in-pieces.new.writer) so_far.0 (take n left) so_far.1 bare) escaped,
+          (appends_then (contents c.args.writer.now) (contents c.pieces.writer) (contents c.put-in-pieces.new.writer) so_far.0 (take n left) so_far.1 bare) escaped,
       rw c.behind-left.ensures (piece_more so_far.0 left (quote ∷ flat_map escape c.args.text.now) n c.bare_len-len.ensures.len so_far.2 some),
     )
