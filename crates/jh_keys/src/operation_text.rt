@@ -110,7 +110,7 @@ fn write_body<W: Write>(op: &Op, writer: &mut W) -> Result<(), EdnError>
 /// Takes no memory. The writer may have taken a part of the text where it failed.
 ///
 /// Errors: `Write` where the writer failed, and no other.
-pub(crate) fn write_operation<W: Write>(op: &Op, writer: &mut W) -> Result<(), EdnError>
+pub fn write_operation<W: Write>(op: &Op, writer: &mut W) -> Result<(), EdnError>
     ensures bytes { OnOk result
         (Appends (W.contents writer.old) (W.contents writer.new) (print (value_written (operation op.now)))) }
     ensures error { IfErr result (λ e. e ≡ EdnError.Write) }
