@@ -19,6 +19,8 @@ mod reading;
 #[cfg(test)]
 mod rows;
 #[cfg(test)]
+mod sequences;
+#[cfg(test)]
 mod table;
 #[cfg(test)]
 mod values;

@@ -7,7 +7,7 @@ use std::io::{self, ErrorKind, Read};
 use std::test::Fail;
 
 /// The number before the first space, and the text behind it.
-fn numbered(question: &str) -> Option<(u32, &str)> {
+pub(crate) fn numbered(question: &str) -> Option<(u32, &str)> {
     let (number, text) = question.split_once(' ')?;
     Some((number.parse::<u32>().ok()?, text))
 }

@@ -4,7 +4,7 @@
 //! proof of an array takes a second for each row, and answers are compared as texts, since a proof takes each
 //! comparison that is written out by itself.
 
-use crate::{plain, reading, values};
+use crate::{plain, reading, sequences, values};
 use jh_edn::EdnError;
 use std::alloc::{AllocError, Global};
 use std::test::Fail;
@@ -13,6 +13,7 @@ use std::test::Fail;
 pub(crate) enum Ask {
     Values,
     Element,
+    Elements,
     Nested,
     Turns,
     Count,
@@ -40,6 +41,7 @@ fn answer(alloc: Global, ask: &Ask, question: &str) -> Result<Vec<u8>, EdnError>
     match ask {
         Ask::Values => both(alloc, question),
         Ask::Element => reading::element(alloc, question),
+        Ask::Elements => sequences::elements(alloc, question),
         Ask::Nested => reading::nested(alloc, question),
         Ask::Turns => reading::in_turns(alloc, question),
         Ask::Count => reading::count(alloc, question),

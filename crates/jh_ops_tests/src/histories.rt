@@ -73,6 +73,10 @@ fn reads_one_sequence(rt: HostRuntime) {
 {:type :ok, :process 1, :f :a, :value nil}
 § read [{:type :ok :process 1 :f :a} [1] {}] → operation 1: not a map
 § read [{:type :ok :process 1 :f :a}] [] → operation 0: not a map
+§ read ( {:type :ok :process 1 :f :a} #_ 9 ; end
+{:type :ok :process 2 :f :b} ) #_ [] →
+{:type :ok, :process 1, :f :a, :value nil}
+{:type :ok, :process 2, :f :b, :value nil}
 § read 5 → operation 0: not a map
 "#;
     assert_eq!(rt; first_wrong(rt.alloc(), rows), None);
@@ -91,6 +95,10 @@ fn tells_the_first_error(rt: HostRuntime) {
 § read 1 {:a 1
 :a 2} → line 2: duplicate key
 § read #_ → line 1: unexpected end
+§ read [1 {:type :ok :process 1 :f :a}
+1.5] → line 2: float unsupported
+§ read [1 2 → line 1: unexpected end
+§ read [1] {:a → line 1: unexpected end
 "#;
     assert_eq!(rt; first_wrong(rt.alloc(), rows), None);
 }
