@@ -36,7 +36,8 @@ Takes HadTaken HasTaken elements = (before : List Edn) → HadTaken before → H
 -- From `at` to `end` a list or a vector is read, and its elements are taken.
 abbrev pub TakesSequence : (List Edn → Type 0) → (List Edn → Type 0) → List ℕ → ℕ → ℕ → Type 0
 TakesSequence HadTaken HasTaken text at end =
-    (x : Edn) × (elements : List Edn) × Reads text at x end × (elements_of x ≡ Some elements) × Takes HadTaken HasTaken elements
+    (x : Edn) × (elements : List Edn) × Reads text at x end × (elements_of x ≡ Some elements)
+    × Takes HadTaken HasTaken elements
 
 -- No list and no vector is read there.
 abbrev pub ReadsNoSequence : List ℕ → ℕ → Type 0
