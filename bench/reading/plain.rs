@@ -9,7 +9,7 @@
 //!
 //!     plain < FILE
 //!
-//! It prints how many elements the text has, or `refused at BYTE`, with status 3.
+//! It prints how many elements the text has, or `refused at BYTE`, with status 3. `bench/writing/plain.rs` reads by it, too.
 
 use std::io::{self, Read};
 use std::process;
@@ -17,7 +17,7 @@ use std::process;
 const DEPTH_LIMIT: usize = 64;
 const FEW: usize = 8;
 
-enum Value {
+pub enum Value {
     Nil,
     Bool(bool),
     Int(i64),
@@ -33,9 +33,9 @@ enum Value {
 }
 
 /// Where the text is refused.
-struct Refused(usize);
+pub struct Refused(pub usize);
 
-type Reading<T> = Result<T, Refused>;
+pub type Reading<T> = Result<T, Refused>;
 
 const SPACE: u8 = 1;
 const RUN: u8 = 2;
@@ -356,6 +356,19 @@ fn equal(one: &Value, other: &Value) -> bool {
     }
 }
 
+/// The elements of a text.
+pub fn values_of(text: &str) -> Reading<Vec<Value>> {
+    let mut reader = Reader { text, at: 0 };
+    let mut values = Vec::new();
+    loop {
+        reader.gap(DEPTH_LIMIT)?;
+        if reader.at == text.len() {
+            return Ok(values);
+        }
+        values.push(reader.element(DEPTH_LIMIT)?);
+    }
+}
+
 fn main() -> io::Result<()> {
     let mut bytes = Vec::new();
     io::stdin().lock().read_to_end(&mut bytes)?;
@@ -363,22 +376,9 @@ fn main() -> io::Result<()> {
         println!("not UTF-8");
         process::exit(3);
     };
-    let mut reader = Reader { text, at: 0 };
-    let mut values = Vec::new();
-    let refused = loop {
-        match reader.gap(DEPTH_LIMIT) {
-            Ok(()) if reader.at == text.len() => break None,
-            Ok(()) => {}
-            Err(refused) => break Some(refused),
-        }
-        match reader.element(DEPTH_LIMIT) {
-            Ok(value) => values.push(value),
-            Err(refused) => break Some(refused),
-        }
-    };
-    match refused {
-        None => println!("{}", values.len()),
-        Some(Refused(at)) => {
+    match values_of(text) {
+        Ok(values) => println!("{}", values.len()),
+        Err(Refused(at)) => {
             println!("refused at {at}");
             process::exit(3);
         }
