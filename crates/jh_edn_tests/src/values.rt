@@ -137,11 +137,12 @@ pub(crate) fn tagged(alloc: Global, question: &str) -> Result<Vec<u8>, EdnError>
 
 #[test]
 fn tags_and_names(rt: HostRuntime) -> Result<(), Fail> {
-    ask_all(
-        rt.alloc(),
-        &Ask::Tagged,
-        "a b\x1fthe tag is no name, the list empty",
-    )
+    let rows = "\
+        a b\x1fthe tag is no name, the list empty\
+        \x1e\x1fthe tag is no name, the list empty\
+        \x1eabcdefghijklmno\x1fthe tag is a name, the list empty\
+        \x1eabcdefghijklmnop\x1fthe tag is a name, the list empty";
+    ask_all(rt.alloc(), &Ask::Tagged, rows)
 }
 
 #[test]
