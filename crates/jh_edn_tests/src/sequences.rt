@@ -24,29 +24,34 @@ impl Sink for Taken {
     }
 }
 
-/// The elements of the list or vector that stands behind that place, and the place after it.
-fn elements_from(alloc: Global, text: &str, place: usize) -> Result<Vec<u8>, EdnError> {
-    let mut taken = Taken {
-        values: Vec::new(alloc),
-    };
-    match read_sequence(alloc, text, place, &mut taken)? {
-        Some(end) => {
-            let mut printed = print_all(alloc, &taken.values)?;
-            printed.extend_from_slice(format!(in alloc; " to {end}")?.as_bytes())?;
-            Ok(printed)
-        }
-        None => Ok(format!(in alloc; "none, {} taken", taken.values.len())?.into_bytes()),
+/// Takes the elements behind that place, which has to lie between two characters.
+fn take_from(
+    alloc: Global,
+    text: &str,
+    place: usize,
+    taken: &mut Taken,
+) -> Result<Option<usize>, EdnError> {
+    if text.is_char_boundary(place) {
+        read_sequence(alloc, text, place, taken)
+    } else {
+        Err(MALFORMED)
     }
 }
 
 /// The elements of a list or vector, asked as `PLACE TEXT`: printed, with a space between, and the place after its bracket.
 pub(crate) fn elements(alloc: Global, question: &str) -> Result<Vec<u8>, EdnError> {
     let (place, text) = numbered(question).ok_or(MALFORMED)?;
-    if text.is_char_boundary(place as usize) {
-        elements_from(alloc, text, place as usize)
-    } else {
-        Err(MALFORMED)
-    }
+    let mut taken = Taken {
+        values: Vec::new(alloc),
+    };
+    let end = take_from(alloc, text, place as usize, &mut taken)?;
+    let mut printed = print_all(alloc, &taken.values)?;
+    let behind = match end {
+        Some(end) => format!(in alloc; " to {end}")?,
+        None => format!(in alloc; "none")?,
+    };
+    printed.extend_from_slice(behind.as_bytes())?;
+    Ok(printed)
 }
 
 #[test]
@@ -55,11 +60,11 @@ fn takes_elements(rt: HostRuntime) -> Result<(), Fail> {
         0 [1 (2 3) {:a #t []}] 4\x1f1 (2 3) {:a #t []} to 20\
         \x1e2 1 ; two\n #_ 5 (:a #_ [] \"b\" ; c\n)\x1f:a \"b\" to 33\
         \x1e0 []\x1f to 2\
-        \x1e0 \x1fnone, 0 taken\
-        \x1e0 #t [1]\x1fnone, 0 taken\
-        \x1e0 #{1}\x1fnone, 0 taken\
-        \x1e0 {1 2}\x1fnone, 0 taken\
-        \x1e0 7\x1fnone, 0 taken";
+        \x1e0 \x1fnone\
+        \x1e0 #t [1]\x1fnone\
+        \x1e0 #{1}\x1fnone\
+        \x1e0 {1 2}\x1fnone\
+        \x1e0 7\x1fnone";
     ask_all(rt.alloc(), &Ask::Elements, rows)
 }
 
