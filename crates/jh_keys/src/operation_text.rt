@@ -22,10 +22,14 @@ fn write_front<W: Write>(name: &str, integer: Option<i64>, writer: &mut W) -> Re
         (Appends (W.contents writer.old) (W.contents writer.new) (front_text name.now integer)) }
     ensures error { IfErr result (λ e. e ≡ EdnError.Write) }
 {
-    match integer {
-        Some(number) => write!(writer, ":{name} {number}, ").map_err(|_| EdnError::Write),
-        None => Ok(()),
-    }
+    let Some(number) = integer else {
+        return Ok(());
+    };
+    put(b":", writer)?;
+    put(name.as_bytes(), writer)?;
+    put(b" ", writer)?;
+    write(&Value::Int(number), writer)?;
+    put(b", ", writer)
 }
 
 /// Writes the type, in front of the process.
