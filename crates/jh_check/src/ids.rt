@@ -88,13 +88,10 @@ fn attempts(history: &[Op]) -> usize
     ensures { result
         ≡ count_by (λ op. rule.is_asked Invoke (codes "generate") (operation op)) history.now }
 {
-    let mut count = 0;
-    for op in history {
-        if is_asked(Kind::Invoke, "generate", op) {
-            count += 1;
-        }
-    }
-    count
+    history
+        .iter()
+        .filter(|op| is_asked(Kind::Invoke, "generate", op))
+        .count()
 }
 
 // Puts a copy of the id last, where it was given more than once.

@@ -15,4 +15,3 @@ pub mod Sequences
 pub mod Gives
 pub mod Refused
 pub mod Print
-pub mod TextInside

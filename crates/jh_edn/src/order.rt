@@ -59,7 +59,7 @@ impl Value {
                 if tags != Ordering::Equal {
                     return tags;
                 }
-                a.inside.1.compare(&b.inside.1)
+                a.element.compare(&b.element)
             }
             _ => kind_of(self).cmp(&kind_of(other)),
         }

@@ -22,14 +22,10 @@ fn write_front<W: Write>(name: &str, integer: Option<i64>, writer: &mut W) -> Re
         (Appends (W.contents writer.old) (W.contents writer.new) (front_text name.now integer)) }
     ensures error { IfErr result (λ e. e ≡ EdnError.Write) }
 {
-    let Some(number) = integer else {
-        return Ok(());
-    };
-    put(b":", writer)?;
-    put(name.as_bytes(), writer)?;
-    put(b" ", writer)?;
-    write(&Value::Int(number), writer)?;
-    put(b", ", writer)
+    match integer {
+        Some(number) => write!(writer, ":{name} {number}, ").map_err(|_| EdnError::Write),
+        None => Ok(()),
+    }
 }
 
 /// Writes the type, in front of the process.
@@ -114,7 +110,7 @@ fn write_body<W: Write>(op: &Op, writer: &mut W) -> Result<(), EdnError>
 /// Takes no memory. The writer may have taken a part of the text where it failed.
 ///
 /// Errors: `Write` where the writer failed, and no other.
-pub fn write_operation<W: Write>(op: &Op, writer: &mut W) -> Result<(), EdnError>
+pub(crate) fn write_operation<W: Write>(op: &Op, writer: &mut W) -> Result<(), EdnError>
     ensures bytes { OnOk result
         (Appends (W.contents writer.old) (W.contents writer.new) (print (value_written (operation op.now)))) }
     ensures error { IfErr result (λ e. e ≡ EdnError.Write) }
