@@ -88,10 +88,13 @@ fn attempts(history: &[Op]) -> usize
     ensures { result
         ≡ count_by (λ op. rule.is_asked Invoke (codes "generate") (operation op)) history.now }
 {
-    history
-        .iter()
-        .filter(|op| is_asked(Kind::Invoke, "generate", op))
-        .count()
+    let mut count = 0;
+    for op in history {
+        if is_asked(Kind::Invoke, "generate", op) {
+            count += 1;
+        }
+    }
+    count
 }
 
 // Puts a copy of the id last, where it was given more than once.

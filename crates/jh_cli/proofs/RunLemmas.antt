@@ -1,5 +1,5 @@
 -- Why a run is refused or not completed, from why a part of it is.
-use Rattle.std.proofs.Common.{ℕ, List, [], ◌∷◌, All, arith, refl, sym, subst}
+use Rattle.std.proofs.Common.{ℕ, List, refl, sym, subst}
 use Rattle.jh_check.specs.declared.error.CheckError.{CheckError}
 use Rattle.jh_check.specs.declared.error.CheckError.TheVariants as CheckFault
 use Rattle.jh_edn.specs.declared.error.EdnError.TheVariants as EdnError
@@ -11,10 +11,7 @@ use Rattle.jh_simnode.specs.declared.serial.RunError.TheVariants as RunError
 use Rattle.jh_simnode.specs.declared.events.Event.{Event}
 use Rattle.jh_simnode.specs.declared.events.WorldError.TheVariants as WorldError
 use Rattle.jh_workers.specs.declared.desk.RunError.TheVariants as ThreadsError
-use Rattle.std.proofs.lemmas.List.Elements.{All-cons, All-head, All-tail}
-use Rattle.jh_ops.specs.Operation.{Operation, operation, operations}
-use Rattle.jh_ops.specs.OperationWritten.{IsWritable}
-use Rattle.jh_ops.specs.declared.operation.Op.{Op}
+use Rattle.jh_ops.specs.Operation.{Operation}
 use Rattle.jh_simnode.specs.Plans.{IsFit, PlanValue}
 use Rattle.jh_settings.specs.Settings as settings
 use Rattle.jh_settings.specs.Settings.{AreSettingsOf}
@@ -25,14 +22,6 @@ use Rattle.jh_cli.specs.RunRefusals.{RefusesBytes, RefusesOwn, RefusesRun, Refus
 use Rattle.jh_cli.specs.Status.{check_fault, run_fault, settings_fault, threads_fault, world_fault}
 use Rattle.jh_cli.specs.declared.error.CliError.{CliError}
 use Rattle.jh_cli.specs.declared.error.CliError.TheVariants.{Input, EnvironmentMissing, Environment, Element, History, Check, Settings, Run, HistoryFull, Mismatch, Thread, OnlyForRegister, Read, Write, OutOfMemory}
-
--- what holds of all operations that contracts see, holds of all that a program holds
-pub all_writable : (ops : List Op) → All (λ op. IsWritable op.process) (operations ops) → All (λ (op : Op). IsWritable op.process) ops
-all_writable [] h = λ k d below. absurd (omega (arith, below))
-all_writable (op ∷ ops) h =
-    let P : Operation → Type 0 = λ x. IsWritable x.process in
-    let Q : Op → Type 0 = λ x. IsWritable x.process in
-    All-cons Q op ops (All-head P (operation op) (operations ops) h) (all_writable ops (All-tail P (operation op) (operations ops) h))
 
 -- bytes that tell no settings
 pub settings_refused : (input : List ℕ) (fault : SettingsError.the_data) → settings.RefusesSettings input fault → RefusesBytes input (settings_fault fault)

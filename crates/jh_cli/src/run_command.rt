@@ -2,23 +2,25 @@
 //! checker of its workload finds. What is written stands in `specs/RunText.antt`, why an input is refused or a run not
 //! completed in `specs/RunRefusals.antt`.
 
-ghost use Rattle.std.specs.Prelude.{◌≡◌, ◌≢◌, ◌++◌, ℕ, [], List, All, OnOk, IfOk, IfErr, IfSome, MatchResult};
+ghost use Rattle.std.specs.Prelude.{◌≡◌, ◌≢◌, ◌++◌, ℕ, [], List, OnOk, IfOk, IfErr, IfSome, MatchResult};
 ghost use Rattle.std.specs.Io.KnownBytes.{Appends};
-ghost use Rattle.jh_ops.specs.Operation.{operations};
-ghost use Rattle.jh_ops.specs.OperationWritten.{IsWritable};
+ghost use Rattle.jh_edn.specs.Print.{print};
+ghost use Rattle.jh_ops.specs.Operation.{operation, operations};
+ghost use Rattle.jh_ops.specs.OperationWritten.{value_written};
 ghost use Rattle.jh_cli.specs.CheckText.{IsJudgement};
+ghost use Rattle.jh_cli.specs.EnvText.{line};
 ghost use Rattle.jh_cli.specs.RunInside.{own_error};
 ghost use Rattle.jh_cli.specs.RunRefusals.{RefusesBytes, RefusesOwn, RefusesRun, RefusesSerial, RefusesSettings, RefusesThreads};
 ghost use Rattle.jh_cli.specs.RunText as text;
 ghost use Rattle.jh_cli.specs.RunText.{IsFound, IsOutcome, IsRunText, IsRunTextOf, IsSerialText, IsThreadsText, IsTold};
 
 use crate::check_command::{Judgement, judge, status_of};
-use crate::env_command::{MOST_READS, write_active, write_environment, write_line};
+use crate::env_command::{MOST_READS, write_active, write_environment};
 use crate::error::CliError;
 use jh_edn::read_bytes;
-use jh_keys::Judging;
+use jh_keys::{Judging, write_operation};
 use jh_nemesis::Nemesis;
-use jh_ops::{Op, value_of};
+use jh_ops::Op;
 use jh_run_laws::own_histories_are_judged;
 use jh_settings::{Mode, RunSettings, settings_of};
 use jh_simnode::{Event, Plan, World, nemesis_after, run_serial, world_of};
@@ -153,7 +155,6 @@ fn run_threads<T: Threads + Wait + Sync>(
     plan: &Plan,
 ) -> Result<(Vec<Op>, Vec<Event>), ThreadsError>
     ensures outcome { IfOk result (λ told. IsOutcome plan.now told.1.items (operations told.0.items)) }
-    ensures writable { IfOk result (λ told. All (λ op. IsWritable op.process) (operations told.0.items)) }
 {
     let Ok(world) = world_of(alloc, plan) else {
         return Err(ThreadsError::OutOfMemory);
@@ -174,7 +175,6 @@ fn run_over<L: Ledger + Send + Sync, T: Threads + Wait + Sync>(
     requires parts { blank.parts ≡ L.parts }
     requires number { blank.parts ≡ 32 }
     ensures outcome { IfOk result (λ told. IsOutcome plan.now told.1.items (operations told.0.items)) }
-    ensures writable { IfOk result (λ told. All (λ op. IsWritable op.process) (operations told.0.items)) }
 {
     let port = LockedWorld::<L>::new(world, blank);
     match run(rt, alloc, plan, &port) {
@@ -231,12 +231,11 @@ fn lines_of(
     history: &[Op],
     judged: &[u8],
 ) -> Result<Vec<u8>, AllocError>
-    requires { All (λ op. IsWritable op.process) (operations history.now) }
     ensures { IfOk result (λ output.
         IsTold nemesis.now.state (operations history.now) judged.now output.items) }
 {
     let mut output = Vec::new(alloc);
-    write_history(alloc, history, &mut output)?;
+    write_history(history, &mut output)?;
     write_active(alloc, nemesis, &mut output)?;
     write_environment(alloc, nemesis.env(), &mut output)?;
     output.extend_from_slice(judged)?;
@@ -245,12 +244,22 @@ fn lines_of(
 }
 
 // Writes a line for each operation.
-fn write_history(alloc: Global, history: &[Op], output: &mut Vec<u8>) -> Result<(), AllocError>
-    requires { All (λ op. IsWritable op.process) (operations history.now) }
+fn write_history(history: &[Op], output: &mut Vec<u8>) -> Result<(), AllocError>
     ensures { OnOk result (output.new.items ≡ output.old.items ++ text.history_lines (operations history.now)) }
 {
     for op in history {
-        write_line(&value_of(alloc, op)?, output)?;
+        write_operation_line(op, output)?;
     }
+    Ok(())
+}
+
+// Writes the line of an operation.
+fn write_operation_line(op: &Op, output: &mut Vec<u8>) -> Result<(), AllocError>
+    ensures { OnOk result (output.new.items ≡ output.old.items ++ line (print (value_written (operation op.now)))) }
+{
+    if write_operation(op, output).is_err() {
+        return Err(AllocError);
+    }
+    output.push(b'\n')?;
     Ok(())
 }

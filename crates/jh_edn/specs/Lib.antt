@@ -15,3 +15,4 @@ pub mod Sequences
 pub mod Gives
 pub mod Refused
 pub mod Print
+pub mod TextInside

@@ -12,7 +12,8 @@ ghost use Rattle.jh_edn.specs.View.{view};
 use crate::fault::{Kind, ReadError, fault_at};
 use crate::name::{is_name, is_symbol_name};
 use crate::scan::{digits_len, is_digit, run_len};
-use crate::value::{Text, Value};
+use crate::text::Text;
+use crate::value::Value;
 use std::alloc::Global;
 
 /// How many bytes the sign takes: 1 or none.
@@ -117,15 +118,15 @@ pub(crate) fn atom(alloc: Global, rest: &str) -> Result<(Value, &str), ReadError
         };
     }
     if run.starts_with(':') && is_name(&run.as_bytes()[1..]) {
-        let name = String::from_str(alloc, &run[1..])?;
-        return Ok((Value::Keyword(Text::of(name)), &rest[len..]));
+        let name = Text::of(alloc, &run[1..])?;
+        return Ok((Value::Keyword(name), &rest[len..]));
     }
     if let Some(value) = word(run) {
         return Ok((value, &rest[len..]));
     }
     if is_symbol_name(run.as_bytes()) {
-        let name = String::from_str(alloc, run)?;
-        return Ok((Value::Symbol(Text::of(name)), &rest[len..]));
+        let name = Text::of(alloc, run)?;
+        return Ok((Value::Symbol(name), &rest[len..]));
     }
     Err(fault_at(Kind::BadToken, rest))
 }

@@ -3,7 +3,8 @@
 ghost use Rattle.std.specs.Prelude.{◌≡◌, IfOk};
 ghost use Rattle.jh_edn.specs.View.{view};
 
-use crate::value::{Pairs, Tagged, Text, Value, Values};
+use crate::text::Text;
+use crate::value::{Pairs, Tagged, Value, Values};
 use std::alloc::{AllocError, Global};
 
 impl Text {
@@ -15,7 +16,7 @@ impl Text {
     pub fn copy(&self, alloc: Global) -> Result<Text, AllocError>
         ensures { IfOk result (λ text. text ≡ self.now) }
     {
-        Ok(Text::of(String::from_str(alloc, self.as_str())?))
+        Text::of(alloc, self.as_str())
     }
 }
 
@@ -73,5 +74,9 @@ fn copy_pairs(alloc: Global, pairs: &Pairs) -> Result<Pairs, AllocError>
 fn copy_tagged(alloc: Global, tagged: &Tagged) -> Result<Tagged, AllocError>
     ensures { IfOk result (λ copy. copy ≡ tagged.now) }
 {
-    Tagged::of(alloc, tagged.tag.copy(alloc)?, tagged.element.copy(alloc)?)
+    Tagged::of(
+        alloc,
+        tagged.inside.0.copy(alloc)?,
+        tagged.inside.1.copy(alloc)?,
+    )
 }

@@ -18,7 +18,8 @@ use crate::name::is_tag;
 use crate::pairs::{make_pairs, repeats_element, repeats_key};
 use crate::scan::{after_blank, begins_discard, begins_set, is_run, run_len};
 use crate::string::string;
-use crate::value::{Tagged, Text, Value, Values};
+use crate::text::Text;
+use crate::value::{Tagged, Value, Values};
 use std::alloc::Global;
 
 /// How many bytes open a set.
@@ -131,7 +132,7 @@ fn hashed(alloc: Global, rest: &str, depth: usize) -> Result<(Value, &str), Read
         return Err(fault_at(Kind::BadToken, rest));
     }
     let (value, after) = one_inside(alloc, rest, 1 + len, depth)?;
-    let tag = Text::of(String::from_str(alloc, tag)?);
+    let tag = Text::of(alloc, tag)?;
     Ok((Value::Tagged(Tagged::of(alloc, tag, value)?), after))
 }
 

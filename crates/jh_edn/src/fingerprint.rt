@@ -82,7 +82,7 @@ fn content(value: &Value) -> u64
         Value::Vector(items) => in_turn(items),
         Value::Map(pairs) => sum_of_pairs(pairs),
         Value::Set(items) => sum_of_items(items),
-        Value::Tagged(tagged) => mix(text_number(tagged.tag()), fingerprint(&tagged.element)),
+        Value::Tagged(tagged) => mix(text_number(tagged.tag()), fingerprint(&tagged.inside.1)),
     }
 }
 

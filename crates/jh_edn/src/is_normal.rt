@@ -48,7 +48,7 @@ fn is_normal_within(value: &Value, depth: usize) -> bool
         Value::Tagged(tagged) => {
             depth > 0
                 && is_tag(tagged.tag().as_bytes())
-                && is_normal_within(&tagged.element, depth - 1)
+                && is_normal_within(&tagged.inside.1, depth - 1)
         }
     }
 }

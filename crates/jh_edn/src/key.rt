@@ -130,7 +130,7 @@ pub(crate) fn push_key<'a>(
         }
         Value::Tagged(tagged) => {
             push(Part::texted(Mark::Tagged, tagged.tag()), key)?;
-            push_key(alloc, &tagged.element, key)
+            push_key(alloc, &tagged.inside.1, key)
         }
     }
 }

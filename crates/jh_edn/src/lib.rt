@@ -21,6 +21,7 @@ mod reader;
 mod scan;
 mod sequence;
 mod string;
+mod text;
 mod value;
 mod writer;
 
@@ -30,5 +31,6 @@ pub use error::EdnError;
 pub use laws::{equality_laws, normal_laws, order_laws, print_laws, spelled_once};
 pub use reader::read_one;
 pub use sequence::{Sink, read_sequence};
-pub use value::{Pairs, Tagged, Text, Value, Values};
+pub use text::Text;
+pub use value::{Pairs, Tagged, Value, Values};
 pub use writer::write;

@@ -47,8 +47,8 @@ impl Value {
                 Ok(Value::Set(Values::of(sorted)))
             }
             Value::Tagged(tagged) => {
-                let tag = tagged.tag.copy(alloc)?;
-                let element = tagged.element.normal(alloc)?;
+                let tag = tagged.inside.0.copy(alloc)?;
+                let element = tagged.inside.1.normal(alloc)?;
                 Ok(Value::Tagged(Tagged::of(alloc, tag, element)?))
             }
             _ => self.copy(alloc),

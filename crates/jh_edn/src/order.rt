@@ -59,7 +59,7 @@ impl Value {
                 if tags != Ordering::Equal {
                     return tags;
                 }
-                a.element.compare(&b.element)
+                a.inside.1.compare(&b.inside.1)
             }
             _ => kind_of(self).cmp(&kind_of(other)),
         }

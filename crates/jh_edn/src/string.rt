@@ -10,7 +10,7 @@ ghost use Rattle.jh_edn.specs.Reading.{body};
 
 use crate::fault::{Kind, ReadError, fault_at};
 use crate::scan::{plain_len, unescape};
-use crate::value::Text;
+use crate::text::Text;
 use std::alloc::Global;
 
 /// What stands where the bytes end that stand for themselves.
@@ -51,10 +51,7 @@ pub(crate) fn string(alloc: Global, rest: &str) -> Result<(Text, &str), ReadErro
 {
     let len = plain_len(rest);
     match stop_at(&rest[len..]) {
-        Stop::Close(after) => {
-            let text = String::from_str(alloc, &rest[..len])?;
-            Ok((Text::of(text), after))
-        }
+        Stop::Close(after) => Ok((Text::of(alloc, &rest[..len])?, after)),
         _ => string_in_pieces(alloc, rest),
     }
 }
@@ -72,7 +69,7 @@ fn string_in_pieces(alloc: Global, rest: &str) -> Result<(Text, &str), ReadError
         left = &left[len..];
         match stop_at(left) {
             Stop::End => return Err(fault_at(Kind::UnexpectedEnd, "")),
-            Stop::Close(after) => return Ok((Text::of(text), after)),
+            Stop::Close(after) => return Ok((Text::of_string(alloc, text)?, after)),
             Stop::BadEscape => return Err(fault_at(Kind::BadEscape, left)),
             Stop::Escape(c, after) => {
                 text.push(c)?;

@@ -4,43 +4,13 @@
 //! of element is added here, there and in `specs/Code.antt`.
 
 ghost use Rattle.std.specs.Prelude.{◌≡◌, ◌↔◌, [], length, IsTrue, IfOk, option_map};
-ghost use Rattle.std.specs.String.{string_bytes};
 ghost use Rattle.jh_edn.specs.Edn.{elements_of};
 ghost use Rattle.jh_edn.specs.View.{view, views, view_pairs};
 
+use crate::text::Text;
 use std::alloc::{AllocError, Global};
 use std::boxed::Box;
 use std::marker::Model;
-
-/// A text that a value holds. A contract sees its bytes, which are UTF-8.
-#[derive(Debug, Drop)]
-pub struct Text {
-    text: String,
-}
-
-impl Model for Text {
-    ghost use Rattle.std.specs.Prelude.{List, ℕ};
-    ghost use Rattle.std.specs.String.{string_bytes};
-
-    ghost Value = { List ℕ };
-
-    ghost view = { λ a. string_bytes a.text };
-}
-
-impl Text {
-    /// The text of a string. Takes no memory.
-    pub fn of(text: String) -> Text
-        ensures { result ≡ string_bytes text }
-    {
-        Text { text }
-    }
-
-    pub fn as_str(&self) -> &str
-        ensures { result.now ≡ self.now }
-    {
-        self.text.as_str()
-    }
-}
 
 /// An EDN element: one of the kinds that EDN's format description lists under "Built-in elements",
 /// floating point numbers left out.
@@ -127,8 +97,7 @@ impl Model for Pairs {
 #[cycle(value)]
 #[derive(Debug, Drop)]
 pub struct Tagged {
-    pub(crate) tag: Text,
-    pub(crate) element: Box<Value>,
+    pub(crate) inside: Box<(Text, Value)>,
 }
 
 impl Model for Tagged {
@@ -143,14 +112,14 @@ impl Model for Tagged {
 
     ghost use Rattle.jh_edn.specs.View.{view as view_of};
 
-    ghost view = { λ a. (a.tag, view_of a.element.value) };
+    ghost view = { λ a. (a.inside.value.0, view_of a.inside.value.1) };
 
     ghost size = { λ t. size_of t.1 };
 
     ghost use Rattle.std.proofs.Common.{arith};
     ghost use Rattle.jh_edn.specs.Falls.{deep};
 
-    ghost size_decreases = { λ a h. Prim.omega (arith, deep a.element.value) };
+    ghost size_decreases = { λ a h. Prim.omega (arith, deep a.inside.value.1) };
 }
 
 impl Value {
@@ -176,8 +145,7 @@ impl Tagged {
         ensures { IfOk result (λ t. (t.0 ≡ tag) × (t.1 ≡ view element)) }
     {
         Ok(Tagged {
-            tag,
-            element: Box::new(alloc, element)?,
+            inside: Box::new(alloc, (tag, element))?,
         })
     }
 
@@ -185,13 +153,13 @@ impl Tagged {
     pub fn tag(&self) -> &str
         ensures { result.now ≡ self.now.0 }
     {
-        self.tag.as_str()
+        self.inside.0.as_str()
     }
 
     pub fn element(&self) -> &Value
         ensures { view result.now ≡ self.now.1 }
     {
-        &self.element
+        &self.inside.1
     }
 
     /// The tag and the element, given back without memory.
@@ -199,8 +167,8 @@ impl Tagged {
         ensures tag { result.0 ≡ self.0 }
         ensures element { view result.1 ≡ self.1 }
     {
-        let Tagged { tag, element } = self;
-        (tag, Box::into_inner(element))
+        let Tagged { inside } = self;
+        Box::into_inner(inside)
     }
 }
 

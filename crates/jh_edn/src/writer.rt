@@ -213,7 +213,7 @@ pub fn write<W: Write>(value: &Value, writer: &mut W) -> Result<(), EdnError>
             put(b"#", writer)?;
             put(tagged.tag().as_bytes(), writer)?;
             put(b" ", writer)?;
-            write(&tagged.element, writer)
+            write(&tagged.inside.1, writer)
         }
     }
 }

@@ -119,7 +119,7 @@ fn tells_normal_forms(rt: HostRuntime) -> Result<(), Fail> {
 /// An empty list with a tag.
 fn tagged_list(alloc: Global, tag: &str) -> Result<Tagged, AllocError> {
     let list = Value::List(Values::of(Vec::new(alloc)));
-    Tagged::of(alloc, Text::of(tag.to_string(alloc)?), list)
+    Tagged::of(alloc, Text::of(alloc, tag)?, list)
 }
 
 /// What a tagged empty list is when it was taken apart again.

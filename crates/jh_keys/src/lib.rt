@@ -19,5 +19,6 @@ pub use explanation::Explanation;
 pub use finding::{Explained, Finding, Found, Judging, check_history};
 pub use laws::findings_agree;
 pub use lines::{verdict_of_all, write_finding, write_findings};
+pub use operation_text::write_operation;
 pub use serial::{KeyFinding, check_keys_serial};
 pub use threads::{Gate, check_keys, check_keys_at};

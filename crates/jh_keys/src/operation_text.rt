@@ -22,10 +22,14 @@ fn write_front<W: Write>(name: &str, integer: Option<i64>, writer: &mut W) -> Re
         (Appends (W.contents writer.old) (W.contents writer.new) (front_text name.now integer)) }
     ensures error { IfErr result (λ e. e ≡ EdnError.Write) }
 {
-    match integer {
-        Some(number) => write!(writer, ":{name} {number}, ").map_err(|_| EdnError::Write),
-        None => Ok(()),
-    }
+    let Some(number) = integer else {
+        return Ok(());
+    };
+    put(b":", writer)?;
+    put(name.as_bytes(), writer)?;
+    put(b" ", writer)?;
+    write(&Value::Int(number), writer)?;
+    put(b", ", writer)
 }
 
 /// Writes the type, in front of the process.
@@ -110,7 +114,7 @@ fn write_body<W: Write>(op: &Op, writer: &mut W) -> Result<(), EdnError>
 /// Takes no memory. The writer may have taken a part of the text where it failed.
 ///
 /// Errors: `Write` where the writer failed, and no other.
-pub(crate) fn write_operation<W: Write>(op: &Op, writer: &mut W) -> Result<(), EdnError>
+pub fn write_operation<W: Write>(op: &Op, writer: &mut W) -> Result<(), EdnError>
     ensures bytes { OnOk result
         (Appends (W.contents writer.old) (W.contents writer.new) (print (value_written (operation op.now)))) }
     ensures error { IfErr result (λ e. e ≡ EdnError.Write) }

@@ -26,7 +26,7 @@ fn kind_name(kind: Kind) -> &'static str
 pub(crate) fn keyword(alloc: Global, name: &str) -> Result<Value, AllocError>
     ensures { IfOk result (λ value. view value ≡ keyword name.now) }
 {
-    Ok(Value::Keyword(Text::of(name.to_string(alloc)?)))
+    Ok(Value::Keyword(Text::of(alloc, name)?))
 }
 
 fn process_value(alloc: Global, process: Process) -> Result<Value, AllocError>

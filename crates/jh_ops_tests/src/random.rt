@@ -23,7 +23,7 @@ fn read(alloc: Global, text: &str) -> Option<Value> {
 fn tagged(alloc: Global, value: Value, tags: u64) -> Option<Value> {
     let mut value = value;
     for _ in 0..tags {
-        let tag = Text::of("t".to_string(alloc).ok()?);
+        let tag = Text::of(alloc, "t").ok()?;
         value = Value::Tagged(Tagged::of(alloc, tag, value).ok()?);
     }
     Some(value)

@@ -19,7 +19,7 @@ use std::alloc::{AllocError, Global};
 fn keyword(alloc: Global, name: &str) -> Result<Value, AllocError>
     ensures { IfOk result (λ value. view value ≡ keyword name.now) }
 {
-    Ok(Value::Keyword(Text::of(name.to_string(alloc)?)))
+    Ok(Value::Keyword(Text::of(alloc, name)?))
 }
 
 fn name_of(request: Request) -> &'static str

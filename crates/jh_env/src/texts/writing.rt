@@ -139,13 +139,13 @@ fn entries_of(alloc: Global, env: &Env, section: Section) -> Result<Vec<Entry<'_
 pub fn string(alloc: Global, text: &str) -> Result<Value, AllocError>
     ensures { IfOk result (λ value. view value ≡ str text.now) }
 {
-    Ok(Value::Str(Text::of(text.to_string(alloc)?)))
+    Ok(Value::Str(Text::of(alloc, text)?))
 }
 
 pub fn keyword(alloc: Global, name: &str) -> Result<Value, AllocError>
     ensures { IfOk result (λ value. view value ≡ keyword name.now) }
 {
-    Ok(Value::Keyword(Text::of(name.to_string(alloc)?)))
+    Ok(Value::Keyword(Text::of(alloc, name)?))
 }
 
 fn entry_value(alloc: Global, entry: &Entry) -> Result<Value, AllocError>

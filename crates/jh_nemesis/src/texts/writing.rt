@@ -14,7 +14,7 @@ use std::alloc::{AllocError, Global};
 fn word(alloc: Global, word: &str) -> Result<Value, AllocError>
     ensures { IfOk result (λ value. view value ≡ keyword word.now) }
 {
-    Ok(Value::Keyword(Text::of(String::from_str(alloc, word)?)))
+    Ok(Value::Keyword(Text::of(alloc, word)?))
 }
 
 // A word and an id.

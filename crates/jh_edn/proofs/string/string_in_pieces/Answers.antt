@@ -23,7 +23,7 @@ returns-in-BadEscape-clause-gives c =
 pub returns-in-Close-clause-gives : goal.returns-in-Close-clause-gives
 returns-in-Close-clause-gives c =
     let so_far = moved (string_bytes c.pieces.text) (string_bytes c.push_str.new.self) c.pieces.left.now c.range_from-left.result.now c.plain_len-len.result (body c.args.rest.now) c.plain_len-len.ensures.len (rw c.in_ok-push_str.ensures.bytes (search rules)) c.range_from-left.ensures.value c.pieces.invariant.1 in
-    rw c.of.ensures (ended (string_bytes c.push_str.new.self) c.range_from-left.result.now (body c.args.rest.now) _ so_far c.in-Close.ensures.gives ∙ ap (λ (t : List ℕ). Ok (t, c.in-Close.after.now)) (append-nil (string_bytes c.push_str.new.self)))
+    rw c.in_ok-of_string-in-Close.ensures (ended (string_bytes c.push_str.new.self) c.range_from-left.result.now (body c.args.rest.now) _ so_far c.in-Close.ensures.gives ∙ ap (λ (t : List ℕ). Ok (t, c.in-Close.after.now)) (append-nil (string_bytes c.push_str.new.self)))
 
 pub pieces-preserved : goal.pieces-preserved
 pieces-preserved c =

@@ -1,0 +1,9 @@
+use Rattle.std.proofs.Common.{◌≡◌, codes, take}
+use Rattle.std.specs.List.{count_by}
+use Rattle.jh_check.specs.Asked.{is_asked}
+use Rattle.jh_ops.specs.Operation.{operation}
+use Rattle.jh_ops.specs.declared.operation.Kind.TheVariants.{Invoke}
+use Rattle.jh_check.proofs.ids.attempts.Given as goal
+
+abbrev pub invariant-loop-op : goal.invariant-loop-op
+invariant-loop-op l = l.count ≡ count_by (λ op. is_asked Invoke (codes "generate") (operation op)) (take l.op-index l.history)
