@@ -39,7 +39,7 @@ from typing import NamedTuple, Optional
 
 KEYS = [":valid?", ":stuck", ":order", ":value", ":pending"]
 WORDS = {"nil": None, "true": True, "false": False}
-MOST_CALLS = 12
+MAX_CALLS = 12
 SHOWN = 10
 
 
@@ -114,7 +114,7 @@ class Maker:
         self.dice, self.records, self.calls = dice, [], 0
         self.first = self.value = dice.choice([None, 0, 1, 2])
         self.clients = [Client(process) for process in range(dice.randint(2, 4))]
-        self.most = dice.randint(4, MOST_CALLS)
+        self.most = dice.randint(4, MAX_CALLS)
         self.wrong = dice.choice([0.05, 0.1, 0.3])
         self.crashing = dice.choice([0, 0.1, 0.3])
         self.indexed, self.timed = dice.random() < 0.7, dice.random() < 0.3

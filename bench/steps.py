@@ -37,7 +37,7 @@ STANDING = "cut,slow,loss,fix"
 OF_NODES = ("pause", "kill", "bump")
 RUNS = 3
 # The most rounds of begins beside 255 active faults, so that a nemesis has room for all of their steps.
-MOST_BEGINS = 1900
+MAX_BEGINS = 1900
 # About as many links or nodes are named in all rounds of a case.
 NAMED = 1_000_000
 
@@ -72,7 +72,7 @@ def built_plain(top):
 def words_of(kind, nodes, standing, kinds, named, steps):
     """The arguments of a case, with as many rounds as take some milliseconds."""
     rounds = max(100, NAMED // (named + 10))
-    nemeses = -(-rounds // MOST_BEGINS) if steps == "begin" else 1
+    nemeses = -(-rounds // MAX_BEGINS) if steps == "begin" else 1
     return nodes, standing, kinds, kind, named, steps, rounds // nemeses, nemeses
 
 

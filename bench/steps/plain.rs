@@ -9,9 +9,9 @@ use std::hint::black_box;
 use std::time::{Duration, Instant};
 
 const LEVELS: usize = 20;
-const MOST_NODES: usize = 64;
-const MOST_ACTIVE: usize = 256;
-const MOST_STEPS: usize = 4096;
+const MAX_NODES: usize = 64;
+const MAX_ACTIVE: usize = 256;
+const MAX_STEPS: usize = 4096;
 
 /// The id of the fault that is measured.
 const MEASURED: u32 = 1_000_000;
@@ -56,7 +56,7 @@ struct NodeTally {
 struct Fix {
     stamp: usize,
     delay: u64,
-    links: [u64; MOST_NODES],
+    links: [u64; MAX_NODES],
 }
 
 #[derive(Clone)]
@@ -149,7 +149,7 @@ impl Tables {
         Tables {
             links: (0..count * count).map(|_| link()).collect(),
             nodes: (0..count).map(|_| node()).collect(),
-            fixes: Vec::with_capacity(MOST_ACTIVE),
+            fixes: Vec::with_capacity(MAX_ACTIVE),
         }
     }
 
@@ -167,7 +167,7 @@ impl Tables {
     }
 
     fn put_fix(&mut self, stamp: usize, delay: u64, links: &[(u8, u8)]) {
-        let mut words = [0; MOST_NODES];
+        let mut words = [0; MAX_NODES];
         for (from, to) in links {
             words[usize::from(*from)] |= 1 << to;
         }
@@ -266,7 +266,7 @@ impl Nemesis {
             tables,
             records: Vec::new(),
             cursor: 0,
-            active: Vec::with_capacity(MOST_ACTIVE),
+            active: Vec::with_capacity(MAX_ACTIVE),
         }
     }
 
@@ -319,7 +319,7 @@ impl Nemesis {
 
     /// Begins a fault under an id that no active fault has. None: it is refused.
     fn begin(&mut self, id: u32, fault: Fault) -> Option<()> {
-        let is_full = self.active.len() >= MOST_ACTIVE || self.cursor >= MOST_STEPS;
+        let is_full = self.active.len() >= MAX_ACTIVE || self.cursor >= MAX_STEPS;
         if self.stamp_of(id).is_some() || is_full {
             return None;
         }
@@ -330,7 +330,7 @@ impl Nemesis {
     /// Withdraws the active fault of an id. None: it is refused.
     fn withdraw(&mut self, id: u32) -> Option<()> {
         let stamp = self.stamp_of(id)?;
-        if self.cursor >= MOST_STEPS {
+        if self.cursor >= MAX_STEPS {
             return None;
         }
         self.take_step(Record::Withdrawn(stamp));

@@ -10,7 +10,7 @@ ghost use Rattle.jh_cli.specs.CheckRefusals.{RefusesByKeys, RefusesCheck, Refuse
 ghost use Rattle.jh_cli.specs.CheckText as text;
 ghost use Rattle.jh_cli.specs.CheckText.{IsCheckTextOf, IsHistoryText, IsJudgement, IsKeysJudgement, TakesInitial};
 
-use crate::env_command::MOST_READS;
+use crate::env_command::MAX_READS;
 use crate::error::CliError;
 use jh_check::Verdict;
 use jh_histories::read_history;
@@ -77,7 +77,7 @@ pub fn check_run<T: Threads + Wait + Sync, R: Read, W: Write>(
     if question.initial.is_some() && !is_register(question.workload) {
         return Err(CliError::OnlyForRegister);
     }
-    let history = read_history(alloc, reader, MOST_READS)?;
+    let history = read_history(alloc, reader, MAX_READS)?;
     let found = judge_history(rt, alloc, &history, question)?;
     match writer.write_all(&found.text) {
         Ok(()) => Ok(status_of(found.verdict)),

@@ -21,7 +21,7 @@ use std::alloc::{AllocError, Global};
 use std::io::{Read, Write};
 
 /// The most reads that an input may take.
-pub(crate) const MOST_READS: u32 = 16_777_216;
+pub(crate) const MAX_READS: u32 = 16_777_216;
 
 /// Exit status of a command that did its work.
 const DONE: u8 = 0;
@@ -47,7 +47,7 @@ pub fn env_run<R: Read, W: Write>(
     ensures refused { IfErr result (λ e. IfSome (R.remaining reader.old) (λ input. RefusesInput input e)) }
     ensures unwritten { IfErr result (λ e. e ≢ CliError.Write → writer.new ≡ writer.old) }
 {
-    let values = read_all(alloc, reader, MOST_READS)?;
+    let values = read_all(alloc, reader, MAX_READS)?;
     let output = env_text(alloc, values.as_slice())?;
     match writer.write_all(&output) {
         Ok(()) => Ok(DONE),

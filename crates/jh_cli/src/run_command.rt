@@ -15,7 +15,7 @@ ghost use Rattle.jh_cli.specs.RunText as text;
 ghost use Rattle.jh_cli.specs.RunText.{IsFound, IsOutcome, IsRunText, IsRunTextOf, IsSerialText, IsThreadsText, IsTold};
 
 use crate::check_command::{Judgement, judge, status_of};
-use crate::env_command::{MOST_READS, write_active, write_environment};
+use crate::env_command::{MAX_READS, write_active, write_environment};
 use crate::error::CliError;
 use jh_edn::read_bytes;
 use jh_keys::{Judging, write_operation};
@@ -60,7 +60,7 @@ pub fn run_run<T: Threads + Wait + Sync, R: Read, W: Write>(
     ensures refused { IfErr result (λ e. IfSome (R.remaining reader.old) (λ input. RefusesRun input e)) }
     ensures unwritten { IfErr result (λ e. e ≢ CliError.Write → writer.new ≡ writer.old) }
 {
-    let input = read_bytes(alloc, reader, MOST_READS)?;
+    let input = read_bytes(alloc, reader, MAX_READS)?;
     let found = run_bytes(rt, alloc, &input)?;
     match writer.write_all(&found.text) {
         Ok(()) => Ok(status_of(found.verdict)),

@@ -13,7 +13,7 @@ ghost use Rattle.jh_cli.specs.ShrinkText as text;
 ghost use Rattle.jh_cli.specs.ShrinkText.{IsOutcomeOf, IsShrinkTextOf, RunAnswers};
 
 use crate::check_command::judge;
-use crate::env_command::{MOST_READS, write_line};
+use crate::env_command::{MAX_READS, write_line};
 use crate::error::CliError;
 use crate::run_command::own_judging;
 use jh_check::Verdict;
@@ -81,7 +81,7 @@ pub fn shrink_run_observed<R: Read, W: Write, O: Observer>(
     ensures refused { IfErr result (λ e. IfSome (R.remaining reader.old) (λ input. RefusesShrinking input e)) }
     ensures unwritten { IfErr result (λ e. e ≢ CliError.Write → writer.new ≡ writer.old) }
 {
-    let input = read_bytes(alloc, reader, MOST_READS)?;
+    let input = read_bytes(alloc, reader, MAX_READS)?;
     let told = shrink_bytes(alloc, &input, budget, observer)?;
     match writer.write_all(&told.text) {
         Ok(()) => Ok(told.status),

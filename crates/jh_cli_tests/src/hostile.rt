@@ -104,7 +104,7 @@ impl Write for Narrow {
 }
 
 /// More bytes than the answer has. They are had at once, so that no refused allocation is taken for a full writer.
-const MOST: usize = 1_000;
+const MAX: usize = 1_000;
 
 /// The answer by such a reader and such a writer; `None` where memory was refused.
 fn answer_by_bytes<T: Threads + Wait + Sync>(
@@ -113,7 +113,7 @@ fn answer_by_bytes<T: Threads + Wait + Sync>(
     room: usize,
 ) -> Option<Vec<u8>> {
     let mut writer = Narrow {
-        taken: Vec::with_capacity(alloc, MOST).ok()?,
+        taken: Vec::with_capacity(alloc, MAX).ok()?,
         room,
     };
     let mut reader = Bytes {
@@ -155,7 +155,7 @@ fn reads_and_writes_byte_by_byte(rt: HostRuntime) {
         37,
         whole.len() - 1,
         whole.len(),
-        MOST,
+        MAX,
     ] {
         assert!(rt;
             is_written_up_to(&rt, rt.alloc(), whole.as_bytes(), room),

@@ -1,7 +1,7 @@
 //! An environment: names, and the tables of their cells. `specs/Overlay.antt` says which faults it stands for.
 
 ghost use Rattle.std.specs.Prelude.{◌≡◌, ◌<◌, ◌≤◌, ◌+◌, [], length, IfOk, IfSome};
-ghost use Rattle.jh_tables.specs.Standing.{IsLinkInRange, IsNodeInRange, IsPut, IsTaken, StandsAtSome, most_put};
+ghost use Rattle.jh_tables.specs.Standing.{IsLinkInRange, IsNodeInRange, IsPut, IsTaken, StandsAtSome, max_put};
 ghost use Rattle.jh_env.specs.Names.{AreFew, AreNodeNames};
 ghost use Rattle.jh_env.specs.Overlay.{StandsFor, StandsWith, SamePlace, cells_of, link_of, node_of, tables_of, work_of};
 ghost use Rattle.jh_env.specs.Faults.{FitsCount, size_of};
@@ -9,18 +9,18 @@ ghost use Rattle.jh_env.specs.Faults.{FitsCount, size_of};
 use crate::faults::Fault;
 use crate::names::Nodes;
 use crate::starting::Start;
-use jh_tables::{Link, MAX_LAID, Node, NodeCell, Tables};
+use jh_tables::{Link, Node, NodeCell, Tables};
 use std::alloc::{AllocError, Global};
 use std::marker::Model;
 
 /// The most faults that can be put and not taken.
-pub const MOST_LAID: usize = MAX_LAID;
+pub const MAX_LAID: usize = jh_tables::MAX_LAID;
 
 /// The most milliseconds by which a message can be late: a minute at the start or by a fix, and one for each fault.
-pub const MOST_DELAY: u64 = 60_000 * 257;
+pub const MAX_DELAY: u64 = 60_000 * 257;
 
 /// The most milliseconds by which a clock can be off, either way: 10^12 at the start and 10^9 for each fault.
-pub const MOST_OFFSET: u64 = 1_000_000_000_000 + 256 * 1_000_000_000;
+pub const MAX_OFFSET: u64 = 1_000_000_000_000 + 256 * 1_000_000_000;
 
 /// Cells of links and nodes, and what faults make of them. A contract sees the names, the starting cells, the cells
 /// now, what is kept of the faults, and how many are put.
@@ -113,7 +113,7 @@ impl Env {
     /// no memory. At most one cell is written for each link or node that the fault names, and one entry for a fix.
     pub fn put(&mut self, fault: &Fault, stamp: u32)
         requires fits { FitsCount (length self.old.names) fault.now }
-        requires room { self.old.laid < most_put }
+        requires room { self.old.laid < max_put }
         ensures stands { IsPut (stamp, fault.now) (tables_of self.old) (tables_of self.new) }
         ensures kept { SamePlace self.old self.new }
         ensures work { work_of self.new ≤ work_of self.old + size_of fault.now }

@@ -38,16 +38,16 @@ use std::marker::Model;
 use thiserror::Error;
 
 /// The most milliseconds by which one fault slows a link.
-pub const MOST_SLOWED: u64 = 60_000;
+pub const MAX_SLOWED: u64 = 60_000;
 
 /// The most milliseconds to which a fault fixes the delay of a link.
-pub const MOST_FIXED: u64 = 60_000;
+pub const MAX_FIXED: u64 = 60_000;
 
 /// The greatest level of loss.
-pub const MOST_LOSS: u8 = 20;
+pub const MAX_LOSS: u8 = 20;
 
 /// The most milliseconds by which one fault moves a clock, either way.
-pub const MOST_BUMPED: i64 = 1_000_000_000;
+pub const MAX_BUMPED: i64 = 1_000_000_000;
 
 /// A fault of an environment, on some of its links or nodes, each once.
 #[derive(Debug, Drop)]
@@ -86,16 +86,16 @@ fn is_right(kind: LinkFault) -> bool
 {
     match kind {
         LinkFault::Cut => true,
-        LinkFault::Slow(ms) => 0 < ms && ms <= MOST_SLOWED,
-        LinkFault::Loss(level) => 0 < level && level <= MOST_LOSS,
-        LinkFault::Fix(ms) => ms <= MOST_FIXED,
+        LinkFault::Slow(ms) => 0 < ms && ms <= MAX_SLOWED,
+        LinkFault::Loss(level) => 0 < level && level <= MAX_LOSS,
+        LinkFault::Fix(ms) => ms <= MAX_FIXED,
     }
 }
 
 fn is_bump_amount(ms: i64) -> bool
     ensures { IsTrue result ↔ IsBumpAmount ms }
 {
-    ms != 0 && -MOST_BUMPED <= ms && ms <= MOST_BUMPED
+    ms != 0 && -MAX_BUMPED <= ms && ms <= MAX_BUMPED
 }
 
 // Whether a link has an end that is none of count nodes.

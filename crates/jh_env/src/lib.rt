@@ -8,8 +8,8 @@ mod names;
 mod starting;
 mod texts;
 
-pub use environment::{Env, MOST_DELAY, MOST_LAID, MOST_OFFSET};
-pub use faults::{Fault, FaultError, MOST_BUMPED, MOST_FIXED, MOST_LOSS, MOST_SLOWED};
+pub use environment::{Env, MAX_DELAY, MAX_LAID, MAX_OFFSET};
+pub use faults::{Fault, FaultError, MAX_BUMPED, MAX_FIXED, MAX_LOSS, MAX_SLOWED};
 pub use jh_tables::{Life, Link, Node, NodeCell};
 pub use laws::limits;
 pub use names::{Nodes, NodesError};

@@ -3,7 +3,7 @@
 use crate::cells::{PlainCells, all_links};
 use crate::faults::{LinkFault, NodeFault, PlainFault};
 use crate::random::Random;
-use jh_env::{Life, Link, MOST_BUMPED, MOST_FIXED, MOST_LOSS, MOST_SLOWED, NodeCell};
+use jh_env::{Life, Link, MAX_BUMPED, MAX_FIXED, MAX_LOSS, MAX_SLOWED, NodeCell};
 use std::alloc::Global;
 
 /// A node of so many, mostly one of the first three, so that faults meet.
@@ -16,7 +16,7 @@ fn random_place(random: &mut Random, count: u8) -> u8 {
 }
 
 fn level(random: &mut Random, least: u64) -> u8 {
-    u8::try_from(random.amount(least, u64::from(MOST_LOSS))).unwrap_or(MOST_LOSS)
+    u8::try_from(random.amount(least, u64::from(MAX_LOSS))).unwrap_or(MAX_LOSS)
 }
 
 fn random_link(random: &mut Random) -> Link {
@@ -105,7 +105,7 @@ fn random_nodes(alloc: Global, random: &mut Random, count: u8) -> Option<Vec<u8>
 fn bumps(alloc: Global, random: &mut Random, places: &[u8]) -> Option<Vec<(u8, i64)>> {
     let mut bumps = Vec::new(alloc);
     for place in places {
-        let ms = random.offset(MOST_BUMPED.unsigned_abs());
+        let ms = random.offset(MAX_BUMPED.unsigned_abs());
         bumps.push((*place, ms)).ok()?;
     }
     Some(bumps)
@@ -115,9 +115,9 @@ fn bumps(alloc: Global, random: &mut Random, places: &[u8]) -> Option<Vec<(u8, i
 fn link_fault(random: &mut Random) -> LinkFault {
     match random.below(6) {
         0 => LinkFault::Cut,
-        1 => LinkFault::Slow(random.amount(1, MOST_SLOWED)),
+        1 => LinkFault::Slow(random.amount(1, MAX_SLOWED)),
         2 => LinkFault::Loss(level(random, 1)),
-        _ => LinkFault::Fix(random.amount(0, MOST_FIXED)),
+        _ => LinkFault::Fix(random.amount(0, MAX_FIXED)),
     }
 }
 

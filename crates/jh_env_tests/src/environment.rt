@@ -12,7 +12,7 @@
 
 use crate::faults::{Over, fault, over_first};
 use crate::rows::{Call, ends, link_text, node, spelled};
-use jh_env::{Env, Fault, FaultError, Life, Link, MOST_LAID, Node, NodeCell, Nodes, Start};
+use jh_env::{Env, Fault, FaultError, Life, Link, MAX_LAID, Node, NodeCell, Nodes, Start};
 use std::alloc::Global;
 
 /// An environment, the one that it is a copy of, the nodes over which faults are made, the stamp of the next fault,
@@ -60,7 +60,7 @@ impl Bench {
     /// Puts a copy of a fault where it fits.
     fn put(&mut self, alloc: Global, fault: &Fault) -> Option<&'static str> {
         let again = fault.copy(alloc).ok()?;
-        if !again.fits(&self.env) || self.env.laid() >= MOST_LAID {
+        if !again.fits(&self.env) || self.env.laid() >= MAX_LAID {
             return Some("unfit");
         }
         self.env.put(&again, self.stamp);

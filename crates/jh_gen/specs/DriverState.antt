@@ -25,11 +25,11 @@ use Rattle.jh_gen.specs.declared.answers.GenError.{GenError}
 use Rattle.jh_gen.specs.declared.answers.GenError.TheVariants.{NoSuchThread, BusyThread, TooManyOps, NothingOpen}
 
 -- How many client threads a driver has at most, and how many calls it gives at most.
-abbrev pub most_clients : ℕ
-most_clients = 16
+abbrev pub max_clients : ℕ
+max_clients = 16
 
-abbrev pub most_calls : ℕ
-most_calls = 1000000
+abbrev pub max_calls : ℕ
+max_calls = 1000000
 
 -- The number of client threads, what is left of the generator, how many calls were given; and by seat, whether its
 -- thread has an operation outstanding, and its process number (that at the nemesis's seat means nothing).
@@ -90,12 +90,12 @@ process_of d x = process_in d.processes x
 
 -- a driver can be made for so many client threads and this generator
 abbrev pub CanDrive : ℕ → Generator → Type 0
-CanDrive clients g = (1 ≤ clients) × (clients ≤ most_clients) × (fits clients g ≡ true)
+CanDrive clients g = (1 ≤ clients) × (clients ≤ max_clients) × (fits clients g ≡ true)
 
 -- why no driver is made
 abbrev pub RefusesDriver : ℕ → Generator → DriverError → Type 0
-RefusesDriver clients g BadClients = (1 ≤ clients → clients ≤ most_clients → ⊥)
-RefusesDriver clients g BadReserve = (1 ≤ clients) × (clients ≤ most_clients) × (fits clients g ≡ false)
+RefusesDriver clients g BadClients = (1 ≤ clients → clients ≤ max_clients → ⊥)
+RefusesDriver clients g BadReserve = (1 ≤ clients) × (clients ≤ max_clients) × (fits clients g ≡ false)
 RefusesDriver clients g OutOfMemory = CanDrive clients g
 
 -- a driver of so many client threads before its first call: nobody is busy, and the process of client n is n
@@ -109,13 +109,13 @@ pub record IsFresh (d : DriverState) (clients : ℕ) : Type 0 where
 
 -- the thread is the driver's, has no operation outstanding, and calls are left to give
 abbrev pub MayAsk : DriverState → Thread → Type 0
-MayAsk d x = IsKnown d x × (is_busy d x ≡ false) × (d.given < most_calls)
+MayAsk d x = IsKnown d x × (is_busy d x ≡ false) × (d.given < max_calls)
 
 -- why a thread is given no answer
 abbrev pub RefusesAsking : DriverState → Thread → GenError → Type 0
 RefusesAsking d x NoSuchThread = IsUnknown d x
 RefusesAsking d x BusyThread = IsKnown d x × (is_busy d x ≡ true)
-RefusesAsking d x TooManyOps = IsKnown d x × (is_busy d x ≡ false) × (most_calls ≤ d.given)
+RefusesAsking d x TooManyOps = IsKnown d x × (is_busy d x ≡ false) × (max_calls ≤ d.given)
 RefusesAsking d x NothingOpen = ⊥
 
 abbrev pub asked_by : DriverState → Thread → ℕ → Question
@@ -163,8 +163,8 @@ after_end d x end = record d { busy = set d.busy (seat_of x) false; processes = 
 -- What each driver keeps: its lists are as long as it has seats, and no process number can outgrow its bound, since
 -- an operation that is outstanding was given.
 pub record IsKept (d : DriverState) : Type 0 where
-  pub clients : d.clients ≤ most_clients
-  pub given : d.given ≤ most_calls
+  pub clients : d.clients ≤ max_clients
+  pub given : d.given ≤ max_calls
   pub busy : length d.busy ≡ d.clients + 1
   pub processes : length d.processes ≡ d.clients + 1
   pub small :

@@ -19,10 +19,10 @@ use std::alloc::{AllocError, Global};
 use std::marker::Model;
 
 /// How many client threads a driver has at most.
-pub const MOST_CLIENTS: u32 = 16;
+pub const MAX_CLIENTS: u32 = 16;
 
 /// How many calls a driver gives at most.
-pub const MOST_CALLS: u32 = 1_000_000;
+pub const MAX_CALLS: u32 = 1_000_000;
 
 /// Gives a generator's calls to the threads of a test: some client threads, and the nemesis. It keeps what is left of
 /// the generator, who is busy, and whose operation a thread's next one is.
@@ -105,7 +105,7 @@ impl Driver {
         ensures stands { IfOk result (λ driver. StandsFor driver (generator_of source) []) }
         ensures fresh { IfOk result (λ driver. IsFresh driver clients) }
     {
-        if clients < 1 || clients > MOST_CLIENTS {
+        if clients < 1 || clients > MAX_CLIENTS {
             return Err(DriverError::BadClients);
         }
         if !fits(&source, clients) {
@@ -154,7 +154,7 @@ impl Driver {
         if self.busy[seat] {
             return Err(GenError::BusyThread);
         }
-        if self.given >= MOST_CALLS {
+        if self.given >= MAX_CALLS {
             return Err(GenError::TooManyOps);
         }
         if self.root.is_done() {

@@ -11,6 +11,6 @@ mod suits;
 mod text;
 
 pub use answers::{DriverError, Ended, GenAnswer, GenError, Thread};
-pub use driver::{Driver, MOST_CALLS, MOST_CLIENTS};
+pub use driver::{Driver, MAX_CALLS, MAX_CLIENTS};
 pub use generator::{Gen, Gens, Inner, Shares};
 pub use text::{GenTextError, gen_of_value};

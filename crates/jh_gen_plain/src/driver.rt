@@ -1,7 +1,7 @@
 //! A driver by the definition: it knows of a run only the paths of its calls, who is busy, and who crashed how often.
 
 use crate::offers::{is_spent, offer_of};
-use crate::parts::{MOST_DEEP, Part, Question, Scope};
+use crate::parts::{MAX_DEEP, Part, Question, Scope};
 use jh_gen::{Gen, GenAnswer};
 use jh_ops::Process;
 use std::alloc::{AllocError, Global};
@@ -54,7 +54,7 @@ impl PlainDriver {
             calls: &self.calls,
             scope: Scope::of(1, self.clients as usize + 1, true),
         };
-        if is_spent(&self.source, whole, MOST_DEEP) {
+        if is_spent(&self.source, whole, MAX_DEEP) {
             return Ok(GenAnswer::Done);
         }
         let question = Question {
@@ -62,7 +62,7 @@ impl PlainDriver {
             word,
             busy: &self.busy,
         };
-        let Some((path, call)) = offer_of(&self.source, whole, question, MOST_DEEP) else {
+        let Some((path, call)) = offer_of(&self.source, whole, question, MAX_DEEP) else {
             return Ok(GenAnswer::Pending);
         };
         self.calls.push(path)?;

@@ -60,7 +60,7 @@ fn are_shares_spent(shares: &[(u32, Gen)], part: Part, depth: u32) -> bool {
 
 #[cycle(spent)]
 fn is_each_spent(inner: &Gen, part: Part, depth: u32) -> bool {
-    for seat in 0..MOST_SEATS {
+    for seat in 0..MAX_SEATS {
         if part.scope.contains(seat) && !is_spent(inner, copy_of(seat, part), depth) {
             return false;
         }
@@ -80,7 +80,7 @@ fn open_count(members: &[Gen], part: Part, depth: u32) -> u64 {
 }
 
 /// A driver's nemesis and its clients.
-const MOST_SEATS: usize = 17;
+const MAX_SEATS: usize = 17;
 
 fn clients(part: Part) -> Part {
     part.member(0).asked_by(Scope::of(1, usize::MAX, false))

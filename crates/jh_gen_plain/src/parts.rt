@@ -64,7 +64,7 @@ pub(crate) struct Question<'a> {
 }
 
 /// How deep a generator may be, so that its paths are told apart.
-pub(crate) const MOST_DEEP: u32 = 8;
+pub(crate) const MAX_DEEP: u32 = 8;
 
 /// A part of a generator: its path, the paths of all calls of the run, and who asks it.
 ///
@@ -113,7 +113,7 @@ impl<'a> Part<'a> {
 /// Whether one path is another, or goes on from it.
 fn is_below(path: u64, other: u64) -> bool {
     let mut at = path;
-    for _ in 0..MOST_DEEP {
+    for _ in 0..MAX_DEEP {
         if at == other {
             return true;
         }

@@ -1,7 +1,7 @@
 //! Drivers, asked row by row.
 
 use crate::rows::{drive, first_wrong};
-use jh_gen::{Driver, DriverError, Ended, GenAnswer, GenError, GenTextError, MOST_CALLS, Thread};
+use jh_gen::{Driver, DriverError, Ended, GenAnswer, GenError, GenTextError, MAX_CALLS, Thread};
 use std::test::Fail;
 
 /// What each kind of generator offers: phases, a mixture, copies, a reserve, and the greatest add.
@@ -78,7 +78,7 @@ fn drives_what_is_read(rt: HostRuntime) -> Result<(), Fail> {
 /// How many calls a thread is given until the driver refuses; each is completed.
 fn given_calls(driver: &mut Driver, thread: Thread) -> u32 {
     let mut given = 0u32;
-    for _ in 0..MOST_CALLS {
+    for _ in 0..MAX_CALLS {
         if matches!(driver.ask(thread, 0), Ok(GenAnswer::Call(_, _))) {
             given = given.saturating_add(1);
         }
@@ -90,7 +90,7 @@ fn given_calls(driver: &mut Driver, thread: Thread) -> u32 {
 #[test]
 fn a_million_calls_are_the_most(rt: HostRuntime) -> Result<(), Fail> {
     let mut driver = drive(rt.alloc(), "[:forever :read]", 1)??;
-    assert_eq!(rt; given_calls(&mut driver, Thread::Client(0)), MOST_CALLS);
+    assert_eq!(rt; given_calls(&mut driver, Thread::Client(0)), MAX_CALLS);
     assert_eq!(rt; driver.ask(Thread::Client(0), 0), Err(GenError::TooManyOps));
     Ok(())
 }

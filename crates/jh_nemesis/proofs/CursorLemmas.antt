@@ -14,7 +14,7 @@ use Rattle.jh_nemesis.specs.NemesisInside.{state_from}
 use Rattle.jh_nemesis.specs.Work.{size_between}
 use Rattle.jh_nemesis.specs.declared.records.Record.{Record}
 use Rattle.jh_nemesis.specs.declared.records.Record.TheVariants.{Begun, Withdrawn, WithdrawnAll}
-use Rattle.jh_nemesis.specs.Steps.{most_active, most_steps}
+use Rattle.jh_nemesis.specs.Steps.{max_active, max_steps}
 use Rattle.jh_nemesis.specs.declared.steps.Step.TheVariants.{Begin, Withdraw, WithdrawAll}
 use Rattle.jh_nemesis.specs.declared.steps.StepAnswer.TheVariants as StepAnswer
 use Rattle.jh_nemesis.proofs.RecordLemmas.{SameBelow, same_active, same_faults, same_past, same_stamped, same_right, stamps_below, are_stamps, few_after, apart_after, back_again, without_stamp, length-past, Apart}
@@ -62,9 +62,9 @@ all_tests_fail false true e = cc
 all_tests_fail false false e = refl
 
 -- fewer steps lie in the past than can be kept
-pub room_left : (records : List Record) (cursor : ℕ) → nat_le most_steps (length (past_of records cursor)) ≡ false
-    → cursor < most_steps
-room_left records cursor e = rw (length-past records cursor) at (leb-false most_steps (length (past_of records cursor)) e)
+pub room_left : (records : List Record) (cursor : ℕ) → nat_le max_steps (length (past_of records cursor)) ≡ false
+    → cursor < max_steps
+room_left records cursor e = rw (length-past records cursor) at (leb-false max_steps (length (past_of records cursor)) e)
 
 module _ {env : EnvValue} {records : List Record} {cursor : ℕ} {active : List ℕ}
     (sound : IsTrueTo env records cursor active) where
@@ -72,7 +72,7 @@ module _ {env : EnvValue} {records : List Record} {cursor : ℕ} {active : List 
   pub known_at : (n : ℕ) (stamps : List ℕ) → n ≤ length records → stamps ≡ active_after records n → AreStamps records stamps
   known_at n stamps within is = rw is (are_stamps records n within)
 
-  pub few_at : (n : ℕ) (stamps : List ℕ) → n ≤ length records → stamps ≡ active_after records n → length stamps ≤ most_active
+  pub few_at : (n : ℕ) (stamps : List ℕ) → n ≤ length records → stamps ≡ active_after records n → length stamps ≤ max_active
   few_at n stamps within is = rw is (few_after (length env.names) records sound.right n within)
 
   pub known : AreStamps records active
@@ -170,7 +170,7 @@ module _ {env : EnvValue} {records : List Record} {cursor : ℕ} {active : List 
     right_here nodes n at right = rw (at, put_here) (same_right nodes cursor records put step put_same right)
 
     -- what holds once a step that could be taken was put at the cursor
-    pub put_true : cursor < most_steps → IsRight (length env.names) records cursor step → IsTrueTo env put cursor active
+    pub put_true : cursor < max_steps → IsRight (length env.names) records cursor step → IsTrueTo env put cursor active
     put_true room right = record {
       within = omega (arith, put_long);
       short = omega (arith, put_long);
@@ -252,22 +252,22 @@ module _ {env : EnvValue} {records : List Record} {cursor : ℕ} {active : List 
   pub withdraw_right : (nodes stamp : ℕ) → Contains active stamp → IsRight nodes records cursor (Withdrawn stamp)
   withdraw_right nodes stamp inside = rw sound.now at inside
 
-  pub all_room : withdraw_all_answer (state_from env records cursor active) ≡ StepAnswer.Ok → cursor < most_steps
+  pub all_room : withdraw_all_answer (state_from env records cursor active) ≡ StepAnswer.Ok → cursor < max_steps
   all_room ok =
       room_left records cursor
-      (all_tests_fail (is_empty (faults_at records active)) (nat_le most_steps (length (past_of records cursor))) ok)
+      (all_tests_fail (is_empty (faults_at records active)) (nat_le max_steps (length (past_of records cursor))) ok)
 
   pub all_right : (nodes : ℕ) (stamps : Vec ℕ Global) → stamps.items ≡ active → IsRight nodes records cursor (WithdrawnAll stamps)
   all_right nodes stamps is = is ∙ sound.now
 
   pub begin_right : (id : ℕ) (fault : FaultValue) → begin_answer (state_from env records cursor active) id ≡ StepAnswer.Ok
       → FitsCount (length env.names) fault
-      → IsRight (length env.names) records cursor (Begun id fault) × (cursor < most_steps)
+      → IsRight (length env.names) records cursor (Begun id fault) × (cursor < max_steps)
   begin_right id fault ok fits =
       let t =
-      tests_fail (is_active (faults_at records active) id) (nat_le most_active (length (faults_at records active)))
-      (nat_le most_steps (length (past_of records cursor))) ok in
-      let few : length (faults_at records active) < most_active = leb-false most_active (length (faults_at records active)) t.1 in
-      let few : length active < most_active = rw (length-map active (λ k. fault_of (record_at records k))) at few in
+      tests_fail (is_active (faults_at records active) id) (nat_le max_active (length (faults_at records active)))
+      (nat_le max_steps (length (past_of records cursor))) ok in
+      let few : length (faults_at records active) < max_active = leb-false max_active (length (faults_at records active)) t.1 in
+      let few : length active < max_active = rw (length-map active (λ k. fault_of (record_at records k))) at few in
       let free : is_active (faults_at records active) id ≡ false = t.0 in
       ((fits, rw sound.now at few, rw sound.now at free), room_left records cursor t.2)

@@ -11,7 +11,7 @@ use Rattle.jh_nemesis.specs.State.{Active, has_id, is_active}
 use Rattle.jh_nemesis.specs.Steps.{without}
 use Rattle.jh_nemesis.specs.RecordsInside.{active_after, fault_of, faults_at, moment, record_at, stamped, stamped_at, AreRight, AreStamps, IsBegin, IsRight}
 use Rattle.jh_nemesis.specs.Work.{only_in, size_between, size_of_all}
-use Rattle.jh_nemesis.specs.Steps.{most_active}
+use Rattle.jh_nemesis.specs.Steps.{max_active}
 use Rattle.jh_nemesis.specs.declared.records.Record.{Record}
 use Rattle.jh_nemesis.specs.declared.records.Record.TheVariants.{Begun, Withdrawn}
 use Rattle.jh_nemesis.proofs.RecordLemmas.{Apart, apart_after, are_stamps, few_after, fit_after, without_stamp}
@@ -126,7 +126,7 @@ module _ (nodes : ℕ) (records : List Record) (right : AreRight nodes records) 
   pub after_order : AreInOrder (stamped_at records (active_after records (n + 1)))
   after_order = stamps_rise records (active_after records (n + 1)) (active_rise nodes records right (n + 1) (omega arith))
 
-  before_few : length (active_after records n) ≤ most_active
+  before_few : length (active_after records n) ≤ max_active
   before_few = few_after nodes records right n (omega arith)
 
   -- a begin
@@ -137,7 +137,7 @@ module _ (nodes : ℕ) (records : List Record) (right : AreRight nodes records) 
     pub begun_fits : FitsCount nodes (stamped records n).1
     begun_fits = rw at begun_right.0
 
-    pub begun_room : (laid : ℕ) → laid ≡ length (stamped_at records (active_after records n)) → laid < most_active
+    pub begun_room : (laid : ℕ) → laid ≡ length (stamped_at records (active_after records n)) → laid < max_active
     begun_room laid is = let short = begun_right.1 in omega (arith, is, short, length-map (active_after records n) (stamped records))
 
     begun_active : active_after records (n + 1) ≡ active_after records n ++ n ∷ []
@@ -196,7 +196,7 @@ module _ (nodes : ℕ) (records : List Record) (right : AreRight nodes records) 
     pub withdrawn_after : stamped_at records (active_after records (n + 1)) ≡ first ++ last
     withdrawn_after = ap (stamped_at records) others_left ∙ map-append (stamped records) split.before split.after
 
-    pub withdrawn_room : (laid : ℕ) → laid ≡ length (stamped_at records (active_after records (n + 1))) → laid < most_active
+    pub withdrawn_room : (laid : ℕ) → laid ≡ length (stamped_at records (active_after records (n + 1))) → laid < max_active
     withdrawn_room laid is =
         omega (
           arith,
@@ -225,7 +225,7 @@ module _ (nodes : ℕ) (records : List Record) (right : AreRight nodes records) 
     pub all_begins : AreStamps records stamps
     all_begins = rw is (are_stamps records n (omega arith))
 
-    pub all_few : length stamps ≤ most_active
+    pub all_few : length stamps ≤ max_active
     all_few = rw is before_few
 
     pub all_fit : All (λ k. FitsCount nodes (stamped records k).1) stamps

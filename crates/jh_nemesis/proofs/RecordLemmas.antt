@@ -17,7 +17,7 @@ use Rattle.jh_nemesis.specs.Steps.{without}
 use Rattle.jh_nemesis.specs.RecordsInside.{record_at, played, played_back, active_after, fault_of, faults_at, moment, past_of, stamped, stamped_at, IsBegin, AreRight, AreStamps, IsRight}
 use Rattle.jh_nemesis.specs.declared.records.Record.{Record}
 use Rattle.jh_nemesis.specs.declared.records.Record.TheVariants.{Begun, Withdrawn, WithdrawnAll}
-use Rattle.jh_nemesis.specs.Steps.{most_active}
+use Rattle.jh_nemesis.specs.Steps.{max_active}
 use Rattle.jh_nemesis.proofs.StampLemmas.{split_at, all_pass, taken_out, put_back}
 
 -- the first steps of two lists are the same
@@ -107,8 +107,8 @@ length-past records zero = refl
 length-past records (suc n) = ap suc (length-past records n)
 
 played_few : (nodes n : ℕ) (records : List Record) (step : Record) → IsRight nodes records n step
-    → length (active_after records n) ≤ most_active
-    → length (played n step (active_after records n)) ≤ most_active
+    → length (active_after records n) ≤ max_active
+    → length (played n step (active_after records n)) ≤ max_active
 played_few nodes n records (Begun id fault) right few =
     let room = right.1 in omega (arith, length-append (active_after records n) (n ∷ []))
 played_few nodes n records (Withdrawn stamp) right few =
@@ -116,7 +116,7 @@ played_few nodes n records (Withdrawn stamp) right few =
 played_few nodes n records (WithdrawnAll stamps) right few = omega arith
 
 pub few_after : (nodes : ℕ) (records : List Record) → AreRight nodes records → (n : ℕ) → n ≤ length records
-    → length (active_after records n) ≤ most_active
+    → length (active_after records n) ≤ max_active
 few_after nodes records right zero within = omega arith
 few_after nodes records right (suc n) within =
     played_few nodes n records (record_at records n) (right n (omega arith)) (few_after nodes records right n (omega arith))

@@ -7,7 +7,7 @@ use Rattle.jh_nemesis.specs.State.{Active, is_active}
 use Rattle.jh_nemesis.specs.declared.records.Record.{Record}
 use Rattle.jh_nemesis.specs.declared.records.Record.TheVariants.{Begun, Withdrawn, WithdrawnAll}
 use Rattle.jh_env.specs.Overlay.{EnvValue, StandsWith}
-use Rattle.jh_nemesis.specs.Steps.{most_active, most_steps}
+use Rattle.jh_nemesis.specs.Steps.{max_active, max_steps}
 
 -- the step at this index
 abbrev pub record_at : List Record → ℕ → Record
@@ -79,7 +79,7 @@ AreStamps records stamps =
 -- the step could be taken after so many, among so many nodes
 abbrev pub IsRight : ℕ → List Record → ℕ → Record → Type 0
 IsRight nodes records n (Begun id fault) =
-    FitsCount nodes fault × (length (active_after records n) < most_active)
+    FitsCount nodes fault × (length (active_after records n) < max_active)
     × (is_active (moment records n) id ≡ false)
 IsRight nodes records n (Withdrawn stamp) = Contains (active_after records n) stamp
 IsRight nodes records n (WithdrawnAll stamps) = stamps.items ≡ active_after records n
@@ -93,7 +93,7 @@ AreRight nodes records = (n : ℕ) → n < length records → IsRight nodes reco
 pub record IsTrueTo (env : EnvValue) (records : List Record) (cursor : ℕ) (active : List ℕ)
     : Type 0 where
   pub within : cursor ≤ length records
-  pub short : length records ≤ most_steps
+  pub short : length records ≤ max_steps
   pub right : (n : ℕ) → n < length records
       → IsRight (length env.names) records n (record_at records n)
   pub now : active ≡ active_after records cursor

@@ -11,33 +11,33 @@ use Rattle.jh_nemesis.specs.declared.steps.WithdrawError.TheVariants as Withdraw
 use Rattle.jh_nemesis.specs.declared.steps.WithdrawAllError.TheVariants as WithdrawAllError
 
 -- how many faults are active at once, at most
-abbrev pub most_active : ℕ
-most_active = 256
+abbrev pub max_active : ℕ
+max_active = 256
 
 -- how many steps lie in the past, at most
-abbrev pub most_steps : ℕ
-most_steps = 4096
+abbrev pub max_steps : ℕ
+max_steps = 4096
 
 -- the answer to the begin of a fault under this id: the first refusal that applies
 abbrev pub begin_answer : State → ℕ → StepAnswer
 begin_answer s id =
     if is_active s.now id then IdTaken
-    else if nat_le most_active (length s.now) then TooManyActive
-    else if nat_le most_steps (length s.past) then TooManySteps
+    else if nat_le max_active (length s.now) then TooManyActive
+    else if nat_le max_steps (length s.past) then TooManySteps
     else Ok
 
 -- the answer to the withdrawal of the fault of this id: the first refusal that applies
 abbrev pub withdraw_answer : State → ℕ → StepAnswer
 withdraw_answer s id =
     if not (is_active s.now id) then NotActive
-    else if nat_le most_steps (length s.past) then TooManySteps
+    else if nat_le max_steps (length s.past) then TooManySteps
     else Ok
 
 -- the answer to the withdrawal of all faults: the first refusal that applies
 abbrev pub withdraw_all_answer : State → StepAnswer
 withdraw_all_answer s =
     if is_empty s.now then NothingActive
-    else if nat_le most_steps (length s.past) then TooManySteps
+    else if nat_le max_steps (length s.past) then TooManySteps
     else Ok
 
 -- the answer to a step; a step back or forth needs no room, for it was made when its step was accepted

@@ -7,7 +7,7 @@ ghost use Rattle.jh_env.specs.Faults.{FitsCount, size_of};
 ghost use Rattle.jh_env.specs.Overlay.{SamePlace, StandsWith, tables_of, work_of};
 ghost use Rattle.jh_env.specs.Standing.{IsPut, IsTaken, StandsAtSome};
 ghost use Rattle.jh_nemesis.specs.RecordsInside.{active_after, faults_at, moment, record_at, stamped, stamped_at, AreRight, AreStamps, IsBegin};
-ghost use Rattle.jh_nemesis.specs.Steps.{most_active, most_steps};
+ghost use Rattle.jh_nemesis.specs.Steps.{max_active, max_steps};
 ghost use Rattle.jh_nemesis.specs.Work.{size_between, size_of_all};
 
 use crate::records::Record;
@@ -16,9 +16,9 @@ use jh_env::Env;
 // Puts the fault of a begin on the environment, under its stamp.
 fn put_begun(env: &mut Env, records: &[Record], stamp: usize)
     requires begin { (stamp < length records.now) × IsBegin (record_at records.now stamp) }
-    requires few { length records.now ≤ most_steps }
+    requires few { length records.now ≤ max_steps }
     requires fits { FitsCount (length env.old.names) (stamped records.now stamp).1 }
-    requires room { env.old.laid < most_active }
+    requires room { env.old.laid < max_active }
     ensures stands { IsPut (stamped records.now stamp) (tables_of env.old) (tables_of env.new) }
     ensures kept { SamePlace env.old env.new }
     ensures work { work_of env.new ≤ work_of env.old + size_of (stamped records.now stamp).1 }
@@ -31,7 +31,7 @@ fn put_begun(env: &mut Env, records: &[Record], stamp: usize)
 // Takes the fault of a begin off the environment.
 fn take_begun(env: &mut Env, records: &[Record], stamp: usize)
     requires begin { (stamp < length records.now) × IsBegin (record_at records.now stamp) }
-    requires few { length records.now ≤ most_steps }
+    requires few { length records.now ≤ max_steps }
     requires stands { StandsAtSome (tables_of env.old) (stamped records.now stamp) }
     ensures stands { IsTaken (stamped records.now stamp) (tables_of env.old) (tables_of env.new) }
     ensures kept { SamePlace env.old env.new }
@@ -45,7 +45,7 @@ fn take_begun(env: &mut Env, records: &[Record], stamp: usize)
 // Puts the faults of these stamps on an environment that stands for none.
 fn put_each(env: &mut Env, records: &[Record], stamps: &[usize])
     requires begins { AreStamps records.now stamps.now }
-    requires few { (length records.now ≤ most_steps) × (length stamps.now ≤ most_active) }
+    requires few { (length records.now ≤ max_steps) × (length stamps.now ≤ max_active) }
     requires fit { All (λ k. FitsCount (length env.old.names) (stamped records.now k).1) stamps.now }
     requires rise { AllPairs (λ x y. x < y) stamps.now }
     requires stands { StandsWith env.old [] }
@@ -61,7 +61,7 @@ fn put_each(env: &mut Env, records: &[Record], stamps: &[usize])
 // Takes the faults of these stamps, for which the environment stands, off it.
 fn take_each(env: &mut Env, records: &[Record], stamps: &[usize])
     requires begins { AreStamps records.now stamps.now }
-    requires few { length records.now ≤ most_steps }
+    requires few { length records.now ≤ max_steps }
     requires stands { StandsWith env.old (stamped_at records.now stamps.now) }
     ensures stands { StandsWith env.new [] }
     ensures kept { SamePlace env.old env.new }
@@ -76,7 +76,7 @@ fn take_each(env: &mut Env, records: &[Record], stamps: &[usize])
 /// that the step begins or ends.
 pub fn step_forth(env: &mut Env, records: &[Record], index: usize)
     requires known { index < length records.now }
-    requires few { length records.now ≤ most_steps }
+    requires few { length records.now ≤ max_steps }
     requires right { AreRight (length env.old.names) records.now }
     requires stands { StandsWith env.old (stamped_at records.now (active_after records.now index)) }
     ensures stands { StandsWith env.new (stamped_at records.now (active_after records.now (index + 1))) }
@@ -93,7 +93,7 @@ pub fn step_forth(env: &mut Env, records: &[Record], index: usize)
 /// Takes back what the step at this index did to the environment. It takes no memory, and writes no more than `step_forth`.
 pub fn step_back(env: &mut Env, records: &[Record], index: usize)
     requires known { index < length records.now }
-    requires few { length records.now ≤ most_steps }
+    requires few { length records.now ≤ max_steps }
     requires right { AreRight (length env.old.names) records.now }
     requires stands { StandsWith env.old (stamped_at records.now (active_after records.now (index + 1))) }
     ensures stands { StandsWith env.new (stamped_at records.now (active_after records.now index)) }

@@ -2,7 +2,7 @@
 //! them, and `specs/WorkLaws.antt` those of what is written.
 
 ghost use Rattle.std.specs.Prelude.{◌≡◌};
-ghost use Rattle.jh_nemesis.specs.Steps.{most_active, most_steps};
+ghost use Rattle.jh_nemesis.specs.Steps.{max_active, max_steps};
 ghost use Rattle.jh_nemesis.specs.Laws.{
   RefusedStays,
   UndoRestores,
@@ -34,12 +34,12 @@ ghost use Rattle.jh_nemesis.specs.GrudgeLaws.{
   SplitIsComplete,
 };
 
-use crate::steps::{MOST_ACTIVE, MOST_STEPS};
+use crate::steps::{MAX_ACTIVE, MAX_STEPS};
 
 /// The limits that code can name are the numbers of the definitions.
 pub fn limits()
-    ensures active { MOST_ACTIVE ≡ most_active }
-    ensures steps { MOST_STEPS ≡ most_steps }
+    ensures active { MAX_ACTIVE ≡ max_active }
+    ensures steps { MAX_STEPS ≡ max_steps }
 {}
 
 /// A refused step changes nothing.

@@ -16,7 +16,7 @@ pub use laws::{
 };
 pub use nemesis::Nemesis;
 pub use steps::{
-    BeginError, MOST_ACTIVE, MOST_STEPS, NothingToRedo, NothingToUndo, Step, StepAnswer, Stopped,
+    BeginError, MAX_ACTIVE, MAX_STEPS, NothingToRedo, NothingToUndo, Step, StepAnswer, Stopped,
     WithdrawAllError, WithdrawError,
 };
 pub use texts::{StepTextError, ring_order, step_of_value, value_of_step};

@@ -13,7 +13,7 @@ ghost use Rattle.jh_nemesis.specs.Work.{size_between, size_of_step, size_of_step
 use crate::effects::{step_back, step_forth};
 use crate::records::{Record, Stamps, play, play_back, put_at, stamp_of};
 use crate::steps::{
-    BeginError, MOST_ACTIVE, MOST_STEPS, NothingToRedo, NothingToUndo, Step, StepAnswer, Stopped,
+    BeginError, MAX_ACTIVE, MAX_STEPS, NothingToRedo, NothingToUndo, Step, StepAnswer, Stopped,
     WithdrawAllError, WithdrawError,
 };
 use jh_env::{Env, Fault};
@@ -46,8 +46,8 @@ impl Model for Nemesis {
 
 impl Nemesis {
     ghost use Rattle.jh_nemesis.specs.Steps.{
-      most_active,
-      most_steps,
+      max_active,
+      max_steps,
       begin_answer,
       withdraw_answer,
       withdraw_all_answer,
@@ -93,7 +93,7 @@ impl Nemesis {
     /// How many faults are active, at most 256.
     pub fn active_len(&self) -> usize
         ensures len { result ≡ length self.now.state.now }
-        ensures few { result ≤ most_active }
+        ensures few { result ≤ max_active }
     {
         self.active.len()
     }
@@ -111,9 +111,9 @@ impl Nemesis {
 
     // Whether so many steps lie in the past that none can follow.
     fn is_full(&self) -> bool
-        ensures { result ≡ nat_le most_steps (length self.now.state.past) }
+        ensures { result ≡ nat_le max_steps (length self.now.state.past) }
     {
-        self.cursor >= MOST_STEPS
+        self.cursor >= MAX_STEPS
     }
 
     // The answer to a begin, if there is memory.
@@ -123,7 +123,7 @@ impl Nemesis {
         if stamp_of(&self.records, &self.active, id).is_some() {
             return StepAnswer::IdTaken;
         }
-        if self.active.len() >= MOST_ACTIVE {
+        if self.active.len() >= MAX_ACTIVE {
             return StepAnswer::TooManyActive;
         }
         if self.is_full() {

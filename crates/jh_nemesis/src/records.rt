@@ -5,15 +5,15 @@ ghost use Rattle.std.specs.Prelude.{◌≡◌, ◌==◌, ◌≤◌, ◌<◌, ◌
 ghost use Rattle.std.specs.List.{Contains, position_or_len};
 ghost use Rattle.jh_nemesis.specs.State as spec;
 ghost use Rattle.jh_nemesis.specs.RecordsInside.{faults_at, fault_of, played, played_back, record_at, AreStamps, IsBegin};
-ghost use Rattle.jh_nemesis.specs.Steps.{most_active};
+ghost use Rattle.jh_nemesis.specs.Steps.{max_active};
 
-use crate::steps::MOST_ACTIVE;
+use crate::steps::MAX_ACTIVE;
 use arrayvec::ArrayVec;
 use jh_env::Fault;
 use std::alloc::{AllocError, Global};
 
 /// Stamps of active faults, ascending.
-pub type Stamps = ArrayVec<usize, MOST_ACTIVE>;
+pub type Stamps = ArrayVec<usize, MAX_ACTIVE>;
 
 /// An accepted step, with what it takes to undo it and to redo it.
 #[derive(Debug, Drop)]
@@ -48,7 +48,7 @@ fn take_out(active: &mut Stamps, stamp: usize)
 
 // Puts a stamp back, before those that are higher.
 fn put_back(active: &mut Stamps, stamp: usize)
-    requires { length active.old.items < most_active }
+    requires { length active.old.items < max_active }
     ensures { active.new.items ≡ insert active.old.items (position_or_len (nat_lt stamp) active.old.items) stamp }
 {
     let higher = active.iter().position(|other| *other > stamp);
@@ -57,7 +57,7 @@ fn put_back(active: &mut Stamps, stamp: usize)
 
 // Makes the stamps active that are in the list.
 fn put_all(active: &mut Stamps, stamps: &[usize])
-    requires { length stamps.now ≤ most_active }
+    requires { length stamps.now ≤ max_active }
     ensures { active.new.items ≡ stamps.now }
 {
     active.clear();
@@ -67,7 +67,7 @@ fn put_all(active: &mut Stamps, stamps: &[usize])
 /// Takes the step at this index, over the active stamps.
 pub fn play(records: &[Record], index: usize, active: &mut Stamps)
     requires known { index < length records.now }
-    requires room { length (played index (record_at records.now index) active.old.items) ≤ most_active }
+    requires room { length (played index (record_at records.now index) active.old.items) ≤ max_active }
     ensures { active.new.items ≡ played index (record_at records.now index) active.old.items }
 {
     match &records[index] {
@@ -80,7 +80,7 @@ pub fn play(records: &[Record], index: usize, active: &mut Stamps)
 /// Takes the step at this index back, over the active stamps.
 pub fn play_back(records: &[Record], index: usize, active: &mut Stamps)
     requires known { index < length records.now }
-    requires room { length (played_back (record_at records.now index) active.old.items) ≤ most_active }
+    requires room { length (played_back (record_at records.now index) active.old.items) ≤ max_active }
     ensures { active.new.items ≡ played_back (record_at records.now index) active.old.items }
 {
     match &records[index] {

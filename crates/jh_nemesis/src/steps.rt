@@ -9,10 +9,10 @@ use std::marker::Model;
 use thiserror::Error;
 
 /// The most faults that are active at once.
-pub const MOST_ACTIVE: usize = 256;
+pub const MAX_ACTIVE: usize = 256;
 
 /// The most steps that are kept in the past.
-pub const MOST_STEPS: usize = 4096;
+pub const MAX_STEPS: usize = 4096;
 
 /// A step of a nemesis.
 #[derive(Debug, Drop)]

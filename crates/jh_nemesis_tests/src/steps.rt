@@ -18,7 +18,7 @@ ghost use Rattle.jh_nemesis.specs.Steps.{StepFits};
 
 use jh_env::{Env, Fault, Nodes, Start};
 use jh_nemesis::{
-    BeginError, MOST_ACTIVE, Nemesis, Step, StepAnswer, WithdrawAllError, WithdrawError,
+    BeginError, MAX_ACTIVE, Nemesis, Step, StepAnswer, WithdrawAllError, WithdrawError,
 };
 use std::alloc::{AllocError, Global};
 
@@ -278,7 +278,7 @@ fn full_once(alloc: Global) -> Option<(usize, String)> {
 #[test]
 fn few_faults_are_active(rt: HostRuntime) {
     let full = full_once(rt.alloc()).or_else(|| full_once(rt.alloc()));
-    assert!(rt; full.is_some_and(|it| it.0 == MOST_ACTIVE && it.1.as_str() == "too many active"));
+    assert!(rt; full.is_some_and(|it| it.0 == MAX_ACTIVE && it.1.as_str() == "too many active"));
 }
 
 /// The id of a copy of a begin, and whether its fault fits.

@@ -13,7 +13,7 @@ use crate::operation::Kind;
 use jh_edn::Value;
 
 /// The greatest number of integers in a recorded vector.
-pub(crate) const MOST_INTEGERS: usize = 1272;
+pub(crate) const MAX_INTEGERS: usize = 1272;
 
 /// What a recorded operation asks for (`:f`).
 #[derive(Clone, Copy, Debug, PartialEq, Eq)]
@@ -160,7 +160,7 @@ impl Shape {
         match self {
             Shape::Nil => count == 0,
             Shape::Integer => count == 1,
-            Shape::Vector => count <= MOST_INTEGERS,
+            Shape::Vector => count <= MAX_INTEGERS,
         }
     }
 }

@@ -4,7 +4,7 @@ ghost use Rattle.std.specs.Prelude.{◌≡◌, ◌*◌, ◌≤◌, IfSome};
 ghost use Rattle.std.proofs.Props.{props};
 ghost use Rattle.jh_slots.specs.Seats.{claim_at};
 
-use jh_slots::{Claim, MOST_CLAIMED, ROW_WORDS, Read, Receipt, Seat, Slots};
+use jh_slots::{Claim, MAX_CLAIMED, ROW_WORDS, Read, Receipt, Seat, Slots};
 use std::marker::{Brand, PhantomData};
 
 /// Which log a seat is of. Each run picks its own.
@@ -55,7 +55,7 @@ impl<'a, B: OfLog> Player<'a, B> {
 
     /// Claims so many rows, where it has no claim. Whether it did.
     pub(crate) fn claim(&mut self, rows: u32) -> bool {
-        if self.claim.is_some() || rows == 0 || rows > MOST_CLAIMED {
+        if self.claim.is_some() || rows == 0 || rows > MAX_CLAIMED {
             return false;
         }
         let Ok(claim) = self.slots.claim(&mut self.seat, rows) else {

@@ -8,7 +8,7 @@ use Rattle.toml.specs.Data.{Data, integer, Members}
 use Rattle.jh_ops.specs.declared.call.Workload.{Workload}
 use Rattle.jh_nemesis.specs.Steps.{FitsNodes}
 use Rattle.jh_gen.specs.View.{generator_of}
-use Rattle.jh_simnode.specs.Plans.{IsFit, RefusesPlan, most_ops}
+use Rattle.jh_simnode.specs.Plans.{IsFit, RefusesPlan, max_ops}
 use Rattle.jh_simnode.specs.declared.plan.PlanError.{PlanError}
 use Rattle.jh_simnode.specs.declared.schedule.Entry.{Entry}
 use Rattle.jh_settings.specs.Inside.{RefusesValues, RefusesWith, TellsCluster, TellsLoad, TellsLimits, plan_with, plan_fault, cluster_keys, load_keys, limit_keys}
@@ -51,11 +51,11 @@ has_clients document n e = needed_is 1 16 (value_under Key.Clients document) n e
 has_rows : (document : Members) (n : ℕ) → rows_told document ≡ Some n → (1 ≤ n) × (n ≤ 65536)
 has_rows document n e = default_is 1 65536 4096 (value_under Key.Rows document) n (omega arith) (omega arith) e
 
-has_ops : (document : Members) (workload : Workload) (n : ℕ) → workload_told document ≡ Some workload → ops_told document ≡ Some n → (1 ≤ n) × (n ≤ most_ops workload)
+has_ops : (document : Members) (workload : Workload) (n : ℕ) → workload_told document ≡ Some workload → ops_told document ≡ Some n → (1 ≤ n) × (n ≤ max_ops workload)
 has_ops document workload n told e =
-    let known : needed (whole_in 1 (most_ops workload)) Key.Ops document ≡ Some n =
-    sym (ap (option_and_then (λ w. needed (whole_in 1 (most_ops w)) Key.Ops document)) told) ∙ e in
-    needed_is 1 (most_ops workload) (value_under Key.Ops document) n known
+    let known : needed (whole_in 1 (max_ops workload)) Key.Ops document ≡ Some n =
+    sym (ap (option_and_then (λ w. needed (whole_in 1 (max_ops w)) Key.Ops document)) told) ∙ e in
+    needed_is 1 (max_ops workload) (value_under Key.Ops document) n known
 
 -- parts of a plan that a document tells
 pub record Parts (document : Members) (c : Cluster) (l : Load) (n : Limits) (entries : List Entry) : Type 0 where

@@ -11,7 +11,7 @@ use Rattle.jh_nemesis.specs.declared.steps.Step.{Step}
 use Rattle.jh_ops.specs.declared.call.Workload.{Workload}
 use Rattle.jh_gen.specs.Generator.{Generator}
 use Rattle.jh_gen.specs.GeneratorText.{generator_told}
-use Rattle.jh_simnode.specs.Plans.{most_ops}
+use Rattle.jh_simnode.specs.Plans.{max_ops}
 use Rattle.jh_simnode.specs.declared.settings.Store.{Store}
 use Rattle.jh_simnode.specs.declared.schedule.Entry.{Entry}
 use Rattle.jh_settings.specs.declared.keys.Key.{Key}
@@ -52,7 +52,7 @@ clients_told document = needed (whole_in 1 16) Key.Clients document
 
 -- how many calls: a set may have fewer than the others
 abbrev pub ops_told : Members → Option ℕ
-ops_told document = option_and_then (λ workload. needed (whole_in 1 (most_ops workload)) Key.Ops document) (workload_told document)
+ops_told document = option_and_then (λ workload. needed (whole_in 1 (max_ops workload)) Key.Ops document) (workload_told document)
 
 -- the mode of this name
 abbrev pub mode_of : List ℕ → Option Mode

@@ -26,7 +26,7 @@ use jh_edn::{EdnError, Value, read_one};
 use jh_env::{Env, EnvTextError, Nodes, env_of_value};
 use jh_gen::{Gen, GenTextError, gen_of_value};
 use jh_nemesis::{StepTextError, step_of_value};
-use jh_simnode::{Entry, MOST_ENTRIES, Schedule};
+use jh_simnode::{Entry, MAX_ENTRIES, Schedule};
 use std::alloc::{AllocError, Global};
 use toml::Table;
 
@@ -200,7 +200,7 @@ fn entries_in(
         × TellAll nodes.now (toml.items_view values.now) entries) Key.Schedule) }
     ensures fit { IfOk result (λ entries. All (λ entry. FitsNodes (length nodes.now) entry.step) entries.items) }
 {
-    if values.len() > MOST_ENTRIES {
+    if values.len() > MAX_ENTRIES {
         return Err(SettingsError::BadValue(Key::Schedule));
     }
     let mut entries = Vec::new(alloc);

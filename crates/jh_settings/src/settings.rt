@@ -17,19 +17,19 @@ use crate::elements::{generator_under, schedule_under, start_under};
 use crate::error::{KeyText, SettingsError};
 use crate::keys::{Key, first_missing, first_unknown};
 use crate::table::{number_or, number_under, truth_or};
-use crate::words::{Mode, initial_under, mode_under, most_ops, store_under, workload_under};
+use crate::words::{Mode, initial_under, max_ops, mode_under, store_under, workload_under};
 use jh_env::Env;
-use jh_gen::{Gen, MOST_CLIENTS};
+use jh_gen::{Gen, MAX_CLIENTS};
 use jh_ops::Workload;
-use jh_simnode::{MOST_ROWS, Plan, PlanError, Schedule, Store};
+use jh_simnode::{MAX_ROWS, Plan, PlanError, Schedule, Store};
 use std::alloc::Global;
 use toml::Table;
 
 /// After how many of its calls a client thread ticks at most.
-const MOST_TICK_EVERY: u64 = 10_000;
+const MAX_TICK_EVERY: u64 = 10_000;
 
 /// The greatest budget of a judgement.
-const MOST_BUDGET: u64 = 10_000_000;
+const MAX_BUDGET: u64 = 10_000_000;
 
 /// What is run, and how much the judgement of its history may take.
 #[derive(Debug, Drop)]
@@ -91,8 +91,8 @@ fn load_of(table: &Table, workload: Workload) -> Result<Load, SettingsError>
         (TellsLoad (table_view table.now))
         (Refuses (table_view table.now) load_keys) }
 {
-    let clients = number_under(table, Key::Clients, 1, u64::from(MOST_CLIENTS))?;
-    let ops = number_under(table, Key::Ops, 1, most_ops(workload))?;
+    let clients = number_under(table, Key::Clients, 1, u64::from(MAX_CLIENTS))?;
+    let ops = number_under(table, Key::Ops, 1, max_ops(workload))?;
     let mode = mode_under(table)?;
     let volatile = truth_or(table, Key::Volatile, false)?;
     let initial = initial_under(table, workload)?;
@@ -110,10 +110,10 @@ fn limits_of(table: &Table) -> Result<Limits, SettingsError>
         (TellsLimits (table_view table.now))
         (Refuses (table_view table.now) limit_keys) }
 {
-    let tick_every = number_or(table, Key::TickEvery, 0, 0, MOST_TICK_EVERY)?;
-    let rows = number_or(table, Key::Rows, 4_096, 1, u64::from(MOST_ROWS))?;
+    let tick_every = number_or(table, Key::TickEvery, 0, 0, MAX_TICK_EVERY)?;
+    let rows = number_or(table, Key::Rows, 4_096, 1, u64::from(MAX_ROWS))?;
     let seed = number_or(table, Key::Seed, 0, 0, i64::MAX as u64)?;
-    let budget = number_or(table, Key::Budget, 100_000, 0, MOST_BUDGET)?;
+    let budget = number_or(table, Key::Budget, 100_000, 0, MAX_BUDGET)?;
     Ok(Limits {
         tick_every: tick_every as u32,
         rows: rows as u32,

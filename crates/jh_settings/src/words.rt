@@ -74,8 +74,8 @@ pub(crate) fn workload_under(table: &Table) -> Result<Workload, SettingsError>
 }
 
 /// How many calls a run of the workload may make.
-pub(crate) fn most_ops(workload: Workload) -> u64
-    ensures { result ≡ plan.most_ops workload }
+pub(crate) fn max_ops(workload: Workload) -> u64
+    ensures { result ≡ plan.max_ops workload }
 {
     match workload {
         Workload::Set => 1_000,

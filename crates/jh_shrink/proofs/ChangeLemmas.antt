@@ -5,7 +5,7 @@ use Rattle.std.specs.List.{insert, remove}
 use Rattle.std.proofs.lemmas.List.{reverse-append}
 use Rattle.std.proofs.lemmas.List.Edits.{length-insert, length-remove}
 use Rattle.jh_simnode.specs.declared.schedule.Entry.{Entry}
-use Rattle.jh_simnode.specs.Limits.{most_entries}
+use Rattle.jh_simnode.specs.Limits.{max_entries}
 use Rattle.jh_shrink.specs.declared.changes.Change.{Change}
 use Rattle.jh_shrink.specs.declared.changes.Change.TheVariants.{Put, Take, Swap}
 use Rattle.jh_shrink.specs.Edits.{EditState, back_to, forth_to, undone, redone, edited}
@@ -37,7 +37,7 @@ changed_back (Swap place entry) back entries fits is =
     ap (λ b. changed b (set entries place entry)) is.2 ∙ set_back entries place entry is.0 fits is.1
 
 -- and it can be made
-pub fits_back : (change back : Change) (entries : List Entry) → length entries ≤ most_entries → Fits change entries
+pub fits_back : (change back : Change) (entries : List Entry) → length entries ≤ max_entries → Fits change entries
     → back_from change entries back → Fits back (changed change entries)
 fits_back (Put place entry) back entries few fits is =
     let long = length-insert entries place entry fits.0 in
@@ -48,8 +48,8 @@ fits_back (Take place) back entries few fits is =
 fits_back (Swap place entry) back entries few fits is =
     subst (λ b. Fits b (set entries place entry)) (sym is.2) (search rules)
 
-pub few_changed : (change : Change) (entries : List Entry) → length entries ≤ most_entries → Fits change entries
-    → length (changed change entries) ≤ most_entries
+pub few_changed : (change : Change) (entries : List Entry) → length entries ≤ max_entries → Fits change entries
+    → length (changed change entries) ≤ max_entries
 few_changed (Put place entry) entries few fits = let long = length-insert entries place entry fits.0 in omega (arith, long, fits.1)
 few_changed (Take place) entries few fits = let short = length-remove entries place fits in omega (arith, short, few)
 few_changed (Swap place entry) entries few fits = search rules
@@ -78,7 +78,7 @@ pub play_off : (entries : List Entry) (from rest : List Change) (change : Change
     → Play entries (reverse from) → Fits change entries × Play (changed change entries) (reverse rest)
 play_off entries from rest change is play = subst (Play entries) (turned from rest change is) play
 
-pub play_on : (entries : List Entry) (to new : List Change) (change back : Change) → length entries ≤ most_entries
+pub play_on : (entries : List Entry) (to new : List Change) (change back : Change) → length entries ≤ max_entries
     → new ≡ to ++ back ∷ [] → Fits change entries → back_from change entries back → Play entries (reverse to)
     → Play (changed change entries) (reverse new)
 play_on entries to new change back few is fits takes play =

@@ -3,7 +3,7 @@ use Rattle.std.specs.Prelude.{◌≡◌, ◌+◌, ◌<◌, ◌≤◌, List, [], 
 use Rattle.std.specs.List.{insert, remove}
 use Rattle.std.specs.Vec.{vec_capacity}
 use Rattle.jh_simnode.specs.declared.schedule.Entry.{Entry}
-use Rattle.jh_simnode.specs.Limits.{most_entries}
+use Rattle.jh_simnode.specs.Limits.{max_entries}
 use Rattle.jh_shrink.specs.declared.changes.Change.{Change}
 use Rattle.jh_shrink.specs.declared.changes.Change.TheVariants.{Put, Take, Swap}
 use Rattle.jh_shrink.specs.declared.editor.Editor.TheInside.{Inside}
@@ -24,7 +24,7 @@ back_from (Swap place entry) entries back =
 
 -- the change can be made
 abbrev pub Fits : Change → List Entry → Type 0
-Fits (Put place entry) entries = (place ≤ length entries) × (length entries < most_entries)
+Fits (Put place entry) entries = (place ≤ length entries) × (length entries < max_entries)
 Fits (Take place) entries = place < length entries
 Fits (Swap place entry) entries = place < length entries
 
@@ -54,7 +54,7 @@ state_of a = state_from a.entries.items a.past.items a.future.items
 pub record IsSound (a : Inside) : Type 0 where
   pub past : Play a.entries.items (reverse a.past.items)
   pub future : Play a.entries.items (reverse a.future.items)
-  pub few : length a.entries.items ≤ most_entries
-  pub places : most_entries ≤ vec_capacity a.entries
+  pub few : length a.entries.items ≤ max_entries
+  pub places : max_entries ≤ vec_capacity a.entries
   pub to_undo : length a.past.items + length a.future.items ≤ vec_capacity a.future
   pub to_redo : length a.past.items + length a.future.items ≤ vec_capacity a.past

@@ -1,7 +1,7 @@
 -- A schedule under edits (this project's own): what an edit makes of it, and what undo and redo bring back.
 use Rattle.std.specs.Prelude.{ℕ, ◌<◌, ◌≤◌, List, [], ◌∷◌, length}
 use Rattle.jh_simnode.specs.declared.schedule.Entry.{Entry}
-use Rattle.jh_simnode.specs.Limits.{most_entries}
+use Rattle.jh_simnode.specs.Limits.{max_entries}
 use Rattle.jh_shrink.specs.declared.editor.EditError.{EditError}
 use Rattle.jh_shrink.specs.declared.editor.EditError.TheVariants.{BadPlace, TooManyEdits, OutOfMemory}
 use Rattle.jh_shrink.specs.declared.editor.InsertError.{InsertError}
@@ -39,12 +39,12 @@ abbrev pub redone : EditState → EditState
 redone s = forth_to s s.future
 
 -- how many edits are kept, at most
-abbrev pub most_edits : ℕ
-most_edits = 4096
+abbrev pub max_edits : ℕ
+max_edits = 4096
 
 -- one more edit can be undone
 abbrev pub HasRoom : EditState → Type 0
-HasRoom s = length s.past < most_edits
+HasRoom s = length s.past < max_edits
 
 -- the entry at a place may be taken out or replaced
 abbrev pub MayEdit : EditState → ℕ → Type 0
@@ -52,18 +52,18 @@ MayEdit s place = (place < length s.now) × HasRoom s
 
 -- an entry may be put in at a place, or at the end
 abbrev pub MayInsert : EditState → ℕ → Type 0
-MayInsert s place = (place ≤ length s.now) × (length s.now < most_entries) × HasRoom s
+MayInsert s place = (place ≤ length s.now) × (length s.now < max_entries) × HasRoom s
 
 -- why the entry at a place is not edited: the first refusal that applies, or memory was refused where it may be
 abbrev pub RefusesEdit : EditState → ℕ → EditError → Type 0
 RefusesEdit s place BadPlace = length s.now ≤ place
-RefusesEdit s place TooManyEdits = (place < length s.now) × (most_edits ≤ length s.past)
+RefusesEdit s place TooManyEdits = (place < length s.now) × (max_edits ≤ length s.past)
 RefusesEdit s place OutOfMemory = MayEdit s place
 
 -- why none is put in, likewise
 abbrev pub RefusesInsert : EditState → ℕ → InsertError → Type 0
 RefusesInsert s place Insert.BadPlace = length s.now < place
-RefusesInsert s place Insert.TooLong = (place ≤ length s.now) × (most_entries ≤ length s.now)
+RefusesInsert s place Insert.TooLong = (place ≤ length s.now) × (max_entries ≤ length s.now)
 RefusesInsert s place Insert.TooManyEdits =
-    (place ≤ length s.now) × (length s.now < most_entries) × (most_edits ≤ length s.past)
+    (place ≤ length s.now) × (length s.now < max_entries) × (max_edits ≤ length s.past)
 RefusesInsert s place Insert.OutOfMemory = MayInsert s place

@@ -3,7 +3,7 @@
 
 ghost use Rattle.std.specs.Prelude.{◌≡◌, ◌≤◌, ◌<◌, length};
 ghost use Rattle.std.specs.Vec.{vec_capacity};
-ghost use Rattle.jh_simnode.specs.Limits.{most_entries};
+ghost use Rattle.jh_simnode.specs.Limits.{max_entries};
 ghost use Rattle.jh_shrink.specs.ChangesInside.{changed, back_from, Fits};
 
 use jh_simnode::Entry;
@@ -23,10 +23,10 @@ pub(crate) enum Change {
 /// Makes a change, for which there is room, and gives the one that takes it back.
 pub(crate) fn make(entries: &mut Vec<Entry>, change: Change) -> Change
     requires fits { Fits change entries.old.items }
-    requires room { most_entries ≤ vec_capacity entries.old }
+    requires room { max_entries ≤ vec_capacity entries.old }
     ensures changed { entries.new.items ≡ changed change entries.old.items }
     ensures back { back_from change entries.old.items result }
-    ensures room { most_entries ≤ vec_capacity entries.new }
+    ensures room { max_entries ≤ vec_capacity entries.new }
 {
     match change {
         Change::Put(place, entry) => {

@@ -2,12 +2,12 @@
 
 ghost use Rattle.std.specs.Prelude.{◌≡◌, ◌↔◌, ◌≤◌, [], length, slice_set, IfOk, IsErr, IsTrue, MatchResult, OnErr, OnOk};
 ghost use Rattle.std.specs.List.{insert, remove};
-ghost use Rattle.jh_simnode.specs.Limits.{most_entries};
+ghost use Rattle.jh_simnode.specs.Limits.{max_entries};
 ghost use Rattle.jh_shrink.specs.Edits.{edited, redone, undone, unedited, HasRoom, MayEdit, MayInsert, RefusesEdit, RefusesInsert};
 ghost use Rattle.jh_shrink.specs.ChangesInside.{changed, Fits};
 
 use crate::changes::{Change, make};
-use jh_simnode::{Entry, MOST_ENTRIES, Schedule};
+use jh_simnode::{Entry, MAX_ENTRIES, Schedule};
 use std::alloc::{AllocError, Global};
 use std::marker::Model;
 use thiserror::Error;
@@ -85,7 +85,7 @@ pub struct Editor {
 }
 
 impl Model for Editor {
-    ghost use Rattle.jh_simnode.specs.Limits.{most_entries};
+    ghost use Rattle.jh_simnode.specs.Limits.{max_entries};
     ghost use Rattle.jh_shrink.specs.Edits.{EditState};
 
     ghost Value = { EditState };
@@ -105,7 +105,7 @@ impl Editor {
         ensures { IfOk result (λ editor. editor ≡ unedited schedule) }
     {
         let mut entries = schedule.into_entries();
-        entries.reserve(MOST_ENTRIES - entries.len())?;
+        entries.reserve(MAX_ENTRIES - entries.len())?;
         Ok(Editor {
             entries,
             past: Vec::new(alloc),
@@ -116,7 +116,7 @@ impl Editor {
     /// The entries of the schedule, at most 1,024.
     pub fn schedule(&self) -> &[Entry]
         ensures entries { result.now ≡ self.now.now }
-        ensures few { length result.now ≤ most_entries }
+        ensures few { length result.now ≤ max_entries }
     {
         &self.entries
     }
@@ -158,7 +158,7 @@ impl Editor {
         if place > self.entries.len() {
             return Err(InsertError::BadPlace);
         }
-        if self.entries.len() >= MOST_ENTRIES {
+        if self.entries.len() >= MAX_ENTRIES {
             return Err(InsertError::TooLong);
         }
         if !self.has_room() {

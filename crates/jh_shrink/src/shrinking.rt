@@ -3,7 +3,7 @@
 ghost use Rattle.std.specs.Prelude.{◌≡◌, ◌≤◌, ◌<◌, Some, false, true, length, IfErr, IfOk, MatchResult, OnOk, ◌+◌, ◌-◌};
 ghost use Rattle.std.specs.List.{remove_range};
 ghost use Rattle.std.specs.Fn.{FnReturnsAt};
-ghost use Rattle.jh_simnode.specs.Limits.{most_entries};
+ghost use Rattle.jh_simnode.specs.Limits.{max_entries};
 ghost use Rattle.jh_shrink.specs.Shrunk.{IsFailing, IsShrunk, NeedsEach, RefusesShrink};
 ghost use Rattle.jh_shrink.specs.ShrinkingInside.{Halts};
 
@@ -134,7 +134,7 @@ fn pass<F: Fn(&Schedule) -> Option<bool>, O: Observer>(
     size: usize,
 ) -> Result<bool, Halt>
     requires callable { F.IsAlwaysCallable judge.now }
-    requires size { (1 ≤ size) × (size ≤ most_entries) }
+    requires size { (1 ≤ size) × (size ≤ max_entries) }
     requires failing { FnReturnsAt F.Fn judge.now schedule.old (Some true) }
     ensures failing { IsFailing (FnReturnsAt F.Fn judge.now) schedule.old schedule.new }
     ensures fewer { IfOk result (λ spared. spared ≡ true → length schedule.new < length schedule.old) }

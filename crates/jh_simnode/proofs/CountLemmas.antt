@@ -19,8 +19,8 @@ use Rattle.jh_simnode.specs.declared.events.WorldError.TheVariants as world
 use Rattle.jh_simnode.specs.declared.serial.RunError.{RunError}
 use Rattle.jh_simnode.specs.declared.serial.RunError.TheVariants as error
 use Rattle.jh_simnode.specs.Counts.{answered, applied, is_call, is_step, last}
-use Rattle.jh_simnode.specs.Limits.{most_entries, most_events}
-use Rattle.jh_simnode.specs.Plans.{PlanValue, IsKept, most_ops}
+use Rattle.jh_simnode.specs.Limits.{max_entries, max_events}
+use Rattle.jh_simnode.specs.Plans.{PlanValue, IsKept, max_ops}
 use Rattle.jh_simnode.specs.Runs.{Stops, Turns, Move, Comes, Reached, Reaches, ask_move, call_event, entry_move, is_due, move_of, move_offered, question, run_generator, ticks_after, turn_move}
 use Rattle.jh_simnode.specs.Runs.Move.{Ticks, Applies, Waits, Calls, Ends, Rests}
 use Rattle.jh_simnode.proofs.Counting.{count_yes, count_no, last_push}
@@ -211,13 +211,13 @@ reaches_counted p zero r journal h = rw (h.0, h.1) (record { calls = refl; zeros
 reaches_counted p (suc n) r journal h =
     comes_counted p h.0 r h.1.0 journal (move_of p h.0 h.1.0) refl h.1.1.1 (reaches_counted p n h.0 h.1.0 h.1.1.0)
 
-ops_few : (w : Workload) → most_ops w ≤ 10000
+ops_few : (w : Workload) → max_ops w ≤ 10000
 ops_few Register = omega arith
 ops_few Counter = omega arith
 ops_few Set = omega arith
 ops_few Ids = omega arith
 
-pub events_suffice : (p : PlanValue) (r : Turns) (journal : List Event) → IsKept p → Reached p r journal → length journal < most_events
+pub events_suffice : (p : PlanValue) (r : Turns) (journal : List Event) → IsKept p → Reached p r journal → length journal < max_events
 events_suffice p r journal kept reached =
     let k = reaches_counted p reached.run.0 r journal reached.run.1 in
     let events = k.events in

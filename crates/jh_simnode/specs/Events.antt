@@ -10,7 +10,7 @@ use Rattle.jh_simnode.specs.declared.copies.NodeCopy.{NodeCopy}
 use Rattle.jh_simnode.specs.declared.events.Event.{Event}
 use Rattle.jh_simnode.specs.declared.events.WorldError.{WorldError}
 use Rattle.jh_simnode.specs.declared.events.WorldError.TheVariants.{UnknownNode, TooManyEvents, OutOfMemory}
-use Rattle.jh_simnode.specs.Limits.{most_events}
+use Rattle.jh_simnode.specs.Limits.{max_events}
 use Rattle.jh_simnode.specs.Copies.{first_copy}
 use Rattle.jh_simnode.specs.Reach.{Cells, cells_over}
 use Rattle.jh_simnode.specs.Stores.{serve, ticked, dead, forgotten, version_at}
@@ -107,7 +107,7 @@ pub record IsWorldOf (u : Setup) (state : State) (all : List NodeCopy) (events :
   pub faults : state ≡ (moment_at u events).faults
   pub copies : all ≡ (moment_at u events).copies
   pub tidy : AreTidy (length u.names) (length events) all
-  pub few : length events ≤ most_events
+  pub few : length events ≤ max_events
 
 -- the event is the last, its number is told, and what the world keeps for good stays
 pub record Adds (old : WorldValue) (event : Event) (told : ℕ) (new : WorldValue) : Type 0 where
@@ -118,5 +118,5 @@ pub record Adds (old : WorldValue) (event : Event) (told : ℕ) (new : WorldValu
 -- why an event is refused, whose nodes are there if the fact `known` holds
 abbrev pub Refuses : Type 0 → List Event → WorldError → Type 0
 Refuses known journal UnknownNode = known → ⊥
-Refuses known journal TooManyEvents = known × (most_events ≤ length journal)
-Refuses known journal OutOfMemory = known × (length journal < most_events)
+Refuses known journal TooManyEvents = known × (max_events ≤ length journal)
+Refuses known journal OutOfMemory = known × (length journal < max_events)

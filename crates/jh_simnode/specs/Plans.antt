@@ -9,7 +9,7 @@ use Rattle.jh_gen.specs.Suits.{suits}
 use Rattle.jh_simnode.specs.declared.settings.Settings.{Settings}
 use Rattle.jh_simnode.specs.declared.settings.Store.{Store}
 use Rattle.jh_simnode.specs.declared.schedule.Entry.{Entry}
-use Rattle.jh_simnode.specs.Limits.{most_entries, most_rows}
+use Rattle.jh_simnode.specs.Limits.{max_entries, max_rows}
 use Rattle.jh_simnode.specs.declared.plan.PlanError.{PlanError}
 use Rattle.jh_simnode.specs.declared.plan.PlanError.TheVariants.{BadClients, BadOps, BadRows, BadGenerator, BadStep, OutOfMemory}
 
@@ -59,17 +59,17 @@ abbrev pub HasClients : PlanValue → Type 0
 HasClients p = (1 ≤ p.clients) × (p.clients ≤ 16)
 
 -- how many calls a run of a workload may make; a read of a set tells all its elements
-abbrev pub most_ops : Workload → ℕ
-most_ops Set = 1000
-most_ops _ = 10000
+abbrev pub max_ops : Workload → ℕ
+max_ops Set = 1000
+max_ops _ = 10000
 
 -- how many calls are allowed
 abbrev pub HasOps : PlanValue → Type 0
-HasOps p = (1 ≤ p.ops) × (p.ops ≤ most_ops p.settings.workload)
+HasOps p = (1 ≤ p.ops) × (p.ops ≤ max_ops p.settings.workload)
 
 -- how many rows are allowed
 abbrev pub HasRows : PlanValue → Type 0
-HasRows p = (1 ≤ p.rows) × (p.rows ≤ most_rows)
+HasRows p = (1 ≤ p.rows) × (p.rows ≤ max_rows)
 
 -- each node that a fault of the schedule names is in the environment
 abbrev pub HasSteps : PlanValue → Type 0
@@ -106,4 +106,4 @@ RefusesSchedule p schedule _ = ⊥
 pub record IsKept (p : PlanValue) : Type 0 where
   pub fit : IsFit p
   pub calm : StandsFor p.env []
-  pub few : length p.schedule ≤ most_entries
+  pub few : length p.schedule ≤ max_entries

@@ -18,7 +18,7 @@ use Rattle.jh_simnode.specs.declared.turns.Asked.TheVariants as asked
 use Rattle.jh_simnode.specs.declared.turns.Run.{Run}
 use Rattle.jh_simnode.specs.Counts.{answered, applied, calls_by, process_of, last}
 use Rattle.jh_simnode.specs.Events.{WorldValue, IsLegal}
-use Rattle.jh_simnode.specs.Limits.{most_events}
+use Rattle.jh_simnode.specs.Limits.{max_events}
 use Rattle.jh_simnode.specs.Plans.{PlanValue}
 use Rattle.jh_simnode.specs.declared.events.WorldError.TheVariants as world
 use Rattle.jh_simnode.specs.declared.serial.RunError.{RunError}
@@ -122,7 +122,7 @@ pub record MayCall (p : PlanValue) (run : Run) (w : WorldValue) (thread process 
   pub process_is : process ≡ process_of p.clients (thread_of p turns) w.journal
   pub has : HasCall p turns w.journal path run
   pub legal : IsLegal w.setup w.journal
-  pub few : length w.journal ≤ most_events
+  pub few : length w.journal ≤ max_events
   pub few_asks : turns.asks ≤ 17 * length w.journal + turns.waits
   pub setup : w.setup ≡ setup_of p
 
@@ -165,11 +165,11 @@ pub record IsAsking (p : PlanValue) (r : Turns) (journal : List Event) (run : Ru
   pub keeps : Keeps p r journal run
   pub going : r.has_ended ≡ false
   pub turn : thread ≡ thread_of p r
-  pub within : length journal ≤ most_events
+  pub within : length journal ≤ max_events
 
 -- a turn brings the end nearer: another event, another wait, or the end itself
 abbrev pub left : Run → WorldValue → ℕ
-left run w = (most_events - length w.journal) * 17 + (16 - run.waits) + (if run.has_ended then 0 else 1)
+left run w = (max_events - length w.journal) * 17 + (16 - run.waits) + (if run.has_ended then 0 else 1)
 
 -- less is left than before
 abbrev pub Falls : Run → WorldValue → Run → WorldValue → Type 0
@@ -184,5 +184,5 @@ HasSmallProcess Event.Tick = Unit {0}
 -- Why the turns of a run end before it is over. (That a world is never full is shown of the whole run.)
 abbrev pub Halts : PlanValue → RunError → Type 0
 Halts p (error.World world.TooManyEvents) =
-    (r : Turns) × (journal : List Event) × Reached p r journal × (most_events ≤ length journal)
+    (r : Turns) × (journal : List Event) × Reached p r journal × (max_events ≤ length journal)
 Halts p e = Stops p e

@@ -11,7 +11,7 @@ use std::alloc::{AllocError, Global};
 use thiserror::Error;
 
 /// The most events of a world.
-pub const MOST_EVENTS: usize = 65_536;
+pub const MAX_EVENTS: usize = 65_536;
 
 /// What happened in a world.
 #[derive(Debug, Drop)]

@@ -6,7 +6,7 @@ ghost use Rattle.jh_edn.specs.View.{view};
 ghost use Rattle.jh_ops.specs.Operation.{operation, operations};
 ghost use Rattle.jh_ops.specs.Words.{Several, content_value, event_part};
 ghost use Rattle.jh_simnode.specs.Histories as rule;
-ghost use Rattle.jh_simnode.specs.Limits.{most_events};
+ghost use Rattle.jh_simnode.specs.Limits.{max_events};
 ghost use Rattle.jh_simnode.specs.Histories.{answered_by, asked_with, at_place, begun, completed, invoked, replied_with, told_with};
 
 use crate::copies::{Got, Reply};
@@ -212,7 +212,7 @@ fn push_call(
     request: Request,
     reply: &Reply,
 ) -> Result<(), AllocError>
-    requires { (length history.old.items ≤ 2 * most_events) × (number ≤ most_events) }
+    requires { (length history.old.items ≤ 2 * max_events) × (number ≤ max_events) }
     ensures { OnOk result (operations history.new.items ≡ operations history.old.items
         ++ invoked (length history.old.items) process request
         ∷ completed (length history.old.items + 1) number process request reply.now ∷ []) }
@@ -229,7 +229,7 @@ fn push_step(
     entry: u64,
     answer: StepAnswer,
 ) -> Result<(), AllocError>
-    requires { (length history.old.items ≤ 2 * most_events) × (number ≤ most_events) × (entry ≤ most_events) }
+    requires { (length history.old.items ≤ 2 * max_events) × (number ≤ max_events) × (entry ≤ max_events) }
     ensures { OnOk result (operations history.new.items ≡ operations history.old.items
         ++ begun (length history.old.items) entry
         ∷ answered_by (length history.old.items + 1) number entry answer ∷ []) }
@@ -241,7 +241,7 @@ fn push_step(
 /// The history of a journal: two operations for each call and each step, and none for a tick. Takes time linear in what
 /// the journal holds.
 pub(crate) fn history_of(alloc: Global, journal: &[Event]) -> Result<Vec<Op>, AllocError>
-    requires { length journal.now ≤ most_events }
+    requires { length journal.now ≤ max_events }
     ensures { IfOk result (λ history. operations history.items ≡ rule.history_of journal.now) }
 {
     let mut history = Vec::new(alloc);

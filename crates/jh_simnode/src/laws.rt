@@ -1,18 +1,18 @@
 //! Laws, each the contract of a function that does nothing. `specs/Laws.antt` states those of journals.
 
 ghost use Rattle.std.specs.Prelude.{◌≡◌};
-ghost use Rattle.jh_simnode.specs.Limits.{most_entries, most_events, most_rows};
+ghost use Rattle.jh_simnode.specs.Limits.{max_entries, max_events, max_rows};
 ghost use Rattle.jh_simnode.specs.Laws.{OverlayStands, QuietStays, WithdrawLeaves, WithdrawAllLeaves, UndoRestores, RedoRestores};
 
-use crate::events::MOST_EVENTS;
-use crate::plan::MOST_ROWS;
-use crate::schedule::MOST_ENTRIES;
+use crate::events::MAX_EVENTS;
+use crate::plan::MAX_ROWS;
+use crate::schedule::MAX_ENTRIES;
 
 /// The limits that code can name are the numbers of the definitions.
 pub fn limits()
-    ensures events { MOST_EVENTS ≡ most_events }
-    ensures entries { MOST_ENTRIES ≡ most_entries }
-    ensures rows { MOST_ROWS ≡ most_rows }
+    ensures events { MAX_EVENTS ≡ max_events }
+    ensures entries { MAX_ENTRIES ≡ max_entries }
+    ensures rows { MAX_ROWS ≡ max_rows }
 {}
 
 /// What holds at every place of every legal journal. The environment is what the active faults make of the starting

@@ -19,14 +19,14 @@ mod turns;
 mod world;
 
 pub use copies::{Contents, Got, Mark, NodeCopy, Numbers, Reply};
-pub use events::{Event, MOST_EVENTS, WorldError};
+pub use events::{Event, MAX_EVENTS, WorldError};
 pub use history::{
     code_of, completion, entry_begun, entry_ended, invocation, kind_of, push_placed,
 };
 pub use laws::{limits, world_laws};
-pub use plan::{MOST_ROWS, Plan, PlanError};
+pub use plan::{MAX_ROWS, Plan, PlanError};
 pub use replay::nemesis_after;
-pub use schedule::{Entry, MOST_ENTRIES, Schedule, TooLong};
+pub use schedule::{Entry, MAX_ENTRIES, Schedule, TooLong};
 pub use serial::{RunError, one_run, run_serial, world_of};
 pub use settings::{Settings, Store};
 pub use turns::{driver_of, ended_of, node_of, ticks_at};

@@ -12,14 +12,14 @@ use crate::events::fits;
 use crate::schedule::{Entry, Schedule};
 use crate::settings::{Settings, Store};
 use jh_env::Env;
-use jh_gen::{Gen, Inner, MOST_CLIENTS};
+use jh_gen::{Gen, Inner, MAX_CLIENTS};
 use jh_ops::Workload;
 use std::alloc::{AllocError, Global};
 use std::marker::Model;
 use thiserror::Error;
 
 /// The most rows of the log of a run on threads.
-pub const MOST_ROWS: u32 = 65_536;
+pub const MAX_ROWS: u32 = 65_536;
 
 /// What a run does: on which environment and store, by how many clients, which calls, which steps of the nemesis. A
 /// contract sees its parts, which are those that it was made of.
@@ -87,8 +87,8 @@ impl From<AllocError> for PlanError {
 }
 
 /// How many calls a run of the workload may make.
-fn most_ops(workload: Workload) -> u32
-    ensures { result ≡ rule.most_ops workload }
+fn max_ops(workload: Workload) -> u32
+    ensures { result ≡ rule.max_ops workload }
 {
     match workload {
         Workload::Set => 1_000,
@@ -181,13 +181,13 @@ impl Plan {
             (λ _. IsFit (rule.judged environment.now settings.now clients ops (generator_of generator.now) schedule.now rows))
             (RefusesPlan (rule.judged environment.now settings.now clients ops (generator_of generator.now) schedule.now rows)) }
     {
-        if clients < 1 || clients > MOST_CLIENTS {
+        if clients < 1 || clients > MAX_CLIENTS {
             return Err(PlanError::BadClients);
         }
-        if ops < 1 || ops > most_ops(settings.workload) {
+        if ops < 1 || ops > max_ops(settings.workload) {
             return Err(PlanError::BadOps);
         }
-        if rows < 1 || rows > MOST_ROWS {
+        if rows < 1 || rows > MAX_ROWS {
             return Err(PlanError::BadRows);
         }
         if !generator.suits(settings.workload, clients) {

@@ -2,7 +2,7 @@
 
 ghost use Rattle.std.specs.Prelude.{◌≡◌, ◌<◌, ◌≤◌, ◌++◌, length, IfOk, MatchResult, OnOk};
 ghost use Rattle.std.specs.List.{remove_range};
-ghost use Rattle.jh_simnode.specs.Limits.{most_entries};
+ghost use Rattle.jh_simnode.specs.Limits.{max_entries};
 
 use jh_nemesis::Step;
 use std::alloc::{AllocError, Global};
@@ -10,7 +10,7 @@ use std::marker::Model;
 use thiserror::Error;
 
 /// The most entries of a schedule.
-pub const MOST_ENTRIES: usize = 1_024;
+pub const MAX_ENTRIES: usize = 1_024;
 
 /// A step of the nemesis, and after how many answered client calls it is due. An entry waits for those before it.
 #[derive(Debug, Drop)]
@@ -50,13 +50,13 @@ pub struct Schedule {
 impl Model for Schedule {
     ghost use Rattle.std.specs.Prelude.{◌≤◌, List, length};
     ghost use Rattle.jh_simnode.specs.declared.schedule.Entry.{Entry};
-    ghost use Rattle.jh_simnode.specs.Limits.{most_entries};
+    ghost use Rattle.jh_simnode.specs.Limits.{max_entries};
 
     ghost Value = { List Entry };
 
     ghost view = { λ a. a.items.items };
 
-    ghost invariant = { λ a. length a.items.items ≤ most_entries };
+    ghost invariant = { λ a. length a.items.items ≤ max_entries };
 }
 
 /// There are more entries than a schedule has.
@@ -70,10 +70,10 @@ impl Schedule {
     /// Error: there are more than 1,024.
     pub fn of(items: Vec<Entry>) -> Result<Schedule, TooLong>
         ensures { MatchResult result
-            (λ schedule. (schedule ≡ items.items) × (length items.items ≤ most_entries))
-            (λ _. most_entries < length items.items) }
+            (λ schedule. (schedule ≡ items.items) × (length items.items ≤ max_entries))
+            (λ _. max_entries < length items.items) }
     {
-        if items.len() > MOST_ENTRIES {
+        if items.len() > MAX_ENTRIES {
             return Err(TooLong);
         }
         Ok(Schedule { items })
@@ -81,7 +81,7 @@ impl Schedule {
 
     pub fn entries(&self) -> &[Entry]
         ensures entries { result.now ≡ self.now }
-        ensures few { length self.now ≤ most_entries }
+        ensures few { length self.now ≤ max_entries }
     {
         &self.items
     }
@@ -89,7 +89,7 @@ impl Schedule {
     /// Its entries. Takes no memory.
     pub fn into_entries(self) -> Vec<Entry>
         ensures entries { result.items ≡ self }
-        ensures few { length self ≤ most_entries }
+        ensures few { length self ≤ max_entries }
     {
         self.items
     }

@@ -2,7 +2,7 @@
 //! the rules, `specs/Running.antt` what holds between two turns.
 
 ghost use Rattle.std.specs.Prelude.{◌≡◌, ◌%◌, ◌<◌, ◌≤◌, List, length, IfOk, IfErr, OnOk, OnErr, false};
-ghost use Rattle.jh_simnode.specs.Limits.{most_events};
+ghost use Rattle.jh_simnode.specs.Limits.{max_events};
 ghost use Rattle.jh_simnode.specs.Runs as rule;
 ghost use Rattle.jh_simnode.specs.Runs.{Turns};
 ghost use Rattle.jh_simnode.specs.Running as running;
@@ -224,7 +224,7 @@ impl Run {
         requires { HasCalled plan.now self.now world.old thread }
         ensures stands { OnOk result (Stands plan.now self.now world.new) }
         ensures grown { OnOk result (length world.old.journal ≤ length world.new.journal) }
-        ensures few { length world.old.journal ≤ most_events }
+        ensures few { length world.old.journal ≤ max_events }
         ensures stopped { IfErr result (Halts plan.now) }
     {
         let _events = world.journal().len();

@@ -6,11 +6,11 @@ ghost use Rattle.jh_env.specs.Overlay.{StandsFor};
 ghost use Rattle.jh_nemesis.specs.Steps.{FitsNodes};
 ghost use Rattle.jh_nemesis.specs.Work.{size_of_step};
 ghost use Rattle.jh_simnode.specs.Events.{Adds, Refuses, IsLegal, IsNew, moment_at};
-ghost use Rattle.jh_simnode.specs.Limits.{most_events};
+ghost use Rattle.jh_simnode.specs.Limits.{max_events};
 ghost use Rattle.jh_simnode.specs.declared.events.Event.TheVariants as Event;
 
 use crate::copies::{NodeCopy, Reply, first_copies};
-use crate::events::{Event, MOST_EVENTS, WorldError, fits};
+use crate::events::{Event, MAX_EVENTS, WorldError, fits};
 use crate::settings::{Settings, Store};
 use crate::stores::{dead_nodes, forget, serve, take_over, tick_copies};
 use jh_env::{Env, Node};
@@ -76,7 +76,7 @@ impl World {
     pub fn journal(&self) -> &[Event]
         ensures events { result.now ≡ self.now.journal }
         ensures legal { IsLegal self.now.setup self.now.journal }
-        ensures few { length self.now.journal ≤ most_events }
+        ensures few { length self.now.journal ≤ max_events }
     {
         &self.journal
     }
@@ -117,7 +117,7 @@ impl World {
         if node.place() as usize >= self.copies.len() {
             return Err(WorldError::UnknownNode);
         }
-        if self.journal.len() >= MOST_EVENTS {
+        if self.journal.len() >= MAX_EVENTS {
             return Err(WorldError::TooManyEvents);
         }
         let number = self.journal.len() as u64;
@@ -159,7 +159,7 @@ impl World {
         if !fits(&step, self.nemesis.env()) {
             return Err(WorldError::UnknownNode);
         }
-        if self.journal.len() >= MOST_EVENTS {
+        if self.journal.len() >= MAX_EVENTS {
             return Err(WorldError::TooManyEvents);
         }
         let number = self.journal.len() as u64;
@@ -189,7 +189,7 @@ impl World {
             (λ e. (self.new ≡ self.old) × Refuses ⊤ self.old.journal e) }
         ensures work { self.new.work ≡ self.old.work }
     {
-        if self.journal.len() >= MOST_EVENTS {
+        if self.journal.len() >= MAX_EVENTS {
             return Err(WorldError::TooManyEvents);
         }
         let number = self.journal.len() as u64;

@@ -8,7 +8,7 @@ use crate::fixtures::{plan_of, value};
 use crate::rows::{Kind, first_wrong};
 use crate::runs::refusal;
 use jh_nemesis::Step;
-use jh_simnode::{Entry, MOST_ENTRIES, Plan, Schedule, TooLong};
+use jh_simnode::{Entry, MAX_ENTRIES, Plan, Schedule, TooLong};
 use std::alloc::Global;
 use std::io::Write;
 
@@ -134,7 +134,7 @@ fn count_in_order(entries: &[Entry]) -> Option<usize> {
 
 #[test]
 fn a_schedule_gives_its_entries_back(rt: HostRuntime) {
-    assert_eq!(rt; kept(rt.alloc(), 1_024), Some(Ok(MOST_ENTRIES)));
+    assert_eq!(rt; kept(rt.alloc(), 1_024), Some(Ok(MAX_ENTRIES)));
 }
 
 #[test]

@@ -10,7 +10,7 @@ use jh_edn::Value;
 use jh_env::Node;
 use jh_nemesis::{StepAnswer, step_of_value};
 use jh_ops::Request;
-use jh_simnode::{Contents, Got, MOST_EVENTS, Reply, World, WorldError};
+use jh_simnode::{Contents, Got, MAX_EVENTS, Reply, World, WorldError};
 use std::alloc::Global;
 use std::io::Write;
 use std::test::Fail;
@@ -232,7 +232,7 @@ fn has_ticked(world: &mut World, times: usize) -> bool {
 fn a_world_holds_so_many_events(rt: HostRuntime) -> Result<(), Fail> {
     let world = one_node(rt.alloc()).or_else(|| one_node(rt.alloc()));
     let mut world = world.ok_or("no world")?;
-    assert!(rt; has_ticked(&mut world, MOST_EVENTS));
+    assert!(rt; has_ticked(&mut world, MAX_EVENTS));
     assert_eq!(rt; world.tick(), Err(WorldError::TooManyEvents));
     assert_eq!(rt; world.journal().len(), 65_536);
     Ok(())

@@ -7,10 +7,10 @@ use std::alloc::{AllocError, AllocFailed};
 use thiserror::Error;
 
 /// The most rows that a log may have.
-pub const MOST_ROWS: u32 = 65_536;
+pub const MAX_ROWS: u32 = 65_536;
 
 /// The most rows of one claim.
-pub const MOST_CLAIMED: u32 = 255;
+pub const MAX_CLAIMED: u32 = 255;
 
 /// The words of a row.
 pub const ROW_WORDS: usize = 5;

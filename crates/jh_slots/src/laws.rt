@@ -2,14 +2,14 @@
 
 ghost use Rattle.std.specs.Prelude.{◌≡◌};
 ghost use Rattle.jh_slots.specs.Events.{SlotLaws};
-ghost use Rattle.jh_slots.specs.Sizes.{most_claimed, most_rows, row_words};
+ghost use Rattle.jh_slots.specs.Sizes.{max_claimed, max_rows, row_words};
 
-use crate::answers::{MOST_CLAIMED, MOST_ROWS, ROW_WORDS};
+use crate::answers::{MAX_CLAIMED, MAX_ROWS, ROW_WORDS};
 
 /// The sizes that code can name are the numbers of the definitions.
 pub fn limits()
-    ensures rows { MOST_ROWS ≡ most_rows }
-    ensures claimed { MOST_CLAIMED ≡ most_claimed }
+    ensures rows { MAX_ROWS ≡ max_rows }
+    ensures claimed { MAX_CLAIMED ≡ max_claimed }
     ensures words { ROW_WORDS ≡ row_words }
 {}
 

@@ -8,6 +8,6 @@ mod laws;
 mod slots;
 mod steps;
 
-pub use answers::{Full, MOST_CLAIMED, MOST_ROWS, ROW_WORDS, Read, Receipt, SlotsError};
+pub use answers::{Full, MAX_CLAIMED, MAX_ROWS, ROW_WORDS, Read, Receipt, SlotsError};
 pub use laws::{limits, slot_laws};
 pub use slots::{Claim, Seat, Slots};

@@ -5,9 +5,9 @@ ghost use Rattle.std.specs.Prelude.{◌≡◌, ℕ, ◌+◌, ◌*◌, ◌<◌, �
 ghost use Rattle.std.specs.FinMap as fin;
 ghost use Rattle.jh_slots.specs.Seats.{Mark, newcomer, looked, took, wrote, published, voided, copied, joined, Agree, Holds, AreApart, BeginsAbove};
 ghost use Rattle.jh_slots.specs.Reading.{Reads};
-ghost use Rattle.jh_slots.specs.Sizes.{IsSize, RefusesSize, most_claimed};
+ghost use Rattle.jh_slots.specs.Sizes.{IsSize, RefusesSize, max_claimed};
 
-use crate::answers::{Full, MOST_ROWS, Read, Receipt, SlotsError};
+use crate::answers::{Full, MAX_ROWS, Read, Receipt, SlotsError};
 use crate::steps::{Copy, End, Gather, Law, Look, Peek, Recall, Take, Unite, View, Write};
 use atomic_table::Table;
 use std::alloc::{AllocError, Global};
@@ -89,7 +89,7 @@ fn zeros(alloc: Global, count: usize) -> Result<Vec<u64>, AllocError>
 
 impl Slots {
     /// A log of rows that are all free, and its first seat, which knows nothing yet. `rows` is from 1 to
-    /// [`MOST_ROWS`].
+    /// [`MAX_ROWS`].
     ///
     /// Errors: `BadSize`; `OutOfMemory`.
     pub fn new(alloc: Global, rows: u32) -> Result<(Slots, Seat), SlotsError>
@@ -97,7 +97,7 @@ impl Slots {
             (λ r. IsSize rows × (r.0.rows ≡ rows) × (r.1.table ≡ r.0.table) × (r.1.knows ≡ newcomer))
             (RefusesSize rows) }
     {
-        if rows == 0 || rows > MOST_ROWS {
+        if rows == 0 || rows > MAX_ROWS {
             return Err(SlotsError::BadSize);
         }
         let rows = rows as usize;
@@ -161,13 +161,13 @@ impl Slots {
         ) as u32
     }
 
-    /// Claims consecutive rows, 1 to [`MOST_CLAIMED`](crate::MOST_CLAIMED) of them, whose words are 0 until they are
+    /// Claims consecutive rows, 1 to [`MAX_CLAIMED`](crate::MAX_CLAIMED) of them, whose words are 0 until they are
     /// written. They lie above all rows that the seat has seen or claimed.
     ///
     /// Error: `Full` where fewer rows are left. The seat may then know more of the rows that are taken.
     pub fn claim(&self, seat: &mut Seat, rows: u32) -> Result<Claim, Full>
         requires own { seat.old.table ≡ self.now.table }
-        requires rows { (1 ≤ rows) × (rows ≤ most_claimed) }
+        requires rows { (1 ≤ rows) × (rows ≤ max_claimed) }
         ensures table { seat.new.table ≡ seat.old.table }
         ensures claimed { IfOk result (λ c. seat.new.knows ≡ took c.first rows seat.old.knows) }
         ensures rows { IfOk result (λ c. (c.rows ≡ rows) × (c.first + rows ≤ self.now.rows)) }

@@ -120,21 +120,21 @@ abbrev pub IsStartingNode : NodeCell → Type 0
 IsStartingNode n = IsWithin (10 ^ 12) n.clock
 
 -- how many faults can be put and not taken
-abbrev pub most_put : ℕ
-most_put = 256
+abbrev pub max_put : ℕ
+max_put = 256
 
 -- the most milliseconds by which a message is late: a minute at the start or of a fix, and one more for each fault
-abbrev pub most_delay : ℕ
-most_delay = 60000 * 257
+abbrev pub max_delay : ℕ
+max_delay = 60000 * 257
 
 -- the most milliseconds by which a clock is off: 10^12 at the start, and 10^9 for each fault
-abbrev pub most_offset : ℕ
-most_offset = 10 ^ 12 + 256 * 10 ^ 9
+abbrev pub max_offset : ℕ
+max_offset = 10 ^ 12 + 256 * 10 ^ 9
 
 -- a link as so many faults can make it at most
 abbrev pub IsLinkInRange : Link → Type 0
-IsLinkInRange l = (l.delay ≤ most_delay) × (l.loss ≤ 20)
+IsLinkInRange l = (l.delay ≤ max_delay) × (l.loss ≤ 20)
 
 -- a node as so many faults can make it at most
 abbrev pub IsNodeInRange : NodeCell → Type 0
-IsNodeInRange n = IsWithin most_offset n.clock
+IsNodeInRange n = IsWithin max_offset n.clock

@@ -5,7 +5,7 @@ ghost use Rattle.std.specs.List.{All};
 ghost use Rattle.jh_tables.specs.Faults.{size_of, FitsCount, IsFault, fix_parts};
 ghost use Rattle.jh_tables.specs.Plain.{fault_of};
 ghost use Rattle.jh_tables.specs.Cells.{link_at, node_at};
-ghost use Rattle.jh_tables.specs.Standing.{IsLinkInRange, IsNodeInRange, IsPut, IsStartingLink, IsStartingNode, IsTaken, StandsAt, StandsAtSome, most_put};
+ghost use Rattle.jh_tables.specs.Standing.{IsLinkInRange, IsNodeInRange, IsPut, IsStartingLink, IsStartingNode, IsTaken, StandsAt, StandsAtSome, max_put};
 ghost use Rattle.jh_tables.specs.TurningInside.{AreEntriesTurned, AreTurned, CanTurnEntries, CanTurnTallies};
 
 use crate::cells::{Link, NodeCell};
@@ -109,7 +109,7 @@ impl Tables {
     pub fn put(&mut self, fault: &PlainFault, stamp: u32)
         requires fits { FitsCount (length self.old.start.nodes) (fault_of fault.now) }
         requires right { IsFault (fault_of fault.now) }
-        requires room { self.old.laid < most_put }
+        requires room { self.old.laid < max_put }
         ensures stands { IsPut (stamp, fault_of fault.now) self.old self.new }
         ensures start { self.new.start ≡ self.old.start }
         ensures whole { length self.new.now.nodes ≡ length self.old.now.nodes }

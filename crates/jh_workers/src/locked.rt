@@ -2,7 +2,7 @@
 
 ghost use Rattle.std.specs.Prelude.{◌≡◌, ℕ, ◌+◌, ◌<◌, [], List, length, sum_by, IfOk, IfErr, IfSome, OnOk, OnErr, MatchResult, ⊤};
 ghost use Rattle.jh_nemesis.specs.Steps.{FitsNodes};
-ghost use Rattle.jh_simnode.specs.Limits.{most_events};
+ghost use Rattle.jh_simnode.specs.Limits.{max_events};
 ghost use Rattle.jh_simnode.specs.Events.{Adds, Refuses, IsLegal};
 ghost use Rattle.jh_simnode.specs.declared.events.Event.TheVariants as Event;
 ghost use Rattle.jh_workers.specs.Shown.{IsJournal};
@@ -38,7 +38,7 @@ impl<L: Ledger> Count for WorldShare<L> {
 
 /// Counts one more accepted call, in the book and in a share of it.
 fn count_one<L: Ledger>(book: &mut Book<L>, mine: &mut WorldShare<L>)
-    requires { book.old.total < most_events }
+    requires { book.old.total < max_events }
     ensures total { book.new.total ≡ book.old.total + 1 }
     ensures counted { mine.new.count ≡ mine.old.count + 1 }
 {
@@ -91,7 +91,7 @@ impl<L: Ledger> Counted<L> {
             (λ e. (self.new.world ≡ self.old.world) × Refuses (node < length self.old.world.setup.names) self.old.world.journal e) }
         ensures accepted { OnOk result (mine.new.count ≡ mine.old.count + 1) }
         ensures refused { OnErr result (mine.new.count ≡ mine.old.count) }
-        ensures numbered { IfOk result (λ told. told.0 < most_events) }
+        ensures numbered { IfOk result (λ told. told.0 < max_events) }
     {
         let Counted {
             world,
@@ -118,7 +118,7 @@ impl<L: Ledger> Counted<L> {
             × Refuses (FitsNodes (length self.old.world.setup.names) step) self.old.world.journal e) }
         ensures accepted { OnOk result (mine.new.count ≡ mine.old.count + 1) }
         ensures refused { OnErr result (mine.new.count ≡ mine.old.count) }
-        ensures numbered { IfOk result (λ told. told.0 < most_events) }
+        ensures numbered { IfOk result (λ told. told.0 < max_events) }
     {
         let Counted {
             world,

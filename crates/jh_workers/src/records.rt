@@ -10,12 +10,12 @@ ghost use Rattle.jh_workers.specs.GatherInside.{IsFound, RefusesRecord, RefusesR
 
 use jh_ops::{Op, WordsError, of_words};
 use jh_simnode::push_placed;
-use jh_slots::{MOST_CLAIMED, MOST_ROWS, ROW_WORDS, Read, Seat, Slots};
+use jh_slots::{MAX_CLAIMED, MAX_ROWS, ROW_WORDS, Read, Seat, Slots};
 use std::alloc::{AllocError, Global};
 use thiserror::Error;
 
 /// The most words of a record: those of the rows of one claim.
-pub(crate) const MAX_WORDS: usize = MOST_CLAIMED as usize * ROW_WORDS;
+pub(crate) const MAX_WORDS: usize = MAX_CLAIMED as usize * ROW_WORDS;
 
 /// Why no history is gathered.
 #[derive(Clone, Copy, Debug, PartialEq, Eq, Error)]
@@ -69,7 +69,7 @@ fn record_in(
     buffer: &mut [u64; MAX_WORDS],
 ) -> Result<Option<Op>, GatherError>
     requires table { seat.old.table ≡ slots.now.table }
-    requires row { row < MOST_ROWS }
+    requires row { row < MAX_ROWS }
     ensures table { seat.new.table ≡ seat.old.table }
     ensures found { IfOk result (IsFound (fin.get seat.new.knows.seen row)) }
     ensures others { (r : ℕ) → r < row → fin.get seat.new.knows.seen r ≡ fin.get seat.old.knows.seen r }
@@ -120,7 +120,7 @@ pub fn gather(
 {
     let mut history = Vec::new(alloc);
     let mut buffer = [0; MAX_WORDS];
-    for row in 0..rows.min(MOST_ROWS as usize) {
+    for row in 0..rows.min(MAX_ROWS as usize) {
         let found = record_in(alloc, slots, seat, row as u32, &mut buffer)?;
         push_found(&mut history, found)?;
     }

@@ -23,7 +23,7 @@ use jh_simnode::{
     Entry, Got, Plan, Reply, completion, ended_of, entry_begun, entry_ended, invocation, node_of,
     ticks_at,
 };
-use jh_slots::{Claim, MOST_CLAIMED, ROW_WORDS, Slots};
+use jh_slots::{Claim, MAX_CLAIMED, ROW_WORDS, Slots};
 use rand_core::utils::NextWord;
 use rand_pcg::Lcg128Xsl64;
 use std::alloc::{AllocError, Global};
@@ -65,7 +65,7 @@ fn rows_told(request: Request, reply: &Reply) -> u32
     ensures enough { min (3 + records.integers_told request reply.now) 1275 ≤ 5 * result }
     ensures least { 5 * result < min (3 + records.integers_told request reply.now) 1275 + 5 }
 {
-    let most = MOST_CLAIMED as usize * ROW_WORDS - 3;
+    let most = MAX_CLAIMED as usize * ROW_WORDS - 3;
     let words = 3 + integers_told(request, reply).min(most);
     words.div_ceil(ROW_WORDS) as u32
 }

@@ -7,7 +7,7 @@ use crate::runs::{may_lack_memory, plan_of};
 use jh_env::Node;
 use jh_nemesis::{Step, StepAnswer};
 use jh_ops::Request;
-use jh_simnode::{Event, Got, MOST_EVENTS, Reply, WorldError};
+use jh_simnode::{Event, Got, MAX_EVENTS, Reply, WorldError};
 use jh_workers::{Count, Port, RunError, run};
 use std::alloc::{AllocError, Global};
 use std::sync::{Mutex, Wait};
@@ -58,10 +58,10 @@ impl Held {
     fn add(&mut self, mine: &mut Counted, event: Event) -> Result<u64, WorldError>
         ensures accepted { OnOk result (mine.new.count ≡ mine.old.count + 1) }
         ensures refused { OnErr result (mine.new.count ≡ mine.old.count) }
-        ensures numbered { IfOk result (λ number. number < MOST_EVENTS) }
+        ensures numbered { IfOk result (λ number. number < MAX_EVENTS) }
     {
         let number = self.journal.len();
-        if number >= MOST_EVENTS || mine.count == u64::MAX {
+        if number >= MAX_EVENTS || mine.count == u64::MAX {
             return Err(WorldError::TooManyEvents);
         }
         let Ok(()) = self.journal.push(event) else {

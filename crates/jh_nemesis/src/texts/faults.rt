@@ -12,7 +12,7 @@ use super::StepTextError;
 use super::named::{named_fault, split_fault};
 use super::shapes::{OnLinks, OnNodes, Shape, bump_said, link_names, node_name};
 use jh_edn::Value;
-use jh_env::{Fault, FaultError, MOST_BUMPED, MOST_FIXED, MOST_LOSS, MOST_SLOWED, Node, Nodes};
+use jh_env::{Fault, FaultError, MAX_BUMPED, MAX_FIXED, MAX_LOSS, MAX_SLOWED, Node, Nodes};
 use std::alloc::{AllocError, Global};
 
 // The nodes of a link, where both are known.
@@ -103,16 +103,16 @@ fn is_right(effect: OnLinks) -> bool
 {
     match effect {
         OnLinks::Cut => true,
-        OnLinks::Slow(ms) => ms >= 1 && ms <= MOST_SLOWED as i64,
-        OnLinks::Loss(level) => level >= 1 && level <= i64::from(MOST_LOSS),
-        OnLinks::Fix(ms) => ms >= 0 && ms <= MOST_FIXED as i64,
+        OnLinks::Slow(ms) => ms >= 1 && ms <= MAX_SLOWED as i64,
+        OnLinks::Loss(level) => level >= 1 && level <= i64::from(MAX_LOSS),
+        OnLinks::Fix(ms) => ms >= 0 && ms <= MAX_FIXED as i64,
     }
 }
 
 fn is_bump_amount(ms: i64) -> bool
     ensures { result ≡ rule.is_bump_amount ms }
 {
-    ms != 0 && -MOST_BUMPED <= ms && ms <= MOST_BUMPED
+    ms != 0 && -MAX_BUMPED <= ms && ms <= MAX_BUMPED
 }
 
 fn are_bump_amounts(nodes: &Nodes, bumps: &[(Value, Value)]) -> bool

@@ -5,8 +5,8 @@ use Rattle.jh_simnode.specs.declared.schedule.Entry.{Entry}
 use Rattle.jh_settings.proofs.EntryLemmas.{one_told, not_told, all_told, too_many}
 use Rattle.jh_settings.proofs.elements.entries_in.Goals as goal
 
-pub returns-then-values-gt-MOST_ENTRIES-clause-told : goal.returns-then-values-gt-MOST_ENTRIES-clause-told
-returns-then-values-gt-MOST_ENTRIES-clause-told c = (refl, too_many c.args.nodes.now c.args.values.now c.if-values-gt-MOST_ENTRIES.true)
+pub returns-then-values-gt-MAX_ENTRIES-clause-told : goal.returns-then-values-gt-MAX_ENTRIES-clause-told
+returns-then-values-gt-MAX_ENTRIES-clause-told c = (refl, too_many c.args.nodes.now c.args.values.now c.if-values-gt-MAX_ENTRIES.true)
 
 pub returns-in-None-clause-told : goal.returns-in-None-clause-told
 returns-in-None-clause-told c =
@@ -28,4 +28,4 @@ loop-value-preserved c =
 pub returns-clause-told : goal.returns-clause-told
 returns-clause-told c =
     let l = c.loop-value in
-    all_told c.args.nodes.now c.args.values.now l.value-index l.entries.items l.invariant.told c.loop-value-test.false c.if-values-gt-MOST_ENTRIES.false
+    all_told c.args.nodes.now c.args.values.now l.value-index l.entries.items l.invariant.told c.loop-value-test.false c.if-values-gt-MAX_ENTRIES.false

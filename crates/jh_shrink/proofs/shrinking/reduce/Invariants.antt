@@ -1,6 +1,6 @@
 use Rattle.std.proofs.Common.{◌≤◌, ◌+◌, length}
 use Rattle.std.specs.Fn.{FnReturnsAt}
-use Rattle.jh_simnode.specs.Limits.{most_entries}
+use Rattle.jh_simnode.specs.Limits.{max_entries}
 use Rattle.jh_shrink.specs.Shrunk.{IsFailing}
 use Rattle.jh_shrink.proofs.shrinking.reduce.Given as goal
 
@@ -9,7 +9,7 @@ abbrev pub invariant-loop-size : goal.invariant-loop-size
 invariant-loop-size g l = record {
   failing : IsFailing (FnReturnsAt g.F.Fn l.judge) l.fn.schedule l.schedule;
   some : 1 ≤ l.size;
-  few : l.size ≤ most_entries;
+  few : l.size ≤ max_entries;
 }
 
 -- a pass takes an entry out, or the parts become smaller

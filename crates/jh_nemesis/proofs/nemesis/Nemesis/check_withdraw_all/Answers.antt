@@ -1,7 +1,7 @@
 use Rattle.std.proofs.Common.{◌≡◌, ◌∙◌, false, true, length, sym, refl}
 use Rattle.std.specs.Prelude.{nat_le}
 use Rattle.jh_nemesis.specs.State.{is_empty}
-use Rattle.jh_nemesis.specs.Steps.{most_steps}
+use Rattle.jh_nemesis.specs.Steps.{max_steps}
 use Rattle.jh_nemesis.proofs.RecordLemmas.{some_active}
 use Rattle.jh_nemesis.proofs.nemesis.Nemesis.check_withdraw_all.Goals as goal
 
@@ -10,5 +10,5 @@ returns-then-is_full c =
     let a = c.self.inside in
     let some : is_empty c.args.self.now.state.now ≡ false =
     rw (← c.self.view_is) (some_active a.records.items a.active.items (sym c.is_empty.ensures ∙ c.if-is_empty.false)) in
-    let full : nat_le most_steps (length c.args.self.now.state.past) ≡ true = sym c.is_full.ensures ∙ c.if-is_full.true in
+    let full : nat_le max_steps (length c.args.self.now.state.past) ≡ true = sym c.is_full.ensures ∙ c.if-is_full.true in
     rw (some, full) refl

@@ -9,7 +9,7 @@ use Rattle.jh_nemesis.specs.RecordsInside.{fault_of, faults_at, past_of, record_
 use Rattle.jh_nemesis.specs.NemesisInside.{state_of}
 use Rattle.jh_nemesis.specs.declared.records.Record.TheVariants.{Withdrawn}
 use Rattle.jh_nemesis.specs.declared.steps.Step.TheVariants.{Withdraw}
-use Rattle.jh_nemesis.specs.Steps.{most_steps}
+use Rattle.jh_nemesis.specs.Steps.{max_steps}
 use Rattle.jh_nemesis.specs.declared.steps.StepAnswer.TheVariants as StepAnswer
 use Rattle.jh_nemesis.proofs.CursorLemmas.{known, room_left, withdraw_right, put_true, put_future, put_work, withdrawn_state}
 use Rattle.jh_nemesis.proofs.nemesis.Nemesis.withdraw_step.Goals as goal
@@ -23,8 +23,8 @@ pub invariant_of-self-2 : goal.invariant_of-self-2
 invariant_of-self-2 c =
     let a = c.self.inside in
     let inside : Contains a.active.items c.in-Some.stamp = rw c.deref-2.ensures.0 at c.in-Some.ensures.stamp.0 in
-    let full : nat_le most_steps (length c.args.self.now.state.past) ≡ false = sym c.is_full.ensures ∙ c.if-is_full.false in
-    let left : nat_le most_steps (length (past_of a.records.items a.cursor)) ≡ false = rw (← c.self.view_is) at full in
+    let full : nat_le max_steps (length c.args.self.now.state.past) ≡ false = sym c.is_full.ensures ∙ c.if-is_full.false in
+    let left : nat_le max_steps (length (past_of a.records.items a.cursor)) ≡ false = rw (← c.self.view_is) at full in
     rw c.in_ok-put_at.ensures.ok
     (put_true c.self.invariant (Withdrawn c.in-Some.stamp) (room_left a.records.items a.cursor left)
     (withdraw_right c.self.invariant (length a.env.names) c.in-Some.stamp inside))
@@ -42,8 +42,8 @@ returns-clause-ok c =
     rw c.deref.ensures.value at c.in-Some.ensures.stamp.1 in
     let active : true ≡ is_active (faults_at a.records.items a.active.items) c.args.id =
     rw (c.deref.ensures.value, c.deref-2.ensures.0) at c.in-Some.ensures.variant in
-    let full : nat_le most_steps (length c.args.self.now.state.past) ≡ false = sym c.is_full.ensures ∙ c.if-is_full.false in
-    let left : nat_le most_steps (length (past_of a.records.items a.cursor)) ≡ false = rw (← c.self.view_is) at full in
+    let full : nat_le max_steps (length c.args.self.now.state.past) ≡ false = sym c.is_full.ensures ∙ c.if-is_full.false in
+    let left : nat_le max_steps (length (past_of a.records.items a.cursor)) ≡ false = rw (← c.self.view_is) at full in
     let ok : withdraw_answer (state_of a) c.args.id ≡ StepAnswer.Ok = rw (← active, left) refl in
     let state =
     withdrawn_state c.self.invariant c.args.id c.in-Some.stamp c.put_at.new.records.items c.go_forth.new.self.state
@@ -60,8 +60,8 @@ returns-clause-work c =
     rw c.deref.ensures.value at c.in-Some.ensures.stamp.1 in
     let active : true ≡ is_active (faults_at a.records.items a.active.items) c.args.id =
     rw (c.deref.ensures.value, c.deref-2.ensures.0) at c.in-Some.ensures.variant in
-    let full : nat_le most_steps (length c.args.self.now.state.past) ≡ false = sym c.is_full.ensures ∙ c.if-is_full.false in
-    let left : nat_le most_steps (length (past_of a.records.items a.cursor)) ≡ false = rw (← c.self.view_is) at full in
+    let full : nat_le max_steps (length c.args.self.now.state.past) ≡ false = sym c.is_full.ensures ∙ c.if-is_full.false in
+    let left : nat_le max_steps (length (past_of a.records.items a.cursor)) ≡ false = rw (← c.self.view_is) at full in
     let ok : withdraw_answer (state_of a) c.args.id ≡ StepAnswer.Ok = rw (← active, left) refl in
     let state =
     withdrawn_state c.self.invariant c.args.id c.in-Some.stamp c.put_at.new.records.items c.go_forth.new.self.state

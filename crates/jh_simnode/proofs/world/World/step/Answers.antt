@@ -20,8 +20,8 @@ returns-then-not-fits-clause-added c = (
       let no : ⊥ = cc (yes, c.if-not-fits.true) in no,
 )
 
-pub returns-then-len-ge-MOST_EVENTS-clause-added : goal.returns-then-len-ge-MOST_EVENTS-clause-added
-returns-then-len-ge-MOST_EVENTS-clause-added c =
+pub returns-then-len-ge-MAX_EVENTS-clause-added : goal.returns-then-len-ge-MAX_EVENTS-clause-added
+returns-then-len-ge-MAX_EVENTS-clause-added c =
     let fits : FitsNodes (length c.self.inside.nemesis.state.names) c.args.step = rw c.env.ensures.names at (c.fits.ensures.0 c.if-not-fits.false) in
     let full : 65536 ≤ length c.self.inside.journal.items = search rules in
     (refl, (rw (← c.self.view_is) fits, rw (← c.self.view_is) full))

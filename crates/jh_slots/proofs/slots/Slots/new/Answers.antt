@@ -15,7 +15,7 @@ invariant_of-result-2 c =
     let words : c.in_ok-table.inner.table_id.words ≡ 1 + 6 * c.args.rows =
     ap (λ z. z.words) e.2 ∙ (e.0 ∙ (ap length is ∙ zeros_len (1 + 6 * c.args.rows))) in
     let view : c.in_ok-table.inner.me.0 ≡ opening_view c.args.rows = ap (λ p. p.0) e.4 in
-    let most = c.if-rows-gt-MOST_ROWS.false in
+    let most = c.if-rows-gt-MAX_ROWS.false in
     let small : c.args.rows ≤ 65536 = omega arith in (
       ap (λ p. p.1) e.4,
       subst (λ (y : ℕ × View). IsSeat y.0 y.1) (λ i. (sym words i, sym view i)) (seat_opening c.args.rows small),
