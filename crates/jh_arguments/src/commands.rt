@@ -106,7 +106,7 @@ fn workload_of(name: &str) -> Option<Workload>
 
 /// Does what a command does, and gives its exit status: 0 where its work is done and nothing was found, 1 and 2 where the
 /// history that it judges is not valid, or where that is not known, and likewise where a schedule that fails was made small, or
-/// the budget did not suffice for it. The error has the status otherwise: 3 for an input that is refused, 4 for a fault of the
+/// the budget did not suffice for it. The error has the status otherwise: 3 for an input that is refused, 4 for an error of the
 /// machine or a run that was not completed. Nothing is written before any error but `Write`.
 ///
 /// The observer is told how far the work of `shrink` is. A run on threads and the judgement of keys may wait; all else returns

@@ -3,5 +3,5 @@ pub mod OnceLemmas
 pub mod SearchLemmas
 pub mod FinalLemmas
 pub mod SumLemmas
-pub mod FaultLemmas
+pub mod ErrorLemmas
 pub mod LineLemmas

@@ -1,4 +1,4 @@
--- What the counter checker keeps on its way: the first fault so far, and sums by place.
+-- What the counter checker keeps on its way: the first error so far, and sums by place.
 use Rattle.std.specs.Prelude.{◌≡◌, ℕ, ◌+◌, ◌^◌, ◌<◌, ◌≤◌, nat_lt, pos, List, [], length, slice_index, MatchOption, Option, Some, None, if◌then◌else◌}
 use Rattle.jh_ops.specs.Operation.{Operation}
 use Rattle.jh_ops.specs.declared.pairs.Pair.{Pair}
@@ -11,14 +11,14 @@ use Rattle.jh_check.specs.declared.totals.Bound.TheVariants.{Lower, Upper}
 use Rattle.jh_check.specs.declared.totals.Increase.{Increase}
 
 -- the error is about a value
-abbrev pub IsValueFault : CheckError → Type 0
-IsValueFault (BadValue place) = Unit {0}
-IsValueFault (NegativeAdd place) = Unit {0}
-IsValueFault _ = ⊥
+abbrev pub IsValueError : CheckError → Type 0
+IsValueError (BadValue place) = Unit {0}
+IsValueError (NegativeAdd place) = Unit {0}
+IsValueError _ = ⊥
 
--- the first of the faults, where there is one
+-- the first of the errors, where there is one
 abbrev pub IsFirstOf : Option CheckError → List CheckError → Type 0
-IsFirstOf first faults = MatchOption first (faults ≡ []) (λ fault. IsFirst fault faults × IsValueFault fault)
+IsFirstOf first errors = MatchOption first (errors ≡ []) (λ error. IsFirst error errors × IsValueError error)
 
 -- the one at the earlier place
 abbrev pub earlier : Option CheckError → Option CheckError → Option CheckError

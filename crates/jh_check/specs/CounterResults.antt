@@ -12,7 +12,7 @@ use Rattle.jh_ops.specs.Pairing.{IsWellFormed, RefusesHistory, pairs_of}
 use Rattle.jh_ops.specs.declared.operation.Kind.{Kind}
 use Rattle.jh_ops.specs.declared.pairs.Pair.{Pair}
 use Rattle.jh_ops.specs.declared.pairs.PairError.{PairError}
-use Rattle.jh_ops.specs.declared.pairs.PairError.TheVariants as fault
+use Rattle.jh_ops.specs.declared.pairs.PairError.TheVariants as pair_errors
 use Rattle.jh_check.specs.Asked.{is_kind}
 use Rattle.jh_check.specs.Verdicts.{verdict_of}
 use Rattle.jh_check.specs.declared.counter.CounterResult.{CounterResult}
@@ -112,50 +112,50 @@ counter_result history = result_of history (pairs_of history)
 -- ---- refusals
 
 -- an add's amount has to be an integer, and not below 0
-abbrev pub add_fault : ℕ → Option Edn → Option CheckError
-add_fault place (Some (int (pos n))) = None
-add_fault place (Some (int (negsuc n))) = Some (NegativeAdd place)
-add_fault place _ = Some (BadValue place)
+abbrev pub add_error : ℕ → Option Edn → Option CheckError
+add_error place (Some (int (pos n))) = None
+add_error place (Some (int (negsuc n))) = Some (NegativeAdd place)
+add_error place _ = Some (BadValue place)
 
 -- what a read gives has to be an integer
-abbrev pub read_fault : ℕ → Option Edn → Option CheckError
-read_fault place (Some (int z)) = None
-read_fault place _ = Some (BadValue place)
+abbrev pub read_error : ℕ → Option Edn → Option CheckError
+read_error place (Some (int z)) = None
+read_error place _ = Some (BadValue place)
 
 -- what is wrong with the values of a call: of an add at its invocation, whatever its outcome, of a read that
 -- happened at its completion
-abbrev pub call_fault : List Operation → Pair → Option CheckError
-call_fault history call =
-    if asks (codes "add") history call then add_fault call.invoke (value_at history call.invoke)
-    else if is_ok_read history call then read_fault (end_of call) (value_at history (end_of call))
+abbrev pub call_error : List Operation → Pair → Option CheckError
+call_error history call =
+    if asks (codes "add") history call then add_error call.invoke (value_at history call.invoke)
+    else if is_ok_read history call then read_error (end_of call) (value_at history (end_of call))
     else None
 
-abbrev pub faults_in : List Operation → List Pair → List CheckError
-faults_in history calls = filter_map (call_fault history) calls
+abbrev pub errors_in : List Operation → List Pair → List CheckError
+errors_in history calls = filter_map (call_error history) calls
 
 abbrev pub place_of : CheckError → ℕ
-place_of (Unpaired fault) = 0
+place_of (Unpaired error) = 0
 place_of (BadValue place) = place
 place_of (NegativeAdd place) = place
 place_of OutOfMemory = 0
 
--- one of the faults, and none is at an earlier place
+-- one of the errors, and none is at an earlier place
 abbrev pub IsFirst : CheckError → List CheckError → Type 0
-IsFirst fault faults = Contains faults fault × All (λ other. place_of fault ≤ place_of other) faults
+IsFirst error errors = Contains errors error × All (λ other. place_of error ≤ place_of other) errors
 
 -- its calls can be told and have the values that they need
 abbrev pub IsCountable : List Operation → Type 0
-IsCountable history = IsWellFormed history × (faults_in history (pairs_of history) ≡ [])
+IsCountable history = IsWellFormed history × (errors_in history (pairs_of history) ≡ [])
 
--- the error for a fault of pairing
+-- the error that a checker gives for one of pairing
 abbrev pub refusal_of : PairError → CheckError
-refusal_of fault.OutOfMemory = OutOfMemory
-refusal_of fault = Unpaired fault
+refusal_of pair_errors.OutOfMemory = OutOfMemory
+refusal_of error = Unpaired error
 
 -- Why there is no result: first for its pairs, then for the first bad value. Memory is wanted where neither is at
--- fault, or for the pairs.
+-- error, or for the pairs.
 abbrev pub RefusesCounter : List Operation → CheckError → Type 0
-RefusesCounter history (Unpaired fault) = (refusal_of fault ≡ Unpaired fault) × RefusesHistory history fault
-RefusesCounter history (BadValue place) = IsWellFormed history × IsFirst (BadValue place) (faults_in history (pairs_of history))
-RefusesCounter history (NegativeAdd place) = IsWellFormed history × IsFirst (NegativeAdd place) (faults_in history (pairs_of history))
-RefusesCounter history OutOfMemory = RefusesHistory history fault.OutOfMemory ⊎ IsCountable history
+RefusesCounter history (Unpaired error) = (refusal_of error ≡ Unpaired error) × RefusesHistory history error
+RefusesCounter history (BadValue place) = IsWellFormed history × IsFirst (BadValue place) (errors_in history (pairs_of history))
+RefusesCounter history (NegativeAdd place) = IsWellFormed history × IsFirst (NegativeAdd place) (errors_in history (pairs_of history))
+RefusesCounter history OutOfMemory = RefusesHistory history pair_errors.OutOfMemory ⊎ IsCountable history

@@ -77,7 +77,7 @@ IsJudgeable history = IfSome (final_read history) (λ read. IsSome (elements_sho
 
 -- Why there is no result: the last read shows no elements. Memory is wanted only where it shows some.
 abbrev pub RefusesSet : List Operation → CheckError → Type 0
-RefusesSet history (Pair fault) = ⊥
+RefusesSet history (Pair error) = ⊥
 RefusesSet history (BadValue place) = (op : Operation) × (final_read history ≡ Some (place, op)) × (elements_shown op.value ≡ None)
 RefusesSet history (NegativeAdd place) = ⊥
 RefusesSet history OutOfMemory = IsSome (elements_read history)

@@ -4,9 +4,9 @@ ghost use Rattle.std.specs.Prelude.{◌≡◌, ◌^◌, ◌<◌, IfSome, option_
 ghost use Rattle.jh_edn.specs.View.{view};
 ghost use Rattle.jh_ops.specs.Operation.{operation, operations};
 ghost use Rattle.jh_check.specs.CounterInside as inside;
-ghost use Rattle.jh_check.specs.CounterInside.{IsFirstOf, IsValueFault};
+ghost use Rattle.jh_check.specs.CounterInside.{IsFirstOf, IsValueError};
 ghost use Rattle.jh_check.specs.CounterResults as rule;
-ghost use Rattle.jh_check.specs.CounterResults.{faults_in};
+ghost use Rattle.jh_check.specs.CounterResults.{errors_in};
 
 use crate::asked::{is_keyword, is_kind};
 use crate::error::CheckError;
@@ -110,9 +110,9 @@ pub(crate) fn is_ok_read(history: &[Op], call: Pair) -> bool
 }
 
 // What is wrong with the amount of an add at a place.
-fn add_fault(place: usize, value: Option<&Value>) -> Option<CheckError>
-    ensures fault { result ≡ rule.add_fault place (option_map (λ v. view v.now) value.entry) }
-    ensures kind { IfSome result IsValueFault }
+fn add_error(place: usize, value: Option<&Value>) -> Option<CheckError>
+    ensures error { result ≡ rule.add_error place (option_map (λ v. view v.now) value.entry) }
+    ensures kind { IfSome result IsValueError }
 {
     match value {
         Some(Value::Int(number)) if *number >= 0 => None,
@@ -122,9 +122,9 @@ fn add_fault(place: usize, value: Option<&Value>) -> Option<CheckError>
 }
 
 // What is wrong with what a read gave at a place.
-fn read_fault(place: usize, value: Option<&Value>) -> Option<CheckError>
-    ensures fault { result ≡ rule.read_fault place (option_map (λ v. view v.now) value.entry) }
-    ensures kind { IfSome result IsValueFault }
+fn read_error(place: usize, value: Option<&Value>) -> Option<CheckError>
+    ensures error { result ≡ rule.read_error place (option_map (λ v. view v.now) value.entry) }
+    ensures kind { IfSome result IsValueError }
 {
     match value {
         Some(Value::Int(_)) => None,
@@ -133,30 +133,30 @@ fn read_fault(place: usize, value: Option<&Value>) -> Option<CheckError>
 }
 
 // What is wrong with the values of a call.
-fn call_fault(history: &[Op], call: Pair) -> Option<CheckError>
-    ensures fault { result ≡ rule.call_fault (operations history.now) call }
-    ensures kind { IfSome result IsValueFault }
+fn call_error(history: &[Op], call: Pair) -> Option<CheckError>
+    ensures error { result ≡ rule.call_error (operations history.now) call }
+    ensures kind { IfSome result IsValueError }
 {
     if asks("add", history, call) {
-        add_fault(call.invoke, value_at(history, call.invoke))
+        add_error(call.invoke, value_at(history, call.invoke))
     } else if is_ok_read(history, call) {
-        read_fault(end_of(call), value_at(history, end_of(call)))
+        read_error(end_of(call), value_at(history, end_of(call)))
     } else {
         None
     }
 }
 
-fn place_of(fault: CheckError) -> usize
-    ensures { result ≡ rule.place_of fault }
+fn place_of(error: CheckError) -> usize
+    ensures { result ≡ rule.place_of error }
 {
-    match fault {
+    match error {
         CheckError::BadValue(place) => place,
         CheckError::NegativeAdd(place) => place,
         _ => 0,
     }
 }
 
-// The one of two faults that is at the earlier place, where there is one.
+// The one of two errors that is at the earlier place, where there is one.
 fn earlier(first: Option<CheckError>, next: Option<CheckError>) -> Option<CheckError>
     ensures { result ≡ inside.earlier first next }
 {
@@ -173,13 +173,13 @@ fn earlier(first: Option<CheckError>, next: Option<CheckError>) -> Option<CheckE
     }
 }
 
-// The first fault of the values of calls.
-pub(crate) fn first_fault(history: &[Op], calls: &[Pair]) -> Option<CheckError>
-    ensures { IsFirstOf result (faults_in (operations history.now) calls.now) }
+// The first error of the values of calls.
+pub(crate) fn first_error(history: &[Op], calls: &[Pair]) -> Option<CheckError>
+    ensures { IsFirstOf result (errors_in (operations history.now) calls.now) }
 {
     let mut first = None;
     for call in calls {
-        first = earlier(first, call_fault(history, *call));
+        first = earlier(first, call_error(history, *call));
     }
     first
 }

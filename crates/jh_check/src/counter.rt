@@ -9,7 +9,7 @@ ghost use Rattle.jh_check.specs.CounterResults as rule;
 ghost use Rattle.jh_check.specs.CounterResults.{IsCountable, RefusesCounter, counter_result, ends_before, reads_in};
 ghost use Rattle.jh_check.specs.CounterResults.{result_of};
 
-use crate::calls::{end_of, first_fault, is_ok_read, value_read};
+use crate::calls::{end_of, first_error, is_ok_read, value_read};
 use crate::error::CheckError;
 use crate::totals::{Bound, bounds};
 use crate::verdict::{Verdict, verdict_of};
@@ -188,8 +188,8 @@ pub fn check_counter(alloc: Global, history: &[Op]) -> Result<CounterResult, Che
         (RefusesCounter (operations history.now)) }
 {
     let calls = pair(alloc, history)?;
-    if let Some(fault) = first_fault(history, &calls) {
-        return Err(fault);
+    if let Some(error) = first_error(history, &calls) {
+        return Err(error);
     }
     Ok(judged(alloc, history, &calls)?)
 }

@@ -7,7 +7,7 @@ use jh_ops::PairError;
 use std::alloc::{AllocError, AllocFailed};
 use thiserror::Error;
 
-/// Why a history is not judged, with the place of the operation at fault, from 0.
+/// Why a history is not judged, with the place of the operation in error, from 0.
 #[derive(Clone, Copy, Debug, PartialEq, Eq, Error)]
 pub enum CheckError {
     /// Its invocations and completions do not pair. Never `PairError::OutOfMemory`, which is `OutOfMemory` here.
@@ -26,7 +26,7 @@ pub enum CheckError {
 impl From<PairError> for CheckError {
     ghost use Rattle.jh_check.specs.CounterResults.{refusal_of};
 
-    ghost from_gives = { λ fault e. e ≡ refusal_of fault };
+    ghost from_gives = { λ error e. e ≡ refusal_of error };
 
     fn from(error: PairError) -> CheckError {
         match error {

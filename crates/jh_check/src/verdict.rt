@@ -12,7 +12,7 @@ pub enum Verdict {
     True,
     /// It does not hold what the checker needs for an answer.
     Unknown,
-    /// It shows a fault of the database.
+    /// It shows that the database is wrong.
     False,
 }
 

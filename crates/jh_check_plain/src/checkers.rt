@@ -92,8 +92,8 @@ fn began(events: &[Event], place: usize) -> Option<usize> {
     }
 }
 
-/// The words of the fault at a place.
-fn fault_at(events: &[Event], place: usize) -> Option<&'static str> {
+/// The words of the error at a place.
+fn error_at(events: &[Event], place: usize) -> Option<&'static str> {
     let event = events.get(place)?;
     let is_add = event.is(":invoke", ":add");
     match event.value {
@@ -123,8 +123,8 @@ fn reads_of(alloc: Global, events: &[Event]) -> Result<(String, String), AllocEr
 
 fn counter_answer(alloc: Global, events: &[Event]) -> Result<String, AllocError> {
     for place in 0..events.len() {
-        if let Some(fault) = fault_at(events, place) {
-            return format!(in alloc; "operation {place}: {fault}");
+        if let Some(error) = error_at(events, place) {
+            return format!(in alloc; "operation {place}: {error}");
         }
     }
     let (reads, errors) = reads_of(alloc, events)?;

@@ -24,7 +24,7 @@ pub(crate) enum Ask<'a> {
     /// What the judge of a register says of a history within a budget: `order` with its places, `none` with the place of
     /// the completion at which it is stuck, or `unknown` with the number of steps; or the words of the error.
     Judge(u64),
-    /// What is wrong with places as an order of this history: the words of the fault, or `order`.
+    /// What is wrong with places as an order of this history: the words of the error, or `order`.
     Places(&'a str),
 }
 
@@ -118,7 +118,7 @@ fn ordered(alloc: Global, history: &str, places: &str) -> Option<String> {
     }
     match check_order(&calls, Some(0), &order) {
         Ok(()) => "order".to_string(alloc).ok(),
-        Err(fault) => fault.to_string(alloc).ok(),
+        Err(error) => error.to_string(alloc).ok(),
     }
 }
 

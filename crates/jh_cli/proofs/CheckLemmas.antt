@@ -1,28 +1,28 @@
 -- Why `check` refuses an input, from why its history is not read or not judged.
 use Rattle.std.proofs.Common.{◌≡◌, ℕ, Bool, true, false, List, refl, sym, subst}
 use Rattle.jh_check.specs.declared.error.CheckError.{CheckError}
-use Rattle.jh_check.specs.declared.error.CheckError.TheVariants as CheckFault
+use Rattle.jh_check.specs.declared.error.CheckError.TheVariants as CheckErrors
 use Rattle.jh_edn.specs.declared.error.EdnError.{EdnError}
 use Rattle.jh_edn.specs.declared.error.EdnError.TheVariants as edn
-use Rattle.jh_edn.specs.Refused.{RefusesText, IsFirstFault}
+use Rattle.jh_edn.specs.Refused.{RefusesText, IsFirstError}
 use Rattle.jh_histories.specs.Histories.{IsHistoryOf, RefusesHistoryOf}
 use Rattle.jh_histories.specs.declared.error.ReadHistoryError.{ReadHistoryError}
 use Rattle.jh_histories.specs.declared.error.ReadHistoryError.TheVariants as reading
 use Rattle.jh_keys.specs.declared.error.KeysError.{KeysError}
-use Rattle.jh_keys.specs.declared.error.KeysError.TheVariants as KeysFault
+use Rattle.jh_keys.specs.declared.error.KeysError.TheVariants as KeysErrors
 use Rattle.jh_keys.specs.declared.finding.Judging.{Judging}
 use Rattle.jh_ops.specs.Operation.{Operation}
 use Rattle.jh_ops.specs.declared.history.HistoryError.TheVariants as history_errors
 use Rattle.jh_cli.specs.CheckRefusals.{RefusesBy, RefusesCheck, RefusesJudging}
 use Rattle.jh_cli.specs.CheckText.{judging_of}
-use Rattle.jh_cli.specs.Status.{check_fault, edn_fault, keys_fault, reading_fault}
+use Rattle.jh_cli.specs.Status.{check_error, edn_error, keys_error, reading_error}
 use Rattle.jh_cli.specs.declared.check_command.Question.{Question}
 use Rattle.jh_cli.specs.declared.error.CliError.{CliError}
 use Rattle.jh_cli.specs.declared.error.CliError.TheVariants.{Input, EnvironmentMissing, Environment, Element, History, Check, Settings, Run, HistoryFull, Mismatch, Thread, OnlyForRegister, Read, Write, OutOfMemory}
 
 -- ---- no history is read
 
-text_refused : (question : Question) (input : List ℕ) (error : EdnError) → RefusesText input error → IsFirstFault input error → RefusesCheck question input (edn_fault error)
+text_refused : (question : Question) (input : List ℕ) (error : EdnError) → RefusesText input error → IsFirstError input error → RefusesCheck question input (edn_error error)
 text_refused question input (edn.UnexpectedEnd line) refused first = (refl, refused, first)
 text_refused question input (edn.BadToken line) refused first = (refl, refused, first)
 text_refused question input (edn.FloatUnsupported line) refused first = (refl, refused, first)
@@ -37,7 +37,7 @@ text_refused question input edn.Read refused first = tt
 text_refused question input edn.Write refused first = absurd refused
 text_refused question input edn.OutOfMemory refused first = tt
 
-pub reading_refused : (question : Question) (input : List ℕ) (error : ReadHistoryError) → RefusesHistoryOf input error → RefusesCheck question input (reading_fault error)
+pub reading_refused : (question : Question) (input : List ℕ) (error : ReadHistoryError) → RefusesHistoryOf input error → RefusesCheck question input (reading_error error)
 reading_refused question input (reading.Text error) refused = text_refused question input error refused.0 refused.1
 reading_refused question input (reading.History history_errors.OutOfMemory) refused = tt
 reading_refused question input (reading.History (history_errors.Op place why)) refused = (refused.0, refused.1, (refl, refused.2))
@@ -46,36 +46,36 @@ reading_refused question input (reading.History (history_errors.Op place why)) r
 
 -- what a checker, threads or memory may refuse a history with
 abbrev IsJudging : CliError → Type 0
-IsJudging (Check fault) = Unit {0}
+IsJudging (Check error) = Unit {0}
 IsJudging Thread = Unit {0}
 IsJudging OutOfMemory = Unit {0}
 IsJudging _ = ⊥
 
-by_checker : (fault : CheckError) → IsJudging (check_fault fault)
-by_checker (CheckFault.Pair error) = tt
-by_checker (CheckFault.BadValue place) = tt
-by_checker (CheckFault.NegativeAdd place) = tt
-by_checker CheckFault.OutOfMemory = tt
+by_checker : (error : CheckError) → IsJudging (check_error error)
+by_checker (CheckErrors.Pair error) = tt
+by_checker (CheckErrors.BadValue place) = tt
+by_checker (CheckErrors.NegativeAdd place) = tt
+by_checker CheckErrors.OutOfMemory = tt
 
-by_keys : (fault : KeysError) → IsJudging (keys_fault fault)
-by_keys (KeysFault.BadValue place) = tt
-by_keys (KeysFault.Key fault) = by_checker fault
-by_keys KeysFault.Thread = tt
-by_keys KeysFault.OutOfMemory = tt
+by_keys : (error : KeysError) → IsJudging (keys_error error)
+by_keys (KeysErrors.BadValue place) = tt
+by_keys (KeysErrors.Key error) = by_checker error
+by_keys KeysErrors.Thread = tt
+by_keys KeysErrors.OutOfMemory = tt
 
 by_judging : (independent : Bool) (judging : Judging) (history : List Operation) (e : CliError) → RefusesBy independent judging history e → IsJudging e
 by_judging true judging history e refused = subst IsJudging (sym refused.2) (by_keys refused.0)
 by_judging false judging history e refused = subst IsJudging (sym refused.2) (by_checker refused.0)
 
 pub judging_refused : (question : Question) (input : List ℕ) (history : List Operation) (e : CliError) → IsHistoryOf input history → RefusesJudging question history e → RefusesCheck question input e
-judging_refused question input history (Input fault) told refused = absurd (by_judging question.independent (judging_of question) history (Input fault) refused)
+judging_refused question input history (Input error) told refused = absurd (by_judging question.independent (judging_of question) history (Input error) refused)
 judging_refused question input history EnvironmentMissing told refused = absurd (by_judging question.independent (judging_of question) history EnvironmentMissing refused)
-judging_refused question input history (Environment fault) told refused = absurd (by_judging question.independent (judging_of question) history (Environment fault) refused)
-judging_refused question input history (Element place fault) told refused = absurd (by_judging question.independent (judging_of question) history (Element place fault) refused)
-judging_refused question input history (History fault) told refused = absurd (by_judging question.independent (judging_of question) history (History fault) refused)
-judging_refused question input history (Check fault) told refused = (told.0, told.1, (history, told.2, refused))
-judging_refused question input history (Settings fault) told refused = absurd (by_judging question.independent (judging_of question) history (Settings fault) refused)
-judging_refused question input history (Run fault) told refused = absurd (by_judging question.independent (judging_of question) history (Run fault) refused)
+judging_refused question input history (Environment error) told refused = absurd (by_judging question.independent (judging_of question) history (Environment error) refused)
+judging_refused question input history (Element place error) told refused = absurd (by_judging question.independent (judging_of question) history (Element place error) refused)
+judging_refused question input history (History error) told refused = absurd (by_judging question.independent (judging_of question) history (History error) refused)
+judging_refused question input history (Check error) told refused = (told.0, told.1, (history, told.2, refused))
+judging_refused question input history (Settings error) told refused = absurd (by_judging question.independent (judging_of question) history (Settings error) refused)
+judging_refused question input history (Run error) told refused = absurd (by_judging question.independent (judging_of question) history (Run error) refused)
 judging_refused question input history HistoryFull told refused = absurd (by_judging question.independent (judging_of question) history HistoryFull refused)
 judging_refused question input history Mismatch told refused = absurd (by_judging question.independent (judging_of question) history Mismatch refused)
 judging_refused question input history Thread told refused = (told.0, told.1, (history, told.2, refused))

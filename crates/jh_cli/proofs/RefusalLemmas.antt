@@ -5,9 +5,9 @@ use Rattle.std.proofs.lemmas.List.{take_all}
 use Rattle.jh_edn.specs.Edn.{Edn}
 use Rattle.jh_edn.specs.View.{view, views}
 use Rattle.jh_edn.specs.declared.value.Value.{Value}
-use Rattle.jh_env.specs.TextFaults as env
+use Rattle.jh_env.specs.TextErrors as env
 use Rattle.jh_env.specs.declared.texts.EnvTextError.TheVariants as EnvTextError
-use Rattle.jh_cli.specs.Status.{environment_fault}
+use Rattle.jh_cli.specs.Status.{environment_error}
 use Rattle.jh_env.specs.Cells.{Table}
 use Rattle.jh_env.specs.TextCells.{IsTextOf}
 use Rattle.jh_cli.specs.Refusals.{RefusesSteps, RefusesValues}
@@ -15,8 +15,8 @@ use Rattle.jh_cli.specs.declared.error.CliError.{CliError}
 use Rattle.jh_cli.specs.declared.error.CliError.TheVariants.{Input, EnvironmentMissing, Environment, Element, History, Check, Settings, Run, HistoryFull, Mismatch, Thread, OnlyForRegister, Read, Write, OutOfMemory}
 
 -- a first value that is no environment
-refuses_environment : (first : Edn) (others : List Edn) (fault : EnvTextError.the_data) → env.RefusesText first fault
-    → RefusesValues (first ∷ others) (environment_fault fault)
+refuses_environment : (first : Edn) (others : List Edn) (error : EnvTextError.the_data) → env.RefusesText first error
+    → RefusesValues (first ∷ others) (environment_error error)
 refuses_environment first others EnvTextError.NotMap refused = (refl, (first, others, refl, refused))
 refuses_environment first others EnvTextError.UnknownKey refused = (refl, (first, others, refl, refused))
 refuses_environment first others EnvTextError.MissingNodes refused = (refl, (first, others, refl, refused))
@@ -40,23 +40,23 @@ parts_of (v ∷ vs) first some is =
     rw (all, is) refl
 
 -- values of which the first is no environment
-pub first_refused : (values : List Value) (first : Value) (fault : EnvTextError.the_data) (e : CliError) → 0 < length values → first ≡ get_or values 0 first
-    → env.RefusesText (view first) fault → e ≡ environment_fault fault → RefusesValues (views values) e
-first_refused [] first fault e some is refused named = absurd (omega arith)
-first_refused (v ∷ vs) first fault e some is refused named = rw (named, ← is) (refuses_environment (view first) (views vs) fault refused)
+pub first_refused : (values : List Value) (first : Value) (error : EnvTextError.the_data) (e : CliError) → 0 < length values → first ≡ get_or values 0 first
+    → env.RefusesText (view first) error → e ≡ environment_error error → RefusesValues (views values) e
+first_refused [] first error e some is refused named = absurd (omega arith)
+first_refused (v ∷ vs) first error e some is refused named = rw (named, ← is) (refuses_environment (view first) (views vs) error refused)
 
 -- values of which the first is an environment, and one of the others no step
 pub others_refused : (values others : List Edn) (first : Edn) (names : List (List ℕ)) (start : Table) (e : CliError) → values ≡ first ∷ others
     → IsTextOf first names start → RefusesSteps names others e → RefusesValues values e
-others_refused values others first names start (Element place fault) parts text refused = (first, others, names, start, parts, text, refused)
+others_refused values others first names start (Element place error) parts text refused = (first, others, names, start, parts, text, refused)
 others_refused values others first names start OutOfMemory parts text refused = tt
-others_refused values others first names start (Input fault) parts text refused = absurd refused
+others_refused values others first names start (Input error) parts text refused = absurd refused
 others_refused values others first names start EnvironmentMissing parts text refused = absurd refused
-others_refused values others first names start (Environment fault) parts text refused = absurd refused
-others_refused values others first names start (History fault) parts text refused = absurd refused
-others_refused values others first names start (Check fault) parts text refused = absurd refused
-others_refused values others first names start (Settings fault) parts text refused = absurd refused
-others_refused values others first names start (Run fault) parts text refused = absurd refused
+others_refused values others first names start (Environment error) parts text refused = absurd refused
+others_refused values others first names start (History error) parts text refused = absurd refused
+others_refused values others first names start (Check error) parts text refused = absurd refused
+others_refused values others first names start (Settings error) parts text refused = absurd refused
+others_refused values others first names start (Run error) parts text refused = absurd refused
 others_refused values others first names start HistoryFull parts text refused = absurd refused
 others_refused values others first names start Mismatch parts text refused = absurd refused
 others_refused values others first names start Thread parts text refused = absurd refused

@@ -11,15 +11,15 @@ use Rattle.jh_nemesis.specs.State.{Active}
 use Rattle.jh_nemesis.specs.StepText.{step_told}
 use Rattle.jh_nemesis.specs.declared.steps.Step.{Step}
 use Rattle.jh_nemesis.specs.declared.texts.StepTextError.TheVariants as StepTextError
-use Rattle.jh_cli.specs.Status.{element_fault}
-use Rattle.jh_cli.specs.Refusals.{HasFault, RefusesSteps}
+use Rattle.jh_cli.specs.Status.{step_error}
+use Rattle.jh_cli.specs.Refusals.{HasStepError, RefusesSteps}
 use Rattle.jh_cli.specs.declared.error.CliError.{CliError}
 
--- the first i values tell steps, and the next has this fault
-has_fault : (names : List (List ℕ)) (values : List Value) (i : ℕ) (v : Value) (steps : List Step) (fault : StepTextError.the_data)
+-- the first i values tell steps, and the next has this error
+has_step_error : (names : List (List ℕ)) (values : List Value) (i : ℕ) (v : Value) (steps : List Step) (error : StepTextError.the_data)
     → i < length values → v ≡ get_or values i v → map (step_told names) (views (take i values)) ≡ map Ok steps
-    → step_told names (view v) ≡ Err fault → HasFault names (views values) (i + 2) fault
-has_fault names values i v steps fault below is told at_fault =
+    → step_told names (view v) ≡ Err error → HasStepError names (views values) (i + 2) error
+has_step_error names values i v steps error below is told in_error =
     let seam : values ≡ take i values ++ (v ∷ drop (suc i) values) =
     sym (take-append-drop i values) ∙ ap (λ r. take i values ++ r) (rw (← is) at (drop-cons values i v below)) in
     let size : length (views (take i values)) ≡ i = length-map (take i values) view ∙ length-take-le i values (omega arith) in
@@ -30,24 +30,24 @@ has_fault names values i v steps fault below is told at_fault =
       parts = ap views seam ∙ map-append view (take i values) (v ∷ drop (suc i) values);
       steps = steps;
       told = told;
-      at_fault = at_fault;
+      in_error = in_error;
       place_is = omega (arith, size);
     }
 
 -- what is answered where a value tells no step
-pub refuses_element : (names : List (List ℕ)) (values : List Value) (i : ℕ) (v : Value) (steps : List Step) (fault : StepTextError.the_data) (e : CliError)
+pub refuses_element : (names : List (List ℕ)) (values : List Value) (i : ℕ) (v : Value) (steps : List Step) (error : StepTextError.the_data) (e : CliError)
     → i < length values → v ≡ get_or values i v → map (step_told names) (views (take i values)) ≡ map Ok steps
-    → (step_told names (view v) ≡ Err fault) ⊎ ((fault ≡ StepTextError.OutOfMemory) × IsOk (step_told names (view v)))
-    → e ≡ element_fault (i + 2) fault → RefusesSteps names (views values) e
+    → (step_told names (view v) ≡ Err error) ⊎ ((error ≡ StepTextError.OutOfMemory) × IsOk (step_told names (view v)))
+    → e ≡ step_error (i + 2) error → RefusesSteps names (views values) e
 refuses_element names values i v steps StepTextError.OutOfMemory e below is told answer named = rw named tt
-refuses_element names values i v steps StepTextError.BadStep e below is told (inl at) named = rw named (has_fault names values i v steps StepTextError.BadStep below is told at)
-refuses_element names values i v steps StepTextError.BadId e below is told (inl at) named = rw named (has_fault names values i v steps StepTextError.BadId below is told at)
-refuses_element names values i v steps StepTextError.UnknownNode e below is told (inl at) named = rw named (has_fault names values i v steps StepTextError.UnknownNode below is told at)
-refuses_element names values i v steps StepTextError.SelfLink e below is told (inl at) named = rw named (has_fault names values i v steps StepTextError.SelfLink below is told at)
-refuses_element names values i v steps StepTextError.BadAmount e below is told (inl at) named = rw named (has_fault names values i v steps StepTextError.BadAmount below is told at)
-refuses_element names values i v steps fault e below is told (inr memory) named = absurd (let bad = memory.0 in cc)
+refuses_element names values i v steps StepTextError.BadStep e below is told (inl at) named = rw named (has_step_error names values i v steps StepTextError.BadStep below is told at)
+refuses_element names values i v steps StepTextError.BadId e below is told (inl at) named = rw named (has_step_error names values i v steps StepTextError.BadId below is told at)
+refuses_element names values i v steps StepTextError.UnknownNode e below is told (inl at) named = rw named (has_step_error names values i v steps StepTextError.UnknownNode below is told at)
+refuses_element names values i v steps StepTextError.SelfLink e below is told (inl at) named = rw named (has_step_error names values i v steps StepTextError.SelfLink below is told at)
+refuses_element names values i v steps StepTextError.BadAmount e below is told (inl at) named = rw named (has_step_error names values i v steps StepTextError.BadAmount below is told at)
+refuses_element names values i v steps error e below is told (inr memory) named = absurd (let bad = memory.0 in cc)
 
--- the id of one more active fault
+-- the id of one more active error
 pub one_more_id : (active : Active) (i : ℕ) (id : ℕ) (f : FaultValue) → slice_get active i ≡ Some (id, f)
     → map (λ fault. int (pos fault.0)) (take (i + 1) active) ≡ map (λ fault. int (pos fault.0)) (take i active) ++ int (pos id) ∷ []
 one_more_id active i id f is =

@@ -8,29 +8,29 @@ use Rattle.jh_ops.specs.Operation.{Operation}
 use Rattle.jh_ops.specs.HistoryText as told
 use Rattle.jh_ops.specs.declared.call.Workload.{Workload}
 use Rattle.jh_check.specs.declared.error.CheckError.{CheckError}
-use Rattle.jh_check.specs.declared.error.CheckError.TheVariants as CheckFault
+use Rattle.jh_check.specs.declared.error.CheckError.TheVariants as CheckErrors
 use Rattle.jh_keys.specs.Findings.{RefusesHistory}
 use Rattle.jh_keys.specs.Refusals.{RefusesKeys, asked_by}
 use Rattle.jh_keys.specs.declared.error.KeysError.{KeysError}
 use Rattle.jh_keys.specs.declared.finding.Judging.{Judging}
 use Rattle.jh_cli.specs.CheckText.{TakesInitial, IsCheckTextOf, judging_of}
-use Rattle.jh_cli.specs.Status.{check_fault, edn_fault, history_fault, keys_fault}
+use Rattle.jh_cli.specs.Status.{check_error, edn_error, history_error, keys_error}
 use Rattle.jh_cli.specs.declared.check_command.Question.{Question}
 use Rattle.jh_cli.specs.declared.error.CliError.{CliError}
 use Rattle.jh_cli.specs.declared.error.CliError.TheVariants.{Input, History, OnlyForRegister, Read, Write, OutOfMemory}
 
 -- why no line is made of a history, judged as one: its checker refuses it, or memory runs out
 abbrev pub RefusesLine : Workload → List Operation → CheckError → Type 0
-RefusesLine workload history CheckFault.OutOfMemory = Unit {0}
-RefusesLine workload history fault = RefusesHistory workload history fault
+RefusesLine workload history CheckErrors.OutOfMemory = Unit {0}
+RefusesLine workload history error = RefusesHistory workload history error
 
 abbrev pub RefusesWhole : Workload → List Operation → CliError → Type 0
-RefusesWhole workload history e = (fault : CheckError) × RefusesLine workload history fault × (e ≡ check_fault fault)
+RefusesWhole workload history e = (error : CheckError) × RefusesLine workload history error × (e ≡ check_error error)
 
--- Why a history is refused, judged by keys: which of several faults of threads and memory it is depends on the threads.
+-- Why a history is refused, judged by keys: which of several errors of threads and memory it is depends on the threads.
 abbrev pub RefusesByKeys : Judging → List Operation → CliError → Type 0
 RefusesByKeys judging history e =
-    (fault : KeysError) × RefusesKeys (asked_by judging history) fault × (e ≡ keys_fault fault)
+    (error : KeysError) × RefusesKeys (asked_by judging history) error × (e ≡ keys_error error)
 
 abbrev pub RefusesBy : Bool → Judging → List Operation → CliError → Type 0
 RefusesBy true judging history e = RefusesByKeys judging history e
@@ -43,18 +43,18 @@ RefusesJudging question history e = RefusesBy question.independent (judging_of q
 
 -- why values are refused
 abbrev pub RefusesValues : Question → List Edn → CliError → Type 0
-RefusesValues question values (History fault) =
-    (history_fault fault ≡ History fault) × told.RefusesValues values fault
+RefusesValues question values (History error) =
+    (history_error error ≡ History error) × told.RefusesValues values error
 RefusesValues question values OutOfMemory = Unit {0}
 RefusesValues question values e =
     (history : List Operation) × told.AreTold values history × RefusesBy question.independent (judging_of question) history e
 
--- Why an input is refused, where for its text then for its first fault. A failed read and out of memory may come with any
+-- Why an input is refused, where for its text then for its first error. A failed read and out of memory may come with any
 -- input; a failed write comes only where there is something to write.
 abbrev pub RefusesCheck : Question → List ℕ → CliError → Type 0
 RefusesCheck question input OnlyForRegister = TakesInitial question.workload question.initial → ⊥
-RefusesCheck question input (Input fault) =
-    (edn_fault fault ≡ Input fault) × edn.RefusesText input fault × edn.IsFirstFault input fault
+RefusesCheck question input (Input error) =
+    (edn_error error ≡ Input error) × edn.RefusesText input error × edn.IsFirstError input error
 RefusesCheck question input Read = Unit {0}
 RefusesCheck question input Write =
     (status : ℕ) × (output : List ℕ) × IsCheckTextOf question input status output

@@ -5,7 +5,7 @@ use Rattle.jh_edn.specs.Refused.{IsReaderError}
 use Rattle.jh_ops.specs.Operation.{Operation}
 use Rattle.jh_ops.specs.declared.call.Workload.{Workload}
 use Rattle.jh_check.specs.declared.error.CheckError.{CheckError}
-use Rattle.jh_check.specs.declared.error.CheckError.TheVariants as fault
+use Rattle.jh_check.specs.declared.error.CheckError.TheVariants as check_errors
 use Rattle.jh_keys.specs.Findings.{RefusesHistory}
 use Rattle.jh_simnode.specs.declared.events.WorldError.TheVariants as WorldError
 use Rattle.jh_simnode.specs.declared.serial.RunError.TheVariants as RunError
@@ -15,27 +15,27 @@ use Rattle.jh_settings.specs.Settings as settings
 use Rattle.jh_settings.specs.Settings.{AreSettingsOf}
 use Rattle.jh_settings.specs.declared.words.Mode.{Mode}
 use Rattle.jh_cli.specs.RunText.{IsRunTextOf}
-use Rattle.jh_cli.specs.Status.{edn_fault, settings_fault}
+use Rattle.jh_cli.specs.Status.{edn_error, settings_error}
 use Rattle.jh_cli.specs.declared.error.CliError.{CliError}
 use Rattle.jh_cli.specs.declared.error.CliError.TheVariants.{Input, Settings, Run, HistoryFull, Mismatch, Thread, Read, Write, OutOfMemory}
 
 -- The checker of a workload refuses the history of a run on threads, which is a mismatch. (No plan is known whose run comes to
 -- this; that of a serial run never does.)
 abbrev pub RefusesOwn : Workload → List Operation → CliError → Type 0
-RefusesOwn workload history Mismatch = (refusal : CheckError) × (refusal ≢ fault.OutOfMemory) × RefusesHistory workload history refusal
+RefusesOwn workload history Mismatch = (refusal : CheckError) × (refusal ≢ check_errors.OutOfMemory) × RefusesHistory workload history refusal
 RefusesOwn workload history OutOfMemory = Unit {0}
 RefusesOwn workload history _ = ⊥
 
 -- Why the serial run of a plan is not completed: in a whole round no thread got a call, or memory was refused. Once it is
 -- completed, its history is judged.
 abbrev pub RefusesSerial : PlanValue → CliError → Type 0
-RefusesSerial p (Run fault) = (fault ≡ RunError.Stuck) × Stops p fault
+RefusesSerial p (Run error) = (error ≡ RunError.Stuck) × Stops p error
 RefusesSerial p OutOfMemory = Unit {0}
 RefusesSerial p _ = ⊥
 
 -- Why a run on threads gives no outcome, or its history is not judged: which of these it is depends on the threads.
 abbrev pub RefusesThreads : CliError → Type 0
-RefusesThreads (Run fault) = fault ≡ RunError.World WorldError.TooManyEvents
+RefusesThreads (Run error) = error ≡ RunError.World WorldError.TooManyEvents
 RefusesThreads HistoryFull = Unit {0}
 RefusesThreads Mismatch = Unit {0}
 RefusesThreads Thread = Unit {0}
@@ -49,7 +49,7 @@ RefusesSettings p Mode.Threads e = RefusesThreads e
 
 -- Why the run that bytes tell is refused. Want of memory has a name of its own, wherever it came.
 abbrev pub RefusesBytes : List ℕ → CliError → Type 0
-RefusesBytes input (Settings fault) = (settings_fault fault ≡ Settings fault) × settings.RefusesSettings input fault
+RefusesBytes input (Settings error) = (settings_error error ≡ Settings error) × settings.RefusesSettings input error
 RefusesBytes input OutOfMemory = Unit {0}
 RefusesBytes input e =
     (p : PlanValue) × (mode : Mode) × (budget : ℕ) × AreSettingsOf input p mode budget × RefusesSettings p mode e
@@ -57,7 +57,7 @@ RefusesBytes input e =
 -- A failed read, an input that does not end and want of memory may come with any input; a failed write comes only where there is
 -- something to write.
 abbrev pub RefusesRun : List ℕ → CliError → Type 0
-RefusesRun input (Input fault) = (edn_fault fault ≡ Input fault) × IsReaderError fault
+RefusesRun input (Input error) = (edn_error error ≡ Input error) × IsReaderError error
 RefusesRun input Read = Unit {0}
 RefusesRun input Write = (status : ℕ) × (output : List ℕ) × IsRunTextOf input status output
 RefusesRun input e = RefusesBytes input e

@@ -1,4 +1,4 @@
--- How a command ends early (this project's own): refusals of the arguments and of the input have status 3, faults of the machine and
+-- How a command ends early (this project's own): refusals of the arguments and of the input have status 3, errors of the machine and
 -- runs that were not completed 4.
 use Rattle.std.specs.Prelude.{ℕ, List, Option, Some, None, codes}
 use Rattle.jh_edn.specs.declared.error.EdnError.TheVariants as EdnError
@@ -16,14 +16,14 @@ use Rattle.jh_cli.specs.declared.error.CliError.{CliError}
 use Rattle.jh_cli.specs.declared.error.CliError.TheVariants.{Input, EnvironmentMissing, Environment, Element, History, Check, Settings, Run, HistoryFull, Mismatch, Thread, OnlyForRegister, Read, Write, OutOfMemory}
 
 abbrev pub status_of : CliError → ℕ
-status_of (Input fault) = 3
+status_of (Input error) = 3
 status_of EnvironmentMissing = 3
-status_of (Environment fault) = 3
-status_of (Element place fault) = 3
-status_of (History fault) = 3
-status_of (Check fault) = 3
-status_of (Settings fault) = 3
-status_of (Run fault) = 4
+status_of (Environment error) = 3
+status_of (Element place error) = 3
+status_of (History error) = 3
+status_of (Check error) = 3
+status_of (Settings error) = 3
+status_of (Run error) = 4
 status_of HistoryFull = 4
 status_of Mismatch = 4
 status_of Thread = 4
@@ -42,68 +42,68 @@ own_text OnlyForRegister = Some (codes "--initial: only for register")
 own_text Read = Some (codes "read failed")
 own_text Write = Some (codes "write failed")
 own_text OutOfMemory = Some (codes "out of memory")
-own_text fault = None
+own_text error = None
 
--- what a fault of the reader of EDN means to a command
-abbrev pub edn_fault : EdnError.the_data → CliError
-edn_fault EdnError.Read = Read
-edn_fault EdnError.Write = Write
-edn_fault EdnError.OutOfMemory = OutOfMemory
-edn_fault fault = Input fault
+-- what an error of the reader of EDN means to a command
+abbrev pub edn_error : EdnError.the_data → CliError
+edn_error EdnError.Read = Read
+edn_error EdnError.Write = Write
+edn_error EdnError.OutOfMemory = OutOfMemory
+edn_error error = Input error
 
 -- what a refusal of the environment means to a command
-abbrev pub environment_fault : EnvTextError.the_data → CliError
-environment_fault EnvTextError.OutOfMemory = OutOfMemory
-environment_fault fault = Environment fault
+abbrev pub environment_error : EnvTextError.the_data → CliError
+environment_error EnvTextError.OutOfMemory = OutOfMemory
+environment_error error = Environment error
 
 -- what a refusal of the element at a place means to a command
-abbrev pub element_fault : ℕ → StepTextError.the_data → CliError
-element_fault place StepTextError.OutOfMemory = OutOfMemory
-element_fault place fault = Element place fault
+abbrev pub step_error : ℕ → StepTextError.the_data → CliError
+step_error place StepTextError.OutOfMemory = OutOfMemory
+step_error place error = Element place error
 
 -- what a refusal of a history means to a command
-abbrev pub history_fault : HistoryError.the_data → CliError
-history_fault HistoryError.OutOfMemory = OutOfMemory
-history_fault fault = History fault
+abbrev pub history_error : HistoryError.the_data → CliError
+history_error HistoryError.OutOfMemory = OutOfMemory
+history_error error = History error
 
 -- what it means to a command that no history is read
-abbrev pub reading_fault : ReadHistoryError.the_data → CliError
-reading_fault (ReadHistoryError.Text fault) = edn_fault fault
-reading_fault (ReadHistoryError.History fault) = history_fault fault
+abbrev pub reading_error : ReadHistoryError.the_data → CliError
+reading_error (ReadHistoryError.Text error) = edn_error error
+reading_error (ReadHistoryError.History error) = history_error error
 
 -- what a refusal by a checker means to a command
-abbrev pub check_fault : CheckError.the_data → CliError
-check_fault CheckError.OutOfMemory = OutOfMemory
-check_fault fault = Check fault
+abbrev pub check_error : CheckError.the_data → CliError
+check_error CheckError.OutOfMemory = OutOfMemory
+check_error error = Check error
 
 -- what a refusal of the keys of a history means to a command
-abbrev pub keys_fault : KeysError.the_data → CliError
-keys_fault (KeysError.BadValue place) = Check (CheckError.BadValue place)
-keys_fault (KeysError.Key fault) = check_fault fault
-keys_fault KeysError.Thread = Thread
-keys_fault KeysError.OutOfMemory = OutOfMemory
+abbrev pub keys_error : KeysError.the_data → CliError
+keys_error (KeysError.BadValue place) = Check (CheckError.BadValue place)
+keys_error (KeysError.Key error) = check_error error
+keys_error KeysError.Thread = Thread
+keys_error KeysError.OutOfMemory = OutOfMemory
 
 -- what a refusal of settings means to a command
-abbrev pub settings_fault : SettingsError.the_data → CliError
-settings_fault SettingsError.OutOfMemory = OutOfMemory
-settings_fault fault = Settings fault
+abbrev pub settings_error : SettingsError.the_data → CliError
+settings_error SettingsError.OutOfMemory = OutOfMemory
+settings_error error = Settings error
 
 -- what the end of a run that was not completed means to a command
-abbrev pub run_fault : RunError.the_data → CliError
-run_fault (RunError.World WorldError.OutOfMemory) = OutOfMemory
-run_fault RunError.OutOfMemory = OutOfMemory
-run_fault fault = Run fault
+abbrev pub run_error : RunError.the_data → CliError
+run_error (RunError.World WorldError.OutOfMemory) = OutOfMemory
+run_error RunError.OutOfMemory = OutOfMemory
+run_error error = Run error
 
 -- what a refusal of a world means to a command; no run asks for a node that is not there
-abbrev pub world_fault : WorldError.the_data → CliError
-world_fault WorldError.UnknownNode = Mismatch
-world_fault WorldError.TooManyEvents = Run (RunError.World WorldError.TooManyEvents)
-world_fault WorldError.OutOfMemory = OutOfMemory
+abbrev pub world_error : WorldError.the_data → CliError
+world_error WorldError.UnknownNode = Mismatch
+world_error WorldError.TooManyEvents = Run (RunError.World WorldError.TooManyEvents)
+world_error WorldError.OutOfMemory = OutOfMemory
 
 -- what the end of a run on threads that gave no outcome means to a command
-abbrev pub threads_fault : ThreadsError.the_data → CliError
-threads_fault ThreadsError.HistoryFull = HistoryFull
-threads_fault (ThreadsError.World fault) = world_fault fault
-threads_fault ThreadsError.Mismatch = Mismatch
-threads_fault ThreadsError.Thread = Thread
-threads_fault ThreadsError.OutOfMemory = OutOfMemory
+abbrev pub threads_error : ThreadsError.the_data → CliError
+threads_error ThreadsError.HistoryFull = HistoryFull
+threads_error (ThreadsError.World error) = world_error error
+threads_error ThreadsError.Mismatch = Mismatch
+threads_error ThreadsError.Thread = Thread
+threads_error ThreadsError.OutOfMemory = OutOfMemory

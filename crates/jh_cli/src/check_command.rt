@@ -55,7 +55,7 @@ pub struct Question {
 /// Where its keys are independent, each is judged by itself with the whole budget, on so many threads, as
 /// `jh_keys::check_keys` does. Then the call may wait, and promises only if it returns. Otherwise the threads mean nothing.
 ///
-/// Errors: `OnlyForRegister` where there is an initial value and no register, before anything is read; a fault of
+/// Errors: `OnlyForRegister` where there is an initial value and no register, before anything is read; an error of
 /// reading, then of the text (`Input`), `History`, `Check`; `Thread`; `OutOfMemory`; `Write`. Nothing is written before any
 /// of them but `Write`.
 pub fn check_run<T: Threads + Wait + Sync, R: Read, W: Write>(

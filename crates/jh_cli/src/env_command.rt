@@ -11,7 +11,7 @@ ghost use Rattle.jh_nemesis.specs.Steps.{FitsNodes, StepFits, answers_of, state_
 ghost use Rattle.jh_cli.specs.EnvText as text;
 ghost use Rattle.jh_cli.specs.EnvText.{IsEnvText, IsEnvTextOf, IsReport, answer_lines, line};
 ghost use Rattle.jh_cli.specs.Refusals.{RefusesInput, RefusesSteps, RefusesValues};
-ghost use Rattle.jh_cli.specs.Status.{element_fault};
+ghost use Rattle.jh_cli.specs.Status.{step_error};
 
 use crate::error::CliError;
 use jh_edn::{Value, Values, read_all, write};
@@ -33,7 +33,7 @@ const FIRST_STEP: u64 = 2;
 /// active faults in order, and one with the environment. The answer is the exit status, 0. All is read and judged
 /// before the first byte is written.
 ///
-/// Errors: a fault of reading, then of the text (`Input`), `EnvironmentMissing`, `Environment`, `Element` for the
+/// Errors: an error of reading, then of the text (`Input`), `EnvironmentMissing`, `Environment`, `Element` for the
 /// first step that is none; `OutOfMemory`; `Write`. Nothing is written before any of them but `Write`.
 pub fn env_run<R: Read, W: Write>(
     alloc: Global,
@@ -81,19 +81,19 @@ fn steps_of(alloc: Global, nodes: &Nodes, values: &[Value]) -> Result<Vec<Step>,
     for (place, value) in values.iter().enumerate() {
         match step_of_value(alloc, nodes, value) {
             Ok(step) => steps.push(step)?,
-            Err(fault) => return Err(element_error(place as u64 + FIRST_STEP, fault)),
+            Err(error) => return Err(element_error(place as u64 + FIRST_STEP, error)),
         }
     }
     Ok(steps)
 }
 
 // What a refusal of the element at a place means.
-fn element_error(place: u64, fault: StepTextError) -> CliError
-    ensures { result ≡ element_fault place fault }
+fn element_error(place: u64, error: StepTextError) -> CliError
+    ensures { result ≡ step_error place error }
 {
-    match fault {
+    match error {
         StepTextError::OutOfMemory => CliError::OutOfMemory,
-        _ => CliError::Element { place, fault },
+        _ => CliError::Element { place, error },
     }
 }
 

@@ -19,7 +19,7 @@ use std::error::Error;
 use std::fmt::{self, Display, Formatter};
 use std::io::{self, Write};
 
-/// Why a command ended early. `Read`, `Write`, `Thread` and `OutOfMemory` are faults of the machine, `Run`, `HistoryFull` and
+/// Why a command ended early. `Read`, `Write`, `Thread` and `OutOfMemory` are errors of the machine, `Run`, `HistoryFull` and
 /// `Mismatch` say that a run was not completed, `OnlyForRegister` refuses the arguments, and all others what was read.
 #[derive(Debug, Drop)]
 pub enum CliError {
@@ -30,7 +30,7 @@ pub enum CliError {
     /// The first element is no environment.
     Environment(EnvTextError),
     /// The element at this place, the environment's being 1, is no step.
-    Element { place: u64, fault: StepTextError },
+    Element { place: u64, error: StepTextError },
     /// An element is no operation.
     History(HistoryError),
     /// The history is none that its checker can judge.
@@ -91,14 +91,14 @@ impl Display for CliError {
 
     fn fmt<W: fmt::Write>(&self, f: &mut Formatter<W>) -> fmt::Result {
         match self {
-            CliError::Input(fault) => write!(f, "{fault}"),
+            CliError::Input(error) => write!(f, "{error}"),
             CliError::EnvironmentMissing => f.write_str("environment missing"),
-            CliError::Environment(fault) => write!(f, "environment: {fault}"),
-            CliError::Element { place, fault } => write!(f, "element {place}: {fault}"),
-            CliError::History(fault) => write!(f, "{fault}"),
-            CliError::Check(fault) => write!(f, "{fault}"),
-            CliError::Settings(fault) => write!(f, "settings: {fault}"),
-            CliError::Run(fault) => write!(f, "{fault}"),
+            CliError::Environment(error) => write!(f, "environment: {error}"),
+            CliError::Element { place, error } => write!(f, "element {place}: {error}"),
+            CliError::History(error) => write!(f, "{error}"),
+            CliError::Check(error) => write!(f, "{error}"),
+            CliError::Settings(error) => write!(f, "settings: {error}"),
+            CliError::Run(error) => write!(f, "{error}"),
             CliError::HistoryFull => f.write_str("history full"),
             CliError::Mismatch => f.write_str("mismatch"),
             CliError::Thread => f.write_str("thread failed"),
@@ -113,81 +113,81 @@ impl Display for CliError {
 impl Error for CliError {}
 
 impl From<EdnError> for CliError {
-    ghost use Rattle.jh_cli.specs.Status.{edn_fault};
+    ghost use Rattle.jh_cli.specs.Status.{edn_error};
 
-    ghost from_gives = { λ fault e. e ≡ edn_fault fault };
+    ghost from_gives = { λ error e. e ≡ edn_error error };
 
-    fn from(fault: EdnError) -> CliError {
-        match fault {
+    fn from(error: EdnError) -> CliError {
+        match error {
             EdnError::Read => CliError::Read,
             EdnError::Write => CliError::Write,
             EdnError::OutOfMemory => CliError::OutOfMemory,
-            _ => CliError::Input(fault),
+            _ => CliError::Input(error),
         }
     }
 }
 
 impl From<EnvTextError> for CliError {
-    ghost use Rattle.jh_cli.specs.Status.{environment_fault};
+    ghost use Rattle.jh_cli.specs.Status.{environment_error};
 
-    ghost from_gives = { λ fault e. e ≡ environment_fault fault };
+    ghost from_gives = { λ error e. e ≡ environment_error error };
 
-    fn from(fault: EnvTextError) -> CliError {
-        match fault {
+    fn from(error: EnvTextError) -> CliError {
+        match error {
             EnvTextError::OutOfMemory => CliError::OutOfMemory,
-            _ => CliError::Environment(fault),
+            _ => CliError::Environment(error),
         }
     }
 }
 
 impl From<HistoryError> for CliError {
-    ghost use Rattle.jh_cli.specs.Status.{history_fault};
+    ghost use Rattle.jh_cli.specs.Status.{history_error};
 
-    ghost from_gives = { λ fault e. e ≡ history_fault fault };
+    ghost from_gives = { λ error e. e ≡ history_error error };
 
-    fn from(fault: HistoryError) -> CliError {
-        match fault {
+    fn from(error: HistoryError) -> CliError {
+        match error {
             HistoryError::OutOfMemory => CliError::OutOfMemory,
-            _ => CliError::History(fault),
+            _ => CliError::History(error),
         }
     }
 }
 
 impl From<ReadHistoryError> for CliError {
-    ghost use Rattle.jh_cli.specs.Status.{reading_fault};
+    ghost use Rattle.jh_cli.specs.Status.{reading_error};
 
-    ghost from_gives = { λ fault e. e ≡ reading_fault fault };
+    ghost from_gives = { λ error e. e ≡ reading_error error };
 
-    fn from(fault: ReadHistoryError) -> CliError {
-        match fault {
-            ReadHistoryError::Text(fault) => CliError::from(fault),
-            ReadHistoryError::History(fault) => CliError::from(fault),
+    fn from(error: ReadHistoryError) -> CliError {
+        match error {
+            ReadHistoryError::Text(error) => CliError::from(error),
+            ReadHistoryError::History(error) => CliError::from(error),
         }
     }
 }
 
 impl From<CheckError> for CliError {
-    ghost use Rattle.jh_cli.specs.Status.{check_fault};
+    ghost use Rattle.jh_cli.specs.Status.{check_error};
 
-    ghost from_gives = { λ fault e. e ≡ check_fault fault };
+    ghost from_gives = { λ error e. e ≡ check_error error };
 
-    fn from(fault: CheckError) -> CliError {
-        match fault {
+    fn from(error: CheckError) -> CliError {
+        match error {
             CheckError::OutOfMemory => CliError::OutOfMemory,
-            _ => CliError::Check(fault),
+            _ => CliError::Check(error),
         }
     }
 }
 
 impl From<KeysError> for CliError {
-    ghost use Rattle.jh_cli.specs.Status.{keys_fault};
+    ghost use Rattle.jh_cli.specs.Status.{keys_error};
 
-    ghost from_gives = { λ fault e. e ≡ keys_fault fault };
+    ghost from_gives = { λ error e. e ≡ keys_error error };
 
-    fn from(fault: KeysError) -> CliError {
-        match fault {
+    fn from(error: KeysError) -> CliError {
+        match error {
             KeysError::BadValue(place) => CliError::Check(CheckError::BadValue(place)),
-            KeysError::Key(fault) => CliError::from(fault),
+            KeysError::Key(error) => CliError::from(error),
             KeysError::Thread => CliError::Thread,
             KeysError::OutOfMemory => CliError::OutOfMemory,
         }
@@ -195,39 +195,39 @@ impl From<KeysError> for CliError {
 }
 
 impl From<SettingsError> for CliError {
-    ghost use Rattle.jh_cli.specs.Status.{settings_fault};
+    ghost use Rattle.jh_cli.specs.Status.{settings_error};
 
-    ghost from_gives = { λ fault e. e ≡ settings_fault fault };
+    ghost from_gives = { λ error e. e ≡ settings_error error };
 
-    fn from(fault: SettingsError) -> CliError {
-        match fault {
+    fn from(error: SettingsError) -> CliError {
+        match error {
             SettingsError::OutOfMemory => CliError::OutOfMemory,
-            _ => CliError::Settings(fault),
+            _ => CliError::Settings(error),
         }
     }
 }
 
 impl From<RunError> for CliError {
-    ghost use Rattle.jh_cli.specs.Status.{run_fault};
+    ghost use Rattle.jh_cli.specs.Status.{run_error};
 
-    ghost from_gives = { λ fault e. e ≡ run_fault fault };
+    ghost from_gives = { λ error e. e ≡ run_error error };
 
-    fn from(fault: RunError) -> CliError {
-        match fault {
+    fn from(error: RunError) -> CliError {
+        match error {
             RunError::World(WorldError::OutOfMemory) => CliError::OutOfMemory,
             RunError::OutOfMemory => CliError::OutOfMemory,
-            _ => CliError::Run(fault),
+            _ => CliError::Run(error),
         }
     }
 }
 
 impl From<jh_workers::RunError> for CliError {
-    ghost use Rattle.jh_cli.specs.Status.{threads_fault};
+    ghost use Rattle.jh_cli.specs.Status.{threads_error};
 
-    ghost from_gives = { λ fault e. e ≡ threads_fault fault };
+    ghost from_gives = { λ error e. e ≡ threads_error error };
 
-    fn from(fault: jh_workers::RunError) -> CliError {
-        match fault {
+    fn from(error: jh_workers::RunError) -> CliError {
+        match error {
             jh_workers::RunError::HistoryFull => CliError::HistoryFull,
             jh_workers::RunError::World(refusal) => CliError::from(refusal),
             jh_workers::RunError::Mismatch => CliError::Mismatch,
@@ -238,14 +238,14 @@ impl From<jh_workers::RunError> for CliError {
 }
 
 impl From<WorldError> for CliError {
-    ghost use Rattle.jh_cli.specs.Status.{world_fault};
+    ghost use Rattle.jh_cli.specs.Status.{world_error};
 
-    ghost from_gives = { λ fault e. e ≡ world_fault fault };
+    ghost from_gives = { λ error e. e ≡ world_error error };
 
-    fn from(fault: WorldError) -> CliError {
-        match fault {
+    fn from(error: WorldError) -> CliError {
+        match error {
             WorldError::UnknownNode => CliError::Mismatch,
-            WorldError::TooManyEvents => CliError::Run(RunError::World(fault)),
+            WorldError::TooManyEvents => CliError::Run(RunError::World(error)),
             WorldError::OutOfMemory => CliError::OutOfMemory,
         }
     }

@@ -45,7 +45,7 @@ const WORLD_PARTS: u64 = 32;
 /// history each time, which comes from an outcome of `jh_workers::run`, and its two lines of faults are what the steps of
 /// the outcome's journal make of the settings' start.
 ///
-/// Errors: a fault of reading (`Input`, `Read`); `Settings`; of a serial run `Run` where in a whole round no thread got a call;
+/// Errors: an error of reading (`Input`, `Read`); `Settings`; of a serial run `Run` where in a whole round no thread got a call;
 /// of one on threads `HistoryFull`, `Thread`, `Mismatch` or `Run` where it was not completed, and `Mismatch` where its history
 /// can't be judged; `OutOfMemory`; `Write`. Nothing is written before any of them but `Write`.
 pub fn run_run<T: Threads + Wait + Sync, R: Read, W: Write>(

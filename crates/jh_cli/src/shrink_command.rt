@@ -48,7 +48,7 @@ struct Told {
 /// (`jh_run_laws::same_settings_same_run`), and the same bytes, as tests show. All is read and done before the first byte is
 /// written.
 ///
-/// Errors: a fault of reading (`Input`, `Read`); `Settings`; `OutOfMemory`, also where a run is refused or its history can't be
+/// Errors: an error of reading (`Input`, `Read`); `Settings`; `OutOfMemory`, also where a run is refused or its history can't be
 /// judged; `Write`. Nothing is written before any of them but `Write`.
 pub fn shrink_run<R: Read, W: Write>(
     alloc: Global,

@@ -375,9 +375,9 @@ fn refuses_bytes(rt: HostRuntime) {
     assert!(rt; is_answer(&rt, rt.alloc(), "jeprun env", b"\xff", b"3 not UTF-8\n"));
 }
 
-/// The first fault of a text is told with its line, whichever command reads it.
+/// The first error of a text is told with its line, whichever command reads it.
 #[test]
-fn tells_the_line_of_a_fault(rt: HostRuntime) {
+fn tells_the_line_of_an_error(rt: HostRuntime) {
     let rows = r#"{:nodes ["n1"]}
 [:undo → 3 line 2: unexpected end
 § {:nodes ["n1"]}

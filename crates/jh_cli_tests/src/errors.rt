@@ -16,7 +16,7 @@ fn error_of(name: &str) -> Option<CliError> {
         "too long" => Some(CliError::Input(EdnError::TooLong)),
         "amount" => Some(CliError::Element {
             place: 2,
-            fault: StepTextError::BadAmount,
+            error: StepTextError::BadAmount,
         }),
         "events" => Some(CliError::from(RunError::World(WorldError::TooManyEvents))),
         "stuck" => Some(CliError::from(RunError::Stuck)),

@@ -46,7 +46,7 @@ fn fails_reading<T: Threads + Wait + Sync>(
     answer.is_some_and(|text| text.as_slice() == b"4 read failed\n".as_slice())
 }
 
-/// A row is arguments, and how many spaces are read before the fault.
+/// A row is arguments, and how many spaces are read before the error.
 #[test]
 fn a_failing_reader_fails_the_command(rt: HostRuntime) {
     let rows = "\

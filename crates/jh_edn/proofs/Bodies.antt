@@ -3,10 +3,10 @@ use Rattle.std.proofs.Common.{◌≡◌, ℕ, suc, ◌≤◌, ◌<◌, Bool, tru
 use Rattle.std.specs.Prelude.{◌≢◌}
 use Rattle.std.proofs.lemmas.Grind.{common_steps}
 use Rattle.std.proofs.lemmas.List.{append-nil}
-use Rattle.jh_edn.specs.declared.fault.Fault.{Fault}
-use Rattle.jh_edn.specs.declared.fault.Kind.TheVariants.{BadEscape}
+use Rattle.jh_edn.specs.declared.syntax_error.SyntaxError.{SyntaxError}
+use Rattle.jh_edn.specs.declared.syntax_error.Kind.TheVariants.{BadEscape}
 use Rattle.jh_edn.specs.Bytes.{is_plain, escaped, leading}
-use Rattle.jh_edn.specs.Reading.{body, with_front, fault}
+use Rattle.jh_edn.specs.Reading.{body, with_front, syntax_error}
 
 pub escape_ascii : (b c : ℕ) → escaped b ≡ Some c → b < 128
 unfolding escaped
@@ -16,11 +16,11 @@ pub not_special : (c : ℕ) → is_plain c ≡ true → (eqb c 34 ≡ false) × 
 unfolding is_plain
 not_special c h = grind (arith, common_steps)
 
-pub with_front-nil : {A : Type 0} (r : Result (List A × List ℕ) Fault) → r ≡ with_front [] r
+pub with_front-nil : {A : Type 0} (r : Result (List A × List ℕ) SyntaxError) → r ≡ with_front [] r
 with_front-nil (Ok x) = refl
 with_front-nil (Err f) = refl
 
-pub with_front-append : {A : Type 0} (a b : List A) (r : Result (List A × List ℕ) Fault) → with_front a (with_front b r) ≡ with_front (a ++ b) r
+pub with_front-append : {A : Type 0} (a b : List A) (r : Result (List A × List ℕ) SyntaxError) → with_front a (with_front b r) ≡ with_front (a ++ b) r
 with_front-append {A} a b (Ok x) = ap (λ (t : List A). Ok (t, x.1)) (sym (append_assoc a b x.0))
 with_front-append a b (Err f) = refl
 
@@ -54,7 +54,7 @@ is_escape : (c : ℕ) → is_plain c ≡ false → c ≢ 34 → (eqb c 34 ≡ fa
 unfolding is_plain
 is_escape c h n = grind (arith, common_steps)
 
-pub stop_none : (s : List ℕ) → leading is_plain s ≡ 0 → 2 ≤ length s → get_or s 0 0 ≢ 34 → escaped (get_or s 1 0) ≡ None → body s ≡ fault BadEscape s
+pub stop_none : (s : List ℕ) → leading is_plain s ≡ 0 → 2 ≤ length s → get_or s 0 0 ≢ 34 → escaped (get_or s 1 0) ≡ None → body s ≡ syntax_error BadEscape s
 unfolding body
 stop_none [] z l n e = absurd (omega arith)
 stop_none (c ∷ []) z l n e = absurd (omega arith)
@@ -76,11 +76,11 @@ leading-past p (c ∷ s) =
     ] refl
 
 -- one piece more
-pub moved : (t u left here : List ℕ) (n : ℕ) (total : Result (List ℕ × List ℕ) Fault) → n ≡ leading is_plain left → u ≡ t ++ take n left → here ≡ drop n left → with_front t (body left) ≡ total → with_front u (body here) ≡ total
+pub moved : (t u left here : List ℕ) (n : ℕ) (total : Result (List ℕ × List ℕ) SyntaxError) → n ≡ leading is_plain left → u ≡ t ++ take n left → here ≡ drop n left → with_front t (body left) ≡ total → with_front u (body here) ≡ total
 moved t u left here n total e f g so_far =
     rw (f, g, e) (sym (ap (with_front t) (body_plain left) ∙ with_front-append t (take (leading is_plain left) left) (body (drop (leading is_plain left) left))) ∙ so_far)
 
-pub ended : (u here : List ℕ) (total found : Result (List ℕ × List ℕ) Fault) → with_front u (body here) ≡ total → body here ≡ found → total ≡ with_front u found
+pub ended : (u here : List ℕ) (total found : Result (List ℕ × List ℕ) SyntaxError) → with_front u (body here) ≡ total → body here ≡ found → total ≡ with_front u found
 ended u here total found so_far e = sym so_far ∙ ap (with_front u) e
 
 -- a string without escapes

@@ -12,8 +12,8 @@ use Rattle.std.proofs.lemmas.Grind.{common_steps}
 use Rattle.std.proofs.lemmas.Slice.Eq.{bytes_eq-Decides}
 use Rattle.std.proofs.lemmas.Bool.{eqb-true, ne_eqb, cases_Bool}
 use Rattle.std.proofs.lemmas.List.{take_at, drop_at, length-append, append-nil}
-use Rattle.jh_edn.specs.declared.fault.Fault.{Fault}
-use Rattle.jh_edn.specs.declared.fault.Kind.TheVariants.{BadToken}
+use Rattle.jh_edn.specs.declared.syntax_error.SyntaxError.{SyntaxError}
+use Rattle.jh_edn.specs.declared.syntax_error.Kind.TheVariants.{BadToken}
 use Rattle.jh_edn.specs.Edn.{Edn, nil, boolean, int, char, str, keyword, symbol, list, vector, mapping, set, tagged, Items, no_items, item, items_of, Members, no_members, member, members_of}
 use Rattle.jh_edn.specs.Bytes.{backspace, tab, line_feed, form_feed, carriage_return, space, underscore, is_blank, is_hex, is_letter, open_paren, close_paren, quote, backslash, colon, plus, minus, slash, capital_n, digit_zero, open_bracket, close_bracket, open_brace, close_brace, semicolon, hash, underscore, line_feed, begins_discard, is_space, is_delimiter, is_run, is_plain, is_digit, is_symbol, is_first, escaped, leading}
 use Rattle.std.specs.List.{list_all, count_by}
@@ -744,18 +744,18 @@ module _ (deep : Deeper) (inner : Inner) (ready : Ready deep inner) where
 
   element_string : (t b r : List ℕ) → IsBody t b → element deep (quote ∷ (b ++ quote ∷ r)) ≡ Ok (str t, r)
   unfolding element
-  element_string t b r h = ap (λ (w : Result (List ℕ × List ℕ) Fault). w >>= λ x. Ok (str x.0, x.1)) (body_complete t b r h)
+  element_string t b r h = ap (λ (w : Result (List ℕ × List ℕ) SyntaxError). w >>= λ x. Ok (str x.0, x.1)) (body_complete t b r h)
 
   element_list : (xs : Items) (s r : List ℕ) → Elements inner xs s (close_paren ∷ r) → element deep (open_paren ∷ s) ≡ Ok (list xs, r)
   unfolding element
   element_list xs s r h =
-      ap (λ (w : Result (List Edn × List ℕ) Fault). w >>= λ x. Ok (list (items_of x.0), x.1)) (ready.elements close_paren (open_paren ∷ s) s xs r (inl refl) h)
+      ap (λ (w : Result (List Edn × List ℕ) SyntaxError). w >>= λ x. Ok (list (items_of x.0), x.1)) (ready.elements close_paren (open_paren ∷ s) s xs r (inl refl) h)
       ∙ ap (λ (w : Items). Ok (list w, r)) (items_list xs)
 
   element_vector : (xs : Items) (s r : List ℕ) → Elements inner xs s (close_bracket ∷ r) → element deep (open_bracket ∷ s) ≡ Ok (vector xs, r)
   unfolding element
   element_vector xs s r h =
-      ap (λ (w : Result (List Edn × List ℕ) Fault). w >>= λ x. Ok (vector (items_of x.0), x.1)) (ready.elements close_bracket (open_bracket ∷ s) s xs r (inr (inl refl)) h)
+      ap (λ (w : Result (List Edn × List ℕ) SyntaxError). w >>= λ x. Ok (vector (items_of x.0), x.1)) (ready.elements close_bracket (open_bracket ∷ s) s xs r (inr (inl refl)) h)
       ∙ ap (λ (w : Items). Ok (vector w, r)) (items_list xs)
 
   element_map : (ms : Members) (s r : List ℕ) → KeysDiffer ms → Elements inner (items_of_members ms) s (close_brace ∷ r) → element deep (open_brace ∷ s) ≡ Ok (mapping ms, r)
@@ -764,7 +764,7 @@ module _ (deep : Deeper) (inner : Inner) (ready : Ready deep inner) where
       let p = pairs_list ms in
       let unlike : repeats_key p.0 ≡ false = no_key_twice p.0 (subst KeysDiffer (sym p.2) differ) in
       let made : paired (Some p.0) r ≡ Ok (mapping (members_of p.0), r) = rw unlike refl in
-      ap (λ (w : Result (List Edn × List ℕ) Fault). w >>= λ x. paired (pairs_of x.0) x.1) (ready.elements close_brace (open_brace ∷ s) s (items_of_members ms) r (inr (inr refl)) h)
+      ap (λ (w : Result (List Edn × List ℕ) SyntaxError). w >>= λ x. paired (pairs_of x.0) x.1) (ready.elements close_brace (open_brace ∷ s) s (items_of_members ms) r (inr (inr refl)) h)
       ∙ ap (λ (w : Option (List (Edn × Edn))). paired w r) p.1
       ∙ made
       ∙ ap (λ (w : Members). Ok (mapping w, r)) p.2
@@ -775,7 +775,7 @@ module _ (deep : Deeper) (inner : Inner) (ready : Ready deep inner) where
       let ys = list_of xs in
       let unlike : repeats_element ys ≡ false = no_element_twice ys (subst Differ (sym (items_list xs)) differ) in
       let made : unique ys r ≡ Ok (set (items_of ys), r) = rw unlike refl in
-      ap (λ (w : Result (List Edn × List ℕ) Fault). w >>= λ x. unique x.0 x.1) (ready.elements close_brace (hash ∷ open_brace ∷ s) s xs r (inr (inr refl)) h)
+      ap (λ (w : Result (List Edn × List ℕ) SyntaxError). w >>= λ x. unique x.0 x.1) (ready.elements close_brace (hash ∷ open_brace ∷ s) s xs r (inr (inr refl)) h)
       ∙ made
       ∙ ap (λ (w : Items). Ok (set w, r)) (items_list xs)
 

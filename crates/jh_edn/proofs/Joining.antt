@@ -3,12 +3,12 @@ use Rattle.std.proofs.Common.{◌≡◌, ℕ, ◌-◌, List, [], ◌∷◌, ◌+
 use Rattle.std.specs.Str.{IsUtf8}
 use Rattle.std.proofs.lemmas.List.{append-nil}
 use Rattle.jh_edn.specs.declared.error.EdnError.{EdnError}
-use Rattle.jh_edn.specs.declared.fault.Kind.{Kind}
-use Rattle.jh_edn.specs.declared.fault.Kind.TheVariants.{UnexpectedEnd, BadToken, FloatUnsupported, IntegerRange, BadEscape, OddMap, DuplicateKey, TooDeep}
+use Rattle.jh_edn.specs.declared.syntax_error.Kind.{Kind}
+use Rattle.jh_edn.specs.declared.syntax_error.Kind.TheVariants.{UnexpectedEnd, BadToken, FloatUnsupported, IntegerRange, BadEscape, OddMap, DuplicateKey, TooDeep}
 use Rattle.jh_edn.specs.Edn.{Edn}
 use Rattle.jh_edn.specs.Spelling.{IsGap, SpellsAll, Reads, NothingReads}
-use Rattle.jh_edn.specs.Reading.{error_at, FirstFault, line_at, Reached, FaultBehind}
-use Rattle.jh_edn.specs.Refused.{SpellsNothing, RefusesText, IsFirstFault}
+use Rattle.jh_edn.specs.Reading.{error_at, FirstError, line_at, Reached, ErrorBehind}
+use Rattle.jh_edn.specs.Refused.{SpellsNothing, RefusesText, IsFirstError}
 use Rattle.jh_edn.proofs.Whole.{no_gap, one_next, made}
 
 -- whatever the rest is spelled as, these stand before it
@@ -61,10 +61,10 @@ refuses_at text OddMap line h = h
 refuses_at text DuplicateKey line h = h
 refuses_at text TooDeep line h = h
 
-pub refuses : (text : List ℕ) (at : ℕ) (e : EdnError) → SpellsNothing text → FirstFault text at e → RefusesText text e
+pub refuses : (text : List ℕ) (at : ℕ) (e : EdnError) → SpellsNothing text → FirstError text at e → RefusesText text e
 refuses text at e h f = subst (RefusesText text) (sym f.is) (refuses_at text f.found.kind _ h)
 
-first_at : (text : List ℕ) (kind : Kind) (line : ℕ) → FaultBehind text (error_at kind line) → IsFirstFault text (error_at kind line)
+first_at : (text : List ℕ) (kind : Kind) (line : ℕ) → ErrorBehind text (error_at kind line) → IsFirstError text (error_at kind line)
 first_at text UnexpectedEnd line h = h
 first_at text BadToken line h = h
 first_at text FloatUnsupported line h = h
@@ -74,10 +74,10 @@ first_at text OddMap line h = h
 first_at text DuplicateKey line h = h
 first_at text TooDeep line h = h
 
-pub first_behind : (text : List ℕ) (at : ℕ) (e : EdnError) → Reached text at → FirstFault text at e → IsFirstFault text e
+pub first_behind : (text : List ℕ) (at : ℕ) (e : EdnError) → Reached text at → FirstError text at e → IsFirstError text e
 first_behind text at e reached f =
-    let behind : FaultBehind text (error_at f.found.kind (line_at text f.found.left)) = subst (FaultBehind text) f.is (at, reached, f) in
-    subst (IsFirstFault text) (sym f.is) (first_at text f.found.kind _ behind)
+    let behind : ErrorBehind text (error_at f.found.kind (line_at text f.found.left)) = subst (ErrorBehind text) f.is (at, reached, f) in
+    subst (IsFirstError text) (sym f.is) (first_at text f.found.kind _ behind)
 
 -- a text spells at most one list of values
 pub once : (text : List ℕ) (xs ys : List Edn) → SpellsAll xs text → SpellsAll ys text → xs ≡ ys

@@ -5,14 +5,14 @@ use Rattle.std.proofs.lemmas.List.{length-drop, append-nil}
 use Rattle.std.proofs.lemmas.Bool.{eqb-false, ne_eqb, true_from_ne_false}
 use Rattle.std.specs.Str.{IsUtf8, IsCharBoundary}
 use Rattle.std.proofs.lemmas.Str.{IsCharBoundary-after_ascii}
-use Rattle.jh_edn.specs.declared.fault.Fault.{Fault}
-use Rattle.jh_edn.specs.declared.fault.ReadError.{ReadError}
-use Rattle.jh_edn.specs.declared.fault.ReadError.TheVariants as errors
-use Rattle.jh_edn.specs.declared.fault.Kind.TheVariants.{UnexpectedEnd, TooDeep}
+use Rattle.jh_edn.specs.declared.syntax_error.SyntaxError.{SyntaxError}
+use Rattle.jh_edn.specs.declared.syntax_error.ReadError.{ReadError}
+use Rattle.jh_edn.specs.declared.syntax_error.ReadError.TheVariants as errors
+use Rattle.jh_edn.specs.declared.syntax_error.Kind.TheVariants.{UnexpectedEnd, TooDeep}
 use Rattle.jh_edn.specs.Edn.{Edn}
 use Rattle.jh_edn.specs.Bytes.{underscore, semicolon, line_feed, is_space, begins_discard}
 use Rattle.jh_edn.specs.Gives.{Fails}
-use Rattle.jh_edn.specs.Reading.{◌>>=◌, fault, with_front, Read, Deeper, after_blank, after_comment, gap_step, gap_turns, items_step, items, deeper, gap, read}
+use Rattle.jh_edn.specs.Reading.{◌>>=◌, syntax_error, with_front, Read, Deeper, after_blank, after_comment, gap_step, gap_turns, items_step, items, deeper, gap, read}
 use Rattle.jh_edn.specs.Sequences.{one_item, item_step, item}
 use Rattle.jh_edn.proofs.Bodies.{with_front-append}
 use Rattle.jh_edn.proofs.Sound.{chosen, done, ok_is, bind_ok, err_not, discard_is, sound, gap_sound, read_sound}
@@ -24,7 +24,7 @@ same_eqb a b e = true_from_ne_false (eqb a b) (λ f. eqb-false a b f e)
 -- ---- what stands next inside a bracket
 
 module _ (close : ℕ) (value : Read Edn) where
-  step_end : (here : List ℕ) → length here ≡ 0 → item_step close value here ≡ fault UnexpectedEnd []
+  step_end : (here : List ℕ) → length here ≡ 0 → item_step close value here ≡ syntax_error UnexpectedEnd []
   step_end [] e = refl
   step_end (c ∷ s) e = absurd (omega arith)
 
@@ -37,16 +37,16 @@ module _ (close : ℕ) (value : Read Edn) where
   step_more (c ∷ s) lt e = let t : eqb c close ≡ false = ne_eqb c close e in rw t refl
 
 module _ (close depth : ℕ) (left : List ℕ) where
-  -- the fault is in the gap
+  -- the error is in the gap
   pub stuck : (e : ReadError) → Fails e (gap depth left) → Fails e (item close depth left)
   stuck errors.Memory h = tt
-  stuck (errors.Fault f) h = rw h refl
+  stuck (errors.Syntax f) h = rw h refl
 
   module _ (here : List ℕ) (is : gap depth left ≡ Ok here) where
     found : item close depth left ≡ item_step close (read depth) here
     found = ap (λ w. w >>= item_step close (read depth)) is
 
-    pub ends : length here ≡ 0 → item close depth left ≡ fault UnexpectedEnd []
+    pub ends : length here ≡ 0 → item close depth left ≡ syntax_error UnexpectedEnd []
     ends e = found ∙ step_end close (read depth) here e
 
     pub closes : 0 < length here → get_or here 0 0 ≡ close → item close depth left ≡ Ok (None, drop 1 here)
@@ -54,7 +54,7 @@ module _ (close depth : ℕ) (left : List ℕ) where
 
     pub fails : (e : ReadError) → 0 < length here → get_or here 0 0 ≢ close → Fails e (read depth here) → Fails e (item close depth left)
     fails errors.Memory some other h = tt
-    fails (errors.Fault f) some other h = found ∙ step_more close (read depth) here some other ∙ ap (λ w. w >>= one_item) h
+    fails (errors.Syntax f) some other h = found ∙ step_more close (read depth) here some other ∙ ap (λ w. w >>= one_item) h
 
     pub is_element : (x : Edn) (after : List ℕ) → 0 < length here → get_or here 0 0 ≢ close → read depth here ≡ Ok (x, after) → item close depth left ≡ Ok (Some x, after)
     is_element x after some other h = found ∙ step_more close (read depth) here some other ∙ ap (λ w. w >>= one_item) h
@@ -66,7 +66,7 @@ abbrev and_more : Read (List Edn) → Option Edn → Read (List Edn)
 and_more more None s = Ok ([], s)
 and_more more (Some x) s = with_front (x ∷ []) (more s)
 
-value_then : (more : Read (List Edn)) (r : Result (Edn × List ℕ) Fault)
+value_then : (more : Read (List Edn)) (r : Result (Edn × List ℕ) SyntaxError)
     → (r >>= λ x. with_front (x.0 ∷ []) (more x.1)) ≡ ((r >>= one_item) >>= λ x. and_more more x.0 x.1)
 value_then more (Ok x) = refl
 value_then more (Err f) = refl
@@ -80,7 +80,7 @@ step_then close value more (c ∷ s) =
       | false ↦ value_then more (value (c ∷ s))
     ]
 
-skip_then : (close depth : ℕ) (more : Read (List Edn)) (r : Result (List ℕ) Fault)
+skip_then : (close depth : ℕ) (more : Read (List Edn)) (r : Result (List ℕ) SyntaxError)
     → (r >>= items_step close (read depth) more) ≡ ((r >>= item_step close (read depth)) >>= λ x. and_more more x.0 x.1)
 skip_then close depth more (Ok here) = step_then close (read depth) more here
 skip_then close depth more (Err f) = refl
@@ -91,13 +91,13 @@ module _ (close depth : ℕ) where
   opened zero left lt = absurd (omega arith)
   opened (suc n) left lt = let k : suc n - 1 ≡ n = omega arith in rw k (skip_then close depth (items close (gap depth) (read depth) n) (gap depth left))
 
-  module _ (front : List Edn) (n : ℕ) (left : List ℕ) (total : Result (List Edn × List ℕ) Fault) (lt : length left < n) (so_far : with_front front (items close (gap depth) (read depth) n left) ≡ total) where
-    before : (next : Result (Option Edn × List ℕ) Fault) → item close depth left ≡ next → total ≡ with_front front (next >>= λ x. and_more (items close (gap depth) (read depth) (n - 1)) x.0 x.1)
+  module _ (front : List Edn) (n : ℕ) (left : List ℕ) (total : Result (List Edn × List ℕ) SyntaxError) (lt : length left < n) (so_far : with_front front (items close (gap depth) (read depth) n left) ≡ total) where
+    before : (next : Result (Option Edn × List ℕ) SyntaxError) → item close depth left ≡ next → total ≡ with_front front (next >>= λ x. and_more (items close (gap depth) (read depth) (n - 1)) x.0 x.1)
     before next e = sym so_far ∙ ap (with_front front) (opened n left lt ∙ ap (λ w. w >>= λ x. and_more (items close (gap depth) (read depth) (n - 1)) x.0 x.1) e)
 
     pub all_fail : (e : ReadError) → Fails e (item close depth left) → Fails e total
     all_fail errors.Memory h = tt
-    all_fail (errors.Fault f) h = before (Err f) h
+    all_fail (errors.Syntax f) h = before (Err f) h
 
     pub all_read : (after : List ℕ) → item close depth left ≡ Ok (None, after) → total ≡ Ok (front, after)
     all_read after h = before (Ok (None, after)) h ∙ ap (λ (w : List Edn). Ok (w, after)) (append-nil front)
@@ -105,7 +105,7 @@ module _ (close depth : ℕ) where
     pub goes : (x : Edn) (after : List ℕ) → item close depth left ≡ Ok (Some x, after) → with_front (front ++ x ∷ []) (items close (gap depth) (read depth) (n - 1) after) ≡ total
     goes x after h = sym (before (Ok (Some x, after)) h ∙ with_front-append front (x ∷ []) (items close (gap depth) (read depth) (n - 1) after))
 
-module _ (deep : Deeper) (n : ℕ) (left here : List ℕ) (total : Result (List ℕ) Fault) (lt : length left < n) (is : here ≡ after_blank left) (so_far : gap_turns deep n left ≡ total) where
+module _ (deep : Deeper) (n : ℕ) (left here : List ℕ) (total : Result (List ℕ) SyntaxError) (lt : length left < n) (is : here ≡ after_blank left) (so_far : gap_turns deep n left ≡ total) where
   gap_opened : (m : ℕ) → length left < m → gap_turns deep m left ≡ gap_step deep (gap_turns deep (m - 1)) (after_blank left)
   unfolding gap_turns
   gap_opened zero l = absurd (omega arith)
@@ -119,7 +119,7 @@ module _ (deep : Deeper) (n : ℕ) (left here : List ℕ) (total : Result (List 
 
   pub gap_fails : (e : ReadError) → begins_discard here ≡ true → Fails e (deep.one here (drop 2 here)) → Fails e total
   gap_fails errors.Memory b h = tt
-  gap_fails (errors.Fault f) b h = gap_here ∙ rw (b, h) refl
+  gap_fails (errors.Syntax f) b h = gap_here ∙ rw (b, h) refl
 
   pub gap_goes : (x : Edn) (after : List ℕ) → begins_discard here ≡ true → deep.one here (drop 2 here) ≡ Ok (x, after) → gap_turns deep (n - 1) after ≡ total
   gap_goes x after b h = sym (gap_here ∙ rw (b, h) refl)
@@ -187,14 +187,14 @@ discard_boundary s utf8 h =
     let second : get_or s 1 0 ≡ underscore = ap (λ (w : List ℕ). get_or w 1 0) e in
     IsCharBoundary-after_ascii s 1 utf8 (omega (arith, ap length e)) (omega (arith, second))
 
-pub elements_too_deep : (depth close : ℕ) (begin s : List ℕ) → depth ≡ 0 → (deeper depth).elements close begin s ≡ fault TooDeep begin
+pub elements_too_deep : (depth close : ℕ) (begin s : List ℕ) → depth ≡ 0 → (deeper depth).elements close begin s ≡ syntax_error TooDeep begin
 unfolding deeper
 elements_too_deep depth close begin s e = rw e refl
 
-pub one_too_deep : (depth : ℕ) (begin s : List ℕ) → depth ≡ 0 → (deeper depth).one begin s ≡ fault TooDeep begin
+pub one_too_deep : (depth : ℕ) (begin s : List ℕ) → depth ≡ 0 → (deeper depth).one begin s ≡ syntax_error TooDeep begin
 unfolding deeper
 one_too_deep depth begin s e = rw e refl
 
 pub stuck_one : (depth : ℕ) (s : List ℕ) (e : ReadError) → Fails e (gap depth s) → Fails e (gap depth s >>= read depth)
 stuck_one depth s errors.Memory h = tt
-stuck_one depth s (errors.Fault f) h = rw h refl
+stuck_one depth s (errors.Syntax f) h = rw h refl

@@ -10,14 +10,14 @@ use Rattle.std.proofs.lemmas.Grind.{common_steps}
 use Rattle.std.proofs.lemmas.Slice.Eq.{bytes_eq-Decides}
 use Rattle.std.proofs.lemmas.Bool.{eqb-true}
 use Rattle.std.proofs.lemmas.List.{take-append-drop, append-nil}
-use Rattle.jh_edn.specs.declared.fault.Fault.{Fault}
-use Rattle.jh_edn.specs.declared.fault.Kind.{Kind}
-use Rattle.jh_edn.specs.declared.fault.Kind.TheVariants.{UnexpectedEnd, BadToken, FloatUnsupported, IntegerRange, DuplicateKey}
+use Rattle.jh_edn.specs.declared.syntax_error.SyntaxError.{SyntaxError}
+use Rattle.jh_edn.specs.declared.syntax_error.Kind.{Kind}
+use Rattle.jh_edn.specs.declared.syntax_error.Kind.TheVariants.{UnexpectedEnd, BadToken, FloatUnsupported, IntegerRange, DuplicateKey}
 use Rattle.jh_edn.specs.Edn.{Edn, nil, boolean, int, char, str, keyword, symbol, list, vector, mapping, set, tagged, Items, no_items, item, items_of, members_of}
 use Rattle.jh_edn.specs.Bytes.{is_blank, open_paren, close_paren, quote, backslash, colon, capital_n, digit_zero, open_bracket, close_bracket, open_brace, close_brace, semicolon, hash, underscore, line_feed, begins_discard, is_space, is_run, is_plain, escaped, leading}
 use Rattle.jh_edn.specs.Spelling.{NoLeadingZero, IsInteger, IsBody, is_name, is_symbol_name, is_tag, char_named, char_numbered, IsCharacter, BeginsNoRun, IsLine, EndsLine, GapIn, nothing, white, comment, discard, Inner, Elements, Form, around, inside, items_of_members}
 use Rattle.jh_edn.specs.Equality.{Differ, KeysDiffer}
-use Rattle.jh_edn.specs.Reading.{◌>>=◌, fault, with_front, after_escape, body, run_of, sign_len, digits_end, begins_number, begins_fraction, is_suffix, magnitude, integer_of, number_of, as_int, word_of, word_or_symbol, alone, or_else, called, char_of, as_char, begins_char, char_before, character_at, character, unique, hashed, repeats_element, atom_of, placed, atom, Read, Deeper, after_blank, after_comment, element, gap_turns, gap_in, items_step, items, deeper, gap, read, pairs_of, repeats_key, paired}
+use Rattle.jh_edn.specs.Reading.{◌>>=◌, syntax_error, with_front, after_escape, body, run_of, sign_len, digits_end, begins_number, begins_fraction, is_suffix, magnitude, integer_of, number_of, as_int, word_of, word_or_symbol, alone, or_else, called, char_of, as_char, begins_char, char_before, character_at, character, unique, hashed, repeats_element, atom_of, placed, atom, Read, Deeper, after_blank, after_comment, element, gap_turns, gap_in, items_step, items, deeper, gap, read, pairs_of, repeats_key, paired}
 use Rattle.jh_edn.proofs.Numbers.{numeral_cut, unsigned_is, fits_from, and_both}
 use Rattle.jh_edn.proofs.Keys.{keys_differ, elements_differ}
 
@@ -25,21 +25,21 @@ pub chosen : {A : Type 0} (b : Bool) (x y z : A) → cond b x y ≡ z → ((b �
 chosen true x y z e = inl (refl, e)
 chosen false x y z e = inr (refl, e)
 
-abbrev pub done : {A : Type 0} → A → Result A Fault
+abbrev pub done : {A : Type 0} → A → Result A SyntaxError
 done x = Ok x
 
 pub ok_is : {A : Type 0} (x y : A) → done x ≡ done y → x ≡ y
 ok_is x y e = cc
 
-pub bind_ok : {A B : Type 0} (r : Result A Fault) (f : A → Result B Fault) (y : B) → (r >>= f) ≡ Ok y → (x : A) × (r ≡ Ok x) × (f x ≡ Ok y)
+pub bind_ok : {A B : Type 0} (r : Result A SyntaxError) (f : A → Result B SyntaxError) (y : B) → (r >>= f) ≡ Ok y → (x : A) × (r ≡ Ok x) × (f x ≡ Ok y)
 bind_ok (Ok x) f y e = (x, refl, e)
 bind_ok (Err d) f y e = absurd cc
 
-pub err_not : {A : Type 0} (f : Fault) (y : A) → Err f ≡ done y → ⊥
+pub err_not : {A : Type 0} (f : SyntaxError) (y : A) → Err f ≡ done y → ⊥
 err_not f y e = cc
 
 -- what came behind a front
-pub front_ok : {A : Type 0} (front : List A) (read : Result (List A × List ℕ) Fault) (t : List A) (r : List ℕ) → with_front front read ≡ Ok (t, r) → (u : List A) × (read ≡ Ok (u, r)) × (t ≡ front ++ u)
+pub front_ok : {A : Type 0} (front : List A) (read : Result (List A × List ℕ) SyntaxError) (t : List A) (r : List ℕ) → with_front front read ≡ Ok (t, r) → (u : List A) × (read ≡ Ok (u, r)) × (t ≡ front ++ u)
 front_ok {A} front (Ok x) t r e =
     let p = ok_is (front ++ x.0, x.1) (t, r) e in
     (x.0, ap (λ (w : List ℕ). Ok (x.0, w)) (ap (λ (q : List A × List ℕ). q.1) p), sym (ap (λ (q : List A × List ℕ). q.0) p))
@@ -68,7 +68,7 @@ pub body_sound : (s t r : List ℕ) → body s ≡ Ok (t, r) → Body s t r
 unfolding body
 body_sound [] t r e = absurd cc
 body_sound (c ∷ []) t r e =
-    elim (chosen (eqb c quote) (done ([], [])) (fault UnexpectedEnd []) (Ok (t, r)) e) [
+    elim (chosen (eqb c quote) (done ([], [])) (syntax_error UnexpectedEnd []) (Ok (t, r)) e) [
       | inl p ↦
           let q = ok_is ([], []) (t, r) p.1 in
           subst (λ (w : List ℕ × List ℕ). Body (c ∷ []) w.0 w.1) q ([], refl, ap (λ (n : ℕ). n ∷ []) (eqb-true _ _ p.0))
@@ -182,7 +182,7 @@ pub record Pairs (o : Option (List (Edn × Edn))) (after : List ℕ) (x : Edn) (
 pub paired_ok : (o : Option (List (Edn × Edn))) (after : List ℕ) (x : Edn) (r : List ℕ) → paired o after ≡ Ok (x, r) → Pairs o after x r
 paired_ok None after x r e = absurd cc
 paired_ok (Some ms) after x r e =
-    let twice : Result (Edn × List ℕ) Fault = Err (record { kind = DuplicateKey; left = length after + 1 }) in
+    let twice : Result (Edn × List ℕ) SyntaxError = Err (record { kind = DuplicateKey; left = length after + 1 }) in
     elim (chosen (repeats_key ms) twice (Ok (mapping (members_of ms), after)) (Ok (x, r)) e) [
       | inl p ↦ absurd (err_not _ _ p.1)
       | inr p ↦
@@ -237,7 +237,7 @@ record Unique (xs : List Edn) (after : List ℕ) (x : Edn) (r : List ℕ) : Type
 
 unique_ok : (xs : List Edn) (after : List ℕ) (x : Edn) (r : List ℕ) → unique xs after ≡ Ok (x, r) → Unique xs after x r
 unique_ok xs after x r e =
-    let twice : Result (Edn × List ℕ) Fault = Err (record { kind = DuplicateKey; left = length after + 1 }) in
+    let twice : Result (Edn × List ℕ) SyntaxError = Err (record { kind = DuplicateKey; left = length after + 1 }) in
     elim (chosen (repeats_element xs) twice (Ok (set (items_of xs), after)) (Ok (x, r)) e) [
       | inl p ↦ absurd (err_not _ _ p.1)
       | inr p ↦
@@ -322,7 +322,7 @@ module _ (deep : Deeper) (inner : Inner) where
   character_at-sound : (o : Option ℕ) (t : List ℕ) (x : Edn) (r : List ℕ) → character_at o (backslash ∷ t) t ≡ Ok (x, r) → Form inner x (backslash ∷ t) r
   character_at-sound None t x r e = absurd cc
   character_at-sound (Some c) t x r e =
-      elim (chosen (begins_char c t) (char_before c (backslash ∷ t) (drop (length (encode_utf8 c)) t)) (fault BadToken (backslash ∷ t)) (Ok (x, r)) e) [
+      elim (chosen (begins_char c t) (char_before c (backslash ∷ t) (drop (length (encode_utf8 c)) t)) (syntax_error BadToken (backslash ∷ t)) (Ok (x, r)) e) [
         | inl p ↦ char_before-sound c t x r p.0 p.1
         | inr p ↦ absurd (err_not _ _ p.1)
       ]
@@ -344,9 +344,9 @@ module _ (deep : Deeper) (inner : Inner) where
         let begin = hash ∷ s in
         let tag = run_of s in
         let more = drop (leading is_run s) s in
-        let braced : Result (Edn × List ℕ) Fault = deep.elements close_brace begin (drop 1 s) >>= λ q. unique q.0 q.1 in
-        let tagging : Result (Edn × List ℕ) Fault = deep.one begin more >>= λ q. Ok (tagged tag q.0, q.1) in
-        let second : Result (Edn × List ℕ) Fault = cond (is_tag tag) tagging (fault BadToken begin) in
+        let braced : Result (Edn × List ℕ) SyntaxError = deep.elements close_brace begin (drop 1 s) >>= λ q. unique q.0 q.1 in
+        let tagging : Result (Edn × List ℕ) SyntaxError = deep.one begin more >>= λ q. Ok (tagged tag q.0, q.1) in
+        let second : Result (Edn × List ℕ) SyntaxError = cond (is_tag tag) tagging (syntax_error BadToken begin) in
         elim (chosen (eqb (get_or s 0 0) open_brace) braced second (Ok (x, r)) e) [
           | inl p ↦
               let a = bind_ok (deep.elements close_brace begin (drop 1 s)) (λ q. unique q.0 q.1) (x, r) p.1 in
@@ -355,7 +355,7 @@ module _ (deep : Deeper) (inner : Inner) where
               (subst (λ (w : List ℕ). Form inner (set (items_of a.0.0)) begin w) m.rest
               (drop 1 s, ap (λ (w : List ℕ). hash ∷ w) (begins_with open_brace s (omega arith) (eqb-true _ _ p.0)), h close_brace begin (drop 1 s) a.0.0 a.0.1 a.1, m.differ))
           | inr p ↦
-              elim (chosen (is_tag tag) tagging (fault BadToken begin) (Ok (x, r)) p.1) [
+              elim (chosen (is_tag tag) tagging (syntax_error BadToken begin) (Ok (x, r)) p.1) [
                 | inl q ↦
                     let a = bind_ok (deep.one begin more) (λ w. Ok (tagged tag w.0, w.1)) (x, r) q.1 in
                     subst (λ (y : Edn × List ℕ). Form inner y.0 begin y.1) (ok_is (tagged tag a.0.0, a.0.1) (x, r) a.2)
@@ -364,10 +364,10 @@ module _ (deep : Deeper) (inner : Inner) where
               ]
         ]
 
-    abbrev as_string : List ℕ × List ℕ → Result (Edn × List ℕ) Fault
+    abbrev as_string : List ℕ × List ℕ → Result (Edn × List ℕ) SyntaxError
     as_string q = Ok (str q.0, q.1)
 
-    abbrev as_made : (Items → Edn) → List Edn × List ℕ → Result (Edn × List ℕ) Fault
+    abbrev as_made : (Items → Edn) → List Edn × List ℕ → Result (Edn × List ℕ) SyntaxError
     as_made make q = Ok (make (items_of q.0), q.1)
 
     -- brackets, and what is made of the elements between them
@@ -396,7 +396,7 @@ module _ (deep : Deeper) (inner : Inner) where
         (b.0, b.1, ap (λ (w : List ℕ). quote ∷ w) b.2)
 
     -- a byte that is that one
-    at_byte : (c d : ℕ) (s : List ℕ) (x : Edn) (r : List ℕ) (given : ℕ → Result (Edn × List ℕ) Fault)
+    at_byte : (c d : ℕ) (s : List ℕ) (x : Edn) (r : List ℕ) (given : ℕ → Result (Edn × List ℕ) SyntaxError)
         → eqb c d ≡ true → given c ≡ Ok (x, r) → (given d ≡ Ok (x, r) → Form inner x (d ∷ s) r) → Form inner x (c ∷ s) r
     at_byte c d s x r given e h told =
         let same : c ≡ d = eqb-true c d e in
@@ -406,14 +406,14 @@ module _ (deep : Deeper) (inner : Inner) where
     unfolding element
     element_sound [] x r e = absurd cc
     element_sound (c ∷ s) x r e =
-        let Out : Type 0 = Result (Edn × List ℕ) Fault in
+        let Out : Type 0 = Result (Edn × List ℕ) SyntaxError in
         let text : ℕ → Out = λ n. body s >>= λ q. Ok (str q.0, q.1) in
         let paren : ℕ → Out = λ n. deep.elements close_paren (n ∷ s) s >>= λ q. Ok (list (items_of q.0), q.1) in
         let bracket : ℕ → Out = λ n. deep.elements close_bracket (n ∷ s) s >>= λ q. Ok (vector (items_of q.0), q.1) in
         let brace : ℕ → Out = λ n. deep.elements close_brace (n ∷ s) s >>= λ q. paired (pairs_of q.0) q.1 in
         let marked : ℕ → Out = λ n. hashed deep (n ∷ s) in
         let slashed : ℕ → Out = λ n. character (n ∷ s) in
-        let last : Out = cond (is_run c) (atom (c ∷ s)) (fault BadToken (c ∷ s)) in
+        let last : Out = cond (is_run c) (atom (c ∷ s)) (syntax_error BadToken (c ∷ s)) in
         let sixth : Out = cond (eqb c hash) (marked c) last in
         let fifth : Out = cond (eqb c backslash) (slashed c) sixth in
         let fourth : Out = cond (eqb c open_brace) (brace c) fifth in
@@ -437,7 +437,7 @@ module _ (deep : Deeper) (inner : Inner) where
                                       elim (chosen (eqb c hash) (marked c) last (Ok (x, r)) w.1) [
                                         | inl y ↦ at_byte c hash s x r marked y.0 y.1 (hashed_sound s x r)
                                         | inr y ↦
-                                            elim (chosen (is_run c) (atom (c ∷ s)) (fault BadToken (c ∷ s)) (Ok (x, r)) y.1) [
+                                            elim (chosen (is_run c) (atom (c ∷ s)) (syntax_error BadToken (c ∷ s)) (Ok (x, r)) y.1) [
                                               | inl z ↦ atom_sound (c ∷ s) x r z.1
                                               | inr z ↦ absurd (err_not _ _ z.1)
                                             ]
@@ -505,7 +505,7 @@ module _ (deep : Deeper) (inner : Inner) (one : OneSound deep inner) where
   gap_turns-sound zero s r e = absurd cc
   gap_turns-sound (suc n) s r e =
       let t = after_blank s in
-      let more : Result (List ℕ) Fault = deep.one t (drop 2 t) >>= λ x. gap_turns deep n x.1 in
+      let more : Result (List ℕ) SyntaxError = deep.one t (drop 2 t) >>= λ x. gap_turns deep n x.1 in
       elim (chosen (begins_discard t) more (Ok t) (Ok r) e) [
         | inl p ↦
             let a = bind_ok (deep.one t (drop 2 t)) (λ x. gap_turns deep n x.1) r p.1 in
@@ -520,7 +520,7 @@ step_ok : (close : ℕ) (value : Read Edn) (more : Read (List Edn)) (here : List
     → ((here ≡ close ∷ r) × (xs ≡ [])) ⊎ ((x : Edn) × (after : List ℕ) × (ys : List Edn) × (value here ≡ Ok (x, after)) × (more after ≡ Ok (ys, r)) × (xs ≡ x ∷ ys))
 step_ok close value more [] xs r e = absurd cc
 step_ok close value more (c ∷ s) xs r e =
-    let go : Result (List Edn × List ℕ) Fault = value (c ∷ s) >>= λ x. with_front (x.0 ∷ []) (more x.1) in
+    let go : Result (List Edn × List ℕ) SyntaxError = value (c ∷ s) >>= λ x. with_front (x.0 ∷ []) (more x.1) in
     elim (chosen (eqb c close) (done ([], s)) go (Ok (xs, r)) e) [
       | inl p ↦
           let q = ok_is ([], s) (xs, r) p.1 in

@@ -3,8 +3,8 @@ use Rattle.std.proofs.Common.{◌≡◌, ℕ, ◌<◌, cond, eqb, List, [], ◌�
 use Rattle.std.proofs.lemmas.Bool.{eqb-true}
 use Rattle.std.specs.Str.{IsUtf8, IsCharBoundary}
 use Rattle.std.proofs.lemmas.Str.{IsCharBoundary-after_ascii}
-use Rattle.jh_edn.specs.declared.fault.ReadError.{ReadError}
-use Rattle.jh_edn.specs.declared.fault.ReadError.TheVariants as errors
+use Rattle.jh_edn.specs.declared.syntax_error.ReadError.{ReadError}
+use Rattle.jh_edn.specs.declared.syntax_error.ReadError.TheVariants as errors
 use Rattle.jh_edn.specs.Edn.{Edn, nil, boolean, int, char, str, keyword, symbol, list, vector, mapping, set, tagged, items_of, elements_of}
 use Rattle.jh_edn.specs.Bytes.{IsAscii, open_paren, close_paren, open_bracket, close_bracket}
 use Rattle.jh_edn.specs.Gives.{Fails}
@@ -102,9 +102,9 @@ sequence_next s here close xs after e some h =
     let q = sequence_read here close xs after some h in
     (q.0, q.1, next_sound s here q.0 after e q.2, omega (arith, gap_shorter depth_limit s here e, read_shorter depth_limit here q.0 after q.2))
 
-pub sequence_fault : (here : List ℕ) (close : ℕ) (e : ReadError) → closing here ≡ Some close → Fails e (elements_to close (drop 1 here)) → Fails e (read depth_limit here)
-sequence_fault here close errors.Memory is h = tt
-sequence_fault here close (errors.Fault f) is h =
+pub sequence_error : (here : List ℕ) (close : ℕ) (e : ReadError) → closing here ≡ Some close → Fails e (elements_to close (drop 1 here)) → Fails e (read depth_limit here)
+sequence_error here close errors.Memory is h = tt
+sequence_error here close (errors.Syntax f) is h =
     let s = is_sequence here close is in
     s.is_read ∙ ap (λ w. w >>= λ x. Ok (s.of x.0, x.1)) h
 

@@ -5,14 +5,14 @@ use Rattle.std.specs.Prelude.{◌≢◌}
 use Rattle.std.specs.Str.{IsUtf8, IsCharBoundary}
 use Rattle.std.proofs.lemmas.Str.{IsCharBoundary-at_seam}
 use Rattle.jh_edn.specs.declared.error.EdnError.TheVariants.{OutOfMemory}
-use Rattle.jh_edn.specs.declared.fault.Fault.{Fault}
-use Rattle.jh_edn.specs.declared.fault.ReadError.{ReadError}
-use Rattle.jh_edn.specs.declared.fault.ReadError.TheVariants as errors
+use Rattle.jh_edn.specs.declared.syntax_error.SyntaxError.{SyntaxError}
+use Rattle.jh_edn.specs.declared.syntax_error.ReadError.{ReadError}
+use Rattle.jh_edn.specs.declared.syntax_error.ReadError.TheVariants as errors
 use Rattle.jh_edn.specs.Edn.{Edn, nil, boolean, int, char, str, keyword, symbol, list, vector, mapping, set, tagged, Items, no_items, item}
 use Rattle.jh_edn.specs.Bytes.{backslash, open_paren, close_paren, quote, semicolon, hash, underscore, open_bracket, close_bracket, open_brace, close_brace}
 use Rattle.jh_edn.specs.Gives.{Fails}
 use Rattle.jh_edn.specs.Spelling.{GapIn, nothing, white, comment, discard, Inner, Elements, Form, items_of_members, around, inside, depth_limit, whole, IsGap, Reads, NothingReads}
-use Rattle.jh_edn.specs.Reading.{gap, read, next, error_in, FirstFault}
+use Rattle.jh_edn.specs.Reading.{gap, read, next, error_in, FirstError}
 use Rattle.jh_edn.proofs.Sound.{gap_sound, read_sound, done, ok_is, err_not}
 use Rattle.jh_edn.proofs.Complete.{gap_complete, nothing_stands, read_complete, read_starts}
 
@@ -127,7 +127,7 @@ made text at x rest h =
     let p = place text at rest (whole_ending (drop at text) x rest h) in
     (omega arith, subst (λ (w : List ℕ). whole.next x (drop at text) w) (sym p.rest_is) h)
 
-pub refused : (text : List ℕ) (at : ℕ) (f : Fault) → next depth_limit (drop at text) ≡ Err f → (gap depth_limit (drop at text) ≡ Ok [] → ⊥) → NothingReads text at
+pub refused : (text : List ℕ) (at : ℕ) (f : SyntaxError) → next depth_limit (drop at text) ≡ Err f → (gap depth_limit (drop at text) ≡ Ok [] → ⊥) → NothingReads text at
 refused text at f e left = (
   λ g. left (gap_again (drop at text) g),
   λ x end h. err_not f (x, drop end text) (sym e ∙ next_complete (drop at text) x (drop end text) h.1),
@@ -135,24 +135,24 @@ refused text at f e left = (
 
 pub refused_or : (text : List ℕ) (at : ℕ) (e : ReadError) → Fails e (next depth_limit (drop at text)) → (gap depth_limit (drop at text) ≡ Ok [] → ⊥) → (error_in text e ≡ OutOfMemory) ⊎ NothingReads text at
 refused_or text at errors.Memory h left = inl refl
-refused_or text at (errors.Fault f) h left = inr (refused text at f h left)
+refused_or text at (errors.Syntax f) h left = inr (refused text at f h left)
 
 pub refused_gap : (text : List ℕ) (at : ℕ) (e : ReadError) → Fails e (gap depth_limit (drop at text)) → (error_in text e ≡ OutOfMemory) ⊎ NothingReads text at
 refused_gap text at errors.Memory h = inl refl
-refused_gap text at (errors.Fault f) h = inr (refused text at f (rw h refl) (λ g. err_not f [] (sym h ∙ g)))
+refused_gap text at (errors.Syntax f) h = inr (refused text at f (rw h refl) (λ g. err_not f [] (sym h ∙ g)))
 
-pub first_or : (text : List ℕ) (at : ℕ) (e : ReadError) → Fails e (next depth_limit (drop at text)) → (error_in text e ≡ OutOfMemory) ⊎ FirstFault text at (error_in text e)
+pub first_or : (text : List ℕ) (at : ℕ) (e : ReadError) → Fails e (next depth_limit (drop at text)) → (error_in text e ≡ OutOfMemory) ⊎ FirstError text at (error_in text e)
 first_or text at errors.Memory h = inl refl
-first_or text at (errors.Fault f) h = inr (record { found = f; is_first = h; is = refl })
+first_or text at (errors.Syntax f) h = inr (record { found = f; is_first = h; is = refl })
 
--- a fault in the gap before the element is the element's
-pub gap_fault : (s : List ℕ) (e : ReadError) → Fails e (gap depth_limit s) → Fails e (next depth_limit s)
-gap_fault s errors.Memory h = tt
-gap_fault s (errors.Fault f) h = rw h refl
+-- an error in the gap before the element is the element's
+pub gap_error : (s : List ℕ) (e : ReadError) → Fails e (gap depth_limit s) → Fails e (next depth_limit s)
+gap_error s errors.Memory h = tt
+gap_error s (errors.Syntax f) h = rw h refl
 
-pub read_fault : (s here : List ℕ) (e : ReadError) → gap depth_limit s ≡ Ok here → Fails e (read depth_limit here) → Fails e (next depth_limit s)
-read_fault s here errors.Memory g h = tt
-read_fault s here (errors.Fault f) g h = rw g h
+pub read_error : (s here : List ℕ) (e : ReadError) → gap depth_limit s ≡ Ok here → Fails e (read depth_limit here) → Fails e (next depth_limit s)
+read_error s here errors.Memory g h = tt
+read_error s here (errors.Syntax f) g h = rw g h
 
 pub not_at_end : (s here : List ℕ) → gap depth_limit s ≡ Ok here → length here ≢ 0 → gap depth_limit s ≡ Ok [] → ⊥
 not_at_end s here e n g = n (ap length (ok_is here [] (sym e ∙ g)))

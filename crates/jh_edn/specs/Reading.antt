@@ -1,4 +1,4 @@
--- The first fault of a text: reading from left to right, up to the first character that decides against the text
+-- The first error of a text: reading from left to right, up to the first character that decides against the text
 -- (this project's own; which texts spell which values is Spelling).
 use Rattle.std.specs.Prelude.{◌≡◌, ℕ, zero, suc, ◌+◌, ◌-◌, ◌^◌, Bool, true, false, ◌&&◌, ◌||◌, ◌==◌, nat_lt, if◌then◌else◌, List, [], ◌∷◌, ◌++◌, length, map, take, drop, slice_index, slice_get, encode_utf8, chars, ℤ, pos, negsuc, Option, Some, None, option_map, Result, Ok, Err, codes}
 use Rattle.std.specs.List.{count_by}
@@ -7,47 +7,49 @@ use lib.Utf8.{scalar}
 use Rattle.std.specs.Str.Parse.{signed_digits_value}
 use Rattle.jh_edn.specs.declared.error.EdnError.{EdnError}
 use Rattle.jh_edn.specs.declared.error.EdnError.TheVariants as errors
-use Rattle.jh_edn.specs.declared.fault.Fault.{Fault}
-use Rattle.jh_edn.specs.declared.fault.ReadError.{ReadError}
-use Rattle.jh_edn.specs.declared.fault.ReadError.TheVariants as reads
-use Rattle.jh_edn.specs.declared.fault.Kind.{Kind}
-use Rattle.jh_edn.specs.declared.fault.Kind.TheVariants.{UnexpectedEnd, BadToken, FloatUnsupported, IntegerRange, BadEscape, OddMap, DuplicateKey, TooDeep}
+use Rattle.jh_edn.specs.declared.syntax_error.SyntaxError.{SyntaxError}
+use Rattle.jh_edn.specs.declared.syntax_error.ReadError.{ReadError}
+use Rattle.jh_edn.specs.declared.syntax_error.ReadError.TheVariants as reads
+use Rattle.jh_edn.specs.declared.syntax_error.Kind.{Kind}
+use Rattle.jh_edn.specs.declared.syntax_error.Kind.TheVariants.{UnexpectedEnd, BadToken, FloatUnsupported, IntegerRange, BadEscape, OddMap, DuplicateKey, TooDeep}
 use Rattle.jh_edn.specs.Edn.{Edn, nil, boolean, int, char, str, keyword, symbol, list, vector, mapping, set, tagged, items_of, members_of}
 use Rattle.jh_edn.specs.Bytes.{open_paren, close_paren, hash, is_blank, quote, plus, minus, digit_zero, line_feed, colon, semicolon, begins_discard, capital_n, open_bracket, close_bracket, backslash, open_brace, close_brace, is_among, is_space, is_run, is_digit, escaped, leading}
 use Rattle.jh_edn.specs.Spelling.{is_name, is_symbol_name, is_tag, char_named, char_numbered, depth_limit, Reads}
 use Rattle.jh_edn.specs.Key.{key_of, item_keys, has_twice}
 
--- reads the front of a text: what was read and what follows it, or a fault
+-- reads the front of a text: what was read and what follows it, or an error
 abbrev pub Read : Type 0 → Type 0
-Read A = List ℕ → Result (A × List ℕ) Fault
+Read A = List ℕ → Result (A × List ℕ) SyntaxError
 
--- finds what follows the front of a text, or a fault
+-- finds what follows the front of a text, or an error
 abbrev pub Skip : Type 0
-Skip = List ℕ → Result (List ℕ) Fault
+Skip = List ℕ → Result (List ℕ) SyntaxError
 
--- goes on with what was read; the first fault stays
+-- goes on with what was read; the first error stays
 infixl 10 ◌>>=◌
-abbrev pub ◌>>=◌ : {A B : Type 0} → Result A Fault → (A → Result B Fault) → Result B Fault
+abbrev pub ◌>>=◌ : {A B : Type 0} → Result A SyntaxError → (A → Result B SyntaxError) → Result B SyntaxError
 (Ok x) >>= f = f x
 (Err e) >>= f = Err e
 
--- a fault at the front of s
-abbrev pub fault : {A : Type 0} → Kind → List ℕ → Result A Fault
-fault kind s = Err (record { kind = kind; left = length s })
+-- an error at the front of s
+abbrev pub syntax_error : {A : Type 0} → Kind → List ℕ → Result A SyntaxError
+syntax_error kind s = Err (record { kind = kind; left = length s })
 
 -- these stand before what was read
-abbrev pub with_front : {A : Type 0} → List A → Result (List A × List ℕ) Fault → Result (List A × List ℕ) Fault
+abbrev pub with_front : {A : Type 0} → List A → Result (List A × List ℕ) SyntaxError
+    → Result (List A × List ℕ) SyntaxError
 with_front front read = read >>= λ x. Ok (front ++ x.0, x.1)
 
 -- an escape, and what follows it: BadEscape at the backslash where it stands for nothing
-abbrev pub after_escape : Option ℕ → List ℕ → Result (List ℕ × List ℕ) Fault → Result (List ℕ × List ℕ) Fault
+abbrev pub after_escape : Option ℕ → List ℕ → Result (List ℕ × List ℕ) SyntaxError
+    → Result (List ℕ × List ℕ) SyntaxError
 after_escape (Some b) s read = with_front (b ∷ []) read
-after_escape None s read = fault BadEscape s
+after_escape None s read = syntax_error BadEscape s
 
 -- the rest of a string, up to its quote: UnexpectedEnd where there is none, also after a last backslash
 unfoldable pub body : Read (List ℕ)
-body [] = fault UnexpectedEnd []
-body (c ∷ []) = if c == quote then Ok ([], []) else fault UnexpectedEnd []
+body [] = syntax_error UnexpectedEnd []
+body (c ∷ []) = if c == quote then Ok ([], []) else syntax_error UnexpectedEnd []
 body (c ∷ d ∷ s) =
     if c == quote then Ok ([], d ∷ s)
     else if c == backslash then after_escape (escaped d) (c ∷ d ∷ s) (body s)
@@ -138,10 +140,10 @@ atom_of run =
     else if slice_index run 0 == colon && is_name (drop 1 run) then Ok (keyword (drop 1 run))
     else word_or_symbol (word_of run) run
 
--- a run's fault stands at its first character
-abbrev pub placed : Result Edn Kind → List ℕ → List ℕ → Result (Edn × List ℕ) Fault
+-- a run's error stands at its first character
+abbrev pub placed : Result Edn Kind → List ℕ → List ℕ → Result (Edn × List ℕ) SyntaxError
 placed (Ok x) s after = Ok (x, after)
-placed (Err k) s after = fault k s
+placed (Err k) s after = syntax_error k s
 
 -- a run, and what follows it
 unfoldable pub atom : Read Edn
@@ -179,11 +181,11 @@ abbrev pub char_before : ℕ → List ℕ → Read Edn
 char_before c begin after = placed (as_char (char_of c (run_of after))) begin (drop (leading is_run after) after)
 
 -- what stands behind the backslash where the text begins: UnexpectedEnd where there is nothing
-abbrev pub character_at : Option ℕ → List ℕ → List ℕ → Result (Edn × List ℕ) Fault
-character_at None begin s = fault UnexpectedEnd []
+abbrev pub character_at : Option ℕ → List ℕ → List ℕ → Result (Edn × List ℕ) SyntaxError
+character_at None begin s = syntax_error UnexpectedEnd []
 character_at (Some c) begin s =
     if begins_char c s then char_before c begin (drop (length (encode_utf8 c)) s)
-    else fault BadToken begin
+    else syntax_error BadToken begin
 
 -- a character, from its backslash on
 unfoldable pub character : Read Edn
@@ -204,14 +206,14 @@ unfoldable pub repeats_element : List Edn → Bool
 repeats_element xs = has_twice (item_keys (items_of xs))
 
 -- a map's elements: OddMap, then DuplicateKey, at the closing brace, which stands just before the rest
-abbrev pub paired : Option (List (Edn × Edn)) → List ℕ → Result (Edn × List ℕ) Fault
+abbrev pub paired : Option (List (Edn × Edn)) → List ℕ → Result (Edn × List ℕ) SyntaxError
 paired None after = Err (record { kind = OddMap; left = length after + 1 })
 paired (Some ms) after =
     if repeats_key ms then Err (record { kind = DuplicateKey; left = length after + 1 })
     else Ok (mapping (members_of ms), after)
 
 -- a set's elements: DuplicateKey at the closing brace, which stands just before the rest
-abbrev pub unique : List Edn → List ℕ → Result (Edn × List ℕ) Fault
+abbrev pub unique : List Edn → List ℕ → Result (Edn × List ℕ) SyntaxError
 unique xs after =
     if repeats_element xs then Err (record { kind = DuplicateKey; left = length after + 1 })
     else Ok (set (items_of xs), after)
@@ -235,11 +237,11 @@ unfoldable pub hashed : Deeper → Read Edn
 hashed deeper begin =
     if slice_index begin 1 == open_brace then (deeper.elements close_brace begin (drop 2 begin) >>= λ x. unique x.0 x.1)
     else if is_tag (tag_of begin) then (deeper.one begin (after_tag begin) >>= λ x. Ok (tagged (tag_of begin) x.0, x.1))
-    else fault BadToken begin
+    else syntax_error BadToken begin
 
 -- an element: UnexpectedEnd at the end, BadToken where a delimiter stands that opens none
 unfoldable pub element : Deeper → Read Edn
-element deeper [] = fault UnexpectedEnd []
+element deeper [] = syntax_error UnexpectedEnd []
 element deeper (c ∷ s) =
     if c == quote then (body s >>= λ x. Ok (str x.0, x.1))
     else if c == open_paren then (deeper.elements close_paren (c ∷ s) s >>= λ x. Ok (list (items_of x.0), x.1))
@@ -248,7 +250,7 @@ element deeper (c ∷ s) =
     else if c == backslash then character (c ∷ s)
     else if c == hash then hashed deeper (c ∷ s)
     else if is_run c then atom (c ∷ s)
-    else fault BadToken (c ∷ s)
+    else syntax_error BadToken (c ∷ s)
 
 -- white space and comments are gone: a discarded element and more, or the end of the gap
 abbrev pub gap_step : Deeper → Skip → Skip
@@ -256,7 +258,7 @@ gap_step deeper more s = if begins_discard s then (deeper.one s (drop 2 s) >>= �
 
 -- a gap, with at most so many discarded elements: one more than the bytes is enough
 unfoldable pub gap_turns : Deeper → ℕ → Skip
-gap_turns deeper zero s = fault UnexpectedEnd []
+gap_turns deeper zero s = syntax_error UnexpectedEnd []
 gap_turns deeper (suc n) s = gap_step deeper (gap_turns deeper n) (after_blank s)
 
 -- a gap
@@ -265,19 +267,22 @@ gap_in deeper s = gap_turns deeper (suc (length s)) s
 
 -- the closing bracket, or an element and more: UnexpectedEnd at the end
 abbrev pub items_step : ℕ → Read Edn → Read (List Edn) → Read (List Edn)
-items_step close value more [] = fault UnexpectedEnd []
+items_step close value more [] = syntax_error UnexpectedEnd []
 items_step close value more (c ∷ s) =
     if c == close then Ok ([], s)
     else (value (c ∷ s) >>= λ x. with_front (x.0 ∷ []) (more x.1))
 
 -- elements and gaps up to the closing bracket, at most as many as the number says: one more than the bytes is enough
 unfoldable pub items : ℕ → Skip → Read Edn → ℕ → Read (List Edn)
-items close skip value zero s = fault UnexpectedEnd []
+items close skip value zero s = syntax_error UnexpectedEnd []
 items close skip value (suc n) s = skip s >>= items_step close value (items close skip value n)
 
 -- TooDeep at the opening bracket, the tag or the discard
 abbrev pub too_deep : Deeper
-too_deep = record { elements = λ close begin s. fault TooDeep begin; one = λ begin s. fault TooDeep begin }
+too_deep = record {
+  elements = λ close begin s. syntax_error TooDeep begin;
+  one = λ begin s. syntax_error TooDeep begin;
+}
 
 -- with brackets, tags and discards nested less deep than that
 unfoldable pub deeper : ℕ → Deeper
@@ -317,11 +322,11 @@ error_at TooDeep line = errors.TooDeep line
 -- why a text was not read on
 abbrev pub error_in : List ℕ → ReadError → EdnError
 error_in text reads.Memory = errors.OutOfMemory
-error_in text (reads.Fault f) = error_at f.kind (line_at text f.left)
+error_in text (reads.Syntax f) = error_at f.kind (line_at text f.left)
 
--- From `at` on the text's first fault is this error, with its line in the whole text
-pub record FirstFault (text : List ℕ) (at : ℕ) (e : EdnError) : Type 0 where
-  pub found : Fault
+-- From `at` on the text's first error is this error, with its line in the whole text
+pub record FirstError (text : List ℕ) (at : ℕ) (e : EdnError) : Type 0 where
+  pub found : SyntaxError
   pub is_first : next depth_limit (drop at text) ≡ Err found
   pub is : e ≡ error_at found.kind (line_at text found.left)
 
@@ -330,6 +335,6 @@ pub data Reached (text : List ℕ) : ℕ → Type 0 where
   start : (at : ℕ) → at ≡ 0 → Reached text at
   behind : (at end : ℕ) (x : Edn) → Reached text at → Reads text at x end → Reached text end
 
--- a first fault, behind the elements that the text begins with
-abbrev pub FaultBehind : List ℕ → EdnError → Type 0
-FaultBehind text e = (at : ℕ) × Reached text at × FirstFault text at e
+-- a first error, behind the elements that the text begins with
+abbrev pub ErrorBehind : List ℕ → EdnError → Type 0
+ErrorBehind text e = (at : ℕ) × Reached text at × FirstError text at e

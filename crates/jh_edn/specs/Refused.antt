@@ -5,7 +5,7 @@ use Rattle.jh_edn.specs.declared.error.EdnError.{EdnError}
 use Rattle.jh_edn.specs.declared.error.EdnError.TheVariants.{UnexpectedEnd, BadToken, FloatUnsupported, IntegerRange, BadEscape, OddMap, DuplicateKey, TooDeep, Utf8, TooLong, Read, Write, OutOfMemory}
 use Rattle.jh_edn.specs.Edn.{Edn}
 use Rattle.jh_edn.specs.Spelling.{SpellsAll}
-use Rattle.jh_edn.specs.Reading.{FaultBehind}
+use Rattle.jh_edn.specs.Reading.{ErrorBehind}
 
 -- the bytes are UTF-8, and spell no list of values
 abbrev pub SpellsNothing : List ℕ → Type 0
@@ -28,14 +28,14 @@ RefusesText bytes Read = Unit {0}
 RefusesText bytes Write = ⊥
 RefusesText bytes OutOfMemory = Unit {0}
 
--- An error with a line is the text's first fault.
-abbrev pub IsFirstFault : List ℕ → EdnError → Type 0
-IsFirstFault bytes Utf8 = Unit {0}
-IsFirstFault bytes TooLong = Unit {0}
-IsFirstFault bytes Read = Unit {0}
-IsFirstFault bytes Write = Unit {0}
-IsFirstFault bytes OutOfMemory = Unit {0}
-IsFirstFault bytes fault = FaultBehind bytes fault
+-- An error with a line is the text's first error.
+abbrev pub IsFirstError : List ℕ → EdnError → Type 0
+IsFirstError bytes Utf8 = Unit {0}
+IsFirstError bytes TooLong = Unit {0}
+IsFirstError bytes Read = Unit {0}
+IsFirstError bytes Write = Unit {0}
+IsFirstError bytes OutOfMemory = Unit {0}
+IsFirstError bytes error = ErrorBehind bytes error
 
 -- what reading a reader's bytes can fail with
 abbrev pub IsReaderError : EdnError → Type 0

@@ -1,19 +1,19 @@
 -- Lists and vectors whose elements are taken one by one, as they are read.
 use Rattle.std.specs.Prelude.{◌≡◌, ℕ, suc, ◌-◌, ◌==◌, if◌then◌else◌, length, List, [], ◌∷◌, ◌++◌, Option, Some, None, Result, Ok}
-use Rattle.jh_edn.specs.declared.fault.Fault.{Fault}
-use Rattle.jh_edn.specs.declared.fault.Kind.TheVariants.{UnexpectedEnd}
+use Rattle.jh_edn.specs.declared.syntax_error.SyntaxError.{SyntaxError}
+use Rattle.jh_edn.specs.declared.syntax_error.Kind.TheVariants.{UnexpectedEnd}
 use Rattle.jh_edn.specs.Edn.{Edn, elements_of}
-use Rattle.jh_edn.specs.Reading.{Read, ◌>>=◌, fault, items, gap, read}
+use Rattle.jh_edn.specs.Reading.{Read, ◌>>=◌, syntax_error, items, gap, read}
 use Rattle.jh_edn.specs.Spelling.{Reads, depth_limit}
 use Rattle.jh_edn.specs.Bytes.{open_paren, close_paren, open_bracket, close_bracket}
 
 -- an element, and what follows it
-abbrev pub one_item : Edn × List ℕ → Result (Option Edn × List ℕ) Fault
+abbrev pub one_item : Edn × List ℕ → Result (Option Edn × List ℕ) SyntaxError
 one_item x = Ok (Some x.0, x.1)
 
 -- the closing bracket, which is no element, or an element: UnexpectedEnd at the end
 abbrev pub item_step : ℕ → Read Edn → Read (Option Edn)
-item_step close value [] = fault UnexpectedEnd []
+item_step close value [] = syntax_error UnexpectedEnd []
 item_step close value (c ∷ s) = if c == close then Ok (None, s) else (value (c ∷ s) >>= one_item)
 
 -- what stands next inside a bracket, behind a gap, with brackets, tags and discards nested no deeper than that

@@ -1,7 +1,7 @@
 //! Reading every element of a text.
 
 ghost use Rattle.std.specs.Prelude.{◌≢◌, IfOk, IfErr, IfSome};
-ghost use Rattle.jh_edn.specs.Refused.{RefusesText, IsFirstFault};
+ghost use Rattle.jh_edn.specs.Refused.{RefusesText, IsFirstError};
 ghost use Rattle.jh_edn.specs.Spelling.{SpellsAll};
 ghost use Rattle.jh_edn.specs.View.{views};
 
@@ -16,7 +16,7 @@ use std::io::Read;
 fn values_of(alloc: Global, text: &str) -> Result<Vec<Value>, EdnError>
     ensures values { IfOk result (λ v. SpellsAll (views v.items) text.now) }
     ensures refused { IfErr result (RefusesText text.now) }
-    ensures first_fault { IfErr result (IsFirstFault text.now) }
+    ensures first_error { IfErr result (IsFirstError text.now) }
 {
     let mut values = Vec::new(alloc);
     let mut at = 0;
@@ -31,13 +31,13 @@ fn values_of(alloc: Global, text: &str) -> Result<Vec<Value>, EdnError>
 ///
 /// # Errors
 ///
-/// Those of `read_bytes`, then `Utf8`, then the text's first fault, with its line.
+/// Those of `read_bytes`, then `Utf8`, then the text's first error, with its line.
 pub fn read_all<R: Read>(alloc: Global, reader: &mut R, turns: u32) -> Result<Vec<Value>, EdnError>
     ensures values { IfOk result
         (λ v. IfSome (R.remaining reader.old) (λ bytes. SpellsAll (views v.items) bytes)) }
     ensures refused { IfErr result (λ e. IfSome (R.remaining reader.old) (λ bytes. RefusesText bytes e)) }
-    ensures first_fault { IfErr result
-        (λ e. IfSome (R.remaining reader.old) (λ bytes. IsFirstFault bytes e)) }
+    ensures first_error { IfErr result
+        (λ e. IfSome (R.remaining reader.old) (λ bytes. IsFirstError bytes e)) }
     ensures error { IfErr result (λ e. e ≢ EdnError.Write) }
 {
     let bytes = read_bytes(alloc, reader, turns)?;

@@ -1,6 +1,6 @@
 //! Reading a run: a number, a keyword, a symbol, `nil`, `true` or `false`.
 //!
-//! `atom` of `specs/Reading.antt` says what a run is, and in which order its faults are looked for.
+//! `atom` of `specs/Reading.antt` says what a run is, and in which order its errors are looked for.
 
 ghost use Rattle.std.specs.Prelude.{◌≡◌, ◌≤◌, length, IfOk, true, option_map};
 ghost use Rattle.std.specs.Str.{IsUtf8};
@@ -9,9 +9,9 @@ ghost use Rattle.jh_edn.specs.Gives.{Gives};
 ghost use Rattle.jh_edn.specs.Reading as reading;
 ghost use Rattle.jh_edn.specs.View.{view};
 
-use crate::fault::{Kind, ReadError, fault_at};
 use crate::name::{is_name, is_symbol_name};
 use crate::scan::{digits_len, is_digit, run_len};
+use crate::syntax_error::{Kind, ReadError, syntax_error_at};
 use crate::text::Text;
 use crate::value::Value;
 use std::alloc::Global;
@@ -114,7 +114,7 @@ pub(crate) fn atom(alloc: Global, rest: &str) -> Result<(Value, &str), ReadError
     if begins_number(run.as_bytes()) {
         return match number_of(run.as_bytes()) {
             Ok(n) => Ok((Value::Int(n), &rest[len..])),
-            Err(kind) => Err(fault_at(kind, rest)),
+            Err(kind) => Err(syntax_error_at(kind, rest)),
         };
     }
     if run.starts_with(':') && is_name(&run.as_bytes()[1..]) {
@@ -128,5 +128,5 @@ pub(crate) fn atom(alloc: Global, rest: &str) -> Result<(Value, &str), ReadError
         let name = Text::of(alloc, run)?;
         return Ok((Value::Symbol(name), &rest[len..]));
     }
-    Err(fault_at(Kind::BadToken, rest))
+    Err(syntax_error_at(Kind::BadToken, rest))
 }

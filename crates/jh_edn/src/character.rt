@@ -13,8 +13,8 @@ ghost use Rattle.jh_edn.specs.Reading as reading;
 ghost use Rattle.jh_edn.specs.Spelling as spelling;
 ghost use Rattle.jh_edn.specs.View.{view};
 
-use crate::fault::{Kind, ReadError, fault_at};
 use crate::scan::run_len;
+use crate::syntax_error::{Kind, ReadError, syntax_error_at};
 use crate::value::Value;
 
 /// White space, but for the comma.
@@ -91,7 +91,7 @@ pub(crate) fn character(rest: &str) -> Result<(Value, &str), ReadError>
     let behind = &rest[1..];
     let mut chars = behind.chars();
     let Some(first) = chars.next() else {
-        return Err(fault_at(Kind::UnexpectedEnd, ""));
+        return Err(syntax_error_at(Kind::UnexpectedEnd, ""));
     };
     let after = chars.as_str();
     let len = run_len(after);
@@ -102,6 +102,6 @@ pub(crate) fn character(rest: &str) -> Result<(Value, &str), ReadError>
     };
     match found {
         Some(c) => Ok((Value::Char(c), &after[len..])),
-        None => Err(fault_at(Kind::BadToken, rest)),
+        None => Err(syntax_error_at(Kind::BadToken, rest)),
     }
 }

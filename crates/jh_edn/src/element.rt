@@ -13,11 +13,11 @@ ghost use Rattle.jh_edn.specs.View.{view, views};
 
 use crate::atom::atom;
 use crate::character::character;
-use crate::fault::{Fault, Kind, ReadError, fault_at};
 use crate::name::is_tag;
 use crate::pairs::{make_pairs, repeats_element, repeats_key};
 use crate::scan::{after_blank, begins_discard, begins_set, is_run, run_len};
 use crate::string::string;
+use crate::syntax_error::{Kind, ReadError, SyntaxError, syntax_error_at};
 use crate::text::Text;
 use crate::value::{Tagged, Value, Values};
 use std::alloc::Global;
@@ -31,12 +31,12 @@ const DISCARD_LEN: usize = 2;
 /// For how many keys and values of a map there is room at first: enough for an operation of a history.
 const MAP_ROOM: usize = 16;
 
-/// A fault at the closing bracket just before the text.
-fn fault_before(kind: Kind, after: &str) -> ReadError
+/// An error at the closing bracket just before the text.
+fn syntax_error_before(kind: Kind, after: &str) -> ReadError
     requires { length after.now < 2 ^ 63 }
-    ensures { result ≡ ReadError.Fault (record { kind = kind; left = length after.now + 1 }) }
+    ensures { result ≡ ReadError.Syntax (record { kind = kind; left = length after.now + 1 }) }
 {
-    ReadError::Fault(Fault {
+    ReadError::Syntax(SyntaxError {
         kind,
         left: after.len() + 1,
     })
@@ -58,10 +58,10 @@ fn close_map(alloc: Global, items: Vec<Value>, after: &str) -> Result<(Value, &s
     ensures text { IfOk result (λ x. IsUtf8 x.1.now) }
 {
     let Some(pairs) = make_pairs(alloc, items)? else {
-        return Err(fault_before(Kind::OddMap, after));
+        return Err(syntax_error_before(Kind::OddMap, after));
     };
     if repeats_key(alloc, &pairs)? {
-        return Err(fault_before(Kind::DuplicateKey, after));
+        return Err(syntax_error_before(Kind::DuplicateKey, after));
     }
     Ok((Value::Map(pairs), after))
 }
@@ -73,7 +73,7 @@ fn close_set(alloc: Global, items: Values, after: &str) -> Result<(Value, &str),
     ensures text { IfOk result (λ x. IsUtf8 x.1.now) }
 {
     if repeats_element(alloc, &items)? {
-        return Err(fault_before(Kind::DuplicateKey, after));
+        return Err(syntax_error_before(Kind::DuplicateKey, after));
     }
     Ok((Value::Set(items), after))
 }
@@ -87,7 +87,7 @@ pub(crate) fn element(alloc: Global, rest: &str, depth: usize) -> Result<(Value,
 {
     let bytes = rest.as_bytes();
     if bytes.is_empty() {
-        return Err(fault_at(Kind::UnexpectedEnd, ""));
+        return Err(syntax_error_at(Kind::UnexpectedEnd, ""));
     }
     match bytes[0] {
         b'"' => {
@@ -109,7 +109,7 @@ pub(crate) fn element(alloc: Global, rest: &str, depth: usize) -> Result<(Value,
         b'\\' => character(rest),
         b'#' => hashed(alloc, rest, depth),
         first if is_run(first) => atom(alloc, rest),
-        _ => Err(fault_at(Kind::BadToken, rest)),
+        _ => Err(syntax_error_at(Kind::BadToken, rest)),
     }
 }
 
@@ -129,7 +129,7 @@ fn hashed(alloc: Global, rest: &str, depth: usize) -> Result<(Value, &str), Read
     let len = run_len(behind);
     let tag = &behind[..len];
     if !is_tag(tag.as_bytes()) {
-        return Err(fault_at(Kind::BadToken, rest));
+        return Err(syntax_error_at(Kind::BadToken, rest));
     }
     let (value, after) = one_inside(alloc, rest, 1 + len, depth)?;
     let tag = Text::of(alloc, tag)?;
@@ -153,7 +153,7 @@ fn elements_inside(
     ensures text { IfOk result (λ x. IsUtf8 x.1.now) }
 {
     if depth == 0 {
-        return Err(fault_at(Kind::TooDeep, rest));
+        return Err(syntax_error_at(Kind::TooDeep, rest));
     }
     elements(alloc, &rest[front..], close, room, depth - 1)
 }
@@ -172,7 +172,7 @@ fn one_inside(
     ensures text { IfOk result (λ x. IsUtf8 x.1.now) }
 {
     if depth == 0 {
-        return Err(fault_at(Kind::TooDeep, rest));
+        return Err(syntax_error_at(Kind::TooDeep, rest));
     }
     let here = after_gap(alloc, &rest[front..], depth - 1)?;
     element(alloc, here, depth - 1)
@@ -210,7 +210,7 @@ pub(crate) fn next_item(
     let here = after_gap(alloc, rest, depth)?;
     let bytes = here.as_bytes();
     if bytes.is_empty() {
-        return Err(fault_at(Kind::UnexpectedEnd, ""));
+        return Err(syntax_error_at(Kind::UnexpectedEnd, ""));
     }
     if bytes[0] == close {
         return Ok((None, &here[1..]));

@@ -1,13 +1,14 @@
 //! Why a text was refused, or a reader or writer failed.
 //!
-//! The texts are those that users see. `specs/Reading.antt` says which fault a text has and at which line, and
-//! `specs/Refused.antt` which error `read_all` answers. A kind of fault is added here, in `src/fault.rt` and there.
+//! The texts are those that users see. `specs/Reading.antt` says which error a text has and at which line, and
+//! `specs/Refused.antt` which error `read_all` answers. A kind of error is added here, in `src/syntax_error.rt` and
+//! there.
 
 ghost use Rattle.std.specs.Prelude.{◌≡◌};
 ghost use Rattle.jh_edn.specs.declared.error.EdnError.TheVariants.{OutOfMemory};
 ghost use Rattle.jh_edn.specs.Reading.{error_at};
 
-use crate::fault::Kind;
+use crate::syntax_error::Kind;
 use std::alloc::{AllocError, AllocFailed};
 use thiserror::Error;
 
@@ -68,8 +69,8 @@ impl<T: Drop> From<AllocFailed<T>> for EdnError {
     }
 }
 
-/// The fault at that line.
-pub(crate) fn fault_at_line(kind: Kind, line: u64) -> EdnError
+/// The error at that line.
+pub(crate) fn error_at_line(kind: Kind, line: u64) -> EdnError
     ensures { result ≡ error_at kind line }
 {
     match kind {

@@ -1,18 +1,18 @@
 //! Reading the next element of a text.
 //!
-//! `Reads` of `specs/Spelling.antt` says what an element is, `FirstFault` of `specs/Reading.antt` which error
+//! `Reads` of `specs/Spelling.antt` says what an element is, `FirstError` of `specs/Reading.antt` which error
 //! a refused text has.
 
 ghost use Rattle.std.specs.Prelude.{◌≡◌, ◌⊎◌, ◌<◌, drop, IfOk, IfErr, IfSome, IfNone};
 ghost use Rattle.std.specs.Str.{IsCharBoundary};
 ghost use Rattle.jh_edn.specs.Reading as reading;
-ghost use Rattle.jh_edn.specs.Reading.{line_at, FirstFault};
+ghost use Rattle.jh_edn.specs.Reading.{line_at, FirstError};
 ghost use Rattle.jh_edn.specs.Spelling.{IsGap, Reads, NothingReads};
 ghost use Rattle.jh_edn.specs.View.{view};
 
 use crate::element::{after_gap, element};
-use crate::error::{EdnError, fault_at_line};
-use crate::fault::ReadError;
+use crate::error::{EdnError, error_at_line};
+use crate::syntax_error::ReadError;
 use crate::value::Value;
 use std::alloc::Global;
 
@@ -39,7 +39,7 @@ pub(crate) fn error_in(text: &str, error: ReadError) -> EdnError
 {
     match error {
         ReadError::Memory => EdnError::OutOfMemory,
-        ReadError::Fault(fault) => fault_at_line(fault.kind, line_of(text, fault.left)),
+        ReadError::Syntax(found) => error_at_line(found.kind, line_of(text, found.left)),
     }
 }
 
@@ -51,7 +51,7 @@ pub(crate) fn error_in(text: &str, error: ReadError) -> EdnError
 ///
 /// # Errors
 ///
-/// The fault whose deciding character comes first, with its line in the whole text; `OutOfMemory` where memory for a
+/// The error whose deciding character comes first, with its line in the whole text; `OutOfMemory` where memory for a
 /// value or its keys was refused before that.
 pub fn read_one(alloc: Global, text: &str, at: usize) -> Result<Option<(Value, usize)>, EdnError>
     requires { IsCharBoundary text.now at }
@@ -59,7 +59,7 @@ pub fn read_one(alloc: Global, text: &str, at: usize) -> Result<Option<(Value, u
     ensures place { IfOk result (λ o. IfSome o (λ p. (at < p.1) × IsCharBoundary text.now p.1)) }
     ensures none { IfOk result (λ o. IfNone o (IsGap (drop at text.now))) }
     ensures refused { IfErr result (λ e. (e ≡ EdnError.OutOfMemory) ⊎ NothingReads text.now at) }
-    ensures first_fault { IfErr result (λ e. (e ≡ EdnError.OutOfMemory) ⊎ FirstFault text.now at e) }
+    ensures first_error { IfErr result (λ e. (e ≡ EdnError.OutOfMemory) ⊎ FirstError text.now at e) }
 {
     let here = match after_gap(alloc, &text[at..], DEPTH_LIMIT) {
         Ok(here) => here,

@@ -7,7 +7,7 @@ ghost use Rattle.std.specs.Str.{IsUtf8, IsCharBoundary};
 ghost use Rattle.jh_edn.specs.Bytes.{IsAscii};
 ghost use Rattle.jh_edn.specs.Edn.{Edn};
 ghost use Rattle.jh_edn.specs.Gives.{Fails};
-ghost use Rattle.jh_edn.specs.Reading.{FirstFault};
+ghost use Rattle.jh_edn.specs.Reading.{FirstError};
 ghost use Rattle.jh_edn.specs.Sequences as sequences;
 ghost use Rattle.jh_edn.specs.Sequences.{elements_to, Takes, TakesSequence, ReadsNoSequence};
 ghost use Rattle.jh_edn.specs.Spelling.{NothingReads};
@@ -15,8 +15,8 @@ ghost use Rattle.jh_edn.specs.View.{view};
 
 use crate::element::{after_gap, next_item};
 use crate::error::EdnError;
-use crate::fault::ReadError;
 use crate::reader::{DEPTH_LIMIT, error_in};
+use crate::syntax_error::ReadError;
 use crate::value::Value;
 use std::alloc::{AllocError, Global};
 
@@ -75,7 +75,7 @@ fn give_elements<'a, S: Sink>(
 ///
 /// # Errors
 ///
-/// The fault whose deciding character comes first, with its line in the whole text; `OutOfMemory` where memory for an
+/// The error whose deciding character comes first, with its line in the whole text; `OutOfMemory` where memory for an
 /// element, or for the sink, was refused before that. The sink may have taken elements before.
 pub fn read_sequence<S: Sink>(
     alloc: Global,
@@ -90,7 +90,7 @@ pub fn read_sequence<S: Sink>(
     ensures none { IfOk result (λ o. IfNone o (ReadsNoSequence text.now at)) }
     ensures unchanged { IfOk result (λ o. IfNone o (sink.new ≡ sink.old)) }
     ensures refused { IfErr result (λ e. (e ≡ EdnError.OutOfMemory) ⊎ NothingReads text.now at) }
-    ensures first_fault { IfErr result (λ e. (e ≡ EdnError.OutOfMemory) ⊎ FirstFault text.now at e) }
+    ensures first_error { IfErr result (λ e. (e ≡ EdnError.OutOfMemory) ⊎ FirstError text.now at e) }
 {
     let here = match after_gap(alloc, &text[at..], DEPTH_LIMIT) {
         Ok(here) => here,

@@ -8,8 +8,8 @@ ghost use Rattle.jh_edn.specs.Bytes.{leading, is_plain};
 ghost use Rattle.jh_edn.specs.Gives.{Gives, at_stop, IsShorter};
 ghost use Rattle.jh_edn.specs.Reading.{body};
 
-use crate::fault::{Kind, ReadError, fault_at};
 use crate::scan::{plain_len, unescape};
+use crate::syntax_error::{Kind, ReadError, syntax_error_at};
 use crate::text::Text;
 use std::alloc::Global;
 
@@ -68,9 +68,9 @@ fn string_in_pieces(alloc: Global, rest: &str) -> Result<(Text, &str), ReadError
         text.push_str(&left[..len])?;
         left = &left[len..];
         match stop_at(left) {
-            Stop::End => return Err(fault_at(Kind::UnexpectedEnd, "")),
+            Stop::End => return Err(syntax_error_at(Kind::UnexpectedEnd, "")),
             Stop::Close(after) => return Ok((Text::of_string(alloc, text)?, after)),
-            Stop::BadEscape => return Err(fault_at(Kind::BadEscape, left)),
+            Stop::BadEscape => return Err(syntax_error_at(Kind::BadEscape, left)),
             Stop::Escape(c, after) => {
                 text.push(c)?;
                 left = after;

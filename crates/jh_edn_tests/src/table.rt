@@ -1,4 +1,4 @@
-//! Texts, and what the format gives for each: the values, printed with a space between, or the fault.
+//! Texts, and what the format gives for each: the values, printed with a space between, or the error.
 
 use crate::rows::{Ask, ask_all};
 use std::test::Fail;

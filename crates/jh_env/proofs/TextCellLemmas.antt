@@ -19,8 +19,8 @@ use Rattle.jh_env.specs.Faults.{same_link}
 use Rattle.jh_env.specs.Starting.{StartValue, SetsLink, SetsNode, IsStartingLink, IsStartingNode, RefusesLink, RefusesNode}
 use Rattle.jh_env.specs.Text.{OfLink, OfNode}
 use Rattle.jh_env.specs.TextCells.{link_with, node_with}
-use Rattle.jh_env.specs.TextFaults.{place_of, own_fault, is_within, is_link_amount, is_node_amount}
-use Rattle.jh_env.specs.TextInside.{AreStarting, SetsEntry, fits_link, cell_fault}
+use Rattle.jh_env.specs.TextErrors.{place_of, entry_error, is_within, is_link_amount, is_node_amount}
+use Rattle.jh_env.specs.TextInside.{AreStarting, SetsEntry, fits_link, cell_error}
 
 -- a place is one of the names'
 pub place_below : (names : List (List ℕ)) (name : List ℕ) (a : ℕ) → place_of names name ≡ Some a → a < length names
@@ -48,14 +48,14 @@ other_name names from to a b from_at to_at apart =
     ] refl
 
 -- the fault of an entry of a link whose ends are nodes
-pub own_fault-link : (names : List (List ℕ)) (from to : List ℕ) (says : LinkChange) (a b : ℕ) → place_of names from ≡ Some a → place_of names to ≡ Some b
-    → own_fault names (OfLink from to says) ≡ (if bytes_eq from to then Some SelfLink else if not (is_link_amount says) then Some BadAmount else None)
-own_fault-link names from to says a b from_at to_at = rw (from_at, to_at) refl
+pub entry_error-link : (names : List (List ℕ)) (from to : List ℕ) (says : LinkChange) (a b : ℕ) → place_of names from ≡ Some a → place_of names to ≡ Some b
+    → entry_error names (OfLink from to says) ≡ (if bytes_eq from to then Some SelfLink else if not (is_link_amount says) then Some BadAmount else None)
+entry_error-link names from to says a b from_at to_at = rw (from_at, to_at) refl
 
 -- the fault of an entry of a node that is one
-pub own_fault-node : (names : List (List ℕ)) (name : List ℕ) (says : NodeChange) (a : ℕ) → place_of names name ≡ Some a
-    → own_fault names (OfNode name says) ≡ (if not (is_node_amount says) then Some BadAmount else None)
-own_fault-node names name says a at = rw at refl
+pub entry_error-node : (names : List (List ℕ)) (name : List ℕ) (says : NodeChange) (a : ℕ) → place_of names name ≡ Some a
+    → entry_error names (OfNode name says) ≡ (if not (is_node_amount says) then Some BadAmount else None)
+entry_error-node names name says a at = rw at refl
 
 -- a link that is set is what its entry makes of it
 pub sets_link : (old new : StartValue) (from to : List ℕ) (says : LinkChange) (a b : ℕ) (link : Link)
@@ -196,23 +196,23 @@ unless false never = refl
 pub link_amount-unfit : (says : LinkChange) → fits_link says ≡ false → is_link_amount says ≡ false
 link_amount-unfit says unfit = unless (is_link_amount says) (λ good. false≢true (sym unfit ∙ link_amount-fits says good))
 
--- a link between two nodes that is not set is at fault by its entry
+-- a link between two nodes that is not set is in error by its entry
 pub link_refused : (s : StartValue) (from to : List ℕ) (says : LinkChange) (a b : ℕ) (link : Link) (e : StartError)
     → place_of s.names from ≡ Some a → place_of s.names to ≡ Some b → (a ≡ b → ⊥) → IsStartingLink link
-    → RefusesLink s a b (link_with says link) e → own_fault s.names (OfLink from to says) ≡ Some (cell_fault e)
+    → RefusesLink s a b (link_with says link) e → entry_error s.names (OfLink from to says) ≡ Some (cell_error e)
 link_refused s from to says a b link StartError.UnknownNode from_at to_at apart starts refused =
     absurd (refused (place_below s.names from a from_at, place_below s.names to b to_at))
 link_refused s from to says a b link StartError.SelfLink from_at to_at apart starts refused = absurd (apart refused.1)
 link_refused s from to says a b link StartError.BadAmount from_at to_at apart starts refused =
     let bad = unless (is_link_amount says) (λ good. refused.2 (link_with-starts says link good starts)) in
-    rw (own_fault-link s.names from to says a b from_at to_at, other_name s.names from to a b from_at to_at apart, bad) refl
+    rw (entry_error-link s.names from to says a b from_at to_at, other_name s.names from to a b from_at to_at apart, bad) refl
 
 -- and so of a node
 pub node_refused : (s : StartValue) (name : List ℕ) (says : NodeChange) (a : ℕ) (cell : NodeCell) (e : StartError)
     → place_of s.names name ≡ Some a → IsStartingNode cell
-    → RefusesNode s a (node_with says cell) e → own_fault s.names (OfNode name says) ≡ Some (cell_fault e)
+    → RefusesNode s a (node_with says cell) e → entry_error s.names (OfNode name says) ≡ Some (cell_error e)
 node_refused s name says a cell StartError.UnknownNode at starts refused = let below = place_below s.names name a at in absurd (omega arith)
 node_refused s name says a cell StartError.SelfLink at starts refused = absurd refused
 node_refused s name says a cell StartError.BadAmount at starts refused =
     let bad = unless (is_node_amount says) (λ good. refused.1 (node_with-starts says cell good starts)) in
-    rw (own_fault-node s.names name says a at, bad) refl
+    rw (entry_error-node s.names name says a at, bad) refl

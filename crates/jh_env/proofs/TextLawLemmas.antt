@@ -11,7 +11,7 @@ use Rattle.jh_env.specs.declared.texts.EnvTextError.{EnvTextError}
 use Rattle.jh_env.specs.declared.texts.EnvTextError.TheVariants.{NotMap, UnknownKey, MissingNodes, BadEntry, NoNodes, TooManyNodes, BadName, DuplicateName, UnknownNode, SelfLink, BadAmount, RepeatedEntry, OutOfMemory}
 use Rattle.jh_env.specs.Names.{AreNodeNames, AreFew, RefusesNames}
 use Rattle.jh_env.specs.Text.{sections, Shape, shape_of, keys_of}
-use Rattle.jh_env.specs.TextFaults.{AreSound, HasFault, HasShape, RefusesEntry, RefusesNodes, RefusesText}
+use Rattle.jh_env.specs.TextErrors.{AreSound, HasEntryError, HasShape, RefusesEntry, RefusesNodes, RefusesText}
 use Rattle.jh_env.specs.TextCells.{link_after, node_after, AreTold, IsTextOf}
 use Rattle.jh_env.specs.TextLaws.{CanStart, SameCells}
 use Rattle.jh_env.specs.TextWritten.{entries_written, text_of}
@@ -83,11 +83,11 @@ same_shape value s t first second =
 no_keys : (value : Edn) (shape : Shape) (e : EnvTextError) → HasShape value shape → keys_of value ≡ Err e → ⊥
 no_keys value shape e has refused = let both : Ok has.0 ≡ Err e = sym has.1 ∙ refused in cc
 
-no_fault : (value : Edn) (shape : Shape) (e : EnvTextError) → HasShape value shape → AreSound shape.names shape.entries → RefusesEntry value e → ⊥
-no_fault value shape e has sound refused =
+no_error : (value : Edn) (shape : Shape) (e : EnvTextError) → HasShape value shape → AreSound shape.names shape.entries → RefusesEntry value e → ⊥
+no_error value shape e has sound refused =
     let same = same_shape value refused.0 shape refused.1 has in
-    let faulty : HasFault shape.names shape.entries e = subst (λ s. HasFault s.names s.entries e) same refused.4 in
-    let both : Some e ≡ None = sym faulty.1 ∙ sound faulty.0 in
+    let wrong : HasEntryError shape.names shape.entries e = subst (λ s. HasEntryError s.names s.entries e) same refused.4 in
+    let both : Some e ≡ None = sym wrong.1 ∙ sound wrong.0 in
     cc
 
 refused_names : (value : Edn) (shape : Shape) (e : NodesError) → HasShape value shape → RefusesNodes value e → RefusesNames shape.names e
@@ -119,10 +119,10 @@ text_accepted value names cells e text refused =
         let bad = (refused_names value text.0 NodesError.DuplicateName text.1 r).1 in
         let both : false ≡ true = sym (named bad.0 bad.1 bad.2 bad.3).1 ∙ bad.5.1 in
         absurd cc
-    by_error UnknownNode few named sound r = absurd (no_fault value text.0 UnknownNode text.1 sound r)
-    by_error SelfLink few named sound r = absurd (no_fault value text.0 SelfLink text.1 sound r)
-    by_error BadAmount few named sound r = absurd (no_fault value text.0 BadAmount text.1 sound r)
-    by_error RepeatedEntry few named sound r = absurd (no_fault value text.0 RepeatedEntry text.1 sound r)
+    by_error UnknownNode few named sound r = absurd (no_error value text.0 UnknownNode text.1 sound r)
+    by_error SelfLink few named sound r = absurd (no_error value text.0 SelfLink text.1 sound r)
+    by_error BadAmount few named sound r = absurd (no_error value text.0 BadAmount text.1 sound r)
+    by_error RepeatedEntry few named sound r = absurd (no_error value text.0 RepeatedEntry text.1 sound r)
     by_error OutOfMemory few named sound r = refl
 
 -- a text tells the cells of one environment

@@ -7,7 +7,7 @@ use Rattle.std.proofs.lemmas.List.{take-append-drop}
 use Rattle.std.proofs.lemmas.Option.{slice_get_within, get_or_from_slice_get}
 use Rattle.std.proofs.lemmas.Slice.Eq.{bytes_eq-Decides}
 use Rattle.jh_env.specs.Names.{AreNodeNames}
-use Rattle.jh_env.specs.TextFaults.{place_of}
+use Rattle.jh_env.specs.TextErrors.{place_of}
 
 -- the first place at which a test passes
 first_place : {A : Type 0} (p : A → Bool) (xs : List A) (i : ℕ) (x : A) → slice_get xs i ≡ Some x → p x ≡ true → list_any p (take i xs) ≡ false

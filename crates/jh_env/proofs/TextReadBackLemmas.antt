@@ -17,7 +17,7 @@ use Rattle.jh_env.specs.Starting.{IsStartingLink}
 use Rattle.jh_env.specs.Overlay.{EnvValue, link_of, node_of}
 use Rattle.jh_env.specs.Text.{◌>>=◌, OfLink, OfNode, sections}
 use Rattle.jh_env.specs.TextCells.{link_after, node_after, link_with, node_with}
-use Rattle.jh_env.specs.TextFaults.{place_of}
+use Rattle.jh_env.specs.TextErrors.{place_of}
 use Rattle.jh_env.specs.TextWritten.{places, link_entry, node_entry, link_part, node_part, life_part, is_zero, entries_written}
 use Rattle.jh_env.proofs.TextPlaceLemmas.{place_of-at}
 use Rattle.jh_env.proofs.TextFoldLemmas.{fold-filter_map, fold-flat_map, fold-same, fold-idle, fold-once}

@@ -9,52 +9,52 @@ use Rattle.jh_env.specs.declared.texts.EnvTextError.{EnvTextError}
 use Rattle.jh_env.specs.declared.texts.EnvTextError.TheVariants.{UnknownNode, SelfLink, BadAmount, RepeatedEntry}
 use Rattle.jh_env.specs.Names.{AreNodeNames, AreFew, RefusesNames}
 use Rattle.jh_env.specs.Text.{Entry, Shape}
-use Rattle.jh_env.specs.TextFaults.{names_nodes, links_itself, is_amount, repeats, fault_after, fault_at, HasFault, HasShape, RefusesText}
-use Rattle.jh_env.specs.TextInside.{nodes_fault}
+use Rattle.jh_env.specs.TextErrors.{names_nodes, links_itself, is_amount, repeats, entry_error_after, entry_error_at, HasEntryError, HasShape, RefusesText}
+use Rattle.jh_env.specs.TextInside.{nodes_error}
 
 -- the faults that an entry may have
-IsEntryFault : EnvTextError → Type 0
-IsEntryFault UnknownNode = Unit {0}
-IsEntryFault SelfLink = Unit {0}
-IsEntryFault BadAmount = Unit {0}
-IsEntryFault RepeatedEntry = Unit {0}
-IsEntryFault _ = ⊥
+IsEntryError : EnvTextError → Type 0
+IsEntryError UnknownNode = Unit {0}
+IsEntryError SelfLink = Unit {0}
+IsEntryError BadAmount = Unit {0}
+IsEntryError RepeatedEntry = Unit {0}
+IsEntryError _ = ⊥
 
-kind_of_fault : (known itself good repeated : Bool) (fault : EnvTextError)
+kind_of_error : (known itself good repeated : Bool) (error : EnvTextError)
     → option_or (if not known then Some UnknownNode else if itself then Some SelfLink else if not good then Some BadAmount else None)
-    (if repeated then Some RepeatedEntry else None) ≡ Some fault
-    → IsEntryFault fault
-unfolding IsEntryFault
-kind_of_fault false itself good repeated fault is = let e : UnknownNode ≡ fault = cc in subst IsEntryFault e tt
-kind_of_fault true true good repeated fault is = let e : SelfLink ≡ fault = cc in subst IsEntryFault e tt
-kind_of_fault true false false repeated fault is = let e : BadAmount ≡ fault = cc in subst IsEntryFault e tt
-kind_of_fault true false true true fault is = let e : RepeatedEntry ≡ fault = cc in subst IsEntryFault e tt
-kind_of_fault true false true false fault is = absurd cc
+    (if repeated then Some RepeatedEntry else None) ≡ Some error
+    → IsEntryError error
+unfolding IsEntryError
+kind_of_error false itself good repeated error is = let e : UnknownNode ≡ error = cc in subst IsEntryError e tt
+kind_of_error true true good repeated error is = let e : SelfLink ≡ error = cc in subst IsEntryError e tt
+kind_of_error true false false repeated error is = let e : BadAmount ≡ error = cc in subst IsEntryError e tt
+kind_of_error true false true true error is = let e : RepeatedEntry ≡ error = cc in subst IsEntryError e tt
+kind_of_error true false true false error is = absurd cc
 
-kind_at : (names : List (List ℕ)) (entries : List Entry) (place : ℕ) (fault : EnvTextError) → fault_at names entries place ≡ Some fault → IsEntryFault fault
-kind_at names entries place fault is =
-    elim (slice_get entries place) as (λ o. option_and_then (fault_after names (take place entries)) o ≡ Some fault → IsEntryFault fault) [
+kind_at : (names : List (List ℕ)) (entries : List Entry) (place : ℕ) (error : EnvTextError) → entry_error_at names entries place ≡ Some error → IsEntryError error
+kind_at names entries place error is =
+    elim (slice_get entries place) as (λ o. option_and_then (entry_error_after names (take place entries)) o ≡ Some error → IsEntryError error) [
       | None ↦ λ e. absurd cc
-      | Some entry ↦ λ e. kind_of_fault (names_nodes names entry) (links_itself entry) (is_amount entry) (list_any (repeats entry) (take place entries)) fault e
+      | Some entry ↦ λ e. kind_of_error (names_nodes names entry) (links_itself entry) (is_amount entry) (list_any (repeats entry) (take place entries)) error e
     ] is
 
-refused_for : (value : Edn) (shape : Shape) (fault : EnvTextError) → HasShape value shape → AreFew shape.names → AreNodeNames shape.names
-    → HasFault shape.names shape.entries fault → IsEntryFault fault → RefusesText value fault
-unfolding IsEntryFault
-refused_for value shape UnknownNode has few named faulty kind = (shape, has, few, named, faulty)
-refused_for value shape SelfLink has few named faulty kind = (shape, has, few, named, faulty)
-refused_for value shape BadAmount has few named faulty kind = (shape, has, few, named, faulty)
-refused_for value shape RepeatedEntry has few named faulty kind = (shape, has, few, named, faulty)
-refused_for value shape _ has few named faulty kind = absurd kind
+refused_for : (value : Edn) (shape : Shape) (error : EnvTextError) → HasShape value shape → AreFew shape.names → AreNodeNames shape.names
+    → HasEntryError shape.names shape.entries error → IsEntryError error → RefusesText value error
+unfolding IsEntryError
+refused_for value shape UnknownNode has few named wrong kind = (shape, has, few, named, wrong)
+refused_for value shape SelfLink has few named wrong kind = (shape, has, few, named, wrong)
+refused_for value shape BadAmount has few named wrong kind = (shape, has, few, named, wrong)
+refused_for value shape RepeatedEntry has few named wrong kind = (shape, has, few, named, wrong)
+refused_for value shape _ has few named wrong kind = absurd kind
 
--- a text with an entry at fault is refused
-pub entry_refused : (value : Edn) (shape : Shape) (fault : EnvTextError) → HasShape value shape → AreFew shape.names → AreNodeNames shape.names
-    → HasFault shape.names shape.entries fault → RefusesText value fault
-entry_refused value shape fault has few named faulty =
-    refused_for value shape fault has few named faulty (kind_at shape.names shape.entries faulty.0 fault faulty.1)
+-- a text with an entry in error is refused
+pub entry_refused : (value : Edn) (shape : Shape) (error : EnvTextError) → HasShape value shape → AreFew shape.names → AreNodeNames shape.names
+    → HasEntryError shape.names shape.entries error → RefusesText value error
+entry_refused value shape error has few named wrong =
+    refused_for value shape error has few named wrong (kind_at shape.names shape.entries wrong.0 error wrong.1)
 
 -- a text with names that are refused is refused
-pub names_refused : (value : Edn) (shape : Shape) (error : NodesError) → HasShape value shape → RefusesNames shape.names error → RefusesText value (nodes_fault error)
+pub names_refused : (value : Edn) (shape : Shape) (error : NodesError) → HasShape value shape → RefusesNames shape.names error → RefusesText value (nodes_error error)
 names_refused value shape NodesError.NoNodes has refused = (shape, has, refused)
 names_refused value shape NodesError.TooManyNodes has refused = (shape, has, refused)
 names_refused value shape NodesError.BadName has refused = (shape, has, refused)

@@ -13,7 +13,7 @@ use Rattle.jh_env.specs.declared.texts.entries.LinkChange.{LinkChange}
 use Rattle.jh_env.specs.declared.texts.entries.NodeChange.{NodeChange}
 use Rattle.jh_env.specs.Overlay.{EnvValue}
 use Rattle.jh_env.specs.Text.{◌>>=◌, OfLink, OfNode, Keys, Shape, each_of, text_of_string, names_of, entry_in, entries_of, entries_under, all_entries, nodes_keyword, sections}
-use Rattle.jh_env.specs.TextFaults.{HasShape}
+use Rattle.jh_env.specs.TextErrors.{HasShape}
 use Rattle.jh_env.specs.TextWritten.{link_part, node_part, life_part, entries_written, edn_of_entry, section_pair, text_of}
 use Rattle.jh_edn.proofs.Facts.{list_of-items_of}
 use Rattle.jh_env.proofs.TextLemmas.{each_of-map}

@@ -17,10 +17,10 @@ use Rattle.jh_env.specs.declared.texts.entries.NodeChange.{NodeChange}
 use Rattle.jh_env.specs.Overlay.{EnvValue, cells_of, link_of, node_of}
 use Rattle.jh_env.specs.Starting.{IsStartingLink, IsStartingNode}
 use Rattle.jh_env.specs.Text.{◌>>=◌, Entry, OfLink, OfNode, sections}
-use Rattle.jh_env.specs.TextFaults.{place_of, own_fault, fault_after, repeats, same_link_key, same_node_key, is_link_amount, is_node_amount, AreSound}
+use Rattle.jh_env.specs.TextErrors.{place_of, entry_error, entry_error_after, repeats, same_link_key, same_node_key, is_link_amount, is_node_amount, AreSound}
 use Rattle.jh_env.specs.TextLaws.{CanStart}
 use Rattle.jh_env.specs.TextWritten.{places, link_entry, node_entry, link_part, node_part, life_part, is_zero, entries_written}
-use Rattle.jh_env.proofs.TextCellLemmas.{within, own_fault-link, own_fault-node, other_name, link_apart}
+use Rattle.jh_env.proofs.TextCellLemmas.{within, entry_error-link, entry_error-node, other_name, link_apart}
 use Rattle.jh_env.proofs.TextPlaceLemmas.{place_of-at}
 
 bind_gives : {A B : Type 0} (o : Option A) (f : A → Option B) (y : B) → (o >>= f) ≡ Some y → (x : A) × (o ≡ Some x) × (f x ≡ Some y)
@@ -102,21 +102,21 @@ node_part-amount Section.Slow cell says starts said = absurd cc
 node_part-amount Section.Loss cell says starts said = absurd cc
 
 -- the fault of an entry that is written: none
-link_entry-sound : (env : EnvValue) (section : Section) (a b : ℕ) (entry : Entry) → CanStart env → link_entry env section a b ≡ Some entry → own_fault env.names entry ≡ None
+link_entry-sound : (env : EnvValue) (section : Section) (a b : ℕ) (entry : Entry) → CanStart env → link_entry env section a b ≡ Some entry → entry_error env.names entry ≡ None
 link_entry-sound env section a b entry starts made =
     let p = link_parts env section a b entry made in
     let from_place = place_of-at env.names a p.from starts.named p.from_at in
     let to_place = place_of-at env.names b p.to starts.named p.to_at in
     let apart = other_name env.names p.from p.to a b from_place to_place (link_apart (cells_of env) a b p.link p.there) in
     let good = link_part-amount section p.link p.says (starts.links a b p.link p.there) p.said in
-    ap (own_fault env.names) p.is ∙ rw (own_fault-link env.names p.from p.to p.says a b from_place to_place, apart, good) refl
+    ap (entry_error env.names) p.is ∙ rw (entry_error-link env.names p.from p.to p.says a b from_place to_place, apart, good) refl
 
-node_entry-sound : (env : EnvValue) (section : Section) (a : ℕ) (entry : Entry) → CanStart env → node_entry env section a ≡ Some entry → own_fault env.names entry ≡ None
+node_entry-sound : (env : EnvValue) (section : Section) (a : ℕ) (entry : Entry) → CanStart env → node_entry env section a ≡ Some entry → entry_error env.names entry ≡ None
 node_entry-sound env section a entry starts made =
     let p = node_parts env section a entry made in
     let place = place_of-at env.names a p.name starts.named p.name_at in
     let good = node_part-amount section p.cell p.says (starts.nodes a p.cell p.there) p.said in
-    ap (own_fault env.names) p.is ∙ rw (own_fault-node env.names p.name p.says a place, good) refl
+    ap (entry_error env.names) p.is ∙ rw (entry_error-node env.names p.name p.says a place, good) refl
 
 all-filter_map : {X E : Type 0} (P : E → Type 0) (h : X → Option E) (xs : List X) → ((x : X) (e : E) → h x ≡ Some e → P e) → All P (filter_map h xs)
 all-filter_map P h [] each = All-nil P
@@ -140,10 +140,10 @@ all_written env P Section.Loss links nodes = all-flat_map P _ (places env) (λ a
 all_written env P Section.Down links nodes = all-filter_map P (node_entry env Section.Down) (places env) nodes
 all_written env P Section.Clock links nodes = all-filter_map P (node_entry env Section.Clock) (places env) nodes
 
-pub all_sound : (env : EnvValue) → CanStart env → All (λ e. own_fault env.names e ≡ None) (flat_map (entries_written env) sections)
+pub all_sound : (env : EnvValue) → CanStart env → All (λ e. entry_error env.names e ≡ None) (flat_map (entries_written env) sections)
 all_sound env starts =
-    all-flat_map (λ e. own_fault env.names e ≡ None) (entries_written env) sections
-    (λ section. all_written env (λ e. own_fault env.names e ≡ None) section
+    all-flat_map (λ e. entry_error env.names e ≡ None) (entries_written env) sections
+    (λ section. all_written env (λ e. entry_error env.names e ≡ None) section
     (λ a b e made. link_entry-sound env section a b e starts made) (λ a e made. node_entry-sound env section a e starts made))
 
 -- the number of the key under which an entry stands
@@ -347,16 +347,16 @@ all_climb env starts =
     (climbs-append env.names (start_of n 3 0) (start_of n 4 0) (start_of n 5 0) (entries_written env Section.Down) _ (node_entries_climb env Section.Down starts)
     (climbs-append env.names (start_of n 4 0) (start_of n 5 0) (start_of n 5 0) (entries_written env Section.Clock) [] (node_entries_climb env Section.Clock starts) last))))
 
--- no entry that is written is at fault
+-- no entry that is written is in error
 pub written_sound : (env : EnvValue) → CanStart env → AreSound env.names (flat_map (entries_written env) sections)
 written_sound env starts = λ place.
     let entries = flat_map (entries_written env) sections in
     elim (slice_get entries place)
-    as (λ o. slice_get entries place ≡ o → option_and_then (fault_after env.names (take place entries)) o ≡ None) [
+    as (λ o. slice_get entries place ≡ o → option_and_then (entry_error_after env.names (take place entries)) o ≡ None) [
       | None ↦ λ none. refl
       | Some e ↦ λ at.
-          let own : own_fault env.names e ≡ None = subst (λ x. own_fault env.names x ≡ None) (get_or_from_slice_get entries place e e at)
-          (All-get_or (λ x. own_fault env.names x ≡ None) entries place e (slice_get_within entries place e at) (all_sound env starts)) in
+          let own : entry_error env.names e ≡ None = subst (λ x. entry_error env.names x ≡ None) (get_or_from_slice_get entries place e e at)
+          (All-get_or (λ x. entry_error env.names x ≡ None) entries place e (slice_get_within entries place e at) (all_sound env starts)) in
           let once = (climbs-once env.names _ _ entries place e (all_climb env starts) at).1 in
           rw (own, once) refl
     ] refl

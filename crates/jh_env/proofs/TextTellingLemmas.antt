@@ -12,16 +12,16 @@ use Rattle.jh_env.specs.Cells.{calm, running}
 use Rattle.jh_env.specs.Starting.{StartValue}
 use Rattle.jh_env.specs.Text.{Entry}
 use Rattle.jh_env.specs.TextCells.{link_after, node_after, AreTold}
-use Rattle.jh_env.specs.TextFaults.{own_fault, fault_at, repeats, AreSound, HasFault}
+use Rattle.jh_env.specs.TextErrors.{entry_error, entry_error_at, repeats, AreSound, HasEntryError}
 use Rattle.jh_env.specs.TextInside.{AreStarting, SetsEntry, entry_said, entries_said}
 use Rattle.jh_env.specs.declared.texts.entries.Entry.TheVariants as said
 use Rattle.jh_env.proofs.NameLemmas.{list_any-map}
 
--- the first i entries are set, and none of them is at fault
+-- the first i entries are set, and none of them is in error
 pub record AreSet (names : List (List ℕ)) (entries : List Entry) (i : ℕ) (start : StartValue) : Type 0 where
   pub named : start.names ≡ names
   pub told : AreTold names (take i entries) start.cells
-  pub sound : (k : ℕ) → k < i → fault_at names entries k ≡ None
+  pub sound : (k : ℕ) → k < i → entry_error_at names entries k ≡ None
   pub starting : AreStarting start
 
 option_map-if : {A : Type 0} (test : Bool) (f : A → A) (x : A) → option_map f (if test then Some x else None) ≡ (if test then Some (f x) else None)
@@ -33,18 +33,18 @@ at_place : (entries : List Entry) (i : ℕ) (entry : Entry) → i < length entri
 at_place entries i entry below at = let e = slice_get-get_or entries i entry below in cc
 
 -- the fault of the entry at a place, where it has none by itself
-fault_at-others : (names : List (List ℕ)) (entries : List Entry) (i : ℕ) (entry : Entry) (repeated : Bool) → slice_get entries i ≡ Some entry
-    → own_fault names entry ≡ None → list_any (repeats entry) (take i entries) ≡ repeated
-    → fault_at names entries i ≡ (if repeated then Some RepeatedEntry else None)
-fault_at-others names entries i entry repeated at own among = rw (at, own, among) refl
+entry_error_at-others : (names : List (List ℕ)) (entries : List Entry) (i : ℕ) (entry : Entry) (repeated : Bool) → slice_get entries i ≡ Some entry
+    → entry_error names entry ≡ None → list_any (repeats entry) (take i entries) ≡ repeated
+    → entry_error_at names entries i ≡ (if repeated then Some RepeatedEntry else None)
+entry_error_at-others names entries i entry repeated at own among = rw (at, own, among) refl
 
 -- one more entry is set
 pub more_set : (names : List (List ℕ)) (entries : List Entry) (i : ℕ) (entry : Entry) (start new : StartValue)
-    → i < length entries → slice_get entries i ≡ Some entry → own_fault start.names entry ≡ None → list_any (repeats entry) (take i entries) ≡ false
+    → i < length entries → slice_get entries i ≡ Some entry → entry_error start.names entry ≡ None → list_any (repeats entry) (take i entries) ≡ false
     → AreSet names entries i start → SetsEntry start entry new → AreSet names entries (i + 1) new
 more_set names entries i entry start new below at own once set sets =
     let here = at_place entries i entry below at in
-    let own_here : own_fault names entry ≡ None = rw (← set.named) own in
+    let own_here : entry_error names entry ≡ None = rw (← set.named) own in
     record {
       named = sets.names ∙ set.named;
       told = record {
@@ -55,7 +55,7 @@ more_set names entries i entry start new below at own once set sets =
             (option_map-if _ (λ cell. node_after names a cell entry) _
             ∙ rw (fold_more (node_after names a) running entries i entry below, here) refl);
       };
-      sound = below_more (λ k. fault_at names entries k ≡ None) i set.sound (fault_at-others names entries i entry false at own_here once);
+      sound = below_more (λ k. entry_error_at names entries k ≡ None) i set.sound (entry_error_at-others names entries i entry false at own_here once);
       starting = sets.starting;
     }
 
@@ -70,9 +70,9 @@ all_set names entries i start past set = (
 
 -- the next entry repeats one before it
 pub repeated_first : (names : List (List ℕ)) (entries : List Entry) (i : ℕ) (entry : Entry) (start : StartValue)
-    → slice_get entries i ≡ Some entry → AreSet names entries i start → own_fault start.names entry ≡ None → list_any (repeats entry) (take i entries) ≡ true
-    → HasFault names entries RepeatedEntry
-repeated_first names entries i entry start at set own twice = (i, fault_at-others names entries i entry true at (rw (← set.named) own) twice, set.sound)
+    → slice_get entries i ≡ Some entry → AreSet names entries i start → entry_error start.names entry ≡ None → list_any (repeats entry) (take i entries) ≡ true
+    → HasEntryError names entries RepeatedEntry
+repeated_first names entries i entry start at set own twice = (i, entry_error_at-others names entries i entry true at (rw (← set.named) own) twice, set.sound)
 
 -- an entry that a program reads, as it is told
 pub said_at : (entries : List said.the_data) (i : ℕ) (d : said.the_data) → i < length entries → slice_get (entries_said entries) i ≡ Some (entry_said (get_or entries i d))

@@ -9,7 +9,7 @@ pub mod Starting
 pub mod StartInside
 pub mod EnvInside
 pub mod Text
-pub mod TextFaults
+pub mod TextErrors
 pub mod TextCells
 pub mod TextWritten
 pub mod TextInside

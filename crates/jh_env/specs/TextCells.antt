@@ -9,7 +9,7 @@ use Rattle.jh_env.specs.declared.texts.entries.NodeChange.{NodeChange}
 use Rattle.jh_env.specs.Cells.{Table, calm, running, link_at, node_at}
 use Rattle.jh_env.specs.Names.{AreNodeNames, AreFew}
 use Rattle.jh_env.specs.Text.{Entry, OfLink, OfNode, Shape}
-use Rattle.jh_env.specs.TextFaults.{place_of, AreSound, HasShape}
+use Rattle.jh_env.specs.TextErrors.{place_of, AreSound, HasShape}
 
 -- the link with what is said of it
 abbrev pub link_with : LinkChange → Link → Link
@@ -45,7 +45,7 @@ pub record AreTold (names : List (List ℕ)) (entries : List Entry) (cells : Tab
       ≡ (if nat_lt a (length names) && (nat_lt b (length names) && not (a == b)) then Some (fold (link_after names a b) calm entries) else None)
   pub nodes : (a : ℕ) → node_at cells a ≡ (if nat_lt a (length names) then Some (fold (node_after names a) running entries) else None)
 
--- the text is of a good shape, has good names and no entry at fault, and these are its names and the cells that it tells
+-- the text is of a good shape, has good names and no entry in error, and these are its names and the cells that it tells
 abbrev pub IsTextOf : Edn → List (List ℕ) → Table → Type 0
 IsTextOf value names cells =
     (shape : Shape) × HasShape value shape × (shape.names ≡ names) × AreFew names × AreNodeNames names

@@ -14,7 +14,7 @@ use Rattle.jh_env.specs.Starting.{StartValue, IsStartingLink, IsStartingNode}
 use Rattle.jh_env.specs.Text as text
 use Rattle.jh_env.specs.declared.texts.entries.LinkChange.{LinkChange}
 use Rattle.jh_env.specs.TextCells.{link_after, node_after}
-use Rattle.jh_env.specs.TextFaults.{is_within}
+use Rattle.jh_env.specs.TextErrors.{is_within}
 
 -- an entry, by the names that it borrows
 abbrev pub entry_said : Entry → text.Entry
@@ -36,13 +36,13 @@ effect_parts (LinkFault.Slow ms) = keyword (codes "slow") ∷ int (pos ms) ∷ [
 effect_parts (LinkFault.Loss level) = keyword (codes "loss") ∷ int (pos level) ∷ []
 effect_parts (LinkFault.Fix ms) = keyword (codes "fix") ∷ int (pos ms) ∷ []
 
--- the fault of names that are refused
-abbrev pub nodes_fault : NodesError → EnvTextError
-nodes_fault NodesError.NoNodes = NoNodes
-nodes_fault NodesError.TooManyNodes = TooManyNodes
-nodes_fault NodesError.BadName = BadName
-nodes_fault NodesError.DuplicateName = DuplicateName
-nodes_fault NodesError.OutOfMemory = OutOfMemory
+-- the error for names that are refused
+abbrev pub nodes_error : NodesError → EnvTextError
+nodes_error NodesError.NoNodes = NoNodes
+nodes_error NodesError.TooManyNodes = TooManyNodes
+nodes_error NodesError.BadName = BadName
+nodes_error NodesError.DuplicateName = DuplicateName
+nodes_error NodesError.OutOfMemory = OutOfMemory
 
 -- why values are refused by their shape: there is nothing that they tell, or memory is refused
 abbrev pub RefusesShape : {A : Type 0} → Option A → EnvTextError → Type 0
@@ -56,11 +56,11 @@ fits_link LinkChange.Cut = true
 fits_link (LinkChange.Delay ms) = int_le (pos 0) ms
 fits_link (LinkChange.Loss level) = is_within (pos 0) (pos 255) level
 
--- the fault of a cell that is not set
-abbrev pub cell_fault : StartError → EnvTextError
-cell_fault StartError.UnknownNode = UnknownNode
-cell_fault StartError.SelfLink = SelfLink
-cell_fault StartError.BadAmount = BadAmount
+-- the error for a cell that is not set
+abbrev pub cell_error : StartError → EnvTextError
+cell_error StartError.UnknownNode = UnknownNode
+cell_error StartError.SelfLink = SelfLink
+cell_error StartError.BadAmount = BadAmount
 
 -- each cell may be one at the start, and there is one for each node and for each link between two of them
 pub record AreStarting (start : StartValue) : Type 0 where

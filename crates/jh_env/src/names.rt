@@ -105,7 +105,7 @@ fn copied(names: &IndexSet<String>) -> Result<IndexSet<String>, AllocError>
 impl Nodes {
     /// The nodes of these names, 1 to 64, each 1 to 64 ASCII letters, digits, `.`, `-` or `_`.
     ///
-    /// Errors: `NoNodes`, `TooManyNodes`, then for the first name at fault `BadName` or
+    /// Errors: `NoNodes`, `TooManyNodes`, then for the first name in error `BadName` or
     /// `DuplicateName`; `OutOfMemory` where memory was refused before such a name.
     pub fn of(alloc: Global, names: &[&str]) -> Result<Nodes, NodesError>
         ensures { MatchResult result

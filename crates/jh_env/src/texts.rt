@@ -1,6 +1,6 @@
 //! The text of an environment, as an EDN value: read and written.
 //!
-//! `specs/Text.antt` says which value spells which names and entries, `specs/TextFaults.antt` which are
+//! `specs/Text.antt` says which value spells which names and entries, `specs/TextErrors.antt` which are
 //! refused, `specs/TextCells.antt` what entries tell of the cells, and `specs/TextWritten.antt` what is
 //! written. A key is added there, and in `texts/entries.rt`.
 
@@ -8,7 +8,7 @@ ghost use Rattle.std.specs.Prelude.{◌≡◌, [], MatchResult, IfOk};
 ghost use Rattle.jh_edn.specs.View.{view};
 ghost use Rattle.jh_env.specs.Overlay.{StandsFor};
 ghost use Rattle.jh_env.specs.TextCells.{IsTextOf};
-ghost use Rattle.jh_env.specs.TextFaults.{RefusesText};
+ghost use Rattle.jh_env.specs.TextErrors.{RefusesText};
 ghost use Rattle.jh_env.specs.TextWritten.{text_of};
 
 mod entries;
@@ -79,9 +79,9 @@ impl<T: Drop> From<AllocFailed<T>> for EnvTextError {
 }
 
 impl From<NodesError> for EnvTextError {
-    ghost use Rattle.jh_env.specs.TextInside.{nodes_fault};
+    ghost use Rattle.jh_env.specs.TextInside.{nodes_error};
 
-    ghost from_gives = { λ error e. e ≡ nodes_fault error };
+    ghost from_gives = { λ error e. e ≡ nodes_error error };
 
     fn from(error: NodesError) -> EnvTextError {
         match error {
@@ -95,9 +95,9 @@ impl From<NodesError> for EnvTextError {
 }
 
 impl From<StartError> for EnvTextError {
-    ghost use Rattle.jh_env.specs.TextInside.{cell_fault};
+    ghost use Rattle.jh_env.specs.TextInside.{cell_error};
 
-    ghost from_gives = { λ error e. e ≡ cell_fault error };
+    ghost from_gives = { λ error e. e ≡ cell_error error };
 
     fn from(error: StartError) -> EnvTextError {
         match error {
@@ -112,7 +112,7 @@ impl From<StartError> for EnvTextError {
 ///
 /// Errors, in this order: `NotMap`; `UnknownKey` for a key that is none of the six; `MissingNodes`; `BadEntry`
 /// where a value under a key has not its shape; `NoNodes`, `TooManyNodes`, `BadName`, `DuplicateName` as
-/// `Nodes::of` has them; then for the first entry at fault, in the order of the keys, `UnknownNode`, `SelfLink`,
+/// `Nodes::of` has them; then for the first entry in error, in the order of the keys, `UnknownNode`, `SelfLink`,
 /// `BadAmount` or `RepeatedEntry`. `OutOfMemory` where memory was refused before another error was found.
 /// Of a key that a map made by hand holds twice, the first counts.
 ///

@@ -3,8 +3,8 @@ use Rattle.std.proofs.Common.{◌≡◌, ℕ, ◌⊎◌, List, [], ◌∷◌, �
 use Rattle.std.proofs.lemmas.List.{append-nil, length-append}
 use Rattle.std.specs.Str.{IsUtf8}
 use Rattle.jh_edn.specs.Edn.{Edn}
-use Rattle.jh_edn.specs.Reading.{Reached, FirstFault}
-use Rattle.jh_edn.specs.Refused.{RefusesText, IsFirstFault}
+use Rattle.jh_edn.specs.Reading.{Reached, FirstError}
+use Rattle.jh_edn.specs.Refused.{RefusesText, IsFirstError}
 use Rattle.jh_edn.specs.Spelling.{IsGap, NothingReads, Reads}
 use Rattle.jh_edn.specs.declared.error.EdnError.{EdnError}
 use Rattle.jh_edn.specs.declared.error.EdnError.TheVariants.{OutOfMemory}
@@ -37,15 +37,15 @@ one_further text values at value end begun reads =
     }
 
 -- an error of the text behind them is the text's
-pub text_refused : (text : List ℕ) (values : List Edn) (at : ℕ) (error : EdnError) → IsUtf8 text → Begins text values at → (error ≡ OutOfMemory) ⊎ NothingReads text at → (error ≡ OutOfMemory) ⊎ FirstFault text at error
+pub text_refused : (text : List ℕ) (values : List Edn) (at : ℕ) (error : EdnError) → IsUtf8 text → Begins text values at → (error ≡ OutOfMemory) ⊎ NothingReads text at → (error ≡ OutOfMemory) ⊎ FirstError text at error
     → RefusesHistoryOf text (Text error)
 text_refused text values at error utf8 begun why first =
-    let memory : (error ≡ OutOfMemory) → RefusesText text error × IsFirstFault text error = λ is. subst (λ (e : EdnError). RefusesText text e × IsFirstFault text e) (sym is) (tt, tt) in
+    let memory : (error ≡ OutOfMemory) → RefusesText text error × IsFirstError text error = λ is. subst (λ (e : EdnError). RefusesText text e × IsFirstError text e) (sym is) (tt, tt) in
     elim why [
       | inl is ↦ memory is
       | inr nothing ↦ elim first [
         | inl is ↦ memory is
-        | inr fault ↦ (refuses text at error (spells_nothing values text at utf8 begun.behind nothing) fault, first_behind text at error begun.reached fault)
+        | inr found ↦ (refuses text at error (spells_nothing values text at utf8 begun.behind nothing) found, first_behind text at error begun.reached found)
       ]
     ]
 

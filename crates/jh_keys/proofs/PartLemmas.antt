@@ -6,7 +6,7 @@ use Rattle.std.proofs.lemmas.List.Elements.{All-nil, All-cons}
 use Rattle.jh_edn.specs.Edn.{Edn}
 use Rattle.jh_ops.specs.Operation.{Operation}
 use Rattle.jh_check.specs.declared.error.CheckError.{CheckError}
-use Rattle.jh_check.specs.declared.error.CheckError.TheVariants as fault
+use Rattle.jh_check.specs.declared.error.CheckError.TheVariants as check_errors
 use Rattle.jh_keys.specs.Findings.{RefusesHistory}
 use Rattle.jh_keys.specs.Keys.{has_key, history_of, places_of, without_key}
 use Rattle.jh_keys.specs.PartsInside.{op_at, told_of}
@@ -49,7 +49,7 @@ part_is key ops = parts_from key ops 0 ops (λ i. let e : 0 + i ≡ i = omega ar
 
 -- an error of a key's checker is why the key was not judged
 pub key_refused : (asked : Question) (key : Edn) (inner : CheckError) → RefusesHistory asked.judging.workload (history_of key asked.history) inner → RefusesKey asked key (told_of (places_of key asked.history) inner)
-key_refused asked key (fault.Pair error) h = (fault.Pair error, h, (λ e. cc), refl)
-key_refused asked key (fault.BadValue place) h = (fault.BadValue place, h, (λ e. cc), refl)
-key_refused asked key (fault.NegativeAdd place) h = (fault.NegativeAdd place, h, (λ e. cc), refl)
-key_refused asked key fault.OutOfMemory h = tt
+key_refused asked key (check_errors.Pair error) h = (check_errors.Pair error, h, (λ e. cc), refl)
+key_refused asked key (check_errors.BadValue place) h = (check_errors.BadValue place, h, (λ e. cc), refl)
+key_refused asked key (check_errors.NegativeAdd place) h = (check_errors.NegativeAdd place, h, (λ e. cc), refl)
+key_refused asked key check_errors.OutOfMemory h = tt

@@ -69,14 +69,14 @@ verdict_of (Register judged) = verdict_of_register judged
 -- A history of a register is refused for its pairs, then for the bad value at the least place. Out of memory has a name
 -- of its own.
 abbrev pub RefusesRegister : List Operation → CheckError → Type 0
-RefusesRegister history (Pair fault) = (refusal_of fault ≡ Pair fault) × RefusesPairing history fault
+RefusesRegister history (Pair error) = (refusal_of error ≡ Pair error) × RefusesPairing history error
 RefusesRegister history (BadValue place) = IsWellFormed history × IsLeastBad history (pairs_of history) (Some place)
 RefusesRegister history (NegativeAdd place) = ⊥
 RefusesRegister history OutOfMemory = Unit {0}
 
 -- why the checker of a workload judges no history
 abbrev pub RefusesHistory : Workload → List Operation → CheckError → Type 0
-RefusesHistory Workload.Set history fault = RefusesSet history fault
-RefusesHistory Workload.Counter history fault = RefusesCounter history fault
-RefusesHistory Workload.Ids history fault = fault ≡ OutOfMemory
-RefusesHistory Workload.Register history fault = RefusesRegister history fault
+RefusesHistory Workload.Set history error = RefusesSet history error
+RefusesHistory Workload.Counter history error = RefusesCounter history error
+RefusesHistory Workload.Ids history error = error ≡ OutOfMemory
+RefusesHistory Workload.Register history error = RefusesRegister history error

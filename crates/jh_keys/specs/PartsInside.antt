@@ -5,8 +5,8 @@ use Rattle.jh_ops.specs.Operation.{Operation}
 use Rattle.jh_ops.specs.declared.operation.Kind.{Kind}
 use Rattle.jh_ops.specs.declared.operation.Process.{Process}
 use Rattle.jh_check.specs.declared.error.CheckError.{CheckError}
-use Rattle.jh_check.specs.declared.error.CheckError.TheVariants as fault
-use Rattle.jh_keys.specs.Refusals.{fault_in, pairing_in}
+use Rattle.jh_check.specs.declared.error.CheckError.TheVariants as check_errors
+use Rattle.jh_keys.specs.Refusals.{check_error_in, pairing_in}
 use Rattle.jh_keys.specs.declared.error.KeysError.{KeysError}
 use Rattle.jh_keys.specs.declared.error.KeysError.TheVariants.{Key, OutOfMemory}
 
@@ -19,7 +19,7 @@ op_at history place = slice_index_or history place no_op
 
 -- what is told of an error of a key's checker
 abbrev pub told_of : List ℕ → CheckError → KeysError
-told_of places (fault.Pair error) = Key (fault.Pair (pairing_in places error))
-told_of places (fault.BadValue place) = Key (fault_in places (fault.BadValue place))
-told_of places (fault.NegativeAdd place) = Key (fault_in places (fault.NegativeAdd place))
-told_of places fault.OutOfMemory = OutOfMemory
+told_of places (check_errors.Pair error) = Key (check_errors.Pair (pairing_in places error))
+told_of places (check_errors.BadValue place) = Key (check_error_in places (check_errors.BadValue place))
+told_of places (check_errors.NegativeAdd place) = Key (check_error_in places (check_errors.NegativeAdd place))
+told_of places check_errors.OutOfMemory = OutOfMemory

@@ -7,7 +7,7 @@ use Rattle.jh_ops.specs.Operation.{Operation}
 use Rattle.jh_ops.specs.declared.pairs.PairError.{PairError}
 use Rattle.jh_ops.specs.declared.pairs.PairError.TheVariants as pairing
 use Rattle.jh_check.specs.declared.error.CheckError.{CheckError}
-use Rattle.jh_check.specs.declared.error.CheckError.TheVariants as fault
+use Rattle.jh_check.specs.declared.error.CheckError.TheVariants as check_errors
 use Rattle.jh_keys.specs.Findings.{Found, IsFinding, RefusesHistory}
 use Rattle.jh_keys.specs.Keys.{AreTuples, IsFirstBad, history_of, keys_of, places_of}
 use Rattle.jh_keys.specs.declared.error.KeysError.{KeysError}
@@ -35,29 +35,29 @@ pub record AreFindings (asked : Question) (found : List KeyFinding) : Type 0 whe
 
 -- ---- refusals
 
--- a fault, told at the place in the whole history instead of that in the history of a key
+-- an error, told at the place in the whole history instead of that in the history of a key
 abbrev pub pairing_in : List ℕ → PairError → PairError
 pairing_in places (pairing.AfterCrash place) = pairing.AfterCrash (slice_index_or places place 0)
 pairing_in places (pairing.DoubleInvoke place) = pairing.DoubleInvoke (slice_index_or places place 0)
 pairing_in places (pairing.NoInvoke place) = pairing.NoInvoke (slice_index_or places place 0)
 pairing_in places pairing.OutOfMemory = pairing.OutOfMemory
 
-abbrev pub fault_in : List ℕ → CheckError → CheckError
-fault_in places (fault.Pair error) = fault.Pair (pairing_in places error)
-fault_in places (fault.BadValue place) = fault.BadValue (slice_index_or places place 0)
-fault_in places (fault.NegativeAdd place) = fault.NegativeAdd (slice_index_or places place 0)
-fault_in places fault.OutOfMemory = fault.OutOfMemory
+abbrev pub check_error_in : List ℕ → CheckError → CheckError
+check_error_in places (check_errors.Pair error) = check_errors.Pair (pairing_in places error)
+check_error_in places (check_errors.BadValue place) = check_errors.BadValue (slice_index_or places place 0)
+check_error_in places (check_errors.NegativeAdd place) = check_errors.NegativeAdd (slice_index_or places place 0)
+check_error_in places check_errors.OutOfMemory = check_errors.OutOfMemory
 
 -- the history of a key is refused, and this is told
-abbrev pub IsFaultOf : Question → Edn → CheckError → Type 0
-IsFaultOf asked key told =
+abbrev pub IsErrorOf : Question → Edn → CheckError → Type 0
+IsErrorOf asked key told =
     (inner : CheckError) × RefusesHistory asked.judging.workload (history_of key asked.history) inner
-    × (inner ≢ fault.OutOfMemory) × (told ≡ fault_in (places_of key asked.history) inner)
+    × (inner ≢ check_errors.OutOfMemory) × (told ≡ check_error_in (places_of key asked.history) inner)
 
 -- Why a key was not judged: its history is refused, its thread was not let in, or memory ran out.
 abbrev pub RefusesKey : Question → Edn → KeysError → Type 0
 RefusesKey asked key (BadValue place) = ⊥
-RefusesKey asked key (Key told) = IsFaultOf asked key told
+RefusesKey asked key (Key told) = IsErrorOf asked key told
 RefusesKey asked key Thread = Unit {0}
 RefusesKey asked key OutOfMemory = Unit {0}
 
@@ -72,6 +72,6 @@ abbrev pub RefusesKeys : Question → KeysError → Type 0
 RefusesKeys asked (BadValue place) = IsFirstBad asked.history place
 RefusesKeys asked (Key told) =
     AreTuples asked.history × ((place : ℕ) × (key : Edn) × (slice_get (keys_of asked.history) place ≡ Some key)
-    × AreFoundBefore asked place × IsFaultOf asked key told)
+    × AreFoundBefore asked place × IsErrorOf asked key told)
 RefusesKeys asked Thread = AreTuples asked.history
 RefusesKeys asked OutOfMemory = AreTuples asked.history

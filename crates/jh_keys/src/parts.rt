@@ -1,5 +1,5 @@
 //! The history of one key, and what its checker finds. `specs/Keys.antt` says what is left of an operation,
-//! `specs/Refusals.antt` how a fault is told.
+//! `specs/Refusals.antt` how an error is told.
 
 ghost use Rattle.std.specs.Prelude.{◌≡◌, ◌<◌, All, IfOk, IsErrOf, MatchResult, length, map, slice_index_or};
 ghost use Rattle.jh_edn.specs.View.{view};
@@ -66,12 +66,12 @@ fn pairing_in(places: &[usize], error: PairError) -> PairError
     }
 }
 
-/// A fault of a key's history, told at its place in the whole one.
+/// An error of a key's history, told at its place in the whole one.
 fn error_in(places: &[usize], error: CheckError) -> KeysError
     ensures { result ≡ told_of places.now error }
 {
     match error {
-        CheckError::Pair(fault) => KeysError::Key(CheckError::Pair(pairing_in(places, fault))),
+        CheckError::Pair(pairing) => KeysError::Key(CheckError::Pair(pairing_in(places, pairing))),
         CheckError::BadValue(place) => {
             KeysError::Key(CheckError::BadValue(place_in(places, place)))
         }

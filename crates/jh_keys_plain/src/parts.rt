@@ -82,7 +82,7 @@ fn register_answer(alloc: Global, budget: u64, history: &str) -> Option<String> 
     }
 }
 
-/// A history of a register. Now and then its first operation is missing, so that it may be at fault.
+/// A history of a register. Now and then its first operation is missing, so that it may be in error.
 fn random_register(alloc: Global, dice: &mut Dice, budget: u64) -> Option<Case> {
     let most = dice.below(6) + 1;
     let whole = random_history(alloc, dice, most).ok()?;

@@ -6,9 +6,9 @@
 #![tactic(auto)]
 
 #[cfg(test)]
-mod explained;
+mod errors;
 #[cfg(test)]
-mod faults;
+mod explained;
 #[cfg(test)]
 mod findings;
 #[cfg(test)]

@@ -1,11 +1,11 @@
--- A client's operations one by one: none is at fault exactly where they alternate.
+-- A client's operations one by one: none is in error exactly where they alternate.
 use Rattle.std.proofs.Common.{◌≡◌, ℕ, Bool, true, false, List, [], ◌∷◌, ◌++◌, Some, None, refl, sym, ap, subst, ◌∙◌}
 use Rattle.std.specs.Prelude.{◌||◌, cond, filter, fold, map}
 use Rattle.std.proofs.Math.Bool.{or-false}
 use Rattle.std.proofs.lemmas.List.{map-append, append-nil}
 use Rattle.std.proofs.lemmas.List.Elements.{filter-append}
 use Rattle.jh_ops.specs.Operation.{Operation}
-use Rattle.jh_ops.specs.Pairing.{is_client, kinds_of, Alternate, is_invoke, is_info, has_crashed, fault_after}
+use Rattle.jh_ops.specs.Pairing.{is_client, kinds_of, Alternate, is_invoke, is_info, has_crashed, pair_error_after}
 use Rattle.jh_ops.specs.declared.operation.Kind.{Kind}
 use Rattle.jh_ops.specs.declared.pairs.PairError.TheVariants.{AfterCrash, DoubleInvoke, NoInvoke}
 
@@ -41,13 +41,13 @@ or_shift false b c = refl
 abbrev pub waiting_after : Bool → List Kind → Bool
 waiting_after waiting kinds = fold (λ _ kind. is_invoke kind) waiting kinds
 
--- none of these is at fault, where the process has crashed before or not and has one outstanding or not
+-- none of these is in error, where the process has crashed before or not and has one outstanding or not
 abbrev pub Follows : Bool → Bool → List Kind → Type 0
 Follows crashed waiting [] = Unit {0}
-Follows crashed waiting (kind ∷ kinds) = ((place : ℕ) → fault_after crashed waiting kind place ≡ None) × Follows (crashed || is_info kind) (is_invoke kind) kinds
+Follows crashed waiting (kind ∷ kinds) = ((place : ℕ) → pair_error_after crashed waiting kind place ≡ None) × Follows (crashed || is_info kind) (is_invoke kind) kinds
 
--- a kind that is not at fault at one place is so at none
-pub any_place : (crashed waiting : Bool) (kind : Kind) (place : ℕ) → fault_after crashed waiting kind place ≡ None → (other : ℕ) → fault_after crashed waiting kind other ≡ None
+-- a kind that is not in error at one place is so at none
+pub any_place : (crashed waiting : Bool) (kind : Kind) (place : ℕ) → pair_error_after crashed waiting kind place ≡ None → (other : ℕ) → pair_error_after crashed waiting kind other ≡ None
 any_place true waiting kind place e other = cc
 any_place false true Kind.Invoke place e other = cc
 any_place false false Kind.Invoke place e other = refl
@@ -59,23 +59,23 @@ any_place false true Kind.Info place e other = refl
 any_place false false Kind.Info place e other = cc
 
 pub follows_push : (crashed waiting : Bool) (kinds : List Kind) (kind : Kind) → Follows crashed waiting kinds
-    → ((place : ℕ) → fault_after (crashed || has_crashed kinds) (waiting_after waiting kinds) kind place ≡ None) → Follows crashed waiting (kinds ++ kind ∷ [])
+    → ((place : ℕ) → pair_error_after (crashed || has_crashed kinds) (waiting_after waiting kinds) kind place ≡ None) → Follows crashed waiting (kinds ++ kind ∷ [])
 follows_push crashed waiting [] kind follows good =
-    ((λ place. ap (λ c. fault_after c waiting kind place) (sym (or-false crashed)) ∙ good place), tt)
+    ((λ place. ap (λ c. pair_error_after c waiting kind place) (sym (or-false crashed)) ∙ good place), tt)
 follows_push crashed waiting (k ∷ ks) kind follows good = (
   follows.0,
   follows_push (crashed || is_info k) (is_invoke k) ks kind follows.1
-      (λ place. ap (λ c. fault_after c (waiting_after (is_invoke k) ks) kind place) (or_shift crashed (is_info k) (has_crashed ks)) ∙ good place),
+      (λ place. ap (λ c. pair_error_after c (waiting_after (is_invoke k) ks) kind place) (or_shift crashed (is_info k) (has_crashed ks)) ∙ good place),
 )
 
 pub follows_at : (crashed waiting : Bool) (kinds : List Kind) (kind : Kind) (rest : List Kind) → Follows crashed waiting (kinds ++ kind ∷ rest)
-    → (place : ℕ) → fault_after (crashed || has_crashed kinds) (waiting_after waiting kinds) kind place ≡ None
-follows_at crashed waiting [] kind rest follows place = ap (λ c. fault_after c waiting kind place) (or-false crashed) ∙ follows.0 place
+    → (place : ℕ) → pair_error_after (crashed || has_crashed kinds) (waiting_after waiting kinds) kind place ≡ None
+follows_at crashed waiting [] kind rest follows place = ap (λ c. pair_error_after c waiting kind place) (or-false crashed) ∙ follows.0 place
 follows_at crashed waiting (k ∷ ks) kind rest follows place =
-    ap (λ c. fault_after c (waiting_after (is_invoke k) ks) kind place) (sym (or_shift crashed (is_info k) (has_crashed ks)))
+    ap (λ c. pair_error_after c (waiting_after (is_invoke k) ks) kind place) (sym (or_shift crashed (is_info k) (has_crashed ks)))
     ∙ follows_at (crashed || is_info k) (is_invoke k) ks kind rest follows.1 place
 
--- ---- no fault, and alternation
+-- ---- no error, and alternation
 
 nothing_follows : (kinds : List Kind) → Follows true false kinds → kinds ≡ []
 nothing_follows [] follows = refl

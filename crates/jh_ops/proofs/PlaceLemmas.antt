@@ -1,4 +1,4 @@
--- A history place by place: what one more operation adds, and what it means that none is at fault.
+-- A history place by place: what one more operation adds, and what it means that none is in error.
 use Rattle.std.proofs.Common.{◌≡◌, ℕ, zero, suc, ◌+◌, ◌<◌, ◌≤◌, false, List, [], ◌∷◌, ◌++◌, length, take, drop, get_or, Option, Some, None, Ok, Err, refl, sym, ap, subst, ◌∙◌, arith, drop-cons, is_eq}
 use Rattle.std.specs.Prelude.{slice_get, option_and_then, unwrap_or}
 use Rattle.std.specs.Ordering.{nat_cmp}
@@ -9,7 +9,7 @@ use Rattle.std.proofs.lemmas.List.{length-map, take-append-drop, take_more, take
 use Rattle.std.proofs.lemmas.Option.{slice_get_within, get_or_from_slice_get}
 use borrow.Author.Count.{below_more}
 use Rattle.jh_ops.specs.Operation.{Operation, operation, operations}
-use Rattle.jh_ops.specs.Pairing.{is_client, kinds_of, IsWellFormed, fault_of, fault_at, HasFault, RefusesHistory, pairs_of}
+use Rattle.jh_ops.specs.Pairing.{is_client, kinds_of, IsWellFormed, pair_error_of, pair_error_at, HasPairError, RefusesHistory, pairs_of}
 use Rattle.jh_ops.specs.Stage.{stage_after, pairs_after, pair_awaited}
 use Rattle.jh_ops.specs.declared.operation.Kind.{Kind}
 use Rattle.jh_ops.specs.declared.operation.Op.{Op}
@@ -29,8 +29,8 @@ op_at [] place op below same = absurd (omega arith)
 op_at (x ∷ xs) zero op below same = ap (λ o. Some (operation o)) (sym same)
 op_at (x ∷ xs) (suc place) op below same = op_at xs place op (omega arith) same
 
-fault_here : (ops : List Operation) (place : ℕ) (op : Operation) → slice_get ops place ≡ Some op → fault_at ops place ≡ fault_of op.process op.kind (take place ops) place
-fault_here ops place op at = ap (option_and_then (λ x. fault_of x.process x.kind (take place ops) place)) at
+error_here : (ops : List Operation) (place : ℕ) (op : Operation) → slice_get ops place ≡ Some op → pair_error_at ops place ≡ pair_error_of op.process op.kind (take place ops) place
+error_here ops place op at = ap (option_and_then (λ x. pair_error_of x.process x.kind (take place ops) place)) at
 
 one_more : (ops : List Operation) (place : ℕ) (op : Operation) → slice_get ops place ≡ Some op → take (place + 1) ops ≡ take place ops ++ op ∷ []
 one_more ops place op at =
@@ -41,31 +41,31 @@ before_place ops place op at = let within = slice_get_within ops place op at in 
 
 -- ---- the loop
 
--- nothing is at fault up to a place, and the stages and pairs tell of the operations before it
+-- nothing is in error up to a place, and the stages and pairs tell of the operations before it
 pub record Stands (stages : ℕ → Stage) (pairs : List Pair) (history : List Operation) (place : ℕ) : Type 0 where
   pub tells : Tells stages pairs (take place history)
-  pub sound : (earlier : ℕ) → earlier < place → fault_at history earlier ≡ None
+  pub sound : (earlier : ℕ) → earlier < place → pair_error_at history earlier ≡ None
 
 pub stands_skip : (stages : ℕ → Stage) (pairs : List Pair) (history : List Op) (place : ℕ) (op : Op) → place < length history → op ≡ get_or history place op
     → op.process ≡ Process.Nemesis → Stands stages pairs (operations history) place → Stands stages pairs (operations history) (place + 1)
 stands_skip stages pairs history place op below same nemesis stands =
     let at = op_at history place op below same in
     let more = one_more (operations history) place (operation op) at in
-    let fault = fault_here (operations history) place (operation op) at in
+    let error = error_here (operations history) place (operation op) at in
     record {
       tells = subst (λ (ops : List Operation). Tells stages pairs ops) (sym more) (tells_skip stages pairs (take place (operations history)) (operation op) nemesis stands.tells);
-      sound = below_more (λ (k : ℕ). fault_at (operations history) k ≡ None) place stands.sound (fault ∙ ap (λ p. fault_of p op.kind (take place (operations history)) place) nemesis);
+      sound = below_more (λ (k : ℕ). pair_error_at (operations history) k ≡ None) place stands.sound (error ∙ ap (λ p. pair_error_of p op.kind (take place (operations history)) place) nemesis);
     }
 
--- an operation that its client's stage takes is not at fault
+-- an operation that its client's stage takes is not in error
 pub sound_here : (stages : ℕ → Stage) (pairs : List Pair) (history : List Op) (place : ℕ) (op : Op) (client opened : ℕ) (next : Stage) → place < length history → op ≡ get_or history place op
     → op.process ≡ Process.Client client → Stands stages pairs (operations history) place → stage_after (stages client) op.kind place opened ≡ Ok next
-    → (earlier : ℕ) → earlier < place + 1 → fault_at (operations history) earlier ≡ None
+    → (earlier : ℕ) → earlier < place + 1 → pair_error_at (operations history) earlier ≡ None
 sound_here stages pairs history place op client opened next below same own stands step =
     let at = op_at history place op below same in
-    let fault = fault_here (operations history) place (operation op) at in
-    below_more (λ (k : ℕ). fault_at (operations history) k ≡ None) place stands.sound
-    (fault ∙ ap (λ p. fault_of p op.kind (take place (operations history)) place) own
+    let error = error_here (operations history) place (operation op) at in
+    below_more (λ (k : ℕ). pair_error_at (operations history) k ≡ None) place stands.sound
+    (error ∙ ap (λ p. pair_error_of p op.kind (take place (operations history)) place) own
     ∙ taken stages pairs (take place (operations history)) op.kind client place opened next stands.tells step)
 
 pub stands_more : (stages stages' : ℕ → Stage) (pairs pairs' : List Pair) (history : List Op) (place : ℕ) (op : Op) (client : ℕ) (next : Stage) → place < length history → op ≡ get_or history place op
@@ -83,15 +83,15 @@ stands_more stages stages' pairs pairs' history place op client next below same 
       sound = sound_here stages pairs history place op client (length pairs) next below same own stands step;
     }
 
--- what a stage refuses is the first fault
-pub first_fault : (stages : ℕ → Stage) (pairs : List Pair) (history : List Op) (place : ℕ) (op : Op) (client opened : ℕ) (e : PairError) → place < length history → op ≡ get_or history place op
+-- what a stage refuses is the first error
+pub first_error : (stages : ℕ → Stage) (pairs : List Pair) (history : List Op) (place : ℕ) (op : Op) (client opened : ℕ) (e : PairError) → place < length history → op ≡ get_or history place op
     → op.process ≡ Process.Client client → Stands stages pairs (operations history) place → stage_after (stages client) op.kind place opened ≡ Err e
-    → HasFault (operations history) e
-first_fault stages pairs history place op client opened e below same own stands step =
+    → HasPairError (operations history) e
+first_error stages pairs history place op client opened e below same own stands step =
     let at = op_at history place op below same in
-    let fault = fault_here (operations history) place (operation op) at in (
+    let error = error_here (operations history) place (operation op) at in (
       place,
-      fault ∙ ap (λ p. fault_of p op.kind (take place (operations history)) place) own
+      error ∙ ap (λ p. pair_error_of p op.kind (take place (operations history)) place) own
           ∙ refused stages pairs (take place (operations history)) op.kind client place opened e stands.tells step,
       stands.sound,
     )
@@ -107,7 +107,7 @@ stands_end stages pairs history place end stands =
     ((λ client. (alternate (kinds_of client (operations history))).0 (tells.sound client)), pairs_told stages pairs (operations history) tells)
 
 never_for : (history : List Operation) (place : ℕ) (op : Operation) (process : Process) → IsWellFormed history → slice_get history place ≡ Some op → op.process ≡ process
-    → fault_of process op.kind (take place history) place ≡ None
+    → pair_error_of process op.kind (take place history) place ≡ None
 never_for history place op Process.Nemesis good at own = refl
 never_for history place op (Process.Client client) good at own =
     let within = slice_get_within history place op at in
@@ -120,17 +120,17 @@ never_for history place op (Process.Client client) good at own =
     follows_at false false (kinds_of client (take place history)) op.kind (kinds_of client (drop (suc place) history))
     (subst (λ (ks : List Kind). Follows false false ks) kinds ((follows (kinds_of client history)).0 (good client))) place
 
-never_from : (history : List Operation) (place : ℕ) (o : Option Operation) → IsWellFormed history → slice_get history place ≡ o → fault_at history place ≡ None
-never_from history place None good at = ap (option_and_then (λ x. fault_of x.process x.kind (take place history) place)) at
-never_from history place (Some op) good at = fault_here history place op at ∙ never_for history place op op.process good at refl
+never_from : (history : List Operation) (place : ℕ) (o : Option Operation) → IsWellFormed history → slice_get history place ≡ o → pair_error_at history place ≡ None
+never_from history place None good at = ap (option_and_then (λ x. pair_error_of x.process x.kind (take place history) place)) at
+never_from history place (Some op) good at = error_here history place op at ∙ never_for history place op op.process good at refl
 
--- no operation of a well-formed history is at fault
-pub never_at_fault : (history : List Operation) → IsWellFormed history → (place : ℕ) → fault_at history place ≡ None
-never_at_fault history good place = never_from history place (slice_get history place) good refl
+-- no operation of a well-formed history is in error
+pub never_in_error : (history : List Operation) → IsWellFormed history → (place : ℕ) → pair_error_at history place ≡ None
+never_in_error history good place = never_from history place (slice_get history place) good refl
 
--- so a history with a fault is not well formed
-pub not_well_formed : (history : List Operation) (e : PairError) → HasFault history e → IsWellFormed history → ⊥
-not_well_formed history e has good = let none = never_at_fault history good has.0 in let some = has.1 in cc
+-- so a history with an error is not well formed
+pub not_well_formed : (history : List Operation) (e : PairError) → HasPairError history e → IsWellFormed history → ⊥
+not_well_formed history e has good = let none = never_in_error history good has.0 in let some = has.1 in cc
 
 -- ---- refusals
 
@@ -146,8 +146,8 @@ never_memory (Waiting at) Kind.Ok place opened step = cc
 never_memory (Waiting at) Kind.Fail place opened step = cc
 never_memory (Waiting at) Kind.Info place opened step = cc
 
--- a fault is why the history is refused
-pub refuses : (history : List Operation) (stage : Stage) (kind : Kind) (place opened : ℕ) (e : PairError) → stage_after stage kind place opened ≡ Err e → HasFault history e → RefusesHistory history e
+-- an error is why the history is refused
+pub refuses : (history : List Operation) (stage : Stage) (kind : Kind) (place opened : ℕ) (e : PairError) → stage_after stage kind place opened ≡ Err e → HasPairError history e → RefusesHistory history e
 refuses history stage kind place opened (AfterCrash at) step has = has
 refuses history stage kind place opened (DoubleInvoke at) step has = has
 refuses history stage kind place opened (NoInvoke at) step has = has

@@ -7,7 +7,7 @@ use Rattle.std.proofs.lemmas.List.Folds.{list_any-append}
 use Rattle.std.proofs.lemmas.List.Sums.{fold_push}
 use Rattle.std.proofs.Math.Bool.{or-false}
 use Rattle.jh_ops.specs.Operation.{Operation}
-use Rattle.jh_ops.specs.Pairing.{is_client, kinds_of, is_invoke, is_info, has_crashed, is_waiting, fault_after, fault_of, pairs_of}
+use Rattle.jh_ops.specs.Pairing.{is_client, kinds_of, is_invoke, is_info, has_crashed, is_waiting, pair_error_after, pair_error_of, pairs_of}
 use Rattle.jh_ops.specs.Stage.{stage_after, pairs_after}
 use Rattle.jh_ops.specs.declared.operation.Kind.{Kind}
 use Rattle.jh_ops.specs.declared.operation.Process.{Process}
@@ -31,10 +31,10 @@ abbrev pub awaits : Stage → ℕ → Bool
 awaits (Waiting at) place = same_place at place
 awaits _ place = false
 
--- what a stage refuses is at fault, and what it takes is not
+-- what a stage refuses is in error, and what it takes is not
 pub judged : (stage : Stage) (kind : Kind) (place opened : ℕ) → MatchResult (stage_after stage kind place opened)
-    (λ next. (fault_after (crashed_at stage) (waiting_at stage) kind place ≡ None) × (crashed_at next ≡ (crashed_at stage || is_info kind)) × (waiting_at next ≡ is_invoke kind))
-    (λ e. fault_after (crashed_at stage) (waiting_at stage) kind place ≡ Some e)
+    (λ next. (pair_error_after (crashed_at stage) (waiting_at stage) kind place ≡ None) × (crashed_at next ≡ (crashed_at stage || is_info kind)) × (waiting_at next ≡ is_invoke kind))
+    (λ e. pair_error_after (crashed_at stage) (waiting_at stage) kind place ≡ Some e)
 judged Crashed kind place opened = refl
 judged Idle Kind.Invoke place opened = (refl, refl, refl)
 judged Idle Kind.Ok place opened = refl
@@ -90,7 +90,7 @@ advances (Waiting at) Kind.Info client place claims h = completes Kind.Info clie
 
 -- ---- over a whole history
 
--- what is kept, the stage of each client and the pairs, tells of these operations, none of which is at fault
+-- what is kept, the stage of each client and the pairs, tells of these operations, none of which is in error
 pub record Tells (stages : ℕ → Stage) (pairs : List Pair) (done : List Operation) : Type 0 where
   pub crashed : (client : ℕ) → crashed_at (stages client) ≡ has_crashed (kinds_of client done)
   pub waiting : (client : ℕ) → waiting_at (stages client) ≡ is_waiting (kinds_of client done)
@@ -126,21 +126,21 @@ tells_skip stages pairs done op nemesis tells =
     }
 
 -- what an operation of a client at the next place is judged by
-pub fault_told : (stages : ℕ → Stage) (pairs : List Pair) (done : List Operation) (kind : Kind) (client place : ℕ) → Tells stages pairs done
-    → fault_of (Process.Client client) kind done place ≡ fault_after (crashed_at (stages client)) (waiting_at (stages client)) kind place
-fault_told stages pairs done kind client place tells =
-    ap (λ c. fault_after c (is_waiting (kinds_of client done)) kind place) (sym (tells.crashed client))
-    ∙ ap (λ w. fault_after (crashed_at (stages client)) w kind place) (sym (tells.waiting client))
+pub error_told : (stages : ℕ → Stage) (pairs : List Pair) (done : List Operation) (kind : Kind) (client place : ℕ) → Tells stages pairs done
+    → pair_error_of (Process.Client client) kind done place ≡ pair_error_after (crashed_at (stages client)) (waiting_at (stages client)) kind place
+error_told stages pairs done kind client place tells =
+    ap (λ c. pair_error_after c (is_waiting (kinds_of client done)) kind place) (sym (tells.crashed client))
+    ∙ ap (λ w. pair_error_after (crashed_at (stages client)) w kind place) (sym (tells.waiting client))
 
 pub refused : (stages : ℕ → Stage) (pairs : List Pair) (done : List Operation) (kind : Kind) (client place opened : ℕ) (e : PairError) → Tells stages pairs done
-    → stage_after (stages client) kind place opened ≡ Err e → fault_of (Process.Client client) kind done place ≡ Some e
+    → stage_after (stages client) kind place opened ≡ Err e → pair_error_of (Process.Client client) kind done place ≡ Some e
 refused stages pairs done kind client place opened e tells step =
-    fault_told stages pairs done kind client place tells ∙ (rw step at (judged (stages client) kind place opened))
+    error_told stages pairs done kind client place tells ∙ (rw step at (judged (stages client) kind place opened))
 
 pub taken : (stages : ℕ → Stage) (pairs : List Pair) (done : List Operation) (kind : Kind) (client place opened : ℕ) (next : Stage) → Tells stages pairs done
-    → stage_after (stages client) kind place opened ≡ Ok next → fault_of (Process.Client client) kind done place ≡ None
+    → stage_after (stages client) kind place opened ≡ Ok next → pair_error_of (Process.Client client) kind done place ≡ None
 taken stages pairs done kind client place opened next tells step =
-    fault_told stages pairs done kind client place tells ∙ (rw step at (judged (stages client) kind place opened)).0
+    error_told stages pairs done kind client place tells ∙ (rw step at (judged (stages client) kind place opened)).0
 
 -- the pair that a stage awaits is there
 pub awaited_within : (stages : ℕ → Stage) (pairs : List Pair) (done : List Operation) (client at : ℕ) → Tells stages pairs done → stages client ≡ Waiting at → at < length pairs
@@ -180,7 +180,7 @@ tells_more stages stages' pairs pairs' done op client next own tells step here a
     let kinds : kinds_of client (done ++ op ∷ []) ≡ ks ++ op.kind ∷ [] = kinds_push-own client done op (is_own client op own) in
     let others : (other : ℕ) → (client ≡ other → ⊥) → kinds_of other (done ++ op ∷ []) ≡ kinds_of other done =
     λ other ne. kinds_push-other other done op (is_other client other op own ne) in
-    let fault : (p : ℕ) → fault_after (has_crashed ks) (is_waiting ks) op.kind p ≡ None =
+    let error : (p : ℕ) → pair_error_after (has_crashed ks) (is_waiting ks) op.kind p ≡ None =
     any_place (has_crashed ks) (is_waiting ks) op.kind place (taken stages pairs done op.kind client place (length pairs) next tells step) in
     record {
       crashed = λ q. elim (cases_eq client q) [
@@ -201,7 +201,7 @@ tells_more stages stages' pairs pairs' done op client next own tells step here a
       claimed = noted ∙ ap (pairs_after (stages client) place) tells.claimed ∙ sym moved.pairs ∙ ap pairs_in (sym claims);
       sound = λ q. elim (cases_eq client q) [
         | inl e ↦ subst (λ (x : ℕ). Follows false false (kinds_of x (done ++ op ∷ []))) e
-            (subst (λ (x : List Kind). Follows false false x) (sym kinds) (follows_push false false ks op.kind (tells.sound client) fault))
+            (subst (λ (x : List Kind). Follows false false x) (sym kinds) (follows_push false false ks op.kind (tells.sound client) error))
         | inr ne ↦ subst (λ (x : List Kind). Follows false false x) (sym (others q ne)) (tells.sound q)
       ];
     }

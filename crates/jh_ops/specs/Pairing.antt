@@ -71,27 +71,27 @@ abbrev pub is_waiting : List Kind → Bool
 is_waiting kinds = fold (λ _ kind. is_invoke kind) false kinds
 
 -- what is wrong with an operation at a place, where its process crashed before or not, and has one outstanding or not
-abbrev pub fault_after : Bool → Bool → Kind → ℕ → Option PairError
-fault_after crashed waiting kind place =
+abbrev pub pair_error_after : Bool → Bool → Kind → ℕ → Option PairError
+pair_error_after crashed waiting kind place =
     if crashed then Some (AfterCrash place)
     else if is_invoke kind && waiting then Some (DoubleInvoke place)
     else if not (is_invoke kind) && not waiting then Some (NoInvoke place)
     else None
 
 -- what is wrong with an operation at a place, after all those before it
-abbrev pub fault_of : Process → Kind → List Operation → ℕ → Option PairError
-fault_of (Process.Client client) kind before place = fault_after (has_crashed (kinds_of client before)) (is_waiting (kinds_of client before)) kind place
-fault_of Process.Nemesis kind before place = None
+abbrev pub pair_error_of : Process → Kind → List Operation → ℕ → Option PairError
+pair_error_of (Process.Client client) kind before place = pair_error_after (has_crashed (kinds_of client before)) (is_waiting (kinds_of client before)) kind place
+pair_error_of Process.Nemesis kind before place = None
 
 -- what is wrong with the operation at a place of a history
-abbrev pub fault_at : List Operation → ℕ → Option PairError
-fault_at history place = option_and_then (λ op. fault_of op.process op.kind (take place history) place) (slice_get history place)
+abbrev pub pair_error_at : List Operation → ℕ → Option PairError
+pair_error_at history place = option_and_then (λ op. pair_error_of op.process op.kind (take place history) place) (slice_get history place)
 
--- the first operation at fault has this fault
-abbrev pub HasFault : List Operation → PairError → Type 0
-HasFault history fault = (place : ℕ) × (fault_at history place ≡ Some fault) × ((earlier : ℕ) → earlier < place → fault_at history earlier ≡ None)
+-- the first operation in error has this error
+abbrev pub HasPairError : List Operation → PairError → Type 0
+HasPairError history error = (place : ℕ) × (pair_error_at history place ≡ Some error) × ((earlier : ℕ) → earlier < place → pair_error_at history earlier ≡ None)
 
 -- Why a history is refused. Memory can be wanted at an operation only where nothing is wrong up to it.
 abbrev pub RefusesHistory : List Operation → PairError → Type 0
-RefusesHistory history OutOfMemory = (place : ℕ) × (place < length history) × ((earlier : ℕ) → earlier ≤ place → fault_at history earlier ≡ None)
-RefusesHistory history fault = HasFault history fault
+RefusesHistory history OutOfMemory = (place : ℕ) × (place < length history) × ((earlier : ℕ) → earlier ≤ place → pair_error_at history earlier ≡ None)
+RefusesHistory history error = HasPairError history error

@@ -59,9 +59,9 @@ fn record_pair(pairs: &mut Vec<Pair>, stage: Stage, place: usize) -> Result<(), 
 /// The pairs of a history's client operations, in order of invocation, by their places in the
 /// whole history. What the nemesis did is skipped wherever it stands.
 ///
-/// Errors: that of the first operation at fault, and of one at fault in several ways `AfterCrash`
+/// Errors: that of the first operation in error, and of one in error in several ways `AfterCrash`
 /// before `DoubleInvoke` before `NoInvoke`; `OutOfMemory` at an operation where none up to it is
-/// at fault.
+/// in error.
 ///
 /// Takes one pass, O(n log n) for n operations, whatever the number of processes.
 pub fn pair(alloc: Global, history: &[Op]) -> Result<Vec<Pair>, PairError>

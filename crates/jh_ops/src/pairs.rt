@@ -14,7 +14,7 @@ pub struct Pair {
     pub outcome: Option<usize>,
 }
 
-/// Why a history has no pairs, with the place of the operation at fault, from 0.
+/// Why a history has no pairs, with the place of the operation in error, from 0.
 #[derive(Clone, Copy, Debug, PartialEq, Eq, Error)]
 pub enum PairError {
     /// An operation of a process behind its `:info`.

@@ -33,7 +33,7 @@ fn next_of(steps: &[Step], process: Process, place: usize) -> Option<usize> {
 }
 
 /// What is wrong with an operation of a client whose process did these before.
-fn fault(before: &[Kind], kind: Kind, place: usize) -> Option<PairError> {
+fn error_of(before: &[Kind], kind: Kind, place: usize) -> Option<PairError> {
     let is_waiting = before.last() == Some(&Kind::Invoke);
     if before.contains(&Kind::Info) {
         Some(PairError::AfterCrash(place))
@@ -54,7 +54,7 @@ pub fn pairs_slowly(alloc: Global, steps: &[Step]) -> Result<Vec<Pair>, PairErro
             continue;
         }
         let before = kinds_before(alloc, steps, *process, place)?;
-        if let Some(error) = fault(&before, *kind, place) {
+        if let Some(error) = error_of(&before, *kind, place) {
             return Err(error);
         }
         if *kind == Kind::Invoke {

@@ -11,7 +11,7 @@ use Rattle.jh_ops.specs.declared.call.Request.TheVariants.{Read, Write, Cas, Add
 use Rattle.jh_ops.specs.declared.call.Workload.{Workload}
 use Rattle.jh_ops.specs.declared.call.Workload.TheVariants.{Register, Counter, Set, Ids}
 use Rattle.jh_ops.specs.declared.pairs.Pair.{Pair}
-use Rattle.jh_check.specs.CounterResults.{call_fault, faults_in, IsFirst, RefusesCounter}
+use Rattle.jh_check.specs.CounterResults.{call_error, errors_in, IsFirst, RefusesCounter}
 use Rattle.jh_check.specs.declared.error.CheckError.{CheckError}
 use Rattle.jh_gen.specs.Suits.{is_call_for}
 use Rattle.jh_simnode.specs.declared.copies.Got.{Got}
@@ -22,11 +22,11 @@ use Rattle.jh_simnode.specs.Histories.{completed, history_of, invoked}
 use Rattle.jh_run_laws.specs.OwnHistory.{CallsFit, RepliesFit, ReplyFits}
 use Rattle.jh_run_laws.proofs.PairLemmas.{Each, FromCall, each_pair, pair_at}
 
--- the call at a place is not at fault
-abbrev NoFault : List Operation → Pair → Type 0
-NoFault history pair = call_fault history pair ≡ None
+-- the call at a place is not in error
+abbrev NoError : List Operation → Pair → Type 0
+NoError history pair = call_error history pair ≡ None
 
-counted : FromCall Counter NoFault
+counted : FromCall Counter NoError
 counted history place number process Read (said.Ok (Got.One (Some z))) here there suits fits = rw (here, there) refl
 counted history place number process Read (said.Ok (Got.One None)) here there suits fits = absurd fits
 counted history place number process Read (said.Ok (Got.Many xs)) here there suits fits = absurd fits
@@ -39,14 +39,14 @@ counted history place number process (Add (pos n)) reply here there suits fits =
 counted history place number process (Add (negsuc n)) reply here there suits fits = absurd cc
 counted history place number process Generate reply here there suits fits = absurd cc
 
-none_in : (history : List Operation) (pairs : List Pair) → Each (NoFault history) pairs → faults_in history pairs ≡ []
+none_in : (history : List Operation) (pairs : List Pair) → Each (NoError history) pairs → errors_in history pairs ≡ []
 none_in history [] h = refl
 none_in history (p ∷ ps) h = rw h.0 (none_in history ps h.1)
 
 not_there : {X : Type 0} (x : X) → Contains [] x → ⊥
 not_there x h = absurd (omega (arith, h.1))
 
-pub no_fault : (c : ℕ) (journal : List Event) → CallsFit Counter c [] journal → RepliesFit Counter journal → (fault : CheckError) → IsFirst fault (faults_in (history_of journal) (pairs_of (history_of journal))) → ⊥
-no_fault c journal a b fault first =
-    let none = none_in (history_of journal) (pairs_of (history_of journal)) (each_pair Counter NoFault counted c journal a b) in
-    not_there fault (subst (λ (faults : List CheckError). Contains faults fault) none first.0)
+pub no_error : (c : ℕ) (journal : List Event) → CallsFit Counter c [] journal → RepliesFit Counter journal → (error : CheckError) → IsFirst error (errors_in (history_of journal) (pairs_of (history_of journal))) → ⊥
+no_error c journal a b error first =
+    let none = none_in (history_of journal) (pairs_of (history_of journal)) (each_pair Counter NoError counted c journal a b) in
+    not_there error (subst (λ (errors : List CheckError). Contains errors error) none first.0)

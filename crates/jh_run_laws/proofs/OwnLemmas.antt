@@ -17,13 +17,13 @@ use Rattle.jh_simnode.specs.Plans.{PlanValue, IsFit}
 use Rattle.jh_simnode.specs.Runs.{Serial, setup_of}
 use Rattle.jh_run_laws.specs.OwnHistory.{CallsFit, RepliesFit, OwnHistoryIsFormed, OwnHistoryIsJudged}
 use Rattle.jh_run_laws.proofs.CallLemmas.{run_fits}
-use Rattle.jh_run_laws.proofs.CounterLemmas.{no_fault}
+use Rattle.jh_run_laws.proofs.CounterLemmas.{no_error}
 use Rattle.jh_run_laws.proofs.FormLemmas.{is_formed}
 use Rattle.jh_run_laws.proofs.RegisterLemmas.{not_bad}
 use Rattle.jh_run_laws.proofs.SetLemmas.{last_shows}
 use Rattle.jh_run_laws.proofs.ShapeLemmas.{replies_fit}
 
-unpaired : (history : List Operation) → IsWellFormed history → (fault : PairError) → refusal_of fault ≡ Pair fault → RefusesPairing history fault → ⊥
+unpaired : (history : List Operation) → IsWellFormed history → (error : PairError) → refusal_of error ≡ Pair error → RefusesPairing history error → ⊥
 unpaired history formed (pairing.AfterCrash place) e h = not_well_formed history (pairing.AfterCrash place) h formed
 unpaired history formed (pairing.DoubleInvoke place) e h = not_well_formed history (pairing.DoubleInvoke place) h formed
 unpaired history formed (pairing.NoInvoke place) e h = not_well_formed history (pairing.NoInvoke place) h formed
@@ -31,13 +31,13 @@ unpaired history formed pairing.OutOfMemory e h = absurd cc
 
 never_refused : (w : Workload) (c : ℕ) → 0 < c → (journal : List Event) → CallsFit w c [] journal → RepliesFit w journal → (e : CheckError) → RefusesHistory w (history_of journal) e → e ≡ OutOfMemory
 never_refused w c some journal a b OutOfMemory h = refl
-never_refused Register c some journal a b (Pair fault) h = absurd (unpaired (history_of journal) (is_formed Register c some journal a) fault h.0 h.1)
+never_refused Register c some journal a b (Pair error) h = absurd (unpaired (history_of journal) (is_formed Register c some journal a) error h.0 h.1)
 never_refused Register c some journal a b (BadValue place) h = absurd (not_bad c journal a b place h.1)
 never_refused Register c some journal a b (NegativeAdd place) h = absurd h
-never_refused Counter c some journal a b (Pair fault) h = absurd (unpaired (history_of journal) (is_formed Counter c some journal a) fault h.0 h.1)
-never_refused Counter c some journal a b (BadValue place) h = absurd (no_fault c journal a b (BadValue place) h.1)
-never_refused Counter c some journal a b (NegativeAdd place) h = absurd (no_fault c journal a b (NegativeAdd place) h.1)
-never_refused Set c some journal a b (Pair fault) h = absurd h
+never_refused Counter c some journal a b (Pair error) h = absurd (unpaired (history_of journal) (is_formed Counter c some journal a) error h.0 h.1)
+never_refused Counter c some journal a b (BadValue place) h = absurd (no_error c journal a b (BadValue place) h.1)
+never_refused Counter c some journal a b (NegativeAdd place) h = absurd (no_error c journal a b (NegativeAdd place) h.1)
+never_refused Set c some journal a b (Pair error) h = absurd h
 never_refused Set c some journal a b (BadValue place) h = absurd (last_shows journal b place h.0 h.1 h.2)
 never_refused Set c some journal a b (NegativeAdd place) h = absurd h
 never_refused Ids c some journal a b e h = h

@@ -22,8 +22,8 @@ use Rattle.jh_settings.specs.declared.keys.Key.{Key}
 pub at_end : (text : List ℕ) → IsGap (drop 0 text) → IsNoElement text
 at_end text gap x spelled = no_gap text x spelled.0 spelled.1 gap
 
-pub at_fault : (text : List ℕ) → NothingReads text 0 → IsNoElement text
-at_fault text nothing x spelled = nothing.1 x (length text - length spelled.0) (made text 0 x spelled.0 spelled.1)
+pub in_error : (text : List ℕ) → NothingReads text 0 → IsNoElement text
+in_error text nothing x spelled = nothing.1 x (length text - length spelled.0) (made text 0 x spelled.0 spelled.1)
 
 pub goes_on : (text : List ℕ) (x : Edn) (end : ℕ) → Reads text 0 x end → (IsGap (drop end text) → ⊥) → IsNoElement text
 goes_on text x end reads behind z spelled =

@@ -11,7 +11,7 @@ use Rattle.jh_gen.specs.View.{generator_of}
 use Rattle.jh_simnode.specs.Plans.{IsFit, RefusesPlan, max_ops}
 use Rattle.jh_simnode.specs.declared.plan.PlanError.{PlanError}
 use Rattle.jh_simnode.specs.declared.schedule.Entry.{Entry}
-use Rattle.jh_settings.specs.Inside.{RefusesValues, RefusesWith, TellsCluster, TellsLoad, TellsLimits, plan_with, plan_fault, cluster_keys, load_keys, limit_keys}
+use Rattle.jh_settings.specs.Inside.{RefusesValues, RefusesWith, TellsCluster, TellsLoad, TellsLimits, plan_with, plan_refusal, cluster_keys, load_keys, limit_keys}
 use Rattle.jh_settings.specs.Keys.{HasKnownKeys, keys, value_under}
 use Rattle.jh_settings.specs.Kinds.{whole_in, needed}
 use Rattle.jh_settings.specs.Refusals.{AreGood}
@@ -95,7 +95,7 @@ module _ (document : Members) (cluster : Cluster) (load : Load) (limits : Limits
       good_append document cluster_keys (load_keys ++ (limit_keys ++ Key.Schedule ∷ [])) (cluster_good document cluster parts.cluster) load
 
   -- a plan of good parts is refused for its generator alone
-  refused : (fault : PlanError) → RefusesPlan (plan_with cluster load limits schedule) fault → RefusesValues document (plan_fault fault)
+  refused : (error : PlanError) → RefusesPlan (plan_with cluster load limits schedule) error → RefusesValues document (plan_refusal error)
   refused PlanError.BadClients h = absurd (h (has_clients document load.clients parts.load.clients))
   refused PlanError.BadOps h = absurd (h.1 (has_ops document cluster.workload load.ops parts.cluster.workload parts.load.ops))
   refused PlanError.BadRows h = absurd (h.2 (has_rows document limits.rows parts.limits.rows))

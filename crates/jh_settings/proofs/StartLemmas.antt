@@ -9,12 +9,12 @@ use Rattle.jh_env.specs.Names.{AreFew, AreNodeNames, RefusesNames, RefusesSomeNa
 use Rattle.jh_env.specs.Overlay.{EnvValue}
 use Rattle.jh_env.specs.Text.{Keys, Shape, keys_of, shape_of}
 use Rattle.jh_env.specs.TextCells.{IsTextOf}
-use Rattle.jh_env.specs.TextFaults.{HasShape, HasFault, RefusesNodes, RefusesEntry, RefusesText}
+use Rattle.jh_env.specs.TextErrors.{HasShape, HasEntryError, RefusesNodes, RefusesEntry, RefusesText}
 use Rattle.jh_env.specs.declared.names.NodesError.{NodesError}
 use Rattle.jh_env.specs.declared.names.NodesError.TheVariants as names
 use Rattle.jh_env.specs.declared.texts.EnvTextError.{EnvTextError}
 use Rattle.jh_env.specs.declared.texts.EnvTextError.TheVariants.{NotMap, UnknownKey, MissingNodes, BadEntry, NoNodes, TooManyNodes, BadName, DuplicateName, UnknownNode, SelfLink, BadAmount, RepeatedEntry, OutOfMemory}
-use Rattle.jh_settings.specs.Inside.{RefusesValue, start_fault}
+use Rattle.jh_settings.specs.Inside.{RefusesValue, start_refusal}
 use Rattle.jh_settings.specs.Kinds.{HoldsElement}
 use Rattle.jh_settings.specs.Told.{TellsStart}
 use Rattle.jh_settings.specs.declared.keys.Key.{Key}
@@ -49,8 +49,8 @@ no_entry : (value : Edn) (e : EnvTextError) (xs : List (List ℕ)) (cells : Tabl
 no_entry value e xs cells refused told =
     let shape : refused.0 ≡ told.0 = shape_once value refused.0 told.0 refused.1 told.1 in
     let names : refused.0.names ≡ xs = ap (λ (s : Shape). s.names) shape ∙ told.2 in
-    let fault : HasFault xs told.0.entries e = subst (λ es. HasFault xs es e) (ap (λ (s : Shape). s.entries) shape) (subst (λ ns. HasFault ns refused.0.entries e) names refused.4) in
-    none_not e (sym (told.5 fault.0) ∙ fault.1)
+    let error : HasEntryError xs told.0.entries e = subst (λ es. HasEntryError xs es e) (ap (λ (s : Shape). s.entries) shape) (subst (λ ns. HasEntryError ns refused.0.entries e) names refused.4) in
+    none_not e (sym (told.5 error.0) ∙ error.1)
 
 bad_name : (xs : List (List ℕ)) → RefusesSomeName xs names.BadName → AreNodeNames xs → ⊥
 bad_name xs refused good = true≢false (sym (good refused.0 refused.1 refused.2 refused.3).0 ∙ refused.5)
@@ -78,7 +78,7 @@ none_starts document x held none start =
     let same : start.1.0 ≡ x = held_once Key.Start document start.1.0 x start.1.1 held in
     none start.0.names start.0.start (subst (λ y. IsTextOf y start.0.names start.0.start) same start.1.2)
 
-pub start_refused : (document : Members) (x : Edn) → HoldsElement Key.Start document x → (e : EnvTextError) → RefusesText x e → RefusesValue ((env : EnvValue) × TellsStart document env) Key.Start (start_fault e)
+pub start_refused : (document : Members) (x : Edn) → HoldsElement Key.Start document x → (e : EnvTextError) → RefusesText x e → RefusesValue ((env : EnvValue) × TellsStart document env) Key.Start (start_refusal e)
 start_refused document x held NotMap h = (refl, none_starts document x held (tells_none x NotMap h (λ e. cc)))
 start_refused document x held UnknownKey h = (refl, none_starts document x held (tells_none x UnknownKey h (λ e. cc)))
 start_refused document x held MissingNodes h = (refl, none_starts document x held (tells_none x MissingNodes h (λ e. cc)))

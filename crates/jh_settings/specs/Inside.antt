@@ -51,9 +51,9 @@ abbrev pub IsEntryIn : List (List ℕ) → Data → Option Entry → Type 0
 IsEntryIn names value found = MatchOption found ((entry : Entry) → TellsEntry names value entry → ⊥) (TellsEntry names value)
 
 -- what a refusal of the environment makes of the settings
-abbrev pub start_fault : EnvTextError → SettingsError
-start_fault EnvTextError.OutOfMemory = OutOfMemory
-start_fault _ = BadValue Key.Start
+abbrev pub start_refusal : EnvTextError → SettingsError
+start_refusal EnvTextError.OutOfMemory = OutOfMemory
+start_refusal _ = BadValue Key.Start
 
 -- the parts of a plan
 abbrev pub cluster_keys : List Key
@@ -104,13 +104,13 @@ RefusesValues document OutOfMemory = Unit {0}
 RefusesValues document _ = ⊥
 
 -- what a refusal of the plan makes of the settings
-abbrev pub plan_fault : PlanError → SettingsError
-plan_fault PlanError.BadClients = BadValue Key.Clients
-plan_fault PlanError.BadOps = BadValue Key.Ops
-plan_fault PlanError.BadRows = BadValue Key.Rows
-plan_fault PlanError.BadGenerator = BadValue Key.Generator
-plan_fault PlanError.BadStep = BadValue Key.Schedule
-plan_fault PlanError.OutOfMemory = OutOfMemory
+abbrev pub plan_refusal : PlanError → SettingsError
+plan_refusal PlanError.BadClients = BadValue Key.Clients
+plan_refusal PlanError.BadOps = BadValue Key.Ops
+plan_refusal PlanError.BadRows = BadValue Key.Rows
+plan_refusal PlanError.BadGenerator = BadValue Key.Generator
+plan_refusal PlanError.BadStep = BadValue Key.Schedule
+plan_refusal PlanError.OutOfMemory = OutOfMemory
 
 abbrev pub plan_with : Cluster → Load → Limits → List Entry → PlanValue
 plan_with cluster load limits schedule =
@@ -118,4 +118,4 @@ plan_with cluster load limits schedule =
     (generator_of cluster.generator) schedule limits.tick_every limits.rows limits.seed
 
 abbrev pub RefusesWith : PlanValue → SettingsError → Type 0
-RefusesWith plan e = (fault : PlanError) × RefusesPlan plan fault × (e ≡ plan_fault fault)
+RefusesWith plan e = (error : PlanError) × RefusesPlan plan error × (e ≡ plan_refusal error)

@@ -14,7 +14,7 @@ ghost use Rattle.jh_gen.specs.Generator.{Generator};
 ghost use Rattle.jh_gen.specs.View.{generator_of};
 ghost use Rattle.jh_simnode.specs.declared.schedule.Entry.{Entry};
 ghost use Rattle.jh_settings.specs.Inside.{IsElementIn, IsEntryIn, IsNoElement, RefusesValue};
-ghost use Rattle.jh_settings.specs.Inside.{start_fault};
+ghost use Rattle.jh_settings.specs.Inside.{start_refusal};
 ghost use Rattle.jh_settings.specs.Kinds.{HoldsElement};
 ghost use Rattle.jh_settings.specs.Told as rule;
 ghost use Rattle.jh_settings.specs.Told.{TellAll, TellsGenerator, TellsSchedule, TellsStart};
@@ -115,7 +115,7 @@ fn element_under(alloc: Global, table: &Table, key: Key) -> Result<Value, Settin
 }
 
 fn start_error(error: EnvTextError) -> SettingsError
-    ensures { result ≡ start_fault error }
+    ensures { result ≡ start_refusal error }
 {
     match error {
         EnvTextError::OutOfMemory => SettingsError::OutOfMemory,

@@ -7,7 +7,7 @@ ghost use Rattle.jh_env.specs.Overlay.{StandsFor};
 ghost use Rattle.jh_simnode.specs.Plans.{IsFit};
 ghost use Rattle.jh_settings.specs.Inside.{Refuses, RefusesBytes, RefusesKeys, RefusesValues};
 ghost use Rattle.jh_settings.specs.Inside.{RefusesWith, TellsCluster, TellsLimits, TellsLoad};
-ghost use Rattle.jh_settings.specs.Inside.{cluster_keys, limit_keys, load_keys, plan_fault, plan_with};
+ghost use Rattle.jh_settings.specs.Inside.{cluster_keys, limit_keys, load_keys, plan_refusal, plan_with};
 ghost use Rattle.jh_settings.specs.Keys as rule;
 ghost use Rattle.jh_settings.specs.Keys.{HasKnownKeys, IsDocument};
 ghost use Rattle.jh_settings.specs.Settings.{AreSettings, AreSettingsOf, RefusesSettings};
@@ -124,7 +124,7 @@ fn limits_of(table: &Table) -> Result<Limits, SettingsError>
 
 // What the refusal of a plan means, whose parts are good by themselves.
 fn plan_error(error: PlanError) -> SettingsError
-    ensures { result ≡ plan_fault error }
+    ensures { result ≡ plan_refusal error }
 {
     match error {
         PlanError::BadClients => SettingsError::BadValue(Key::Clients),

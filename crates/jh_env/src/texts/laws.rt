@@ -9,7 +9,7 @@ ghost use Rattle.jh_env.specs.FaultWritten.{fault_in_order, is_link_before, is_n
 ghost use Rattle.jh_env.specs.Faults.{FaultValue, FitsCount, AreApart, same_link, same_node, kept_links, kept_nodes};
 ghost use Rattle.jh_env.specs.Overlay.{EnvValue, cells_of};
 ghost use Rattle.jh_env.specs.TextCells.{IsTextOf};
-ghost use Rattle.jh_env.specs.TextFaults.{RefusesText};
+ghost use Rattle.jh_env.specs.TextErrors.{RefusesText};
 ghost use Rattle.jh_env.specs.TextLaws.{CanStart, SameCells};
 ghost use Rattle.jh_env.specs.TextWritten.{text_of};
 ghost use Rattle.jh_env.specs.declared.texts.EnvTextError.{EnvTextError};

@@ -1,13 +1,13 @@
 //! The cells that entries tell, set one entry after another. `specs/TextCells.antt` says what they tell, and
-//! `specs/TextFaults.antt` which entry is at fault.
+//! `specs/TextErrors.antt` which entry is in error.
 
 ghost use Rattle.std.specs.Prelude.{◌≡◌, Some, None, MatchResult, if◌then◌else◌};
 ghost use Rattle.std.specs.List.{list_any};
 ghost use Rattle.jh_env.specs.Starting.{IsCalm};
 ghost use Rattle.jh_env.specs.Text.{OfLink, OfNode};
 ghost use Rattle.jh_env.specs.TextCells.{AreTold, link_with, node_with};
-ghost use Rattle.jh_env.specs.TextFaults as fault;
-ghost use Rattle.jh_env.specs.TextFaults.{place_of, own_fault, AreSound, HasFault};
+ghost use Rattle.jh_env.specs.TextErrors as rule;
+ghost use Rattle.jh_env.specs.TextErrors.{place_of, entry_error, AreSound, HasEntryError};
 ghost use Rattle.jh_env.specs.TextInside.{entry_said, entries_said, fits_link, AreStarting, SetsEntry};
 
 use super::EnvTextError;
@@ -43,7 +43,7 @@ impl LinkChange {
     }
 
     fn has_key_of(self, other: LinkChange) -> bool
-        ensures { result ≡ fault.same_link_key self other }
+        ensures { result ≡ rule.same_link_key self other }
     {
         matches!(
             (self, other),
@@ -73,7 +73,7 @@ impl NodeChange {
     }
 
     fn has_key_of(self, other: NodeChange) -> bool
-        ensures { result ≡ fault.same_node_key self other }
+        ensures { result ≡ rule.same_node_key self other }
     {
         match (self, other) {
             (NodeChange::Clock(_), NodeChange::Clock(_)) => true,
@@ -85,7 +85,7 @@ impl NodeChange {
 
 /// Whether both name the same link or node under one key.
 fn repeats(entry: &Entry, other: &Entry) -> bool
-    ensures { result ≡ fault.repeats (entry_said entry.now) (entry_said other.now) }
+    ensures { result ≡ rule.repeats (entry_said entry.now) (entry_said other.now) }
 {
     match (*entry, *other) {
         (Entry::Link(a, b, change), Entry::Link(c, d, other)) => a == c
@@ -97,7 +97,7 @@ fn repeats(entry: &Entry, other: &Entry) -> bool
 }
 
 fn is_repeated(before: &[Entry], entry: &Entry) -> bool
-    ensures { result ≡ list_any (λ other. fault.repeats (entry_said entry.now) (entry_said other)) before.now }
+    ensures { result ≡ list_any (λ other. rule.repeats (entry_said entry.now) (entry_said other)) before.now }
 {
     before.iter().any(|other| repeats(entry, other))
 }
@@ -105,9 +105,9 @@ fn is_repeated(before: &[Entry], entry: &Entry) -> bool
 fn set_link(start: &mut Start, from: &str, to: &str, change: LinkChange) -> Result<(), EnvTextError>
     requires { AreStarting start.old }
     ensures { MatchResult result
-        (λ _. (own_fault start.old.names (OfLink from.now to.now change) ≡ None)
+        (λ _. (entry_error start.old.names (OfLink from.now to.now change) ≡ None)
         × SetsEntry start.old (OfLink from.now to.now change) start.new)
-        (λ e. own_fault start.old.names (OfLink from.now to.now change) ≡ Some e) }
+        (λ e. entry_error start.old.names (OfLink from.now to.now change) ≡ Some e) }
 {
     let source = find(start.nodes(), from)?;
     let destination = find(start.nodes(), to)?;
@@ -124,9 +124,9 @@ fn set_link(start: &mut Start, from: &str, to: &str, change: LinkChange) -> Resu
 fn set_node(start: &mut Start, name: &str, change: NodeChange) -> Result<(), EnvTextError>
     requires { AreStarting start.old }
     ensures { MatchResult result
-        (λ _. (own_fault start.old.names (OfNode name.now change) ≡ None)
+        (λ _. (entry_error start.old.names (OfNode name.now change) ≡ None)
         × SetsEntry start.old (OfNode name.now change) start.new)
-        (λ e. own_fault start.old.names (OfNode name.now change) ≡ Some e) }
+        (λ e. entry_error start.old.names (OfNode name.now change) ≡ Some e) }
 {
     let node = find(start.nodes(), name)?;
     let Some(cell) = start.node(node) else {
@@ -139,9 +139,9 @@ fn set_node(start: &mut Start, name: &str, change: NodeChange) -> Result<(), Env
 fn set_entry(start: &mut Start, entry: &Entry) -> Result<(), EnvTextError>
     requires { AreStarting start.old }
     ensures { MatchResult result
-        (λ _. (own_fault start.old.names (entry_said entry.now) ≡ None)
+        (λ _. (entry_error start.old.names (entry_said entry.now) ≡ None)
         × SetsEntry start.old (entry_said entry.now) start.new)
-        (λ e. own_fault start.old.names (entry_said entry.now) ≡ Some e) }
+        (λ e. entry_error start.old.names (entry_said entry.now) ≡ Some e) }
 {
     match *entry {
         Entry::Link(from, to, change) => set_link(start, from, to, change),
@@ -149,14 +149,14 @@ fn set_entry(start: &mut Start, entry: &Entry) -> Result<(), EnvTextError>
     }
 }
 
-/// Sets what the entries tell, or finds the first at fault, where nothing was set before.
+/// Sets what the entries tell, or finds the first in error, where nothing was set before.
 pub fn set_all(start: &mut Start, entries: &[Entry]) -> Result<(), EnvTextError>
     requires { IsCalm start.old }
     ensures { MatchResult result
         (λ _. (start.new.names ≡ start.old.names)
         × AreSound start.old.names (entries_said entries.now)
         × AreTold start.old.names (entries_said entries.now) start.new.cells)
-        (HasFault start.old.names (entries_said entries.now)) }
+        (HasEntryError start.old.names (entries_said entries.now)) }
 {
     for (place, entry) in entries.iter().enumerate() {
         set_entry(start, entry)?;

@@ -29,7 +29,7 @@ returns-clause-refused g c =
 pub returns-in_err-found-clause-refused : goal.returns-in_err-found-clause-refused
 returns-in_err-found-clause-refused g c =
     let p = err_from_is_err_and c.from_residual-in_err-found.result c.from_residual-in_err-found.ensures.1 in
-    let fault = c.in_err-found.field-0.0 in
+    let error = c.in_err-found.field-0.0 in
     rw (p.1, p.2) (on_input _ _ (g.R.Read.remaining c.args.reader.now) (λ input spelled.
-    bytes_refused input fault (subst (λ (bytes : List ℕ). RefusesBytes bytes fault) spelled (rw c.deref.ensures.value at c.in_err-found.ensures)))
+    bytes_refused input error (subst (λ (bytes : List ℕ). RefusesBytes bytes error) spelled (rw c.deref.ensures.value at c.in_err-found.ensures)))
     c.in_ok-input.ensures.bytes)

@@ -1,7 +1,7 @@
 use Rattle.std.proofs.Common.{◌≡◌, ◌++◌, ◌∷◌, [], inl, inr, refl, sym, subst}
 use Rattle.std.proofs.lemmas.List.{map_push}
 use Rattle.std.proofs.lemmas.Result.{err_from_is_err_and}
-use Rattle.jh_edn.specs.Refused.{RefusesText, IsFirstFault}
+use Rattle.jh_edn.specs.Refused.{RefusesText, IsFirstError}
 use Rattle.jh_edn.specs.Reading.{Reached}
 use Rattle.std.proofs.lemmas.Str.{IsCharBoundary-start}
 use Rattle.jh_edn.specs.View.{view, views}
@@ -46,20 +46,20 @@ returns-in_err-value-clause-refused c =
     let told : RefusesText text e = elim c.in_err-value.ensures.refused [
       | inl memory ↦ rw memory tt
       | inr nothing ↦
-          elim c.in_err-value.ensures.first_fault [
+          elim c.in_err-value.ensures.first_error [
             | inl memory ↦ rw memory tt
-            | inr fault ↦ refuses text l.at e (spells_nothing (views l.values.items) text l.at c.utf8.text l.invariant.behind nothing) fault
+            | inr error ↦ refuses text l.at e (spells_nothing (views l.values.items) text l.at c.utf8.text l.invariant.behind nothing) error
           ]
     ] in
     rw (p.1, p.2) told
 
-pub returns-in_err-value-clause-first_fault : goal.returns-in_err-value-clause-first_fault
-returns-in_err-value-clause-first_fault c =
+pub returns-in_err-value-clause-first_error : goal.returns-in_err-value-clause-first_error
+returns-in_err-value-clause-first_error c =
     let p = err_from_is_err_and c.from_residual.result c.from_residual.ensures.1 in
     let text = c.args.text.now in
     let e = c.in_err-value.field-0.0 in
-    let told : IsFirstFault text e = elim c.in_err-value.ensures.first_fault [
+    let told : IsFirstError text e = elim c.in_err-value.ensures.first_error [
       | inl memory ↦ rw memory tt
-      | inr fault ↦ first_behind text c.loop-values.at e c.loop-values.invariant.reached fault
+      | inr error ↦ first_behind text c.loop-values.at e c.loop-values.invariant.reached error
     ] in
     rw (p.1, p.2) told

@@ -46,4 +46,4 @@ returns-in-None-clause-gives c =
       | else-len-eq0 w ↦ by_name first t after w.range.result.now w.len_utf8.result c.run_len-len.result c.if-len-eq0.found parts w.range.ensures.value w.len_utf8.ensures.len run w.if-len-eq0.false (w.found-is ∙ w.called-found.ensures)
     ] in
     let given = gives c.args.rest.now t after first c.if-len-eq0.found c.range_from-behind.ensures.value one parts (scalar_first t first c.range_from-behind.utf8 one) found in
-    rw c.fault_at-in-None.ensures (given ∙ rw c.in-None.is refl)
+    rw c.syntax_error_at-in-None.ensures (given ∙ rw c.in-None.is refl)

@@ -34,7 +34,7 @@ pub next_item-returns-then-is_empty-clause-gives : goal.next_item-returns-then-i
 next_item-returns-then-is_empty-clause-gives t c =
     let here = c.in_ok-here.here.now in
     let none : length here ≡ 0 = rw (← c.as_bytes-bytes.ensures.value) (grind arith) in
-    rw c.fault_at.ensures (ends c.args.close c.args.depth c.args.rest.now here c.in_ok-here.ensures.gives none)
+    rw c.syntax_error_at.ensures (ends c.args.close c.args.depth c.args.rest.now here c.in_ok-here.ensures.gives none)
 
 pub next_item-returns-then-bytes-close-clause-gives : goal.next_item-returns-then-bytes-close-clause-gives
 next_item-returns-then-bytes-close-clause-gives t c =
@@ -143,7 +143,7 @@ element-elements_inside-requires-in-91 t c =
 pub elements_inside-returns-then-depth-eq0-clause-gives : goal.elements_inside-returns-then-depth-eq0-clause-gives
 elements_inside-returns-then-depth-eq0-clause-gives t c =
     let s = c.args.rest.now in
-    rw c.fault_at.ensures (elements_too_deep c.args.depth c.args.close s (drop c.args.front s) (omega arith))
+    rw c.syntax_error_at.ensures (elements_too_deep c.args.depth c.args.close s (drop c.args.front s) (omega arith))
 
 pub elements_inside-returns-clause-gives : goal.elements_inside-returns-clause-gives
 elements_inside-returns-clause-gives t c =
@@ -153,7 +153,7 @@ elements_inside-returns-clause-gives t c =
 pub one_inside-returns-then-depth-eq0-clause-gives : goal.one_inside-returns-then-depth-eq0-clause-gives
 one_inside-returns-then-depth-eq0-clause-gives t c =
     let s = c.args.rest.now in
-    rw c.fault_at.ensures (one_too_deep c.args.depth s (drop c.args.front s) (omega arith))
+    rw c.syntax_error_at.ensures (one_too_deep c.args.depth s (drop c.args.front s) (omega arith))
 
 pub one_inside-returns-in_err-here-clause-gives : goal.one_inside-returns-in_err-here-clause-gives
 one_inside-returns-in_err-here-clause-gives t c =

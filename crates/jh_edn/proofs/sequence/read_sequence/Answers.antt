@@ -4,8 +4,8 @@ use Rattle.jh_edn.specs.Gives.{Fails}
 use Rattle.jh_edn.specs.Reading.{gap}
 use Rattle.jh_edn.specs.Sequences.{closing, elements_to}
 use Rattle.jh_edn.specs.Spelling.{depth_limit}
-use Rattle.jh_edn.proofs.Taking.{opens, behind_bracket, sequence_next, sequence_fault, reads_none}
-use Rattle.jh_edn.proofs.Whole.{whole_ending, place, made, refused_or, refused_gap, first_or, gap_fault, read_fault, not_at_end}
+use Rattle.jh_edn.proofs.Taking.{opens, behind_bracket, sequence_next, sequence_error, reads_none}
+use Rattle.jh_edn.proofs.Whole.{whole_ending, place, made, refused_or, refused_gap, first_or, gap_error, read_error, not_at_end}
 use Rattle.jh_edn.proofs.sequence.read_sequence.Goals as goal
 
 pub returns-in-Err-clause-refused : goal.returns-in-Err-clause-refused
@@ -15,13 +15,13 @@ returns-in-Err-clause-refused g c =
     let e : Fails told (gap depth_limit (drop c.args.at text)) = rw (← c.range_from.ensures.value) c.in-Err.ensures.gives in
     rw c.error_in.ensures (refused_gap text c.args.at told e)
 
-pub returns-in-Err-clause-first_fault : goal.returns-in-Err-clause-first_fault
-returns-in-Err-clause-first_fault g c =
+pub returns-in-Err-clause-first_error : goal.returns-in-Err-clause-first_error
+returns-in-Err-clause-first_error g c =
     let text = c.args.text.now in
     let s = drop c.args.at text in
     let told = c.in-Err.error in
     let e : Fails told (gap depth_limit s) = rw (← c.range_from.ensures.value) c.in-Err.ensures.gives in
-    rw c.error_in.ensures (first_or text c.args.at told (gap_fault s told e))
+    rw c.error_in.ensures (first_or text c.args.at told (gap_error s told e))
 
 pub returns-in_default-clause-none : goal.returns-in_default-clause-none
 returns-in_default-clause-none g c =
@@ -81,10 +81,10 @@ returns-in-Err-give_elements-clause-refused g c =
     let some : closing here ≡ Some c.in-Some.close = sym c.closing.ensures ∙ c.in-Some.is in
     let fails : Fails told (elements_to c.in-Some.close (drop 1 here)) = rw (← c.range_from-2.ensures.value) c.in-Err-give_elements.ensures.fails in
     let bracket : 0 < length here = (opens here c.in-Some.close some).some in
-    rw c.error_in-in-Err-give_elements.ensures (refused_or text c.args.at told (read_fault s here told e (sequence_fault here c.in-Some.close told some fails)) (not_at_end s here e (λ none. omega (arith, bracket, none))))
+    rw c.error_in-in-Err-give_elements.ensures (refused_or text c.args.at told (read_error s here told e (sequence_error here c.in-Some.close told some fails)) (not_at_end s here e (λ none. omega (arith, bracket, none))))
 
-pub returns-in-Err-give_elements-clause-first_fault : goal.returns-in-Err-give_elements-clause-first_fault
-returns-in-Err-give_elements-clause-first_fault g c =
+pub returns-in-Err-give_elements-clause-first_error : goal.returns-in-Err-give_elements-clause-first_error
+returns-in-Err-give_elements-clause-first_error g c =
     let text = c.args.text.now in
     let s = drop c.args.at text in
     let here = c.in-Ok.here.now in
@@ -92,4 +92,4 @@ returns-in-Err-give_elements-clause-first_fault g c =
     let e : gap depth_limit s ≡ Ok here = rw (← c.range_from.ensures.value) c.in-Ok.ensures.gives in
     let some : closing here ≡ Some c.in-Some.close = sym c.closing.ensures ∙ c.in-Some.is in
     let fails : Fails told (elements_to c.in-Some.close (drop 1 here)) = rw (← c.range_from-2.ensures.value) c.in-Err-give_elements.ensures.fails in
-    rw c.error_in-in-Err-give_elements.ensures (first_or text c.args.at told (read_fault s here told e (sequence_fault here c.in-Some.close told some fails)))
+    rw c.error_in-in-Err-give_elements.ensures (first_or text c.args.at told (read_error s here told e (sequence_error here c.in-Some.close told some fails)))

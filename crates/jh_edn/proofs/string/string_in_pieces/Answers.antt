@@ -13,12 +13,12 @@ stop_at-requires c = rw (c.range_from-left.ensures.value, c.plain_len-len.ensure
 pub returns-in-End-clause-gives : goal.returns-in-End-clause-gives
 returns-in-End-clause-gives c =
     let so_far = moved (string_bytes c.pieces.text) (string_bytes c.push_str.new.self) c.pieces.left.now c.range_from-left.result.now c.plain_len-len.result (body c.args.rest.now) c.plain_len-len.ensures.len (rw c.in_ok-push_str.ensures.bytes (search rules)) c.range_from-left.ensures.value c.pieces.invariant.1 in
-    rw c.fault_at.ensures (ended (string_bytes c.push_str.new.self) c.range_from-left.result.now (body c.args.rest.now) _ so_far c.in-End.ensures.gives)
+    rw c.syntax_error_at.ensures (ended (string_bytes c.push_str.new.self) c.range_from-left.result.now (body c.args.rest.now) _ so_far c.in-End.ensures.gives)
 
 pub returns-in-BadEscape-clause-gives : goal.returns-in-BadEscape-clause-gives
 returns-in-BadEscape-clause-gives c =
     let so_far = moved (string_bytes c.pieces.text) (string_bytes c.push_str.new.self) c.pieces.left.now c.range_from-left.result.now c.plain_len-len.result (body c.args.rest.now) c.plain_len-len.ensures.len (rw c.in_ok-push_str.ensures.bytes (search rules)) c.range_from-left.ensures.value c.pieces.invariant.1 in
-    rw c.fault_at-in-BadEscape.ensures (ended (string_bytes c.push_str.new.self) c.range_from-left.result.now (body c.args.rest.now) _ so_far c.in-BadEscape.ensures.gives)
+    rw c.syntax_error_at-in-BadEscape.ensures (ended (string_bytes c.push_str.new.self) c.range_from-left.result.now (body c.args.rest.now) _ so_far c.in-BadEscape.ensures.gives)
 
 pub returns-in-Close-clause-gives : goal.returns-in-Close-clause-gives
 returns-in-Close-clause-gives c =

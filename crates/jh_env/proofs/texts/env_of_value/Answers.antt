@@ -3,7 +3,7 @@ use Rattle.std.proofs.lemmas.Result.{err_from_is_err_and}
 use Rattle.jh_edn.specs.View.{view, view_pairs}
 use Rattle.jh_env.specs.Text.{Keys, keys_of, Shape, shape_of}
 use Rattle.jh_env.specs.Names.{AreNodeNames, AreFew, RefusesNames}
-use Rattle.jh_env.specs.TextFaults.{AreSound, HasFault}
+use Rattle.jh_env.specs.TextErrors.{AreSound, HasEntryError}
 use Rattle.jh_env.specs.TextCells.{AreTold}
 use Rattle.jh_env.specs.TextInside.{entries_said}
 use Rattle.jh_env.proofs.TextRefusalLemmas.{entry_refused, names_refused}
@@ -28,9 +28,9 @@ returns-in_err-set_all c =
     let named : c.in_ok-nodes-2.nodes ≡ shape.names = c.in_ok-nodes-2.ensures.0 ∙ ap (λ ns. map (λ s. s.now) ns) c.deref.ensures.value in
     let names : c.in_ok-start.start.names ≡ shape.names = c.in_ok-start.ensures.0 ∙ named in
     let p = err_from_is_err_and c.from_residual-in_err-set_all.result c.from_residual-in_err-set_all.ensures.1 in
-    let faulty : HasFault shape.names shape.entries c.in_err-set_all.field-0.0 = rw (c.deref-2.ensures.value, names) at c.in_err-set_all.ensures in
+    let wrong : HasEntryError shape.names shape.entries c.in_err-set_all.field-0.0 = rw (c.deref-2.ensures.value, names) at c.in_err-set_all.ensures in
     rw (p.1, p.2) (entry_refused (view c.args.value.now) shape c.in_err-set_all.field-0.0 (keys, keys_are, shaped)
-    (subst AreFew named c.in_ok-nodes-2.ensures.2) (subst AreNodeNames named c.in_ok-nodes-2.ensures.1) faulty)
+    (subst AreFew named c.in_ok-nodes-2.ensures.2) (subst AreNodeNames named c.in_ok-nodes-2.ensures.1) wrong)
 
 pub returns : goal.returns
 returns c =

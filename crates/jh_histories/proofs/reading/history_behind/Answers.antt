@@ -18,7 +18,7 @@ returns-in_err-value-clause-refused c =
     let p = err_from_is_err_and c.from_residual.result c.from_residual.ensures.1 in
     let text = c.args.text.now in
     let so_far = c.values.invariant.begun in
-    rw (p.1, p.2) (text_refused text so_far.0 c.values.at c.in_err-value.field-0.0 c.utf8.text so_far.2 c.in_err-value.ensures.refused c.in_err-value.ensures.first_fault)
+    rw (p.1, p.2) (text_refused text so_far.0 c.values.at c.in_err-value.field-0.0 c.utf8.text so_far.2 c.in_err-value.ensures.refused c.in_err-value.ensures.first_error)
 
 pub values-preserved : goal.values-preserved
 values-preserved c =

@@ -14,7 +14,7 @@ pub returns-in_err-end-clause-refused : goal.returns-in_err-end-clause-refused
 returns-in_err-end-clause-refused c =
     let p = err_from_is_err_and c.from_residual.result c.from_residual.ensures.1 in
     let text = c.args.text.now in
-    rw (p.1, p.2) (text_refused text [] 0 c.in_err-end.field-0.0 c.utf8.text (at_start text 0 refl) c.in_err-end.ensures.refused c.in_err-end.ensures.first_fault)
+    rw (p.1, p.2) (text_refused text [] 0 c.in_err-end.field-0.0 c.utf8.text (at_start text 0 refl) c.in_err-end.ensures.refused c.in_err-end.ensures.first_error)
 
 pub returns-in_err-second-clause-refused : goal.returns-in_err-second-clause-refused
 returns-in_err-second-clause-refused c =
@@ -22,7 +22,7 @@ returns-in_err-second-clause-refused c =
     let text = c.args.text.now in
     let q = rw c.in-Some.is at c.in_ok-end.ensures.some in
     let begun = one_further text [] 0 q.0 c.in-Some.end (at_start text 0 refl) q.2 in
-    rw (p.1, p.2) (text_refused text (q.0 ∷ []) c.in-Some.end c.in_err-second.field-0.0 c.utf8.text begun c.in_err-second.ensures.refused c.in_err-second.ensures.first_fault)
+    rw (p.1, p.2) (text_refused text (q.0 ∷ []) c.in-Some.end c.in_err-second.field-0.0 c.utf8.text begun c.in_err-second.ensures.refused c.in_err-second.ensures.first_error)
 
 pub returns-in_err-history-clause-refused : goal.returns-in_err-history-clause-refused
 returns-in_err-history-clause-refused c =

@@ -13,7 +13,7 @@ pub returns-in_err-first-clause-refused : goal.returns-in_err-first-clause-refus
 returns-in_err-first-clause-refused c =
     let p = err_from_is_err_and c.from_residual.result c.from_residual.ensures.1 in
     let text = c.args.text.now in
-    rw (p.1, p.2) (text_refused text [] 0 c.in_err-first.field-0.0 c.utf8.text (at_start text 0 refl) c.in_err-first.ensures.refused c.in_err-first.ensures.first_fault)
+    rw (p.1, p.2) (text_refused text [] 0 c.in_err-first.field-0.0 c.utf8.text (at_start text 0 refl) c.in_err-first.ensures.refused c.in_err-first.ensures.first_error)
 
 pub returns-in_err-second-clause-refused : goal.returns-in_err-second-clause-refused
 returns-in_err-second-clause-refused c =
@@ -21,7 +21,7 @@ returns-in_err-second-clause-refused c =
     let text = c.args.text.now in
     let first = view c.in-Some.first in
     let begun = one_further text [] 0 first c.in-Some.end (at_start text 0 refl) (rw c.in-Some.is at c.in_ok-first.ensures.some) in
-    rw (p.1, p.2) (text_refused text (first ∷ []) c.in-Some.end c.in_err-second.field-0.0 c.utf8.text begun c.in_err-second.ensures.refused c.in_err-second.ensures.first_fault)
+    rw (p.1, p.2) (text_refused text (first ∷ []) c.in-Some.end c.in_err-second.field-0.0 c.utf8.text begun c.in_err-second.ensures.refused c.in_err-second.ensures.first_error)
 
 pub returns-in_err-history_of_one-clause-refused : goal.returns-in_err-history_of_one-clause-refused
 returns-in_err-history_of_one-clause-refused c =

@@ -4,7 +4,7 @@ use Rattle.std.proofs.lemmas.Result.{err_from_is_err_and}
 use Rattle.jh_ops.specs.Operation.{operations}
 use Rattle.jh_ops.specs.Stage.{stage_after, pairs_after, pair_awaited}
 use Rattle.jh_ops.specs.declared.pairing.Stage.TheVariants.{Idle}
-use Rattle.jh_ops.proofs.PlaceLemmas.{stages_in, put_here, put_apart, stands_skip, stands_more, first_fault, refuses, wants_memory, awaited_is_there, stands_end, not_well_formed}
+use Rattle.jh_ops.proofs.PlaceLemmas.{stages_in, put_here, put_apart, stands_skip, stands_more, first_error, refuses, wants_memory, awaited_is_there, stands_end, not_well_formed}
 use Rattle.jh_ops.proofs.WithinLemmas.{pairs_within}
 use Rattle.jh_ops.proofs.pairing.pair.Goals as goal
 
@@ -19,7 +19,7 @@ returns-in_err-next-clause-judged c =
     let e = c.in_err-next.field-0.0 in
     let stage : c.unwrap_or-stage.result ≡ stages_in l.stages c.in-Client.client = c.unwrap_or-stage.ensures ∙ ap (λ o. unwrap_or o Idle) (c.copied.ensures ∙ c.get.ensures.value) in
     let step : stage_after (stages_in l.stages c.in-Client.client) op.kind l.place c.len.result ≡ Err e = ap (λ s. stage_after s op.kind l.place c.len.result) (sym stage) ∙ sym c.in_err-next.ensures in
-    let has = first_fault (stages_in l.stages) l.pairs.items c.args.history.now l.place op c.in-Client.client c.len.result e c.loop-place-test.true c.index-history-place.is c.in-Client.is l.invariant step in
+    let has = first_error (stages_in l.stages) l.pairs.items c.args.history.now l.place op c.in-Client.client c.len.result e c.loop-place-test.true c.index-history-place.is c.in-Client.is l.invariant step in
     let p = err_from_is_err_and c.from_residual.result c.from_residual.ensures.1 in
     rw (p.1, p.2) (refuses (operations c.args.history.now) (stages_in l.stages c.in-Client.client) op.kind l.place c.len.result e step has)
 
@@ -30,7 +30,7 @@ returns-in_err-next-clause-accepts c good =
     let e = c.in_err-next.field-0.0 in
     let stage : c.unwrap_or-stage.result ≡ stages_in l.stages c.in-Client.client = c.unwrap_or-stage.ensures ∙ ap (λ o. unwrap_or o Idle) (c.copied.ensures ∙ c.get.ensures.value) in
     let step : stage_after (stages_in l.stages c.in-Client.client) op.kind l.place c.len.result ≡ Err e = ap (λ s. stage_after s op.kind l.place c.len.result) (sym stage) ∙ sym c.in_err-next.ensures in
-    let has = first_fault (stages_in l.stages) l.pairs.items c.args.history.now l.place op c.in-Client.client c.len.result e c.loop-place-test.true c.index-history-place.is c.in-Client.is l.invariant step in
+    let has = first_error (stages_in l.stages) l.pairs.items c.args.history.now l.place op c.in-Client.client c.len.result e c.loop-place-test.true c.index-history-place.is c.in-Client.is l.invariant step in
     absurd (not_well_formed (operations c.args.history.now) e has good)
 
 pub record_pair-requires : goal.record_pair-requires

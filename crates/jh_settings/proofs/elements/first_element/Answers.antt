@@ -1,7 +1,7 @@
 use Rattle.std.proofs.Common.{inl, inr}
 use Rattle.std.proofs.lemmas.Str.{IsCharBoundary-start}
 use Rattle.jh_edn.specs.Spelling.{NothingReads}
-use Rattle.jh_settings.proofs.ElementLemmas.{first_read, at_fault}
+use Rattle.jh_settings.proofs.ElementLemmas.{first_read, in_error}
 use Rattle.jh_settings.proofs.elements.first_element.Goals as goal
 
 pub read_one-requires : goal.read_one-requires
@@ -16,4 +16,4 @@ returns-in_ok-unless_memory-in-Err-clause-element c =
       | inl memory ↦ absurd (c.in_ok-unless_memory-in-Err.ensures memory)
       | inr nothing ↦ nothing
     ] in
-    at_fault c.args.text.now refused
+    in_error c.args.text.now refused

@@ -1,5 +1,5 @@
 use Rattle.std.proofs.Common.{◌<◌, ◌≤◌, ◌∙◌, length, arith, rules}
-use Rattle.jh_env.specs.TextFaults.{repeats}
+use Rattle.jh_env.specs.TextErrors.{repeats}
 use Rattle.jh_env.specs.TextInside.{entries_said}
 use Rattle.jh_env.proofs.TextTellingLemmas.{all_set, more_set, repeated_first, said_at, among_said, length-entries_said}
 use Rattle.jh_env.proofs.texts.setting.set_all.Goals as goal

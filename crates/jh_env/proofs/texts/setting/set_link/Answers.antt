@@ -5,8 +5,8 @@ use Rattle.jh_env.specs.Starting.{SetsLink, RefusesLink}
 use Rattle.jh_env.specs.TextInside.{fits_link}
 use Rattle.std.proofs.lemmas.Result.{err_from_is_err_and}
 use Rattle.jh_env.specs.TextCells.{link_with}
-use Rattle.jh_env.specs.TextFaults.{place_of}
-use Rattle.jh_env.proofs.TextCellLemmas.{sets_link, own_fault-link, same_name, other_name, place_below, link_apart, chosen, passed_over, link_amount-unfit, link_amount-starts, link_refused}
+use Rattle.jh_env.specs.TextErrors.{place_of}
+use Rattle.jh_env.proofs.TextCellLemmas.{sets_link, entry_error-link, same_name, other_name, place_below, link_apart, chosen, passed_over, link_amount-unfit, link_amount-starts, link_refused}
 use Rattle.jh_env.proofs.texts.setting.set_link.Goals as goal
 
 pub returns-in_default : goal.returns-in_default
@@ -18,7 +18,7 @@ returns-in_default c =
     let to_at : place_of names c.args.to.now ≡ Some b = search rules in
     let none : link_at c.args.start.now.cells a b ≡ None = search rules in
     let same = c.requires.no_link a b (place_below names c.args.from.now a from_at) (place_below names c.args.to.now b to_at) none in
-    rw (own_fault-link names c.args.from.now c.args.to.now c.args.change a b from_at to_at, same_name names c.args.from.now c.args.to.now a b from_at to_at same) refl
+    rw (entry_error-link names c.args.from.now c.args.to.now c.args.change a b from_at to_at, same_name names c.args.from.now c.args.to.now a b from_at to_at same) refl
 
 pub returns-in_err-set_link : goal.returns-in_err-set_link
 returns-in_err-set_link c =
@@ -46,7 +46,7 @@ returns-in_default-applied c =
     let apart = other_name names c.args.from.now c.args.to.now a b from_at to_at (link_apart c.args.start.now.cells a b c.in-Some.link there) in
     let none : (if fits_link c.args.change then Some (link_with c.args.change c.in-Some.link) else None) ≡ None = search rules in
     let bad = link_amount-unfit c.args.change (passed_over (fits_link c.args.change) (link_with c.args.change c.in-Some.link) none) in
-    rw (own_fault-link names c.args.from.now c.args.to.now c.args.change a b from_at to_at, apart, bad) refl
+    rw (entry_error-link names c.args.from.now c.args.to.now c.args.change a b from_at to_at, apart, bad) refl
 
 pub returns : goal.returns
 returns c =
@@ -61,6 +61,6 @@ returns c =
     let apart = other_name names c.args.from.now c.args.to.now a b from_at to_at (link_apart c.args.start.now.cells a b c.in-Some.link there) in
     let sets : SetsLink c.args.start.now a b (link_with c.args.change c.in-Some.link) c.set_link.new.self = rw took.1 at c.in_ok-set_link.ensures in
     let good = link_amount-starts c.args.change c.in-Some.link took.0 sets.amounts in (
-      rw (own_fault-link names c.args.from.now c.args.to.now c.args.change a b from_at to_at, apart, good) refl,
+      rw (entry_error-link names c.args.from.now c.args.to.now c.args.change a b from_at to_at, apart, good) refl,
       sets_link c.args.start.now c.set_link.new.self c.args.from.now c.args.to.now c.args.change a b c.in-Some.link from_at to_at there c.requires sets,
     )

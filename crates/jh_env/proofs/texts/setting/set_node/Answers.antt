@@ -3,8 +3,8 @@ use Rattle.std.proofs.lemmas.Result.{err_from_is_err_and}
 use Rattle.jh_env.specs.Cells.{node_at}
 use Rattle.jh_env.specs.Starting.{SetsNode, RefusesNode}
 use Rattle.jh_env.specs.TextCells.{node_with}
-use Rattle.jh_env.specs.TextFaults.{place_of}
-use Rattle.jh_env.proofs.TextCellLemmas.{sets_node, own_fault-node, node_amount-starts, node_refused}
+use Rattle.jh_env.specs.TextErrors.{place_of}
+use Rattle.jh_env.proofs.TextCellLemmas.{sets_node, entry_error-node, node_amount-starts, node_refused}
 use Rattle.jh_env.proofs.texts.setting.set_node.Goals as goal
 
 pub returns-in_err-set_node : goal.returns-in_err-set_node
@@ -26,6 +26,6 @@ returns c =
     let there : node_at c.args.start.now.cells a ≡ Some c.in-Some.cell = search rules in
     let sets : SetsNode c.args.start.now a (node_with c.args.change c.in-Some.cell) c.set_node.new.self = rw c.applied.ensures at c.in_ok-set_node.ensures in
     let good = node_amount-starts c.args.change c.in-Some.cell sets.amount in (
-      rw (own_fault-node names c.args.name.now c.args.change a at, good) refl,
+      rw (entry_error-node names c.args.name.now c.args.change a at, good) refl,
       sets_node c.args.start.now c.set_node.new.self c.args.name.now c.args.change a c.in-Some.cell at there c.requires sets,
     )

@@ -1,5 +1,5 @@
 -- Why the text of an environment is refused (this project's own): its keys, the shape of its values, its names,
--- then the first entry at fault.
+-- then the first entry in error.
 use Rattle.std.specs.Prelude.{◌≡◌, ℕ, ◌-◌, ◌^◌, ◌<◌, ◌&&◌, Bool, true, false, not, ℤ, pos, negsuc, int_le, List, [], ◌∷◌, take, if◌then◌else◌, slice_get, position, bytes_eq, Option, Some, None, is_some, option_and_then, Ok, Err}
 use Rattle.std.specs.List.{list_all, list_any}
 use Rattle.std.specs.Option.{option_or}
@@ -50,9 +50,9 @@ abbrev pub is_amount : Entry → Bool
 is_amount (OfLink from to says) = is_link_amount says
 is_amount (OfNode node says) = is_node_amount says
 
--- the fault of an entry by itself
-abbrev pub own_fault : List (List ℕ) → Entry → Option EnvTextError
-own_fault names entry =
+-- the error of an entry by itself
+abbrev pub entry_error : List (List ℕ) → Entry → Option EnvTextError
+entry_error names entry =
     if not (names_nodes names entry) then Some UnknownNode
     else if links_itself entry then Some SelfLink
     else if not (is_amount entry) then Some BadAmount
@@ -78,22 +78,23 @@ repeats (OfLink a b x) (OfLink c d y) = bytes_eq a c && (bytes_eq b d && same_li
 repeats (OfNode a x) (OfNode b y) = bytes_eq a b && same_node_key x y
 repeats _ _ = false
 
--- the fault of an entry, judged against those before it
-abbrev pub fault_after : List (List ℕ) → List Entry → Entry → Option EnvTextError
-fault_after names before entry = option_or (own_fault names entry) (if list_any (repeats entry) before then Some RepeatedEntry else None)
+-- the error of an entry, judged against those before it
+abbrev pub entry_error_after : List (List ℕ) → List Entry → Entry → Option EnvTextError
+entry_error_after names before entry = option_or (entry_error names entry) (if list_any (repeats entry) before then Some RepeatedEntry else None)
 
--- the fault of the entry at a place
-abbrev pub fault_at : List (List ℕ) → List Entry → ℕ → Option EnvTextError
-fault_at names entries place = option_and_then (fault_after names (take place entries)) (slice_get entries place)
+-- the error of the entry at a place
+abbrev pub entry_error_at : List (List ℕ) → List Entry → ℕ → Option EnvTextError
+entry_error_at names entries place =
+    option_and_then (entry_error_after names (take place entries)) (slice_get entries place)
 
--- no entry is at fault
+-- no entry is in error
 abbrev pub AreSound : List (List ℕ) → List Entry → Type 0
-AreSound names entries = (place : ℕ) → fault_at names entries place ≡ None
+AreSound names entries = (place : ℕ) → entry_error_at names entries place ≡ None
 
--- the first entry at fault has this fault
-abbrev pub HasFault : List (List ℕ) → List Entry → EnvTextError → Type 0
-HasFault names entries fault =
-    (place : ℕ) × (fault_at names entries place ≡ Some fault) × ((earlier : ℕ) → earlier < place → fault_at names entries earlier ≡ None)
+-- the first entry in error has this error
+abbrev pub HasEntryError : List (List ℕ) → List Entry → EnvTextError → Type 0
+HasEntryError names entries error =
+    (place : ℕ) × (entry_error_at names entries place ≡ Some error) × ((earlier : ℕ) → earlier < place → entry_error_at names entries earlier ≡ None)
 
 -- these are the names and entries of the text
 abbrev pub HasShape : Edn → Shape → Type 0
@@ -103,9 +104,9 @@ HasShape value shape = (keys : Keys) × (keys_of value ≡ Ok keys) × (shape_of
 abbrev pub RefusesNodes : Edn → NodesError → Type 0
 RefusesNodes value error = (shape : Shape) × HasShape value shape × RefusesNames shape.names error
 
--- its first entry at fault has this fault
+-- its first entry in error has this error
 abbrev pub RefusesEntry : Edn → EnvTextError → Type 0
-RefusesEntry value fault = (shape : Shape) × HasShape value shape × AreFew shape.names × AreNodeNames shape.names × HasFault shape.names shape.entries fault
+RefusesEntry value error = (shape : Shape) × HasShape value shape × AreFew shape.names × AreNodeNames shape.names × HasEntryError shape.names shape.entries error
 
 -- Why a text is refused. Memory is needed only once its keys are good.
 abbrev pub RefusesText : Edn → EnvTextError → Type 0

@@ -1,10 +1,10 @@
 //! What can be wrong with a text, while it is read.
 //!
-//! A fault says how many bytes were left, and not its line, so that lines are counted once, at the end, and only
-//! for a text that is refused. `specs/Reading.antt` says which fault a text has.
+//! An error says how many bytes were left, and not its line, so that lines are counted once, at the end, and only
+//! for a text that is refused. `specs/Reading.antt` says which error a text has.
 
 ghost use Rattle.std.specs.Prelude.{◌≡◌, length};
-ghost use Rattle.jh_edn.specs.declared.fault.ReadError.TheVariants.{Memory};
+ghost use Rattle.jh_edn.specs.declared.syntax_error.ReadError.TheVariants.{Memory};
 
 use std::alloc::{AllocError, AllocFailed};
 
@@ -23,7 +23,7 @@ pub(crate) enum Kind {
 
 /// What is wrong, and how many bytes of the text are left there.
 #[derive(Clone, Copy, Debug, PartialEq, Eq)]
-pub(crate) struct Fault {
+pub(crate) struct SyntaxError {
     pub(crate) kind: Kind,
     pub(crate) left: usize,
 }
@@ -32,7 +32,7 @@ pub(crate) struct Fault {
 #[derive(Debug, Drop)]
 pub(crate) enum ReadError {
     Memory,
-    Fault(Fault),
+    Syntax(SyntaxError),
 }
 
 impl From<AllocError> for ReadError {
@@ -51,11 +51,11 @@ impl<T: Drop> From<AllocFailed<T>> for ReadError {
     }
 }
 
-/// The fault at the front of the text.
-pub(crate) fn fault_at(kind: Kind, rest: &str) -> ReadError
-    ensures { result ≡ ReadError.Fault (record { kind = kind; left = length rest.now }) }
+/// The error at the front of the text.
+pub(crate) fn syntax_error_at(kind: Kind, rest: &str) -> ReadError
+    ensures { result ≡ ReadError.Syntax (record { kind = kind; left = length rest.now }) }
 {
-    ReadError::Fault(Fault {
+    ReadError::Syntax(SyntaxError {
         kind,
         left: rest.len(),
     })

@@ -1,11 +1,11 @@
-//! Faults of one key or of several, told at the place in the whole history.
+//! Errors of one key or of several, told at the place in the whole history.
 
 use crate::rows::{ask_all, by};
 use jh_ops::Workload;
 use std::test::Fail;
 
 #[test]
-fn faults_have_places_in_the_whole_history(rt: HostRuntime) -> Result<(), Fail> {
+fn errors_have_places_in_the_whole_history(rt: HostRuntime) -> Result<(), Fail> {
     let rows = "
         0 :invoke :add [1 5]; 0 :ok :add [1 5]; 1 :invoke :add [2 1]; 0 :invoke :read [1 nil]; \
         1 :invoke :add [2 1]; 0 :ok :read [1 5] => operation 4: double invoke
@@ -34,7 +34,7 @@ fn the_first_key_decides(rt: HostRuntime) -> Result<(), Fail> {
 }
 
 #[test]
-fn registers_and_sets_have_faults_by_key(rt: HostRuntime) -> Result<(), Fail> {
+fn registers_and_sets_have_errors_by_key(rt: HostRuntime) -> Result<(), Fail> {
     let rows = "
         0 :invoke :write [1 5]; 0 :ok :write [1 5]; 1 :invoke :write [2 :x]; 1 :ok :write [2 1] \
         => operation 2: bad value

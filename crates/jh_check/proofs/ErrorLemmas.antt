@@ -1,0 +1,40 @@
+-- The first of the errors, one call after another.
+use Rattle.std.proofs.Common.{◌≡◌, ℕ, ◌+◌, ◌<◌, ◌≤◌, true, false, cond, nat_lt, List, [], ◌∷◌, ◌++◌, length, take, get_or, refl, sym, ap, subst, ◌∙◌, arith}
+use Rattle.std.specs.Prelude.{Option, Some, None, IfSome}
+use Rattle.std.specs.List.{cons_option}
+use Rattle.std.proofs.lemmas.List.{append-nil, take_more}
+use Rattle.std.proofs.lemmas.List.Elements.{All-push, All-weaker, All-nil, Contains-push, Contains-append_left, filter_map-append}
+use Rattle.std.proofs.lemmas.Bool.{ltb-true, ltb-false}
+use Rattle.jh_ops.specs.Operation.{Operation}
+use Rattle.jh_ops.specs.declared.pairs.Pair.{Pair}
+use Rattle.jh_check.specs.CounterResults.{IsFirst, place_of, call_error, errors_in}
+use Rattle.jh_check.specs.CounterInside.{IsFirstOf, IsValueError, earlier}
+use Rattle.jh_check.specs.declared.error.CheckError.{CheckError}
+
+above : (a b : ℕ) → nat_lt a b ≡ false → b ≤ a
+above a b h = ltb-false a b h
+
+-- one error more, or none
+pub first_more : (first next : Option CheckError) (errors : List CheckError) → IsFirstOf first errors → IfSome next IsValueError → IsFirstOf (earlier first next) (errors ++ cons_option next [])
+first_more None None errors h v = append-nil errors ∙ h
+first_more None (Some next) errors h v =
+    let none : errors ++ next ∷ [] ≡ next ∷ [] = ap (λ w. w ++ next ∷ []) h in
+    (subst (IsFirst next) (sym none) (Contains-push [] next, All-push (λ other. place_of next ≤ place_of other) [] next (All-nil (λ other. place_of next ≤ place_of other)) (omega arith)), v)
+first_more (Some first) None errors h v = subst (λ w. IsFirst first w × IsValueError first) (sym (append-nil errors)) h
+first_more (Some first) (Some next) errors h v =
+    elim (nat_lt (place_of next) (place_of first)) as (λ b. nat_lt (place_of next) (place_of first) ≡ b → IsFirstOf (cond b (Some next) (Some first)) (errors ++ next ∷ [])) [
+      | true ↦ λ e.
+          let below : place_of next < place_of first = lower e in
+          ((Contains-push errors next, All-push (λ other. place_of next ≤ place_of other) errors next (All-weaker (λ other. place_of first ≤ place_of other) (λ other. place_of next ≤ place_of other) (λ other le. omega arith) errors h.0.1) (omega arith)), v)
+      | false ↦ λ e.
+          let le : place_of first ≤ place_of next = above (place_of next) (place_of first) e in
+          ((Contains-append_left errors (next ∷ []) first h.0.0, All-push (λ other. place_of first ≤ place_of other) errors next h.0.1 le), h.1)
+    ] refl where
+      lower : nat_lt (place_of next) (place_of first) ≡ true → place_of next < place_of first
+      lower e = ltb-true (place_of next) (place_of first) e
+
+pub errors_more : (history : List Operation) (calls : List Pair) (i : ℕ) (d : Pair) → i < length calls
+    → errors_in history (take (i + 1) calls) ≡ errors_in history (take i calls) ++ cons_option (call_error history (get_or calls i d)) []
+errors_more history calls i d less =
+    ap (errors_in history) (take_more calls i d less)
+    ∙ filter_map-append (call_error history) (take i calls) (get_or calls i d ∷ [])
