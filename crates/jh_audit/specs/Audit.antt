@@ -74,8 +74,8 @@ abbrev pub IsOverAt : List Operation → ℕ → Type 0
 IsOverAt history place = HoldsAt history place IsOver
 
 -- just before an invocation stands nothing, or what is over
-abbrev pub MayAsk : List Operation → ℕ → Type 0
-MayAsk history place = (k : ℕ) → JustBefore history k place → IsOverAt history k
+abbrev pub MayInvoke : List Operation → ℕ → Type 0
+MayInvoke history place = (k : ℕ) → JustBefore history k place → IsOverAt history k
 
 -- an operation is not the last of its process
 abbrev pub IsGoneOn : List Operation → ℕ → Type 0
@@ -88,9 +88,9 @@ Follows history place asked = (k : ℕ) × JustBefore history k place × SaysAt 
 -- an invocation may be made and is completed; a completion follows the invocation of its request or
 -- entry
 abbrev pub IsPaired : List Operation → ℕ → Form → Type 0
-IsPaired history place (Asks process request) = MayAsk history place × IsGoneOn history place
+IsPaired history place (Asks process request) = MayInvoke history place × IsGoneOn history place
 IsPaired history place (Tells process request number) = Follows history place (Asks process request)
-IsPaired history place (Begins entry) = MayAsk history place × IsGoneOn history place
+IsPaired history place (Begins entry) = MayInvoke history place × IsGoneOn history place
 IsPaired history place (Ends entry number) = Follows history place (Begins entry)
 
 -- the event of a completion comes after all that are named before its invocation

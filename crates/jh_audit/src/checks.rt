@@ -25,7 +25,7 @@ ghost use Rattle.jh_audit.specs.Audit.{
   IsSound,
   IsToldBy,
   JustBefore,
-  MayAsk,
+  MayInvoke,
   NeedsName,
   NothingBefore,
   SameProcess,
@@ -169,7 +169,7 @@ fn is_over_at(history: &[Op], place: usize) -> bool
 /// Whether just before an invocation stands nothing, or what is over.
 fn may_ask(history: &[Op], place: usize) -> bool
     requires { place < length history.now }
-    ensures { IsTrue result ↔ MayAsk (operations history.now) place }
+    ensures { IsTrue result ↔ MayInvoke (operations history.now) place }
 {
     match just_before(history, place) {
         Some(earlier) => is_over_at(history, earlier),

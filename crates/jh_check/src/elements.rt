@@ -65,7 +65,7 @@ impl Element for ReadBounds {
 }
 
 impl Element for Duplicate {
-    ghost use Rattle.jh_check.specs.IdsInside.{view_duplicate};
+    ghost use Rattle.jh_check.specs.IdsView.{view_duplicate};
     ghost use Rattle.jh_check.specs.Lines.{duplicate_value};
 
     ghost value = { λ d. duplicate_value (view_duplicate d) };

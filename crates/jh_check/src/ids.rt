@@ -7,7 +7,7 @@ ghost use Rattle.jh_ops.specs.declared.operation.Kind.TheVariants.{Invoke};
 ghost use Rattle.jh_check.specs.Asked as rule;
 ghost use Rattle.jh_check.specs.Distinct.{Ascends, count_of, once};
 ghost use Rattle.jh_check.specs.IdsResults.{ids_result, is_duplicate};
-ghost use Rattle.jh_check.specs.IdsInside.{view_duplicates};
+ghost use Rattle.jh_check.specs.IdsView.{view_duplicates};
 ghost use Rattle.jh_check.specs.declared.error.CheckError.TheVariants.{OutOfMemory};
 
 use crate::asked::{is_asked, sorted_values};
@@ -39,7 +39,7 @@ impl Model for Duplicates {
     ghost use Rattle.std.specs.Coded.{coded_list, coded_ℕ, coded×};
     ghost use Rattle.jh_edn.specs.Edn.{Edn};
     ghost use Rattle.jh_edn.specs.Code.{edn_coded};
-    ghost use Rattle.jh_check.specs.IdsInside.{view_duplicates};
+    ghost use Rattle.jh_check.specs.IdsView.{view_duplicates};
 
     ghost Value = { List (Edn × ℕ) };
 

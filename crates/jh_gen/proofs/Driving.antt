@@ -9,7 +9,7 @@ use Rattle.jh_gen.specs.Scope.{Scope, Question, is_in}
 use Rattle.jh_gen.specs.Offers.{Offer, spent, offer}
 use Rattle.jh_gen.specs.Fits.{fits, all_fit, shares_fit, shares_sum}
 use Rattle.jh_gen.specs.State.{State, is_done, taken, call_of, rest_of, left_of}
-use Rattle.jh_gen.specs.DriverState.{DriverState, seats_from, all_seats, seat_of, process_of, asked_by, StandsFor, Gives, Answers}
+use Rattle.jh_gen.specs.DriverState.{DriverState, seats_from, all_seats, seat_of, next_process, question_by, IsDriverOf, Gives, Answers}
 use Rattle.jh_gen.specs.declared.answers.Thread.{Thread}
 use Rattle.jh_ops.specs.declared.operation.Process.{Process}
 use Rattle.jh_gen.specs.declared.answers.GenAnswer.TheVariants as answer
@@ -78,29 +78,29 @@ one_more n = omega arith
 
 -- The answers.
 
-pub answers_done : (d : DriverState) (x : Thread) (word : ℕ) → is_done d.state ≡ true → (g : Generator) (t : Tally) → StandsFor d g t → Answers g t d x word Done d
+pub answers_done : (d : DriverState) (x : Thread) (word : ℕ) → is_done d.state ≡ true → (g : Generator) (t : Tally) → IsDriverOf d g t → Answers g t d x word Done d
 answers_done d x word done g t s = (spent_here d.clients d.state g t true s.left done, refl)
 
-pub answers_pending : (d e : DriverState) (x : Thread) (word : ℕ) → seat_of x ≤ d.clients → is_done d.state ≡ false → call_of (taken d.state (asked_by d x word)) ≡ None → e ≡ d → (g : Generator) (t : Tally) → StandsFor d g t → Answers g t d x word Pending e
+pub answers_pending : (d e : DriverState) (x : Thread) (word : ℕ) → seat_of x ≤ d.clients → is_done d.state ≡ false → call_of (taken d.state (question_by d x word)) ≡ None → e ≡ d → (g : Generator) (t : Tally) → IsDriverOf d g t → Answers g t d x word Pending e
 answers_pending d e x word known unspent none same g t s =
-    (spent_here d.clients d.state g t false s.left unspent, pending_here d.clients d.state g t (asked_by d x word) s.left known none, same)
+    (spent_here d.clients d.state g t false s.left unspent, pending_here d.clients d.state g t (question_by d x word) s.left known none, same)
 
 -- the driver after a call
 pub record Gave (d e : DriverState) (x : Thread) (word : ℕ) (p : Process) (c : Call) : Type 0 where
   pub known : seat_of x ≤ d.clients
   pub unspent : is_done d.state ≡ false
-  pub call : call_of (taken d.state (asked_by d x word)) ≡ Some c
-  pub rest : e.state ≡ rest_of d.state (taken d.state (asked_by d x word))
+  pub call : call_of (taken d.state (question_by d x word)) ≡ Some c
+  pub rest : e.state ≡ rest_of d.state (taken d.state (question_by d x word))
   pub given : e.given ≡ d.given + 1
   pub clients : e.clients ≡ d.clients
   pub busy : e.busy ≡ set d.busy (seat_of x) true
   pub processes : e.processes ≡ d.processes
-  pub process : p ≡ process_of d x
+  pub process : p ≡ next_process d x
 
-pub answers_call : (d e : DriverState) (x : Thread) (word : ℕ) (p : Process) (c : Call) → Gave d e x word p c → (g : Generator) (t : Tally) → StandsFor d g t → Answers g t d x word (answer.Call p c) e
+pub answers_call : (d e : DriverState) (x : Thread) (word : ℕ) (p : Process) (c : Call) → Gave d e x word p c → (g : Generator) (t : Tally) → IsDriverOf d g t → Answers g t d x word (answer.Call p c) e
 answers_call d e x word p c h g t s =
-    let found = given_here d.clients d.state e.state g t (asked_by d x word) c s.left h.known h.call h.rest in
-    let stands : StandsFor e g (found.path ∷ t) = record {
+    let found = given_here d.clients d.state e.state g t (question_by d x word) c s.left h.known h.call h.rest in
+    let stands : IsDriverOf e g (found.path ∷ t) = record {
       left = found.rest ∙ ap (λ n. left_of g (found.path ∷ t) (all_seats n)) (sym h.clients);
       count = h.given ∙ ap (λ n. n + 1) s.count ∙ one_more (length t);
     } in

@@ -63,7 +63,7 @@ all_seats clients = seats_from 0 (suc clients)
 
 -- The driver is that of this generator after this tally: what is left in it is what the tally leaves, and it gave as
 -- many calls as the tally has.
-pub record StandsFor (d : DriverState) (g : Generator) (t : Tally) : Type 0 where
+pub record IsDriverOf (d : DriverState) (g : Generator) (t : Tally) : Type 0 where
   pub left : d.state ≡ left_of g t (all_seats d.clients)
   pub count : d.given ≡ length t
 
@@ -83,8 +83,8 @@ process_in processes (thread.Client n) = process.Client (slice_index processes (
 process_in processes thread.Nemesis = process.Nemesis
 
 -- whose operation a thread's next one is
-abbrev pub process_of : DriverState → Thread → Process
-process_of d x = process_in d.processes x
+abbrev pub next_process : DriverState → Thread → Process
+next_process d x = process_in d.processes x
 
 -- Making a driver.
 
@@ -118,13 +118,13 @@ RefusesAsking d x BusyThread = IsKnown d x × (is_busy d x ≡ true)
 RefusesAsking d x TooManyOps = IsKnown d x × (is_busy d x ≡ false) × (max_calls ≤ d.given)
 RefusesAsking d x NothingOpen = ⊥
 
-abbrev pub asked_by : DriverState → Thread → ℕ → Question
-asked_by d x word = record { seat = seat_of x; word = word; busy = d.busy }
+abbrev pub question_by : DriverState → Thread → ℕ → Question
+question_by d x word = record { seat = seat_of x; word = word; busy = d.busy }
 
 -- The driver d becomes e by giving thread x a call: its generator has given one more call, by this path, the thread
 -- is busy, and nothing else changes.
 pub record Gives (d e : DriverState) (x : Thread) (g : Generator) (t : Tally) (path : Path) : Type 0 where
-  pub stands : StandsFor e g (path ∷ t)
+  pub stands : IsDriverOf e g (path ∷ t)
   pub clients : e.clients ≡ d.clients
   pub busy : e.busy ≡ set d.busy (seat_of x) true
   pub processes : e.processes ≡ d.processes
@@ -134,10 +134,11 @@ pub record Gives (d e : DriverState) (x : Thread) (g : Generator) (t : Tally) (p
 abbrev pub Answers : Generator → Tally → DriverState → Thread → ℕ → GenAnswer → DriverState → Type 0
 Answers g t d x word Done e = (spent g t (all_seats d.clients) ≡ true) × (e ≡ d)
 Answers g t d x word Pending e =
-    (spent g t (all_seats d.clients) ≡ false) × (offer g t (all_seats d.clients) (asked_by d x word) ≡ None) × (e ≡ d)
+    (spent g t (all_seats d.clients) ≡ false)
+    × (offer g t (all_seats d.clients) (question_by d x word) ≡ None) × (e ≡ d)
 Answers g t d x word (Call p c) e =
-    (spent g t (all_seats d.clients) ≡ false) × (p ≡ process_of d x)
-    × (path : Path) × (offer g t (all_seats d.clients) (asked_by d x word) ≡ Some (path, c)) × Gives d e x g t path
+    (spent g t (all_seats d.clients) ≡ false) × (p ≡ next_process d x)
+    × (path : Path) × (offer g t (all_seats d.clients) (question_by d x word) ≡ Some (path, c)) × Gives d e x g t path
 
 -- Ending an operation.
 

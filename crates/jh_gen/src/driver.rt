@@ -8,7 +8,7 @@ ghost use Rattle.jh_gen.specs.View.{generator_of};
 ghost use Rattle.jh_gen.specs.Tally.{Tally};
 ghost use Rattle.jh_gen.specs.DriverState as rule;
 ghost use Rattle.jh_gen.specs.DriverState.{Answers, CanDrive, IsFresh, IsKnown, MayAsk, MayEnd, RefusesAsking};
-ghost use Rattle.jh_gen.specs.DriverState.{RefusesDriver, RefusesEnding, StandsFor, after_end, process_of, seat_of};
+ghost use Rattle.jh_gen.specs.DriverState.{RefusesDriver, RefusesEnding, IsDriverOf, after_end, next_process, seat_of};
 
 use crate::answers::{DriverError, Ended, GenAnswer, GenError, Thread};
 use crate::build::{build, fits};
@@ -102,7 +102,7 @@ impl Driver {
         ensures judged { MatchResult result
             (λ _. CanDrive clients (generator_of source))
             (RefusesDriver clients (generator_of source)) }
-        ensures stands { IfOk result (λ driver. StandsFor driver (generator_of source) []) }
+        ensures stands { IfOk result (λ driver. IsDriverOf driver (generator_of source) []) }
         ensures fresh { IfOk result (λ driver. IsFresh driver clients) }
     {
         if clients < 1 || clients > MAX_CLIENTS {
@@ -125,7 +125,7 @@ impl Driver {
     /// The process whose operation a thread's next one is; none for a thread that the driver does not have. A client
     /// thread's is first its number, and each operation that ends as `Info` adds the number of client threads.
     pub fn process(&self, thread: Thread) -> Option<Process>
-        ensures { SomeIff result (IsKnown self.now thread) (process_of self.now thread) }
+        ensures { SomeIff result (IsKnown self.now thread) (next_process self.now thread) }
     {
         if seat(thread) > self.clients {
             return None;
@@ -144,7 +144,7 @@ impl Driver {
         ensures unchanged { OnErr result (self.new ≡ self.old) }
 
         // Whatever generator and tally the driver stands for, the answer is theirs.
-        ensures answered { (g : Generator) (t : Tally) → StandsFor self.old g t
+        ensures answered { (g : Generator) (t : Tally) → IsDriverOf self.old g t
             → IfOk result (λ answer. Answers g t self.old thread word answer self.new) }
     {
         let seat = seat(thread);

@@ -6,7 +6,7 @@ use Rattle.std.proofs.lemmas.List.{get_or-set_same, get_or-set_other, take_more,
 use Rattle.std.proofs.lemmas.List.Elements.{Contains-append_left, Contains-push, Contains-push_cases}
 use Rattle.std.specs.declared.alloc.Global.{Global}
 use Rattle.std.proofs.lemmas.List.Concat.{flat_map-append}
-use Rattle.jh_grudge.specs.Lists.{AreDistinct, joined}
+use Rattle.jh_grudge.specs.Lists.{AreDistinct, end_to_end}
 use Rattle.jh_grudge.specs.Marks.{Marks}
 use Rattle.jh_grudge.proofs.ListLemmas.{contains_none, distinct_none, distinct_push, repeated, not_distinct_left}
 
@@ -64,15 +64,15 @@ told false seen nodes not_distinct = ((λ e. absurd (both_ways false refl e)), (
 -- ---- components one by one
 
 joined_at : (components : List (Vec ℕ Global)) (i : ℕ) (component : Vec ℕ Global) → i < length components → component ≡ get_or components i component
-    → joined components ≡ (joined (take i components) ++ component.items) ++ joined (drop (i + 1) components)
+    → end_to_end components ≡ (end_to_end (take i components) ++ component.items) ++ end_to_end (drop (i + 1) components)
 joined_at components i component below is =
-    ap joined (sym (take-append-drop i components) ∙ ap (λ xs. take i components ++ xs) (drop_more components i component below ∙ ap (λ x. x ∷ drop (i + 1) components) (sym is)))
+    ap end_to_end (sym (take-append-drop i components) ∙ ap (λ xs. take i components ++ xs) (drop_more components i component below ∙ ap (λ x. x ∷ drop (i + 1) components) (sym is)))
     ∙ flat_map-append (λ v. v.items) (take i components) (component ∷ drop (i + 1) components)
-    ∙ sym (append_assoc (joined (take i components)) component.items (joined (drop (i + 1) components)))
+    ∙ sym (append_assoc (end_to_end (take i components)) component.items (end_to_end (drop (i + 1) components)))
 
 -- what is marked again stands twice in all components together
 pub joined_stop : (components : List (Vec ℕ Global)) (i : ℕ) (component : Vec ℕ Global) → i < length components → component ≡ get_or components i component
-    → ¬ AreDistinct (joined (take i components) ++ component.items) → ¬ AreDistinct (joined components)
+    → ¬ AreDistinct (end_to_end (take i components) ++ component.items) → ¬ AreDistinct (end_to_end components)
 joined_stop components i component below is fails distinct =
-    not_distinct_left (joined (take i components) ++ component.items) (joined (drop (i + 1) components)) fails
+    not_distinct_left (end_to_end (take i components) ++ component.items) (end_to_end (drop (i + 1) components)) fails
     (subst (λ (xs : List ℕ). AreDistinct xs) (joined_at components i component below is) distinct)

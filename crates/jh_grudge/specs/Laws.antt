@@ -3,7 +3,7 @@
 use Rattle.std.specs.Prelude.{◌≡◌, ◌≢◌, ◌↔◌, ℕ, ◌*◌, ◌/◌, ◌<◌, ◌≤◌, List, length, slice_get, Some, Vec}
 use Rattle.std.specs.List.{Contains}
 use Rattle.std.specs.declared.alloc.Global.{Global}
-use Rattle.jh_grudge.specs.Lists.{AreDistinct, joined, lists_of}
+use Rattle.jh_grudge.specs.Lists.{AreDistinct, end_to_end, lists_of}
 use Rattle.jh_grudge.specs.Grudges.{CompleteDrops, BridgeDrops, RingDrops}
 
 -- A node sees itself and all nodes that it does not drop.
@@ -13,7 +13,7 @@ Sees Drops node other = ¬ Drops node other
 -- nobody drops itself
 abbrev pub CompleteSeesItself : Type 0
 CompleteSeesItself =
-    (components : List (Vec ℕ Global)) (node : ℕ) → AreDistinct (joined components)
+    (components : List (Vec ℕ Global)) (node : ℕ) → AreDistinct (end_to_end components)
     → Sees (CompleteDrops (lists_of components)) node node
 
 abbrev pub BridgeSeesItself : Type 0

@@ -14,8 +14,8 @@ abbrev pub lists_of : List (Vec ℕ Global) → List (List ℕ)
 lists_of components = map (λ component. component.items) components
 
 -- the components end to end
-abbrev pub joined : List (Vec ℕ Global) → List ℕ
-joined components = flat_map (λ component. component.items) components
+abbrev pub end_to_end : List (Vec ℕ Global) → List ℕ
+end_to_end components = flat_map (λ component. component.items) components
 
 -- the first half of a list, which has one node fewer where the halves differ
 abbrev pub first_half : List ℕ → List ℕ

@@ -2,7 +2,7 @@
 
 ghost use Rattle.std.specs.Prelude.{◌≡◌, ◌↔◌, ℕ, List, IsTrue, MatchResult, IfOk, drop};
 ghost use Rattle.std.specs.List.{All, Contains};
-ghost use Rattle.jh_grudge.specs.Lists.{AreDistinct, joined, lists_of};
+ghost use Rattle.jh_grudge.specs.Lists.{AreDistinct, end_to_end, lists_of};
 ghost use Rattle.jh_grudge.specs.Grudges.{
   BridgeDrops,
   CompleteDrops,
@@ -67,12 +67,12 @@ fn grudge_by(alloc: Global, ranks: &Ranks, rule: Rule) -> Result<Grudge, AllocEr
 ///
 /// Takes 256 steps for each node. Memory is wanted for the links alone, and for none if there is none.
 pub fn complete_grudge(alloc: Global, components: &[Vec<u8>]) -> Result<Grudge, AllocError>
-    requires { AreDistinct (joined components.now) }
+    requires { AreDistinct (end_to_end components.now) }
     ensures links { MatchResult result
         (CutsExactly (CompleteDrops (lists_of components.now)))
         (λ _. DropsSome (CompleteDrops (lists_of components.now))) }
     ensures ascending { IfOk result IsAscending }
-    ensures among { IfOk result (All (JoinsTwoOf (joined components.now))) }
+    ensures among { IfOk result (All (JoinsTwoOf (end_to_end components.now))) }
 {
     let mut ranks = [None; 256];
     for (number, component) in components.iter().enumerate() {

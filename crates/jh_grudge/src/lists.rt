@@ -6,7 +6,7 @@ ghost use Rattle.jh_grudge.specs.Lists.{
   AreDistinct,
   RefusesSplit,
   first_half,
-  joined,
+  end_to_end,
   lists_of,
   second_half,
   split_of,
@@ -68,7 +68,7 @@ pub fn distinct(nodes: &[u8]) -> bool
 
 /// Whether no node stands twice in the components, neither in one nor in two of them.
 pub fn distinct_components(components: &[Vec<u8>]) -> bool
-    ensures { IsTrue result ↔ AreDistinct (joined components.now) }
+    ensures { IsTrue result ↔ AreDistinct (end_to_end components.now) }
 {
     let mut seen = [false; 256];
     for component in components {
@@ -95,7 +95,7 @@ pub fn split_one(alloc: Global, nodes: &[u8], loner: u8) -> Result<Vec<Vec<u8>>,
     ensures parts { MatchResult result
         (λ parts. Contains nodes.now loner × (lists_of parts.items ≡ split_of loner nodes.now))
         (RefusesSplit nodes.now loner) }
-    ensures distinct { AreDistinct nodes.now → IfOk result (λ parts. AreDistinct (joined parts.items)) }
+    ensures distinct { AreDistinct nodes.now → IfOk result (λ parts. AreDistinct (end_to_end parts.items)) }
 {
     if !nodes.contains(&loner) {
         return Err(SplitError::UnknownNode);

@@ -14,7 +14,7 @@ use Rattle.jh_env.specs.Faults.{FaultValue, AreApart, kept_links, is_self_link, 
 use Rattle.jh_env.specs.Faults.{Slow, Loss, Fix, Bump}
 use Rattle.jh_env.proofs.FaultLemmas.{kept_apart, kept_all, none_apart}
 use Rattle.jh_nemesis.specs.FaultText.{Spelled, Links, Nodes, Bumps, SplitOne, Grudge, IsRingOverAll, needed, link_names, node_name, bump_said, place_of, both, ends_of, node_of, bump_of, amount_within, are_bumps, links_fault, nodes_fault, links_told, nodes_told, bumps_told, cut_of, split_told, named_told, fault_told, spelled}
-use Rattle.jh_nemesis.specs.NamedFaults.{AreLinksAmong, places, links_that, crosses, crosses_halves, crosses_bridge, touches, leaves_majority, is_at, option_is, ring_links, order_of}
+use Rattle.jh_nemesis.specs.NamedFaults.{AreLinksAmong, places, links_that, crosses, crosses_halves, crosses_bridge, touches, leaves_majority, is_at, option_is, ring_links, seeded_order}
 use Rattle.jh_nemesis.specs.StepText.{id_of, begun, begin_told, withdraw_told, word_told, told_in, step_told, fault_of_begin}
 use Rattle.jh_nemesis.specs.declared.steps.Step.{Step}
 use Rattle.jh_nemesis.specs.declared.steps.Step.TheVariants.{Withdraw, WithdrawAll, Undo, Redo}
@@ -238,7 +238,7 @@ named_parsed : (n : ℕ) (named : Named) → IsRingOverAll n (Some (Grudge named
 named_parsed n Named.Halves ring = cut_made n (links_that (crosses_halves n) n) (crossing (λ a. nat_lt a (n / 2)) n)
 named_parsed n Named.Bridge ring = cut_made n (links_that (crosses_bridge n) n) (bridging n)
 named_parsed n Named.Ring ring = cut_made n (ring_links (places n) n) (ringing (places n) n (places_apart n))
-named_parsed n (Named.ShuffledRing (pos seed)) ring = cut_made n (ring_links (order_of seed n) n) (ringing (order_of seed n) n (order_distinct n (order_of seed n) ring))
+named_parsed n (Named.ShuffledRing (pos seed)) ring = cut_made n (ring_links (seeded_order seed n) n) (ringing (seeded_order seed n) n (order_distinct n (seeded_order seed n) ring))
 named_parsed n (Named.ShuffledRing (negsuc z)) ring = tt
 
 split_parsed : (names : List (List ℕ)) (loner : List ℕ) → IfOk (split_told names loner) (IsFaultOn (length names))

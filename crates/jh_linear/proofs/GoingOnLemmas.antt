@@ -19,7 +19,7 @@ use Rattle.jh_linear.specs.declared.judge.Progress.TheVariants.{More, Complete a
 use Rattle.jh_linear.specs.declared.walk.WalkEnd.TheVariants.{Several, Stuck, Complete}
 use Rattle.jh_linear.specs.Order.{Allows, has, op_at}
 use Rattle.jh_linear.specs.Reached.{order_at}
-use Rattle.jh_linear.specs.Search.{Adds, AreMoves, AreSame, AreTried, CanReach, EachIsMove, EndsAs, Entered, Grows, GrowsTo, HasGone, IsBegun, IsFurthest, IsGoneOn, IsMadeBy, IsMove, IsMoved, IsProblem, IsThere, IsWhole, LeadsOn, Notes, StandsFor, Taken, Tried, WasReached, WereTried, call_of, class_at, end_at, invoked_at, next_at, place_of, stage_place, stages_in, unknown_at}
+use Rattle.jh_linear.specs.Search.{Adds, AreMoves, AreSame, AreTried, CanReach, EachIsMove, EndsAs, Entered, Grows, GrowsTo, HasGone, IsBegun, IsFurthest, IsGoneOn, IsMadeBy, IsMove, IsMoved, IsProblem, IsThere, IsWhole, LeadsOn, Notes, LeadsTo, Taken, Tried, WasReached, WereTried, call_of, class_at, end_at, invoked_at, next_at, place_of, stage_place, stages_in, unknown_at}
 use Rattle.jh_linear.proofs.GrowthLemmas.{below, grows_far, grows_none, grows_order, grows_push, grows_trans, known_leads, leads_more, new_leads, stands_copy}
 use Rattle.jh_linear.specs.TurnsInside.{IsWith, awaits, turns_left}
 use Rattle.jh_linear.proofs.LeadLemmas.{one_leads}
@@ -69,7 +69,7 @@ longer_with a b some = omega (arith, some, length-append a b)
 -- ---- entering a configuration
 
 module _ (problem : Problem) (stood : IsProblem problem) (old new : Search) (begun : IsBegun problem old) (at : ℕ) (low : at < length old.steps.items) (placed : List ℕ) (some : 0 < length placed)
-    (config : Config) (stands : StandsFor problem (order_at old.steps.items at ++ placed) config) where
+    (config : Config) (stands : LeadsTo problem (order_at old.steps.items at ++ placed) config) where
   pub entered_known : Adds old new problem.budget at placed config Known → Entered problem old new at placed config More
   entered_known e =
       let cs = old.configs.keys in
@@ -96,7 +96,7 @@ module _ (problem : Problem) (stood : IsProblem problem) (old new : Search) (beg
 
 -- ---- noting how far a configuration came
 
-pub noted : (problem : Problem) (stood : IsProblem problem) (old new : Search) (at : ℕ) (placed : List ℕ) (config : Config) → IsBegun problem old → at < length old.steps.items → StandsFor problem (order_at old.steps.items at ++ placed) config → config.stage < stages_in problem
+pub noted : (problem : Problem) (stood : IsProblem problem) (old new : Search) (at : ℕ) (placed : List ℕ) (config : Config) → IsBegun problem old → at < length old.steps.items → LeadsTo problem (order_at old.steps.items at ++ placed) config → config.stage < stages_in problem
     → Notes old new at placed config.stage → GrowsTo problem old new × (config.stage ≤ new.furthest.stage)
 noted problem stood old new at placed config begun low stands open'' notes =
     let cs = old.configs.keys in
@@ -131,16 +131,16 @@ module _ (problem : Problem) (stood : IsProblem problem) (old : Search) (begun :
   pub at_low : at < length old.steps.items
   at_low = below problem stood old.configs.keys old.steps.items begun.known at was.0 was.1
 
-  pub stands_here : StandsFor problem order copy
+  pub stands_here : LeadsTo problem order copy
   stands_here = stands_copy problem order config copy same (stands_copy problem order was.0 config was.2 (begun.known.stands at was.0 was.1))
 
   place_is : place_of problem config step.source ≡ place_of problem copy step.source
   place_is = place_same problem config copy same step.source
 
-  stands_made : StandsFor problem (order ++ first) made
-  stands_made = subst (λ o. StandsFor problem (order ++ o) made) (sym makes.placed_is) (makes.after.stands order stands_here)
+  stands_made : LeadsTo problem (order ++ first) made
+  stands_made = subst (λ o. LeadsTo problem (order ++ o) made) (sym makes.placed_is) (makes.after.stands order stands_here)
 
-  pub stands_next : StandsFor problem (order ++ placed) next
+  pub stands_next : LeadsTo problem (order ++ placed) next
   stands_next = gone.stands order stands_made
 
   pub some_placed : 0 < length placed

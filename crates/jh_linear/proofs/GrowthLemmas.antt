@@ -13,7 +13,7 @@ use Rattle.jh_linear.specs.declared.queue.Turn.{Turn}
 use Rattle.jh_linear.specs.declared.verdict.Step.{Step}
 use Rattle.jh_linear.specs.Order.{has}
 use Rattle.jh_linear.specs.Reached.{order_at, root}
-use Rattle.jh_linear.specs.Search.{AreSame, CanReach, Follows, Grows, IsAt, IsFurthest, IsProblem, IsSearch, LeadsOn, StandsFor, AreNext, arrived_by, furthest_order, stage_place, stages_in, without}
+use Rattle.jh_linear.specs.Search.{AreSame, CanReach, Follows, Grows, IsAt, IsFurthest, IsProblem, IsSearch, LeadsOn, LeadsTo, AreNext, arrived_by, furthest_order, stage_place, stages_in, without}
 use Rattle.jh_linear.specs.TurnsInside.{IsWith, awaits, turns_in, turns_left}
 use Rattle.jh_linear.proofs.TurnLemmas.{awaits_cases, awaits_kept, awaits_own, turns_more}
 use Rattle.jh_linear.proofs.SetLemmas.{has_append, has_without, in_without, not_true, same_tests, true_if}
@@ -28,7 +28,7 @@ pub same_flip : (a b : Config) → AreSame a b → AreSame b a
 same_flip a b h = (sym h.0, sym h.1, sym h.2, sym h.3)
 
 -- a copy of a configuration stands for the same orders
-pub stands_copy : (problem : Problem) (order : List ℕ) (a b : Config) → AreSame a b → StandsFor problem order a → StandsFor problem order b
+pub stands_copy : (problem : Problem) (order : List ℕ) (a b : Config) → AreSame a b → LeadsTo problem order a → LeadsTo problem order b
 stands_copy problem order a b same stands = record {
   follows = subst (λ v. Follows problem.ops.now [] problem.initial order v) same.3 stands.follows;
   searched = stands.searched;
@@ -55,7 +55,7 @@ module _ (problem : Problem) (stood : IsProblem problem) where
   stages = problem.history.stages.items
 
   -- a place in one of the orders of a configuration is in the other
-  placed_too : (a b : List ℕ) (x y : Config) → StandsFor problem a x → StandsFor problem b y → AreSame x y → y.stage < stages_in problem → (q : ℕ) → has a q ≡ true → has b q ≡ true
+  placed_too : (a b : List ℕ) (x y : Config) → LeadsTo problem a x → LeadsTo problem b y → AreSame x y → y.stage < stages_in problem → (q : ℕ) → has a q ≡ true → has b q ≡ true
   placed_too a b x y ax by same lt q h =
       let also : x.stage < stages_in problem = omega (arith, same.0, lt) in
       let where' : arrived_by arrivals stages x.stage ≡ arrived_by arrivals stages y.stage = ap (λ k. arrived_by arrivals stages k) same.0 in
@@ -69,15 +69,15 @@ module _ (problem : Problem) (stood : IsProblem problem) where
       ]
 
   -- the same configuration stands for the same places
-  pub same_places : (a b : List ℕ) (x y : Config) → StandsFor problem a x → StandsFor problem b y → AreSame x y → y.stage < stages_in problem → (q : ℕ) → has a q ≡ has b q
+  pub same_places : (a b : List ℕ) (x y : Config) → LeadsTo problem a x → LeadsTo problem b y → AreSame x y → y.stage < stages_in problem → (q : ℕ) → has a q ≡ has b q
   same_places a b x y ax by same lt q =
       same_tests (has a q) (has b q) (placed_too a b x y ax by same lt q) (placed_too b a y x by ax (same_flip x y same) (omega (arith, same.0, lt)) q)
 
   -- configurations with the same places and the same value are the same
-  same_stage : (a b : List ℕ) (x y : Config) → StandsFor problem a x → StandsFor problem b y → x.stage < stages_in problem → ((q : ℕ) → has a q ≡ has b q) → x.stage < y.stage → ⊥
+  same_stage : (a b : List ℕ) (x y : Config) → LeadsTo problem a x → LeadsTo problem b y → x.stage < stages_in problem → ((q : ℕ) → has a q ≡ has b q) → x.stage < y.stage → ⊥
   same_stage a b x y ax by low same lt = not_true _ (same _ ∙ by.known.passed x.stage lt) (ax.waits low)
 
-  pub are_alike : (a b : List ℕ) (x y : Config) → StandsFor problem a x → StandsFor problem b y → x.stage < stages_in problem → y.stage < stages_in problem → ((q : ℕ) → has a q ≡ has b q) → x.value ≡ y.value → AreSame x y
+  pub are_alike : (a b : List ℕ) (x y : Config) → LeadsTo problem a x → LeadsTo problem b y → x.stage < stages_in problem → y.stage < stages_in problem → ((q : ℕ) → has a q ≡ has b q) → x.value ≡ y.value → AreSame x y
   are_alike a b x y ax by xl yl same value =
       let one : x.stage ≡ y.stage = elim (cases_lt x.stage y.stage) as (λ _. x.stage ≡ y.stage) [
         | inl lt ↦ absurd (same_stage a b x y ax by xl same lt)
@@ -96,7 +96,7 @@ module _ (problem : Problem) (stood : IsProblem problem) where
       )
 
   -- two orders with the same places are as long as each other
-  same_length : (a b : List ℕ) (x y : Config) → StandsFor problem a x → StandsFor problem b y → ((q : ℕ) → has a q ≡ has b q) → length a ≤ length b
+  same_length : (a b : List ℕ) (x y : Config) → LeadsTo problem a x → LeadsTo problem b y → ((q : ℕ) → has a q ≡ has b q) → length a ≤ length b
   same_length a b x y ax by same = no_more a b (distinct problem.ops.now [] a problem.initial x.value ax.follows) (λ q h. sym (same q) ∙ h)
 
   module _ (cs : List Config) (ss : List Step) (search : IsSearch problem cs ss) where
@@ -104,7 +104,7 @@ module _ (problem : Problem) (stood : IsProblem problem) where
     below i c is = subst (λ n. i < n) search.sizes (slice_get_within cs i c is)
 
     -- a configuration that was known leads on as far as one that is the same
-    pub known_leads : (config found : Config) (i size n : ℕ) (order : List ℕ) → StandsFor problem order config → slice_get cs i ≡ Some found → AreSame config found → size < length order → CanReach problem n order config.value → LeadsOn problem cs ss size n
+    pub known_leads : (config found : Config) (i size n : ℕ) (order : List ℕ) → LeadsTo problem order config → slice_get cs i ≡ Some found → AreSame config found → size < length order → CanReach problem n order config.value → LeadsOn problem cs ss size n
     known_leads config found i size n order stands is same longer reach =
         let there = search.stands i found is in
         let places = same_places order (order_at ss i) config found stands there same (search.open' i found is) in
@@ -122,7 +122,7 @@ module _ (problem : Problem) (stood : IsProblem problem) where
           subst (λ o. CanReach problem n o config.value) (sym is) reach,
         )
 
-    pub search_push : (config : Config) (step : Step) → step.parent < length ss → StandsFor problem (order_at ss step.parent ++ step.placed) config → config.stage < stages_in problem
+    pub search_push : (config : Config) (step : Step) → step.parent < length ss → LeadsTo problem (order_at ss step.parent ++ step.placed) config → config.stage < stages_in problem
         → ((i : ℕ) (found : Config) → slice_get cs i ≡ Some found → AreSame config found → ⊥)
         → IsSearch problem (cs ++ config ∷ []) (ss ++ step ∷ [])
     search_push config step lt stands room none =
@@ -135,12 +135,12 @@ module _ (problem : Problem) (stood : IsProblem problem) where
             | inr new ↦ let is : length ss ≡ i = omega (arith, length_push ss step, high, new) in
                 subst (λ s. s.parent < i) (sym (get_or_push ss step root i is)) (subst (λ n. step.parent < n) is lt)
           ];
-          stands = λ i c is. elim (get_cases cs config c i is) as (λ _. StandsFor problem (order_at (ss ++ step ∷ []) i) c) [
-            | inl old ↦ subst (λ o. StandsFor problem o c) (sym (order_kept ss step i (below i c old))) (search.stands i c old)
+          stands = λ i c is. elim (get_cases cs config c i is) as (λ _. LeadsTo problem (order_at (ss ++ step ∷ []) i) c) [
+            | inl old ↦ subst (λ o. LeadsTo problem o c) (sym (order_kept ss step i (below i c old))) (search.stands i c old)
             | inr new ↦
-                let here : StandsFor problem (order_at (ss ++ step ∷ []) (length ss)) config = subst (λ o. StandsFor problem o config) (sym (order_new ss step search.some)) stands in
+                let here : LeadsTo problem (order_at (ss ++ step ∷ []) (length ss)) config = subst (λ o. LeadsTo problem o config) (sym (order_new ss step search.some)) stands in
                 let at : length ss ≡ i = sym (new.0 ∙ search.sizes) in
-                subst (λ n. StandsFor problem (order_at (ss ++ step ∷ []) n) c) at (subst (λ d. StandsFor problem (order_at (ss ++ step ∷ []) (length ss)) d) new.1 here)
+                subst (λ n. LeadsTo problem (order_at (ss ++ step ∷ []) n) c) at (subst (λ d. LeadsTo problem (order_at (ss ++ step ∷ []) (length ss)) d) new.1 here)
           ];
           open' = λ i c is. elim (get_cases cs config c i is) as (λ _. c.stage < stages_in problem) [
             | inl old ↦ search.open' i c old
@@ -197,7 +197,7 @@ module _ (problem : Problem) (stood : IsProblem problem) where
   grows_none cs ss ws f known far few = grows_far cs ss ws f f known far few (omega arith)
 
   pub grows_push : (cs : List Config) (ss : List Step) (ws ws' : List Turn) (f : Furthest) (config : Config) (step : Step) (turn : Turn) → IsSearch problem cs ss → IsFurthest problem cs ss f → length ss ≤ problem.budget → (length ss ≡ problem.budget → ⊥) → step.parent < length ss
-      → StandsFor problem (order_at ss step.parent ++ step.placed) config → config.stage < stages_in problem → config.stage ≤ f.stage → ((i : ℕ) (found : Config) → slice_get cs i ≡ Some found → AreSame config found → ⊥)
+      → LeadsTo problem (order_at ss step.parent ++ step.placed) config → config.stage < stages_in problem → config.stage ≤ f.stage → ((i : ℕ) (found : Config) → slice_get cs i ≡ Some found → AreSame config found → ⊥)
       → turn.at ≡ length cs → turns_left turn ≡ 2 → IsWith turn ws ws'
       → On cs ss ws f (cs ++ config ∷ []) (ss ++ step ∷ []) ws' f
   grows_push cs ss ws ws' f config step turn known far few room lt stands open'' low none at two with' =

@@ -13,7 +13,7 @@ use Rattle.jh_linear.specs.declared.search.Search.{Search}
 use Rattle.jh_linear.specs.declared.verdict.Step.{Step}
 use Rattle.jh_linear.specs.Order.{has, IsDone, IsOrder}
 use Rattle.jh_linear.specs.Reached.{AreReached, order_at, root}
-use Rattle.jh_linear.specs.Search.{CanReach, IsExhausted, IsFull, IsFurthest, IsGoneOn, IsKept, IsProblem, IsSearch, IsTurnTaken, IsWhole, StandsFor, stages_in}
+use Rattle.jh_linear.specs.Search.{CanReach, IsExhausted, IsFull, IsFurthest, IsGoneOn, IsKept, IsProblem, IsSearch, IsTurnTaken, IsWhole, LeadsTo, stages_in}
 use Rattle.jh_linear.specs.TurnsInside.{IsWith, awaits, turns_in}
 use Rattle.jh_linear.proofs.SetLemmas.{or_cases, or_left, or_right, place_of}
 use Rattle.jh_linear.proofs.TurnLemmas.{awaits_both, awaits_cases, awaits_kept, awaits_own, turns_both, turns_more}
@@ -45,7 +45,7 @@ module _ (problem : Problem) (stood : IsProblem problem) where
   abbrev pub first_far : Furthest
   first_far = record { stage = 0; step = root }
 
-  started : (config : Config) → StandsFor problem [] config → config.stage < stages_in problem → IsSearch problem (config ∷ []) (root ∷ [])
+  started : (config : Config) → LeadsTo problem [] config → config.stage < stages_in problem → IsSearch problem (config ∷ []) (root ∷ [])
   started config stands low = record {
     sizes = refl;
     some = omega arith;
@@ -53,7 +53,7 @@ module _ (problem : Problem) (stood : IsProblem problem) where
     earlier = λ i a b. absurd (omega arith);
     stands = λ i c is.
         let r = only_one config c i is in
-        subst (λ n. StandsFor problem (order_at (root ∷ []) n) c) (sym r.0) (subst (λ d. StandsFor problem [] d) r.1 stands);
+        subst (λ n. LeadsTo problem (order_at (root ∷ []) n) c) (sym r.0) (subst (λ d. LeadsTo problem [] d) r.1 stands);
     open' = λ i c is. subst (λ d. d.stage < stages_in problem) (only_one config c i is).1 low;
     apart = λ i j a b before ia jb same. absurd (omega (arith, (only_one config b j jb).0, before));
   }
@@ -69,7 +69,7 @@ module _ (problem : Problem) (stood : IsProblem problem) where
   }
 
   pub kept_start : (search : Search) (config : Config) (turn : Turn) → search.configs.keys ≡ config ∷ [] → search.steps.items ≡ root ∷ [] → turn.at ≡ 0 → IsWith turn [] search.waiting → search.furthest ≡ first_far → 0 < problem.budget → 0 < stages_in problem
-      → StandsFor problem [] config → config.stage ≡ 0 → config.value ≡ problem.initial → IsKept problem search
+      → LeadsTo problem [] config → config.stage ≡ 0 → config.value ≡ problem.initial → IsKept problem search
   kept_start search config turn e f at with' h room some stands stage value =
       let low : config.stage < stages_in problem = omega (arith, stage, some) in
       record {

@@ -12,7 +12,7 @@ use Rattle.jh_linear.specs.declared.config.Config.{Config}
 use Rattle.jh_linear.specs.declared.moves.Move.{Move}
 use Rattle.jh_linear.specs.declared.moves.Source.TheVariants.{Happened, Unknown}
 use Rattle.jh_linear.specs.Order.{op_at, IsDone, IsBefore, IsPossible, EndsBefore, has, Allows}
-use Rattle.jh_linear.specs.Search.{AreMoves, CanReach, Follows, HasHappened, HasUnknown, NoneSettled, IsProblem, IsReady, IsUnknown, IsWanted, LeavesValue, MayFollow, Needs, StandsFor, call_of, class_at, is_unknown, next_at, place_of, stage_place, stages_in}
+use Rattle.jh_linear.specs.Search.{AreMoves, CanReach, Follows, HasHappened, HasUnknown, NoneSettled, IsProblem, IsReady, IsUnknown, IsWanted, LeavesValue, MayFollow, Needs, LeadsTo, call_of, class_at, is_unknown, next_at, place_of, stage_place, stages_in}
 use Rattle.jh_linear.proofs.SetLemmas.{has_append, has_here, has_kept, has_one, has_self, not_true, or_cases, or_left, or_right, place_of as index_of, test_cases}
 use Rattle.jh_linear.proofs.StageLemmas.{is_pending, of_pending, unknown_not_done}
 use Rattle.jh_linear.proofs.NextLemmas.{class_of, is_unknown_at}
@@ -155,7 +155,7 @@ module _ (problem : Problem) (stood : IsProblem problem) (n : ℕ) (few : n ≤ 
         ]
       ])
 
-  module _ (order : List ℕ) (config : Config) (stands : StandsFor problem order config) (open'' : config.stage < n) where
+  module _ (order : List ℕ) (config : Config) (stands : LeadsTo problem order config) (open'' : config.stage < n) where
     abbrev Last : ℕ
     Last = stage_place problem config.stage
 

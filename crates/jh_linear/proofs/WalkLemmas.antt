@@ -4,7 +4,7 @@ use Rattle.std.proofs.lemmas.List.{append_assoc, length_push}
 use Rattle.jh_linear.specs.declared.history.Problem.{Problem}
 use Rattle.jh_linear.specs.declared.config.Config.{Config}
 use Rattle.jh_linear.specs.declared.moves.Move.{Move}
-use Rattle.jh_linear.specs.Search.{AreMoves, CanReach, HasGone, IsDead, IsMadeBy, IsProblem, StandsFor, place_of}
+use Rattle.jh_linear.specs.Search.{AreMoves, CanReach, HasGone, IsDead, IsMadeBy, IsProblem, LeadsTo, place_of}
 use Rattle.jh_linear.proofs.LeadLemmas.{one_leads}
 use Rattle.jh_linear.proofs.MoveLemmas.{nothing_there}
 
@@ -33,7 +33,7 @@ module _ (problem : Problem) (stood : IsProblem problem) where
         rises = omega (arith, gone.rises, after.rises);
         longer = omega (arith, gone.longer, length_push placed' p, ap length made.placed_is);
         sizes = after.sizes ∙ gone.sizes;
-        stands = λ front stands. subst (λ o. StandsFor problem o next) (sym (order front)) (after.stands (front ++ placed') (gone.stands front stands));
+        stands = λ front stands. subst (λ o. LeadsTo problem o next) (sym (order front)) (after.stands (front ++ placed') (gone.stands front stands));
         carries = λ front stands n past few reach.
             let now = gone.carries front stands n (omega (arith, past, after.rises)) few reach in
             let led = one_leads problem stood n few (front ++ placed') config (gone.stands front stands) (omega (arith, past, after.rises)) moves are now in
@@ -44,7 +44,7 @@ module _ (problem : Problem) (stood : IsProblem problem) where
 
   -- there is no way to go on
   pub dead_end : (config : Config) (placed : List ℕ) (moves : List Move) → moves ≡ [] → AreMoves problem config moves
-      → (front : List ℕ) → StandsFor problem (front ++ placed) config → IsDead problem config.stage (front ++ placed) config.value
+      → (front : List ℕ) → LeadsTo problem (front ++ placed) config → IsDead problem config.stage (front ++ placed) config.value
   dead_end config placed moves none are front stands n past few reach =
       let led = one_leads problem stood n few (front ++ placed) config stands past moves are reach in
       no_move moves none led.0 led.1 led.2

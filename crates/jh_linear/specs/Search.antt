@@ -170,7 +170,7 @@ pub record AreNext (unknown : List ℕ) (classes : List Class) (order : List ℕ
   pub placed : (k j : ℕ) → k < length classes → IsIn classes k j → has order (unknown_at unknown j) ≡ nat_lt j (next_at next k)
 
 -- A configuration stands for an order, which leads to its value.
-pub record StandsFor (problem : Problem) (order : List ℕ) (config : Config) : Type 0 where
+pub record LeadsTo (problem : Problem) (order : List ℕ) (config : Config) : Type 0 where
   pub follows : Follows problem.ops.now [] problem.initial order config.value
   pub searched : (place : ℕ) → has order place ≡ true → IsDone problem.ops.now place ⊎ IsUnknown problem.ops.now place
   pub known : IsAt problem.history.arrivals.items problem.history.stages.items order config.stage config.pending.items
@@ -312,7 +312,7 @@ pub record IsAfter (problem : Problem) (config : Config) (place : ℕ) (value : 
   pub rises : config.stage ≤ config'.stage
   pub value_is : config'.value ≡ value
   pub sizes : length config'.next.items ≡ length config.next.items
-  pub stands : (order : List ℕ) → StandsFor problem order config → StandsFor problem (order ++ place ∷ []) config'
+  pub stands : (order : List ℕ) → LeadsTo problem order config → LeadsTo problem (order ++ place ∷ []) config'
 
 -- a move was made, and its operation put behind those that were placed
 pub record IsMadeBy (problem : Problem) (config : Config) (placed : List ℕ) (move : Move) (config' : Config) (placed' : List ℕ) : Type 0 where
@@ -324,8 +324,8 @@ pub record HasGone (problem : Problem) (config : Config) (placed : List ℕ) (co
   pub rises : config.stage ≤ config'.stage
   pub longer : length placed ≤ length placed'
   pub sizes : length config'.next.items ≡ length config.next.items
-  pub stands : (front : List ℕ) → StandsFor problem (front ++ placed) config → StandsFor problem (front ++ placed') config'
-  pub carries : (front : List ℕ) → StandsFor problem (front ++ placed) config
+  pub stands : (front : List ℕ) → LeadsTo problem (front ++ placed) config → LeadsTo problem (front ++ placed') config'
+  pub carries : (front : List ℕ) → LeadsTo problem (front ++ placed) config
       → Carries problem config'.stage (front ++ placed) config.value (front ++ placed') config'.value
 
 -- where a walk ends
@@ -333,7 +333,7 @@ abbrev pub EndsAs : Problem → Config → List ℕ → WalkEnd → Type 0
 EndsAs problem config placed Several = config.stage < stages_in problem
 EndsAs problem config placed Stuck =
     (config.stage < stages_in problem)
-    × ((front : List ℕ) → StandsFor problem (front ++ placed) config → IsDead problem config.stage (front ++ placed) config.value)
+    × ((front : List ℕ) → LeadsTo problem (front ++ placed) config → IsDead problem config.stage (front ++ placed) config.value)
 EndsAs problem config placed Complete = stages_in problem ≤ config.stage
 
 -- ---- the search
@@ -344,7 +344,7 @@ pub record IsSearch (problem : Problem) (configs : List Config) (steps : List St
   pub some : 0 < length steps
   pub begins : slice_index_or steps 0 root ≡ root
   pub earlier : NameEarlier steps
-  pub stands : (i : ℕ) (config : Config) → slice_get configs i ≡ Some config → StandsFor problem (order_at steps i) config
+  pub stands : (i : ℕ) (config : Config) → slice_get configs i ≡ Some config → LeadsTo problem (order_at steps i) config
   pub open' : (i : ℕ) (config : Config) → slice_get configs i ≡ Some config → config.stage < stages_in problem
   pub apart : (i j : ℕ) (a b : Config) → i < j → slice_get configs i ≡ Some a → slice_get configs j ≡ Some b → AreSame a b → ⊥
 

@@ -9,7 +9,7 @@ ghost use Rattle.jh_linear.specs.declared.config.Config.{Config};
 ghost use Rattle.jh_linear.specs.Order.{EndAfterInvoked};
 ghost use Rattle.jh_linear.specs.Reached.{order_at, root};
 ghost use Rattle.jh_linear.specs.Verdict.{IsJudged};
-ghost use Rattle.jh_linear.specs.Search.{AreSame, EachIsMove, Entered, IsBegun, IsKept, IsMove, IsProblem, StandsFor, Taken};
+ghost use Rattle.jh_linear.specs.Search.{AreSame, EachIsMove, Entered, IsBegun, IsKept, IsMove, IsProblem, LeadsTo, Taken};
 ghost use Rattle.jh_linear.specs.Search.{Tried, WasReached, WereTried, stages_in};
 
 use crate::config::{Config, copy_config, first_config};
@@ -77,7 +77,7 @@ fn enter(
     requires begun { IsBegun problem.now search.old }
     requires low { at < length search.old.steps.items }
     requires longer { 0 < vec_len placed }
-    requires stands { StandsFor problem.now (order_at search.old.steps.items at ++ placed.items) config }
+    requires stands { LeadsTo problem.now (order_at search.old.steps.items at ++ placed.items) config }
     requires open { config.stage < stages_in problem.now }
     requires far { config.stage ≤ search.old.furthest.stage }
     ensures { IfOk result (λ progress. Entered problem.now search.old search.new at placed.items config progress) }

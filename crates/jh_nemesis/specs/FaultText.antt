@@ -198,8 +198,8 @@ fault_told names (SplitOne loner) = split_told names loner
 fault_told names (Grudge named) = named_told (length names) named
 
 -- What was answered is what is told, unless memory was refused for what would have been told.
-abbrev pub Answers : {A : Type 0} → Result A StepTextError → Result A StepTextError → Type 0
-Answers answer told = MatchResult answer (λ x. told ≡ Ok x) (λ e. (told ≡ Err e) ⊎ ((e ≡ OutOfMemory) × IsOk told))
+abbrev pub IsPartParsed : {A : Type 0} → Result A StepTextError → Result A StepTextError → Type 0
+IsPartParsed answer told = MatchResult answer (λ x. told ≡ Ok x) (λ e. (told ≡ Err e) ⊎ ((e ≡ OutOfMemory) × IsOk told))
 
 -- the refusal of a step whose fault is refused
 abbrev pub refusal_of : FaultError.the_data → StepTextError

@@ -62,12 +62,12 @@ abbrev pub ring_links : List ℕ → ℕ → List (ℕ × ℕ)
 ring_links order n = links_that (leaves_majority order) n
 
 -- the order that a seed gives: the places, shuffled by the generator that is seeded with it
-abbrev pub order_of : ℕ → ℕ → List ℕ
-order_of seed n = (shuffled (places n) 0 (stream_of (steps_u32 pcg32) (pcg32_of_seed (pcg32_seed 16 seed)))).0
+abbrev pub seeded_order : ℕ → ℕ → List ℕ
+seeded_order seed n = (shuffled (places n) 0 (stream_of (steps_u32 pcg32) (pcg32_of_seed (pcg32_seed 16 seed)))).0
 
 -- a ring in the order that a seed gives is laid over all n nodes, each once
 abbrev pub IsOverAll : ℕ → Named → Type 0
-IsOverAll n (Named.ShuffledRing (pos seed)) = IsPermutation (places n) (order_of seed n)
+IsOverAll n (Named.ShuffledRing (pos seed)) = IsPermutation (places n) (seeded_order seed n)
 IsOverAll n _ = Unit {0}
 
 -- the links that a named fault cuts between n nodes; a seed below zero is none
@@ -75,5 +75,5 @@ abbrev pub named_links : Named → ℕ → Option (List (ℕ × ℕ))
 named_links Named.Halves n = Some (links_that (crosses_halves n) n)
 named_links Named.Bridge n = Some (links_that (crosses_bridge n) n)
 named_links Named.Ring n = Some (ring_links (places n) n)
-named_links (Named.ShuffledRing (pos seed)) n = Some (ring_links (order_of seed n) n)
+named_links (Named.ShuffledRing (pos seed)) n = Some (ring_links (seeded_order seed n) n)
 named_links (Named.ShuffledRing (negsuc z)) n = None

@@ -127,5 +127,5 @@ abbrev pub op_told : Edn → Result Operation OpError
 op_told value = needed (map_pairs (untagged value)) NotMap told_by
 
 -- What was answered is what is told, unless memory was refused for what would have been an operation.
-abbrev pub Answers : Result Op OpError → Result Operation OpError → Type 0
-Answers answer told = MatchResult answer (λ op. told ≡ Ok (operation op)) (λ e. (told ≡ Err e) ⊎ ((e ≡ OutOfMemory) × IsOk told))
+abbrev pub IsOperationParsed : Result Op OpError → Result Operation OpError → Type 0
+IsOperationParsed answer told = MatchResult answer (λ op. told ≡ Ok (operation op)) (λ e. (told ≡ Err e) ⊎ ((e ≡ OutOfMemory) × IsOk told))

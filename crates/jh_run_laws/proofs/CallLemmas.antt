@@ -16,7 +16,7 @@ use Rattle.jh_gen.specs.Tally.{Path}
 use Rattle.jh_simnode.specs.declared.copies.Reply.{Reply}
 use Rattle.jh_simnode.specs.declared.events.Event.{Event}
 use Rattle.jh_simnode.specs.declared.schedule.Entry.{Entry}
-use Rattle.jh_simnode.specs.Counts.{applied, last, process_of}
+use Rattle.jh_simnode.specs.Counts.{applied, last, process_after}
 use Rattle.jh_simnode.specs.Plans.{PlanValue, IsFit}
 use Rattle.jh_simnode.specs.Runs.{Turns, Move, Comes, Reaches, Runs, ask_move, call_event, entry_move, is_due, move_of, move_offered, question, run_generator, thread_of, ticks_after, turn_move}
 use Rattle.jh_simnode.specs.Runs.Move.{Ticks, Applies, Waits, Calls, Ends, Rests}
@@ -53,7 +53,7 @@ comes_fit p fit r r' journal journal' (Calls path request) is s a =
     let t = thread_of p r in
     let some : 0 < c = omega (arith, fit.clients.0) in
     let below : t < c = mod_below r.asks c some in
-    let own : process_of c t journal ≡ process_of c (process_of c t journal % c) journal = ap (λ (x : ℕ). process_of c x journal) (sym (process_thread c t journal below)) in
+    let own : process_after c t journal ≡ process_after c (process_after c t journal % c) journal = ap (λ (x : ℕ). process_after c x journal) (sym (process_thread c t journal below)) in
     subst (CallsFit p.settings.workload c []) (sym s.1.1) (calls_push p.settings.workload c [] journal (call_event p r journal request s.1.0) a (own, request_fits p fit r journal path request is))
 comes_fit p fit r r' journal journal' Ends is s a = subst (CallsFit p.settings.workload p.clients []) (sym s.1) a
 comes_fit p fit r r' journal journal' Rests is s a = absurd s

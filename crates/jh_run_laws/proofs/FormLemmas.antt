@@ -10,7 +10,7 @@ use Rattle.jh_ops.specs.declared.operation.Kind.{Kind}
 use Rattle.jh_simnode.specs.declared.copies.Reply.{Reply}
 use Rattle.jh_simnode.specs.declared.copies.Reply.TheVariants as said
 use Rattle.jh_simnode.specs.declared.events.Event.{Event}
-use Rattle.jh_simnode.specs.Counts.{is_crash_of, is_info, process_of}
+use Rattle.jh_simnode.specs.Counts.{is_crash_of, is_info, process_after}
 use Rattle.jh_simnode.specs.Histories.{history_of, kind_of, told_from}
 use Rattle.jh_simnode.proofs.Counting.{count_yes}
 use Rattle.jh_run_laws.specs.OwnHistory.{CallsFit, FitsAfter}
@@ -33,7 +33,7 @@ kinds_told x place number entry (Event.Step step answer ∷ es) = kinds_told x (
 kinds_told x place number entry (Event.Tick ∷ es) = kinds_told x place (number + 1) entry es
 
 -- one event more leaves the process of a thread as it was, or gives it a greater one
-not_less : (c t : ℕ) (done : List Event) (e : Event) → process_of c t done ≤ process_of c t (done ++ e ∷ [])
+not_less : (c t : ℕ) (done : List Event) (e : Event) → process_after c t done ≤ process_after c t (done ++ e ∷ [])
 not_less c t done e =
     let more : count_by (is_crash_of c t) (done ++ e ∷ []) ≡ count_by (is_crash_of c t) done + count_by (is_crash_of c t) (e ∷ []) = sum_by-append (λ (x : Event). cond (is_crash_of c t x) 1 0) done (e ∷ []) in
     rw more (grows (count_by (is_crash_of c t) done) (count_by (is_crash_of c t) (e ∷ []))) where
@@ -41,8 +41,8 @@ not_less c t done e =
       grows m k = omega (arith, add-mul m k c)
 
 -- a crash gives its thread a greater one
-crash_greater : (c process node draw : ℕ) (request : Request) (done : List Event) → 0 < c → process ≡ process_of c (process % c) done
-    → process < process_of c (process % c) (done ++ Event.Call process node request draw said.Info ∷ [])
+crash_greater : (c process node draw : ℕ) (request : Request) (done : List Event) → 0 < c → process ≡ process_after c (process % c) done
+    → process < process_after c (process % c) (done ++ Event.Call process node request draw said.Info ∷ [])
 crash_greater c process node draw request done some own =
     let t = process % c in
     let m = count_by (is_crash_of c t) done in
@@ -52,14 +52,14 @@ crash_greater c process node draw request done some own =
     rw more (omega (arith, own, add-mul m 1 c, some))
 
 -- whose number lies below that of its thread's process does nothing more
-gone : (w : Workload) (c x : ℕ) (done es : List Event) → CallsFit w c done es → x < process_of c (x % c) done → kinds_in x es ≡ []
+gone : (w : Workload) (c x : ℕ) (done es : List Event) → CallsFit w c done es → x < process_after c (x % c) done → kinds_in x es ≡ []
 gone w c x done [] a below = refl
 gone w c x done (Event.Call process node request draw reply ∷ es) a below =
     let e = Event.Call process node request draw reply in
     elim (x == process) as (λ b. (x == process) ≡ b → (if b then Kind.Invoke ∷ kind_of reply ∷ kinds_in x es else kinds_in x es) ≡ []) [
       | true ↦ λ same.
           let is : x ≡ process = eqb-true x process same in
-          let own : x ≡ process_of c (x % c) done = subst (λ (y : ℕ). y ≡ process_of c (y % c) done) (sym is) a.0.0 in
+          let own : x ≡ process_after c (x % c) done = subst (λ (y : ℕ). y ≡ process_after c (y % c) done) (sym is) a.0.0 in
           absurd (omega (arith, below, own))
       | false ↦ λ other. gone w c x (done ++ e ∷ []) es a.1 (let up = not_less c (x % c) done e in omega (arith, below, up))
     ] refl
@@ -83,7 +83,7 @@ alternates w c x some done (Event.Call process node request draw reply ∷ es) a
       after said.Info is a rest =
           let greater = crash_greater c process node draw request done some a.0.0 in
           gone w c x (done ++ Event.Call process node request draw said.Info ∷ []) es a.1
-          (subst (λ (y : ℕ). y < process_of c (y % c) (done ++ Event.Call process node request draw said.Info ∷ [])) (sym is) greater)
+          (subst (λ (y : ℕ). y < process_after c (y % c) (done ++ Event.Call process node request draw said.Info ∷ [])) (sym is) greater)
 alternates w c x some done (Event.Step step answer ∷ es) a = alternates w c x some (done ++ Event.Step step answer ∷ []) es a.1
 alternates w c x some done (Event.Tick ∷ es) a = alternates w c x some (done ++ Event.Tick ∷ []) es a.1
 

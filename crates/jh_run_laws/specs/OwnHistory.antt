@@ -26,7 +26,7 @@ use Rattle.jh_simnode.specs.declared.copies.Got.{Got}
 use Rattle.jh_simnode.specs.declared.copies.Reply.{Reply}
 use Rattle.jh_simnode.specs.declared.copies.Reply.TheVariants as said
 use Rattle.jh_simnode.specs.declared.events.Event.{Event}
-use Rattle.jh_simnode.specs.Counts.{process_of}
+use Rattle.jh_simnode.specs.Counts.{process_after}
 
 -- what is offered, if anything, passes a test
 abbrev pub Passes : (Call → Bool) → Offer → Type 0
@@ -41,7 +41,7 @@ OffersSuit = (w : Workload) (g : Generator) → has_only (is_call_for w) g ≡ t
 -- a call after these events is by the process whose turn its thread has, and its request is of the workload
 abbrev pub FitsAfter : Workload → ℕ → List Event → Event → Type 0
 FitsAfter w clients before (Event.Call process node request draw reply) =
-    (process ≡ process_of clients (process % clients) before) × (is_call_for w (Client request) ≡ true)
+    (process ≡ process_after clients (process % clients) before) × (is_call_for w (Client request) ≡ true)
 FitsAfter w clients before (Event.Step step answer) = Unit {0}
 FitsAfter w clients before Event.Tick = Unit {0}
 

@@ -23,8 +23,8 @@ use Rattle.jh_simnode.specs.Plans.{PlanValue, plan, RefusesPlan}
 use Rattle.jh_simnode.specs.declared.plan.PlanError.{PlanError}
 
 -- what is told, or a bad value under the key
-abbrev pub Answers : {A : Type 0} → Result A SettingsError → Key → Option A → Type 0
-Answers answer key told = MatchResult answer (λ x. told ≡ Some x) (λ e. (e ≡ BadValue key) × (told ≡ None))
+abbrev pub IsValueParsed : {A : Type 0} → Result A SettingsError → Key → Option A → Type 0
+IsValueParsed answer key told = MatchResult answer (λ x. told ≡ Some x) (λ e. (e ≡ BadValue key) × (told ≡ None))
 
 -- such a value is bad under the key, or memory was refused
 abbrev pub RefusesValue : Type 0 → Key → SettingsError → Type 0

@@ -6,7 +6,7 @@
 ghost use Rattle.std.specs.Prelude.{◌≡◌, ◌≤◌, option_map, IfSome, IfOk, MatchResult};
 ghost use Rattle.toml.specs.Data.{as_bool};
 ghost use Rattle.toml.specs.View.{table_view, view};
-ghost use Rattle.jh_settings.specs.Inside.{Answers};
+ghost use Rattle.jh_settings.specs.Inside.{IsValueParsed};
 ghost use Rattle.jh_settings.specs.Keys.{value_under};
 ghost use Rattle.jh_settings.specs.Kinds.{needed, or_default, text_under, whole_in};
 
@@ -51,7 +51,7 @@ pub(crate) fn number_under(
     least: u64,
     most: u64,
 ) -> Result<u64, SettingsError>
-    ensures told { Answers result key (needed (whole_in least most) key (table_view table.now)) }
+    ensures told { IsValueParsed result key (needed (whole_in least most) key (table_view table.now)) }
     ensures within { IfOk result (λ number. number ≤ most) }
 {
     let Some(value) = value_under(table, key) else {
@@ -72,7 +72,7 @@ pub(crate) fn number_or(
     most: u64,
 ) -> Result<u64, SettingsError>
     requires { default ≤ most }
-    ensures told { Answers result key (or_default default (whole_in least most) key (table_view table.now)) }
+    ensures told { IsValueParsed result key (or_default default (whole_in least most) key (table_view table.now)) }
     ensures within { IfOk result (λ number. number ≤ most) }
 {
     let Some(value) = value_under(table, key) else {
@@ -86,7 +86,7 @@ pub(crate) fn number_or(
 
 /// The truth value under a key, and a default where nothing stands there.
 pub(crate) fn truth_or(table: &Table, key: Key, default: bool) -> Result<bool, SettingsError>
-    ensures { Answers result key (or_default default as_bool key (table_view table.now)) }
+    ensures { IsValueParsed result key (or_default default as_bool key (table_view table.now)) }
 {
     let Some(value) = value_under(table, key) else {
         return Ok(default);

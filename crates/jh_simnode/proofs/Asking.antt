@@ -10,7 +10,7 @@ use Rattle.jh_ops.specs.declared.operation.Process.{Process}
 use Rattle.jh_gen.specs.Tally.{Path}
 use Rattle.jh_gen.specs.Scope.{Question}
 use Rattle.jh_gen.specs.Offers.{Offer, offer, spent}
-use Rattle.jh_gen.specs.DriverState.{Answers, DriverState, MayAsk, RefusesAsking, all_seats, asked_by}
+use Rattle.jh_gen.specs.DriverState.{Answers, DriverState, MayAsk, RefusesAsking, all_seats, question_by}
 use Rattle.jh_gen.specs.declared.answers.Thread.TheVariants as thread
 use Rattle.jh_gen.specs.declared.answers.Thread.{Thread}
 use Rattle.jh_gen.specs.declared.answers.GenAnswer.TheVariants as answer
@@ -19,7 +19,7 @@ use Rattle.jh_gen.specs.declared.answers.GenError.TheVariants.{NoSuchThread, Bus
 use Rattle.jh_simnode.specs.declared.events.Event.{Event}
 use Rattle.jh_simnode.specs.declared.turns.Asked.TheVariants as asked
 use Rattle.jh_simnode.specs.declared.turns.Run.{Run}
-use Rattle.jh_simnode.specs.Counts.{answered, is_call, process_of}
+use Rattle.jh_simnode.specs.Counts.{answered, is_call, process_after}
 use Rattle.jh_simnode.specs.Plans.{PlanValue}
 use Rattle.jh_simnode.specs.Runs.{Turns, ask_move, move_offered, question, run_generator, thread_of, waited, words_after, words_taken}
 use Rattle.jh_simnode.specs.Runs.Move.{Ends}
@@ -52,7 +52,7 @@ pub words_are : (g g' : Lcg) (w : ℕ) → (w, g') ≡ pcg64 g → g' ≡ (pcg64
 words_are g g' w h = ap (λ x. x.1) h
 
 module _ (p : PlanValue) (r : Turns) (journal : List Event) (run : Run) (t word : ℕ) (words : Lcg) (i : IsAsking p r journal run t) (next : (word, words) ≡ pcg64 run.words) where
-  asked_is : asked_by run.driver (thread.Client t) word ≡ question p r journal
+  asked_is : question_by run.driver (thread.Client t) word ≡ question p r journal
   asked_is =
       let d = i.keeps.driver i.going in
       let seat : t + 1 ≡ thread_of p r + 1 = ap (λ n. n + 1) i.turn in
@@ -63,14 +63,14 @@ module _ (p : PlanValue) (r : Turns) (journal : List Event) (run : Run) (t word 
   spent_is : (b : Bool) → spent (run_generator p) r.tally (all_seats run.driver.clients) ≡ b → spent (run_generator p) r.tally (all_seats p.clients) ≡ b
   spent_is b h = subst (λ n. spent (run_generator p) r.tally (all_seats n) ≡ b) (i.keeps.driver i.going).clients h
 
-  offer_is : (o : Offer) → offer (run_generator p) r.tally (all_seats run.driver.clients) (asked_by run.driver (thread.Client t) word) ≡ o
+  offer_is : (o : Offer) → offer (run_generator p) r.tally (all_seats run.driver.clients) (question_by run.driver (thread.Client t) word) ≡ o
       → offer (run_generator p) r.tally (all_seats p.clients) (question p r journal) ≡ o
   offer_is o h =
       subst (λ n. offer (run_generator p) r.tally (all_seats n) (question p r journal) ≡ o) (i.keeps.driver i.going).clients
       (subst (λ q. offer (run_generator p) r.tally (all_seats run.driver.clients) q ≡ o) asked_is h)
 
   goes_by : (o : Offer) → spent (run_generator p) r.tally (all_seats run.driver.clients) ≡ false
-      → offer (run_generator p) r.tally (all_seats run.driver.clients) (asked_by run.driver (thread.Client t) word) ≡ o → ask_move p r journal ≡ move_offered o
+      → offer (run_generator p) r.tally (all_seats run.driver.clients) (question_by run.driver (thread.Client t) word) ≡ o → ask_move p r journal ≡ move_offered o
   goes_by o unspent h =
       ap (λ b. cond b Ends (move_offered (offer (run_generator p) r.tally (all_seats p.clients) (question p r journal)))) (spent_is false unspent) ∙ ap move_offered (offer_is o h)
 
@@ -100,7 +100,7 @@ module _ (p : PlanValue) (r : Turns) (journal : List Event) (run : Run) (t word 
       let k = i.keeps in (
         path,
         goes_by (Some (path, call.Client request)) h.0 h.3,
-        ap number_of h.1 ∙ d.processes t below ∙ ap (λ u. process_of p.clients u journal) i.turn,
+        ap number_of h.1 ∙ d.processes t below ∙ ap (λ u. process_after p.clients u journal) i.turn,
         record {
           stands = gives.stands;
           clients = gives.clients ∙ d.clients;

@@ -16,7 +16,7 @@ use Rattle.jh_simnode.specs.declared.events.Event.{Event}
 use Rattle.jh_simnode.specs.declared.schedule.Entry.{Entry}
 use Rattle.jh_simnode.specs.declared.turns.Asked.TheVariants as asked
 use Rattle.jh_simnode.specs.declared.turns.Run.{Run}
-use Rattle.jh_simnode.specs.Counts.{applied, is_step, last, process_of, calls_by}
+use Rattle.jh_simnode.specs.Counts.{applied, is_step, last, process_after, calls_by}
 use Rattle.jh_simnode.specs.Events.{WorldValue, Adds, IsLegal}
 use Rattle.jh_simnode.specs.Plans.{PlanValue}
 use Rattle.jh_simnode.specs.Runs.{Turns, call_event, called, ended, first_turns, is_due, move_of, setup_of, thread_of, ticks_after, ticks_at, waited, word, words_taken}
@@ -119,7 +119,7 @@ called_on p run w w' t process request node draw number reply driver words calls
     let move = ask_next p r journal m.quiet m.settled m.going patient ∙ m.move in
     let draw_is : draw ≡ word p.seed (words_taken r journal + 1) = word_is run.words words draw next ∙ ap (λ (g : Lcg). (pcg64 g).0) m.has.words in
     let event : Event.Call process node request draw reply ≡ call_event p r journal request reply =
-    same_event process (process_of c (thread_of p r) journal) node (thread_of p r % length p.env.names) draw (word p.seed (words_taken r journal + 1)) request reply m.process_is
+    same_event process (process_after c (thread_of p r) journal) node (thread_of p r % length p.env.names) draw (word p.seed (words_taken r journal + 1)) request reply m.process_is
     (place ∙ ap (λ x. x % length p.env.names) mine) draw_is in
     let same : w'.journal ≡ journal ++ call_event p r journal request reply ∷ [] = adds.journal ∙ ap (λ (e : Event). journal ++ e ∷ []) event in
     let small : thread_of p r < c = subst (λ x. x < c) mine m.within in
@@ -127,7 +127,7 @@ called_on p run w w' t process request node draw number reply driver words calls
     let kept = keeps_on p r journal m.path request reply run run' m.has small m.few_asks few (ends ∙ ap (λ x. after_end run.driver (thread.Client x) (ended_of reply)) mine)
     (words_are run.words words draw next) (counted ∙ ap (λ x. set run.calls.items x (slice_index run.calls.items x + 1)) mine) refl refl refl refl refl in
     let after : List Event = journal ++ call_event p r journal request reply ∷ [] in
-    let named : process_of c (thread_of p r) journal % c ≡ t = process_thread c (thread_of p r) journal small ∙ sym mine in
+    let named : process_after c (thread_of p r) journal % c ≡ t = process_thread c (thread_of p r) journal small ∙ sym mine in
     let due : ticks_after p after (last after) ≡ ticks_at p (calls_by c t after) =
     ap (ticks_after p after) (last_push journal (call_event p r journal request reply)) ∙ ap (λ x. ticks_at p (calls_by c x after)) named in
     record {

@@ -16,7 +16,7 @@ use Rattle.jh_simnode.specs.declared.copies.Reply.{Reply}
 use Rattle.jh_simnode.specs.declared.copies.Reply.TheVariants.{Ok, Fail, Info}
 use Rattle.jh_simnode.specs.declared.events.Event.{Event}
 use Rattle.jh_simnode.specs.declared.turns.Run.{Run}
-use Rattle.jh_simnode.specs.Counts.{answered, applied, calls_by, process_of, is_call, is_step, is_call_by, is_crash_of, is_process_of}
+use Rattle.jh_simnode.specs.Counts.{answered, applied, calls_by, process_after, is_call, is_step, is_call_by, is_crash_of, is_process_of}
 use Rattle.jh_simnode.specs.Plans.{PlanValue}
 use Rattle.jh_simnode.specs.Runs.{Turns, called, call_event, ended, thread_of, waited, word, words_after, words_taken}
 use Rattle.jh_simnode.specs.Running.{Counts, Drives, HasCall, Keeps, ended_of}
@@ -28,7 +28,7 @@ unfolding words_after
 next_words seed n = let more : suc n ≡ n + 1 = omega arith in ap (words_after seed) more
 
 -- the thread of the process that the journal gives it
-pub process_thread : (c t : ℕ) (journal : List Event) → t < c → process_of c t journal % c ≡ t
+pub process_thread : (c t : ℕ) (journal : List Event) → t < c → process_after c t journal % c ≡ t
 process_thread c t journal below =
     let k = count_by (is_crash_of c t) journal in
     let turned : t + k * c ≡ k * c + t = omega arith in
@@ -45,24 +45,24 @@ all_false zero i = refl
 all_false (suc n) zero = refl
 all_false (suc n) (suc i) = all_false n i
 
-same_thread : (c t : ℕ) (journal : List Event) → t < c → is_process_of c t (process_of c t journal) ≡ true
+same_thread : (c t : ℕ) (journal : List Event) → t < c → is_process_of c t (process_after c t journal) ≡ true
 same_thread c t journal below = rw (process_thread c t journal below) (eq-eqb t t refl)
 
-other_thread : (c t : ℕ) (journal : List Event) → t < c → (u : ℕ) → u ≢ t → is_process_of c u (process_of c t journal) ≡ false
+other_thread : (c t : ℕ) (journal : List Event) → t < c → (u : ℕ) → u ≢ t → is_process_of c u (process_after c t journal) ≡ false
 other_thread c t journal below u other = rw (process_thread c t journal below) (ne_eqb t u (λ e. other (sym e)))
 
 -- how the processes are numbered after a call
 pub numbered_on : (c t : ℕ) (journal : List Event) → t < c → (node : ℕ) (request : Request) (draw : ℕ) (reply : Reply) (d : DriverState) → d.clients ≡ c → t + 1 < length d.processes
-    → ((u : ℕ) → u < c → slice_index d.processes (u + 1) ≡ process_of c u journal)
-    → (u : ℕ) → u < c → slice_index (processes_after d (thread.Client t) (ended_of reply)) (u + 1) ≡ process_of c u (journal ++ Event.Call (process_of c t journal) node request draw reply ∷ [])
+    → ((u : ℕ) → u < c → slice_index d.processes (u + 1) ≡ process_after c u journal)
+    → (u : ℕ) → u < c → slice_index (processes_after d (thread.Client t) (ended_of reply)) (u + 1) ≡ process_after c u (journal ++ Event.Call (process_after c t journal) node request draw reply ∷ [])
 numbered_on c t journal below node request draw (Ok got) d many long h u small =
-    h u small ∙ ap (λ k. u + k * c) (sym (count_no (is_crash_of c u) journal (Event.Call (process_of c t journal) node request draw (Ok got)) refl))
+    h u small ∙ ap (λ k. u + k * c) (sym (count_no (is_crash_of c u) journal (Event.Call (process_after c t journal) node request draw (Ok got)) refl))
 numbered_on c t journal below node request draw Fail d many long h u small =
-    h u small ∙ ap (λ k. u + k * c) (sym (count_no (is_crash_of c u) journal (Event.Call (process_of c t journal) node request draw Fail) refl))
+    h u small ∙ ap (λ k. u + k * c) (sym (count_no (is_crash_of c u) journal (Event.Call (process_after c t journal) node request draw Fail) refl))
 numbered_on c t journal below node request draw Info d many long h u small =
-    let e : Event = Event.Call (process_of c t journal) node request draw Info in
+    let e : Event = Event.Call (process_after c t journal) node request draw Info in
     let ps = d.processes in
-    let New : ℕ → Type 0 = λ x. slice_index (set ps (t + 1) (slice_index ps (t + 1) + d.clients)) (x + 1) ≡ process_of c x (journal ++ e ∷ []) in
+    let New : ℕ → Type 0 = λ x. slice_index (set ps (t + 1) (slice_index ps (t + 1) + d.clients)) (x + 1) ≡ process_after c x (journal ++ e ∷ []) in
     elim (cases_eq t u) as (λ x. New u) [
       | inl same ↦
           (let k = count_by (is_crash_of c t) journal in
@@ -85,10 +85,10 @@ still_long d t Info = length-set d.processes (t + 1) (slice_index d.processes (t
 -- the counts after a call
 pub counts_on : (p : PlanValue) (journal : List Event) (t : ℕ) → t < p.clients → (node : ℕ) (request : Request) (draw : ℕ) (reply : Reply) (run run' : Run) → Counts p journal run
     → run'.calls.items ≡ set run.calls.items t (slice_index run.calls.items t + 1) → run'.answered ≡ run.answered + 1 → run'.applied ≡ run.applied
-    → Counts p (journal ++ Event.Call (process_of p.clients t journal) node request draw reply ∷ []) run'
+    → Counts p (journal ++ Event.Call (process_after p.clients t journal) node request draw reply ∷ []) run'
 counts_on p journal t below node request draw reply run run' h calls answered_is applied_is =
     let c = p.clients in
-    let e : Event = Event.Call (process_of c t journal) node request draw reply in
+    let e : Event = Event.Call (process_after c t journal) node request draw reply in
     let xs = run.calls.items in
     let within : t < length xs = rw h.long below in
     let New : ℕ → Type 0 = λ x. slice_index (set xs t (slice_index xs t + 1)) x ≡ calls_by p.clients x (journal ++ e ∷ []) in

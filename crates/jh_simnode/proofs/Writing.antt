@@ -7,7 +7,7 @@ use Rattle.std.proofs.lemmas.List.Sums.{count_by-le-length}
 use Rattle.jh_ops.specs.Operation.{Operation}
 use Rattle.jh_ops.specs.OperationWritten.{IsWritable}
 use Rattle.jh_simnode.specs.declared.events.Event.{Event}
-use Rattle.jh_simnode.specs.Counts.{is_crash_of, process_of}
+use Rattle.jh_simnode.specs.Counts.{is_crash_of, process_after}
 use Rattle.jh_simnode.specs.Histories.{told_from, invoked, completed, begun, answered_by}
 use Rattle.jh_simnode.specs.Plans.{PlanValue}
 use Rattle.jh_simnode.specs.Runs.{Comes, Move, Reaches, Turns, call_event, move_of, thread_of}
@@ -15,7 +15,7 @@ use Rattle.jh_simnode.specs.Runs.Move.{Ticks, Applies, Waits, Calls, Ends, Rests
 use Rattle.jh_simnode.specs.Running.{HasSmallProcess}
 
 -- twenty bits and four more are enough
-small_process : (c t : ℕ) (journal : List Event) → t < c → c ≤ 16 → length journal ≤ 65536 → process_of c t journal < 2 ^ 63
+small_process : (c t : ℕ) (journal : List Event) → t < c → c ≤ 16 → length journal ≤ 65536 → process_after c t journal < 2 ^ 63
 small_process c t journal below crowd few =
     let k = count_by (is_crash_of c t) journal in
     let many = count_by-le-length (is_crash_of c t) journal in

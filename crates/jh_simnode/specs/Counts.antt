@@ -54,8 +54,8 @@ calls_by clients thread journal = count_by (is_call_by clients thread) journal
 
 -- whose operation a thread's next one is: at first the process of its own number, and after each crash a new one,
 -- whose number is greater by the number of client threads
-abbrev pub process_of : ℕ → ℕ → List Event → ℕ
-process_of clients thread journal = thread + count_by (is_crash_of clients thread) journal * clients
+abbrev pub process_after : ℕ → ℕ → List Event → ℕ
+process_after clients thread journal = thread + count_by (is_crash_of clients thread) journal * clients
 
 -- the last event, where there is one
 abbrev pub last : List Event → Option Event

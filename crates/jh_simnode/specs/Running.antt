@@ -4,7 +4,7 @@ use Rattle.jh_ops.specs.declared.call.Request.{Request}
 use Rattle.jh_gen.specs.Tally.{Path}
 use Rattle.jh_ops.specs.declared.operation.Process.{Process}
 use Rattle.jh_ops.specs.declared.operation.Process.TheVariants as process
-use Rattle.jh_gen.specs.DriverState.{DriverState, StandsFor}
+use Rattle.jh_gen.specs.DriverState.{DriverState, IsDriverOf}
 use Rattle.jh_gen.specs.DriverState as driver
 use Rattle.jh_gen.specs.declared.answers.Thread.TheVariants as thread
 use Rattle.jh_gen.specs.declared.answers.Ended.{Ended}
@@ -16,7 +16,7 @@ use Rattle.jh_simnode.specs.declared.schedule.Entry.{Entry}
 use Rattle.jh_simnode.specs.declared.turns.Asked.{Asked}
 use Rattle.jh_simnode.specs.declared.turns.Asked.TheVariants as asked
 use Rattle.jh_simnode.specs.declared.turns.Run.{Run}
-use Rattle.jh_simnode.specs.Counts.{answered, applied, calls_by, process_of, last}
+use Rattle.jh_simnode.specs.Counts.{answered, applied, calls_by, process_after, last}
 use Rattle.jh_simnode.specs.Events.{WorldValue, IsLegal}
 use Rattle.jh_simnode.specs.Limits.{max_events}
 use Rattle.jh_simnode.specs.Plans.{PlanValue}
@@ -39,11 +39,11 @@ number_of process.Nemesis = 0
 
 -- the driver numbers the processes of its threads as a journal does
 abbrev pub AreNumbered : PlanValue → List Event → DriverState → Type 0
-AreNumbered p journal d = (t : ℕ) → t < p.clients → slice_index d.processes (t + 1) ≡ process_of p.clients t journal
+AreNumbered p journal d = (t : ℕ) → t < p.clients → slice_index d.processes (t + 1) ≡ process_after p.clients t journal
 
 -- the driver has given the calls of the turns, and nobody is busy
 pub record Drives (p : PlanValue) (r : Turns) (journal : List Event) (d : DriverState) : Type 0 where
-  pub stands : StandsFor d (run_generator p) r.tally
+  pub stands : IsDriverOf d (run_generator p) r.tally
   pub clients : d.clients ≡ p.clients
   pub idle : d.busy ≡ replicate (p.clients + 1) false
   pub long : length d.processes ≡ p.clients + 1
@@ -86,7 +86,7 @@ pub record Settled (p : PlanValue) (run : Run) (w : WorldValue) : Type 0 where
 
 -- a thread was given a call by this path, which isn't answered yet
 pub record HasCall (p : PlanValue) (r : Turns) (journal : List Event) (path : Path) (run : Run) : Type 0 where
-  pub stands : StandsFor run.driver (run_generator p) (path ∷ r.tally)
+  pub stands : IsDriverOf run.driver (run_generator p) (path ∷ r.tally)
   pub clients : run.driver.clients ≡ p.clients
   pub busy : run.driver.busy ≡ set (replicate (p.clients + 1) false) (thread_of p r + 1) true
   pub long : length run.driver.processes ≡ p.clients + 1
@@ -101,7 +101,7 @@ pub record HasCall (p : PlanValue) (r : Turns) (journal : List Event) (path : Pa
 abbrev pub Asks : PlanValue → Turns → List Event → Asked → Run → Type 0
 Asks p r journal (asked.Calls process request) run =
     (path : Path) × (ask_move p r journal ≡ Calls path request)
-    × (process ≡ process_of p.clients (thread_of p r) journal) × HasCall p r journal path run
+    × (process ≡ process_after p.clients (thread_of p r) journal) × HasCall p r journal path run
 Asks p r journal asked.Waits run = (ask_move p r journal ≡ Waits) × Keeps p (waited r) journal run
 Asks p r journal asked.Ends run = (ask_move p r journal ≡ Ends) × Keeps p (ended r) journal run
 
@@ -119,7 +119,7 @@ pub record MayCall (p : PlanValue) (run : Run) (w : WorldValue) (thread process 
   pub thread_is : thread ≡ thread_of p turns
   pub within : thread < p.clients
   pub crowd : p.clients ≤ 16
-  pub process_is : process ≡ process_of p.clients (thread_of p turns) w.journal
+  pub process_is : process ≡ process_after p.clients (thread_of p turns) w.journal
   pub has : HasCall p turns w.journal path run
   pub legal : IsLegal w.setup w.journal
   pub few : length w.journal ≤ max_events
@@ -155,7 +155,7 @@ abbrev pub is_run_due : Run → Entry → Bool
 is_run_due run entry = run.has_ended || nat_le entry.at run.answered
 
 -- the numbers of a run that asks have room
-pub record MayAsk (run : Run) (t : ℕ) : Type 0 where
+pub record HasRoomToAsk (run : Run) (t : ℕ) : Type 0 where
   pub free : driver.MayAsk run.driver (thread.Client t)
   pub asks : run.asks < 2 ^ 63
   pub waits : run.waits < 16

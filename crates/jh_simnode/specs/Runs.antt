@@ -21,7 +21,7 @@ use Rattle.jh_simnode.specs.declared.events.WorldError.TheVariants as world
 use Rattle.jh_simnode.specs.declared.schedule.Entry.{Entry}
 use Rattle.jh_simnode.specs.declared.serial.RunError.{RunError}
 use Rattle.jh_simnode.specs.declared.serial.RunError.TheVariants as error
-use Rattle.jh_simnode.specs.Counts.{answered, applied, calls_by, process_of, last}
+use Rattle.jh_simnode.specs.Counts.{answered, applied, calls_by, process_after, last}
 use Rattle.jh_simnode.specs.Events.{Setup, IsLegal}
 use Rattle.jh_simnode.specs.Histories.{history_of}
 use Rattle.jh_simnode.specs.Plans.{PlanValue}
@@ -137,7 +137,7 @@ ended r = record r { asks = r.asks + 1; has_ended = true }
 -- the event of a thread's call: of the node at the thread's number, around, with the next word as its draw
 abbrev pub call_event : PlanValue → Turns → List Event → Request → Reply → Event
 call_event p r journal request reply =
-    Event.Call (process_of p.clients (thread_of p r) journal) (thread_of p r % length p.env.names) request
+    Event.Call (process_after p.clients (thread_of p r) journal) (thread_of p r % length p.env.names) request
     (word p.seed (words_taken r journal + 1)) reply
 
 -- what comes of a move

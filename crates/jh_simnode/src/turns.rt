@@ -163,7 +163,7 @@ impl Run {
 
     /// Asks for the call of the thread whose turn it is.
     fn ask(&mut self, plan: &Plan, thread: u32) -> Asked
-        requires { running.MayAsk self.old thread }
+        requires { running.HasRoomToAsk self.old thread }
         ensures { (r : Turns) (journal : List Event) → running.IsAsking plan.now r journal self.old thread
             → Asks plan.now r journal result self.new }
     {

@@ -7,7 +7,7 @@ use native.Mathlib.Decide.{ℕ_discrete}
 use lib.ListN.{get_elem?}
 use Rattle.std.specs.FinMap as map
 use Rattle.std.proofs.lemmas.List.{length-set, length-take-le}
-use Rattle.jh_slots.specs.Seats.{Mark, Words, Void, Claim, Knowledge, newcomer, looked, took, wrote, ended, published, voided, saw, copied, joined, claim_at, write_in}
+use Rattle.jh_slots.specs.Seats.{Mark, Words, Void, Claim, Knowledge, newcomer, looked, took, wrote, ended, published, voided, saw, copied, joint, claim_at, write_in}
 use Rattle.jh_slots.specs.States.{State, IsSound, Moves, moved, len_of}
 use Rattle.jh_slots.specs.Events.{Event, look, claim, write, publish, void, read, split, join, marking, opening_state, Leads, Runs, Lasts, SlotLaws}
 use Rattle.jh_slots.proofs.SoundLemmas.{good_moves}
@@ -124,7 +124,7 @@ module _ (cap : ℕ) (s : State) (i : ℕ) (v : Knowledge) (g : IsSound cap s) (
       g.next is
   leads (read r) t (inr (none, is)) = subst (λ (x : State). IsSound cap x × Lasts s x) (sym is) (g, λ q m e. e)
   leads split t is = subst (λ (x : State). IsSound cap x × Lasts s x) (sym is) (good_was cap s (s.seats ++ copied v ∷ []) (λ k j. k ≡ j) g (was_split cap s i v g at), λ q m e. e)
-  leads (join j) t (w, ne, at', is) = subst (λ (x : State). IsSound cap x × Lasts s x) (sym is) (good_was cap s (set (set s.seats i (joined v w)) j newcomer) (JoinsTo i j) g (was_join cap s i j v w g ne at at'), λ q m e. e)
+  leads (join j) t (w, ne, at', is) = subst (λ (x : State). IsSound cap x × Lasts s x) (sym is) (good_was cap s (set (set s.seats i (joint v w)) j newcomer) (JoinsTo i j) g (was_join cap s i j v w g ne at at'), λ q m e. e)
 
 runs : (cap : ℕ) (es : List (ℕ × Event)) (s t : State) → IsSound cap s → Runs cap s es t → IsSound cap t × Lasts s t
 runs cap [] s t g is = subst (λ (x : State). IsSound cap x × Lasts s x) is (g, λ r m e. e)
@@ -146,5 +146,5 @@ slot_laws_hold cap before after s t a b =
       publishes = λ i v f len c at has. seen_published v (published f len v) f len refl ∙ ap (λ (y : Claim). Some (Words (take len y.words))) (claim_is v f c has);
       joins = λ i j v w ne at at'.
           let same = agrees cap t i j v w g ne at at' in
-          (same, (λ r m is. joined_first v w (joined v w) r m refl is), (λ r m is. joined_second v w (joined v w) r m refl same is));
+          (same, (λ r m is. joined_first v w (joint v w) r m refl is), (λ r m is. joined_second v w (joint v w) r m refl same is));
     }

@@ -10,8 +10,8 @@ abbrev pub Again : Knowledge → ℕ → Mark → Type 0
 Again v row m = (x : Mark) → fin.get v.seen row ≡ Some x → x ≡ m
 
 -- the seat and the buffer before and after a read
-abbrev pub Reads : Knowledge → List ℕ → ℕ → Read → Knowledge → List ℕ → Type 0
-Reads v old row Absent w new = (fin.get v.seen row ≡ None) × (w ≡ v) × (new ≡ old)
-Reads v old row Void w new = (w ≡ saw row void v) × Again v row void × (new ≡ old)
-Reads v old row (Words len) w new = (1 ≤ len) × (len ≤ length old) × (w ≡ saw row (words (take len new)) v) × Again v row (words (take len new)) × (drop len new ≡ drop len old)
-Reads v old row (TooSmall len) w new = (length old < len) × (w ≡ v) × (new ≡ old) × ((x : Mark) → fin.get v.seen row ≡ Some x → (ws : List ℕ) × (x ≡ words ws) × (length ws ≡ len))
+abbrev pub ReadsRow : Knowledge → List ℕ → ℕ → Read → Knowledge → List ℕ → Type 0
+ReadsRow v old row Absent w new = (fin.get v.seen row ≡ None) × (w ≡ v) × (new ≡ old)
+ReadsRow v old row Void w new = (w ≡ saw row void v) × Again v row void × (new ≡ old)
+ReadsRow v old row (Words len) w new = (1 ≤ len) × (len ≤ length old) × (w ≡ saw row (words (take len new)) v) × Again v row (words (take len new)) × (drop len new ≡ drop len old)
+ReadsRow v old row (TooSmall len) w new = (length old < len) × (w ≡ v) × (new ≡ old) × ((x : Mark) → fin.get v.seen row ≡ Some x → (ws : List ℕ) × (x ≡ words ws) × (length ws ≡ len))

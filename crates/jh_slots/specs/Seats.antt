@@ -104,5 +104,5 @@ abbrev pub gather : {X : Type 0} → map.FinMap nat_cmp X → map.FinMap nat_cmp
 gather a b = map.from_entries (map.entries a ++ map.entries b)
 
 -- two seats as one
-abbrev pub joined : Knowledge → Knowledge → Knowledge
-joined v w = record { seen = gather v.seen w.seen; low = max v.low w.low; claims = gather v.claims w.claims }
+abbrev pub joint : Knowledge → Knowledge → Knowledge
+joint v w = record { seen = gather v.seen w.seen; low = max v.low w.low; claims = gather v.claims w.claims }

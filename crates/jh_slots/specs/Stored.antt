@@ -6,7 +6,7 @@ use mathlib.Core.Option.{some}
 use lib.ListN.{get_elem?}
 use Rattle.std.specs.FinMap as fin
 use Rattle.atomic_table.specs.Table.{State}
-use Rattle.jh_slots.specs.Seats.{Mark, Words, Void, Claim, Knowledge, newcomer, copied, joined, Agree}
+use Rattle.jh_slots.specs.Seats.{Mark, Words, Void, Claim, Knowledge, newcomer, copied, joint, Agree}
 use Rattle.jh_slots.specs.States as law
 
 -- A record that a seat has begun to read: its row, its length, and the words so far
@@ -36,7 +36,7 @@ copy_view v = record { live = v.live; cap = v.cap; knows = copied v.knows; note 
 
 -- two seats as one
 abbrev pub join_view : View → View → View
-join_view v w = record { live = v.live; cap = v.cap; knows = joined v.knows w.knows; note = v.note; before = Some (v.knows, w.knows) }
+join_view v w = record { live = v.live; cap = v.cap; knows = joint v.knows w.knows; note = v.note; before = Some (v.knows, w.knows) }
 
 abbrev pub place_at : ℕ → ℕ → ℕ
 place_at row place = 1 + (5 * row + place)

@@ -3,8 +3,8 @@
 
 ghost use Rattle.std.specs.Prelude.{◌≡◌, ℕ, ◌+◌, ◌*◌, ◌<◌, ◌≤◌, ◌==◌, IfOk, IfErr, MatchBool, MatchResult, List, [], ◌∷◌, length, take, drop, replicate, true, Some};
 ghost use Rattle.std.specs.FinMap as fin;
-ghost use Rattle.jh_slots.specs.Seats.{Mark, newcomer, looked, took, wrote, published, voided, copied, joined, Agree, Holds, AreApart, BeginsAbove};
-ghost use Rattle.jh_slots.specs.Reading.{Reads};
+ghost use Rattle.jh_slots.specs.Seats.{Mark, newcomer, looked, took, wrote, published, voided, copied, joint, Agree, Holds, AreApart, BeginsAbove};
+ghost use Rattle.jh_slots.specs.Reading.{ReadsRow};
 ghost use Rattle.jh_slots.specs.Sizes.{IsSize, RefusesSize, max_claimed};
 
 use crate::answers::{Full, MAX_ROWS, Read, Receipt, SlotsError};
@@ -123,7 +123,7 @@ impl Slots {
     pub fn join(&self, seat: Seat, other: Seat) -> Seat
         requires { (seat.table ≡ self.now.table) × (other.table ≡ self.now.table) }
         ensures table { result.table ≡ seat.table }
-        ensures joined { result.knows ≡ joined seat.knows other.knows }
+        ensures joint { result.knows ≡ joint seat.knows other.knows }
         ensures agree { Agree seat.knows other.knows }
     {
         let Seat { mut inner } = seat;
@@ -244,7 +244,7 @@ impl Slots {
     pub fn read(&self, seat: &mut Seat, row: u32, buffer: &mut [u64]) -> Read
         requires { seat.old.table ≡ self.now.table }
         ensures table { seat.new.table ≡ seat.old.table }
-        ensures read { Reads seat.old.knows buffer.old row result seat.new.knows buffer.new }
+        ensures read { ReadsRow seat.old.knows buffer.old row result seat.new.knows buffer.new }
     {
         let _ = &seat.inner;
         let row = row as usize;

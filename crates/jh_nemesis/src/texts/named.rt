@@ -2,7 +2,7 @@
 
 ghost use Rattle.std.specs.Prelude.{◌≡◌, ◌<◌, IfOk, IfSome, IsPermutation, IsSome, MatchOption, MatchResult, None, Some, length};
 ghost use Rattle.jh_env.specs.Faults.{FitsCount};
-ghost use Rattle.jh_nemesis.specs.FaultText.{Answers, cut_of, named_told, split_told};
+ghost use Rattle.jh_nemesis.specs.FaultText.{IsPartParsed, cut_of, named_told, split_told};
 ghost use Rattle.jh_nemesis.specs.declared.texts.StepTextError.TheVariants.{OutOfMemory};
 ghost use Rattle.jh_nemesis.specs.NamedFaults.{
   AreLinksAmong,
@@ -11,7 +11,7 @@ ghost use Rattle.jh_nemesis.specs.NamedFaults.{
   crosses_halves,
   links_that,
   named_links,
-  order_of,
+  seeded_order,
   places,
   ring_links,
   touches,
@@ -46,7 +46,7 @@ fn all_places(alloc: Global, nodes: &Nodes) -> Result<Vec<u8>, AllocError>
 /// The places of all nodes in the order in which `[:ring SEED]` lays its ring: shuffled by `rand`'s `shuffle` with the
 /// `Lcg64Xsh32` of `rand_pcg` that the seed makes, so that a seed always gives the same order.
 pub fn ring_order(alloc: Global, nodes: &Nodes, seed: u64) -> Result<Vec<u8>, AllocError>
-    ensures order { IfOk result (λ all. all.items ≡ order_of seed (length nodes.now)) }
+    ensures order { IfOk result (λ all. all.items ≡ seeded_order seed (length nodes.now)) }
     ensures all { IfOk result (λ all. IsPermutation (places (length nodes.now)) all.items) }
 {
     let mut order = all_places(alloc, nodes)?;
@@ -104,9 +104,10 @@ fn listed_ring(alloc: Global, nodes: &Nodes) -> Result<Grudge, AllocError>
 }
 
 fn shuffled_ring(alloc: Global, nodes: &Nodes, seed: u64) -> Result<Grudge, AllocError>
-    ensures links { IfOk result (λ grudge. grudge ≡ ring_links (order_of seed (length nodes.now)) (length nodes.now)) }
+    ensures links { IfOk result (λ grudge. grudge
+        ≡ ring_links (seeded_order seed (length nodes.now)) (length nodes.now)) }
     ensures among { IfOk result (AreLinksAmong (length nodes.now)) }
-    ensures all { IfOk result (λ _. IsPermutation (places (length nodes.now)) (order_of seed (length nodes.now))) }
+    ensures all { IfOk result (λ _. IsPermutation (places (length nodes.now)) (seeded_order seed (length nodes.now))) }
 {
     let order = ring_order(alloc, nodes, seed)?;
     ring(alloc, nodes, &order)
@@ -171,7 +172,7 @@ fn cut(alloc: Global, nodes: &Nodes, grudge: &Grudge) -> Result<Fault, StepTextE
 
 /// The cut of the grudge of this name.
 pub fn named_fault(alloc: Global, nodes: &Nodes, named: Named) -> Result<Fault, StepTextError>
-    ensures told { Answers result (named_told (length nodes.now) named) }
+    ensures told { IsPartParsed result (named_told (length nodes.now) named) }
     ensures all { IfOk result (λ _. IsOverAll (length nodes.now) named) }
     ensures fits { IfOk result (FitsCount (length nodes.now)) }
 {
@@ -182,7 +183,7 @@ pub fn named_fault(alloc: Global, nodes: &Nodes, named: Named) -> Result<Fault, 
 
 /// The cut that leaves the node of this name alone.
 pub fn split_fault(alloc: Global, nodes: &Nodes, loner: &str) -> Result<Fault, StepTextError>
-    ensures told { Answers result (split_told nodes.now loner.now) }
+    ensures told { IsPartParsed result (split_told nodes.now loner.now) }
     ensures fits { IfOk result (FitsCount (length nodes.now)) }
 {
     let loner = nodes.find(loner).ok_or(StepTextError::UnknownNode)?;

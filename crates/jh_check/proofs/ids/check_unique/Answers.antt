@@ -8,7 +8,7 @@ use Rattle.jh_ops.specs.Operation.{operation, operations}
 use Rattle.jh_ops.specs.declared.operation.Kind.{Kind}
 use Rattle.jh_check.specs.Asked.{is_asked}
 use Rattle.jh_check.specs.Distinct.{count_of, once}
-use Rattle.jh_check.specs.IdsInside.{view_duplicates, view_duplicate}
+use Rattle.jh_check.specs.IdsView.{view_duplicates, view_duplicate}
 use Rattle.jh_check.specs.IdsResults.{given, duplicated, is_duplicate}
 use Rattle.jh_check.specs.Verdicts.{verdict_of}
 use Rattle.jh_check.proofs.ListLemmas.{count_by-map}

@@ -3,7 +3,7 @@ use Rattle.std.specs.List.{filter}
 use Rattle.std.proofs.lemmas.List.{drop_all}
 use Rattle.jh_edn.specs.View.{view, views}
 use Rattle.jh_check.specs.Distinct.{Ascends, count_of, once}
-use Rattle.jh_check.specs.IdsInside.{view_duplicates}
+use Rattle.jh_check.specs.IdsView.{view_duplicates}
 use Rattle.jh_check.specs.IdsResults.{is_duplicate}
 use Rattle.jh_check.proofs.OnceLemmas.{runs, runs_are_counts}
 use Rattle.jh_check.proofs.ids.repeated.Goals as goal

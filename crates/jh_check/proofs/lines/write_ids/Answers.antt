@@ -4,7 +4,7 @@ use Rattle.std.specs.Io.KnownBytes.{Appends}
 use Rattle.std.proofs.lemmas.Result.{on_ok_weaker}
 use Rattle.jh_edn.proofs.Facts.{appends_then}
 use Rattle.jh_edn.specs.Edn.{Edn, int}
-use Rattle.jh_check.specs.IdsInside.{view_duplicate}
+use Rattle.jh_check.specs.IdsView.{view_duplicate}
 use Rattle.jh_check.specs.Lines.{duplicate_value, vector_of}
 use Rattle.jh_check.specs.declared.ids.Duplicate.{Duplicate}
 use Rattle.jh_check.proofs.LineLemmas.{four_parts, mapped_twice}

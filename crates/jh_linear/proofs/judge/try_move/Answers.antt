@@ -2,7 +2,7 @@ use Rattle.std.proofs.Common.{◌++◌, [], List, length, refl, sym, ap, subst, 
 use Rattle.jh_linear.specs.declared.walk.WalkEnd.TheVariants.{Several, Stuck, Complete}
 use Rattle.jh_linear.specs.declared.verdict.Step.{Step}
 use Rattle.jh_linear.specs.Reached.{order_at}
-use Rattle.jh_linear.specs.Search.{EndsAs, IsMadeBy, Notes, StandsFor}
+use Rattle.jh_linear.specs.Search.{EndsAs, IsMadeBy, Notes, LeadsTo}
 use Rattle.jh_linear.proofs.GrowthLemmas.{stands_copy}
 use Rattle.jh_linear.proofs.GoingOnLemmas.{at_low, begun_mid, if_ok, move_same, some_placed, stands_next, tried_entered, tried_stuck, whole}
 use Rattle.jh_linear.proofs.judge.try_move.Goals as goal
@@ -88,7 +88,7 @@ enter-requires-clause-stands c =
     let copy = c.in_ok-next.next in
     let makes : IsMadeBy p copy [] c.args.step c.make.new.config c.make.new.placed.items = subst (λ o. IsMadeBy p copy o c.args.step c.make.new.config c.make.new.placed.items) c.new-placed.ensures.items c.in_ok-make.ensures in
     let notes : Notes s c.note-in-Several.new.search c.args.at c.walk.new.placed.items c.walk.new.config.stage = subst (λ o. Notes s c.note-in-Several.new.search c.args.at o c.walk.new.config.stage) c.as_slice-in-Several.ensures.value c.in_ok-note-in-Several.ensures in
-    subst (λ (ss : List Step). StandsFor p (order_at ss c.args.at ++ c.walk.new.placed.items) c.walk.new.config) (sym notes.steps)
+    subst (λ (ss : List Step). LeadsTo p (order_at ss c.args.at ++ c.walk.new.placed.items) c.walk.new.config) (sym notes.steps)
     (stands_next p c.requires.problem s c.requires.begun c.args.at c.args.config.now t copy c.in_ok-next.ensures c.args.step c.make.new.config c.make.new.placed.items makes c.walk.new.config c.walk.new.placed.items c.in_ok-end.ensures.gone)
 
 pub returns-in-Complete : goal.returns-in-Complete
