@@ -54,14 +54,14 @@ pub record Tells (values : List Edn) (env : EnvValue) (steps : List Step) : Type
 pub record IsEnvOf (state : State) (env : EnvValue) : Type 0 where
   pub names : env.names ≡ state.names
   pub start : env.start ≡ state.start
-  pub overlay : StandsFor env (faults_in state.now)
+  pub overlay : StandsFor env (faults_in state.active)
 
 -- what is written for these steps, from this state
 abbrev pub IsReport : State → List Step → List ℕ → Type 0
 IsReport first steps output =
     let last = state_after_all first steps in
     (env : EnvValue) × IsEnvOf last env
-    × (output ≡ answer_lines (answers_of first steps) ++ (active_line last.now ++ environment_line env))
+    × (output ≡ answer_lines (answers_of first steps) ++ (active_line last.active ++ environment_line env))
 
 -- what is written for these values
 abbrev pub IsEnvText : List Edn → List ℕ → Type 0

@@ -28,7 +28,7 @@ history_lines history = flat_map (λ op. line (print (value_written op))) histor
 -- the lines of a history, of what the faults of a state make, and of a judgement
 abbrev pub IsTold : State → List Operation → List ℕ → List ℕ → Type 0
 IsTold last history judged output =
-    (env : EnvValue) × IsEnvOf last env × (output ≡ history_lines history ++ (active_line last.now ++ (environment_line env ++ line judged)))
+    (env : EnvValue) × IsEnvOf last env × (output ≡ history_lines history ++ (active_line last.active ++ (environment_line env ++ line judged)))
 
 -- what the history of a run is judged by; its no is not explained
 abbrev pub own_judging : PlanValue → ℕ → Judging

@@ -163,7 +163,7 @@ pub(crate) fn write_active(
     nemesis: &Nemesis,
     output: &mut Vec<u8>,
 ) -> Result<(), AllocError>
-    ensures { OnOk result (output.new.items ≡ output.old.items ++ text.active_line nemesis.now.state.now) }
+    ensures { OnOk result (output.new.items ≡ output.old.items ++ text.active_line nemesis.now.state.active) }
 {
     let ids = active_ids(alloc, nemesis)?;
     output.extend_from_slice(b":active ")?;
@@ -178,7 +178,7 @@ fn id_value(id: u32) -> Value
 
 // The ids of the active faults, in order, as a vector.
 fn active_ids(alloc: Global, nemesis: &Nemesis) -> Result<Value, AllocError>
-    ensures { IfOk result (λ ids. view ids ≡ text.ids_of nemesis.now.state.now) }
+    ensures { IfOk result (λ ids. view ids ≡ text.ids_of nemesis.now.state.active) }
 {
     let mut ids = Vec::new(alloc);
     for place in 0..nemesis.active_len() {

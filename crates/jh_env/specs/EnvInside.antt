@@ -9,7 +9,7 @@ abbrev pub env_value : Inside → EnvValue
 env_value a = record {
   names = a.names;
   start = a.tables.start;
-  now = a.tables.now;
+  cells = a.tables.cells;
   tallies = a.tables.tallies;
   laid = a.tables.laid;
 }
@@ -18,4 +18,4 @@ env_value a = record {
 pub record IsWhole (a : Inside) : Type 0 where
   pub names : AreFew a.names × AreNodeNames a.names
   pub start : length a.tables.start.nodes ≡ length a.names
-  pub now : length a.tables.now.nodes ≡ length a.names
+  pub cells : length a.tables.cells.nodes ≡ length a.names

@@ -15,17 +15,17 @@ pub use Rattle.jh_tables.specs.Overlay.{pauses, kills, bump_by, is_paused, is_ki
 pub record EnvValue : Type 0 where
   pub names : List (List ℕ)
   pub start : Table
-  pub now : Table
+  pub cells : Table
   pub tallies : Tallies
   pub laid : ℕ
 
 -- the tables of an environment
 abbrev pub tables_of : EnvValue → TablesValue
-tables_of env = record { start = env.start; now = env.now; tallies = env.tallies; laid = env.laid }
+tables_of env = record { start = env.start; cells = env.cells; tallies = env.tallies; laid = env.laid }
 
 -- the environment's cells now
 abbrev pub cells_of : EnvValue → Table
-cells_of env = env.now
+cells_of env = env.cells
 
 -- the environment's link from a to b now, where there is one
 abbrev pub link_of : EnvValue → ℕ → ℕ → Option Link

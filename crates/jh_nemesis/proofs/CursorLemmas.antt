@@ -199,8 +199,8 @@ module _ {env : EnvValue} {records : List Record} {cursor : ℕ} {active : List 
 
     -- what was written at most once that step was taken
     pub put_work : (items : List Record) (new after : State) (written work : ℕ) → items ≡ put → new ≡ after
-        → written ≤ work + size_between (faults_at items active) new.now
-        → written ≤ work + size_between (faults_at records active) after.now
+        → written ≤ work + size_between (faults_at items active) new.active
+        → written ≤ work + size_between (faults_at records active) after.active
     put_work items new after written work is same bound = rw (is, put_faults, same) at bound
 
   -- the active faults after each kind of step

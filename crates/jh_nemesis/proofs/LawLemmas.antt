@@ -48,7 +48,7 @@ without_middle (b ∷ before) after id f h =
     rw (p.0, without_middle before after id f p.1) refl
 
 -- what an accepted step makes of the active faults
-pub accepted : (s : State) (step : Step) → is_ok (answer_of s step) ≡ true → (state_after s step).now ≡ (moved s step).now
+pub accepted : (s : State) (step : Step) → is_ok (answer_of s step) ≡ true → (state_after s step).active ≡ (moved s step).active
 accepted s step ok = rw ok refl
 
 pub withdrawal_leaves : WithdrawalLeavesOthers
@@ -59,13 +59,13 @@ not_taken true x e = sym e
 not_taken false x e = refl
 
 -- the id of an accepted begin is new
-pub fresh : (s : State) (id : ℕ) → is_ok (begin_answer s id) ≡ true → is_active (s.now ++ []) id ≡ false
-fresh s id ok = rw (append-nil s.now) (not_taken (is_active s.now id) _ ok)
+pub fresh : (s : State) (id : ℕ) → is_ok (begin_answer s id) ≡ true → is_active (s.active ++ []) id ≡ false
+fresh s id ok = rw (append-nil s.active) (not_taken (is_active s.active id) _ ok)
 
 pub withdrawal_ends : WithdrawalEndsBegin
 withdrawal_ends s id f began ended =
     accepted (state_after s (Begin id f)) (Withdraw id) ended
-    ∙ (ap (λ a. without a id) (accepted s (Begin id f) began) ∙ (without_middle s.now [] id f (fresh s id began) ∙ append-nil s.now))
+    ∙ (ap (λ a. without a id) (accepted s (Begin id f) began) ∙ (without_middle s.active [] id f (fresh s id began) ∙ append-nil s.active))
 
 -- a link is cut if one of the faults cuts it
 cut_among : (before after : Active) (x : ℕ × FaultValue) (a b : ℕ) → cuts a b x.1 ≡ true → list_any (cuts a b) (faults_in (before ++ (x ∷ after))) ≡ true
@@ -82,7 +82,7 @@ without_other before after id other f apart =
 
 pub others_stay : CutsOfOthersStay
 others_stay s before after id other f a b l now apart h =
-    elim (is_ok (answer_of s (Withdraw id))) as (λ k. (link_over (faults_in (if k then moved_on s (without s.now id) else s).now) a b l).cut ≡ true) [
+    elim (is_ok (answer_of s (Withdraw id))) as (λ k. (link_over (faults_in (if k then moved_on s (without s.active id) else s).active) a b l).cut ≡ true) [
       | true ↦ rw (now, without_other before after id other f apart) (or_right l.cut _ (cut_among (without before id) (without after id) (other, f) a b h))
       | false ↦ rw now (or_right l.cut _ (cut_among before after (other, f) a b h))
     ]

@@ -66,11 +66,11 @@ replicate_push zero x = refl
 replicate_push (suc n) x = ap (λ xs. x ∷ xs) (replicate_push n x)
 
 redos_from : (n : ℕ) (names : List (List ℕ)) (start : Table) (past : List Active) (now : Active) (future : List Active) → n ≤ length past
-    → (let s : State = record { names = names; start = start; past = past; now = now; future = future } in state_after_all s (replicate n Undo ++ replicate n Redo) ≡ s)
+    → (let s : State = record { names = names; start = start; past = past; active = now; future = future } in state_after_all s (replicate n Undo ++ replicate n Redo) ≡ s)
 redos_from zero names start past now future h = refl
 redos_from (suc n) names start [] now future h = absurd (omega arith)
 redos_from (suc n) names start (p ∷ ps) now future h =
-    let u : State = record { names = names; start = start; past = ps; now = p; future = now ∷ future } in
+    let u : State = record { names = names; start = start; past = ps; active = p; future = now ∷ future } in
     let within : n ≤ length ps = omega arith in
     let e : replicate n Undo ++ replicate (suc n) Redo ≡ (replicate n Undo ++ replicate n Redo) ++ Redo ∷ [] =
     ap (λ (z : List Step). replicate n Undo ++ z) (replicate_push n Redo) ∙ sym (append_assoc (replicate n Undo) (replicate n Redo) (Redo ∷ [])) in
@@ -78,12 +78,12 @@ redos_from (suc n) names start (p ∷ ps) now future h =
     ∙ ap (λ t. state_after_all t (Redo ∷ [])) (redos_from n names start ps p (now ∷ future) within)
 
 pub redos_back : RedosLeadBack
-redos_back n s h = redos_from n s.names s.start s.past s.now s.future h
+redos_back n s h = redos_from n s.names s.start s.past s.active s.future h
 
 -- what an accepted begin or withdrawal leaves
-moved_restored : (s : State) (step : Step) → is_ok (answer_of s step) ≡ true → (next : Active) → moved s step ≡ record s { past = s.now ∷ s.past; now = next; future = [] }
+moved_restored : (s : State) (step : Step) → is_ok (answer_of s step) ≡ true → (next : Active) → moved s step ≡ record s { past = s.active ∷ s.past; active = next; future = [] }
     → IsRestored s (state_after s step)
-moved_restored s step ok next e = rw (ok, e) (record { accepted = refl; now = refl; past = refl; start = refl; names = refl })
+moved_restored s step ok next e = rw (ok, e) (record { accepted = refl; active = refl; past = refl; start = refl; names = refl })
 
 pub undo_back : UndoRestores
 undo_back s (Begin id f) change ok = moved_restored s (Begin id f) ok _ refl
@@ -100,28 +100,28 @@ change_ends s Undo change ok = absurd cc
 change_ends s Redo change ok = absurd cc
 
 redo_from : (names : List (List ℕ)) (start : Table) (past : List Active) (now : Active) (future : List Active)
-    → (let s : State = record { names = names; start = start; past = past; now = now; future = future } in is_ok (answer_of s Undo) ≡ true
+    → (let s : State = record { names = names; start = start; past = past; active = now; future = future } in is_ok (answer_of s Undo) ≡ true
     → (answer_of (state_after s Undo) Redo ≡ StepAnswer.Ok) × (state_after (state_after s Undo) Redo ≡ s))
 redo_from names start [] now future ok = absurd cc
 redo_from names start (p ∷ ps) now future ok = (refl, refl)
 
 pub redo_back : RedoRestores
-redo_back s ok = redo_from s.names s.start s.past s.now s.future ok
+redo_back s ok = redo_from s.names s.start s.past s.active s.future ok
 
 undo_from : (names : List (List ℕ)) (start : Table) (past : List Active) (now : Active) (future : List Active)
-    → (let s : State = record { names = names; start = start; past = past; now = now; future = future } in is_ok (answer_of s Redo) ≡ true
+    → (let s : State = record { names = names; start = start; past = past; active = now; future = future } in is_ok (answer_of s Redo) ≡ true
     → (answer_of (state_after s Redo) Undo ≡ StepAnswer.Ok) × (state_after (state_after s Redo) Undo ≡ s))
 undo_from names start past now [] ok = absurd cc
 undo_from names start past now (f ∷ fs) ok = (refl, refl)
 
 pub redo_undone : UndoTakesRedoBack
-redo_undone s ok = undo_from s.names s.start s.past s.now s.future ok
+redo_undone s ok = undo_from s.names s.start s.past s.active s.future ok
 
 pub environment_over : EnvironmentIsOverlay
 environment_over first env steps same stands =
     let s : State = state_after_all (first_state first) steps in
     let started : env.start ≡ first.start = same ∙ start_stays (first_state first) steps in
-    subst (λ (start : Table). IsOverlay start (faults_in s.now) (cells_of env)) started stands.cells
+    subst (λ (start : Table). IsOverlay start (faults_in s.active) (cells_of env)) started stands.cells
 
 -- the next of a list
 pub next_of : {A : Type 0} (n : ℕ) (xs : List A) (x : A) (rest : List A) → drop n xs ≡ x ∷ rest → (take (suc n) xs ≡ take n xs ++ x ∷ []) × (drop (suc n) xs ≡ rest) × (n < length xs)

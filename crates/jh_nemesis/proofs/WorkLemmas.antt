@@ -56,29 +56,29 @@ one_more before after id f new =
     rw (gone, none) (omega arith)
 
 pub refused_writes : RefusedWritesNothing
-refused_writes s step refused = rw refused (same_moment s.now)
+refused_writes s step refused = rw refused (same_moment s.active)
 
 pub begin_writes : BeginWritesItsFault
 begin_writes s id f ok =
     let one : ℕ × FaultValue = (id, f) in
-    let size : size_between (s.now ++ one ∷ []) (s.now ++ []) ≡ size_of f = one_more s.now [] id f (fresh s id ok) in
-    let last : size_between (s.now ++ one ∷ []) s.now ≡ size_of f = rw (append-nil s.now) at size in
-    rw (accepted s (Begin id f) ok) (turned s.now (s.now ++ one ∷ []) ∙ last)
+    let size : size_between (s.active ++ one ∷ []) (s.active ++ []) ≡ size_of f = one_more s.active [] id f (fresh s id ok) in
+    let last : size_between (s.active ++ one ∷ []) s.active ≡ size_of f = rw (append-nil s.active) at size in
+    rw (accepted s (Begin id f) ok) (turned s.active (s.active ++ one ∷ []) ∙ last)
 
 pub withdrawal_writes : WithdrawalWritesItsFault
 withdrawal_writes s before after id f now others ok =
-    let size : size_between s.now (before ++ after) ≡ size_of f = rw now (one_more before after id f others) in
+    let size : size_between s.active (before ++ after) ≡ size_of f = rw now (one_more before after id f others) in
     rw (withdrawal_leaves s before after id f now others ok) size
 
 pub all_written : WithdrawingAllWritesAll
-all_written s ok = rw (accepted s WithdrawAll ok, all_alone s.now) (omega arith)
+all_written s ok = rw (accepted s WithdrawAll ok, all_alone s.active) (omega arith)
 
 pub undo_writes : UndoWritesItsStep
 undo_writes s step change ok =
-    rw (undo_back s step change ok).now (turned (state_after s step).now s.now)
+    rw (undo_back s step change ok).active (turned (state_after s step).active s.active)
 
 pub redo_writes : RedoWritesItsUndo
-redo_writes s ok = rw (redo_back s ok).1 (turned (state_after s Undo).now s.now)
+redo_writes s ok = rw (redo_back s ok).1 (turned (state_after s Undo).active s.active)
 
 pub undo_writes_redo : UndoWritesItsRedo
-undo_writes_redo s ok = rw (redo_undone s ok).1 (turned (state_after s Redo).now s.now)
+undo_writes_redo s ok = rw (redo_undone s ok).1 (turned (state_after s Redo).active s.active)

@@ -25,7 +25,7 @@ RefusedStays = (s : State) (step : Step) → is_ok (answer_of s step) ≡ false 
 -- after an accepted begin or withdrawal there is a step to undo, and undoing it gives back the active faults, in their order, over the same start
 pub record IsRestored (s after : State) : Type 0 where
   pub accepted : answer_of after Undo ≡ Ok
-  pub now : (state_after after Undo).now ≡ s.now
+  pub active : (state_after after Undo).active ≡ s.active
   pub past : (state_after after Undo).past ≡ s.past
   pub start : (state_after after Undo).start ≡ s.start
   pub names : (state_after after Undo).names ≡ s.names
@@ -51,14 +51,14 @@ ChangeEndsFuture = (s : State) (step : Step) → is_change step ≡ true → is_
 -- a withdrawal leaves the other faults, in their order
 abbrev pub WithdrawalLeavesOthers : Type 0
 WithdrawalLeavesOthers =
-    (s : State) (before after : Active) (id : ℕ) (f : FaultValue) → s.now ≡ before ++ ((id, f) ∷ after) → is_active (before ++ after) id ≡ false
-    → is_ok (answer_of s (Withdraw id)) ≡ true → (state_after s (Withdraw id)).now ≡ before ++ after
+    (s : State) (before after : Active) (id : ℕ) (f : FaultValue) → s.active ≡ before ++ ((id, f) ∷ after) → is_active (before ++ after) id ≡ false
+    → is_ok (answer_of s (Withdraw id)) ≡ true → (state_after s (Withdraw id)).active ≡ before ++ after
 
 -- and the environment that these alone make of the start
 abbrev pub OthersAloneMake : Type 0
 OthersAloneMake =
-    (s : State) (before after : Active) (id : ℕ) (f : FaultValue) (env : EnvValue) → s.now ≡ before ++ ((id, f) ∷ after) → is_active (before ++ after) id ≡ false
-    → is_ok (answer_of s (Withdraw id)) ≡ true → StandsFor env (faults_in (state_after s (Withdraw id)).now)
+    (s : State) (before after : Active) (id : ℕ) (f : FaultValue) (env : EnvValue) → s.active ≡ before ++ ((id, f) ∷ after) → is_active (before ++ after) id ≡ false
+    → is_ok (answer_of s (Withdraw id)) ≡ true → StandsFor env (faults_in (state_after s (Withdraw id)).active)
     → IsOverlay env.start (faults_in (before ++ after)) (cells_of env)
 
 -- an environment is its start again
@@ -69,27 +69,27 @@ pub record IsAtStart (env : EnvValue) : Type 0 where
 -- withdrawing all faults leaves the start, whatever it was
 abbrev pub WithdrawingAllLeavesStart : Type 0
 WithdrawingAllLeavesStart =
-    (s : State) (env : EnvValue) → is_ok (answer_of s WithdrawAll) ≡ true → StandsFor env (faults_in (state_after s WithdrawAll).now) → IsAtStart env
+    (s : State) (env : EnvValue) → is_ok (answer_of s WithdrawAll) ≡ true → StandsFor env (faults_in (state_after s WithdrawAll).active) → IsAtStart env
 
 -- Whatever the steps were, an environment that stands for the active faults over the state's start is what they make of
 -- the environment in which the nemesis was begun, cell by cell.
 abbrev pub EnvironmentIsOverlay : Type 0
 EnvironmentIsOverlay =
     (first env : EnvValue) (steps : List Step) → (let s = state_after_all (first_state first) steps in
-    env.start ≡ s.start → StandsFor env (faults_in s.now) → IsOverlay first.start (faults_in s.now) (cells_of env))
+    env.start ≡ s.start → StandsFor env (faults_in s.active) → IsOverlay first.start (faults_in s.active) (cells_of env))
 
 -- a fault that is begun and withdrawn leaves the active faults as they were
 abbrev pub WithdrawalEndsBegin : Type 0
 WithdrawalEndsBegin =
     (s : State) (id : ℕ) (f : FaultValue) → is_ok (answer_of s (Begin id f)) ≡ true
     → is_ok (answer_of (state_after s (Begin id f)) (Withdraw id)) ≡ true
-    → (state_after (state_after s (Begin id f)) (Withdraw id)).now ≡ s.now
+    → (state_after (state_after s (Begin id f)) (Withdraw id)).active ≡ s.active
 
 -- a link that another active fault cuts is still cut after a withdrawal
 abbrev pub CutsOfOthersStay : Type 0
 CutsOfOthersStay =
-    (s : State) (before after : Active) (id other : ℕ) (f : FaultValue) (a b : ℕ) (l : Link) → s.now ≡ before ++ ((other, f) ∷ after) → other ≢ id
-    → cuts a b f ≡ true → (link_over (faults_in (state_after s (Withdraw id)).now) a b l).cut ≡ true
+    (s : State) (before after : Active) (id other : ℕ) (f : FaultValue) (a b : ℕ) (l : Link) → s.active ≡ before ++ ((other, f) ∷ after) → other ≢ id
+    → cuts a b f ≡ true → (link_over (faults_in (state_after s (Withdraw id)).active) a b l).cut ≡ true
 
 -- a link that the start cuts is cut whatever is active
 abbrev pub CutsOfStartStay : Type 0

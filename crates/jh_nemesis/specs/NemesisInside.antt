@@ -13,7 +13,7 @@ state_from env records cursor active = record {
   names = env.names;
   start = env.start;
   past = past_of records cursor;
-  now = faults_at records active;
+  active = faults_at records active;
   future = future_of records cursor (length records - cursor);
 }
 

@@ -14,12 +14,12 @@ pub record State : Type 0 where
   pub names : List (List ℕ)
   pub start : Table
   pub past : List Active
-  pub now : Active
+  pub active : Active
   pub future : List Active
 
 -- over an environment at its start
 abbrev pub first_state : EnvValue → State
-first_state env = record { names = env.names; start = env.start; past = []; now = []; future = [] }
+first_state env = record { names = env.names; start = env.start; past = []; active = []; future = [] }
 
 -- the fault stands under this id
 abbrev pub has_id : ℕ → (ℕ × FaultValue) → Bool
@@ -35,7 +35,7 @@ faults_in active = map (λ f. f.1) active
 
 -- a new moment: what was now is the last of the past, and nothing is undone
 abbrev pub moved_on : State → Active → State
-moved_on s next = record s { past = s.now ∷ s.past; now = next; future = [] }
+moved_on s next = record s { past = s.active ∷ s.past; active = next; future = [] }
 
 -- nothing is in the list
 abbrev pub is_empty : {A : Type 0} → List A → Bool
@@ -45,9 +45,9 @@ is_empty (x ∷ xs) = false
 -- back to the last moment of these before: what was now is the first that is undone
 abbrev pub back_to : State → List Active → State
 back_to s [] = s
-back_to s (moment ∷ before) = record s { past = before; now = moment; future = s.now ∷ s.future }
+back_to s (moment ∷ before) = record s { past = before; active = moment; future = s.active ∷ s.future }
 
 -- forth to the first moment of these that are undone: what was now is the last of the past
 abbrev pub forth_to : State → List Active → State
 forth_to s [] = s
-forth_to s (moment ∷ after) = record s { past = s.now ∷ s.past; now = moment; future = after }
+forth_to s (moment ∷ after) = record s { past = s.active ∷ s.past; active = moment; future = after }

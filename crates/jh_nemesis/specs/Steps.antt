@@ -21,22 +21,22 @@ max_steps = 4096
 -- the answer to the begin of a fault under this id: the first refusal that applies
 abbrev pub begin_answer : State → ℕ → StepAnswer
 begin_answer s id =
-    if is_active s.now id then IdTaken
-    else if nat_le max_active (length s.now) then TooManyActive
+    if is_active s.active id then IdTaken
+    else if nat_le max_active (length s.active) then TooManyActive
     else if nat_le max_steps (length s.past) then TooManySteps
     else Ok
 
 -- the answer to the withdrawal of the fault of this id: the first refusal that applies
 abbrev pub withdraw_answer : State → ℕ → StepAnswer
 withdraw_answer s id =
-    if not (is_active s.now id) then NotActive
+    if not (is_active s.active id) then NotActive
     else if nat_le max_steps (length s.past) then TooManySteps
     else Ok
 
 -- the answer to the withdrawal of all faults: the first refusal that applies
 abbrev pub withdraw_all_answer : State → StepAnswer
 withdraw_all_answer s =
-    if is_empty s.now then NothingActive
+    if is_empty s.active then NothingActive
     else if nat_le max_steps (length s.past) then TooManySteps
     else Ok
 
@@ -54,8 +54,8 @@ without active id = filter (λ f. not (has_id id f)) active
 
 -- the state after an accepted step: a fault that is begun stands last, one that is withdrawn is gone
 abbrev pub moved : State → Step → State
-moved s (Begin id f) = moved_on s (s.now ++ (id, f) ∷ [])
-moved s (Withdraw id) = moved_on s (without s.now id)
+moved s (Begin id f) = moved_on s (s.active ++ (id, f) ∷ [])
+moved s (Withdraw id) = moved_on s (without s.active id)
 moved s WithdrawAll = moved_on s []
 moved s Undo = back_to s s.past
 moved s Redo = forth_to s s.future

@@ -25,7 +25,7 @@ size_between before after = size_of_all (only_in before after) + size_of_all (on
 
 -- the most that a step may write
 abbrev pub size_of_step : State → Step → ℕ
-size_of_step s step = size_between s.now (state_after s step).now
+size_of_step s step = size_between s.active (state_after s step).active
 
 -- the most that steps may write, one after another
 abbrev pub size_of_steps : State → List Step → ℕ

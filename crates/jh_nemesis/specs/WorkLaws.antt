@@ -20,12 +20,12 @@ BeginWritesItsFault =
 -- and so does its withdrawal
 abbrev pub WithdrawalWritesItsFault : Type 0
 WithdrawalWritesItsFault =
-    (s : State) (before after : Active) (id : ℕ) (f : FaultValue) → s.now ≡ before ++ ((id, f) ∷ after) → is_active (before ++ after) id ≡ false
+    (s : State) (before after : Active) (id : ℕ) (f : FaultValue) → s.active ≡ before ++ ((id, f) ∷ after) → is_active (before ++ after) id ≡ false
     → is_ok (answer_of s (Withdraw id)) ≡ true → size_of_step s (Withdraw id) ≡ size_of f
 
 -- a withdrawal of all writes what they take together
 abbrev pub WithdrawingAllWritesAll : Type 0
-WithdrawingAllWritesAll = (s : State) → is_ok (answer_of s WithdrawAll) ≡ true → size_of_step s WithdrawAll ≡ size_of_all s.now
+WithdrawingAllWritesAll = (s : State) → is_ok (answer_of s WithdrawAll) ≡ true → size_of_step s WithdrawAll ≡ size_of_all s.active
 
 -- an undo writes what its step takes
 abbrev pub UndoWritesItsStep : Type 0

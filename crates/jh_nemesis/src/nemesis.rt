@@ -82,7 +82,7 @@ impl Nemesis {
 
     /// The environment: what the active faults make of its start.
     pub fn env(&self) -> &Env
-        ensures overlay { StandsFor result.now (faults_in self.now.state.now) }
+        ensures overlay { StandsFor result.now (faults_in self.now.state.active) }
         ensures names { result.now.names ≡ self.now.state.names }
         ensures start { result.now.start ≡ self.now.state.start }
         ensures work { work_of result.now ≡ self.now.work }
@@ -92,7 +92,7 @@ impl Nemesis {
 
     /// How many faults are active, at most 256.
     pub fn active_len(&self) -> usize
-        ensures len { result ≡ length self.now.state.now }
+        ensures len { result ≡ length self.now.state.active }
         ensures few { result ≤ max_active }
     {
         self.active.len()
@@ -100,7 +100,7 @@ impl Nemesis {
 
     /// The active fault at this place from 0, with its id, in the order in which they were begun.
     pub fn active_at(&self, place: usize) -> Option<(u32, &Fault)>
-        ensures { option_map (λ f. (f.0, f.1.now)) result ≡ slice_get self.now.state.now place }
+        ensures { option_map (λ f. (f.0, f.1.now)) result ≡ slice_get self.now.state.active place }
     {
         let stamp = *self.active.get(place)?;
         match &self.records[stamp] {
@@ -213,7 +213,7 @@ impl Nemesis {
     fn go_back(&mut self)
         requires { is_empty self.old.state.past ≡ false }
         ensures state { self.new.state ≡ back_to self.old.state self.old.state.past }
-        ensures work { self.new.work ≤ self.old.work + size_between self.old.state.now self.new.state.now }
+        ensures work { self.new.work ≤ self.old.work + size_between self.old.state.active self.new.state.active }
     {
         self.cursor -= 1;
         step_back(&mut self.env, &self.records, self.cursor);
@@ -224,7 +224,7 @@ impl Nemesis {
     fn go_forth(&mut self)
         requires { is_empty self.old.state.future ≡ false }
         ensures state { self.new.state ≡ forth_to self.old.state self.old.state.future }
-        ensures work { self.new.work ≤ self.old.work + size_between self.old.state.now self.new.state.now }
+        ensures work { self.new.work ≤ self.old.work + size_between self.old.state.active self.new.state.active }
     {
         step_forth(&mut self.env, &self.records, self.cursor);
         play(&self.records, self.cursor, &mut self.active);

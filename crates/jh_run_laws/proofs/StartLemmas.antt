@@ -23,7 +23,7 @@ use Rattle.jh_simnode.proofs.StepLemmas.{state_after_start}
 -- ---- the same faults over another start
 
 abbrev restarted : Table → State → State
-restarted start s = record { names = s.names; start = start; past = s.past; now = s.now; future = s.future }
+restarted start s = record { names = s.names; start = start; past = s.past; active = s.active; future = s.future }
 
 back_restarted : (start : Table) (s : State) (past : List Active) → back_to (restarted start s) past ≡ restarted start (back_to s past)
 back_restarted start s [] = refl
@@ -75,7 +75,7 @@ start_kept s Event.Tick = refl
 
 -- the same environment at a moment
 env_same : (start : Table) (s : State) → SameCells s.start start → env_of (restarted start s) ≡ env_of s
-env_same start s same = cells_same s.start start same (faults_in s.now)
+env_same start s same = cells_same s.start start same (faults_in s.active)
 
 still_same : (start : Table) (s : State) (e : Event) → SameCells s.start start → SameCells (faults_after s e).start start
 still_same start s e same = subst (λ (t : Table). SameCells t start) (sym (start_kept s e)) same

@@ -36,11 +36,11 @@ number_after u m [] = sym (add-zero m.number)
 number_after u m (x ∷ es) = number_after u (next u m x) es ∙ omega arith
 
 -- the cells of an environment are what the active faults make of the starting ones
-pub cells_are : (env : EnvValue) (s : State) → StandsFor env (faults_in s.now) → env.start ≡ s.start → cells_of env ≡ env_of s
+pub cells_are : (env : EnvValue) (s : State) → StandsFor env (faults_in s.active) → env.start ≡ s.start → cells_of env ≡ env_of s
 cells_are env s stands e =
     let f = stands.cells in
-    let links : link_at env.now ≡ (cells_over env.start (faults_in s.now)).link = fun_ext (λ a. fun_ext (λ b. f.links a b)) in
-    let nodes : node_at env.now ≡ (cells_over env.start (faults_in s.now)).node = fun_ext (λ a. f.nodes a) in
+    let links : link_at env.cells ≡ (cells_over env.start (faults_in s.active)).link = fun_ext (λ a. fun_ext (λ b. f.links a b)) in
+    let nodes : node_at env.cells ≡ (cells_over env.start (faults_in s.active)).node = fun_ext (λ a. f.nodes a) in
     rw (← e, links, nodes) refl
 
 -- the moment after the journal of a world
@@ -69,7 +69,7 @@ goes_on u s t all new es e w few due tidy =
 
 -- a world goes on by a call, by what the environment shows
 pub call_goes_on : (s : State) (settings : Settings) (all new : List NodeCopy) (es : List Event) (env : EnvValue) (number process node : ℕ) (request : Request) (draw : ℕ) (reply : Reply)
-    → IsWorldOf (setup_of s settings) s all es → length es < 65536 → StandsFor env (faults_in s.now) → env.start ≡ s.start → number ≡ length es → node < length s.names
+    → IsWorldOf (setup_of s settings) s all es → length es < 65536 → StandsFor env (faults_in s.active) → env.start ≡ s.start → number ≡ length es → node < length s.names
     → (let due = serve settings (cells_of env) all number node request draw in (reply ≡ due.reply) × (new ≡ due.copies))
     → IsWorldOf (setup_of s settings) s new (es ++ Event.Call process node request draw reply ∷ [])
 call_goes_on s settings all new es env number process node request draw reply w few stands start at known told =
@@ -82,7 +82,7 @@ call_goes_on s settings all new es env number process node request draw reply w 
     (rw left (serve_tidy settings (env_of s) (length s.names) (length es) all node request draw w.tidy))
 
 pub tick_goes_on : (s : State) (settings : Settings) (all new : List NodeCopy) (es : List Event) (env : EnvValue)
-    → IsWorldOf (setup_of s settings) s all es → length es < 65536 → StandsFor env (faults_in s.now) → env.start ≡ s.start
+    → IsWorldOf (setup_of s settings) s all es → length es < 65536 → StandsFor env (faults_in s.active) → env.start ≡ s.start
     → new ≡ ticked settings.store (cells_of env) all
     → IsWorldOf (setup_of s settings) s new (es ++ Event.Tick ∷ [])
 tick_goes_on s settings all new es env w few stands start told =
@@ -96,8 +96,8 @@ pub same_setup : (s t : State) (settings : Settings) (step : Step) → t ≡ sta
 same_setup s t settings step e = rw (e, state_after_names s step, state_after_start s step) refl
 
 pub step_goes_on : (s t : State) (settings : Settings) (all new : List NodeCopy) (es : List Event) (before after : EnvValue) (step : Step) (answer : StepAnswer)
-    → IsWorldOf (setup_of s settings) s all es → length es < 65536 → StandsFor before (faults_in s.now) → before.start ≡ s.start → FitsNodes (length s.names) step
-    → answer ≡ answer_of s step → t ≡ state_after s step → StandsFor after (faults_in t.now) → after.start ≡ t.start
+    → IsWorldOf (setup_of s settings) s all es → length es < 65536 → StandsFor before (faults_in s.active) → before.start ≡ s.start → FitsNodes (length s.names) step
+    → answer ≡ answer_of s step → t ≡ state_after s step → StandsFor after (faults_in t.active) → after.start ≡ t.start
     → new ≡ forgotten settings (dead (cells_of before) (length s.names)) (cells_of after) all
     → IsWorldOf (setup_of t settings) t new (es ++ Event.Step step answer ∷ [])
 step_goes_on s t settings all new es before after step answer w few stands start fits told moved stands' start' forgot =

@@ -16,7 +16,7 @@ none_ends (b ∷ bs) h = absurd (omega arith)
 
 undone_ends : (base : List Active) (s : State) (past : List Active) → EndsWith base s.future → EndsWith base (back_to s past).future
 undone_ends base s [] e = e
-undone_ends base s (p ∷ ps) e = on_top s.now base s.future e
+undone_ends base s (p ∷ ps) e = on_top s.active base s.future e
 
 redone_ends : (base : List Active) (s : State) (future : List Active) → EndsWith base s.future → EndsWith base future → length base ≤ length (forth_to s future).future → EndsWith base (forth_to s future).future
 redone_ends base s [] whole e short = whole
@@ -51,11 +51,11 @@ future_returns u base m (x ∷ es) h e =
     future_returns u base (next u m x) es h.1 (after_ends base m.faults x e (future_least u (length base) (next u m x) es h.1))
 
 -- what an accepted undo leaves to be redone
-undone_future : (s : State) (past : List Active) → Ok ≡ (if is_empty past then NothingToUndo else Ok) → (back_to s past).future ≡ s.now ∷ s.future
+undone_future : (s : State) (past : List Active) → Ok ≡ (if is_empty past then NothingToUndo else Ok) → (back_to s past).future ≡ s.active ∷ s.future
 undone_future s [] e = cc
 undone_future s (p ∷ ps) e = refl
 
-redone_of : (s : State) (future : List Active) (f : Active) (fs : List Active) → future ≡ f ∷ fs → ((forth_to s future).now ≡ f) × ((forth_to s future).future ≡ fs)
+redone_of : (s : State) (future : List Active) (f : Active) (fs : List Active) → future ≡ f ∷ fs → ((forth_to s future).active ≡ f) × ((forth_to s future).future ≡ fs)
 redone_of s future f fs e = rw e (refl, refl)
 
 pub redo_restores : RedoRestores
@@ -66,12 +66,12 @@ redo_restores u before mid after legal returns =
     let second = (due_append u (opening u) (undo_at ++ mid) (Event.Step Redo Ok ∷ []) first).0 in
     let changed : state_at u undo_at ≡ moved s Undo = moved_at u before mid Undo second in
     let due = due_at u before mid (Event.Step Undo Ok) second in
-    let future : (state_at u undo_at).future ≡ s.now ∷ s.future = ap (λ (r : State). r.future) changed ∙ undone_future s s.past due.1 in
-    let count : length s.future + 1 ≡ length (s.now ∷ s.future) = omega arith in
-    let back : (state_at u (undo_at ++ mid)).future ≡ s.now ∷ s.future =
+    let future : (state_at u undo_at).future ≡ s.active ∷ s.future = ap (λ (r : State). r.future) changed ∙ undone_future s s.past due.1 in
+    let count : length s.future + 1 ≡ length (s.active ∷ s.future) = omega arith in
+    let back : (state_at u (undo_at ++ mid)).future ≡ s.active ∷ s.future =
     ap (λ (m : Moment). m.faults.future) (after_all_append u (opening u) undo_at mid)
-    ∙ future_returns u (s.now ∷ s.future) (moment_at u undo_at) mid (rw count at returns) (record { first = []; joined = future }) in
+    ∙ future_returns u (s.active ∷ s.future) (moment_at u undo_at) mid (rw count at returns) (record { first = []; joined = future }) in
     let redone_there : state_at u (undo_at ++ mid ++ Event.Step Redo Ok ∷ []) ≡ moved (state_at u (undo_at ++ mid)) Redo = moved_at u (undo_at ++ mid) after Redo legal in
-    let both = redone_of (state_at u (undo_at ++ mid)) (state_at u (undo_at ++ mid)).future s.now s.future back in
-    let now : (state_at u (undo_at ++ mid ++ Event.Step Redo Ok ∷ [])).now ≡ s.now = ap (λ (r : State). r.now) redone_there ∙ both.0 in
+    let both = redone_of (state_at u (undo_at ++ mid)) (state_at u (undo_at ++ mid)).future s.active s.future back in
+    let now : (state_at u (undo_at ++ mid ++ Event.Step Redo Ok ∷ [])).active ≡ s.active = ap (λ (r : State). r.active) redone_there ∙ both.0 in
     (now, ap (λ (r : State). r.future) redone_there ∙ both.1, same_env u (undo_at ++ mid ++ Event.Step Redo Ok ∷ []) before now)

@@ -46,7 +46,7 @@ steps_alone u m (Event.Tick ∷ es) = steps_alone u (next u m Event.Tick) es
 pub overlay_stands : OverlayStands
 overlay_stands u before after legal =
     let start : (state_at u before).start ≡ u.start = start_stays u (opening u) before in
-    (ap (λ (t : Table). cells_over t (faults_in (state_at u before).now)) start, steps_alone u (opening u) before)
+    (ap (λ (t : Table). cells_over t (faults_in (state_at u before).active)) start, steps_alone u (opening u) before)
 
 -- the state after one more event
 one_more : (u : Setup) (before : List Event) (e : Event) → state_at u (before ++ e ∷ []) ≡ faults_after (state_at u before) e
@@ -91,8 +91,8 @@ pub withdraw_leaves : WithdrawLeaves
 withdraw_leaves u before after id legal =
     let m = moved_at u before after (Withdraw id) legal in
     let start : (state_at u before).start ≡ u.start = start_stays u (opening u) before in
-    let others = filter (λ f. not (has_id id f)) (state_at u before).now in
-    (ap (λ (s : State). s.now) m, ap env_of m ∙ ap (λ (t : Table). cells_over t (faults_in others)) start)
+    let others = filter (λ f. not (has_id id f)) (state_at u before).active in
+    (ap (λ (s : State). s.active) m, ap env_of m ∙ ap (λ (t : Table). cells_over t (faults_in others)) start)
 
 link_stays : (a b : ℕ) (l : Option Link) → option_map (link_over [] a b) l ≡ l
 link_stays a b None = refl
@@ -114,10 +114,10 @@ withdraw_all_leaves u before after legal =
     let m = moved_at u before after WithdrawAll legal in
     let start : (state_at u before).start ≡ u.start = start_stays u (opening u) before in
     let env = ap env_of m ∙ ap (λ (t : Table). cells_over t []) start in
-    (ap (λ (s : State). s.now) m, λ a b. ap (λ (c : Cells). c.link a b) env ∙ link_stays a b (link_at u.start a b), λ a. ap (λ (c : Cells). c.node a) env ∙ node_stays a (node_at u.start a))
+    (ap (λ (s : State). s.active) m, λ a b. ap (λ (c : Cells). c.link a b) env ∙ link_stays a b (link_at u.start a b), λ a. ap (λ (c : Cells). c.node a) env ∙ node_stays a (node_at u.start a))
 
 -- where the same faults are active the environment is the same
-pub same_env : (u : Setup) (xs ys : List Event) → (state_at u xs).now ≡ (state_at u ys).now → env_at u xs ≡ env_at u ys
+pub same_env : (u : Setup) (xs ys : List Event) → (state_at u xs).active ≡ (state_at u ys).active → env_at u xs ≡ env_at u ys
 same_env u xs ys e = rw (start_stays u (opening u) xs, start_stays u (opening u) ys, e) refl
 
 -- a list ends with another
@@ -143,12 +143,12 @@ undone_past base s (p ∷ ps) whole e short = below_top base p ps e short
 
 redone_past : (base : List Active) (s : State) (future : List Active) → EndsWith base s.past → EndsWith base (forth_to s future).past
 redone_past base s [] e = e
-redone_past base s (f ∷ fs) e = on_top s.now base s.past e
+redone_past base s (f ∷ fs) e = on_top s.active base s.past e
 
 moved_past : (base : List Active) (s : State) (step : Step) → EndsWith base s.past → length base ≤ length (moved s step).past → EndsWith base (moved s step).past
-moved_past base s (Begin id f) e short = on_top s.now base s.past e
-moved_past base s (Withdraw id) e short = on_top s.now base s.past e
-moved_past base s WithdrawAll e short = on_top s.now base s.past e
+moved_past base s (Begin id f) e short = on_top s.active base s.past e
+moved_past base s (Withdraw id) e short = on_top s.active base s.past e
+moved_past base s WithdrawAll e short = on_top s.active base s.past e
 moved_past base s Undo e short = undone_past base s s.past e e short
 moved_past base s Redo e short = redone_past base s s.future e
 
@@ -177,14 +177,14 @@ past_returns u base m [] h e = all_from e.first base m.faults.past e.joined h
 past_returns u base m (x ∷ es) h e =
     past_returns u base (next u m x) es h.1 (after_past base m.faults x e (past_least u (length base) (next u m x) es h.1))
 
-change_past : (s : State) (step : Step) → is_change step ≡ true → (moved s step).past ≡ s.now ∷ s.past
+change_past : (s : State) (step : Step) → is_change step ≡ true → (moved s step).past ≡ s.active ∷ s.past
 change_past s (Begin id f) e = refl
 change_past s (Withdraw id) e = refl
 change_past s WithdrawAll e = refl
 change_past s Undo e = cc
 change_past s Redo e = cc
 
-undone_of : (s : State) (past : List Active) (p : Active) (ps : List Active) → past ≡ p ∷ ps → ((back_to s past).now ≡ p) × ((back_to s past).past ≡ ps)
+undone_of : (s : State) (past : List Active) (p : Active) (ps : List Active) → past ≡ p ∷ ps → ((back_to s past).active ≡ p) × ((back_to s past).past ≡ ps)
 undone_of s past p ps e = rw e (refl, refl)
 
 pub undo_restores : UndoRestores
@@ -194,12 +194,12 @@ undo_restores u before mid after step legal change returns =
     let first = (due_append u (opening u) (change_at ++ mid ++ Event.Step Undo Ok ∷ []) after legal).0 in
     let second = (due_append u (opening u) (change_at ++ mid) (Event.Step Undo Ok ∷ []) first).0 in
     let changed : state_at u change_at ≡ moved s step = moved_at u before mid step second in
-    let past : (state_at u change_at).past ≡ s.now ∷ s.past = ap (λ (r : State). r.past) changed ∙ change_past s step change in
-    let count : length s.past + 1 ≡ length (s.now ∷ s.past) = omega arith in
-    let back : (state_at u (change_at ++ mid)).past ≡ s.now ∷ s.past =
+    let past : (state_at u change_at).past ≡ s.active ∷ s.past = ap (λ (r : State). r.past) changed ∙ change_past s step change in
+    let count : length s.past + 1 ≡ length (s.active ∷ s.past) = omega arith in
+    let back : (state_at u (change_at ++ mid)).past ≡ s.active ∷ s.past =
     ap (λ (m : Moment). m.faults.past) (after_all_append u (opening u) change_at mid)
-    ∙ past_returns u (s.now ∷ s.past) (moment_at u change_at) mid (rw count at returns) (record { first = []; joined = past }) in
+    ∙ past_returns u (s.active ∷ s.past) (moment_at u change_at) mid (rw count at returns) (record { first = []; joined = past }) in
     let undone_there : state_at u (change_at ++ mid ++ Event.Step Undo Ok ∷ []) ≡ moved (state_at u (change_at ++ mid)) Undo = moved_at u (change_at ++ mid) after Undo legal in
-    let both = undone_of (state_at u (change_at ++ mid)) (state_at u (change_at ++ mid)).past s.now s.past back in
-    let now : (state_at u (change_at ++ mid ++ Event.Step Undo Ok ∷ [])).now ≡ s.now = ap (λ (r : State). r.now) undone_there ∙ both.0 in
+    let both = undone_of (state_at u (change_at ++ mid)) (state_at u (change_at ++ mid)).past s.active s.past back in
+    let now : (state_at u (change_at ++ mid ++ Event.Step Undo Ok ∷ [])).active ≡ s.active = ap (λ (r : State). r.active) undone_there ∙ both.0 in
     (now, ap (λ (r : State). r.past) undone_there ∙ both.1, same_env u (change_at ++ mid ++ Event.Step Undo Ok ∷ []) before now)

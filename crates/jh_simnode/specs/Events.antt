@@ -29,7 +29,7 @@ pub record Moment : Type 0 where
 
 -- no fault was begun so far
 abbrev pub calm_state : Setup → State
-calm_state u = record { names = u.names; start = u.start; past = []; now = []; future = [] }
+calm_state u = record { names = u.names; start = u.start; past = []; active = []; future = [] }
 
 -- where a world stands at first
 abbrev pub opening : Setup → Moment
@@ -37,7 +37,7 @@ opening u = record { number = 0; faults = calm_state u; copies = replicate (leng
 
 -- the environment: what the active faults make of the starting one
 abbrev pub env_of : State → Cells
-env_of s = cells_over s.start (faults_in s.now)
+env_of s = cells_over s.start (faults_in s.active)
 
 -- the faults, with their past and future, after an event
 abbrev pub faults_after : State → Event → State

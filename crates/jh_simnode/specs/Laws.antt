@@ -35,7 +35,7 @@ is_quiet Event.Tick = true
 -- the environment is what the active faults make of the starting one, and those are what the steps alone lead to
 abbrev pub OverlayStands : Type 0
 OverlayStands = (u : Setup) (before after : List Event) → IsLegal u (before ++ after)
-    → (env_at u before ≡ cells_over u.start (faults_in (state_at u before).now))
+    → (env_at u before ≡ cells_over u.start (faults_in (state_at u before).active))
     × (state_at u before ≡ state_after_all (calm_state u) (steps_in before))
 
 -- client calls, ticks and refused steps change neither the environment nor the active faults, nor what can be undone
@@ -49,8 +49,8 @@ QuietStays =
 abbrev pub WithdrawLeaves : Type 0
 WithdrawLeaves =
     (u : Setup) (before after : List Event) (id : ℕ) → IsLegal u (before ++ Event.Step (Withdraw id) Ok ∷ [] ++ after)
-    → (let others = filter (λ f. not (has_id id f)) (state_at u before).now in
-    ((state_at u (before ++ Event.Step (Withdraw id) Ok ∷ [])).now ≡ others)
+    → (let others = filter (λ f. not (has_id id f)) (state_at u before).active in
+    ((state_at u (before ++ Event.Step (Withdraw id) Ok ∷ [])).active ≡ others)
     × (env_at u (before ++ Event.Step (Withdraw id) Ok ∷ []) ≡ cells_over u.start (faults_in others)))
 
 -- a withdrawal of all leaves the starting environment
@@ -58,7 +58,7 @@ abbrev pub WithdrawAllLeaves : Type 0
 WithdrawAllLeaves =
     (u : Setup) (before after : List Event) → IsLegal u (before ++ Event.Step WithdrawAll Ok ∷ [] ++ after)
     → (let env = env_at u (before ++ Event.Step WithdrawAll Ok ∷ []) in
-    ((state_at u (before ++ Event.Step WithdrawAll Ok ∷ [])).now ≡ [])
+    ((state_at u (before ++ Event.Step WithdrawAll Ok ∷ [])).active ≡ [])
     × ((a b : ℕ) → env.link a b ≡ link_at u.start a b) × ((a : ℕ) → env.node a ≡ node_at u.start a))
 
 -- through these events there are never fewer than n moments to go back to, and n in the end
@@ -76,7 +76,7 @@ UndoRestores = (u : Setup) (before mid after : List Event) (step : Step)
     → IsLegal u (before ++ Event.Step step Ok ∷ [] ++ mid ++ Event.Step Undo Ok ∷ [] ++ after) → is_change step ≡ true
     → PastReturns u (length (state_at u before).past + 1) (moment_at u (before ++ Event.Step step Ok ∷ [])) mid
     → (let end = before ++ Event.Step step Ok ∷ [] ++ mid ++ Event.Step Undo Ok ∷ [] in
-    ((state_at u end).now ≡ (state_at u before).now) × ((state_at u end).past ≡ (state_at u before).past)
+    ((state_at u end).active ≡ (state_at u before).active) × ((state_at u end).past ≡ (state_at u before).past)
     × (env_at u end ≡ env_at u before))
 
 -- redo gives back the active faults, the future and the environment from before the undo
@@ -85,5 +85,5 @@ RedoRestores = (u : Setup) (before mid after : List Event)
     → IsLegal u (before ++ Event.Step Undo Ok ∷ [] ++ mid ++ Event.Step Redo Ok ∷ [] ++ after)
     → FutureReturns u (length (state_at u before).future + 1) (moment_at u (before ++ Event.Step Undo Ok ∷ [])) mid
     → (let end = before ++ Event.Step Undo Ok ∷ [] ++ mid ++ Event.Step Redo Ok ∷ [] in
-    ((state_at u end).now ≡ (state_at u before).now) × ((state_at u end).future ≡ (state_at u before).future)
+    ((state_at u end).active ≡ (state_at u before).active) × ((state_at u end).future ≡ (state_at u before).future)
     × (env_at u end ≡ env_at u before))

@@ -15,7 +15,7 @@ pub record Cells : Type 0 where
 
 -- an environment as it is now
 abbrev pub cells_of : EnvValue → Cells
-cells_of env = record { link = link_at env.now; node = node_at env.now }
+cells_of env = record { link = link_at env.cells; node = node_at env.cells }
 
 -- what faults make of starting cells
 abbrev pub cells_over : Table → List FaultValue → Cells

@@ -24,7 +24,7 @@ use Rattle.jh_tables.proofs.TallyLemmas.{faults_from, tallies_turned}
 
 -- the tables of these tallies, with so many faults put
 abbrev pub tables_of : Tallies → ℕ → TablesValue
-tables_of t laid = record { start = cells_at_start t; now = cells_now t; tallies = t; laid = laid }
+tables_of t laid = record { start = cells_at_start t; cells = cells_now t; tallies = t; laid = laid }
 
 module _ (turn : Turn) (fault : FaultValue) (old new : Tallies) (are : AreTurned turn fault old new)
     (square : length old.links ≡ length old.nodes * length old.nodes) where

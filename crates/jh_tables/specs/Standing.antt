@@ -16,7 +16,7 @@ use Rattle.jh_tables.specs.Tallies.{Tallies, is_fixed_in, link_tally, node_tally
 -- put and not taken.
 pub record TablesValue : Type 0 where
   pub start : Table
-  pub now : Table
+  pub cells : Table
   pub tallies : Tallies
   pub laid : ℕ
 
@@ -86,7 +86,7 @@ pub record StandsAt (tables : TablesValue) (stamped : List (ℕ × FaultValue)) 
   pub laid : tables.laid ≡ length stamped
   pub tallies : AreTallies (length tables.tallies.nodes) tables.tallies (faults_of stamped)
   pub entries : AreEntries (length tables.tallies.nodes) tables.tallies.fixes stamped
-  pub cells : IsOverlay tables.start (faults_of stamped) tables.now
+  pub cells : IsOverlay tables.start (faults_of stamped) tables.cells
 
 -- the tables stand for some faults among which is this one, with its stamp
 abbrev pub StandsAtSome : TablesValue → ℕ × FaultValue → Type 0

@@ -11,7 +11,7 @@ use Rattle.jh_tables.specs.declared.tables.Tables.TheInside.{Inside}
 abbrev pub tables_value : Inside → TablesValue
 tables_value a = record {
   start = cells_at_start a.counted;
-  now = cells_now a.counted;
+  cells = cells_now a.counted;
   tallies = a.counted;
   laid = a.laid;
 }

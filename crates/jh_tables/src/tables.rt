@@ -78,7 +78,7 @@ impl Tables {
 
     /// The link from one node to another now, where both are nodes of the tables and differ.
     pub fn link(&self, from: Node, to: Node) -> Option<Link>
-        ensures link { result ≡ link_at self.now.now from to }
+        ensures link { result ≡ link_at self.now.cells from to }
         ensures within { IfSome result IsLinkInRange }
     {
         let count = self.counted.count();
@@ -93,7 +93,7 @@ impl Tables {
 
     /// A node's cell now, where the tables have the node.
     pub fn node(&self, node: Node) -> Option<NodeCell>
-        ensures node { result ≡ node_at self.now.now node }
+        ensures node { result ≡ node_at self.now.cells node }
         ensures within { IfSome result IsNodeInRange }
     {
         let place = node.place() as usize;
@@ -112,7 +112,7 @@ impl Tables {
         requires room { self.old.laid < max_put }
         ensures stands { IsPut (stamp, fault_of fault.now) self.old self.new }
         ensures start { self.new.start ≡ self.old.start }
-        ensures whole { length self.new.now.nodes ≡ length self.old.now.nodes }
+        ensures whole { length self.new.cells.nodes ≡ length self.old.cells.nodes }
         ensures work { self.new.tallies.work ≤ self.old.tallies.work + size_of (fault_of fault.now) }
     {
         turn_all(&mut self.counted, Turn::Put, fault, stamp);
@@ -124,7 +124,7 @@ impl Tables {
         requires { StandsAtSome self.old (stamp, fault_of fault.now) }
         ensures stands { IsTaken (stamp, fault_of fault.now) self.old self.new }
         ensures start { self.new.start ≡ self.old.start }
-        ensures whole { length self.new.now.nodes ≡ length self.old.now.nodes }
+        ensures whole { length self.new.cells.nodes ≡ length self.old.cells.nodes }
         ensures work { self.new.tallies.work ≤ self.old.tallies.work + size_of (fault_of fault.now) }
     {
         turn_all(&mut self.counted, Turn::Take, fault, stamp);

@@ -4,4 +4,4 @@ use Rattle.jh_edn.specs.View.{views}
 use Rattle.jh_cli.proofs.env_command.active_ids.Given as goal
 
 abbrev pub invariant-loop-place : goal.invariant-loop-place
-invariant-loop-place l = views l.ids.items ≡ map (λ fault. int (pos fault.0)) (take l.place l.nemesis.state.now)
+invariant-loop-place l = views l.ids.items ≡ map (λ fault. int (pos fault.0)) (take l.place l.nemesis.state.active)

@@ -9,9 +9,9 @@ returns c =
     let after = c.answer_steps.new.nemesis.state in
     let answers = answer_lines (answers_of c.args.nemesis.state c.args.steps.items) in
     let state : after ≡ state_after_all c.args.nemesis.state c.args.steps.items = c.in_ok-answer_steps.ensures.state in
-    let text : c.write_environment.new.output.items ≡ (answers ++ active_line after.now) ++ environment_line env =
+    let text : c.write_environment.new.output.items ≡ (answers ++ active_line after.active) ++ environment_line env =
     rw (c.in_ok-write_environment.ensures, c.in_ok-write_active.ensures, c.in_ok-answer_steps.ensures.lines, c.new-output.ensures.items) refl in (
       env,
       rw (← state) (record { names = c.env.ensures.names; start = c.env.ensures.start; overlay = c.env.ensures.overlay }),
-      rw (← state) (text ∙ append_assoc answers (active_line after.now) (environment_line env)),
+      rw (← state) (text ∙ append_assoc answers (active_line after.active) (environment_line env)),
     )

@@ -8,7 +8,7 @@ use Rattle.jh_nemesis.proofs.nemesis.Nemesis.check_withdraw_all.Goals as goal
 pub returns-then-is_full : goal.returns-then-is_full
 returns-then-is_full c =
     let a = c.self.inside in
-    let some : is_empty c.args.self.now.state.now ≡ false =
+    let some : is_empty c.args.self.now.state.active ≡ false =
     rw (← c.self.view_is) (some_active a.records.items a.active.items (sym c.is_empty.ensures ∙ c.if-is_empty.false)) in
     let full : nat_le max_steps (length c.args.self.now.state.past) ≡ true = sym c.is_full.ensures ∙ c.if-is_full.true in
     rw (some, full) refl

@@ -13,5 +13,5 @@ returns-clause-overlay c =
       stamped = stamped_at a.records.items a.active.items;
       are = are;
       stands = stands;
-      cells = subst (λ faults. IsOverlay a.env.start faults a.env.now) are stands.cells;
+      cells = subst (λ faults. IsOverlay a.env.start faults a.env.cells) are stands.cells;
     })

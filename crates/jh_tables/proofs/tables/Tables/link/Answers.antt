@@ -26,7 +26,7 @@ returns-clause-link c =
     let read = link_at_now t w.square c.args.from c.args.to from to apart in
     let now : c.link_now.result ≡ link_now (get_or t.links (c.args.from * length t.nodes + c.args.to) calm_tally) (latest_fix c.args.from c.args.to t.fixes) =
     c.link_now.ensures ∙ rw (c.latest_fix.ensures, c.link-tally.ensures, c.place-2.ensures, c.place-3.ensures, c.count-count.ensures.count) refl in
-    ap Some now ∙ sym read ∙ ap (λ (v : TablesValue). link_at v.now c.args.from c.args.to) c.self.view_is
+    ap Some now ∙ sym read ∙ ap (λ (v : TablesValue). link_at v.cells c.args.from c.args.to) c.self.view_is
 
 pub returns-clause-within : goal.returns-clause-within
 returns-clause-within c =

@@ -23,7 +23,7 @@ returns-then-place-count-clause-node c =
     let t = c.self.inside.counted in
     let below : c.args.node < length t.nodes = search rules in
     let now : c.node_now.result ≡ node_now (get_or t.nodes c.args.node running_tally) = c.node_now.ensures ∙ rw (c.node.ensures, c.place-place.ensures) refl in
-    ap Some now ∙ sym (node_at_now t c.args.node below) ∙ ap (λ (v : TablesValue). node_at v.now c.args.node) c.self.view_is
+    ap Some now ∙ sym (node_at_now t c.args.node below) ∙ ap (λ (v : TablesValue). node_at v.cells c.args.node) c.self.view_is
 
 pub returns-then-place-count-clause-within : goal.returns-then-place-count-clause-within
 returns-then-place-count-clause-within c =
@@ -37,4 +37,4 @@ pub returns-else-place-count-clause-node : goal.returns-else-place-count-clause-
 returns-else-place-count-clause-node c =
     let t = c.self.inside.counted in
     let past : length t.nodes ≤ c.args.node = search rules in
-    sym (no_node_now t c.args.node past) ∙ ap (λ (v : TablesValue). node_at v.now c.args.node) c.self.view_is
+    sym (no_node_now t c.args.node past) ∙ ap (λ (v : TablesValue). node_at v.cells c.args.node) c.self.view_is

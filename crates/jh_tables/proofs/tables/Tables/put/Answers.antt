@@ -65,4 +65,4 @@ returns-clause-whole c =
     length-map c.turn_all.new.counted.nodes node_now
     ∙ (c.turn_all.ensures.turned).many_nodes
     ∙ sym (length-map c.self.inside.counted.nodes node_now)
-    ∙ ap (λ (t : TablesValue). length t.now.nodes) c.self.view_is
+    ∙ ap (λ (t : TablesValue). length t.cells.nodes) c.self.view_is
