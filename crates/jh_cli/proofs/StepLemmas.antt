@@ -8,7 +8,7 @@ use Rattle.jh_edn.specs.View.{view, views}
 use Rattle.jh_edn.specs.declared.value.Value.{Value}
 use Rattle.jh_env.specs.Faults.{FaultValue}
 use Rattle.jh_nemesis.specs.State.{Active}
-use Rattle.jh_nemesis.specs.StepText.{step_told}
+use Rattle.jh_nemesis.specs.StepText.{parsed_step}
 use Rattle.jh_nemesis.specs.declared.steps.Step.{Step}
 use Rattle.jh_nemesis.specs.declared.texts.StepTextError.TheVariants as StepTextError
 use Rattle.jh_cli.specs.Status.{step_error}
@@ -17,8 +17,8 @@ use Rattle.jh_cli.specs.declared.error.CliError.{CliError}
 
 -- the first i values tell steps, and the next has this error
 has_step_error : (names : List (List ℕ)) (values : List Value) (i : ℕ) (v : Value) (steps : List Step) (error : StepTextError.the_data)
-    → i < length values → v ≡ get_or values i v → map (step_told names) (views (take i values)) ≡ map Ok steps
-    → step_told names (view v) ≡ Err error → HasStepError names (views values) (i + 2) error
+    → i < length values → v ≡ get_or values i v → map (parsed_step names) (views (take i values)) ≡ map Ok steps
+    → parsed_step names (view v) ≡ Err error → HasStepError names (views values) (i + 2) error
 has_step_error names values i v steps error below is told in_error =
     let seam : values ≡ take i values ++ (v ∷ drop (suc i) values) =
     sym (take-append-drop i values) ∙ ap (λ r. take i values ++ r) (rw (← is) at (drop-cons values i v below)) in
@@ -36,8 +36,8 @@ has_step_error names values i v steps error below is told in_error =
 
 -- what is answered where a value tells no step
 pub refuses_element : (names : List (List ℕ)) (values : List Value) (i : ℕ) (v : Value) (steps : List Step) (error : StepTextError.the_data) (e : CliError)
-    → i < length values → v ≡ get_or values i v → map (step_told names) (views (take i values)) ≡ map Ok steps
-    → (step_told names (view v) ≡ Err error) ⊎ ((error ≡ StepTextError.OutOfMemory) × IsOk (step_told names (view v)))
+    → i < length values → v ≡ get_or values i v → map (parsed_step names) (views (take i values)) ≡ map Ok steps
+    → (parsed_step names (view v) ≡ Err error) ⊎ ((error ≡ StepTextError.OutOfMemory) × IsOk (parsed_step names (view v)))
     → e ≡ step_error (i + 2) error → RefusesSteps names (views values) e
 refuses_element names values i v steps StepTextError.OutOfMemory e below is told answer named = rw named tt
 refuses_element names values i v steps StepTextError.BadStep e below is told (inl at) named = rw named (has_step_error names values i v steps StepTextError.BadStep below is told at)

@@ -47,7 +47,7 @@ RefusesValues question values (History error) =
     (history_error error ≡ History error) × told.RefusesValues values error
 RefusesValues question values OutOfMemory = Unit {0}
 RefusesValues question values e =
-    (history : List Operation) × told.AreTold values history × RefusesBy question.independent (judging_of question) history e
+    (history : List Operation) × told.AreParsed values history × RefusesBy question.independent (judging_of question) history e
 
 -- Why an input is refused, where for its text then for its first error. A failed read and out of memory may come with any
 -- input; a failed write comes only where there is something to write.

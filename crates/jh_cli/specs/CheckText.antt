@@ -4,7 +4,7 @@ use Rattle.std.specs.Prelude.{◌≡◌, ℕ, ℤ, Bool, true, false, List, Opti
 use Rattle.jh_edn.specs.Edn.{Edn}
 use Rattle.jh_edn.specs.Spelling.{SpellsAll}
 use Rattle.jh_ops.specs.Operation.{Operation}
-use Rattle.jh_ops.specs.HistoryText.{AreTold}
+use Rattle.jh_ops.specs.HistoryText.{AreParsed}
 use Rattle.jh_ops.specs.declared.call.Workload.{Workload}
 use Rattle.jh_check.specs.declared.verdict.Verdict.{Verdict}
 use Rattle.jh_keys.specs.Findings.{Found, IsFinding, verdict_of}
@@ -64,7 +64,7 @@ IsHistoryText question history verdict output =
 -- for values that tell a history
 abbrev pub IsCheckText : Question → List Edn → Verdict → List ℕ → Type 0
 IsCheckText question values verdict output =
-    (history : List Operation) × AreTold values history × IsHistoryText question history verdict output
+    (history : List Operation) × AreParsed values history × IsHistoryText question history verdict output
 
 -- for an input, with the exit status: its values are those that it spells
 abbrev pub IsCheckTextOf : Question → List ℕ → ℕ → List ℕ → Type 0

@@ -10,7 +10,7 @@ use Rattle.jh_env.specs.TextCells.{IsTextOf}
 use Rattle.jh_env.specs.TextWritten.{text_of}
 use Rattle.jh_nemesis.specs.State.{State, Active, faults_in, first_state}
 use Rattle.jh_nemesis.specs.Steps.{answers_of, state_after_all}
-use Rattle.jh_nemesis.specs.StepText.{step_told}
+use Rattle.jh_nemesis.specs.StepText.{parsed_step}
 use Rattle.jh_nemesis.specs.declared.steps.Step.{Step}
 use Rattle.jh_nemesis.specs.declared.steps.StepAnswer.{StepAnswer}
 
@@ -48,7 +48,7 @@ pub record Tells (values : List Edn) (env : EnvValue) (steps : List Step) : Type
   pub parts : values ≡ first ∷ others
   pub environment : IsTextOf first env.names env.start
   pub at_start : StandsFor env []
-  pub steps_told : map (step_told env.names) others ≡ map Ok steps
+  pub steps_told : map (parsed_step env.names) others ≡ map Ok steps
 
 -- the environment is what is active in the state makes of its start
 pub record IsEnvOf (state : State) (env : EnvValue) : Type 0 where

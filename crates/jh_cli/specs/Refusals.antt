@@ -7,7 +7,7 @@ use Rattle.jh_edn.specs.Refused as edn
 use Rattle.jh_env.specs.Cells.{Table}
 use Rattle.jh_env.specs.TextCells.{IsTextOf}
 use Rattle.jh_env.specs.TextErrors as env
-use Rattle.jh_nemesis.specs.StepText.{step_told}
+use Rattle.jh_nemesis.specs.StepText.{parsed_step}
 use Rattle.jh_nemesis.specs.declared.steps.Step.{Step}
 use Rattle.jh_nemesis.specs.declared.texts.StepTextError.{StepTextError}
 use Rattle.jh_cli.specs.EnvText.{IsEnvTextOf}
@@ -26,8 +26,8 @@ pub record HasStepError (names : List (List ℕ)) (values : List Edn) (place : �
   pub after : List Edn
   pub parts : values ≡ before ++ (value ∷ after)
   pub steps : List Step
-  pub told : map (step_told names) before ≡ map Ok steps
-  pub in_error : step_told names value ≡ Err error
+  pub told : map (parsed_step names) before ≡ map Ok steps
+  pub in_error : parsed_step names value ≡ Err error
   pub place_is : place ≡ length before + first_step
 
 -- why the values after the environment are refused

@@ -6,7 +6,7 @@ ghost use Rattle.std.specs.Io.KnownBytes.{Appends};
 ghost use Rattle.jh_edn.specs.Edn.{int};
 ghost use Rattle.jh_edn.specs.Print.{print};
 ghost use Rattle.jh_edn.specs.View.{view, views};
-ghost use Rattle.jh_nemesis.specs.StepText.{step_told};
+ghost use Rattle.jh_nemesis.specs.StepText.{parsed_step};
 ghost use Rattle.jh_nemesis.specs.Steps.{FitsNodes, StepFits, answers_of, state_after_all};
 ghost use Rattle.jh_cli.specs.EnvText as text;
 ghost use Rattle.jh_cli.specs.EnvText.{IsEnvText, IsEnvTextOf, IsReport, answer_lines, line};
@@ -73,7 +73,7 @@ fn env_text(alloc: Global, values: &[Value]) -> Result<Vec<u8>, CliError>
 // The steps that these values tell.
 fn steps_of(alloc: Global, nodes: &Nodes, values: &[Value]) -> Result<Vec<Step>, CliError>
     ensures told { MatchResult result
-        (λ steps. map (step_told nodes.now) (views values.now) ≡ map Ok steps.items)
+        (λ steps. map (parsed_step nodes.now) (views values.now) ≡ map Ok steps.items)
         (RefusesSteps nodes.now (views values.now)) }
     ensures fit { IfOk result (λ steps. All (FitsNodes (length nodes.now)) steps.items) }
 {

@@ -12,7 +12,7 @@ use Rattle.jh_env.specs.declared.texts.EnvTextError.TheVariants.{NotMap, Unknown
 use Rattle.jh_env.specs.Names.{AreNodeNames, AreFew, RefusesNames}
 use Rattle.jh_env.specs.Text.{sections, Shape, shape_of, keys_of}
 use Rattle.jh_env.specs.TextErrors.{AreSound, HasEntryError, HasShape, RefusesEntry, RefusesNodes, RefusesText}
-use Rattle.jh_env.specs.TextCells.{link_after, node_after, AreTold, IsTextOf}
+use Rattle.jh_env.specs.TextCells.{link_after, node_after, AreCellsOf, IsTextOf}
 use Rattle.jh_env.specs.TextLaws.{CanStart, SameCells}
 use Rattle.jh_env.specs.TextWritten.{entries_written, text_of}
 use Rattle.jh_env.proofs.TextReadBackLemmas.{fold_written-link, fold_written-node}
@@ -65,7 +65,7 @@ told_node env a starts =
 pub text_reads_back : (env : EnvValue) → CanStart env → IsTextOf (text_of env) env.names (cells_of env)
 unfolding is_pair
 text_reads_back env starts =
-    let told : AreTold env.names (flat_map (entries_written env) sections) (cells_of env) = record {
+    let told : AreCellsOf env.names (flat_map (entries_written env) sections) (cells_of env) = record {
       links = λ a b. told_link env a b starts
           ∙ ap (λ n. if nat_lt a n && (nat_lt b n && not (a == b)) then Some (fold (link_after env.names a b) calm (flat_map (entries_written env) sections)) else None) starts.whole;
       nodes = λ a. told_node env a starts
@@ -131,8 +131,8 @@ pub text_tells_one : (value : Edn) (names others : List (List ℕ)) (cells more 
 text_tells_one value names others cells more first second =
     let same = same_shape value first.0 second.0 first.1 second.1 in
     let named : others ≡ names = sym second.2 ∙ sym (ap (λ s. s.names) same) ∙ first.2 in
-    let told : AreTold names first.0.entries more =
-    subst (λ ns. AreTold ns first.0.entries more) named (subst (λ es. AreTold others es more) (sym (ap (λ s. s.entries) same)) second.6) in (
+    let told : AreCellsOf names first.0.entries more =
+    subst (λ ns. AreCellsOf ns first.0.entries more) named (subst (λ es. AreCellsOf others es more) (sym (ap (λ s. s.entries) same)) second.6) in (
       named,
       record {
         links = λ a b. first.6.links a b ∙ sym (told.links a b);

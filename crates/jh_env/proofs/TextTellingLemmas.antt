@@ -11,16 +11,16 @@ use Rattle.jh_env.specs.declared.texts.EnvTextError.TheVariants.{RepeatedEntry}
 use Rattle.jh_env.specs.Cells.{calm, running}
 use Rattle.jh_env.specs.Starting.{StartValue}
 use Rattle.jh_env.specs.Text.{Entry}
-use Rattle.jh_env.specs.TextCells.{link_after, node_after, AreTold}
+use Rattle.jh_env.specs.TextCells.{link_after, node_after, AreCellsOf}
 use Rattle.jh_env.specs.TextErrors.{entry_error, entry_error_at, repeats, AreSound, HasEntryError}
-use Rattle.jh_env.specs.TextInside.{AreStarting, SetsEntry, entry_said, entries_said}
+use Rattle.jh_env.specs.TextInside.{AreStarting, SetsEntry, entry_parsed, entries_parsed}
 use Rattle.jh_env.specs.declared.texts.entries.Entry.TheVariants as said
 use Rattle.jh_env.proofs.NameLemmas.{list_any-map}
 
 -- the first i entries are set, and none of them is in error
 pub record AreSet (names : List (List ℕ)) (entries : List Entry) (i : ℕ) (start : StartValue) : Type 0 where
   pub named : start.names ≡ names
-  pub told : AreTold names (take i entries) start.cells
+  pub told : AreCellsOf names (take i entries) start.cells
   pub sound : (k : ℕ) → k < i → entry_error_at names entries k ≡ None
   pub starting : AreStarting start
 
@@ -61,11 +61,11 @@ more_set names entries i entry start new below at own once set sets =
 
 -- all are set
 pub all_set : (names : List (List ℕ)) (entries : List Entry) (i : ℕ) (start : StartValue) → length entries ≤ i → AreSet names entries i start
-    → (start.names ≡ names) × AreSound names entries × AreTold names entries start.cells
+    → (start.names ≡ names) × AreSound names entries × AreCellsOf names entries start.cells
 all_set names entries i start past set = (
   set.named,
   λ k. elim (cases_lt k i) [ inl below ↦ set.sound k below | inr beyond ↦ let past_it : length entries ≤ k = omega arith in rw (slice_get_past entries k past_it) refl ],
-  subst (λ first. AreTold names first start.cells) (take_all i entries past) set.told,
+  subst (λ first. AreCellsOf names first start.cells) (take_all i entries past) set.told,
 )
 
 -- the next entry repeats one before it
@@ -75,13 +75,13 @@ pub repeated_first : (names : List (List ℕ)) (entries : List Entry) (i : ℕ) 
 repeated_first names entries i entry start at set own twice = (i, entry_error_at-others names entries i entry true at (rw (← set.named) own) twice, set.sound)
 
 -- an entry that a program reads, as it is told
-pub said_at : (entries : List said.the_data) (i : ℕ) (d : said.the_data) → i < length entries → slice_get (entries_said entries) i ≡ Some (entry_said (get_or entries i d))
-said_at entries i d below = slice_get-map entry_said entries i ∙ ap (option_map entry_said) (slice_get-get_or entries i d below)
+pub said_at : (entries : List said.the_data) (i : ℕ) (d : said.the_data) → i < length entries → slice_get (entries_parsed entries) i ≡ Some (entry_parsed (get_or entries i d))
+said_at entries i d below = slice_get-map entry_parsed entries i ∙ ap (option_map entry_parsed) (slice_get-get_or entries i d below)
 
 -- a test of those before it
-pub among_said : (test : Entry → Bool) (entries : List said.the_data) (i : ℕ) → list_any test (take i (entries_said entries)) ≡ list_any (λ entry. test (entry_said entry)) (take i entries)
-among_said test entries i = ap (list_any test) (take-map entry_said i entries) ∙ list_any-map test entry_said (take i entries)
+pub among_said : (test : Entry → Bool) (entries : List said.the_data) (i : ℕ) → list_any test (take i (entries_parsed entries)) ≡ list_any (λ entry. test (entry_parsed entry)) (take i entries)
+among_said test entries i = ap (list_any test) (take-map entry_parsed i entries) ∙ list_any-map test entry_parsed (take i entries)
 
 -- as many are told
-pub length-entries_said : (entries : List said.the_data) → length (entries_said entries) ≡ length entries
-length-entries_said entries = length-map entries entry_said
+pub length-entries_parsed : (entries : List said.the_data) → length (entries_parsed entries) ≡ length entries
+length-entries_parsed entries = length-map entries entry_parsed

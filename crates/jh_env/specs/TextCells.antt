@@ -40,7 +40,7 @@ node_after names a cell (OfLink from to says) = cell
 node_after names a cell (OfNode node says) = if is_place (place_of names node) a then node_with says cell else cell
 
 -- the cells are those that the entries tell: what no entry mentions is calm, and runs
-pub record AreTold (names : List (List ℕ)) (entries : List Entry) (cells : Table) : Type 0 where
+pub record AreCellsOf (names : List (List ℕ)) (entries : List Entry) (cells : Table) : Type 0 where
   pub links : (a b : ℕ) → link_at cells a b
       ≡ (if nat_lt a (length names) && (nat_lt b (length names) && not (a == b)) then Some (fold (link_after names a b) calm entries) else None)
   pub nodes : (a : ℕ) → node_at cells a ≡ (if nat_lt a (length names) then Some (fold (node_after names a) running entries) else None)
@@ -49,4 +49,4 @@ pub record AreTold (names : List (List ℕ)) (entries : List Entry) (cells : Tab
 abbrev pub IsTextOf : Edn → List (List ℕ) → Table → Type 0
 IsTextOf value names cells =
     (shape : Shape) × HasShape value shape × (shape.names ≡ names) × AreFew names × AreNodeNames names
-    × AreSound names shape.entries × AreTold names shape.entries cells
+    × AreSound names shape.entries × AreCellsOf names shape.entries cells

@@ -17,13 +17,13 @@ use Rattle.jh_env.specs.TextCells.{link_after, node_after}
 use Rattle.jh_env.specs.TextErrors.{is_within}
 
 -- an entry, by the names that it borrows
-abbrev pub entry_said : Entry → text.Entry
-entry_said (Entry.Link from to says) = text.OfLink from.now to.now says
-entry_said (Entry.Node node says) = text.OfNode node.now says
+abbrev pub entry_parsed : Entry → text.Entry
+entry_parsed (Entry.Link from to says) = text.OfLink from.now to.now says
+entry_parsed (Entry.Node node says) = text.OfNode node.now says
 
 -- entries, by the names that they borrow
-abbrev pub entries_said : List Entry → List text.Entry
-entries_said entries = map entry_said entries
+abbrev pub entries_parsed : List Entry → List text.Entry
+entries_parsed entries = map entry_parsed entries
 
 -- what is told, after what was told before
 abbrev pub with_front : {A : Type 0} → List A → Option (List A) → Option (List A)

@@ -8,8 +8,8 @@ use Rattle.jh_gen.specs.Generator.{Generator, reserve, Generators, no_generators
 use Rattle.jh_gen.specs.View.{generator_of, generators_of, shares_of}
 use Rattle.jh_gen.specs.declared.generator.Gen.{Gen}
 use Rattle.jh_gen.specs.GeneratorText as rule
-use Rattle.jh_gen.specs.GeneratorText.{generator_told, parts_of, ◌>>=◌}
-use Rattle.jh_gen.specs.ShapeInside.{MembersSoFar, SharesSoFar, before_members, before_shares, members_told, part_of, parts_in, reserved_told, shape_size}
+use Rattle.jh_gen.specs.GeneratorText.{parsed_generator, parts_of, ◌>>=◌}
+use Rattle.jh_gen.specs.ShapeInside.{MembersSoFar, SharesSoFar, before_members, before_shares, parsed_members, part_of, parts_in, parsed_reserved, shape_size}
 use Rattle.jh_gen.specs.declared.text.Shape.{Shape}
 use Rattle.jh_gen.proofs.Building.{drop_here}
 
@@ -43,13 +43,13 @@ items_of-list_of (item x xs) = ap (item x) (items_of-list_of xs)
 
 -- what the elements of a sequence tell, and that they are smaller
 pub record ReadsElements (v : Edn) (xs : List Edn) : Type 0 where
-  pub told : generator_told v ≡ rule.told_in (parts_in xs)
+  pub told : parsed_generator v ≡ rule.generator_of_parts (parts_in xs)
   pub smaller : size_list xs < size_of v
 
-sequence_reads : (v : Edn) (ys : Items) (xs : List Edn) → list_of ys ≡ xs → generator_told v ≡ rule.told_in (parts_of ys) → size_of v ≡ suc (size_items ys) → ReadsElements v xs
+sequence_reads : (v : Edn) (ys : Items) (xs : List Edn) → list_of ys ≡ xs → parsed_generator v ≡ rule.generator_of_parts (parts_of ys) → size_of v ≡ suc (size_items ys) → ReadsElements v xs
 sequence_reads v ys xs e told size =
     let same : items_of xs ≡ ys = ap items_of (sym e) ∙ items_of-list_of ys in
-    record { told = told ∙ ap (λ zs. rule.told_in (parts_of zs)) (sym same); smaller = let h = ap size_items same in omega (arith, h, size) }
+    record { told = told ∙ ap (λ zs. rule.generator_of_parts (parts_of zs)) (sym same); smaller = let h = ap size_items same in omega (arith, h, size) }
 
 some_is : {X : Type 0} (x y : X) → Some x ≡ Some y → x ≡ y
 some_is x y e = cc
@@ -59,7 +59,7 @@ elements_read (list ys) xs e = sequence_reads (list ys) ys xs (some_is _ _ e) re
 elements_read (vector ys) xs e = sequence_reads (vector ys) ys xs (some_is _ _ e) refl refl
 elements_read _ xs e = absurd cc
 
-pub no_elements : (v : Edn) → elements_of v ≡ None → None ≡ generator_told v
+pub no_elements : (v : Edn) → elements_of v ≡ None → None ≡ parsed_generator v
 no_elements (list ys) e = absurd cc
 no_elements (vector ys) e = absurd cc
 no_elements _ e = refl
@@ -84,10 +84,10 @@ some_then : {X Y : Type 0} (o : Option X) (f : X → Option Y) (b : Bool) → is
 some_then None f b h g = absurd cc
 some_then (Some x) f b h g = g x
 
-pub members_judged : (xs : List Value) (i : ℕ) (x : Value) → is_some (members_told (views xs)) ≡ is_some (members_told (views (drop i xs))) → i < length xs → x ≡ get_or xs i x → is_some (generator_told (view x)) ≡ true → is_some (members_told (views xs)) ≡ is_some (members_told (views (drop (i + 1) xs)))
+pub members_judged : (xs : List Value) (i : ℕ) (x : Value) → is_some (parsed_members (views xs)) ≡ is_some (parsed_members (views (drop i xs))) → i < length xs → x ≡ get_or xs i x → is_some (parsed_generator (view x)) ≡ true → is_some (parsed_members (views xs)) ≡ is_some (parsed_members (views (drop (i + 1) xs)))
 members_judged xs i x so_far lt e told =
-    so_far ∙ ap (λ ys. is_some (members_told (views ys))) (drop_here xs i x lt e)
-    ∙ some_then (generator_told (view x)) _ _ told (λ g. some_map (generator g) (members_told (views (drop (i + 1) xs))))
+    so_far ∙ ap (λ ys. is_some (parsed_members (views ys))) (drop_here xs i x lt e)
+    ∙ some_then (parsed_generator (view x)) _ _ told (λ g. some_map (generator g) (parsed_members (views (drop (i + 1) xs))))
 
 take_all : {X : Type 0} (xs : List X) → take (length xs) xs ≡ xs
 take_all [] = refl
@@ -105,13 +105,13 @@ two_first (a ∷ b ∷ later) x y le e h =
     ap₂ (λ p q. p ∷ q ∷ later) (sym e) (sym h) ∙ ap (λ zs. x ∷ y ∷ zs) (sym (later_is a b (a ∷ b ∷ later) later refl))
 
 pub record Judged (xs rest : List Value) : Type 0 where
-  pub same : is_some (reserved_told (views xs)) ≡ is_some (reserved_told (views rest))
+  pub same : is_some (parsed_reserved (views xs)) ≡ is_some (parsed_reserved (views rest))
   pub smaller : size_list (views rest) ≤ size_list (views xs)
 
-pub reserved_judged : (xs rest later : List Value) (n x : Value) → rest ≡ n ∷ x ∷ later → is_some (reserved_told (views xs)) ≡ is_some (reserved_told (views rest)) → size_list (views rest) ≤ size_list (views xs) → is_some (rule.number_in (part_of (view n))) ≡ true → is_some (generator_told (view x)) ≡ true → Judged xs later
+pub reserved_judged : (xs rest later : List Value) (n x : Value) → rest ≡ n ∷ x ∷ later → is_some (parsed_reserved (views xs)) ≡ is_some (parsed_reserved (views rest)) → size_list (views rest) ≤ size_list (views xs) → is_some (rule.number_in (part_of (view n))) ≡ true → is_some (parsed_generator (view x)) ≡ true → Judged xs later
 reserved_judged xs rest later n x e same smaller number told = record {
-  same = same ∙ ap (λ ys. is_some (reserved_told (views ys))) e
-      ∙ some_then (rule.number_in (part_of (view n))) _ _ number (λ k. some_then (generator_told (view x)) _ _ told (λ g. some_map _ (reserved_told (views later))));
+  same = same ∙ ap (λ ys. is_some (parsed_reserved (views ys))) e
+      ∙ some_then (rule.number_in (part_of (view n))) _ _ number (λ k. some_then (parsed_generator (view x)) _ _ told (λ g. some_map _ (parsed_reserved (views later))));
   smaller = let h : size_list (views rest) ≡ size_list (views (n ∷ x ∷ later)) = ap (λ ys. size_list (views ys)) e in omega (arith, h, smaller);
 }
 
@@ -132,16 +132,16 @@ before_push : (made : List Gen) (g : Gen) (gs : Generators) → before_members (
 before_push [] g gs = refl
 before_push (x ∷ made) g gs = ap (generator (generator_of x)) (before_push made g gs)
 
-pub members_read : (made : List Gen) (g : Gen) (xs : List Value) (i : ℕ) (x : Value) → MembersSoFar (row_of (generators_of made)) (views (drop i xs)) (views xs) → i < length xs → x ≡ get_or xs i x → generator_told (view x) ≡ Some (generator_of g) → MembersSoFar (row_of (generators_of (made ++ g ∷ []))) (views (drop (i + 1) xs)) (views xs)
+pub members_read : (made : List Gen) (g : Gen) (xs : List Value) (i : ℕ) (x : Value) → MembersSoFar (row_of (generators_of made)) (views (drop i xs)) (views xs) → i < length xs → x ≡ get_or xs i x → parsed_generator (view x) ≡ Some (generator_of g) → MembersSoFar (row_of (generators_of (made ++ g ∷ []))) (views (drop (i + 1) xs)) (views xs)
 members_read made g xs i x so_far lt e told =
     let before = before_members (row_of (generators_of made)) in
-    so_far ∙ ap (λ ys. option_map before (members_told (views ys))) (drop_here xs i x lt e)
-    ∙ ap (option_map before) (then_some (generator_told (view x)) _ (generator_of g) told)
-    ∙ map_twice before _ _ (before_push made g) (members_told (views (drop (i + 1) xs)))
+    so_far ∙ ap (λ ys. option_map before (parsed_members (views ys))) (drop_here xs i x lt e)
+    ∙ ap (option_map before) (then_some (parsed_generator (view x)) _ (generator_of g) told)
+    ∙ map_twice before _ _ (before_push made g) (parsed_members (views (drop (i + 1) xs)))
 
-pub members_all : (made : List Gen) (xs rest : List Value) → MembersSoFar (row_of (generators_of made)) (views rest) (views xs) → rest ≡ [] → members_told (views xs) ≡ Some (row_of (generators_of made))
+pub members_all : (made : List Gen) (xs rest : List Value) → MembersSoFar (row_of (generators_of made)) (views rest) (views xs) → rest ≡ [] → parsed_members (views xs) ≡ Some (row_of (generators_of made))
 members_all made xs rest so_far e =
-    so_far ∙ ap (λ ys. option_map (before_members (row_of (generators_of made))) (members_told (views ys))) e ∙ ap Some (before_none (row_of (generators_of made)))
+    so_far ∙ ap (λ ys. option_map (before_members (row_of (generators_of made))) (parsed_members (views ys))) e ∙ ap Some (before_none (row_of (generators_of made)))
 
 before_no_share : (ms : Shared) → before_shares ms no_shares ≡ ms
 before_no_share no_shares = refl
@@ -155,13 +155,13 @@ pub record SharesRead (made : List (ℕ × Gen)) (xs rest : List Value) : Type 0
   pub so_far : SharesSoFar (shared_of (shares_of made)) (views rest) (views xs)
   pub smaller : size_list (views rest) ≤ size_list (views xs)
 
-pub shares_read : (made : List (ℕ × Gen)) (n : ℕ) (g : Gen) (xs rest later : List Value) (a x : Value) → rest ≡ a ∷ x ∷ later → SharesSoFar (shared_of (shares_of made)) (views rest) (views xs) → size_list (views rest) ≤ size_list (views xs) → rule.number_in (part_of (view a)) ≡ Some n → generator_told (view x) ≡ Some (generator_of g) → SharesRead (made ++ (n, g) ∷ []) xs later
+pub shares_read : (made : List (ℕ × Gen)) (n : ℕ) (g : Gen) (xs rest later : List Value) (a x : Value) → rest ≡ a ∷ x ∷ later → SharesSoFar (shared_of (shares_of made)) (views rest) (views xs) → size_list (views rest) ≤ size_list (views xs) → rule.number_in (part_of (view a)) ≡ Some n → parsed_generator (view x) ≡ Some (generator_of g) → SharesRead (made ++ (n, g) ∷ []) xs later
 shares_read made n g xs rest later a x e so_far smaller number told =
     let before : Shared × Generator → Shared × Generator = λ r. (before_shares (shared_of (shares_of made)) r.0, r.1) in
     record {
-      so_far = so_far ∙ ap (λ ys. option_map before (reserved_told (views ys))) e
-          ∙ ap (option_map before) (then_some (rule.number_in (part_of (view a))) _ n number ∙ then_some (generator_told (view x)) _ (generator_of g) told)
-          ∙ map_twice before _ _ (λ r. ap (λ ms. (ms, r.1)) (before_share made n g r.0)) (reserved_told (views later));
+      so_far = so_far ∙ ap (λ ys. option_map before (parsed_reserved (views ys))) e
+          ∙ ap (option_map before) (then_some (rule.number_in (part_of (view a))) _ n number ∙ then_some (parsed_generator (view x)) _ (generator_of g) told)
+          ∙ map_twice before _ _ (λ r. ap (λ ms. (ms, r.1)) (before_share made n g r.0)) (parsed_reserved (views later));
       smaller = let h : size_list (views rest) ≡ size_list (views (a ∷ x ∷ later)) = ap (λ ys. size_list (views ys)) e in omega (arith, h, smaller);
     }
 
@@ -170,10 +170,10 @@ one_only [] x le lt e = absurd (omega arith)
 one_only (y ∷ []) x le lt e = ap (λ z. z ∷ []) (sym e)
 one_only (y ∷ z ∷ rest) x le lt e = absurd (omega arith)
 
-pub reserve_all : (made : List (ℕ × Gen)) (g : Generator) (xs rest : List Value) (x : Value) → SharesSoFar (shared_of (shares_of made)) (views rest) (views xs) → 1 ≤ length rest → length rest < 2 → x ≡ get_or rest 0 x → generator_told (view x) ≡ Some g → option_map (λ r. reserve r.0 r.1) (reserved_told (views xs)) ≡ Some (reserve (shared_of (shares_of made)) g)
+pub reserve_all : (made : List (ℕ × Gen)) (g : Generator) (xs rest : List Value) (x : Value) → SharesSoFar (shared_of (shares_of made)) (views rest) (views xs) → 1 ≤ length rest → length rest < 2 → x ≡ get_or rest 0 x → parsed_generator (view x) ≡ Some g → option_map (λ r. reserve r.0 r.1) (parsed_reserved (views xs)) ≡ Some (reserve (shared_of (shares_of made)) g)
 reserve_all made g xs rest x so_far le lt e told =
     let before : Shared × Generator → Shared × Generator = λ r. (before_shares (shared_of (shares_of made)) r.0, r.1) in
     let whole : Shared × Generator → Generator = λ r. reserve r.0 r.1 in
-    ap (option_map whole) (so_far ∙ ap (λ ys. option_map before (reserved_told (views ys))) (one_only rest x le lt e)
+    ap (option_map whole) (so_far ∙ ap (λ ys. option_map before (parsed_reserved (views ys))) (one_only rest x le lt e)
     ∙ ap (λ o. option_map before (option_map (λ k. let r : Shared × Generator = (no_shares, k) in r) o)) told)
     ∙ ap (λ ms. Some (reserve ms g)) (before_no_share (shared_of (shares_of made)))

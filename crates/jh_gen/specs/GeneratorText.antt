@@ -1,5 +1,5 @@
 -- Generators as EDN values: vectors or lists that begin with the kind's name (the names are those of
--- jepsen.generator; the forms are this project's own). A new kind is a new line of `told_by`.
+-- jepsen.generator; the forms are this project's own). A new kind is a new line of `generator_of_word`.
 use Rattle.std.specs.Prelude.{ℕ, ◌^◌, ℤ, pos, List, [], ◌∷◌, codes, nat_lt, if◌then◌else◌, Option, Some, None, option_map, IsSome, ◌≡◌}
 use Rattle.std.specs.Str.{bytes_eq}
 use Rattle.jh_edn.specs.Edn.{Edn, int, keyword, list, vector, elements_of, Items, no_items, item}
@@ -50,9 +50,9 @@ call_in (keyword word ∷ int old ∷ int new ∷ []) =
 call_in _ = None
 
 -- the call that a value tells
-abbrev pub call_told : Edn → Option Call
-call_told (keyword word) = word_call word
-call_told value = elements_of value >>= call_in
+abbrev pub parsed_call : Edn → Option Call
+parsed_call (keyword word) = word_call word
+parsed_call value = elements_of value >>= call_in
 
 -- Generators.
 
@@ -72,7 +72,7 @@ no_part [] = Some nothing
 no_part _ = None
 
 abbrev pub one_call : List Part → Option Call
-one_call parts = only parts >>= (λ part. call_told part.value)
+one_call parts = only parts >>= (λ part. parsed_call part.value)
 
 abbrev pub one_integer : List Part → Option ℤ
 one_integer parts = only parts >>= (λ part. integer_of part.value)
@@ -102,8 +102,8 @@ reserved (number ∷ part ∷ parts) =
     number_in number >>= (λ n. part.told >>= (λ g. option_map (λ r. (share n g r.0, r.1)) (reserved parts)))
 
 -- the generator of this name with these parts
-abbrev pub told_by : List ℕ → List Part → Option Generator
-told_by word parts =
+abbrev pub generator_of_word : List ℕ → List Part → Option Generator
+generator_of_word word parts =
     if bytes_eq word (codes "nil") then no_part parts
     else if bytes_eq word (codes "once") then option_map once (one_call parts)
     else if bytes_eq word (codes "rising") then option_map rising (one_integer parts)
@@ -123,22 +123,22 @@ word_of (keyword word) = Some word
 word_of _ = None
 
 -- the generator of these parts, the first its name
-abbrev pub told_in : List Part → Option Generator
-told_in [] = None
-told_in (name ∷ parts) = word_of name.value >>= (λ word. told_by word parts)
+abbrev pub generator_of_parts : List Part → Option Generator
+generator_of_parts [] = None
+generator_of_parts (name ∷ parts) = word_of name.value >>= (λ word. generator_of_word word parts)
 
 abbrev mutual
   -- the generator that a value tells, if it tells one
-  pub generator_told : Edn → Option Generator
-  generator_told (list xs) = told_in (parts_of xs)
-  generator_told (vector xs) = told_in (parts_of xs)
-  generator_told _ = None
+  pub parsed_generator : Edn → Option Generator
+  parsed_generator (list xs) = generator_of_parts (parts_of xs)
+  parsed_generator (vector xs) = generator_of_parts (parts_of xs)
+  parsed_generator _ = None
 
   pub parts_of : Items → List Part
   parts_of no_items = []
-  parts_of (item x xs) = record { value = x; told = generator_told x } ∷ parts_of xs
+  parts_of (item x xs) = record { value = x; told = parsed_generator x } ∷ parts_of xs
 
 -- Why a value is refused as a generator: it tells none. Memory can be wanted only where it tells one.
 abbrev pub RefusesText : Edn → GenTextError → Type 0
-RefusesText value BadGenerator = generator_told value ≡ None
-RefusesText value OutOfMemory = IsSome (generator_told value)
+RefusesText value BadGenerator = parsed_generator value ≡ None
+RefusesText value OutOfMemory = IsSome (parsed_generator value)

@@ -3,43 +3,43 @@ use Rattle.std.specs.Prelude.{◌≡◌, ℕ, List, Option, Some, None, option_m
 use Rattle.jh_edn.specs.Edn.{Edn, items_of, size_of, size_list}
 use Rattle.jh_edn.specs.View.{view, views}
 use Rattle.jh_gen.specs.Generator.{Generator, nothing, once, rising, forever, seq, limit, mix, phases, reserve, each_thread, clients, nemesis_only, Generators, no_generators, generator, Shared, no_shares, share}
-use Rattle.jh_gen.specs.GeneratorText.{Part, members, reserved, parts_of, generator_told}
+use Rattle.jh_gen.specs.GeneratorText.{Part, members, reserved, parts_of, parsed_generator}
 use Rattle.jh_gen.specs.declared.text.GenTextError.{GenTextError}
 use Rattle.jh_gen.specs.declared.text.GenTextError.TheVariants.{BadGenerator, OutOfMemory}
 use Rattle.jh_gen.specs.declared.text.Shape.{Shape}
 
 -- the part that a value is
 abbrev pub part_of : Edn → Part
-part_of value = record { value = value; told = generator_told value }
+part_of value = record { value = value; told = parsed_generator value }
 
 -- the parts that these values are
 abbrev pub parts_in : List Edn → List Part
 parts_in xs = parts_of (items_of xs)
 
-abbrev pub members_told : List Edn → Option Generators
-members_told xs = members (parts_in xs)
+abbrev pub parsed_members : List Edn → Option Generators
+parsed_members xs = members (parts_in xs)
 
-abbrev pub reserved_told : List Edn → Option (Shared × Generator)
-reserved_told xs = reserved (parts_in xs)
+abbrev pub parsed_reserved : List Edn → Option (Shared × Generator)
+parsed_reserved xs = reserved (parts_in xs)
 
 -- the generator of a form whose inner values are still to be read
-abbrev pub shape_told : Shape → Option Generator
-shape_told Shape.Nil = Some nothing
-shape_told (Shape.Once call) = Some (once call)
-shape_told (Shape.Rising first) = Some (rising first)
-shape_told (Shape.Forever call) = Some (forever call)
-shape_told (Shape.Seq parts) = option_map seq (members_told (views parts.now))
-shape_told (Shape.Limit number inner) = option_map (limit number) (generator_told (view inner.now))
-shape_told (Shape.Mix parts) = option_map mix (members_told (views parts.now))
-shape_told (Shape.Phases parts) = option_map phases (members_told (views parts.now))
-shape_told (Shape.Reserve parts) = option_map (λ r. reserve r.0 r.1) (reserved_told (views parts.now))
-shape_told (Shape.EachThread inner) = option_map each_thread (generator_told (view inner.now))
-shape_told (Shape.Clients inner) = option_map clients (generator_told (view inner.now))
-shape_told (Shape.NemesisOnly inner) = option_map nemesis_only (generator_told (view inner.now))
+abbrev pub parsed_shape : Shape → Option Generator
+parsed_shape Shape.Nil = Some nothing
+parsed_shape (Shape.Once call) = Some (once call)
+parsed_shape (Shape.Rising first) = Some (rising first)
+parsed_shape (Shape.Forever call) = Some (forever call)
+parsed_shape (Shape.Seq parts) = option_map seq (parsed_members (views parts.now))
+parsed_shape (Shape.Limit number inner) = option_map (limit number) (parsed_generator (view inner.now))
+parsed_shape (Shape.Mix parts) = option_map mix (parsed_members (views parts.now))
+parsed_shape (Shape.Phases parts) = option_map phases (parsed_members (views parts.now))
+parsed_shape (Shape.Reserve parts) = option_map (λ r. reserve r.0 r.1) (parsed_reserved (views parts.now))
+parsed_shape (Shape.EachThread inner) = option_map each_thread (parsed_generator (view inner.now))
+parsed_shape (Shape.Clients inner) = option_map clients (parsed_generator (view inner.now))
+parsed_shape (Shape.NemesisOnly inner) = option_map nemesis_only (parsed_generator (view inner.now))
 
-abbrev pub told_of : Option Shape → Option Generator
-told_of None = None
-told_of (Some shape) = shape_told shape
+abbrev pub generator_of_shape : Option Shape → Option Generator
+generator_of_shape None = None
+generator_of_shape (Some shape) = parsed_shape shape
 
 -- how large its inner values are, by which a reading ends
 abbrev pub shape_size : Shape → ℕ
@@ -73,8 +73,8 @@ before_shares (share n g rest) ms = share n g (before_shares rest ms)
 
 -- The generators so far, with those that the rest tells, are those that all tell.
 abbrev pub MembersSoFar : Generators → List Edn → List Edn → Type 0
-MembersSoFar made rest all = members_told all ≡ option_map (before_members made) (members_told rest)
+MembersSoFar made rest all = parsed_members all ≡ option_map (before_members made) (parsed_members rest)
 
 -- The shares so far, with what the rest tells, are what all tell.
 abbrev pub SharesSoFar : Shared → List Edn → List Edn → Type 0
-SharesSoFar made rest all = reserved_told all ≡ option_map (λ r. (before_shares made r.0, r.1)) (reserved_told rest)
+SharesSoFar made rest all = parsed_reserved all ≡ option_map (λ r. (before_shares made r.0, r.1)) (parsed_reserved rest)

@@ -5,9 +5,9 @@ ghost use Rattle.jh_edn.specs.Edn.{size_of, size_list};
 ghost use Rattle.jh_edn.specs.View.{view, views};
 ghost use Rattle.jh_gen.specs.Generator.{reserve, row_of};
 ghost use Rattle.jh_gen.specs.GeneratorText as rule;
-ghost use Rattle.jh_gen.specs.GeneratorText.{RefusesText, call_told, generator_told, told_by, told_in};
-ghost use Rattle.jh_gen.specs.ShapeInside.{EndsReading, members_told, part_of, parts_in, reserved_told};
-ghost use Rattle.jh_gen.specs.ShapeInside.{shape_size, told_of};
+ghost use Rattle.jh_gen.specs.GeneratorText.{RefusesText, parsed_call, parsed_generator, generator_of_word, generator_of_parts};
+ghost use Rattle.jh_gen.specs.ShapeInside.{EndsReading, parsed_members, part_of, parts_in, parsed_reserved};
+ghost use Rattle.jh_gen.specs.ShapeInside.{shape_size, generator_of_shape};
 ghost use Rattle.jh_gen.specs.View.{generator_of};
 ghost use Rattle.jh_gen.specs.declared.text.GenTextError.TheVariants.{OutOfMemory};
 
@@ -100,7 +100,7 @@ fn call_in(parts: &[Value]) -> Option<Call>
 
 // The call that a value tells.
 fn call_of(value: &Value) -> Option<Call>
-    ensures { result ≡ call_told (view value.now) }
+    ensures { result ≡ parsed_call (view value.now) }
 {
     match value {
         Value::Keyword(word) => word_call(word.as_str()),
@@ -144,7 +144,7 @@ fn number_in(value: &Value) -> Option<u32>
 }
 
 fn no_part(parts: &[Value]) -> Option<Shape<'_>>
-    ensures told { told_of result ≡ rule.no_part (parts_in (views parts.now)) }
+    ensures told { generator_of_shape result ≡ rule.no_part (parts_in (views parts.now)) }
     ensures smaller { IfSome result (λ shape. shape_size shape ≤ size_list (views parts.now)) }
 {
     match parts {
@@ -154,7 +154,7 @@ fn no_part(parts: &[Value]) -> Option<Shape<'_>>
 }
 
 fn limited(parts: &[Value]) -> Option<Shape<'_>>
-    ensures told { told_of result ≡ rule.limited (parts_in (views parts.now)) }
+    ensures told { generator_of_shape result ≡ rule.limited (parts_in (views parts.now)) }
     ensures smaller { IfSome result (λ shape. shape_size shape ≤ size_list (views parts.now)) }
 {
     match parts {
@@ -165,7 +165,7 @@ fn limited(parts: &[Value]) -> Option<Shape<'_>>
 
 // The form of this name with these parts.
 fn shape_by<'a>(word: &str, parts: &'a [Value]) -> Option<Shape<'a>>
-    ensures told { told_of result ≡ told_by word.now (parts_in (views parts.now)) }
+    ensures told { generator_of_shape result ≡ generator_of_word word.now (parts_in (views parts.now)) }
     ensures smaller { IfSome result (λ shape. shape_size shape ≤ size_list (views parts.now)) }
 {
     match word {
@@ -196,7 +196,7 @@ fn word_of(value: &Value) -> Option<&str>
 
 // The form of these parts, the first its name.
 fn shape_in(parts: &[Value]) -> Option<Shape<'_>>
-    ensures told { told_of result ≡ told_in (parts_in (views parts.now)) }
+    ensures told { generator_of_shape result ≡ generator_of_parts (parts_in (views parts.now)) }
     ensures smaller { IfSome result (λ shape. shape_size shape ≤ size_list (views parts.now)) }
 {
     match parts {
@@ -207,7 +207,7 @@ fn shape_in(parts: &[Value]) -> Option<Shape<'_>>
 
 // The form of a value, if it has one.
 fn shape_of(value: &Value) -> Option<Shape<'_>>
-    ensures told { told_of result ≡ generator_told (view value.now) }
+    ensures told { generator_of_shape result ≡ parsed_generator (view value.now) }
     ensures smaller { IfSome result (λ shape. shape_size shape < size_of (view value.now)) }
 {
     shape_in(value.elements()?)
@@ -216,7 +216,7 @@ fn shape_of(value: &Value) -> Option<Shape<'_>>
 // Whether a value tells a generator.
 #[cycle(judge)]
 fn is_generator(value: &Value) -> bool
-    ensures { result ≡ is_some (generator_told (view value.now)) }
+    ensures { result ≡ is_some (parsed_generator (view value.now)) }
 {
     let Some(shape) = shape_of(value) else {
         return false;
@@ -239,7 +239,7 @@ fn is_generator(value: &Value) -> bool
 
 #[cycle(judge)]
 fn are_generators(parts: &[Value]) -> bool
-    ensures { result ≡ is_some (members_told (views parts.now)) }
+    ensures { result ≡ is_some (parsed_members (views parts.now)) }
 {
     for part in parts {
         if !is_generator(part) {
@@ -252,7 +252,7 @@ fn are_generators(parts: &[Value]) -> bool
 // Whether these are numbers, each with a generator, and a generator behind them.
 #[cycle(judge)]
 fn are_reserved(parts: &[Value]) -> bool
-    ensures { result ≡ is_some (reserved_told (views parts.now)) }
+    ensures { result ≡ is_some (parsed_reserved (views parts.now)) }
 {
     let mut rest = parts;
     while let [number, part, later @ ..] = rest {
@@ -271,8 +271,8 @@ fn are_reserved(parts: &[Value]) -> bool
 #[cycle(read)]
 fn gen_in(alloc: Global, value: &Value) -> Result<Gen, GenTextError>
     ensures { MatchResult result
-        (λ source. generator_told (view value.now) ≡ Some (generator_of source))
-        (EndsReading (generator_told (view value.now))) }
+        (λ source. parsed_generator (view value.now) ≡ Some (generator_of source))
+        (EndsReading (parsed_generator (view value.now))) }
 {
     let Some(shape) = shape_of(value) else {
         return Err(GenTextError::BadGenerator);
@@ -296,8 +296,8 @@ fn gen_in(alloc: Global, value: &Value) -> Result<Gen, GenTextError>
 #[cycle(read)]
 fn inner_in(alloc: Global, value: &Value) -> Result<Inner, GenTextError>
     ensures { MatchResult result
-        (λ inner. generator_told (view value.now) ≡ Some inner)
-        (EndsReading (generator_told (view value.now))) }
+        (λ inner. parsed_generator (view value.now) ≡ Some inner)
+        (EndsReading (parsed_generator (view value.now))) }
 {
     Ok(Inner::of(alloc, gen_in(alloc, value)?)?)
 }
@@ -305,8 +305,8 @@ fn inner_in(alloc: Global, value: &Value) -> Result<Inner, GenTextError>
 #[cycle(read)]
 fn members_in(alloc: Global, parts: &[Value]) -> Result<Gens, GenTextError>
     ensures { MatchResult result
-        (λ members. members_told (views parts.now) ≡ Some (row_of members))
-        (EndsReading (members_told (views parts.now))) }
+        (λ members. parsed_members (views parts.now) ≡ Some (row_of members))
+        (EndsReading (parsed_members (views parts.now))) }
 {
     let mut members = Vec::new(alloc);
     for part in parts {
@@ -318,8 +318,8 @@ fn members_in(alloc: Global, parts: &[Value]) -> Result<Gens, GenTextError>
 #[cycle(read)]
 fn reserve_in(alloc: Global, parts: &[Value]) -> Result<Gen, GenTextError>
     ensures { MatchResult result
-        (λ source. option_map (λ r. reserve r.0 r.1) (reserved_told (views parts.now)) ≡ Some (generator_of source))
-        (EndsReading (reserved_told (views parts.now))) }
+        (λ source. option_map (λ r. reserve r.0 r.1) (parsed_reserved (views parts.now)) ≡ Some (generator_of source))
+        (EndsReading (parsed_reserved (views parts.now))) }
 {
     let mut shares = Vec::new(alloc);
     let mut rest = parts;
@@ -347,7 +347,7 @@ fn reserve_in(alloc: Global, parts: &[Value]) -> Result<Gen, GenTextError>
 /// Errors, in this order: `BadGenerator` for any other value; `OutOfMemory`.
 pub fn gen_of_value(alloc: Global, value: &Value) -> Result<Gen, GenTextError>
     ensures { MatchResult result
-        (λ source. generator_told (view value.now) ≡ Some (generator_of source))
+        (λ source. parsed_generator (view value.now) ≡ Some (generator_of source))
         (RefusesText (view value.now)) }
 {
     match gen_in(alloc, value) {

@@ -10,10 +10,10 @@ use Rattle.jh_edn.specs.declared.error.EdnError.{EdnError}
 use Rattle.jh_edn.specs.declared.error.EdnError.TheVariants.{OutOfMemory}
 use Rattle.jh_edn.proofs.Facts.{Before, Behind, before_none, before_more, before_all, behind_none, behind_more, spells_nothing, refuses, first_behind}
 use Rattle.jh_histories.specs.Histories.{IsHistoryOf, RefusesHistoryOf}
-use Rattle.jh_histories.specs.TellingInside.{AreSeveral, HasTold, Leave, ReadsEach, RefusesOne}
-use Rattle.jh_histories.specs.declared.telling.Telling.{Telling}
+use Rattle.jh_histories.specs.ParsingInside.{AreSeveral, HasParsed, Leave, ReadsEach, RefusesOne}
+use Rattle.jh_histories.specs.declared.parsing.Parsing.{Parsing}
 use Rattle.jh_histories.specs.declared.error.ReadHistoryError.TheVariants.{Text, History}
-use Rattle.jh_histories.proofs.TellingLemmas.{all_told, all_refused}
+use Rattle.jh_histories.proofs.ParsingLemmas.{all_told, all_refused}
 use Rattle.jh_ops.specs.HistoryText.{elements_in}
 use Rattle.jh_ops.specs.Operation.{operations}
 use Rattle.jh_ops.specs.declared.history.HistoryError.{HistoryError}
@@ -50,18 +50,18 @@ text_refused text values at error utf8 begun why first =
     ]
 
 -- values were read, and all elements in them told
-pub history_read : (text : List ℕ) (values elements : List Edn) (at : ℕ) (telling : Telling) → elements_in values ≡ elements → Begins text values at → IsGap (drop at text) → telling.refusal ≡ None → HasTold telling elements
-    → IsHistoryOf text (operations telling.ops.items)
-history_read text values elements at telling are begun gap none told =
-    let ops = operations telling.ops.items in
+pub history_read : (text : List ℕ) (values elements : List Edn) (at : ℕ) (parsing : Parsing) → elements_in values ≡ elements → Begins text values at → IsGap (drop at text) → parsing.refusal ≡ None → HasParsed parsing elements
+    → IsHistoryOf text (operations parsing.ops.items)
+history_read text values elements at parsing are begun gap none told =
+    let ops = operations parsing.ops.items in
     (values, before_all values text at begun.before gap, all_told values elements ops are (subst (Leave elements ops) none told.0))
 
 -- values were read, and an element in them was refused
-pub history_refused : (text : List ℕ) (values elements : List Edn) (at : ℕ) (telling : Telling) (refusal : HistoryError) → elements_in values ≡ elements → Begins text values at → IsGap (drop at text) → telling.refusal ≡ Some refusal
-    → HasTold telling elements → RefusesHistoryOf text (History refusal)
-history_refused text values elements at telling refusals.OutOfMemory are begun gap some told = tt
-history_refused text values elements at telling (refusals.Op place refusal) are begun gap some told =
-    let ops = operations telling.ops.items in
+pub history_refused : (text : List ℕ) (values elements : List Edn) (at : ℕ) (parsing : Parsing) (refusal : HistoryError) → elements_in values ≡ elements → Begins text values at → IsGap (drop at text) → parsing.refusal ≡ Some refusal
+    → HasParsed parsing elements → RefusesHistoryOf text (History refusal)
+history_refused text values elements at parsing refusals.OutOfMemory are begun gap some told = tt
+history_refused text values elements at parsing (refusals.Op place refusal) are begun gap some told =
+    let ops = operations parsing.ops.items in
     (values, before_all values text at begun.before gap, all_refused values elements ops (refusals.Op place refusal) are (subst (Leave elements ops) some told.0))
 
 -- a single value was read, and it is refused

@@ -1,2 +1,2 @@
-pub mod TellingLemmas
+pub mod ParsingLemmas
 pub mod BegunLemmas

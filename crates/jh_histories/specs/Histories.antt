@@ -6,13 +6,13 @@ use Rattle.jh_edn.specs.Spelling.{SpellsAll}
 use Rattle.jh_edn.specs.Refused.{RefusesText, IsFirstError}
 use Rattle.jh_histories.specs.declared.error.ReadHistoryError.{ReadHistoryError}
 use Rattle.jh_histories.specs.declared.error.ReadHistoryError.TheVariants.{Text, History}
-use Rattle.jh_ops.specs.HistoryText.{AreTold, RefusesValues}
+use Rattle.jh_ops.specs.HistoryText.{AreParsed, RefusesValues}
 use Rattle.jh_ops.specs.Operation.{Operation}
 use Rattle.jh_ops.specs.declared.history.HistoryError.TheVariants.{Op, OutOfMemory}
 
 -- The values that the text spells tell these operations.
 abbrev pub IsHistoryOf : List ℕ → List Operation → Type 0
-IsHistoryOf text history = (values : List Edn) × SpellsAll values text × AreTold values history
+IsHistoryOf text history = (values : List Edn) × SpellsAll values text × AreParsed values history
 
 -- Why a text tells no history: its first error, wherever it stands; or else the first of its values that tells no operation. Memory
 -- may run out in any text.

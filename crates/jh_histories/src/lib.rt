@@ -3,8 +3,8 @@
 #![tactic(auto)]
 
 mod error;
+mod parsing;
 mod reading;
-mod telling;
 
 pub use error::ReadHistoryError;
 pub use reading::{history_in, read_history};

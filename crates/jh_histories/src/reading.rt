@@ -4,14 +4,14 @@
 ghost use Rattle.std.specs.Prelude.{◌∷◌, [], All, IfOk, IfErr, IfSome, MatchResult};
 ghost use Rattle.std.specs.Str.{IsCharBoundary};
 ghost use Rattle.jh_histories.specs.Histories.{IsHistoryOf, RefusesHistoryOf};
-ghost use Rattle.jh_histories.specs.TellingInside.{IsBegun, RefusesOne};
-ghost use Rattle.jh_ops.specs.HistoryText.{AreTold};
+ghost use Rattle.jh_histories.specs.ParsingInside.{IsBegun, RefusesOne};
+ghost use Rattle.jh_ops.specs.HistoryText.{AreParsed};
 ghost use Rattle.jh_ops.specs.Operation.{operations};
 ghost use Rattle.jh_edn.specs.View.{view};
 ghost use Rattle.jh_ops.specs.OperationWritten.{IsWritable};
 
 use crate::error::ReadHistoryError;
-use crate::telling::Telling;
+use crate::parsing::Parsing;
 use jh_edn::{EdnError, Sink, Value, read_bytes, read_one, read_sequence};
 use jh_ops::{HistoryError, Op, history_of};
 use std::alloc::Global;
@@ -20,7 +20,7 @@ use std::io::Read;
 // The history that the only value of a text tells.
 fn history_of_one(alloc: Global, value: Value) -> Result<Vec<Op>, HistoryError>
     ensures told { MatchResult result
-        (λ ops. AreTold (view value ∷ []) (operations ops.items))
+        (λ ops. AreParsed (view value ∷ []) (operations ops.items))
         (RefusesOne (view value)) }
     ensures writable { IfOk result (λ ops. All (λ op. IsWritable op.process) ops.items) }
 {
@@ -34,21 +34,21 @@ fn history_behind(
     alloc: Global,
     text: &str,
     at: usize,
-    telling: Telling,
+    parsing: Parsing,
 ) -> Result<Vec<Op>, ReadHistoryError>
     requires boundary { IsCharBoundary text.now at }
-    requires begun { IsBegun text.now at telling }
+    requires begun { IsBegun text.now at parsing }
     ensures told { IfOk result (λ ops. IsHistoryOf text.now (operations ops.items)) }
     ensures writable { IfOk result (λ ops. All (λ op. IsWritable op.process) ops.items) }
     ensures refused { IfErr result (RefusesHistoryOf text.now) }
 {
-    let mut telling = telling;
+    let mut parsing = parsing;
     let mut at = at;
     'values: while let Some((value, end)) = read_one(alloc, text, at)? {
-        telling.take(alloc, value)?;
+        parsing.take(alloc, value)?;
         at = end;
     }
-    Ok(telling.history()?)
+    Ok(parsing.history()?)
 }
 
 // The history that a text tells, whose first value is read whole.
@@ -63,10 +63,10 @@ fn history_of_values(alloc: Global, text: &str) -> Result<Vec<Op>, ReadHistoryEr
     let Some((second, end)) = read_one(alloc, text, end)? else {
         return Ok(history_of_one(alloc, first)?);
     };
-    let mut telling = Telling::new(alloc);
-    telling.take(alloc, first)?;
-    telling.take(alloc, second)?;
-    history_behind(alloc, text, end, telling)
+    let mut parsing = Parsing::new(alloc);
+    parsing.take(alloc, first)?;
+    parsing.take(alloc, second)?;
+    history_behind(alloc, text, end, parsing)
 }
 
 /// The history that a text tells: one operation for each of its values, or of a single list or vector, with or without tags
@@ -82,16 +82,16 @@ pub fn history_in(alloc: Global, text: &str) -> Result<Vec<Op>, ReadHistoryError
     ensures writable { IfOk result (λ ops. All (λ op. IsWritable op.process) ops.items) }
     ensures refused { IfErr result (RefusesHistoryOf text.now) }
 {
-    let mut telling = Telling::new(alloc);
-    let Some(end) = read_sequence(alloc, text, 0, &mut telling)? else {
+    let mut parsing = Parsing::new(alloc);
+    let Some(end) = read_sequence(alloc, text, 0, &mut parsing)? else {
         return history_of_values(alloc, text);
     };
     let Some((second, at)) = read_one(alloc, text, end)? else {
-        return Ok(telling.history()?);
+        return Ok(parsing.history()?);
     };
-    telling = Telling::of_sequence(alloc);
-    telling.take(alloc, second)?;
-    history_behind(alloc, text, at, telling)
+    parsing = Parsing::of_sequence(alloc);
+    parsing.take(alloc, second)?;
+    history_behind(alloc, text, at, parsing)
 }
 
 /// The history that the text of a reader tells, as `history_in` tells it, read in at most `turns` reads. The text is dropped before

@@ -17,7 +17,7 @@ use Rattle.jh_env.specs.FaultWritten.{is_link_before, is_node_before, is_bump_be
 use Rattle.jh_env.specs.Names.{AreNodeNames}
 use Rattle.jh_env.specs.Text.{pairs_in}
 use Rattle.jh_env.proofs.TextPlaceLemmas.{place_of-at}
-use Rattle.jh_nemesis.specs.FaultText.{Links, Nodes, Bumps, link_names, node_name, bump_said, all_of, links_in, nodes_in, bumps_in, place_of, ends_of, node_of, bump_of, amount_within, is_bump_amount, are_apart_after, are_bumps, links_fault, nodes_fault, links_told, nodes_told, bumps_told}
+use Rattle.jh_nemesis.specs.FaultText.{Links, Nodes, Bumps, link_names, node_name, bump_spelled, all_of, links_in, nodes_in, bumps_in, place_of, ends_of, node_of, bump_of, amount_within, is_bump_amount, are_apart_after, are_bumps, links_fault, nodes_fault, parsed_links, parsed_nodes, parsed_bumps}
 use Rattle.jh_nemesis.specs.declared.texts.shapes.OnLinks.{OnLinks}
 use Rattle.jh_nemesis.specs.declared.texts.shapes.OnNodes.{OnNodes}
 use Rattle.jh_laws.specs.StepLines.{IsFaultOn, IsTextOfFault}
@@ -47,8 +47,8 @@ nodes_are names nodes = sequence_of (λ n. is_some (node_name n)) (name_text nam
 
 bumps_are : (names : List (List ℕ)) (bumps : List (ℕ × ℤ)) → bumps_in (bumps_text names bumps) ≡ Some (map (bump_text names) bumps)
 bumps_are names bumps =
-    ap (all_of (λ b. is_some (bump_said b))) (pairs_of-members (map (bump_text names) bumps))
-    ∙ ap (λ t. if t then Some (map (bump_text names) bumps) else None) (all_pass (λ b. is_some (bump_said b)) (bump_text names) (λ b. refl) bumps)
+    ap (all_of (λ b. is_some (bump_spelled b))) (pairs_of-members (map (bump_text names) bumps))
+    ∙ ap (λ t. if t then Some (map (bump_text names) bumps) else None) (all_pass (λ b. is_some (bump_spelled b)) (bump_text names) (λ b. refl) bumps)
 
 -- ---- where the names stand
 
@@ -80,7 +80,7 @@ abbrev AreKnown : List (List ℕ) → List (ℕ × ℕ) → Type 0
 AreKnown names links = AllByRecursion (λ l. (l.0 < length names) × (l.1 < length names)) links
 
 links_again : (names : List (List ℕ)) → AreNodeNames names → (effect : OnLinks) (links : List (ℕ × ℕ)) (fault : FaultValue) → AreKnown names links
-    → list_any is_self_link links ≡ false → links_fault effect links ≡ Some fault → links_told names effect (map (link_text names) links) ≡ Ok fault
+    → list_any is_self_link links ≡ false → links_fault effect links ≡ Some fault → parsed_links names effect (map (link_text names) links) ≡ Ok fault
 links_again names named effect links fault known others made =
     let tell = all_known (link_text names) (ends_of names) (λ l. (l.0 < length names) × (l.1 < length names)) (ends_again names named) links known in
     let again = all_again (link_text names) (ends_of names) (λ l. (l.0 < length names) × (l.1 < length names)) (ends_again names named) links known in
@@ -92,7 +92,7 @@ within least most n low high = rw (le-leb least n low, le-leb n most high) refl
 -- ---- faults of nodes
 
 nodes_again : (names : List (List ℕ)) → AreNodeNames names → (effect : OnNodes) (nodes : List ℕ) → AllByRecursion (λ n. n < length names) nodes
-    → nodes_told names effect (map (name_text names) nodes) ≡ Ok (nodes_fault effect nodes)
+    → parsed_nodes names effect (map (name_text names) nodes) ≡ Ok (nodes_fault effect nodes)
 nodes_again names named effect nodes known =
     let tell = all_known (name_text names) (node_of names) (λ n. n < length names) (node_again names named) nodes known in
     let again = all_again (name_text names) (node_of names) (λ n. n < length names) (node_again names named) nodes known in
@@ -137,7 +137,7 @@ are_bumps_again bumps right apart =
     and_from (list_all (λ b. is_bump_amount b.1) bumps) (are_apart_after [] bumps) (amounts bumps right) (apart_after [] bumps (nothing_before bumps) apart)
 
 bumps_again : (names : List (List ℕ)) → AreNodeNames names → (bumps : List (ℕ × ℤ)) → AllByRecursion (λ b. b.0 < length names) bumps
-    → are_bumps bumps ≡ true → bumps_told names (map (bump_text names) bumps) ≡ Ok (Bump bumps)
+    → are_bumps bumps ≡ true → parsed_bumps names (map (bump_text names) bumps) ≡ Ok (Bump bumps)
 bumps_again names named bumps known right =
     let tell = all_known (bump_text names) (bump_of names) (λ b. b.0 < length names) (bump_again names named) bumps known in
     let again = all_again (bump_text names) (bump_of names) (λ b. b.0 < length names) (bump_again names named) bumps known in
@@ -171,14 +171,14 @@ NodesKept = (nodes : List ℕ) → AreApart same_node nodes → kept_nodes (in_o
 module _ (links_kept : LinksKept) (nodes_kept : NodesKept) (names : List (List ℕ)) (named : AreNodeNames names) where
   links_tell : (effect : OnLinks) (links : List (ℕ × ℕ)) (fault : FaultValue) → All (λ l. (l.0 < length names) × (l.1 < length names)) links
       → list_any is_self_link links ≡ false → links_fault effect (in_order is_link_before links) ≡ Some fault
-      → links_told names effect (map (link_text names) (in_order is_link_before links)) ≡ Ok fault
+      → parsed_links names effect (map (link_text names) (in_order is_link_before links)) ≡ Ok fault
   links_tell effect links fault fits others made =
       links_again names named effect (in_order is_link_before links) fault
       (all_in_order is_link_before (λ l. (l.0 < length names) × (l.1 < length names)) links (recursion_from_All (λ l. (l.0 < length names) × (l.1 < length names)) links fits))
       (none_in_order is_link_before is_self_link links others) made
 
   nodes_tell : (effect : OnNodes) (nodes : List ℕ) → All (λ n. n < length names) nodes
-      → nodes_told names effect (map (name_text names) (in_order is_node_before nodes)) ≡ Ok (nodes_fault effect (in_order is_node_before nodes))
+      → parsed_nodes names effect (map (name_text names) (in_order is_node_before nodes)) ≡ Ok (nodes_fault effect (in_order is_node_before nodes))
   nodes_tell effect nodes fits =
       nodes_again names named effect (in_order is_node_before nodes) (all_in_order is_node_before (λ n. n < length names) nodes (recursion_from_All (λ n. n < length names) nodes fits))
 

@@ -6,9 +6,9 @@ use Rattle.std.proofs.lemmas.List.Elements.{All-map, All-weaker, All-from_recurs
 use Rattle.jh_edn.specs.Edn.{Edn, list, vector, Items, no_items, item, list_of, elements_of, keyword}
 use Rattle.jh_edn.specs.Printable.{IsPrintable, ArePrintable}
 use Rattle.jh_edn.specs.Spelling.{depth_limit}
-use Rattle.jh_ops.specs.HistoryText.{elements_in, AreTold}
+use Rattle.jh_ops.specs.HistoryText.{elements_in, AreParsed}
 use Rattle.jh_ops.specs.Operation.{Operation}
-use Rattle.jh_ops.specs.OperationText.{untagged, op_told, kind_of, process_of}
+use Rattle.jh_ops.specs.OperationText.{untagged, parsed_op, kind_of, process_of}
 use Rattle.jh_ops.specs.OperationWritten.{value_written, kind_name, process_value, ReadBack}
 use Rattle.jh_ops.specs.declared.op_text.OpError.{OpError}
 use Rattle.jh_ops.specs.declared.operation.Kind.{Kind}
@@ -50,16 +50,16 @@ elements_printable [] h = tt
 elements_printable (value ∷ []) h = sequence_printable (untagged value) (untagged_printable depth_limit value h.0)
 elements_printable (value ∷ other ∷ values) h = h
 
-each_can_print : (values : List Edn) (history : List Operation) → AllByRecursion (IsPrintable depth_limit) values → map op_told values ≡ map Ok history → AllByRecursion CanPrint history
+each_can_print : (values : List Edn) (history : List Operation) → AllByRecursion (IsPrintable depth_limit) values → map parsed_op values ≡ map Ok history → AllByRecursion CanPrint history
 each_can_print [] [] h told = tt
 each_can_print [] (op ∷ ops) h told = absurd cc
 each_can_print (value ∷ values) [] h told = absurd cc
 each_can_print (value ∷ values) (op ∷ ops) h told =
-    let first : op_told value ≡ Ok op = cc in
-    let others : map op_told values ≡ map Ok ops = cc in
+    let first : parsed_op value ≡ Ok op = cc in
+    let others : map parsed_op values ≡ map Ok ops = cc in
     (told_can_print value op h.0 first, each_can_print values ops h.1 others)
 
-pub told_histories_print : (values : List Edn) (history : List Operation) → All (IsPrintable depth_limit) values → AreTold values history → All CanPrint history
+pub told_histories_print : (values : List Edn) (history : List Operation) → All (IsPrintable depth_limit) values → AreParsed values history → All CanPrint history
 told_histories_print values history h told =
     All-from_recursion CanPrint history (each_can_print (elements_in values) history (elements_printable values (recursion_from_All (IsPrintable depth_limit) values h)) told)
 
@@ -70,19 +70,19 @@ one_by_one [] = refl
 one_by_one (op ∷ []) = refl
 one_by_one (op ∷ other ∷ ops) = refl
 
-each_again : ReadBack → (values : List Edn) (history : List Operation) → map op_told values ≡ map Ok history → map op_told (map value_written history) ≡ map Ok history
+each_again : ReadBack → (values : List Edn) (history : List Operation) → map parsed_op values ≡ map Ok history → map parsed_op (map value_written history) ≡ map Ok history
 each_again law [] [] told = refl
 each_again law [] (op ∷ ops) told = absurd cc
 each_again law (value ∷ values) [] told = absurd cc
 each_again law (value ∷ values) (op ∷ ops) told =
-    let first : op_told value ≡ Ok op = cc in
-    let others : map op_told values ≡ map Ok ops = cc in
+    let first : parsed_op value ≡ Ok op = cc in
+    let others : map parsed_op values ≡ map Ok ops = cc in
     let here = law value op first in
     let behind = each_again law values ops others in
     λ i. here i ∷ behind i
 
-pub told_again : ReadBack → (values : List Edn) (history : List Operation) → AreTold values history → AreTold (map value_written history) history
-told_again law values history told = ap (map op_told) (one_by_one history) ∙ each_again law (elements_in values) history told
+pub told_again : ReadBack → (values : List Edn) (history : List Operation) → AreParsed values history → AreParsed (map value_written history) history
+told_again law values history told = ap (map parsed_op) (one_by_one history) ∙ each_again law (elements_in values) history told
 
 -- ---- operations without other keys
 
@@ -97,26 +97,26 @@ process_again (Process.Client number) = refl
 process_again Process.Nemesis = refl
 
 bare_parts : (kind : Kind) (process : Process) (f value : Edn) (time index : Option ℤ)
-    → op_told (value_written (written kind process f value time index [])) ≡ Ok (written kind process f value time index [])
+    → parsed_op (value_written (written kind process f value time index [])) ≡ Ok (written kind process f value time index [])
 bare_parts kind process f value None None = rw (kind_again kind, process_again process) refl
 bare_parts kind process f value (Some time) None = rw (kind_again kind, process_again process) refl
 bare_parts kind process f value None (Some index) = rw (kind_again kind, process_again process) refl
 bare_parts kind process f value (Some time) (Some index) = rw (kind_again kind, process_again process) refl
 
-pub bare_again : (op : Operation) → op.rest ≡ [] → op_told (value_written op) ≡ Ok op
+pub bare_again : (op : Operation) → op.rest ≡ [] → parsed_op (value_written op) ≡ Ok op
 bare_again op none =
-    subst (λ rest. op_told (value_written (written op.kind op.process op.f op.value op.time op.index rest)) ≡ Ok (written op.kind op.process op.f op.value op.time op.index rest))
+    subst (λ rest. parsed_op (value_written (written op.kind op.process op.f op.value op.time op.index rest)) ≡ Ok (written op.kind op.process op.f op.value op.time op.index rest))
     (sym none) (bare_parts op.kind op.process op.f op.value op.time op.index)
 
-each_bare : (history : List Operation) → AllByRecursion (λ op. op.rest ≡ []) history → map op_told (map value_written history) ≡ map Ok history
+each_bare : (history : List Operation) → AllByRecursion (λ op. op.rest ≡ []) history → map parsed_op (map value_written history) ≡ map Ok history
 each_bare [] all = refl
 each_bare (op ∷ ops) all =
     let here = bare_again op all.0 in
     let behind = each_bare ops all.1 in
     λ i. here i ∷ behind i
 
-pub bare_told : (history : List Operation) → All (λ op. op.rest ≡ []) history → AreTold (map value_written history) history
-bare_told history all = ap (map op_told) (one_by_one history) ∙ each_bare history (recursion_from_All (λ op. op.rest ≡ []) history all)
+pub bare_told : (history : List Operation) → All (λ op. op.rest ≡ []) history → AreParsed (map value_written history) history
+bare_told history all = ap (map parsed_op) (one_by_one history) ∙ each_bare history (recursion_from_All (λ op. op.rest ≡ []) history all)
 
 -- ---- one history
 
@@ -132,5 +132,5 @@ same_told (op ∷ ops) (other ∷ others) same =
     let behind : others ≡ ops = same_told ops others cc in
     λ i. first i ∷ behind i
 
-pub one_history : (values : List Edn) (history others : List Operation) → AreTold values history → AreTold values others → others ≡ history
+pub one_history : (values : List Edn) (history others : List Operation) → AreParsed values history → AreParsed values others → others ≡ history
 one_history values history others told more = same_told history others (sym more ∙ told)

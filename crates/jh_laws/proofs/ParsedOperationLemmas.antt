@@ -10,7 +10,7 @@ use Rattle.jh_edn.specs.Equality.{IsNew, keys_of, KeysDiffer}
 use Rattle.jh_edn.specs.Printable.{IsPrintable, PairsPrintable}
 use Rattle.jh_edn.specs.Spelling.{depth_limit}
 use Rattle.jh_ops.specs.Operation.{Operation}
-use Rattle.jh_ops.specs.OperationText.{untagged, pairs_in, map_pairs, is_keyword, is_integer, integer_of, value_under, is_integer_under, integer_under, is_other, process_of, needed, kind_in, f_in, process_in, ◌>>=◌, told_of, told_by, op_told}
+use Rattle.jh_ops.specs.OperationText.{untagged, pairs_in, map_pairs, is_keyword, is_integer, integer_of, value_under, is_integer_under, integer_under, is_other, process_of, needed, kind_in, f_in, process_in, ◌>>=◌, op_of_parts, op_of_pairs, parsed_op}
 use Rattle.jh_ops.specs.OperationWritten.{IsWritable}
 use Rattle.jh_ops.specs.declared.op_text.OpError.{OpError}
 use Rattle.jh_ops.specs.declared.op_text.OpError.TheVariants.{NotMap, MissingF, MissingProcess, BadProcess}
@@ -244,12 +244,12 @@ value_told : (o : Option Edn) → IfSome o Prints → Prints (unwrap_or o nil)
 value_told None h = tt
 value_told (Some value) h = h
 
-told_prints : (pairs : List (Edn × Edn)) (op : Operation) → AreGood pairs → told_by pairs ≡ Ok op → CanPrint op
+told_prints : (pairs : List (Edn × Edn)) (op : Operation) → AreGood pairs → op_of_pairs pairs ≡ Ok op → CanPrint op
 told_prints pairs op good told =
-    let kind = bind_ok (kind_in pairs) (λ k. f_in pairs >>= (λ x. process_in pairs >>= (λ p. Ok (told_of k x p pairs)))) op told in
-    let f = bind_ok (f_in pairs) (λ x. process_in pairs >>= (λ p. Ok (told_of kind.0 x p pairs))) op kind.2 in
-    let process = bind_ok (process_in pairs) (λ p. Ok (told_of kind.0 f.0 p pairs)) op f.2 in
-    let same : told_of kind.0 f.0 process.0 pairs ≡ op = cc process.2 in
+    let kind = bind_ok (kind_in pairs) (λ k. f_in pairs >>= (λ x. process_in pairs >>= (λ p. Ok (op_of_parts k x p pairs)))) op told in
+    let f = bind_ok (f_in pairs) (λ x. process_in pairs >>= (λ p. Ok (op_of_parts kind.0 x p pairs))) op kind.2 in
+    let process = bind_ok (process_in pairs) (λ p. Ok (op_of_parts kind.0 f.0 p pairs)) op f.2 in
+    let same : op_of_parts kind.0 f.0 process.0 pairs ≡ op = cc process.2 in
     let rest = filter is_other pairs in
     let four : NoneOf four_names rest = (
       never_kept (codes "type") (λ value. refl) pairs,
@@ -262,11 +262,11 @@ told_prints pairs op good told =
       time = integer_under_fits (codes "time") pairs good.printable;
       index = integer_under_fits (codes "index") pairs good.printable;
       rest = others_print is_other pairs good.printable;
-      keys = keys_differ (told_of kind.0 f.0 process.0 pairs) (still_differ is_other pairs good.differ) four (beside (codes "time") (λ value. refl) pairs good.differ)
+      keys = keys_differ (op_of_parts kind.0 f.0 process.0 pairs) (still_differ is_other pairs good.differ) four (beside (codes "time") (λ value. refl) pairs good.differ)
           (beside (codes "index") (λ value. refl) pairs good.differ);
     })
 
-pub told_can_print : (value : Edn) (op : Operation) → IsPrintable depth_limit value → op_told value ≡ Ok op → CanPrint op
+pub told_can_print : (value : Edn) (op : Operation) → IsPrintable depth_limit value → parsed_op value ≡ Ok op → CanPrint op
 told_can_print value op h told =
-    let pairs = needed_ok (map_pairs (untagged value)) NotMap told_by op told in
+    let pairs = needed_ok (map_pairs (untagged value)) NotMap op_of_pairs op told in
     told_prints pairs.0 op (at_some (map_pairs (untagged value)) AreGood pairs.0 pairs.1 (good_pairs (untagged value) (untagged_printable depth_limit value h))) pairs.2

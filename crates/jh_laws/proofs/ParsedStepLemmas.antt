@@ -13,9 +13,9 @@ use Rattle.jh_edn.specs.Edn.{Edn, int, keyword, list, vector, Items, no_items, i
 use Rattle.jh_env.specs.Faults.{FaultValue, AreApart, kept_links, is_self_link, same_link, same_node}
 use Rattle.jh_env.specs.Faults.{Slow, Loss, Fix, Bump}
 use Rattle.jh_env.proofs.FaultLemmas.{kept_apart, kept_all, none_apart}
-use Rattle.jh_nemesis.specs.FaultText.{Spelled, Links, Nodes, Bumps, SplitOne, Grudge, IsRingOverAll, needed, link_names, node_name, bump_said, place_of, both, ends_of, node_of, bump_of, amount_within, are_bumps, links_fault, nodes_fault, links_told, nodes_told, bumps_told, cut_of, split_told, named_told, fault_told, spelled}
+use Rattle.jh_nemesis.specs.FaultText.{Spelled, Links, Nodes, Bumps, SplitOne, Grudge, IsRingOverAll, needed, link_names, node_name, bump_spelled, place_of, both, ends_of, node_of, bump_of, amount_within, are_bumps, links_fault, nodes_fault, parsed_links, parsed_nodes, parsed_bumps, cut_of, parsed_split, parsed_named, parsed_fault, spelled}
 use Rattle.jh_nemesis.specs.NamedFaults.{AreLinksAmong, places, links_that, crosses, crosses_halves, crosses_bridge, touches, leaves_majority, is_at, option_is, ring_links, seeded_order}
-use Rattle.jh_nemesis.specs.StepText.{id_of, begun, begin_told, withdraw_told, word_told, told_in, step_told, fault_of_begin}
+use Rattle.jh_nemesis.specs.StepText.{id_of, begun, parsed_begin, parsed_withdraw, parsed_word, step_of_elements, parsed_step, fault_of_begin}
 use Rattle.jh_nemesis.specs.declared.steps.Step.{Step}
 use Rattle.jh_nemesis.specs.declared.steps.Step.TheVariants.{Withdraw, WithdrawAll, Undo, Redo}
 use Rattle.jh_nemesis.specs.declared.texts.StepTextError.{StepTextError}
@@ -67,7 +67,7 @@ moved_below n ms (Some i) h = h
 
 bump_below : (names : List (List ℕ)) (value : Edn × Edn) → IfSome (bump_of names value) (λ b. b.0 < length names)
 bump_below names value =
-    elim (bump_said value) as (λ o. IfSome {T = ℕ × ℤ} (option_and_then (λ said. option_map (λ node. (node, said.1)) (place_of names said.0)) o) (λ b. b.0 < length names)) [
+    elim (bump_spelled value) as (λ o. IfSome {T = ℕ × ℤ} (option_and_then (λ said. option_map (λ node. (node, said.1)) (place_of names said.0)) o) (λ b. b.0 < length names)) [
       | None ↦ tt
       | Some said ↦ moved_below (length names) said.1 (place_of names said.0) (below_place names said.0)
     ]
@@ -115,7 +115,7 @@ if_needed : {A B : Type 0} (o : Option A) (refusal : StepTextError) (made : A �
 if_needed None refusal made P Q h each = tt
 if_needed (Some x) refusal made P Q h each = each x h
 
-links_parsed : (names : List (List ℕ)) (effect : OnLinks) (values : List Edn) → IfOk (links_told names effect values) (IsFaultOn (length names))
+links_parsed : (names : List (List ℕ)) (effect : OnLinks) (values : List Edn) → IfOk (parsed_links names effect values) (IsFaultOn (length names))
 links_parsed names effect values =
     let n = length names in
     let ends = filter_map (ends_of names) values in
@@ -138,7 +138,7 @@ nodes_made n OnNodes.Pause nodes known =
 nodes_made n OnNodes.Kill nodes known =
     record { fits = kept_all (λ a. a < n) same_node nodes [] (All-nil (λ a. a < n)) known; is_fault = kept_apart same_node nodes [] (none_apart same_node); others = refl }
 
-nodes_parsed : (names : List (List ℕ)) (effect : OnNodes) (values : List Edn) → IfOk (nodes_told names effect values) (IsFaultOn (length names))
+nodes_parsed : (names : List (List ℕ)) (effect : OnNodes) (values : List Edn) → IfOk (parsed_nodes names effect values) (IsFaultOn (length names))
 nodes_parsed names effect values =
     let n = length names in
     let nodes = filter_map (node_of names) values in
@@ -148,7 +148,7 @@ nodes_parsed names effect values =
       | false ↦ nodes_made n effect nodes known
     ]
 
-bumps_parsed : (names : List (List ℕ)) (values : List (Edn × Edn)) → IfOk (bumps_told names values) (IsFaultOn (length names))
+bumps_parsed : (names : List (List ℕ)) (values : List (Edn × Edn)) → IfOk (parsed_bumps names values) (IsFaultOn (length names))
 bumps_parsed names values =
     let n = length names in
     let bumps = filter_map (bump_of names) values in
@@ -234,21 +234,21 @@ ringing order n apart k d within =
         elsewhere seen.0 dropped.0 m (slice_get_within order seen.0 dst to) (omega (arith, steps.0)) (omega (arith, steps.0, steps.1))
         (one_place order apart seen.0 ((seen.0 + dropped.0) % m) dst to (subst (λ a. slice_get order ((seen.0 + dropped.0) % m) ≡ Some a) same from))
 
-named_parsed : (n : ℕ) (named : Named) → IsRingOverAll n (Some (Grudge named)) → IfOk (named_told n named) (IsFaultOn n)
+named_parsed : (n : ℕ) (named : Named) → IsRingOverAll n (Some (Grudge named)) → IfOk (parsed_named n named) (IsFaultOn n)
 named_parsed n Named.Halves ring = cut_made n (links_that (crosses_halves n) n) (crossing (λ a. nat_lt a (n / 2)) n)
 named_parsed n Named.Bridge ring = cut_made n (links_that (crosses_bridge n) n) (bridging n)
 named_parsed n Named.Ring ring = cut_made n (ring_links (places n) n) (ringing (places n) n (places_apart n))
 named_parsed n (Named.ShuffledRing (pos seed)) ring = cut_made n (ring_links (seeded_order seed n) n) (ringing (seeded_order seed n) n (order_distinct n (seeded_order seed n) ring))
 named_parsed n (Named.ShuffledRing (negsuc z)) ring = tt
 
-split_parsed : (names : List (List ℕ)) (loner : List ℕ) → IfOk (split_told names loner) (IsFaultOn (length names))
+split_parsed : (names : List (List ℕ)) (loner : List ℕ) → IfOk (parsed_split names loner) (IsFaultOn (length names))
 split_parsed names loner =
     if_needed (place_of names loner) UnknownNode (λ place. Ok (cut_of (links_that (touches place) (length names)))) (λ place. place < length names) (IsFaultOn (length names))
     (below_place names loner) (λ place below. cut_made (length names) (links_that (touches place) (length names)) (crossing (λ a. a == place) (length names)))
 
 -- ---- steps
 
-fault_parsed : (names : List (List ℕ)) (parts : Spelled) → IsRingOverAll (length names) (Some parts) → IfOk (fault_told names parts) (IsFaultOn (length names))
+fault_parsed : (names : List (List ℕ)) (parts : Spelled) → IsRingOverAll (length names) (Some parts) → IfOk (parsed_fault names parts) (IsFaultOn (length names))
 fault_parsed names (Links effect links) ring = links_parsed names effect links
 fault_parsed names (Nodes effect nodes) ring = nodes_parsed names effect nodes
 fault_parsed names (Bumps bumps) ring = bumps_parsed names bumps
@@ -267,20 +267,20 @@ begun_is : (n id : ℕ) (answer : Result FaultValue StepTextError) → id < 2 ^ 
 begun_is n id (Ok fault) less h = (less, h)
 begun_is n id (Err refusal) less h = tt
 
-begin_parsed : (names : List (List ℕ)) (z : ℤ) (fault : Edn) → IsRingOverAll (length names) (spelled fault) → IfOk (begin_told names z fault) (IsStepOver (length names))
+begin_parsed : (names : List (List ℕ)) (z : ℤ) (fault : Edn) → IsRingOverAll (length names) (spelled fault) → IfOk (parsed_begin names z fault) (IsStepOver (length names))
 begin_parsed names z fault ring =
     elim (spelled fault)
-    as (λ o. IsRingOverAll (length names) o → IfOk (needed o BadStep (λ parts. needed (id_of z) BadId (λ id. begun id (fault_told names parts)))) (IsStepOver (length names))) [
+    as (λ o. IsRingOverAll (length names) o → IfOk (needed o BadStep (λ parts. needed (id_of z) BadId (λ id. begun id (parsed_fault names parts)))) (IsStepOver (length names))) [
       | None ↦ λ h. tt
       | Some parts ↦ λ h.
-          if_needed (id_of z) BadId (λ id. begun id (fault_told names parts)) (λ id. id < 2 ^ 32) (IsStepOver (length names)) (id_below z)
-          (λ id less. begun_is (length names) id (fault_told names parts) less (fault_parsed names parts h))
+          if_needed (id_of z) BadId (λ id. begun id (parsed_fault names parts)) (λ id. id < 2 ^ 32) (IsStepOver (length names)) (id_below z)
+          (λ id less. begun_is (length names) id (parsed_fault names parts) less (fault_parsed names parts h))
     ] ring
 
-withdraw_parsed : (n : ℕ) (z : ℤ) → IfOk (withdraw_told z) (IsStepOver n)
+withdraw_parsed : (n : ℕ) (z : ℤ) → IfOk (parsed_withdraw z) (IsStepOver n)
 withdraw_parsed n z = if_needed (id_of z) BadId (λ id. Ok (Withdraw id)) (λ id. id < 2 ^ 32) (IsStepOver n) (id_below z) (λ id less. less)
 
-word_parsed : (n : ℕ) (word : List ℕ) → IfOk (word_told word) (IsStepOver n)
+word_parsed : (n : ℕ) (word : List ℕ) → IfOk (parsed_word word) (IsStepOver n)
 word_parsed n word =
     elim (bytes_eq word (codes "withdraw-all"))
     as (λ t. IfOk (if t then Ok WithdrawAll else if bytes_eq word (codes "undo") then Ok Undo else if bytes_eq word (codes "redo") then Ok Redo else Err BadStep) (IsStepOver n)) [
@@ -296,20 +296,20 @@ if_chosen true answer P h = h
 if_chosen false answer P h = tt
 
 items_parsed : (names : List (List ℕ)) (xs : Items) → IsRingOverAll (length names) (option_and_then spelled (fault_of_begin (vector xs)))
-    → IfOk (told_in names (list_of xs)) (IsStepOver (length names))
+    → IfOk (step_of_elements names (list_of xs)) (IsStepOver (length names))
 items_parsed names (item (keyword word) no_items) ring = word_parsed (length names) word
 items_parsed names (item (keyword word) (item (int z) no_items)) ring =
-    if_chosen (bytes_eq word (codes "withdraw")) (withdraw_told z) (IsStepOver (length names)) (withdraw_parsed (length names) z)
+    if_chosen (bytes_eq word (codes "withdraw")) (parsed_withdraw z) (IsStepOver (length names)) (withdraw_parsed (length names) z)
 items_parsed names (item (keyword word) (item (int z) (item fault no_items))) ring =
-    if_chosen (bytes_eq word (codes "begin")) (begin_told names z fault) (IsStepOver (length names)) (begin_parsed names z fault ring)
+    if_chosen (bytes_eq word (codes "begin")) (parsed_begin names z fault) (IsStepOver (length names)) (begin_parsed names z fault ring)
 items_parsed names xs ring = tt
 
 value_parsed : (names : List (List ℕ)) (value : Edn) → IsRingOverAll (length names) (option_and_then spelled (fault_of_begin value))
-    → IfOk (step_told names value) (IsStepOver (length names))
+    → IfOk (parsed_step names value) (IsStepOver (length names))
 value_parsed names (list xs) ring = items_parsed names xs ring
 value_parsed names (vector xs) ring = items_parsed names xs ring
 value_parsed names value ring = tt
 
-pub step_parsed : (names : List (List ℕ)) (value : Edn) (step : Step) → step_told names value ≡ Ok step
+pub step_parsed : (names : List (List ℕ)) (value : Edn) (step : Step) → parsed_step names value ≡ Ok step
     → IsRingOverAll (length names) (option_and_then spelled (fault_of_begin value)) → IsStepOver (length names) step
 step_parsed names value step parsed ring = subst (λ answer. IfOk answer (IsStepOver (length names))) parsed (value_parsed names value ring)

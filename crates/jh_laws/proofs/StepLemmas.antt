@@ -16,7 +16,7 @@ use Rattle.jh_env.specs.Faults.{FaultValue, IsBumpAmount, same_bumped}
 use Rattle.jh_env.specs.Faults.{Cut, Slow, Loss, Fix, Pause, Kill, Bump}
 use Rattle.jh_env.specs.FaultWritten.{is_link_before, is_node_before, is_bump_before, name_text, link_text, links_text, bump_text, text_of_fault}
 use Rattle.jh_env.specs.Names.{AreNodeNames}
-use Rattle.jh_nemesis.specs.StepText.{step_told}
+use Rattle.jh_nemesis.specs.StepText.{parsed_step}
 use Rattle.jh_nemesis.specs.StepWritten.{text_of_step}
 use Rattle.jh_nemesis.specs.FaultText.{place_of}
 use Rattle.jh_nemesis.specs.declared.steps.Step.{Step}
@@ -30,7 +30,7 @@ use Rattle.jh_laws.proofs.FaultLemmas.{LinksKept, NodesKept, fault_again, place_
 -- ---- what is told
 
 pub step_again : LinksKept → NodesKept → (names : List (List ℕ)) → AreNodeNames names → (step : Step) → IsStepOver (length names) step
-    → step_told names (text_of_step names step) ≡ Ok (step_in_order step)
+    → parsed_step names (text_of_step names step) ≡ Ok (step_in_order step)
 step_again links_kept nodes_kept names named (Begin id fault) h =
     let told = fault_again links_kept nodes_kept names named fault h.1 in
     rw (told.1, lt-ltb id (2 ^ 32) h.0, told.2) refl
@@ -177,7 +177,7 @@ module _ (names : List (List ℕ)) (named : AreNodeNames names) where
 -- ---- several steps
 
 pub steps_again : LinksKept → NodesKept → (names : List (List ℕ)) → AreNodeNames names → (steps : List Step) → AllByRecursion (IsStepOver (length names)) steps
-    → map (step_told names) (map (text_of_step names) steps) ≡ map Ok (map step_in_order steps)
+    → map (parsed_step names) (map (text_of_step names) steps) ≡ map Ok (map step_in_order steps)
 steps_again links_kept nodes_kept names named [] all = refl
 steps_again links_kept nodes_kept names named (step ∷ steps) all =
     let here = step_again links_kept nodes_kept names named step all.0 in

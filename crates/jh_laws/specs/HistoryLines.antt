@@ -7,7 +7,7 @@ use Rattle.jh_edn.specs.Edn.{Edn, members_of}
 use Rattle.jh_edn.specs.Equality.{KeysDiffer}
 use Rattle.jh_edn.specs.Printable.{IsPrintable, PairsPrintable}
 use Rattle.jh_edn.specs.Spelling.{depth_limit, SpellsAll}
-use Rattle.jh_ops.specs.HistoryText.{AreTold}
+use Rattle.jh_ops.specs.HistoryText.{AreParsed}
 use Rattle.jh_ops.specs.Operation.{Operation}
 use Rattle.jh_ops.specs.OperationWritten.{IsWritable, pairs_written, value_written}
 use Rattle.jh_laws.specs.Lines.{line_of}
@@ -29,4 +29,4 @@ pub record CanPrint (op : Operation) : Type 0 where
 
 -- the bytes are a text of this history: they spell the values of its operations
 abbrev pub IsTextOfHistory : List ℕ → List Operation → Type 0
-IsTextOfHistory bytes history = (values : List Edn) × SpellsAll values bytes × AreTold values history
+IsTextOfHistory bytes history = (values : List Edn) × SpellsAll values bytes × AreParsed values history

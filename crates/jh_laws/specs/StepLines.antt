@@ -9,8 +9,8 @@ use Rattle.jh_env.specs.Faults.{FaultValue, FitsCount, IsFault, is_self_link}
 use Rattle.jh_env.specs.Faults.{Cut, Slow, Loss, Fix, Pause, Kill, Bump}
 use Rattle.jh_env.specs.FaultWritten.{fault_in_order}
 use Rattle.jh_env.specs.TextCells.{IsTextOf}
-use Rattle.jh_nemesis.specs.FaultText.{Spelled, spelled, fault_told}
-use Rattle.jh_nemesis.specs.StepText.{step_told}
+use Rattle.jh_nemesis.specs.FaultText.{Spelled, spelled, parsed_fault}
+use Rattle.jh_nemesis.specs.StepText.{parsed_step}
 use Rattle.jh_nemesis.specs.declared.steps.Step.{Step}
 use Rattle.jh_nemesis.specs.declared.steps.Step.TheVariants.{Begin, Withdraw, WithdrawAll, Undo, Redo}
 
@@ -46,7 +46,8 @@ step_in_order step = step
 
 -- the value's fault is this one, where these are the names of the nodes
 abbrev pub IsTextOfFault : Edn → List (List ℕ) → FaultValue → Type 0
-IsTextOfFault value names fault = (parts : Spelled) × (spelled value ≡ Some parts) × (fault_told names parts ≡ Ok fault)
+IsTextOfFault value names fault =
+    (parts : Spelled) × (spelled value ≡ Some parts) × (parsed_fault names parts ≡ Ok fault)
 
 -- The bytes spell a text of an environment of these names and cells, and then these steps over its nodes, as
 -- `jeprun env` reads them.
@@ -55,4 +56,4 @@ pub record AreBytesOf (names : List (List ℕ)) (cells : Table) (steps : List St
   pub others : List Edn
   pub spelled : SpellsAll (first ∷ others) bytes
   pub environment : IsTextOf first names cells
-  pub parsed : map (step_told names) others ≡ map Ok steps
+  pub parsed : map (parsed_step names) others ≡ map Ok steps

@@ -6,7 +6,7 @@ ghost use Rattle.jh_edn.specs.Equality.{KeysDiffer};
 ghost use Rattle.jh_edn.specs.Printable.{IsPrintable};
 ghost use Rattle.jh_edn.specs.Spelling.{depth_limit};
 ghost use Rattle.jh_ops.specs.Operation.{Operation};
-ghost use Rattle.jh_ops.specs.OperationText.{op_told};
+ghost use Rattle.jh_ops.specs.OperationText.{parsed_op};
 ghost use Rattle.jh_ops.specs.OperationWritten.{pairs_written, value_written};
 ghost use Rattle.jh_laws.specs.HistoryLines.{CanPrint, IsTextOfHistory, history_lines};
 ghost use Rattle.jh_laws.specs.Lines.{ReadsBack};
@@ -22,10 +22,10 @@ pub fn operation_lines_read_back()
     ensures printable { (op : Operation) → CanPrint op → IsPrintable depth_limit (value_written op) }
     ensures lines { (history : List Operation) → All CanPrint history
         → ReadsBack (map value_written history) (history_lines history) }
-    ensures parsed { (value : Edn) (op : Operation) → IsPrintable depth_limit value → op_told value ≡ Ok op
+    ensures parsed { (value : Edn) (op : Operation) → IsPrintable depth_limit value → parsed_op value ≡ Ok op
         → CanPrint op }
     ensures bare { (op : Operation) → op.rest ≡ []
-        → KeysDiffer (members_of (pairs_written op)) × (op_told (value_written op) ≡ Ok op) }
+        → KeysDiffer (members_of (pairs_written op)) × (parsed_op (value_written op) ≡ Ok op) }
 {
     lines_read_back()
 }

@@ -13,7 +13,7 @@ ghost use Rattle.jh_env.specs.Overlay.{EnvValue, cells_of};
 ghost use Rattle.jh_env.specs.TextLaws.{CanStart, SameCells};
 ghost use Rattle.jh_env.specs.TextWritten.{text_of};
 ghost use Rattle.jh_nemesis.specs.FaultText.{IsRingOverAll, spelled};
-ghost use Rattle.jh_nemesis.specs.StepText.{fault_of_begin, step_told};
+ghost use Rattle.jh_nemesis.specs.StepText.{fault_of_begin, parsed_step};
 ghost use Rattle.jh_nemesis.specs.StepWritten.{text_of_step};
 ghost use Rattle.jh_nemesis.specs.declared.steps.Step.{Step};
 ghost use Rattle.jh_laws.specs.Lines.{lines_of, ReadsBack};
@@ -46,7 +46,7 @@ pub fn faults_read_back()
 /// whoever reads the bytes has values that are parsed as these steps.
 pub fn steps_read_back()
     ensures written { (names : List (List ℕ)) (step : Step) → AreNodeNames names → IsStepOver (length names) step
-        → step_told names (text_of_step names step) ≡ Ok (step_in_order step) }
+        → parsed_step names (text_of_step names step) ≡ Ok (step_in_order step) }
     ensures printable { (names : List (List ℕ)) (step : Step) → AreNodeNames names → IsStepOver (length names) step
         → IsPrintable depth_limit (text_of_step names step) }
     ensures spells { (names : List (List ℕ)) (step : Step) → AreNodeNames names → IsStepOver (length names) step
@@ -56,7 +56,7 @@ pub fn steps_read_back()
         → ReadsBack (map (text_of_step names) steps) (lines_of (map (text_of_step names) steps)) }
     ensures bytes { (names : List (List ℕ)) (steps : List Step) (values : List Edn) → AreNodeNames names
         → All (IsStepOver (length names)) steps → SpellsAll values (lines_of (map (text_of_step names) steps))
-        → map (step_told names) values ≡ map Ok (map step_in_order steps) }
+        → map (parsed_step names) values ≡ map Ok (map step_in_order steps) }
 {
     order_changes_no_fault();
     print_laws();
@@ -84,7 +84,7 @@ pub fn inputs_read_back()
 /// A step that is parsed from a value can be written: it is a step over the nodes whose names were given, where a ring
 /// that is shuffled by a seed is laid over all of them, as `step_of_value` has it.
 pub fn parsed_steps_are_steps()
-    ensures { (names : List (List ℕ)) (value : Edn) (step : Step) → step_told names value ≡ Ok step
+    ensures { (names : List (List ℕ)) (value : Edn) (step : Step) → parsed_step names value ≡ Ok step
         → IsRingOverAll (length names) (option_and_then spelled (fault_of_begin value))
         → IsStepOver (length names) step }
 {}

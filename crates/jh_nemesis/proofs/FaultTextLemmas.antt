@@ -17,7 +17,7 @@ use Rattle.jh_edn.specs.declared.value.Value.{Value}
 use Rattle.jh_env.specs.Faults.{FaultValue, kept_links, is_self_link, is_unknown_link, is_unknown_node, is_unknown_bump, same_bumped, AreBumps, IsBumpAmount, RefusesLinks, RefusesNodes, RefusesBumps}
 use Rattle.jh_env.specs.Faults.{Slow, Loss, Fix, Bump}
 use Rattle.jh_env.specs.declared.faults.FaultError.TheVariants as FaultError
-use Rattle.jh_nemesis.specs.FaultText.{links_told, nodes_told, bumps_told, links_fault, nodes_fault, ends_of, node_of, bump_of, place_of, both, link_names, node_name, bump_said, amount_within, is_bump_amount, are_apart_after, are_bumps}
+use Rattle.jh_nemesis.specs.FaultText.{parsed_links, parsed_nodes, parsed_bumps, links_fault, nodes_fault, ends_of, node_of, bump_of, place_of, both, link_names, node_name, bump_spelled, amount_within, is_bump_amount, are_apart_after, are_bumps}
 use Rattle.jh_nemesis.specs.declared.texts.shapes.OnLinks.{OnLinks}
 use Rattle.jh_nemesis.specs.declared.texts.shapes.OnNodes.{OnNodes}
 use Rattle.jh_nemesis.specs.declared.texts.StepTextError.TheVariants.{UnknownNode, SelfLink, BadAmount}
@@ -26,15 +26,15 @@ use Rattle.jh_nemesis.proofs.LinkLemmas.{some_of_any}
 use Rattle.jh_nemesis.proofs.ListLemmas.{filter_map-map, list_any-map}
 
 -- an unknown node is told first
-pub links_told-unknown : (names : List (List ℕ)) (effect : OnLinks) (links : List Value) → list_any (λ l. is_none (ends_of names (view l))) links ≡ true
-    → links_told names effect (views links) ≡ Err UnknownNode
-links_told-unknown names effect links unknown = rw (list_any-map (λ l. is_none (ends_of names l)) view links, unknown) refl
+pub parsed_links-unknown : (names : List (List ℕ)) (effect : OnLinks) (links : List Value) → list_any (λ l. is_none (ends_of names (view l))) links ≡ true
+    → parsed_links names effect (views links) ≡ Err UnknownNode
+parsed_links-unknown names effect links unknown = rw (list_any-map (λ l. is_none (ends_of names l)) view links, unknown) refl
 
 -- then a link of a node with itself
-pub links_told-self : (names : List (List ℕ)) (effect : OnLinks) (links : List Value) → list_any (λ l. is_none (ends_of names (view l))) links ≡ false
+pub parsed_links-self : (names : List (List ℕ)) (effect : OnLinks) (links : List Value) → list_any (λ l. is_none (ends_of names (view l))) links ≡ false
     → list_any is_self_link (filter_map (λ l. ends_of names (view l)) links) ≡ true
-    → links_told names effect (views links) ≡ Err SelfLink
-links_told-self names effect links known self = rw (list_any-map (λ l. is_none (ends_of names l)) view links, known, filter_map-map (ends_of names) view links, self) refl
+    → parsed_links names effect (views links) ≡ Err SelfLink
+parsed_links-self names effect links known self = rw (list_any-map (λ l. is_none (ends_of names l)) view links, known, filter_map-map (ends_of names) view links, self) refl
 
 -- whether an amount is in its range, whatever the links
 right_anywhere : (effect : OnLinks) (links : List (ℕ × ℕ)) → is_some (links_fault effect links) ≡ is_some (links_fault effect [])
@@ -48,19 +48,19 @@ none_there None e = refl
 none_there (Some x) e = absurd cc
 
 -- then an amount out of range
-pub links_told-bad : (names : List (List ℕ)) (effect : OnLinks) (links : List Value) → list_any (λ l. is_none (ends_of names (view l))) links ≡ false
+pub parsed_links-bad : (names : List (List ℕ)) (effect : OnLinks) (links : List Value) → list_any (λ l. is_none (ends_of names (view l))) links ≡ false
     → list_any is_self_link (filter_map (λ l. ends_of names (view l)) links) ≡ false → is_some (links_fault effect []) ≡ false
-    → links_told names effect (views links) ≡ Err BadAmount
-links_told-bad names effect links known other bad =
+    → parsed_links names effect (views links) ≡ Err BadAmount
+parsed_links-bad names effect links known other bad =
     let ends : List (ℕ × ℕ) = filter_map (λ l. ends_of names (view l)) links in
     rw (list_any-map (λ l. is_none (ends_of names l)) view links, known, filter_map-map (ends_of names) view links, other, none_there (links_fault effect ends) (right_anywhere effect ends ∙ bad)) refl
 
 -- else the fault
-pub links_told-fault : (names : List (List ℕ)) (effect : OnLinks) (links : List Value) (fault : FaultValue) → list_any (λ l. is_none (ends_of names (view l))) links ≡ false
+pub parsed_links-fault : (names : List (List ℕ)) (effect : OnLinks) (links : List Value) (fault : FaultValue) → list_any (λ l. is_none (ends_of names (view l))) links ≡ false
     → list_any is_self_link (filter_map (λ l. ends_of names (view l)) links) ≡ false
     → links_fault effect (filter_map (λ l. ends_of names (view l)) links) ≡ Some fault
-    → links_told names effect (views links) ≡ Ok fault
-links_told-fault names effect links fault known other made =
+    → parsed_links names effect (views links) ≡ Ok fault
+parsed_links-fault names effect links fault known other made =
     rw (list_any-map (λ l. is_none (ends_of names l)) view links, known, filter_map-map (ends_of names) view links, other, made) refl
 
 some_there : {A : Type 0} (o : Option A) → is_some o ≡ true → (x : A) × (o ≡ Some x)
@@ -68,13 +68,13 @@ some_there None e = absurd cc
 some_there (Some x) e = (x, refl)
 
 -- something is told, so that want of memory may be answered
-pub links_told-ok : (names : List (List ℕ)) (effect : OnLinks) (links : List Value) → list_any (λ l. is_none (ends_of names (view l))) links ≡ false
+pub parsed_links-ok : (names : List (List ℕ)) (effect : OnLinks) (links : List Value) → list_any (λ l. is_none (ends_of names (view l))) links ≡ false
     → list_any is_self_link (filter_map (λ l. ends_of names (view l)) links) ≡ false → is_some (links_fault effect []) ≡ true
-    → IsOk (links_told names effect (views links))
-links_told-ok names effect links known other right =
+    → IsOk (parsed_links names effect (views links))
+parsed_links-ok names effect links known other right =
     let ends : List (ℕ × ℕ) = filter_map (λ l. ends_of names (view l)) links in
     let made = some_there (links_fault effect ends) (right_anywhere effect ends ∙ right) in
-    rw (links_told-fault names effect links made.0 known other made.1) refl
+    rw (parsed_links-fault names effect links made.0 known other made.1) refl
 
 both_known : (n : ℕ) (a b : Option ℕ) (e : ℕ × ℕ) → ((i : ℕ) → a ≡ Some i → i < n) → ((i : ℕ) → b ≡ Some i → i < n) → both a b ≡ Some e
     → is_unknown_link n e ≡ false
@@ -123,7 +123,7 @@ placed names name ms (Some n) b at h =
 
 bump_known : (names : List (List ℕ)) (v : Edn × Edn) (b : ℕ × ℤ) → bump_of names v ≡ Some b → is_unknown_bump (length names) b ≡ false
 bump_known names v b h =
-    elim (bump_said v) as (λ o. option_and_then (λ said. option_map (λ node. (node, said.1)) (place_of names said.0)) o ≡ Some b → is_unknown_bump (length names) b ≡ false) [
+    elim (bump_spelled v) as (λ o. option_and_then (λ said. option_map (λ node. (node, said.1)) (place_of names said.0)) o ≡ Some b → is_unknown_bump (length names) b ≡ false) [
       | None ↦ λ h. absurd cc
       | Some said ↦ λ h. placed names said.0 said.1 (place_of names said.0) b refl h
     ] h
@@ -132,13 +132,13 @@ pub bumps_found : (names : List (List ℕ)) (bumps : List (Value × Value)) → 
 bumps_found names bumps = all_found (λ b. bump_of names (view_pair b)) (is_unknown_bump (length names)) bumps (λ v b. bump_known names (view_pair v) b)
 
 -- a fault on nodes
-pub nodes_told-unknown : (names : List (List ℕ)) (effect : OnNodes) (nodes : List Value) → list_any (λ n. is_none (node_of names (view n))) nodes ≡ true
-    → nodes_told names effect (views nodes) ≡ Err UnknownNode
-nodes_told-unknown names effect nodes unknown = rw (list_any-map (λ n. is_none (node_of names n)) view nodes, unknown) refl
+pub parsed_nodes-unknown : (names : List (List ℕ)) (effect : OnNodes) (nodes : List Value) → list_any (λ n. is_none (node_of names (view n))) nodes ≡ true
+    → parsed_nodes names effect (views nodes) ≡ Err UnknownNode
+parsed_nodes-unknown names effect nodes unknown = rw (list_any-map (λ n. is_none (node_of names n)) view nodes, unknown) refl
 
-pub nodes_told-fault : (names : List (List ℕ)) (effect : OnNodes) (nodes : List Value) → list_any (λ n. is_none (node_of names (view n))) nodes ≡ false
-    → nodes_told names effect (views nodes) ≡ Ok (nodes_fault effect (filter_map (λ n. node_of names (view n)) nodes))
-nodes_told-fault names effect nodes known = rw (list_any-map (λ n. is_none (node_of names n)) view nodes, known, filter_map-map (node_of names) view nodes) refl
+pub parsed_nodes-fault : (names : List (List ℕ)) (effect : OnNodes) (nodes : List Value) → list_any (λ n. is_none (node_of names (view n))) nodes ≡ false
+    → parsed_nodes names effect (views nodes) ≡ Ok (nodes_fault effect (filter_map (λ n. node_of names (view n)) nodes))
+parsed_nodes-fault names effect nodes known = rw (list_any-map (λ n. is_none (node_of names n)) view nodes, known, filter_map-map (node_of names) view nodes) refl
 
 -- nodes that were found are refused for want of memory alone
 pub nodes_refused : (names : List (List ℕ)) (nodes : List Value) (refusal : FaultError.the_data)
@@ -149,18 +149,18 @@ nodes_refused names nodes FaultError.BadAmount refused = absurd refused
 nodes_refused names nodes FaultError.OutOfMemory refused = refl
 
 -- a fault of bumps
-pub bumps_told-unknown : (names : List (List ℕ)) (bumps : List (Value × Value)) → list_any (λ b. is_none (bump_of names (view_pair b))) bumps ≡ true
-    → bumps_told names (view_pairs bumps) ≡ Err UnknownNode
-bumps_told-unknown names bumps unknown = rw (list_any-map (λ b. is_none (bump_of names b)) view_pair bumps, unknown) refl
+pub parsed_bumps-unknown : (names : List (List ℕ)) (bumps : List (Value × Value)) → list_any (λ b. is_none (bump_of names (view_pair b))) bumps ≡ true
+    → parsed_bumps names (view_pairs bumps) ≡ Err UnknownNode
+parsed_bumps-unknown names bumps unknown = rw (list_any-map (λ b. is_none (bump_of names b)) view_pair bumps, unknown) refl
 
-pub bumps_told-bad : (names : List (List ℕ)) (bumps : List (Value × Value)) → list_any (λ b. is_none (bump_of names (view_pair b))) bumps ≡ false
-    → are_bumps (filter_map (λ b. bump_of names (view_pair b)) bumps) ≡ false → bumps_told names (view_pairs bumps) ≡ Err BadAmount
-bumps_told-bad names bumps known bad = rw (list_any-map (λ b. is_none (bump_of names b)) view_pair bumps, known, filter_map-map (bump_of names) view_pair bumps, bad) refl
+pub parsed_bumps-bad : (names : List (List ℕ)) (bumps : List (Value × Value)) → list_any (λ b. is_none (bump_of names (view_pair b))) bumps ≡ false
+    → are_bumps (filter_map (λ b. bump_of names (view_pair b)) bumps) ≡ false → parsed_bumps names (view_pairs bumps) ≡ Err BadAmount
+parsed_bumps-bad names bumps known bad = rw (list_any-map (λ b. is_none (bump_of names b)) view_pair bumps, known, filter_map-map (bump_of names) view_pair bumps, bad) refl
 
-pub bumps_told-fault : (names : List (List ℕ)) (bumps : List (Value × Value)) → list_any (λ b. is_none (bump_of names (view_pair b))) bumps ≡ false
+pub parsed_bumps-fault : (names : List (List ℕ)) (bumps : List (Value × Value)) → list_any (λ b. is_none (bump_of names (view_pair b))) bumps ≡ false
     → are_bumps (filter_map (λ b. bump_of names (view_pair b)) bumps) ≡ true
-    → bumps_told names (view_pairs bumps) ≡ Ok (Bump (filter_map (λ b. bump_of names (view_pair b)) bumps))
-bumps_told-fault names bumps known right = rw (list_any-map (λ b. is_none (bump_of names b)) view_pair bumps, known, filter_map-map (bump_of names) view_pair bumps, right) refl
+    → parsed_bumps names (view_pairs bumps) ≡ Ok (Bump (filter_map (λ b. bump_of names (view_pair b)) bumps))
+parsed_bumps-fault names bumps known right = rw (list_any-map (λ b. is_none (bump_of names b)) view_pair bumps, known, filter_map-map (bump_of names) view_pair bumps, right) refl
 
 bump_in_range : (z : ℤ) → is_bump_amount z ≡ true → IsBumpAmount z
 bump_in_range (pos n) h =

@@ -40,9 +40,9 @@ node_name (str name) = Some name
 node_name _ = None
 
 -- the name of a node and the milliseconds by which its clock is moved
-abbrev pub bump_said : Edn × Edn → Option (List ℕ × ℤ)
-bump_said (str name, int ms) = Some (name, ms)
-bump_said _ = None
+abbrev pub bump_spelled : Edn × Edn → Option (List ℕ × ℤ)
+bump_spelled (str name, int ms) = Some (name, ms)
+bump_spelled _ = None
 
 -- these, if each of them is such
 abbrev pub all_of : {A : Type 0} → (A → Bool) → List A → Option (List A)
@@ -55,7 +55,7 @@ abbrev pub nodes_in : Edn → Option (List Edn)
 nodes_in v = option_and_then (all_of (λ n. is_some (node_name n))) (elements_of v)
 
 abbrev pub bumps_in : Edn → Option (List (Edn × Edn))
-bumps_in (mapping ms) = all_of (λ b. is_some (bump_said b)) (pairs_in ms)
+bumps_in (mapping ms) = all_of (λ b. is_some (bump_spelled b)) (pairs_in ms)
 bumps_in _ = None
 
 -- a word alone
@@ -123,7 +123,7 @@ node_of names v = option_and_then (place_of names) (node_name v)
 
 -- the place of a node and by how much its clock is moved, where it is known
 abbrev pub bump_of : List (List ℕ) → Edn × Edn → Option (ℕ × ℤ)
-bump_of names b = option_and_then (λ said. option_map (λ node. (node, said.1)) (place_of names said.0)) (bump_said b)
+bump_of names b = option_and_then (λ said. option_map (λ node. (node, said.1)) (place_of names said.0)) (bump_spelled b)
 
 -- an integer from the least to the most
 abbrev pub amount_within : ℕ → ℕ → ℤ → Option ℕ
@@ -161,19 +161,19 @@ abbrev pub needed : {A B : Type 0} → Option A → StepTextError → (A → Res
 needed None refusal told = Err refusal
 needed (Some part) refusal told = told part
 
-abbrev pub links_told : List (List ℕ) → OnLinks → List Edn → Result FaultValue StepTextError
-links_told names effect links =
+abbrev pub parsed_links : List (List ℕ) → OnLinks → List Edn → Result FaultValue StepTextError
+parsed_links names effect links =
     if list_any (λ l. is_none (ends_of names l)) links then Err UnknownNode
     else if list_any is_self_link (filter_map (ends_of names) links) then Err SelfLink
     else needed (links_fault effect (filter_map (ends_of names) links)) BadAmount (λ fault. Ok fault)
 
-abbrev pub nodes_told : List (List ℕ) → OnNodes → List Edn → Result FaultValue StepTextError
-nodes_told names effect nodes =
+abbrev pub parsed_nodes : List (List ℕ) → OnNodes → List Edn → Result FaultValue StepTextError
+parsed_nodes names effect nodes =
     if list_any (λ n. is_none (node_of names n)) nodes then Err UnknownNode
     else Ok (nodes_fault effect (filter_map (node_of names) nodes))
 
-abbrev pub bumps_told : List (List ℕ) → List (Edn × Edn) → Result FaultValue StepTextError
-bumps_told names bumps =
+abbrev pub parsed_bumps : List (List ℕ) → List (Edn × Edn) → Result FaultValue StepTextError
+parsed_bumps names bumps =
     if list_any (λ b. is_none (bump_of names b)) bumps then Err UnknownNode
     else if are_bumps (filter_map (bump_of names) bumps) then Ok (Bump (filter_map (bump_of names) bumps))
     else Err BadAmount
@@ -182,20 +182,20 @@ bumps_told names bumps =
 abbrev pub cut_of : List (ℕ × ℕ) → FaultValue
 cut_of links = Cut (kept_links links)
 
-abbrev pub split_told : List (List ℕ) → List ℕ → Result FaultValue StepTextError
-split_told names loner = needed (place_of names loner) UnknownNode (λ place. Ok (cut_of (links_that (touches place) (length names))))
+abbrev pub parsed_split : List (List ℕ) → List ℕ → Result FaultValue StepTextError
+parsed_split names loner = needed (place_of names loner) UnknownNode (λ place. Ok (cut_of (links_that (touches place) (length names))))
 
-abbrev pub named_told : ℕ → Named → Result FaultValue StepTextError
-named_told count named = needed (named_links named count) BadAmount (λ links. Ok (cut_of links))
+abbrev pub parsed_named : ℕ → Named → Result FaultValue StepTextError
+parsed_named count named = needed (named_links named count) BadAmount (λ links. Ok (cut_of links))
 
 -- The fault that is told, or the first refusal that applies, over the whole fault: an unknown node, a link of a node
 -- with itself, an amount or a seed out of range or a node that is bumped twice.
-abbrev pub fault_told : List (List ℕ) → Spelled → Result FaultValue StepTextError
-fault_told names (Links effect links) = links_told names effect links
-fault_told names (Nodes effect nodes) = nodes_told names effect nodes
-fault_told names (Bumps bumps) = bumps_told names bumps
-fault_told names (SplitOne loner) = split_told names loner
-fault_told names (Grudge named) = named_told (length names) named
+abbrev pub parsed_fault : List (List ℕ) → Spelled → Result FaultValue StepTextError
+parsed_fault names (Links effect links) = parsed_links names effect links
+parsed_fault names (Nodes effect nodes) = parsed_nodes names effect nodes
+parsed_fault names (Bumps bumps) = parsed_bumps names bumps
+parsed_fault names (SplitOne loner) = parsed_split names loner
+parsed_fault names (Grudge named) = parsed_named (length names) named
 
 -- What was answered is what is told, unless memory was refused for what would have been told.
 abbrev pub IsPartParsed : {A : Type 0} → Result A StepTextError → Result A StepTextError → Type 0

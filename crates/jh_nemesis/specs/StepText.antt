@@ -4,7 +4,7 @@ use Rattle.std.specs.Prelude.{ℕ, ◌^◌, ℤ, pos, negsuc, List, [], ◌∷�
 use Rattle.std.specs.Str.{bytes_eq}
 use Rattle.jh_edn.specs.Edn.{Edn, int, keyword, elements_of}
 use Rattle.jh_env.specs.Faults.{FaultValue}
-use Rattle.jh_nemesis.specs.FaultText.{needed, spelled, fault_told}
+use Rattle.jh_nemesis.specs.FaultText.{needed, spelled, parsed_fault}
 use Rattle.jh_nemesis.specs.declared.steps.Step.{Step}
 use Rattle.jh_nemesis.specs.declared.steps.Step.TheVariants.{Begin, Withdraw, WithdrawAll, Undo, Redo}
 use Rattle.jh_nemesis.specs.declared.texts.StepTextError.{StepTextError}
@@ -19,31 +19,33 @@ abbrev pub begun : ℕ → Result FaultValue StepTextError → Result Step StepT
 begun id (Ok fault) = Ok (Begin id fault)
 begun id (Err refusal) = Err refusal
 
-abbrev pub begin_told : List (List ℕ) → ℤ → Edn → Result Step StepTextError
-begin_told names z fault =
-    needed (spelled fault) BadStep (λ fault. needed (id_of z) BadId (λ id. begun id (fault_told names fault)))
+abbrev pub parsed_begin : List (List ℕ) → ℤ → Edn → Result Step StepTextError
+parsed_begin names z fault =
+    needed (spelled fault) BadStep (λ fault. needed (id_of z) BadId (λ id. begun id (parsed_fault names fault)))
 
-abbrev pub withdraw_told : ℤ → Result Step StepTextError
-withdraw_told z = needed (id_of z) BadId (λ id. Ok (Withdraw id))
+abbrev pub parsed_withdraw : ℤ → Result Step StepTextError
+parsed_withdraw z = needed (id_of z) BadId (λ id. Ok (Withdraw id))
 
 -- a step that is a word alone
-abbrev pub word_told : List ℕ → Result Step StepTextError
-word_told word =
+abbrev pub parsed_word : List ℕ → Result Step StepTextError
+parsed_word word =
     if bytes_eq word (codes "withdraw-all") then Ok WithdrawAll
     else if bytes_eq word (codes "undo") then Ok Undo
     else if bytes_eq word (codes "redo") then Ok Redo
     else Err BadStep
 
-abbrev pub told_in : List (List ℕ) → List Edn → Result Step StepTextError
-told_in names (keyword word ∷ []) = word_told word
-told_in names (keyword word ∷ int z ∷ []) = if bytes_eq word (codes "withdraw") then withdraw_told z else Err BadStep
-told_in names (keyword word ∷ int z ∷ fault ∷ []) = if bytes_eq word (codes "begin") then begin_told names z fault else Err BadStep
-told_in names _ = Err BadStep
+abbrev pub step_of_elements : List (List ℕ) → List Edn → Result Step StepTextError
+step_of_elements names (keyword word ∷ []) = parsed_word word
+step_of_elements names (keyword word ∷ int z ∷ []) =
+    if bytes_eq word (codes "withdraw") then parsed_withdraw z else Err BadStep
+step_of_elements names (keyword word ∷ int z ∷ fault ∷ []) =
+    if bytes_eq word (codes "begin") then parsed_begin names z fault else Err BadStep
+step_of_elements names _ = Err BadStep
 
 -- The step that a value tells, or the first refusal that applies: its shape is looked at first, and whole, then
 -- the id, then the fault.
-abbrev pub step_told : List (List ℕ) → Edn → Result Step StepTextError
-step_told names v = needed (elements_of v) BadStep (told_in names)
+abbrev pub parsed_step : List (List ℕ) → Edn → Result Step StepTextError
+parsed_step names v = needed (elements_of v) BadStep (step_of_elements names)
 
 abbrev fault_in : List Edn → Option Edn
 fault_in (keyword word ∷ int z ∷ fault ∷ []) = Some fault

@@ -4,7 +4,7 @@ ghost use Rattle.std.specs.Prelude.{◌≡◌, IfOk, length, option_and_then};
 ghost use Rattle.jh_edn.specs.View.{view};
 ghost use Rattle.jh_nemesis.specs.FaultText.{IsPartParsed, IsRingOverAll, spelled};
 ghost use Rattle.jh_nemesis.specs.StepText as rule;
-ghost use Rattle.jh_nemesis.specs.StepText.{step_told, begin_told, fault_of_begin, withdraw_told, word_told};
+ghost use Rattle.jh_nemesis.specs.StepText.{parsed_step, parsed_begin, fault_of_begin, parsed_withdraw, parsed_word};
 ghost use Rattle.jh_nemesis.specs.Steps.{FitsNodes};
 
 mod faults;
@@ -71,7 +71,7 @@ fn id_of(id: i64) -> Option<u32>
 }
 
 fn begin_of(alloc: Global, nodes: &Nodes, id: i64, fault: &Value) -> Result<Step, StepTextError>
-    ensures told { IsPartParsed result (begin_told nodes.now id (view fault.now)) }
+    ensures told { IsPartParsed result (parsed_begin nodes.now id (view fault.now)) }
     ensures ring { IfOk result (λ _. IsRingOverAll (length nodes.now) (spelled (view fault.now))) }
     ensures fits { IfOk result (FitsNodes (length nodes.now)) }
 {
@@ -88,7 +88,7 @@ fn begin_of(alloc: Global, nodes: &Nodes, id: i64, fault: &Value) -> Result<Step
 }
 
 fn withdraw_of(id: i64) -> Result<Step, StepTextError>
-    ensures { IsPartParsed result (withdraw_told id) }
+    ensures { IsPartParsed result (parsed_withdraw id) }
 {
     match id_of(id) {
         Some(id) => Ok(Step::Withdraw(id)),
@@ -97,7 +97,7 @@ fn withdraw_of(id: i64) -> Result<Step, StepTextError>
 }
 
 fn word_of(word: &str) -> Result<Step, StepTextError>
-    ensures { IsPartParsed result (word_told word.now) }
+    ensures { IsPartParsed result (parsed_word word.now) }
 {
     match word {
         "withdraw-all" => Ok(Step::WithdrawAll),
@@ -118,7 +118,7 @@ fn word_of(word: &str) -> Result<Step, StepTextError>
 /// whole fault `UnknownNode`, `SelfLink`, `BadAmount` also where a node is bumped twice or the seed is below zero;
 /// `OutOfMemory`.
 pub fn step_of_value(alloc: Global, nodes: &Nodes, value: &Value) -> Result<Step, StepTextError>
-    ensures told { IsPartParsed result (step_told nodes.now (view value.now)) }
+    ensures told { IsPartParsed result (parsed_step nodes.now (view value.now)) }
     ensures ring { IfOk result (λ _. IsRingOverAll (length nodes.now)
         (option_and_then spelled (fault_of_begin (view value.now)))) }
     ensures fits { IfOk result (FitsNodes (length nodes.now)) }

@@ -10,7 +10,7 @@ use Rattle.jh_edn.specs.Edn.{Edn, nil, boolean, int, char, str, keyword, symbol,
 use Rattle.jh_edn.specs.View.{view, view_pair, view_pairs}
 use Rattle.jh_edn.specs.declared.value.Value.{Value}
 use Rattle.jh_edn.specs.declared.value.Value.TheVariants.{Nil, Bool as Truth, Int, Char, Str, Keyword, Symbol, List as Listed, Vector, Map, Set, Tagged}
-use Rattle.jh_ops.specs.OperationText.{untagged, pairs_in, is_keyword, integer_of, is_integer_under, value_under, integer_under, is_other, process_of, needed, kind_in, f_in, process_in, ◌>>=◌, told_of, told_by}
+use Rattle.jh_ops.specs.OperationText.{untagged, pairs_in, is_keyword, integer_of, is_integer_under, value_under, integer_under, is_other, process_of, needed, kind_in, f_in, process_in, ◌>>=◌, op_of_parts, op_of_pairs}
 use Rattle.jh_ops.specs.declared.op_text.OpError.{OpError}
 use Rattle.jh_ops.specs.declared.op_text.OpError.TheVariants.{MissingF, MissingProcess, BadProcess}
 use Rattle.jh_ops.specs.declared.operation.Kind.{Kind}
@@ -185,22 +185,22 @@ others_left pairs =
     ∙ filter-without is_other (codes "f") (apart_from is_other (codes "f") (λ value. refl)) pairs
 
 pub told-bad_process : (pairs : List (Edn × Edn)) (kind : Kind) (f : Edn) (e : OpError) → kind_in pairs ≡ Ok kind → value_under (codes "f") pairs ≡ Some f
-    → process_in (without (codes "f") pairs) ≡ Err e → told_by pairs ≡ Err e
+    → process_in (without (codes "f") pairs) ≡ Err e → op_of_pairs pairs ≡ Err e
 told-bad_process pairs kind f e has_kind has_f bad =
     let process = sym (process-without_f pairs) ∙ bad in
-    ap (λ r. r >>= (λ k. f_in pairs >>= (λ x. process_in pairs >>= (λ p. Ok (told_of k x p pairs))))) has_kind
-    ∙ ap (λ o. ok_or o MissingF >>= (λ x. process_in pairs >>= (λ p. Ok (told_of kind x p pairs)))) has_f
-    ∙ ap (λ r. r >>= (λ p. Ok (told_of kind f p pairs))) process
+    ap (λ r. r >>= (λ k. f_in pairs >>= (λ x. process_in pairs >>= (λ p. Ok (op_of_parts k x p pairs))))) has_kind
+    ∙ ap (λ o. ok_or o MissingF >>= (λ x. process_in pairs >>= (λ p. Ok (op_of_parts kind x p pairs)))) has_f
+    ∙ ap (λ r. r >>= (λ p. Ok (op_of_parts kind f p pairs))) process
 
 -- the operation that the pairs tell, part by part
 pub told-parts : (pairs : List (Edn × Edn)) (kind : Kind) (f : Edn) (process : Process) (value : Edn) (time index : Option ℤ) (rest : List (Edn × Edn)) → kind_in pairs ≡ Ok kind
     → value_under (codes "f") pairs ≡ Some f → process_in pairs ≡ Ok process → unwrap_or (value_under (codes "value") pairs) nil ≡ value
     → integer_under (codes "time") pairs ≡ time → integer_under (codes "index") pairs ≡ index → filter is_other pairs ≡ rest
-    → told_by pairs ≡ Ok (record { kind = kind; process = process; f = f; value = value; time = time; index = index; rest = rest })
+    → op_of_pairs pairs ≡ Ok (record { kind = kind; process = process; f = f; value = value; time = time; index = index; rest = rest })
 told-parts pairs kind f process value time index rest has_kind has_f who has_value has_time has_index has_rest =
-    ap (λ r. r >>= (λ k. f_in pairs >>= (λ x. process_in pairs >>= (λ p. Ok (told_of k x p pairs))))) has_kind
-    ∙ ap (λ o. ok_or o MissingF >>= (λ x. process_in pairs >>= (λ p. Ok (told_of kind x p pairs)))) has_f
-    ∙ ap (λ r. r >>= (λ p. Ok (told_of kind f p pairs))) who
+    ap (λ r. r >>= (λ k. f_in pairs >>= (λ x. process_in pairs >>= (λ p. Ok (op_of_parts k x p pairs))))) has_kind
+    ∙ ap (λ o. ok_or o MissingF >>= (λ x. process_in pairs >>= (λ p. Ok (op_of_parts kind x p pairs)))) has_f
+    ∙ ap (λ r. r >>= (λ p. Ok (op_of_parts kind f p pairs))) who
     ∙ ap (λ v. Ok (record { kind = kind; process = process; f = f; value = v; time = integer_under (codes "time") pairs; index = integer_under (codes "index") pairs; rest = filter is_other pairs })) has_value
     ∙ ap (λ t. Ok (record { kind = kind; process = process; f = f; value = value; time = t; index = integer_under (codes "index") pairs; rest = filter is_other pairs })) has_time
     ∙ ap (λ i. Ok (record { kind = kind; process = process; f = f; value = value; time = time; index = i; rest = filter is_other pairs })) has_index
@@ -209,7 +209,7 @@ told-parts pairs kind f process value time index rest has_kind has_f who has_val
 pub told-whole : (pairs : List (Edn × Edn)) (kind : Kind) (f : Edn) (process : Process) (value : Edn) (time index : Option ℤ) (rest : List (Edn × Edn)) → kind_in pairs ≡ Ok kind
     → value_under (codes "f") pairs ≡ Some f → process_in (without (codes "f") pairs) ≡ Ok process → value ≡ unwrap_or (value_under (codes "value") (without (codes "f") pairs)) nil
     → time ≡ integer_under (codes "time") (left_of pairs) → index ≡ integer_under (codes "index") (left_of pairs) → rest ≡ filter is_other (left_of pairs)
-    → told_by pairs ≡ Ok (record { kind = kind; process = process; f = f; value = value; time = time; index = index; rest = rest })
+    → op_of_pairs pairs ≡ Ok (record { kind = kind; process = process; f = f; value = value; time = time; index = index; rest = rest })
 told-whole pairs kind f process value time index rest has_kind has_f who is_value is_time is_index is_rest =
     told-parts pairs kind f process value time index rest has_kind has_f (sym (process-without_f pairs) ∙ who) (ap (λ o. unwrap_or o nil) (sym (value-without_f pairs)) ∙ sym is_value)
     (sym (time_left pairs) ∙ sym is_time) (sym (index_left pairs) ∙ sym is_index) (sym (others_left pairs) ∙ sym is_rest)

@@ -87,8 +87,8 @@ needed None refusal told = Err refusal
 needed (Some part) refusal told = told part
 
 -- the operation of these parts and of the pairs of its map
-abbrev pub told_of : Kind → Edn → Process → List (Edn × Edn) → Operation
-told_of kind f process pairs =
+abbrev pub op_of_parts : Kind → Edn → Process → List (Edn × Edn) → Operation
+op_of_parts kind f process pairs =
     record {
       kind = kind;
       process = process;
@@ -114,18 +114,19 @@ abbrev pub ◌>>=◌ : {A B : Type 0} → Result A OpError → (A → Result B O
 (Ok part) >>= told = told part
 (Err refusal) >>= told = Err refusal
 
--- the operation that the pairs of a map tell, or the first refusal that applies
-abbrev pub told_by : List (Edn × Edn) → Result Operation OpError
-told_by pairs = do
+-- the operation that the pairs of a map are, or the first refusal that applies
+abbrev pub op_of_pairs : List (Edn × Edn) → Result Operation OpError
+op_of_pairs pairs = do
   kind ← kind_in pairs
   f ← f_in pairs
   process ← process_in pairs
-  Ok (told_of kind f process pairs)
+  Ok (op_of_parts kind f process pairs)
 
--- the operation that a value tells, tags around its map ignored
-abbrev pub op_told : Edn → Result Operation OpError
-op_told value = needed (map_pairs (untagged value)) NotMap told_by
+-- a value's operation, tags around its map ignored
+abbrev pub parsed_op : Edn → Result Operation OpError
+parsed_op value = needed (map_pairs (untagged value)) NotMap op_of_pairs
 
--- What was answered is what is told, unless memory was refused for what would have been an operation.
+-- What was answered is what is parsed, unless memory was refused for what would have been an operation.
 abbrev pub IsOperationParsed : Result Op OpError → Result Operation OpError → Type 0
-IsOperationParsed answer told = MatchResult answer (λ op. told ≡ Ok (operation op)) (λ e. (told ≡ Err e) ⊎ ((e ≡ OutOfMemory) × IsOk told))
+IsOperationParsed answer parsed =
+    MatchResult answer (λ op. parsed ≡ Ok (operation op)) (λ e. (parsed ≡ Err e) ⊎ ((e ≡ OutOfMemory) × IsOk parsed))

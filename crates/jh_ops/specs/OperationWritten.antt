@@ -2,7 +2,7 @@
 use Rattle.std.specs.Prelude.{◌≡◌, ℕ, ◌^◌, ◌<◌, ℤ, pos, List, [], ◌∷◌, ◌++◌, codes, Option, Some, None, Ok}
 use Rattle.jh_edn.specs.Edn.{Edn, int, keyword, mapping, members_of}
 use Rattle.jh_ops.specs.Operation.{Operation}
-use Rattle.jh_ops.specs.OperationText.{op_told}
+use Rattle.jh_ops.specs.OperationText.{parsed_op}
 use Rattle.jh_ops.specs.declared.operation.Kind.{Kind}
 use Rattle.jh_ops.specs.declared.operation.Process.{Process}
 
@@ -40,4 +40,4 @@ value_written op = mapping (members_of (pairs_written op))
 
 -- an operation that some value tells is told again by what is written of it
 abbrev pub ReadBack : Type 0
-ReadBack = (value : Edn) (op : Operation) → op_told value ≡ Ok op → op_told (value_written op) ≡ Ok op
+ReadBack = (value : Edn) (op : Operation) → parsed_op value ≡ Ok op → parsed_op (value_written op) ≡ Ok op

@@ -3,7 +3,7 @@
 ghost use Rattle.std.specs.Prelude.{◌≡◌, All, IfOk, MatchResult};
 ghost use Rattle.jh_edn.specs.View.{views};
 ghost use Rattle.jh_ops.specs.HistoryText as rule;
-ghost use Rattle.jh_ops.specs.HistoryText.{AreTold, RefusesValues, refusal_at};
+ghost use Rattle.jh_ops.specs.HistoryText.{AreParsed, RefusesValues, refusal_at};
 ghost use Rattle.jh_ops.specs.Operation.{operations};
 ghost use Rattle.jh_ops.specs.OperationWritten.{IsWritable};
 
@@ -70,7 +70,7 @@ fn elements_in(values: Vec<Value>) -> Vec<Value>
 /// `OutOfMemory` at a place where it refuses none up to it.
 pub fn history_of(alloc: Global, values: Vec<Value>) -> Result<Vec<Op>, HistoryError>
     ensures told { MatchResult result
-        (λ ops. AreTold (views values.items) (operations ops.items))
+        (λ ops. AreParsed (views values.items) (operations ops.items))
         (RefusesValues (views values.items)) }
     ensures writable { IfOk result (λ ops. All (λ op. IsWritable op.process) ops.items) }
 {

@@ -5,7 +5,7 @@ ghost use Rattle.std.specs.Prelude.{option_map, option_copied};
 ghost use Rattle.jh_edn.specs.Edn.{int};
 ghost use Rattle.jh_edn.specs.View.{view, view_pair, view_pairs};
 ghost use Rattle.jh_ops.specs.OperationText as rule;
-ghost use Rattle.jh_ops.specs.OperationText.{IsOperationParsed, op_told, told_by, untagged};
+ghost use Rattle.jh_ops.specs.OperationText.{IsOperationParsed, parsed_op, op_of_pairs, untagged};
 ghost use Rattle.jh_ops.specs.OperationWritten.{IsWritable};
 ghost use Rattle.jh_ops.specs.Parts.{without};
 
@@ -209,7 +209,7 @@ fn process_in(pairs: &[(Value, Value)]) -> Result<Process, OpError>
 }
 
 fn op_in(alloc: Global, pairs: Vec<(Value, Value)>) -> Result<Op, OpError>
-    ensures told { IsOperationParsed result (told_by (view_pairs pairs.items)) }
+    ensures told { IsOperationParsed result (op_of_pairs (view_pairs pairs.items)) }
     ensures writable { IfOk result (λ op. IsWritable op.process) }
 {
     let mut pairs = pairs;
@@ -246,7 +246,7 @@ fn op_in(alloc: Global, pairs: Vec<(Value, Value)>) -> Result<Op, OpError>
 /// Errors, in this order: `NotMap`; `MissingType`, `BadType`; `MissingF`; `MissingProcess`,
 /// `BadProcess`; `OutOfMemory`.
 pub fn op_of(alloc: Global, value: Value) -> Result<Op, OpError>
-    ensures told { IsOperationParsed result (op_told (view value)) }
+    ensures told { IsOperationParsed result (parsed_op (view value)) }
     ensures writable { IfOk result (λ op. IsWritable op.process) }
 {
     match untag(value) {

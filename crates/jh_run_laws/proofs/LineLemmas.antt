@@ -1,9 +1,9 @@
 -- The lines of a run's history tell that history.
 use Rattle.std.proofs.Common.{◌≡◌, ℕ, ◌+◌, List, [], ◌∷◌, map, refl, sym, ap, subst, ◌∙◌}
 use Rattle.std.specs.Prelude.{Ok}
-use Rattle.jh_ops.specs.HistoryText.{AreTold, elements_in}
+use Rattle.jh_ops.specs.HistoryText.{AreParsed, elements_in}
 use Rattle.jh_ops.specs.Operation.{Operation}
-use Rattle.jh_ops.specs.OperationText.{op_told}
+use Rattle.jh_ops.specs.OperationText.{parsed_op}
 use Rattle.jh_ops.specs.OperationWritten.{value_written}
 use Rattle.jh_ops.specs.declared.call.Request.{Request}
 use Rattle.jh_simnode.specs.declared.copies.Reply.{Reply}
@@ -14,7 +14,7 @@ use Rattle.jh_run_laws.proofs.PairLemmas.{Each}
 
 -- what is written of the operation tells it
 abbrev IsToldAgain : Operation → Type 0
-IsToldAgain op = op_told (value_written op) ≡ Ok op
+IsToldAgain op = parsed_op (value_written op) ≡ Ok op
 
 completion_told : (place number process : ℕ) (request : Request) (reply : Reply) → IsToldAgain (completed place number process request reply)
 completion_told place number process request (said.Ok got) = refl
@@ -28,7 +28,7 @@ all_told place number entry (Event.Call process node request draw reply ∷ es) 
 all_told place number entry (Event.Step step answer ∷ es) = (refl, (refl, all_told (place + 2) (number + 1) (entry + 1) es))
 all_told place number entry (Event.Tick ∷ es) = all_told place (number + 1) entry es
 
-told_again : (ops : List Operation) → Each IsToldAgain ops → map op_told (map value_written ops) ≡ map Ok ops
+told_again : (ops : List Operation) → Each IsToldAgain ops → map parsed_op (map value_written ops) ≡ map Ok ops
 told_again [] h = refl
 told_again (op ∷ ops) h = let first = h.0 in let rest = told_again ops h.1 in λ i. first i ∷ rest i
 
@@ -39,5 +39,5 @@ not_one place number entry (Event.Call process node request draw reply ∷ es) =
 not_one place number entry (Event.Step step answer ∷ es) = refl
 not_one place number entry (Event.Tick ∷ es) = not_one place (number + 1) entry es
 
-pub are_told : (journal : List Event) → AreTold (map value_written (history_of journal)) (history_of journal)
-are_told journal = ap (map op_told) (not_one 0 0 0 journal) ∙ told_again (history_of journal) (all_told 0 0 0 journal)
+pub are_told : (journal : List Event) → AreParsed (map value_written (history_of journal)) (history_of journal)
+are_told journal = ap (map parsed_op) (not_one 0 0 0 journal) ∙ told_again (history_of journal) (all_told 0 0 0 journal)

@@ -9,13 +9,13 @@ use Rattle.jh_env.specs.Overlay.{EnvValue}
 use Rattle.jh_env.specs.TextCells.{IsTextOf}
 use Rattle.jh_env.specs.TextLaws.{SameCells}
 use Rattle.jh_gen.specs.Generator.{Generator}
-use Rattle.jh_gen.specs.GeneratorText.{generator_told}
+use Rattle.jh_gen.specs.GeneratorText.{parsed_generator}
 use Rattle.jh_ops.specs.Operation.{Operation}
 use Rattle.jh_settings.specs.declared.keys.Key.{Key}
 use Rattle.jh_settings.specs.declared.words.Mode.{Mode}
 use Rattle.jh_settings.specs.Keys.{IsDocument, value_under}
 use Rattle.jh_settings.specs.Settings.{AreSettings, AreSettingsOf}
-use Rattle.jh_settings.specs.Told.{ScheduleOf, TellEntries, TellsEntry, TellsGenerator, TellsStart, entry_told}
+use Rattle.jh_settings.specs.Parsed.{ScheduleOf, TellEntries, TellsEntry, TellsGenerator, TellsStart, parsed_entry}
 use Rattle.jh_settings.proofs.ElementLemmas.{element_once, held_once}
 use Rattle.jh_simnode.specs.declared.events.Event.{Event}
 use Rattle.jh_simnode.specs.declared.schedule.Entry.{Entry}
@@ -38,10 +38,10 @@ one_start tells d env other h k =
 
 one_generator : (d : Members) (g f : Generator) → TellsGenerator d g → TellsGenerator d f → g ≡ f
 one_generator d g f h k =
-    same_Some g f (sym h.2 ∙ ap generator_told (held_once Key.Generator d h.0 k.0 h.1 k.1) ∙ k.2)
+    same_Some g f (sym h.2 ∙ ap parsed_generator (held_once Key.Generator d h.0 k.0 h.1 k.1) ∙ k.2)
 
 one_entry : (names : List (List ℕ)) (value : Data) (e f : Entry) → TellsEntry names value e → TellsEntry names value f → e ≡ f
-one_entry names value e f h k = same_Some e f (sym h.2 ∙ ap (entry_told names) (element_once value h.0 k.0 h.1 k.1) ∙ k.2)
+one_entry names value e f h k = same_Some e f (sym h.2 ∙ ap (parsed_entry names) (element_once value h.0 k.0 h.1 k.1) ∙ k.2)
 
 one_list : (names : List (List ℕ)) (values : Items) (es fs : List Entry) → TellEntries names values es → TellEntries names values fs → es ≡ fs
 one_list names no_items [] [] h k = refl

@@ -13,7 +13,7 @@ use Rattle.std.proofs.lemmas.Bool.{true≢false}
 use Rattle.jh_edn.specs.View.{view}
 use Rattle.jh_edn.specs.declared.value.Value.{Value}
 use Rattle.jh_settings.specs.Inside.{IsNoElement, IsElementIn, IsEntryIn}
-use Rattle.jh_settings.specs.Told.{entry_told}
+use Rattle.jh_settings.specs.Parsed.{parsed_entry}
 use Rattle.jh_simnode.specs.declared.schedule.Entry.{Entry}
 use Rattle.jh_settings.specs.Keys.{value_under}
 use Rattle.jh_settings.specs.Kinds.{IsElement, HoldsElement}
@@ -57,10 +57,10 @@ spelled_in value text is (Ok (Some element)) spelled = (text, is, spelled)
 spelled_in value text is (Err e) h = tt
 
 -- the entry of an element is that of the value that spells it
-pub entry_from : (names : List (List ℕ)) (value : Data) (x : Edn) → IsElement value x → (r : Result (Option Entry) AllocError) → IfOk r (λ entry. entry ≡ entry_told names x) → IfOk r (IsEntryIn names value)
+pub entry_from : (names : List (List ℕ)) (value : Data) (x : Edn) → IsElement value x → (r : Result (Option Entry) AllocError) → IfOk r (λ entry. entry ≡ parsed_entry names x) → IfOk r (IsEntryIn names value)
 entry_from names value x is (Ok None) none = λ entry h.
     let same : x ≡ h.0 = element_once value x h.0 is h.1 in
-    none_not entry (none ∙ ap (entry_told names) same ∙ h.2)
+    none_not entry (none ∙ ap (parsed_entry names) same ∙ h.2)
 entry_from names value x is (Ok (Some entry)) told = (x, is, sym told)
 entry_from names value x is (Err e) h = tt
 

@@ -5,7 +5,7 @@ use Rattle.toml.specs.Data.{Data, Items, no_items, item}
 use Rattle.toml.specs.View.{view, items_view}
 use Rattle.toml.specs.declared.value.Value.{Value}
 use Rattle.toml.proofs.Views.{items_view-drop}
-use Rattle.jh_settings.specs.Told.{TellsEntry, TellEntries, TellAll}
+use Rattle.jh_settings.specs.Parsed.{TellsEntry, TellEntries, TellAll}
 use Rattle.jh_simnode.specs.declared.schedule.Entry.{Entry}
 
 -- so many values are told, by these entries

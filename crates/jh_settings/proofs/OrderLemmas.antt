@@ -7,7 +7,7 @@ use Rattle.jh_simnode.specs.declared.schedule.Entry.{Entry}
 use Rattle.jh_settings.specs.Inside.{RefusesValue, Refuses, RefusesValues, TellsCluster, TellsLoad, TellsLimits, cluster_keys, load_keys, limit_keys}
 use Rattle.jh_settings.specs.Keys.{keys}
 use Rattle.jh_settings.specs.Refusals.{IsGood, AreGood, IsFirstBad}
-use Rattle.jh_settings.specs.Told.{TellsStart, store_told, workload_told, clients_told, ops_told, mode_told, volatile_told, initial_told, tick_every_told, rows_told, seed_told, budget_told, TellsSchedule}
+use Rattle.jh_settings.specs.Parsed.{TellsStart, parsed_store, parsed_workload, parsed_clients, parsed_ops, parsed_mode, parsed_volatile, parsed_initial, parsed_tick_every, parsed_rows, parsed_seed, parsed_budget, TellsSchedule}
 use Rattle.jh_settings.specs.declared.error.SettingsError.{SettingsError}
 use Rattle.jh_settings.specs.declared.error.SettingsError.TheVariants.{NotToml, Unknown, Missing, BadValue, OutOfMemory}
 use Rattle.jh_settings.specs.declared.keys.Key.{Key}
@@ -57,25 +57,25 @@ is_told o x e = subst IsSome (sym e) refl
 
 pub cluster_good : (document : Members) (cluster : Cluster) → TellsCluster document cluster → AreGood document cluster_keys
 cluster_good document cluster h =
-    let store = is_told (store_told document) cluster.store h.store in
-    let workload = is_told (workload_told document) cluster.workload h.workload in
+    let store = is_told (parsed_store document) cluster.store h.store in
+    let workload = is_told (parsed_workload document) cluster.workload h.workload in
     ((cluster.environment, h.start), (store, (workload, ((generator_of cluster.generator, h.generator), tt))))
 
 pub load_good : (document : Members) (load : Load) → TellsLoad document load → AreGood document load_keys
 load_good document load h =
-    let clients = is_told (clients_told document) load.clients h.clients in
-    let ops = is_told (ops_told document) load.ops h.ops in
-    let mode = is_told (mode_told document) load.mode h.mode in
-    let volatile = is_told (volatile_told document) load.volatile h.volatile in
-    let initial = is_told (initial_told document) load.initial h.initial in
+    let clients = is_told (parsed_clients document) load.clients h.clients in
+    let ops = is_told (parsed_ops document) load.ops h.ops in
+    let mode = is_told (parsed_mode document) load.mode h.mode in
+    let volatile = is_told (parsed_volatile document) load.volatile h.volatile in
+    let initial = is_told (parsed_initial document) load.initial h.initial in
     (clients, (ops, (mode, (volatile, (initial, tt)))))
 
 pub limits_good : (document : Members) (limits : Limits) → TellsLimits document limits → AreGood document limit_keys
 limits_good document limits h =
-    let tick_every = is_told (tick_every_told document) limits.tick_every h.tick_every in
-    let rows = is_told (rows_told document) limits.rows h.rows in
-    let seed = is_told (seed_told document) limits.seed h.seed in
-    let budget = is_told (budget_told document) limits.budget h.budget in
+    let tick_every = is_told (parsed_tick_every document) limits.tick_every h.tick_every in
+    let rows = is_told (parsed_rows document) limits.rows h.rows in
+    let seed = is_told (parsed_seed document) limits.seed h.seed in
+    let budget = is_told (parsed_budget document) limits.budget h.budget in
     (tick_every, (rows, (seed, (budget, tt))))
 
 no_schedule : (document : Members) (env : EnvValue) → TellsStart document env → (((entries : List Entry) × TellsSchedule env.names document entries) → ⊥) → IsGood document Key.Schedule → ⊥

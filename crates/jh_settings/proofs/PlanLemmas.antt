@@ -16,7 +16,7 @@ use Rattle.jh_settings.specs.Keys.{HasKnownKeys, keys, value_under}
 use Rattle.jh_settings.specs.Kinds.{whole_in, needed}
 use Rattle.jh_settings.specs.Refusals.{AreGood}
 use Rattle.jh_settings.specs.Settings.{AreSettings}
-use Rattle.jh_settings.specs.Told.{TellsSchedule, clients_told, ops_told, rows_told, workload_told}
+use Rattle.jh_settings.specs.Parsed.{TellsSchedule, parsed_clients, parsed_ops, parsed_rows, parsed_workload}
 use Rattle.jh_settings.specs.declared.error.SettingsError.{SettingsError}
 use Rattle.jh_settings.specs.declared.keys.Key.{Key}
 use Rattle.jh_settings.specs.declared.settings.Cluster.{Cluster}
@@ -45,13 +45,13 @@ default_is : (least most default : ℕ) (value : Option Data) (n : ℕ) → leas
 default_is least most default None n low high e = let same : default ≡ n = same_Some default n e in (omega (arith, same), omega (arith, same))
 default_is least most default (Some value) n low high e = whole_is least most value n e
 
-has_clients : (document : Members) (n : ℕ) → clients_told document ≡ Some n → (1 ≤ n) × (n ≤ 16)
+has_clients : (document : Members) (n : ℕ) → parsed_clients document ≡ Some n → (1 ≤ n) × (n ≤ 16)
 has_clients document n e = needed_is 1 16 (value_under Key.Clients document) n e
 
-has_rows : (document : Members) (n : ℕ) → rows_told document ≡ Some n → (1 ≤ n) × (n ≤ 65536)
+has_rows : (document : Members) (n : ℕ) → parsed_rows document ≡ Some n → (1 ≤ n) × (n ≤ 65536)
 has_rows document n e = default_is 1 65536 4096 (value_under Key.Rows document) n (omega arith) (omega arith) e
 
-has_ops : (document : Members) (workload : Workload) (n : ℕ) → workload_told document ≡ Some workload → ops_told document ≡ Some n → (1 ≤ n) × (n ≤ max_ops workload)
+has_ops : (document : Members) (workload : Workload) (n : ℕ) → parsed_workload document ≡ Some workload → parsed_ops document ≡ Some n → (1 ≤ n) × (n ≤ max_ops workload)
 has_ops document workload n told e =
     let known : needed (whole_in 1 (max_ops workload)) Key.Ops document ≡ Some n =
     sym (ap (option_and_then (λ w. needed (whole_in 1 (max_ops w)) Key.Ops document)) told) ∙ e in

@@ -16,7 +16,7 @@ use Rattle.jh_env.specs.declared.texts.EnvTextError.{EnvTextError}
 use Rattle.jh_env.specs.declared.texts.EnvTextError.TheVariants.{NotMap, UnknownKey, MissingNodes, BadEntry, NoNodes, TooManyNodes, BadName, DuplicateName, UnknownNode, SelfLink, BadAmount, RepeatedEntry, OutOfMemory}
 use Rattle.jh_settings.specs.Inside.{RefusesValue, start_refusal}
 use Rattle.jh_settings.specs.Kinds.{HoldsElement}
-use Rattle.jh_settings.specs.Told.{TellsStart}
+use Rattle.jh_settings.specs.Parsed.{TellsStart}
 use Rattle.jh_settings.specs.declared.keys.Key.{Key}
 use Rattle.jh_settings.proofs.ElementLemmas.{held_once, none_not}
 

@@ -11,7 +11,7 @@ use Rattle.jh_simnode.specs.declared.schedule.Entry.{Entry}
 use Rattle.jh_settings.specs.declared.error.SettingsError.{SettingsError}
 use Rattle.jh_settings.specs.declared.error.SettingsError.TheVariants.{NotToml, Unknown, Missing, BadValue, OutOfMemory}
 use Rattle.jh_settings.specs.Kinds.{IsElement}
-use Rattle.jh_settings.specs.Told.{TellsEntry, TellsStart, store_told, workload_told, TellsGenerator, clients_told, ops_told, mode_told, volatile_told, initial_told, tick_every_told, rows_told, seed_told, budget_told}
+use Rattle.jh_settings.specs.Parsed.{TellsEntry, TellsStart, parsed_store, parsed_workload, TellsGenerator, parsed_clients, parsed_ops, parsed_mode, parsed_volatile, parsed_initial, parsed_tick_every, parsed_rows, parsed_seed, parsed_budget}
 use Rattle.jh_settings.specs.Refusals.{IsFirstBad}
 use Rattle.jh_settings.specs.Settings.{IsBadValue}
 use Rattle.jh_settings.specs.Keys.{IsDocument, HasKnownKeys, IsFirstUnknown, first_missing}
@@ -61,28 +61,28 @@ cluster_keys = Key.Start ∷ Key.Store ∷ Key.Workload ∷ Key.Generator ∷ []
 
 pub record TellsCluster (document : Members) (cluster : Cluster) : Type 0 where
   pub start : TellsStart document cluster.environment
-  pub store : store_told document ≡ Some cluster.store
-  pub workload : workload_told document ≡ Some cluster.workload
+  pub store : parsed_store document ≡ Some cluster.store
+  pub workload : parsed_workload document ≡ Some cluster.workload
   pub generator : TellsGenerator document (generator_of cluster.generator)
 
 abbrev pub load_keys : List Key
 load_keys = Key.Clients ∷ Key.Ops ∷ Key.Mode ∷ Key.Volatile ∷ Key.Initial ∷ []
 
 pub record TellsLoad (document : Members) (load : Load) : Type 0 where
-  pub clients : clients_told document ≡ Some load.clients
-  pub ops : ops_told document ≡ Some load.ops
-  pub mode : mode_told document ≡ Some load.mode
-  pub volatile : volatile_told document ≡ Some load.volatile
-  pub initial : initial_told document ≡ Some load.initial
+  pub clients : parsed_clients document ≡ Some load.clients
+  pub ops : parsed_ops document ≡ Some load.ops
+  pub mode : parsed_mode document ≡ Some load.mode
+  pub volatile : parsed_volatile document ≡ Some load.volatile
+  pub initial : parsed_initial document ≡ Some load.initial
 
 abbrev pub limit_keys : List Key
 limit_keys = Key.TickEvery ∷ Key.Rows ∷ Key.Seed ∷ Key.Budget ∷ []
 
 pub record TellsLimits (document : Members) (limits : Limits) : Type 0 where
-  pub tick_every : tick_every_told document ≡ Some limits.tick_every
-  pub rows : rows_told document ≡ Some limits.rows
-  pub seed : seed_told document ≡ Some limits.seed
-  pub budget : budget_told document ≡ Some limits.budget
+  pub tick_every : parsed_tick_every document ≡ Some limits.tick_every
+  pub rows : parsed_rows document ≡ Some limits.rows
+  pub seed : parsed_seed document ≡ Some limits.seed
+  pub budget : parsed_budget document ≡ Some limits.budget
 
 -- why bytes are no table
 abbrev pub RefusesBytes : List ℕ → SettingsError → Type 0

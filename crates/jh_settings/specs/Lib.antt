@@ -1,7 +1,7 @@
 pub mod Keys
 pub mod Shown
 pub mod Kinds
-pub mod Told
+pub mod Parsed
 pub mod Refusals
 pub mod Settings
 pub mod Inside

@@ -5,24 +5,24 @@ use Rattle.jh_env.specs.Overlay.{EnvValue}
 use Rattle.jh_gen.specs.Generator.{Generator}
 use Rattle.jh_simnode.specs.declared.schedule.Entry.{Entry}
 use Rattle.jh_settings.specs.declared.keys.Key.{Key}
-use Rattle.jh_settings.specs.Told.{TellsStart, store_told, workload_told, TellsGenerator, clients_told, ops_told, mode_told, volatile_told, initial_told, tick_every_told, rows_told, seed_told, budget_told, TellsSchedule}
+use Rattle.jh_settings.specs.Parsed.{TellsStart, parsed_store, parsed_workload, TellsGenerator, parsed_clients, parsed_ops, parsed_mode, parsed_volatile, parsed_initial, parsed_tick_every, parsed_rows, parsed_seed, parsed_budget, TellsSchedule}
 
 -- The value under a key is good by itself; a key that may be missing is good where it is. How many calls there are and what is
 -- held at first is looked at beside the workload, and the schedule beside the nodes of the start.
 abbrev pub IsGood : Members → Key → Type 0
 IsGood document Key.Start = (env : EnvValue) × TellsStart document env
-IsGood document Key.Store = IsSome (store_told document)
-IsGood document Key.Workload = IsSome (workload_told document)
+IsGood document Key.Store = IsSome (parsed_store document)
+IsGood document Key.Workload = IsSome (parsed_workload document)
 IsGood document Key.Generator = (g : Generator) × TellsGenerator document g
-IsGood document Key.Clients = IsSome (clients_told document)
-IsGood document Key.Ops = IsSome (ops_told document)
-IsGood document Key.Mode = IsSome (mode_told document)
-IsGood document Key.Volatile = IsSome (volatile_told document)
-IsGood document Key.Initial = IsSome (initial_told document)
-IsGood document Key.TickEvery = IsSome (tick_every_told document)
-IsGood document Key.Rows = IsSome (rows_told document)
-IsGood document Key.Seed = IsSome (seed_told document)
-IsGood document Key.Budget = IsSome (budget_told document)
+IsGood document Key.Clients = IsSome (parsed_clients document)
+IsGood document Key.Ops = IsSome (parsed_ops document)
+IsGood document Key.Mode = IsSome (parsed_mode document)
+IsGood document Key.Volatile = IsSome (parsed_volatile document)
+IsGood document Key.Initial = IsSome (parsed_initial document)
+IsGood document Key.TickEvery = IsSome (parsed_tick_every document)
+IsGood document Key.Rows = IsSome (parsed_rows document)
+IsGood document Key.Seed = IsSome (parsed_seed document)
+IsGood document Key.Budget = IsSome (parsed_budget document)
 IsGood document Key.Schedule =
     (env : EnvValue) × (entries : List Entry) × TellsStart document env × TellsSchedule env.names document entries
 

@@ -10,25 +10,25 @@ use Rattle.jh_settings.specs.declared.error.SettingsError.TheVariants.{NotToml, 
 use Rattle.jh_settings.specs.declared.keys.Key.{Key}
 use Rattle.jh_settings.specs.declared.words.Mode.{Mode}
 use Rattle.jh_settings.specs.Keys.{IsDocument, HasKnownKeys, IsFirstUnknown, first_missing, keys}
-use Rattle.jh_settings.specs.Told.{TellsStart, store_told, workload_told, TellsGenerator, clients_told, ops_told, mode_told, volatile_told, initial_told, tick_every_told, rows_told, seed_told, budget_told, TellsSchedule}
+use Rattle.jh_settings.specs.Parsed.{TellsStart, parsed_store, parsed_workload, TellsGenerator, parsed_clients, parsed_ops, parsed_mode, parsed_volatile, parsed_initial, parsed_tick_every, parsed_rows, parsed_seed, parsed_budget, TellsSchedule}
 use Rattle.jh_settings.specs.Refusals.{AreGood, IsFirstBad}
 
 -- a document tells this plan, in which mode it is run, and how many tries a judgement has
 pub record AreSettings (document : Members) (plan : PlanValue) (run_mode : Mode) (tries : ℕ) : Type 0 where
   pub known : HasKnownKeys document
   pub start : TellsStart document plan.env
-  pub store : store_told document ≡ Some plan.settings.store
-  pub workload : workload_told document ≡ Some plan.settings.workload
+  pub store : parsed_store document ≡ Some plan.settings.store
+  pub workload : parsed_workload document ≡ Some plan.settings.workload
   pub generator : TellsGenerator document plan.generator
-  pub clients : clients_told document ≡ Some plan.clients
-  pub ops : ops_told document ≡ Some plan.ops
-  pub mode : mode_told document ≡ Some run_mode
-  pub volatile : volatile_told document ≡ Some plan.settings.volatile
-  pub initial : initial_told document ≡ Some plan.settings.initial
-  pub tick_every : tick_every_told document ≡ Some plan.tick_every
-  pub rows : rows_told document ≡ Some plan.rows
-  pub seed : seed_told document ≡ Some plan.seed
-  pub budget : budget_told document ≡ Some tries
+  pub clients : parsed_clients document ≡ Some plan.clients
+  pub ops : parsed_ops document ≡ Some plan.ops
+  pub mode : parsed_mode document ≡ Some run_mode
+  pub volatile : parsed_volatile document ≡ Some plan.settings.volatile
+  pub initial : parsed_initial document ≡ Some plan.settings.initial
+  pub tick_every : parsed_tick_every document ≡ Some plan.tick_every
+  pub rows : parsed_rows document ≡ Some plan.rows
+  pub seed : parsed_seed document ≡ Some plan.seed
+  pub budget : parsed_budget document ≡ Some tries
   pub schedule : TellsSchedule plan.env.names document plan.schedule
   pub fit : IsFit plan
 
@@ -40,8 +40,8 @@ AreSettingsOf bytes plan mode tries =
 -- each value is good by itself, but the generator does not suit the workload and the number of clients
 abbrev pub IsUnsuited : Members → Type 0
 IsUnsuited document =
-    (workload : Workload) × (clients : ℕ) × (g : Generator) × AreGood document keys × (workload_told document ≡ Some workload)
-    × (clients_told document ≡ Some clients) × TellsGenerator document g × (suits workload clients g ≡ true → ⊥)
+    (workload : Workload) × (clients : ℕ) × (g : Generator) × AreGood document keys × (parsed_workload document ≡ Some workload)
+    × (parsed_clients document ≡ Some clients) × TellsGenerator document g × (suits workload clients g ≡ true → ⊥)
 
 -- the first value that is bad by itself, and then the generator
 abbrev pub IsBadValue : Members → Key → Type 0

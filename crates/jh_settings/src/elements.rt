@@ -16,8 +16,8 @@ ghost use Rattle.jh_simnode.specs.declared.schedule.Entry.{Entry};
 ghost use Rattle.jh_settings.specs.Inside.{IsElementIn, IsEntryIn, IsNoElement, RefusesValue};
 ghost use Rattle.jh_settings.specs.Inside.{start_refusal};
 ghost use Rattle.jh_settings.specs.Kinds.{HoldsElement};
-ghost use Rattle.jh_settings.specs.Told as rule;
-ghost use Rattle.jh_settings.specs.Told.{TellAll, TellsGenerator, TellsSchedule, TellsStart};
+ghost use Rattle.jh_settings.specs.Parsed as rule;
+ghost use Rattle.jh_settings.specs.Parsed.{TellAll, TellsGenerator, TellsSchedule, TellsStart};
 
 use crate::error::SettingsError;
 use crate::keys::Key;
@@ -160,8 +160,8 @@ fn due_of(at: i64) -> Option<u32>
 }
 
 // The entry that an element tells.
-fn entry_told(alloc: Global, nodes: &Nodes, element: &Value) -> Result<Option<Entry>, AllocError>
-    ensures told { IfOk result (λ entry. entry ≡ rule.entry_told nodes.now (view element.now)) }
+fn parsed_entry(alloc: Global, nodes: &Nodes, element: &Value) -> Result<Option<Entry>, AllocError>
+    ensures told { IfOk result (λ entry. entry ≡ rule.parsed_entry nodes.now (view element.now)) }
     ensures fits { IfOk result (λ found. IfSome found (λ entry. FitsNodes (length nodes.now) entry.step)) }
 {
     let Some([Value::Int(at), step]) = element.elements() else {
@@ -183,7 +183,7 @@ fn entry_of(alloc: Global, nodes: &Nodes, value: &toml::Value) -> Result<Option<
     ensures fits { IfOk result (λ found. IfSome found (λ entry. FitsNodes (length nodes.now) entry.step)) }
 {
     match element_in(alloc, value)? {
-        Some(element) => entry_told(alloc, nodes, &element),
+        Some(element) => parsed_entry(alloc, nodes, &element),
         None => Ok(None),
     }
 }

@@ -11,7 +11,7 @@ ghost use Rattle.jh_settings.specs.Inside.{cluster_keys, limit_keys, load_keys, 
 ghost use Rattle.jh_settings.specs.Keys as rule;
 ghost use Rattle.jh_settings.specs.Keys.{HasKnownKeys, IsDocument};
 ghost use Rattle.jh_settings.specs.Settings.{AreSettings, AreSettingsOf, RefusesSettings};
-ghost use Rattle.jh_settings.specs.Told.{workload_told};
+ghost use Rattle.jh_settings.specs.Parsed.{parsed_workload};
 
 use crate::elements::{generator_under, schedule_under, start_under};
 use crate::error::{KeyText, SettingsError};
@@ -86,7 +86,7 @@ fn cluster_of(alloc: Global, table: &Table) -> Result<Cluster, SettingsError>
 }
 
 fn load_of(table: &Table, workload: Workload) -> Result<Load, SettingsError>
-    requires { workload_told (table_view table.now) ≡ Some workload }
+    requires { parsed_workload (table_view table.now) ≡ Some workload }
     ensures { MatchResult result
         (TellsLoad (table_view table.now))
         (Refuses (table_view table.now) load_keys) }

@@ -1,12 +1,12 @@
-//! Settings whose values are words, numbers and truth values. `specs/Told.antt` says what each tells.
+//! Settings whose values are words, numbers and truth values. `specs/Parsed.antt` says what each tells.
 
 ghost use Rattle.std.specs.Prelude.{◌≡◌, MatchResult};
 ghost use Rattle.toml.specs.View.{table_view};
 ghost use Rattle.jh_simnode.specs.Plans as plan;
 ghost use Rattle.jh_settings.specs.Inside.{IsValueParsed};
 ghost use Rattle.jh_settings.specs.Keys.{value_under};
-ghost use Rattle.jh_settings.specs.Told as rule;
-ghost use Rattle.jh_settings.specs.Told.{initial_of, mode_told, store_told, workload_told};
+ghost use Rattle.jh_settings.specs.Parsed as rule;
+ghost use Rattle.jh_settings.specs.Parsed.{initial_of, parsed_mode, parsed_store, parsed_workload};
 
 use crate::error::SettingsError;
 use crate::keys::Key;
@@ -37,7 +37,7 @@ fn store_of(word: &str) -> Option<Store>
 
 /// The store under `store`.
 pub(crate) fn store_under(table: &Table) -> Result<Store, SettingsError>
-    ensures { IsValueParsed result Key.Store (store_told (table_view table.now)) }
+    ensures { IsValueParsed result Key.Store (parsed_store (table_view table.now)) }
 {
     let Some(word) = text_under(table, Key::Store) else {
         return Err(SettingsError::BadValue(Key::Store));
@@ -62,7 +62,7 @@ fn workload_of(word: &str) -> Option<Workload>
 
 /// The workload under `workload`.
 pub(crate) fn workload_under(table: &Table) -> Result<Workload, SettingsError>
-    ensures { IsValueParsed result Key.Workload (workload_told (table_view table.now)) }
+    ensures { IsValueParsed result Key.Workload (parsed_workload (table_view table.now)) }
 {
     let Some(word) = text_under(table, Key::Workload) else {
         return Err(SettingsError::BadValue(Key::Workload));
@@ -96,7 +96,7 @@ fn mode_of(word: &str) -> Option<Mode>
 
 /// The mode under `mode`, and threads where nothing stands there.
 pub(crate) fn mode_under(table: &Table) -> Result<Mode, SettingsError>
-    ensures { IsValueParsed result Key.Mode (mode_told (table_view table.now)) }
+    ensures { IsValueParsed result Key.Mode (parsed_mode (table_view table.now)) }
 {
     let Some(value) = value_under(table, Key::Mode) else {
         return Ok(Mode::Threads);

@@ -3,7 +3,7 @@
 ghost use Rattle.std.specs.Prelude.{◌≡◌, option_map};
 ghost use Rattle.jh_edn.specs.View.{view, views};
 ghost use Rattle.jh_env.specs.Text as text;
-ghost use Rattle.jh_env.specs.TextInside.{entry_said};
+ghost use Rattle.jh_env.specs.TextInside.{entry_parsed};
 
 use jh_edn::Value;
 
@@ -68,13 +68,13 @@ impl Section {
 
     /// The entry that a value spells under this key.
     pub fn entry_in(self, value: &Value) -> Option<Entry<'_>>
-        ensures { option_map entry_said result ≡ text.entry_in self (view value.now) }
+        ensures { option_map entry_parsed result ≡ text.entry_in self (view value.now) }
     {
         self.entry_of(value.elements()?)
     }
 
     fn entry_of(self, elements: &[Value]) -> Option<Entry<'_>>
-        ensures { option_map entry_said result ≡ text.entry_of self (views elements.now) }
+        ensures { option_map entry_parsed result ≡ text.entry_of self (views elements.now) }
     {
         match (self, elements) {
             (Section::Cut, [Value::Str(from), Value::Str(to)]) => {

@@ -5,7 +5,7 @@ ghost use Rattle.std.specs.List.{list_any, list_all};
 ghost use Rattle.jh_edn.specs.View.{view, views, view_pair, view_pairs};
 ghost use Rattle.jh_env.specs.Text as text;
 ghost use Rattle.jh_env.specs.Text.{nodes_keyword, sections};
-ghost use Rattle.jh_env.specs.TextInside.{entries_said, with_front, RefusesShape};
+ghost use Rattle.jh_env.specs.TextInside.{entries_parsed, with_front, RefusesShape};
 
 use super::EnvTextError;
 use super::entries::{Entry, SECTIONS, Section};
@@ -95,7 +95,7 @@ pub fn names_of(alloc: Global, value: &Value) -> Result<Vec<&str>, EnvTextError>
 /// All entries, section by section.
 pub fn all_entries(alloc: Global, pairs: &[(Value, Value)]) -> Result<Vec<Entry<'_>>, EnvTextError>
     ensures { MatchResult result
-        (λ entries. text.all_entries (view_pairs pairs.now) ≡ Some (entries_said entries.items))
+        (λ entries. text.all_entries (view_pairs pairs.now) ≡ Some (entries_parsed entries.items))
         (RefusesShape (text.all_entries (view_pairs pairs.now))) }
 {
     let mut entries = Vec::new(alloc);
@@ -111,7 +111,7 @@ fn push_section<'a>(
     entries: &mut Vec<Entry<'a>>,
 ) -> Result<(), EnvTextError>
     ensures { MatchResult result
-        (λ _. with_front (entries_said entries.old.items) (text.entries_under (view_pairs pairs.now) section) ≡ Some (entries_said entries.new.items))
+        (λ _. with_front (entries_parsed entries.old.items) (text.entries_under (view_pairs pairs.now) section) ≡ Some (entries_parsed entries.new.items))
         (RefusesShape (text.entries_under (view_pairs pairs.now) section)) }
 {
     match value_under(section.keyword(), pairs) {
@@ -126,7 +126,7 @@ fn push_entries<'a>(
     entries: &mut Vec<Entry<'a>>,
 ) -> Result<(), EnvTextError>
     ensures { MatchResult result
-        (λ _. with_front (entries_said entries.old.items) (text.entries_of section (view value.now)) ≡ Some (entries_said entries.new.items))
+        (λ _. with_front (entries_parsed entries.old.items) (text.entries_of section (view value.now)) ≡ Some (entries_parsed entries.new.items))
         (RefusesShape (text.entries_of section (view value.now))) }
 {
     let elements = value.elements().ok_or(EnvTextError::BadEntry)?;

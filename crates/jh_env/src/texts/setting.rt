@@ -5,10 +5,10 @@ ghost use Rattle.std.specs.Prelude.{◌≡◌, Some, None, MatchResult, if◌the
 ghost use Rattle.std.specs.List.{list_any};
 ghost use Rattle.jh_env.specs.Starting.{IsCalm};
 ghost use Rattle.jh_env.specs.Text.{OfLink, OfNode};
-ghost use Rattle.jh_env.specs.TextCells.{AreTold, link_with, node_with};
+ghost use Rattle.jh_env.specs.TextCells.{AreCellsOf, link_with, node_with};
 ghost use Rattle.jh_env.specs.TextErrors as rule;
 ghost use Rattle.jh_env.specs.TextErrors.{place_of, entry_error, AreSound, HasEntryError};
-ghost use Rattle.jh_env.specs.TextInside.{entry_said, entries_said, fits_link, AreStarting, SetsEntry};
+ghost use Rattle.jh_env.specs.TextInside.{entry_parsed, entries_parsed, fits_link, AreStarting, SetsEntry};
 
 use super::EnvTextError;
 use super::entries::{Entry, LinkChange, NodeChange};
@@ -85,7 +85,7 @@ impl NodeChange {
 
 /// Whether both name the same link or node under one key.
 fn repeats(entry: &Entry, other: &Entry) -> bool
-    ensures { result ≡ rule.repeats (entry_said entry.now) (entry_said other.now) }
+    ensures { result ≡ rule.repeats (entry_parsed entry.now) (entry_parsed other.now) }
 {
     match (*entry, *other) {
         (Entry::Link(a, b, change), Entry::Link(c, d, other)) => a == c
@@ -97,7 +97,7 @@ fn repeats(entry: &Entry, other: &Entry) -> bool
 }
 
 fn is_repeated(before: &[Entry], entry: &Entry) -> bool
-    ensures { result ≡ list_any (λ other. rule.repeats (entry_said entry.now) (entry_said other)) before.now }
+    ensures { result ≡ list_any (λ other. rule.repeats (entry_parsed entry.now) (entry_parsed other)) before.now }
 {
     before.iter().any(|other| repeats(entry, other))
 }
@@ -139,9 +139,9 @@ fn set_node(start: &mut Start, name: &str, change: NodeChange) -> Result<(), Env
 fn set_entry(start: &mut Start, entry: &Entry) -> Result<(), EnvTextError>
     requires { AreStarting start.old }
     ensures { MatchResult result
-        (λ _. (entry_error start.old.names (entry_said entry.now) ≡ None)
-        × SetsEntry start.old (entry_said entry.now) start.new)
-        (λ e. entry_error start.old.names (entry_said entry.now) ≡ Some e) }
+        (λ _. (entry_error start.old.names (entry_parsed entry.now) ≡ None)
+        × SetsEntry start.old (entry_parsed entry.now) start.new)
+        (λ e. entry_error start.old.names (entry_parsed entry.now) ≡ Some e) }
 {
     match *entry {
         Entry::Link(from, to, change) => set_link(start, from, to, change),
@@ -154,9 +154,9 @@ pub fn set_all(start: &mut Start, entries: &[Entry]) -> Result<(), EnvTextError>
     requires { IsCalm start.old }
     ensures { MatchResult result
         (λ _. (start.new.names ≡ start.old.names)
-        × AreSound start.old.names (entries_said entries.now)
-        × AreTold start.old.names (entries_said entries.now) start.new.cells)
-        (HasEntryError start.old.names (entries_said entries.now)) }
+        × AreSound start.old.names (entries_parsed entries.now)
+        × AreCellsOf start.old.names (entries_parsed entries.now) start.new.cells)
+        (HasEntryError start.old.names (entries_parsed entries.now)) }
 {
     for (place, entry) in entries.iter().enumerate() {
         set_entry(start, entry)?;

@@ -8,7 +8,7 @@ ghost use Rattle.jh_tables.specs.Standing.{IsLinkInRange};
 ghost use Rattle.jh_env.specs.Text.{nodes_keyword, sections};
 ghost use Rattle.jh_env.specs.TextWritten as text;
 ghost use Rattle.jh_env.specs.TextWritten.{edn_of_entry};
-ghost use Rattle.jh_env.specs.TextInside.{entry_said, entries_said};
+ghost use Rattle.jh_env.specs.TextInside.{entry_parsed, entries_parsed};
 
 use super::entries::{Entry, LinkChange, NodeChange, SECTIONS, Section};
 use crate::environment::Env;
@@ -45,7 +45,7 @@ impl Section {
 }
 
 fn link_entry(env: &Env, section: Section, from: Node, to: Node) -> Option<Entry<'_>>
-    ensures { option_map entry_said result ≡ text.link_entry env.now section from to }
+    ensures { option_map entry_parsed result ≡ text.link_entry env.now section from to }
 {
     let source = env.nodes().name(from)?;
     let destination = env.nodes().name(to)?;
@@ -54,7 +54,7 @@ fn link_entry(env: &Env, section: Section, from: Node, to: Node) -> Option<Entry
 }
 
 fn node_entry(env: &Env, section: Section, node: Node) -> Option<Entry<'_>>
-    ensures { option_map entry_said result ≡ text.node_entry env.now section node }
+    ensures { option_map entry_parsed result ≡ text.node_entry env.now section node }
 {
     let name = env.nodes().name(node)?;
     let cell = env.node(node)?;
@@ -68,8 +68,8 @@ fn push_links_from<'a>(
     nodes: &[Node],
     entries: &mut Vec<Entry<'a>>,
 ) -> Result<(), AllocError>
-    ensures { OnOk result (entries_said entries.new.items
-        ≡ entries_said entries.old.items ++ filter_map (text.link_entry env.now section from) nodes.now) }
+    ensures { OnOk result (entries_parsed entries.new.items
+        ≡ entries_parsed entries.old.items ++ filter_map (text.link_entry env.now section from) nodes.now) }
 {
     for to in nodes {
         if let Some(entry) = link_entry(env, section, from, *to) {
@@ -85,8 +85,8 @@ fn push_links<'a>(
     nodes: &[Node],
     entries: &mut Vec<Entry<'a>>,
 ) -> Result<(), AllocError>
-    ensures { OnOk result (entries_said entries.new.items
-        ≡ entries_said entries.old.items ++ flat_map (λ from. filter_map (text.link_entry env.now section from) nodes.now) nodes.now) }
+    ensures { OnOk result (entries_parsed entries.new.items
+        ≡ entries_parsed entries.old.items ++ flat_map (λ from. filter_map (text.link_entry env.now section from) nodes.now) nodes.now) }
 {
     for from in nodes {
         push_links_from(env, section, *from, nodes, entries)?;
@@ -100,8 +100,8 @@ fn push_nodes<'a>(
     nodes: &[Node],
     entries: &mut Vec<Entry<'a>>,
 ) -> Result<(), AllocError>
-    ensures { OnOk result (entries_said entries.new.items
-        ≡ entries_said entries.old.items ++ filter_map (text.node_entry env.now section) nodes.now) }
+    ensures { OnOk result (entries_parsed entries.new.items
+        ≡ entries_parsed entries.old.items ++ filter_map (text.node_entry env.now section) nodes.now) }
 {
     for node in nodes {
         if let Some(entry) = node_entry(env, section, *node) {
@@ -125,7 +125,7 @@ fn all_nodes(alloc: Global, nodes: &Nodes) -> Result<Vec<Node>, AllocError>
 
 /// The entries under a key: by source and then by destination, or by node.
 fn entries_of(alloc: Global, env: &Env, section: Section) -> Result<Vec<Entry<'_>>, AllocError>
-    ensures { IfOk result (λ entries. entries_said entries.items ≡ text.entries_written env.now section) }
+    ensures { IfOk result (λ entries. entries_parsed entries.items ≡ text.entries_written env.now section) }
 {
     let nodes = all_nodes(alloc, env.nodes())?;
     let mut entries = Vec::new(alloc);
@@ -149,7 +149,7 @@ pub fn keyword(alloc: Global, name: &str) -> Result<Value, AllocError>
 }
 
 fn entry_value(alloc: Global, entry: &Entry) -> Result<Value, AllocError>
-    ensures { IfOk result (λ value. view value ≡ edn_of_entry (entry_said entry.now)) }
+    ensures { IfOk result (λ value. view value ≡ edn_of_entry (entry_parsed entry.now)) }
 {
     let mut values = Vec::new(alloc);
     match *entry {
@@ -175,7 +175,7 @@ fn entry_value(alloc: Global, entry: &Entry) -> Result<Value, AllocError>
 }
 
 fn entry_values(alloc: Global, entries: &[Entry]) -> Result<Vec<Value>, AllocError>
-    ensures { IfOk result (λ values. views values.items ≡ map edn_of_entry (entries_said entries.now)) }
+    ensures { IfOk result (λ values. views values.items ≡ map edn_of_entry (entries_parsed entries.now)) }
 {
     let mut values = Vec::new(alloc);
     for entry in entries {

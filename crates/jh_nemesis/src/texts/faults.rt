@@ -5,12 +5,12 @@ ghost use Rattle.std.specs.List.{filter_map, list_all, list_any};
 ghost use Rattle.jh_edn.specs.View.{view, views, view_pair, view_pairs};
 ghost use Rattle.jh_env.specs.Faults.{FitsCount, AreLinksOf, RefusesNodes, is_self_link};
 ghost use Rattle.jh_nemesis.specs.FaultText as rule;
-ghost use Rattle.jh_nemesis.specs.FaultText.{IsPartParsed, IsRingOverAll, fault_told, links_told, nodes_told, bumps_told};
+ghost use Rattle.jh_nemesis.specs.FaultText.{IsPartParsed, IsRingOverAll, parsed_fault, parsed_links, parsed_nodes, parsed_bumps};
 ghost use Rattle.jh_nemesis.specs.ShapeInside.{said};
 
 use super::StepTextError;
 use super::named::{named_fault, split_fault};
-use super::shapes::{OnLinks, OnNodes, Shape, bump_said, link_names, node_name};
+use super::shapes::{OnLinks, OnNodes, Shape, bump_spelled, link_names, node_name};
 use jh_edn::Value;
 use jh_env::{Fault, FaultError, MAX_BUMPED, MAX_FIXED, MAX_LOSS, MAX_SLOWED, Node, Nodes};
 use std::alloc::{AllocError, Global};
@@ -32,7 +32,7 @@ fn node_of(nodes: &Nodes, node: &Value) -> Option<Node>
 fn bump_of(nodes: &Nodes, bump: &(Value, Value)) -> Option<(Node, i64)>
     ensures { result ≡ rule.bump_of nodes.now (view_pair bump.now) }
 {
-    let (name, ms) = bump_said(bump)?;
+    let (name, ms) = bump_spelled(bump)?;
     Some((nodes.find(name)?, ms))
 }
 
@@ -193,7 +193,7 @@ fn on_links(
     effect: OnLinks,
     links: &[Value],
 ) -> Result<Fault, StepTextError>
-    ensures told { IsPartParsed result (links_told nodes.now effect (views links.now)) }
+    ensures told { IsPartParsed result (parsed_links nodes.now effect (views links.now)) }
     ensures fits { IfOk result (FitsCount (length nodes.now)) }
 {
     if is_any_end_unknown(nodes, links) {
@@ -220,7 +220,7 @@ fn on_nodes(
     effect: OnNodes,
     named: &[Value],
 ) -> Result<Fault, StepTextError>
-    ensures told { IsPartParsed result (nodes_told nodes.now effect (views named.now)) }
+    ensures told { IsPartParsed result (parsed_nodes nodes.now effect (views named.now)) }
     ensures fits { IfOk result (FitsCount (length nodes.now)) }
 {
     if is_any_node_unknown(nodes, named) {
@@ -236,7 +236,7 @@ fn on_nodes(
 }
 
 fn of_bumps(alloc: Global, nodes: &Nodes, bumps: &[(Value, Value)]) -> Result<Fault, StepTextError>
-    ensures told { IsPartParsed result (bumps_told nodes.now (view_pairs bumps.now)) }
+    ensures told { IsPartParsed result (parsed_bumps nodes.now (view_pairs bumps.now)) }
     ensures fits { IfOk result (FitsCount (length nodes.now)) }
 {
     if is_any_bump_unknown(nodes, bumps) {
@@ -256,7 +256,7 @@ fn of_bumps(alloc: Global, nodes: &Nodes, bumps: &[(Value, Value)]) -> Result<Fa
 
 /// The fault of this shape, if its nodes are known and its amounts are in their ranges.
 pub fn fault_of(alloc: Global, nodes: &Nodes, shape: Shape) -> Result<Fault, StepTextError>
-    ensures told { IsPartParsed result (fault_told nodes.now (said shape.entry)) }
+    ensures told { IsPartParsed result (parsed_fault nodes.now (said shape.entry)) }
     ensures ring { IfOk result (λ _. IsRingOverAll (length nodes.now) (Some (said shape.entry))) }
     ensures fits { IfOk result (FitsCount (length nodes.now)) }
 {

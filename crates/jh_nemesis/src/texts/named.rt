@@ -2,7 +2,7 @@
 
 ghost use Rattle.std.specs.Prelude.{◌≡◌, ◌<◌, IfOk, IfSome, IsPermutation, IsSome, MatchOption, MatchResult, None, Some, length};
 ghost use Rattle.jh_env.specs.Faults.{FitsCount};
-ghost use Rattle.jh_nemesis.specs.FaultText.{IsPartParsed, cut_of, named_told, split_told};
+ghost use Rattle.jh_nemesis.specs.FaultText.{IsPartParsed, cut_of, parsed_named, parsed_split};
 ghost use Rattle.jh_nemesis.specs.declared.texts.StepTextError.TheVariants.{OutOfMemory};
 ghost use Rattle.jh_nemesis.specs.NamedFaults.{
   AreLinksAmong,
@@ -172,7 +172,7 @@ fn cut(alloc: Global, nodes: &Nodes, grudge: &Grudge) -> Result<Fault, StepTextE
 
 /// The cut of the grudge of this name.
 pub fn named_fault(alloc: Global, nodes: &Nodes, named: Named) -> Result<Fault, StepTextError>
-    ensures told { IsPartParsed result (named_told (length nodes.now) named) }
+    ensures told { IsPartParsed result (parsed_named (length nodes.now) named) }
     ensures all { IfOk result (λ _. IsOverAll (length nodes.now) named) }
     ensures fits { IfOk result (FitsCount (length nodes.now)) }
 {
@@ -183,7 +183,7 @@ pub fn named_fault(alloc: Global, nodes: &Nodes, named: Named) -> Result<Fault, 
 
 /// The cut that leaves the node of this name alone.
 pub fn split_fault(alloc: Global, nodes: &Nodes, loner: &str) -> Result<Fault, StepTextError>
-    ensures told { IsPartParsed result (split_told nodes.now loner.now) }
+    ensures told { IsPartParsed result (parsed_split nodes.now loner.now) }
     ensures fits { IfOk result (FitsCount (length nodes.now)) }
 {
     let loner = nodes.find(loner).ok_or(StepTextError::UnknownNode)?;

@@ -68,8 +68,8 @@ pub fn node_name(node: &Value) -> Option<&str>
 }
 
 /// The name of a node and by how much its clock is moved.
-pub fn bump_said(bump: &(Value, Value)) -> Option<(&str, i64)>
-    ensures { option_map (λ b. (b.0.now, b.1)) result ≡ rule.bump_said (view_pair bump.now) }
+pub fn bump_spelled(bump: &(Value, Value)) -> Option<(&str, i64)>
+    ensures { option_map (λ b. (b.0.now, b.1)) result ≡ rule.bump_spelled (view_pair bump.now) }
 {
     match (&bump.0, &bump.1) {
         (Value::Str(name), Value::Int(ms)) => Some((name.as_str(), *ms)),
@@ -90,9 +90,9 @@ fn is_node(node: &Value) -> bool
 }
 
 fn is_bump(bump: &(Value, Value)) -> bool
-    ensures { result ≡ is_some (rule.bump_said (view_pair bump.now)) }
+    ensures { result ≡ is_some (rule.bump_spelled (view_pair bump.now)) }
 {
-    bump_said(bump).is_some()
+    bump_spelled(bump).is_some()
 }
 
 fn are_links(links: &[Value]) -> bool
@@ -108,7 +108,7 @@ fn are_nodes(nodes: &[Value]) -> bool
 }
 
 fn are_bumps(bumps: &[(Value, Value)]) -> bool
-    ensures { result ≡ list_all (λ b. is_some (rule.bump_said (view_pair b))) bumps.now }
+    ensures { result ≡ list_all (λ b. is_some (rule.bump_spelled (view_pair b))) bumps.now }
 {
     bumps.iter().all(|bump| is_bump(bump))
 }
@@ -126,7 +126,7 @@ fn all_nodes(nodes: &[Value]) -> Option<&[Value]>
 }
 
 fn all_bumps(bumps: &[(Value, Value)]) -> Option<&[(Value, Value)]>
-    ensures { option_map (λ kept. view_pairs kept.now) result ≡ rule.all_of (λ b. is_some (rule.bump_said b)) (view_pairs bumps.now) }
+    ensures { option_map (λ kept. view_pairs kept.now) result ≡ rule.all_of (λ b. is_some (rule.bump_spelled b)) (view_pairs bumps.now) }
 {
     if are_bumps(bumps) { Some(bumps) } else { None }
 }

@@ -1,12 +1,12 @@
 use Rattle.std.proofs.Common.{◌≡◌, length, map, take, Ok}
 use Rattle.std.specs.List.{All}
 use Rattle.jh_edn.specs.View.{views}
-use Rattle.jh_nemesis.specs.StepText.{step_told}
+use Rattle.jh_nemesis.specs.StepText.{parsed_step}
 use Rattle.jh_nemesis.specs.Steps.{FitsNodes}
 use Rattle.jh_cli.proofs.env_command.steps_of.Given as goal
 
 abbrev pub invariant-loop-place : goal.invariant-loop-place
 invariant-loop-place l = record {
-  told : map (step_told l.nodes) (views (take l.place l.values)) ≡ map Ok l.steps.items;
+  told : map (parsed_step l.nodes) (views (take l.place l.values)) ≡ map Ok l.steps.items;
   fit : All (FitsNodes (length l.nodes)) l.steps.items;
 }

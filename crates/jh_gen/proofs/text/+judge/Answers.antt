@@ -4,7 +4,7 @@ use Rattle.jh_edn.specs.Edn.{size_of, size_list}
 use Rattle.jh_edn.specs.View.{view, views}
 use Rattle.jh_gen.specs.GeneratorText as rule
 use Rattle.jh_gen.specs.Generator.{seq, mix, phases, reserve}
-use Rattle.jh_gen.specs.ShapeInside.{members_told, part_of, reserved_told, shape_told}
+use Rattle.jh_gen.specs.ShapeInside.{parsed_members, part_of, parsed_reserved, parsed_shape}
 use Rattle.jh_gen.proofs.TextLemmas.{members_judged, part_falls, reserved_judged, some_map, two_first}
 use Rattle.jh_gen.proofs.text.+judge.Goals as goal
 
@@ -27,20 +27,20 @@ are_reserved-loop-rest-preserved t c =
 
 pub is_generator-returns-in-Seq : goal.is_generator-returns-in-Seq
 is_generator-returns-in-Seq t c =
-    c.are_generators.ensures ∙ sym (some_map seq (members_told (views c.in-Seq.parts.now)))
-    ∙ ap (λ s. is_some (shape_told s)) (sym c.in-Seq.is) ∙ ap is_some c.in-Some.ensures.told
+    c.are_generators.ensures ∙ sym (some_map seq (parsed_members (views c.in-Seq.parts.now)))
+    ∙ ap (λ s. is_some (parsed_shape s)) (sym c.in-Seq.is) ∙ ap is_some c.in-Some.ensures.told
 
 pub is_generator-returns-in-Mix : goal.is_generator-returns-in-Mix
 is_generator-returns-in-Mix t c =
-    c.are_generators-in-Mix.ensures ∙ sym (some_map mix (members_told (views c.in-Mix.parts.now)))
-    ∙ ap (λ s. is_some (shape_told s)) (sym c.in-Mix.is) ∙ ap is_some c.in-Some.ensures.told
+    c.are_generators-in-Mix.ensures ∙ sym (some_map mix (parsed_members (views c.in-Mix.parts.now)))
+    ∙ ap (λ s. is_some (parsed_shape s)) (sym c.in-Mix.is) ∙ ap is_some c.in-Some.ensures.told
 
 pub is_generator-returns-in-Phases : goal.is_generator-returns-in-Phases
 is_generator-returns-in-Phases t c =
-    c.are_generators-in-Phases.ensures ∙ sym (some_map phases (members_told (views c.in-Phases.parts.now)))
-    ∙ ap (λ s. is_some (shape_told s)) (sym c.in-Phases.is) ∙ ap is_some c.in-Some.ensures.told
+    c.are_generators-in-Phases.ensures ∙ sym (some_map phases (parsed_members (views c.in-Phases.parts.now)))
+    ∙ ap (λ s. is_some (parsed_shape s)) (sym c.in-Phases.is) ∙ ap is_some c.in-Some.ensures.told
 
 pub is_generator-returns-in-Reserve : goal.is_generator-returns-in-Reserve
 is_generator-returns-in-Reserve t c =
-    c.are_reserved.ensures ∙ sym (some_map (λ r. reserve r.0 r.1) (reserved_told (views c.in-Reserve.parts.now)))
-    ∙ ap (λ s. is_some (shape_told s)) (sym c.in-Reserve.is) ∙ ap is_some c.in-Some.ensures.told
+    c.are_reserved.ensures ∙ sym (some_map (λ r. reserve r.0 r.1) (parsed_reserved (views c.in-Reserve.parts.now)))
+    ∙ ap (λ s. is_some (parsed_shape s)) (sym c.in-Reserve.is) ∙ ap is_some c.in-Some.ensures.told

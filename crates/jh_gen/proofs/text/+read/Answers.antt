@@ -4,7 +4,7 @@ use Rattle.jh_edn.specs.Edn.{size_of, size_list}
 use Rattle.jh_edn.specs.View.{view, views}
 use Rattle.jh_gen.specs.Generator.{reserve, row_of, shared_of}
 use Rattle.jh_gen.specs.GeneratorText as rule
-use Rattle.jh_gen.specs.GeneratorText.{generator_told}
+use Rattle.jh_gen.specs.GeneratorText.{parsed_generator}
 use Rattle.jh_gen.specs.View.{generators_of}
 use Rattle.jh_gen.specs.ShapeInside.{MembersSoFar, part_of}
 use Rattle.jh_gen.proofs.Building.{no_more}

@@ -2,7 +2,7 @@ use Rattle.std.proofs.Common.{◌++◌, ◌∷◌, []}
 use Rattle.std.proofs.lemmas.Result.{err_from_is_err_and}
 use Rattle.jh_edn.specs.View.{view}
 use Rattle.jh_histories.proofs.BegunLemmas.{each_begun, one_further, text_refused, history_read, history_refused, still_several}
-use Rattle.jh_histories.proofs.TellingLemmas.{several_elements}
+use Rattle.jh_histories.proofs.ParsingLemmas.{several_elements}
 use Rattle.jh_histories.proofs.reading.history_behind.Goals as goal
 
 pub values-init : goal.values-init
@@ -44,7 +44,7 @@ returns-in_err-history-clause-refused c =
     let gap = rw c.in_default.is at c.in_ok-value.ensures.none in
     let refusal = c.in_err-history.field-0.0 in
     let are = several_elements so_far.0 so_far.1 in
-    rw (p.1, p.2) (history_refused text so_far.0 so_far.0 c.values.at c.values.telling refusal are so_far.2 gap c.in_err-history.ensures.told so_far.3)
+    rw (p.1, p.2) (history_refused text so_far.0 so_far.0 c.values.at c.values.parsing refusal are so_far.2 gap c.in_err-history.ensures.told so_far.3)
 
 pub returns-clause-told : goal.returns-clause-told
 returns-clause-told c =
@@ -53,4 +53,4 @@ returns-clause-told c =
     let gap = rw c.in_default.is at c.in_ok-value.ensures.none in
     let told = c.in_ok-history.ensures.told in
     let are = several_elements so_far.0 so_far.1 in
-    rw told.1 (history_read text so_far.0 so_far.0 c.values.at c.values.telling are so_far.2 gap told.0 so_far.3)
+    rw told.1 (history_read text so_far.0 so_far.0 c.values.at c.values.parsing are so_far.2 gap told.0 so_far.3)

@@ -4,7 +4,7 @@ use Rattle.std.proofs.lemmas.Str.{IsCharBoundary-start}
 use Rattle.jh_edn.specs.Edn.{Edn}
 use Rattle.jh_edn.specs.View.{view}
 use Rattle.jh_histories.proofs.BegunLemmas.{at_start, one_further, text_refused, history_read, history_refused}
-use Rattle.jh_histories.proofs.TellingLemmas.{sequence_told}
+use Rattle.jh_histories.proofs.ParsingLemmas.{sequence_told}
 use Rattle.jh_histories.proofs.reading.history_in.Goals as goal
 
 pub read_sequence-requires : goal.read_sequence-requires
@@ -30,7 +30,7 @@ returns-in_err-history-clause-refused c =
     let text = c.args.text.now in
     let q = rw c.in-Some.is at c.in_ok-end.ensures.some in
     let begun = one_further text [] 0 q.0 c.in-Some.end (at_start text 0 refl) q.2 in
-    let told = q.4 [] c.new-telling.ensures in
+    let told = q.4 [] c.new-parsing.ensures in
     let gap = rw c.in_default-2.is at c.in_ok-second.ensures.none in
     let are = (sequence_told q.0 q.1 q.3).0 in
     rw (p.1, p.2) (history_refused text (q.0 ∷ []) q.1 c.in-Some.end c.read_sequence.new.sink c.in_err-history.field-0.0 are begun gap c.in_err-history.ensures.told told)
@@ -40,7 +40,7 @@ returns-in_default-2-clause-told c =
     let text = c.args.text.now in
     let q = rw c.in-Some.is at c.in_ok-end.ensures.some in
     let begun = one_further text [] 0 q.0 c.in-Some.end (at_start text 0 refl) q.2 in
-    let so_far = q.4 [] c.new-telling.ensures in
+    let so_far = q.4 [] c.new-parsing.ensures in
     let gap = rw c.in_default-2.is at c.in_ok-second.ensures.none in
     let are = (sequence_told q.0 q.1 q.3).0 in
     let told = c.in_ok-history.ensures.told in
@@ -49,7 +49,7 @@ returns-in_default-2-clause-told c =
 pub returns-in_default-2-clause-writable : goal.returns-in_default-2-clause-writable
 returns-in_default-2-clause-writable c =
     let q = rw c.in-Some.is at c.in_ok-end.ensures.some in
-    let so_far = q.4 [] c.new-telling.ensures in
+    let so_far = q.4 [] c.new-parsing.ensures in
     let told = c.in_ok-history.ensures.told in
     rw told.1 so_far.1
 
@@ -60,4 +60,4 @@ history_behind-requires-clause-begun c =
     let both : List Edn = q.0 ∷ second ∷ [] in
     let several : 1 < length both = omega arith in
     let other = rw c.in-Some-2.is at c.in_ok-second.ensures.some in
-    (both, several, (c.in-Some.end, q.2, (c.in-Some-2.at, other, refl)), c.in_ok-take.ensures (q.0 ∷ []) (c.of_sequence-telling.ensures q.0 (q.1, q.3)))
+    (both, several, (c.in-Some.end, q.2, (c.in-Some-2.at, other, refl)), c.in_ok-take.ensures (q.0 ∷ []) (c.of_sequence-parsing.ensures q.0 (q.1, q.3)))

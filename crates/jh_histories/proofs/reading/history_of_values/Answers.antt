@@ -48,4 +48,4 @@ history_behind-requires-clause-begun c =
     let several : 1 < length both = omega arith in
     let one = rw c.in-Some.is at c.in_ok-first.ensures.some in
     let other = rw c.in-Some-2.is at c.in_ok-second.ensures.some in
-    (both, several, (c.in-Some.end, one, (c.in-Some-2.end, other, refl)), c.in_ok-take-2.ensures (first ∷ []) (c.in_ok-take.ensures [] c.new-telling.ensures))
+    (both, several, (c.in-Some.end, one, (c.in-Some-2.end, other, refl)), c.in_ok-take-2.ensures (first ∷ []) (c.in_ok-take.ensures [] c.new-parsing.ensures))

@@ -1,6 +1,6 @@
 use Rattle.std.proofs.Common.{◌≡◌, [], map, subst}
 use Rattle.std.proofs.lemmas.List.Elements.{All-weaker}
-use Rattle.jh_ops.specs.HistoryText.{AreTold}
+use Rattle.jh_ops.specs.HistoryText.{AreParsed}
 use Rattle.jh_ops.specs.OperationWritten.{value_written}
 use Rattle.jh_laws.specs.HistoryLines.{CanPrint}
 use Rattle.jh_laws.proofs.HistoryLemmas.{told_histories_print, told_again, bare_told, one_history}
@@ -23,4 +23,4 @@ returns-clause-made c = λ history all.
 pub returns-clause-one : goal.returns-clause-one
 returns-clause-one c = λ bytes history others tells more.
     let same = c.spelled_once.ensures bytes more.0 tells.0 more.1 tells.1 in
-    one_history tells.0 history others tells.2 (subst (λ values. AreTold values others) same more.2)
+    one_history tells.0 history others tells.2 (subst (λ values. AreParsed values others) same more.2)

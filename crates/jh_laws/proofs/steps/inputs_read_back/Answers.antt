@@ -4,7 +4,7 @@ use Rattle.jh_edn.specs.Printable.{IsPrintable}
 use Rattle.jh_edn.specs.Spelling.{depth_limit}
 use Rattle.jh_env.specs.TextCells.{IsTextOf}
 use Rattle.jh_env.specs.TextWritten.{text_of}
-use Rattle.jh_nemesis.specs.StepText.{step_told}
+use Rattle.jh_nemesis.specs.StepText.{parsed_step}
 use Rattle.jh_nemesis.specs.StepWritten.{text_of_step}
 use Rattle.jh_laws.proofs.LineLemmas.{first_in, rest_in}
 use Rattle.jh_laws.proofs.StepLemmas.{steps_print, one_list}
@@ -27,5 +27,5 @@ returns-clause-one c = λ bytes names others cells more steps those one other.
     let same = c.spelled_once.ensures bytes (other.first ∷ other.others) (one.first ∷ one.others) other.spelled one.spelled in
     let environment = subst (λ value. IsTextOf value others more) (ap first_in same) other.environment in
     let alike = c.environments_read_back.ensures.tells_one one.first names others cells more one.environment environment in
-    let parsed = subst (λ names. map (step_told names) other.others ≡ map Ok those) alike.0 other.parsed in
-    (alike.0, alike.1, one_list steps those (sym parsed ∙ ap (λ values. map (step_told names) (rest_in values)) same ∙ one.parsed))
+    let parsed = subst (λ names. map (parsed_step names) other.others ≡ map Ok those) alike.0 other.parsed in
+    (alike.0, alike.1, one_list steps those (sym parsed ∙ ap (λ values. map (parsed_step names) (rest_in values)) same ∙ one.parsed))

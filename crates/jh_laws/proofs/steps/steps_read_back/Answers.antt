@@ -1,6 +1,6 @@
 use Rattle.std.proofs.Common.{length, map, ap, ◌∙◌}
 use Rattle.std.proofs.lemmas.List.Elements.{recursion_from_All}
-use Rattle.jh_nemesis.specs.StepText.{step_told}
+use Rattle.jh_nemesis.specs.StepText.{parsed_step}
 use Rattle.jh_nemesis.specs.StepWritten.{text_of_step}
 use Rattle.jh_laws.specs.StepLines.{IsStepOver}
 use Rattle.jh_laws.proofs.StepLemmas.{step_again, step_prints, steps_again, steps_print}
@@ -25,5 +25,5 @@ pub returns-clause-bytes : goal.returns-clause-bytes
 returns-clause-bytes c = λ names steps values named all spelled.
     let texts = map (text_of_step names) steps in
     let same = (c.lines_read_back.ensures texts (steps_print names named steps all)).1 values spelled in
-    ap (map (step_told names)) same
+    ap (map (parsed_step names)) same
     ∙ steps_again c.order_changes_no_fault.ensures.links_kept c.order_changes_no_fault.ensures.nodes_kept names named steps (recursion_from_All (IsStepOver (length names)) steps all)

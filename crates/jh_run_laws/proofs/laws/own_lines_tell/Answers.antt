@@ -1,5 +1,5 @@
 use Rattle.std.proofs.Common.{List, map, sym, subst}
-use Rattle.jh_ops.specs.HistoryText.{AreTold}
+use Rattle.jh_ops.specs.HistoryText.{AreParsed}
 use Rattle.jh_ops.specs.Operation.{Operation}
 use Rattle.jh_ops.specs.OperationWritten.{value_written}
 use Rattle.jh_run_laws.proofs.LineLemmas.{are_told}
@@ -9,5 +9,5 @@ pub returns : goal.returns
 returns c = λ p journal history run can. (
   map value_written history,
   (c.operation_lines_read_back.ensures.lines history can).0,
-  subst (λ (h : List Operation). AreTold (map value_written h) h) (sym run.told) (are_told journal),
+  subst (λ (h : List Operation). AreParsed (map value_written h) h) (sym run.told) (are_told journal),
 )

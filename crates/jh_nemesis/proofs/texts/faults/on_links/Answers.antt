@@ -4,28 +4,28 @@ use Rattle.std.specs.List.{filter_map}
 use Rattle.jh_edn.specs.View.{view}
 use Rattle.jh_env.specs.Faults.{AreLinksOf}
 use Rattle.jh_nemesis.specs.FaultText.{ends_of, links_fault, refusal_of}
-use Rattle.jh_nemesis.proofs.FaultTextLemmas.{links_told-unknown, links_told-self, links_told-bad, links_told-fault, links_told-ok, links_found}
+use Rattle.jh_nemesis.proofs.FaultTextLemmas.{parsed_links-unknown, parsed_links-self, parsed_links-bad, parsed_links-fault, parsed_links-ok, links_found}
 use Rattle.jh_nemesis.proofs.texts.faults.on_links.Goals as goal
 
 pub returns-then-is_any_end_unknown-clause-told : goal.returns-then-is_any_end_unknown-clause-told
 returns-then-is_any_end_unknown-clause-told c =
-    inl (links_told-unknown c.args.nodes.now c.args.effect c.args.links.now (sym c.is_any_end_unknown.ensures ∙ c.if-is_any_end_unknown.true))
+    inl (parsed_links-unknown c.args.nodes.now c.args.effect c.args.links.now (sym c.is_any_end_unknown.ensures ∙ c.if-is_any_end_unknown.true))
 
 pub returns-then-is_any_self-clause-told : goal.returns-then-is_any_self-clause-told
 returns-then-is_any_self-clause-told c =
-    inl (links_told-self c.args.nodes.now c.args.effect c.args.links.now (sym c.is_any_end_unknown.ensures ∙ c.if-is_any_end_unknown.false)
+    inl (parsed_links-self c.args.nodes.now c.args.effect c.args.links.now (sym c.is_any_end_unknown.ensures ∙ c.if-is_any_end_unknown.false)
     (sym c.is_any_self.ensures ∙ c.if-is_any_self.true))
 
 pub returns-then-not-is_right-clause-told : goal.returns-then-not-is_right-clause-told
 returns-then-not-is_right-clause-told c =
-    inl (links_told-bad c.args.nodes.now c.args.effect c.args.links.now (sym c.is_any_end_unknown.ensures ∙ c.if-is_any_end_unknown.false)
+    inl (parsed_links-bad c.args.nodes.now c.args.effect c.args.links.now (sym c.is_any_end_unknown.ensures ∙ c.if-is_any_end_unknown.false)
     (sym c.is_any_self.ensures ∙ c.if-is_any_self.false) (sym c.is_right.ensures ∙ c.if-not-is_right.true))
 
 pub returns-in_default-clause-told : goal.returns-in_default-clause-told
 returns-in_default-clause-told c =
     inr (
       refl,
-      links_told-ok c.args.nodes.now c.args.effect c.args.links.now (sym c.is_any_end_unknown.ensures ∙ c.if-is_any_end_unknown.false)
+      parsed_links-ok c.args.nodes.now c.args.effect c.args.links.now (sym c.is_any_end_unknown.ensures ∙ c.if-is_any_end_unknown.false)
           (sym c.is_any_self.ensures ∙ c.if-is_any_self.false) (sym c.is_right.ensures ∙ c.if-not-is_right.false),
     )
 
@@ -33,7 +33,7 @@ pub returns-in-Ok-links_fault-clause-told : goal.returns-in-Ok-links_fault-claus
 returns-in-Ok-links_fault-clause-told c =
     let ends : c.deref.result.now ≡ filter_map (λ l. ends_of c.args.nodes.now (view l)) c.args.links.now = c.deref.ensures.value ∙ c.in-Ok.ensures in
     let made : links_fault c.args.effect c.deref.result.now ≡ Some c.in-Ok-links_fault.fault = c.in-Ok-links_fault.ensures.made in
-    links_told-fault c.args.nodes.now c.args.effect c.args.links.now c.in-Ok-links_fault.fault (sym c.is_any_end_unknown.ensures ∙ c.if-is_any_end_unknown.false)
+    parsed_links-fault c.args.nodes.now c.args.effect c.args.links.now c.in-Ok-links_fault.fault (sym c.is_any_end_unknown.ensures ∙ c.if-is_any_end_unknown.false)
     (sym c.is_any_self.ensures ∙ c.if-is_any_self.false) (rw ends at made)
 
 pub returns-clause-told : goal.returns-clause-told
@@ -44,5 +44,5 @@ returns-clause-told c =
     let are : AreLinksOf (length c.args.nodes.now) c.deref.result.now = rw ends (links_found c.args.nodes.now c.args.links.now, other) in
     inr (
       c.from.ensures ∙ ap refusal_of (c.in-Err.ensures.made are right),
-      links_told-ok c.args.nodes.now c.args.effect c.args.links.now (sym c.is_any_end_unknown.ensures ∙ c.if-is_any_end_unknown.false) other right,
+      parsed_links-ok c.args.nodes.now c.args.effect c.args.links.now (sym c.is_any_end_unknown.ensures ∙ c.if-is_any_end_unknown.false) other right,
     )

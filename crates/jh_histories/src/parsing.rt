@@ -1,9 +1,9 @@
-//! What elements told so far: operations, or the refusal of the first that told none. `specs/TellingInside.antt` says what each
+//! What elements told so far: operations, or the refusal of the first that told none. `specs/ParsingInside.antt` says what each
 //! element adds. What is told here comes one by one; `jh_ops::history_of` tells a list of values.
 
 ghost use Rattle.std.specs.Prelude.{◌≡◌, ◌≢◌, ◌∷◌, [], All, IfErr, OnOk, MatchResult, length};
 ghost use Rattle.jh_edn.specs.Edn.{Edn};
-ghost use Rattle.jh_histories.specs.TellingInside.{HasTold, IsSequence};
+ghost use Rattle.jh_histories.specs.ParsingInside.{HasParsed, IsSequence};
 ghost use Rattle.jh_ops.specs.HistoryText.{refusal_at};
 ghost use Rattle.jh_ops.specs.OperationWritten.{IsWritable};
 
@@ -13,28 +13,28 @@ use std::alloc::{AllocError, Global};
 
 /// What the elements so far told.
 #[derive(Drop)]
-pub(crate) struct Telling {
+pub(crate) struct Parsing {
     pub(crate) ops: Vec<Op>,
     /// Why the first element that told no operation was refused. Nothing is told behind it.
     pub(crate) refusal: Option<HistoryError>,
 }
 
-impl Telling {
+impl Parsing {
     /// Nothing told so far.
-    pub(crate) fn new(alloc: Global) -> Telling
-        ensures { HasTold result [] }
+    pub(crate) fn new(alloc: Global) -> Parsing
+        ensures { HasParsed result [] }
     {
-        Telling {
+        Parsing {
             ops: Vec::new(alloc),
             refusal: None,
         }
     }
 
     /// What a list or a vector leaves that is the first of several values: it tells no operation.
-    pub(crate) fn of_sequence(alloc: Global) -> Telling
-        ensures { (value : Edn) → IsSequence value → HasTold result (value ∷ []) }
+    pub(crate) fn of_sequence(alloc: Global) -> Parsing
+        ensures { (value : Edn) → IsSequence value → HasParsed result (value ∷ []) }
     {
-        Telling {
+        Parsing {
             ops: Vec::new(alloc),
             refusal: Some(HistoryError::Op(0, OpError::NotMap)),
         }
@@ -61,7 +61,7 @@ impl Telling {
             (λ ops. (self.refusal ≡ None) × (ops ≡ self.ops))
             (λ e. self.refusal ≡ Some e) }
     {
-        let Telling { ops, refusal } = self;
+        let Parsing { ops, refusal } = self;
         match refusal {
             None => Ok(ops),
             Some(error) => Err(error),
@@ -69,8 +69,8 @@ impl Telling {
     }
 }
 
-impl Sink for Telling {
-    ghost has_taken = { HasTold };
+impl Sink for Parsing {
+    ghost has_taken = { HasParsed };
 
     fn take(&mut self, alloc: Global, element: Value) -> Result<(), AllocError> {
         match self.refusal {

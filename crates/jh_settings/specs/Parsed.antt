@@ -6,11 +6,11 @@ use Rattle.toml.specs.Data.{Data, array, Items, no_items, item, Members, as_bool
 use Rattle.jh_edn.specs.Edn.{Edn, int, elements_of}
 use Rattle.jh_env.specs.Overlay.{EnvValue, StandsFor}
 use Rattle.jh_env.specs.TextCells.{IsTextOf}
-use Rattle.jh_nemesis.specs.StepText.{step_told}
+use Rattle.jh_nemesis.specs.StepText.{parsed_step}
 use Rattle.jh_nemesis.specs.declared.steps.Step.{Step}
 use Rattle.jh_ops.specs.declared.call.Workload.{Workload}
 use Rattle.jh_gen.specs.Generator.{Generator}
-use Rattle.jh_gen.specs.GeneratorText.{generator_told}
+use Rattle.jh_gen.specs.GeneratorText.{parsed_generator}
 use Rattle.jh_simnode.specs.Plans.{max_ops}
 use Rattle.jh_simnode.specs.declared.settings.Store.{Store}
 use Rattle.jh_simnode.specs.declared.schedule.Entry.{Entry}
@@ -30,8 +30,8 @@ store_of word =
     else if bytes_eq word (codes "local") then Some Store.Local
     else None
 
-abbrev pub store_told : Members → Option Store
-store_told document = word_under store_of Key.Store document
+abbrev pub parsed_store : Members → Option Store
+parsed_store document = word_under store_of Key.Store document
 
 abbrev pub workload_of : List ℕ → Option Workload
 workload_of word =
@@ -41,18 +41,18 @@ workload_of word =
     else if bytes_eq word (codes "unique-ids") then Some Workload.Ids
     else None
 
-abbrev pub workload_told : Members → Option Workload
-workload_told document = word_under workload_of Key.Workload document
+abbrev pub parsed_workload : Members → Option Workload
+parsed_workload document = word_under workload_of Key.Workload document
 
 abbrev pub TellsGenerator : Members → Generator → Type 0
-TellsGenerator document g = (x : Edn) × HoldsElement Key.Generator document x × (generator_told x ≡ Some g)
+TellsGenerator document g = (x : Edn) × HoldsElement Key.Generator document x × (parsed_generator x ≡ Some g)
 
-abbrev pub clients_told : Members → Option ℕ
-clients_told document = needed (whole_in 1 16) Key.Clients document
+abbrev pub parsed_clients : Members → Option ℕ
+parsed_clients document = needed (whole_in 1 16) Key.Clients document
 
 -- how many calls: a set may have fewer than the others
-abbrev pub ops_told : Members → Option ℕ
-ops_told document = option_and_then (λ workload. needed (whole_in 1 (max_ops workload)) Key.Ops document) (workload_told document)
+abbrev pub parsed_ops : Members → Option ℕ
+parsed_ops document = option_and_then (λ workload. needed (whole_in 1 (max_ops workload)) Key.Ops document) (parsed_workload document)
 
 -- the mode of this name
 abbrev pub mode_of : List ℕ → Option Mode
@@ -62,11 +62,11 @@ mode_of word =
     else None
 
 -- how the run goes: on threads by default
-abbrev pub mode_told : Members → Option Mode
-mode_told document = or_default Mode.Threads (word_in mode_of) Key.Mode document
+abbrev pub parsed_mode : Members → Option Mode
+parsed_mode document = or_default Mode.Threads (word_in mode_of) Key.Mode document
 
-abbrev pub volatile_told : Members → Option Bool
-volatile_told document = or_default false as_bool Key.Volatile document
+abbrev pub parsed_volatile : Members → Option Bool
+parsed_volatile document = or_default false as_bool Key.Volatile document
 
 -- what a register holds at first: an integer, or nothing; of another workload it may not be said
 abbrev pub initial_of : Workload → Option Data → Option (Option ℤ)
@@ -74,20 +74,20 @@ initial_of workload None = Some None
 initial_of Workload.Register (Some value) = option_map Some (as_integer value)
 initial_of _ (Some value) = None
 
-abbrev pub initial_told : Members → Option (Option ℤ)
-initial_told document = option_and_then (λ workload. initial_of workload (value_under Key.Initial document)) (workload_told document)
+abbrev pub parsed_initial : Members → Option (Option ℤ)
+parsed_initial document = option_and_then (λ workload. initial_of workload (value_under Key.Initial document)) (parsed_workload document)
 
-abbrev pub tick_every_told : Members → Option ℕ
-tick_every_told document = or_default 0 (whole_in 0 10000) Key.TickEvery document
+abbrev pub parsed_tick_every : Members → Option ℕ
+parsed_tick_every document = or_default 0 (whole_in 0 10000) Key.TickEvery document
 
-abbrev pub rows_told : Members → Option ℕ
-rows_told document = or_default 4096 (whole_in 1 65536) Key.Rows document
+abbrev pub parsed_rows : Members → Option ℕ
+parsed_rows document = or_default 4096 (whole_in 1 65536) Key.Rows document
 
-abbrev pub seed_told : Members → Option ℕ
-seed_told document = or_default 0 (whole_in 0 9223372036854775807) Key.Seed document
+abbrev pub parsed_seed : Members → Option ℕ
+parsed_seed document = or_default 0 (whole_in 0 9223372036854775807) Key.Seed document
 
-abbrev pub budget_told : Members → Option ℕ
-budget_told document = or_default 100000 (whole_in 0 10000000) Key.Budget document
+abbrev pub parsed_budget : Members → Option ℕ
+parsed_budget document = or_default 100000 (whole_in 0 10000000) Key.Budget document
 
 -- after how many calls a step is due: from 0 to 10,000
 abbrev pub due_of : ℤ → Option ℕ
@@ -101,15 +101,15 @@ entry_at at (Err refusal) = None
 
 -- AT and STEP, over nodes with these names
 abbrev pub entry_in : List (List ℕ) → List Edn → Option Entry
-entry_in names (int z ∷ step ∷ []) = option_and_then (λ at. entry_at at (step_told names step)) (due_of z)
+entry_in names (int z ∷ step ∷ []) = option_and_then (λ at. entry_at at (parsed_step names step)) (due_of z)
 entry_in names _ = None
 
 -- the entry that a value tells: a vector or a list of the two
-abbrev pub entry_told : List (List ℕ) → Edn → Option Entry
-entry_told names x = option_and_then (entry_in names) (elements_of x)
+abbrev pub parsed_entry : List (List ℕ) → Edn → Option Entry
+parsed_entry names x = option_and_then (entry_in names) (elements_of x)
 
 abbrev pub TellsEntry : List (List ℕ) → Data → Entry → Type 0
-TellsEntry names value entry = (x : Edn) × IsElement value x × (entry_told names x ≡ Some entry)
+TellsEntry names value entry = (x : Edn) × IsElement value x × (parsed_entry names x ≡ Some entry)
 
 -- each value tells an entry, in order
 abbrev pub TellEntries : List (List ℕ) → Items → List Entry → Type 0

@@ -3,10 +3,10 @@ use Rattle.std.proofs.Common.{◌≡◌, ◌⊎◌, List, [], ◌∷◌, ◌++�
 use Rattle.std.specs.Prelude.{Ok, Err, IsOk, OnOk, Result, MatchResult}
 use Rattle.std.proofs.lemmas.List.{append-nil, map-append}
 use Rattle.jh_edn.specs.Edn.{Edn, nil, boolean, int, char, str, keyword, symbol, list, vector, mapping, set, tagged, list_of, elements_of}
-use Rattle.jh_histories.specs.TellingInside.{AreSeveral, Leave, RefusesOne}
-use Rattle.jh_ops.specs.HistoryText.{elements_in, AreTold, RefusesValues, refusal_at}
+use Rattle.jh_histories.specs.ParsingInside.{AreSeveral, Leave, RefusesOne}
+use Rattle.jh_ops.specs.HistoryText.{elements_in, AreParsed, RefusesValues, refusal_at}
 use Rattle.jh_ops.specs.Operation.{Operation}
-use Rattle.jh_ops.specs.OperationText.{op_told}
+use Rattle.jh_ops.specs.OperationText.{parsed_op}
 use Rattle.jh_ops.specs.declared.history.HistoryError.{HistoryError}
 use Rattle.jh_ops.specs.declared.history.HistoryError.TheVariants.{Op, OutOfMemory}
 use Rattle.jh_ops.specs.declared.op_text.OpError.{OpError}
@@ -16,16 +16,16 @@ use Rattle.jh_ops.proofs.HistoryLemmas.{Told, many_elements, refused_told}
 -- ---- one element more
 
 -- which is the first that tells none
-pub first_refused : (elements : List Edn) (ops : List Operation) (value : Edn) (refusal : OpError) → map op_told elements ≡ map Ok ops → op_told value ≡ Err refusal
+pub first_refused : (elements : List Edn) (ops : List Operation) (value : Edn) (refusal : OpError) → map parsed_op elements ≡ map Ok ops → parsed_op value ≡ Err refusal
     → Leave (elements ++ value ∷ []) ops (Some (refusal_at (length ops) refusal))
 first_refused elements ops value refusal told is = λ values behind are.
     let so_far : Told values ops (value ∷ behind) =
-    ap (map op_told) (are ∙ append_assoc elements (value ∷ []) behind) ∙ map-append op_told elements (value ∷ behind) ∙ ap (λ rs. rs ++ map op_told (value ∷ behind)) told in
+    ap (map parsed_op) (are ∙ append_assoc elements (value ∷ []) behind) ∙ map-append parsed_op elements (value ∷ behind) ∙ ap (λ rs. rs ++ map parsed_op (value ∷ behind)) told in
     refused_told values ops value behind refusal so_far (inl is)
 
 -- which is refused, and not for want of memory
-pub answer_refused : (elements : List Edn) (ops : List Operation) (value : Edn) (refusal : OpError) → map op_told elements ≡ map Ok ops → (refusal ≡ refusals.OutOfMemory → ⊥)
-    → (op_told value ≡ Err refusal) ⊎ ((refusal ≡ refusals.OutOfMemory) × IsOk (op_told value)) → Leave (elements ++ value ∷ []) ops (Some (refusal_at (length ops) refusal))
+pub answer_refused : (elements : List Edn) (ops : List Operation) (value : Edn) (refusal : OpError) → map parsed_op elements ≡ map Ok ops → (refusal ≡ refusals.OutOfMemory → ⊥)
+    → (parsed_op value ≡ Err refusal) ⊎ ((refusal ≡ refusals.OutOfMemory) × IsOk (parsed_op value)) → Leave (elements ++ value ∷ []) ops (Some (refusal_at (length ops) refusal))
 answer_refused elements ops value refusal told other why =
     elim why [
       | inl is ↦ first_refused elements ops value refusal told is
@@ -35,8 +35,8 @@ answer_refused elements ops value refusal told other why =
 -- ---- all of them
 
 -- all were told
-pub all_told : (values elements : List Edn) (ops : List Operation) → elements_in values ≡ elements → Leave elements ops None → AreTold values ops
-all_told values elements ops are told = ap (map op_told) are ∙ told
+pub all_told : (values elements : List Edn) (ops : List Operation) → elements_in values ≡ elements → Leave elements ops None → AreParsed values ops
+all_told values elements ops are told = ap (map parsed_op) are ∙ told
 
 -- all were told but one
 pub all_refused : (values elements : List Edn) (ops : List Operation) (refusal : HistoryError) → elements_in values ≡ elements → Leave elements ops (Some refusal) → RefusesValues values refusal
@@ -46,7 +46,7 @@ pub several_elements : (values : List Edn) → AreSeveral values → elements_in
 several_elements values several = many_elements values (λ one. omega (arith, several, one))
 
 -- a list or a vector: alone it stands for its elements, and it tells no operation itself
-pub sequence_told : (value : Edn) (elements : List Edn) → elements_of value ≡ Some elements → (elements_in (value ∷ []) ≡ elements) × (op_told value ≡ Err refusals.NotMap)
+pub sequence_told : (value : Edn) (elements : List Edn) → elements_of value ≡ Some elements → (elements_in (value ∷ []) ≡ elements) × (parsed_op value ≡ Err refusals.NotMap)
 sequence_told (list xs) elements is = ((let same : list_of xs ≡ elements = cc in same), refl)
 sequence_told (vector xs) elements is = ((let same : list_of xs ≡ elements = cc in same), refl)
 sequence_told nil elements is = absurd cc

@@ -1,26 +1,27 @@
--- What elements leave that are told one after another: operations, or the refusal of the first that tells none. They are several
--- values of a text, or the elements of a single list or vector.
+-- What elements leave that are parsed one after another: operations, or the refusal of the first that is none. They are
+-- several values of a text, or the elements of a single list or vector.
 use Rattle.std.specs.Prelude.{◌≡◌, ℕ, ◌<◌, List, [], ◌∷◌, ◌++◌, length, map, All, Option, Some, None, Ok}
 use Rattle.jh_edn.specs.Edn.{Edn, elements_of}
 use Rattle.jh_edn.specs.Spelling.{Reads}
-use Rattle.jh_histories.specs.declared.telling.Telling.{Telling}
+use Rattle.jh_histories.specs.declared.parsing.Parsing.{Parsing}
 use Rattle.jh_ops.specs.HistoryText.{elements_in, RefusesValues}
 use Rattle.jh_ops.specs.Operation.{Operation, operations}
-use Rattle.jh_ops.specs.OperationText.{op_told}
+use Rattle.jh_ops.specs.OperationText.{parsed_op}
 use Rattle.jh_ops.specs.OperationWritten.{IsWritable}
 use Rattle.jh_ops.specs.declared.history.HistoryError.{HistoryError}
 use Rattle.jh_ops.specs.declared.history.HistoryError.TheVariants.{Op, OutOfMemory}
 
--- Each told its operation; or, whatever comes behind them, values that have these elements first are refused so.
+-- Each was parsed as its operation; or, whatever comes behind them, values that have these elements first are refused
+-- so.
 abbrev pub Leave : List Edn → List Operation → Option HistoryError → Type 0
-Leave elements ops None = map op_told elements ≡ map Ok ops
+Leave elements ops None = map parsed_op elements ≡ map Ok ops
 Leave elements ops (Some refusal) =
     (values behind : List Edn) → elements_in values ≡ elements ++ behind → RefusesValues values refusal
 
 -- The elements leave this, and the client numbers in it can be written.
-abbrev pub HasTold : Telling → List Edn → Type 0
-HasTold telling elements =
-    Leave elements (operations telling.ops.items) telling.refusal × All (λ op. IsWritable op.process) telling.ops.items
+abbrev pub HasParsed : Parsing → List Edn → Type 0
+HasParsed parsing elements =
+    Leave elements (operations parsing.ops.items) parsing.refusal × All (λ op. IsWritable op.process) parsing.ops.items
 
 -- a list or a vector, without a tag
 abbrev pub IsSequence : Edn → Type 0
@@ -35,9 +36,10 @@ abbrev pub ReadsEach : List ℕ → ℕ → List Edn → ℕ → Type 0
 ReadsEach text at [] end = at ≡ end
 ReadsEach text at (value ∷ values) end = (next : ℕ) × Reads text at value next × ReadsEach text next values end
 
--- Several values are read up to that place, and told.
-abbrev pub IsBegun : List ℕ → ℕ → Telling → Type 0
-IsBegun text at telling = (values : List Edn) × AreSeveral values × ReadsEach text 0 values at × HasTold telling values
+-- Several values are read up to that place, and parsed.
+abbrev pub IsBegun : List ℕ → ℕ → Parsing → Type 0
+IsBegun text at parsing =
+    (values : List Edn) × AreSeveral values × ReadsEach text 0 values at × HasParsed parsing values
 
 -- why a value that stands alone tells no history; memory may run out whatever it is
 abbrev pub RefusesOne : Edn → HistoryError → Type 0
