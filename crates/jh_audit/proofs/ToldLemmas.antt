@@ -14,9 +14,9 @@ use Rattle.jh_ops.specs.declared.call.Request.TheVariants.{Read, Write, Cas, Add
 use Rattle.jh_ops.specs.declared.operation.Kind.{Kind}
 use Rattle.jh_ops.specs.declared.operation.Process.{Process}
 use Rattle.jh_nemesis.specs.declared.steps.StepAnswer.{StepAnswer}
-use Rattle.jh_simnode.specs.declared.copies.Got.{Got}
-use Rattle.jh_simnode.specs.declared.copies.Reply.{Reply}
-use Rattle.jh_simnode.specs.declared.copies.Reply.TheVariants as reply
+use Rattle.jh_simnode.specs.declared.replicas.Got.{Got}
+use Rattle.jh_simnode.specs.declared.replicas.Reply.{Reply}
+use Rattle.jh_simnode.specs.declared.replicas.Reply.TheVariants as reply
 use Rattle.jh_simnode.specs.Histories.{name_of, asked_with, told_with, replied_with, kind_of, code_of, completed, answered_by}
 use Rattle.jh_audit.specs.Forms.{Says}
 use Rattle.jh_audit.specs.declared.forms.Form.TheVariants.{Tells}

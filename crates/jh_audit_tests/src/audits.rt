@@ -5,7 +5,7 @@ use jh_ops::Request;
 use jh_simnode::{Event, Got, Plan, Reply, node_of};
 use std::alloc::Global;
 
-// Two of three nodes are killed and lose their copies of what was written.
+// Two of three nodes are killed and lose their replicas of what was written.
 const KILL: &str = r#"
 start = '{:nodes ["n1" "n2" "n3"]}'
 mode = "serial"

@@ -13,7 +13,7 @@ use Rattle.jh_gen.specs.Generator.{Generator}
 use Rattle.jh_gen.specs.Offers.{Offer, offer, spent}
 use Rattle.jh_gen.specs.Suits.{has_only, is_call_for}
 use Rattle.jh_gen.specs.Tally.{Path}
-use Rattle.jh_simnode.specs.declared.copies.Reply.{Reply}
+use Rattle.jh_simnode.specs.declared.replicas.Reply.{Reply}
 use Rattle.jh_simnode.specs.declared.events.Event.{Event}
 use Rattle.jh_simnode.specs.declared.schedule.Entry.{Entry}
 use Rattle.jh_simnode.specs.Counts.{applied, last, process_after}

@@ -14,9 +14,9 @@ use Rattle.jh_ops.specs.declared.pairs.Pair.{Pair}
 use Rattle.jh_check.specs.CounterResults.{call_error, errors_in, IsFirst, RefusesCounter}
 use Rattle.jh_check.specs.declared.error.CheckError.{CheckError}
 use Rattle.jh_gen.specs.Suits.{is_call_for}
-use Rattle.jh_simnode.specs.declared.copies.Got.{Got}
-use Rattle.jh_simnode.specs.declared.copies.Reply.{Reply}
-use Rattle.jh_simnode.specs.declared.copies.Reply.TheVariants as said
+use Rattle.jh_simnode.specs.declared.replicas.Got.{Got}
+use Rattle.jh_simnode.specs.declared.replicas.Reply.{Reply}
+use Rattle.jh_simnode.specs.declared.replicas.Reply.TheVariants as said
 use Rattle.jh_simnode.specs.declared.events.Event.{Event}
 use Rattle.jh_simnode.specs.Histories.{completed, history_of, invoked}
 use Rattle.jh_run_laws.specs.OwnHistory.{CallsFit, RepliesFit, ReplyFits}

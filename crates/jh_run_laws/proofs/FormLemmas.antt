@@ -7,8 +7,8 @@ use Rattle.jh_ops.specs.Pairing.{Alternate, IsWellFormed, kinds_of}
 use Rattle.jh_ops.specs.declared.call.Request.{Request}
 use Rattle.jh_ops.specs.declared.call.Workload.{Workload}
 use Rattle.jh_ops.specs.declared.operation.Kind.{Kind}
-use Rattle.jh_simnode.specs.declared.copies.Reply.{Reply}
-use Rattle.jh_simnode.specs.declared.copies.Reply.TheVariants as said
+use Rattle.jh_simnode.specs.declared.replicas.Reply.{Reply}
+use Rattle.jh_simnode.specs.declared.replicas.Reply.TheVariants as said
 use Rattle.jh_simnode.specs.declared.events.Event.{Event}
 use Rattle.jh_simnode.specs.Counts.{is_crash_of, is_info, process_after}
 use Rattle.jh_simnode.specs.Histories.{history_of, kind_of, told_from}

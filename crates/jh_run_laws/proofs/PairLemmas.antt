@@ -6,8 +6,8 @@ use Rattle.jh_ops.specs.Pairing.{first_of, pair_of, pairs_from, pairs_of}
 use Rattle.jh_ops.specs.declared.call.Request.{Request}
 use Rattle.jh_ops.specs.declared.operation.Process.{Process}
 use Rattle.jh_ops.specs.declared.pairs.Pair.{Pair}
-use Rattle.jh_simnode.specs.declared.copies.Reply.{Reply}
-use Rattle.jh_simnode.specs.declared.copies.Reply.TheVariants as said
+use Rattle.jh_simnode.specs.declared.replicas.Reply.{Reply}
+use Rattle.jh_simnode.specs.declared.replicas.Reply.TheVariants as said
 use Rattle.jh_simnode.specs.declared.events.Event.{Event}
 use Rattle.jh_ops.specs.declared.call.Call.TheVariants.{Client}
 use Rattle.jh_ops.specs.declared.call.Workload.{Workload}

@@ -9,9 +9,9 @@ use Rattle.jh_ops.specs.declared.call.Request.TheVariants.{Read, Write, Cas, Add
 use Rattle.jh_ops.specs.declared.call.Workload.TheVariants.{Register}
 use Rattle.jh_ops.specs.declared.pairs.Pair.{Pair}
 use Rattle.jh_linear.specs.Calls.{IsLeastBad, bad_place}
-use Rattle.jh_simnode.specs.declared.copies.Got.{Got}
-use Rattle.jh_simnode.specs.declared.copies.Reply.{Reply}
-use Rattle.jh_simnode.specs.declared.copies.Reply.TheVariants as said
+use Rattle.jh_simnode.specs.declared.replicas.Got.{Got}
+use Rattle.jh_simnode.specs.declared.replicas.Reply.{Reply}
+use Rattle.jh_simnode.specs.declared.replicas.Reply.TheVariants as said
 use Rattle.jh_simnode.specs.declared.events.Event.{Event}
 use Rattle.jh_simnode.specs.Histories.{history_of}
 use Rattle.jh_run_laws.specs.OwnHistory.{CallsFit, RepliesFit}

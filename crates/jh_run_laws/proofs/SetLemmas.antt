@@ -11,9 +11,9 @@ use Rattle.jh_ops.specs.declared.call.Workload.TheVariants.{Set}
 use Rattle.jh_ops.specs.declared.operation.Kind.{Kind}
 use Rattle.jh_check.specs.Asked.{is_asked}
 use Rattle.jh_check.specs.SetResults.{elements_shown, final_read}
-use Rattle.jh_simnode.specs.declared.copies.Got.{Got}
-use Rattle.jh_simnode.specs.declared.copies.Reply.{Reply}
-use Rattle.jh_simnode.specs.declared.copies.Reply.TheVariants as said
+use Rattle.jh_simnode.specs.declared.replicas.Got.{Got}
+use Rattle.jh_simnode.specs.declared.replicas.Reply.{Reply}
+use Rattle.jh_simnode.specs.declared.replicas.Reply.TheVariants as said
 use Rattle.jh_simnode.specs.declared.events.Event.{Event}
 use Rattle.jh_simnode.specs.Histories.{completed, history_of, told_from}
 use Rattle.jh_run_laws.specs.OwnHistory.{RepliesFit, ReplyFits}

@@ -1,4 +1,4 @@
--- What copies hold and what is replied in a run is of the shape that its workload has.
+-- What replicas hold and what is replied in a run is of the shape that its workload has.
 use Rattle.std.proofs.Common.{◌≡◌, ℕ, zero, suc, ◌+◌, ◌-◌, ◌/◌, ◌<◌, ◌≤◌, Bool, true, false, List, [], ◌∷◌, length, get_or, set, replicate, refl, sym, ap, subst, ◌∙◌, arith, inl, inr, ltb-false}
 use Rattle.std.specs.Prelude.{ℤ, pos, ◌+ℤ◌, Option, Some, None, if◌then◌else◌, nat_lt, filter, IfSome, ⊤}
 use Rattle.std.specs.List.{fold, All}
@@ -12,21 +12,21 @@ use Rattle.jh_ops.specs.declared.call.Request.TheVariants.{Read, Write, Cas, Add
 use Rattle.jh_ops.specs.declared.call.Workload.{Workload}
 use Rattle.jh_ops.specs.declared.call.Workload.TheVariants.{Register, Counter, Set, Ids}
 use Rattle.jh_ops.specs.Requests.{is_request_of}
-use Rattle.jh_simnode.specs.declared.copies.Contents.{Contents}
-use Rattle.jh_simnode.specs.declared.copies.Contents.TheVariants.{One, Many}
-use Rattle.jh_simnode.specs.declared.copies.Got.{Got}
-use Rattle.jh_simnode.specs.declared.copies.NodeCopy.{NodeCopy}
-use Rattle.jh_simnode.specs.declared.copies.Mark.TheVariants.{Version, Stamp}
-use Rattle.jh_simnode.specs.declared.copies.Reply.{Reply}
-use Rattle.jh_simnode.specs.declared.copies.Reply.TheVariants as said
+use Rattle.jh_simnode.specs.declared.replicas.Contents.{Contents}
+use Rattle.jh_simnode.specs.declared.replicas.Contents.TheVariants.{One, Many}
+use Rattle.jh_simnode.specs.declared.replicas.Got.{Got}
+use Rattle.jh_simnode.specs.declared.replicas.Replica.{Replica}
+use Rattle.jh_simnode.specs.declared.replicas.Mark.TheVariants.{Version, Stamp}
+use Rattle.jh_simnode.specs.declared.replicas.Reply.{Reply}
+use Rattle.jh_simnode.specs.declared.replicas.Reply.TheVariants as said
 use Rattle.jh_simnode.specs.declared.settings.Settings.{Settings}
 use Rattle.jh_simnode.specs.declared.settings.Store.{Store}
 use Rattle.jh_simnode.specs.declared.settings.Store.TheVariants.{Quorum, Lww, Local}
-use Rattle.jh_simnode.specs.Copies.{blank, contents_of, copy_at, first_copy, got_of, version}
+use Rattle.jh_simnode.specs.Replicas.{blank, contents_of, replica_at, first_replica, got_of, version}
 use Rattle.jh_simnode.specs.Effects.{after_add, after_cas, after_generate, effect, is_small, put_in}
-use Rattle.jh_simnode.specs.Reach.{Cells, heard, is_killed, places, touched}
+use Rattle.jh_simnode.specs.Reach.{Cells, responding_nodes, is_killed, places, reached_nodes}
 use Rattle.jh_simnode.specs.Requests.{is_read, only_asks}
-use Rattle.jh_simnode.specs.Stores.{Served, served, serve, serve_at, serve_in, serve_running, local_served, lww_served, quorum, quorum_changed, quorum_read, quorum_write, newest, newer_place, version_at, give, give_all, older, ticked, tell, tell_all, forgotten, forget_one}
+use Rattle.jh_simnode.specs.Stores.{Served, served, serve, serve_at, serve_in, serve_running, local_served, lww_served, quorum, quorum_changed, quorum_read, quorum_write, newest, newer_place, version_at, give, give_all, older, replicas_after_tick, tell, tell_all, replicas_after_kills, forget_one}
 use Rattle.jh_simnode.proofs.Places.{places_below}
 use Rattle.jh_simnode.specs.declared.events.Event.{Event}
 use Rattle.jh_simnode.specs.Events.{AreDue, IsLegal, Moment, Setup, env_of, next, opening}
@@ -105,28 +105,28 @@ below_filter n q (p ∷ ps) h =
 all_places : (n : ℕ) → Below n (places n)
 all_places n = below_from n (places n) (places_below n)
 
-newer_below : (n : ℕ) (copies : List NodeCopy) (best p : ℕ) → best < n → p < n → newer_place copies best p < n
-newer_below n copies best p b h =
-    elim (nat_lt (version (copy_at copies best).mark) (version (copy_at copies p).mark)) as (λ t. (if t then p else best) < n) [ true ↦ h | false ↦ b ]
+newer_below : (n : ℕ) (replicas : List Replica) (best p : ℕ) → best < n → p < n → newer_place replicas best p < n
+newer_below n replicas best p b h =
+    elim (nat_lt (version (replica_at replicas best).mark) (version (replica_at replicas p).mark)) as (λ t. (if t then p else best) < n) [ true ↦ h | false ↦ b ]
 
-fold_below : (n : ℕ) (copies : List NodeCopy) (best : ℕ) (ps : List ℕ) → best < n → Below n ps → fold (newer_place copies) best ps < n
-fold_below n copies best [] b h = b
-fold_below n copies best (p ∷ ps) b h = fold_below n copies (newer_place copies best p) ps (newer_below n copies best p b h.0) h.1
+fold_below : (n : ℕ) (replicas : List Replica) (best : ℕ) (ps : List ℕ) → best < n → Below n ps → fold (newer_place replicas) best ps < n
+fold_below n replicas best [] b h = b
+fold_below n replicas best (p ∷ ps) b h = fold_below n replicas (newer_place replicas best p) ps (newer_below n replicas best p b h.0) h.1
 
-newest_below : (n : ℕ) (copies : List NodeCopy) (ps : List ℕ) → 0 < length ps → Below n ps → newest copies ps < n
-newest_below n copies [] some h = absurd (omega (arith, some))
-newest_below n copies (p ∷ ps) some h = fold_below n copies p ps h.0 h.1
+newest_below : (n : ℕ) (replicas : List Replica) (ps : List ℕ) → 0 < length ps → Below n ps → newest replicas ps < n
+newest_below n replicas [] some h = absurd (omega (arith, some))
+newest_below n replicas (p ∷ ps) some h = fold_below n replicas p ps h.0 h.1
 
--- ---- copies
+-- ---- replicas
 
--- a copy for each of so many nodes, each of the shape
-pub record AreShaped (w : Workload) (count : ℕ) (all : List NodeCopy) : Type 0 where
+-- a replica for each of so many nodes, each of the shape
+pub record AreShaped (w : Workload) (count : ℕ) (all : List Replica) : Type 0 where
   pub sized : length all ≡ count
-  pub each : (place : ℕ) → place < length all → IsShaped w (copy_at all place).contents
+  pub each : (place : ℕ) → place < length all → IsShaped w (replica_at all place).contents
 
--- a reply that fits, and copies of the shape
+-- a reply that fits, and replicas of the shape
 abbrev pub IsServed : Workload → ℕ → Request → Served → Type 0
-IsServed w count request s = AreShaped w count s.copies × ReplyFits w request s.reply
+IsServed w count request s = AreShaped w count s.replicas × ReplyFits w request s.reply
 
 either : {A : Type 0} (P : A → Type 0) (b : Bool) (x y : A) → (b ≡ true → P x) → (b ≡ false → P y) → P (if b then x else y)
 either P true x y p q = p refl
@@ -136,29 +136,29 @@ fold_keeps : {A : Type 0} (P : A → Type 0) (n : ℕ) (f : A → ℕ → A) →
 fold_keeps P n f step a [] b h = h
 fold_keeps P n f step a (p ∷ ps) b h = fold_keeps P n f step (f a p) ps b.1 (step a p b.0 h)
 
-set_shaped : (w : Workload) (c : ℕ) (all : List NodeCopy) (p : ℕ) (new : NodeCopy) → AreShaped w c all → IsShaped w new.contents → AreShaped w c (set all p new)
+set_shaped : (w : Workload) (c : ℕ) (all : List Replica) (p : ℕ) (new : Replica) → AreShaped w c all → IsShaped w new.contents → AreShaped w c (set all p new)
 set_shaped w c all p new t h = record { sized = length-set all p new ∙ t.sized; each = at } where
-  at : (q : ℕ) → q < length (set all p new) → IsShaped w (copy_at (set all p new) q).contents
+  at : (q : ℕ) → q < length (set all p new) → IsShaped w (replica_at (set all p new) q).contents
   at q below =
       let short : q < length all = rw (length-set all p new) at below in
-      elim (cases_eq q p) as (λ s. IsShaped w (copy_at (set all p new) q).contents) [
+      elim (cases_eq q p) as (λ s. IsShaped w (replica_at (set all p new) q).contents) [
         | inl same ↦ (let within : p < length all = rw same at short in rw (same, get_or-set_same all p new blank within) h)
         | inr other ↦ rw (get_or-set_other all p q new blank other) (t.each q short)
       ]
 
-give_shaped : (w : Workload) (c : ℕ) (new : NodeCopy) (all : List NodeCopy) (these : List ℕ) → IsShaped w new.contents → AreShaped w c all → AreShaped w c (give_all new all these)
+give_shaped : (w : Workload) (c : ℕ) (new : Replica) (all : List Replica) (these : List ℕ) → IsShaped w new.contents → AreShaped w c all → AreShaped w c (give_all new all these)
 give_shaped w c new all [] h t = t
 give_shaped w c new all (p ∷ ps) h t = give_shaped w c new (set all p new) ps h (set_shaped w c all p new t h)
 
-local_shaped : (w : Workload) (c : ℕ) (all : List NodeCopy) (node : ℕ) (request : Request) (contents : Contents) → IfSome (effect request contents) (λ e. IsShaped w e.after × GotFits w request e.got)
+local_shaped : (w : Workload) (c : ℕ) (all : List Replica) (node : ℕ) (request : Request) (contents : Contents) → IfSome (effect request contents) (λ e. IsShaped w e.after × GotFits w request e.got)
     → AreShaped w c all → IsServed w c request (local_served all node (effect request contents))
 local_shaped w c all node request contents fits t =
     elim (effect request contents) as (λ o. IfSome o (λ e. IsShaped w e.after × GotFits w request e.got) → IsServed w c request (local_served all node o)) [
       | None ↦ λ h. (t, tt)
-      | Some e ↦ λ h. (set_shaped w c all node (record { mark = (copy_at all node).mark; contents = e.after }) t h.0, h.1)
+      | Some e ↦ λ h. (set_shaped w c all node (record { mark = (replica_at all node).mark; contents = e.after }) t h.0, h.1)
     ] fits
 
-lww_shaped : (w : Workload) (c : ℕ) (all : List NodeCopy) (at : ℤ) (node : ℕ) (these : List ℕ) (request : Request) (contents : Contents) → IfSome (effect request contents) (λ e. IsShaped w e.after × GotFits w request e.got)
+lww_shaped : (w : Workload) (c : ℕ) (all : List Replica) (at : ℤ) (node : ℕ) (these : List ℕ) (request : Request) (contents : Contents) → IfSome (effect request contents) (λ e. IsShaped w e.after × GotFits w request e.got)
     → AreShaped w c all → IsServed w c request (lww_served all (Stamp at node) these (effect request contents))
 lww_shaped w c all at node these request contents fits t =
     elim (effect request contents) as (λ o. IfSome o (λ e. IsShaped w e.after × GotFits w request e.got) → IsServed w c request (lww_served all (Stamp at node) these o)) [
@@ -166,7 +166,7 @@ lww_shaped w c all at node these request contents fits t =
       | Some e ↦ λ h. (give_shaped w c (record { mark = Stamp at node; contents = e.after }) all (older all (Stamp at node) these) h.0 t, h.1)
     ] fits
 
-changed_shaped : (w : Workload) (c : ℕ) (all : List NodeCopy) (best : ℕ) (these : List ℕ) (k : ℕ) (request : Request) (contents : Contents) → IfSome (effect request contents) (λ e. IsShaped w e.after × GotFits w request e.got)
+changed_shaped : (w : Workload) (c : ℕ) (all : List Replica) (best : ℕ) (these : List ℕ) (k : ℕ) (request : Request) (contents : Contents) → IfSome (effect request contents) (λ e. IsShaped w e.after × GotFits w request e.got)
     → AreShaped w c all → IsServed w c request (quorum_changed all best these k (effect request contents))
 changed_shaped w c all best these k request contents fits t =
     elim (effect request contents) as (λ o. IfSome o (λ e. IsShaped w e.after × GotFits w request e.got) → IsServed w c request (quorum_changed all best these k o)) [
@@ -179,14 +179,14 @@ changed_shaped w c all best these k request contents fits t =
 
 -- ---- what a node does
 
-local_served_fits : (w : Workload) (c : ℕ) (all : List NodeCopy) (node : ℕ) (request : Request) → is_request_of request w ≡ true → node < c → AreShaped w c all
-    → IsServed w c request (local_served all node (effect request (copy_at all node).contents))
+local_served_fits : (w : Workload) (c : ℕ) (all : List Replica) (node : ℕ) (request : Request) → is_request_of request w ≡ true → node < c → AreShaped w c all
+    → IsServed w c request (local_served all node (effect request (replica_at all node).contents))
 local_served_fits w c all node request r n t =
-    local_shaped w c all node request (copy_at all node).contents (effect_fits w request (copy_at all node).contents r (t.each node (rw t.sized n))) t
+    local_shaped w c all node request (replica_at all node).contents (effect_fits w request (replica_at all node).contents r (t.each node (rw t.sized n))) t
 
-read_served : (w : Workload) (c : ℕ) (all : List NodeCopy) (place : ℕ) (request : Request) → is_read request ≡ true → place < c → AreShaped w c all
-    → IsServed w c request (served all (said.Ok (got_of (copy_at all place).contents)))
-read_served w c all place Read r n t = (t, read_fits w (copy_at all place).contents (t.each place (rw t.sized n)))
+read_served : (w : Workload) (c : ℕ) (all : List Replica) (place : ℕ) (request : Request) → is_read request ≡ true → place < c → AreShaped w c all
+    → IsServed w c request (served all (said.Ok (got_of (replica_at all place).contents)))
+read_served w c all place Read r n t = (t, read_fits w (replica_at all place).contents (t.each place (rw t.sized n)))
 read_served w c all place (Write v) r n t = absurd cc
 read_served w c all place (Cas a b) r n t = absurd cc
 read_served w c all place (Add v) r n t = absurd cc
@@ -195,45 +195,45 @@ read_served w c all place Generate r n t = absurd cc
 some_of : (n m : ℕ) → nat_lt n (quorum m) ≡ false → 0 < n
 some_of n m e = let q = ltb-false n (quorum m) e in omega (arith, q)
 
-quorum_served : (w : Workload) (c : ℕ) (env : Cells) (all : List NodeCopy) (node : ℕ) (request : Request) (draw : ℕ) → is_request_of request w ≡ true → AreShaped w c all
-    → IsServed w c request (if is_read request then quorum_read all (heard env node (touched env (length all) draw node)) else quorum_write all (touched env (length all) draw node) (length (heard env node (touched env (length all) draw node))) request)
+quorum_served : (w : Workload) (c : ℕ) (env : Cells) (all : List Replica) (node : ℕ) (request : Request) (draw : ℕ) → is_request_of request w ≡ true → AreShaped w c all
+    → IsServed w c request (if is_read request then quorum_read all (responding_nodes env node (reached_nodes env (length all) draw node)) else quorum_write all (reached_nodes env (length all) draw node) (length (responding_nodes env node (reached_nodes env (length all) draw node))) request)
 quorum_served w c env all node request draw r t =
-    let reached = touched env (length all) draw node in
-    let answering = heard env node reached in
+    let reached = reached_nodes env (length all) draw node in
+    let answering = responding_nodes env node reached in
     let low : Below (length all) reached = below_filter (length all) _ (places (length all)) (all_places (length all)) in
     let near : Below (length all) answering = below_filter (length all) _ reached low in
     either (IsServed w c request) (is_read request) (quorum_read all answering) (quorum_write all reached (length answering) request)
-    (λ reads. either (IsServed w c request) (nat_lt (length answering) (quorum (length all))) (served all said.Fail) (served all (said.Ok (got_of (copy_at all (newest all answering)).contents)))
+    (λ reads. either (IsServed w c request) (nat_lt (length answering) (quorum (length all))) (served all said.Fail) (served all (said.Ok (got_of (replica_at all (newest all answering)).contents)))
     (λ _. (t, tt))
     (λ many. read_served w c all (newest all answering) request reads (rw (← t.sized) (newest_below (length all) all answering (some_of (length answering) (length all) many) near)) t))
     (λ _. either (IsServed w c request) (nat_lt (length reached) (quorum (length all))) (served all said.Fail)
-    (quorum_changed all (newest all reached) reached (length answering) (effect request (copy_at all (newest all reached)).contents))
+    (quorum_changed all (newest all reached) reached (length answering) (effect request (replica_at all (newest all reached)).contents))
     (λ _. (t, tt))
     (λ many.
     let best : newest all reached < length all = newest_below (length all) all reached (some_of (length reached) (length all) many) low in
-    changed_shaped w c all (newest all reached) reached (length answering) request (copy_at all (newest all reached)).contents
-    (effect_fits w request (copy_at all (newest all reached)).contents r (t.each (newest all reached) best)) t))
+    changed_shaped w c all (newest all reached) reached (length answering) request (replica_at all (newest all reached)).contents
+    (effect_fits w request (replica_at all (newest all reached)).contents r (t.each (newest all reached) best)) t))
 
-running_served : (store : Store) (w : Workload) (c : ℕ) (env : Cells) (all : List NodeCopy) (number : ℕ) (clock : ℤ) (node : ℕ) (request : Request) (draw : ℕ) → is_request_of request w ≡ true → node < c → AreShaped w c all
+running_served : (store : Store) (w : Workload) (c : ℕ) (env : Cells) (all : List Replica) (number : ℕ) (clock : ℤ) (node : ℕ) (request : Request) (draw : ℕ) → is_request_of request w ≡ true → node < c → AreShaped w c all
     → IsServed w c request (serve_running store env all number clock node request draw)
 running_served Quorum w c env all number clock node request draw r n t = quorum_served w c env all node request draw r t
 running_served Lww w c env all number clock node request draw r n t =
     either (IsServed w c request) (is_read request) _ _ (λ reads. read_served w c all node request reads n t)
-    (λ _. lww_shaped w c all _ node (touched env (length all) draw node) request (copy_at all node).contents (effect_fits w request (copy_at all node).contents r (t.each node (rw t.sized n))) t)
+    (λ _. lww_shaped w c all _ node (reached_nodes env (length all) draw node) request (replica_at all node).contents (effect_fits w request (replica_at all node).contents r (t.each node (rw t.sized n))) t)
 running_served Local w c env all number clock node request draw r n t = local_served_fits w c all node request r n t
 
-in_served : (life : Life) (s : Settings) (c : ℕ) (env : Cells) (all : List NodeCopy) (number : ℕ) (clock : ℤ) (node : ℕ) (request : Request) (draw : ℕ) → is_request_of request s.workload ≡ true → node < c → AreShaped s.workload c all
+in_served : (life : Life) (s : Settings) (c : ℕ) (env : Cells) (all : List Replica) (number : ℕ) (clock : ℤ) (node : ℕ) (request : Request) (draw : ℕ) → is_request_of request s.workload ≡ true → node < c → AreShaped s.workload c all
     → IsServed s.workload c request (serve_in life s env all number clock node request draw)
 in_served Running s c env all number clock node request draw r n t = running_served s.store s.workload c env all number clock node request draw r n t
 in_served Paused s c env all number clock node request draw r n t = (t, either (ReplyFits s.workload request) (only_asks request) said.Fail said.Info (λ _. tt) (λ _. tt))
 in_served Killed s c env all number clock node request draw r n t = (t, tt)
 
-at_served : (s : Settings) (c : ℕ) (env : Cells) (all : List NodeCopy) (number node : ℕ) (request : Request) (draw : ℕ) (cell : Option NodeCell) → is_request_of request s.workload ≡ true → node < c → AreShaped s.workload c all
+at_served : (s : Settings) (c : ℕ) (env : Cells) (all : List Replica) (number node : ℕ) (request : Request) (draw : ℕ) (cell : Option NodeCell) → is_request_of request s.workload ≡ true → node < c → AreShaped s.workload c all
     → IsServed s.workload c request (serve_at s env all number node request draw cell)
 at_served s c env all number node request draw None r n t = (t, tt)
 at_served s c env all number node request draw (Some cell) r n t = in_served cell.process s c env all number cell.clock node request draw r n t
 
-pub serve_fits : (s : Settings) (c : ℕ) (env : Cells) (all : List NodeCopy) (number node : ℕ) (request : Request) (draw : ℕ) → node < c → AreShaped s.workload c all
+pub serve_fits : (s : Settings) (c : ℕ) (env : Cells) (all : List Replica) (number node : ℕ) (request : Request) (draw : ℕ) → node < c → AreShaped s.workload c all
     → IsServed s.workload c request (serve s env all number node request draw)
 unfolding serve
 serve_fits s c env all number node request draw n t =
@@ -241,12 +241,12 @@ serve_fits s c env all number node request draw n t =
 
 -- ---- ticks and kills
 
-tell_shaped : (w : Workload) (c : ℕ) (env : Cells) (from : ℕ) (all : List NodeCopy) (to : ℕ) → from < c → AreShaped w c all → AreShaped w c (tell env from all to)
+tell_shaped : (w : Workload) (c : ℕ) (env : Cells) (from : ℕ) (all : List Replica) (to : ℕ) → from < c → AreShaped w c all → AreShaped w c (tell env from all to)
 tell_shaped w c env from all to n t =
-    either (AreShaped w c) _ (set all to (copy_at all from)) all (λ _. set_shaped w c all to (copy_at all from) t (t.each from (rw t.sized n))) (λ _. t)
+    either (AreShaped w c) _ (set all to (replica_at all from)) all (λ _. set_shaped w c all to (replica_at all from) t (t.each from (rw t.sized n))) (λ _. t)
 
-ticked_shaped : (store : Store) (w : Workload) (c : ℕ) (env : Cells) (all : List NodeCopy) → AreShaped w c all → AreShaped w c (ticked store env all)
-unfolding ticked
+ticked_shaped : (store : Store) (w : Workload) (c : ℕ) (env : Cells) (all : List Replica) → AreShaped w c all → AreShaped w c (replicas_after_tick store env all)
+unfolding replicas_after_tick
 ticked_shaped Quorum w c env all t = t
 ticked_shaped Lww w c env all t =
     let n = length all in
@@ -260,31 +260,31 @@ first_shaped Counter initial = tt
 first_shaped Set initial = tt
 first_shaped Ids initial = tt
 
-forgotten_shaped : (s : Settings) (c : ℕ) (before : List Bool) (after : Cells) (all : List NodeCopy) → AreShaped s.workload c all → AreShaped s.workload c (forgotten s before after all)
-unfolding forgotten
+forgotten_shaped : (s : Settings) (c : ℕ) (before : List Bool) (after : Cells) (all : List Replica) → AreShaped s.workload c all → AreShaped s.workload c (replicas_after_kills s before after all)
+unfolding replicas_after_kills
 forgotten_shaped s c before after all t =
     either (AreShaped s.workload c) s.volatile _ all
     (λ _. fold_keeps (AreShaped s.workload c) (length all) (forget_one s before after)
-    (λ a p _ k. either (AreShaped s.workload c) _ (set a p (first_copy s)) a (λ _. set_shaped s.workload c a p (first_copy s) k (first_shaped s.workload s.initial)) (λ _. k))
+    (λ a p _ k. either (AreShaped s.workload c) _ (set a p (first_replica s)) a (λ _. set_shaped s.workload c a p (first_replica s) k (first_shaped s.workload s.initial)) (λ _. k))
     all (places (length all)) (all_places (length all)) t)
     (λ _. t)
 
 -- ---- a legal journal
 
-replies_from : (u : Setup) (m : Moment) (es : List Event) → AreShaped u.settings.workload (length u.names) m.copies → AreDue u m es → RepliesFit u.settings.workload es
+replies_from : (u : Setup) (m : Moment) (es : List Event) → AreShaped u.settings.workload (length u.names) m.replicas → AreDue u m es → RepliesFit u.settings.workload es
 replies_from u m [] t h = tt
 replies_from u m (Event.Call process node request draw reply ∷ es) t h =
-    let s = serve_fits u.settings (length u.names) (env_of m.faults) m.copies m.number node request draw h.0.0 t in
+    let s = serve_fits u.settings (length u.names) (env_of m.faults) m.replicas m.number node request draw h.0.0 t in
     (subst (ReplyFits u.settings.workload request) (sym h.0.1) s.1, replies_from u (next u m (Event.Call process node request draw reply)) es s.0 h.1)
 replies_from u m (Event.Step step answer ∷ es) t h =
-    replies_from u (next u m (Event.Step step answer)) es (forgotten_shaped u.settings (length u.names) _ (env_of (state_after m.faults step)) m.copies t) h.1
+    replies_from u (next u m (Event.Step step answer)) es (forgotten_shaped u.settings (length u.names) _ (env_of (state_after m.faults step)) m.replicas t) h.1
 replies_from u m (Event.Tick ∷ es) t h =
-    replies_from u (next u m Event.Tick) es (ticked_shaped u.settings.store u.settings.workload (length u.names) (env_of m.faults) m.copies t) h.1
+    replies_from u (next u m Event.Tick) es (ticked_shaped u.settings.store u.settings.workload (length u.names) (env_of m.faults) m.replicas t) h.1
 
 pub replies_fit : (u : Setup) (journal : List Event) → IsLegal u journal → RepliesFit u.settings.workload journal
 replies_fit u journal legal =
     let n = length u.names in
-    let first = first_copy u.settings in
+    let first = first_replica u.settings in
     replies_from u (opening u) journal (record {
       sized = length-replicate n first;
       each = λ p below. let short : p < n = rw (length-replicate n first) at below in

@@ -10,14 +10,14 @@ use Rattle.jh_nemesis.specs.Steps.{answer_of, is_ok, moved, state_after}
 use Rattle.jh_nemesis.specs.declared.steps.Step.{Step}
 use Rattle.jh_nemesis.specs.declared.steps.Step.TheVariants.{Begin, Withdraw, WithdrawAll, Undo, Redo}
 use Rattle.jh_ops.specs.Operation.{Operation}
-use Rattle.jh_simnode.specs.declared.copies.NodeCopy.{NodeCopy}
+use Rattle.jh_simnode.specs.declared.replicas.Replica.{Replica}
 use Rattle.jh_simnode.specs.declared.events.Event.{Event}
 use Rattle.jh_simnode.specs.Events.{AreDue, IsDue, IsLegal, Moment, Setup, env_of, faults_after, next, opening}
 use Rattle.jh_simnode.specs.Plans.{PlanValue}
 use Rattle.jh_simnode.specs.Reach.{Cells, cells_over}
 use Rattle.jh_simnode.specs.Runs.{Turns, Move, Comes, Reaches, Serial, call_event, move_of, setup_of}
 use Rattle.jh_simnode.specs.Runs.Move.{Ticks, Applies, Waits, Calls, Ends, Rests}
-use Rattle.jh_simnode.specs.Stores.{dead, forgotten, serve, ticked}
+use Rattle.jh_simnode.specs.Stores.{dead, replicas_after_kills, serve, replicas_after_tick}
 use Rattle.jh_simnode.proofs.StepLemmas.{state_after_start}
 
 -- ---- the same faults over another start
@@ -63,7 +63,7 @@ cells_same start other same faults = λ i. record {
 }
 
 abbrev placed : Table → Moment → Moment
-placed start m = record { number = m.number; faults = restarted start m.faults; copies = m.copies }
+placed start m = record { number = m.number; faults = restarted start m.faults; replicas = m.replicas }
 
 abbrev founded : Table → Setup → Setup
 founded start u = record { names = u.names; start = start; settings = u.settings }
@@ -83,20 +83,20 @@ still_same start s e same = subst (λ (t : Table). SameCells t start) (sym (star
 next_placed : (u : Setup) (start : Table) (m : Moment) (e : Event) → SameCells m.faults.start start → next (founded start u) (placed start m) e ≡ placed start (next u m e)
 next_placed u start m (Event.Call process node request draw reply) same =
     let env = env_same start m.faults same in
-    λ i. record { number = m.number + 1; faults = restarted start m.faults; copies = (serve u.settings (env i) m.copies m.number node request draw).copies }
+    λ i. record { number = m.number + 1; faults = restarted start m.faults; replicas = (serve u.settings (env i) m.replicas m.number node request draw).replicas }
 next_placed u start m (Event.Step step answer) same =
     let env = env_same start m.faults same in
     let faults = step_restarted start m.faults step in
     let after : env_of (state_after (restarted start m.faults) step) ≡ env_of (state_after m.faults step) =
     ap env_of faults ∙ env_same start (state_after m.faults step) (still_same start m.faults (Event.Step step answer) same) in
-    λ i. record { number = m.number + 1; faults = faults i; copies = forgotten u.settings (dead (env i) (length u.names)) (after i) m.copies }
+    λ i. record { number = m.number + 1; faults = faults i; replicas = replicas_after_kills u.settings (dead (env i) (length u.names)) (after i) m.replicas }
 next_placed u start m Event.Tick same =
     let env = env_same start m.faults same in
-    λ i. record { number = m.number + 1; faults = restarted start m.faults; copies = ticked u.settings.store (env i) m.copies }
+    λ i. record { number = m.number + 1; faults = restarted start m.faults; replicas = replicas_after_tick u.settings.store (env i) m.replicas }
 
 due_placed : (u : Setup) (start : Table) (m : Moment) (e : Event) → SameCells m.faults.start start → IsDue u m e → IsDue (founded start u) (placed start m) e
 due_placed u start m (Event.Call process node request draw reply) same h =
-    (h.0, subst (λ (env : Cells). reply ≡ (serve u.settings env m.copies m.number node request draw).reply) (sym (env_same start m.faults same)) h.1)
+    (h.0, subst (λ (env : Cells). reply ≡ (serve u.settings env m.replicas m.number node request draw).reply) (sym (env_same start m.faults same)) h.1)
 due_placed u start m (Event.Step step answer) same h = (h.0, h.1 ∙ sym (answer_restarted start m.faults step))
 due_placed u start m Event.Tick same h = tt
 

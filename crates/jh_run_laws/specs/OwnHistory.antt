@@ -20,11 +20,11 @@ use Rattle.jh_gen.specs.Suits.{has_only, is_call_for}
 use Rattle.jh_ops.specs.declared.call.Request.{Request}
 use Rattle.jh_ops.specs.declared.call.Request.TheVariants.{Read}
 use Rattle.jh_ops.specs.declared.call.Workload.TheVariants.{Register, Counter, Set, Ids}
-use Rattle.jh_simnode.specs.declared.copies.Contents.{Contents}
-use Rattle.jh_simnode.specs.declared.copies.Contents.TheVariants.{One, Many}
-use Rattle.jh_simnode.specs.declared.copies.Got.{Got}
-use Rattle.jh_simnode.specs.declared.copies.Reply.{Reply}
-use Rattle.jh_simnode.specs.declared.copies.Reply.TheVariants as said
+use Rattle.jh_simnode.specs.declared.replicas.Contents.{Contents}
+use Rattle.jh_simnode.specs.declared.replicas.Contents.TheVariants.{One, Many}
+use Rattle.jh_simnode.specs.declared.replicas.Got.{Got}
+use Rattle.jh_simnode.specs.declared.replicas.Reply.{Reply}
+use Rattle.jh_simnode.specs.declared.replicas.Reply.TheVariants as said
 use Rattle.jh_simnode.specs.declared.events.Event.{Event}
 use Rattle.jh_simnode.specs.Counts.{process_after}
 
@@ -50,7 +50,7 @@ abbrev pub CallsFit : Workload → ℕ → List Event → List Event → Type 0
 CallsFit w clients before [] = Unit {0}
 CallsFit w clients before (e ∷ es) = FitsAfter w clients before e × CallsFit w clients (before ++ e ∷ []) es
 
--- contents of a copy that a run of the workload can have
+-- contents of a replica that a run of the workload can have
 abbrev pub IsShaped : Workload → Contents → Type 0
 IsShaped Register (One x) = Unit {0}
 IsShaped Counter (One (Some z)) = Unit {0}

@@ -12,7 +12,7 @@ use Rattle.jh_gen.specs.Generator.{Generator, clients, limit}
 use Rattle.jh_gen.specs.Offers.{Offer, by_member, offer, spent, unless_spent}
 use Rattle.jh_gen.specs.Scope.{Scope, Question, is_client, is_in}
 use Rattle.jh_gen.specs.Tally.{Path, Tally, under}
-use Rattle.jh_simnode.specs.declared.copies.Reply.{Reply}
+use Rattle.jh_simnode.specs.declared.replicas.Reply.{Reply}
 use Rattle.jh_simnode.specs.declared.events.Event.{Event}
 use Rattle.jh_simnode.specs.declared.schedule.Entry.{Entry}
 use Rattle.jh_simnode.specs.declared.events.WorldError.TheVariants as world

@@ -11,7 +11,7 @@ use Rattle.jh_gen.specs.DriverState.{DriverState, after_end}
 use Rattle.jh_gen.specs.declared.answers.Thread.TheVariants as thread
 use Rattle.jh_nemesis.specs.declared.steps.Step.{Step}
 use Rattle.jh_nemesis.specs.declared.steps.StepAnswer.{StepAnswer}
-use Rattle.jh_simnode.specs.declared.copies.Reply.{Reply}
+use Rattle.jh_simnode.specs.declared.replicas.Reply.{Reply}
 use Rattle.jh_simnode.specs.declared.events.Event.{Event}
 use Rattle.jh_simnode.specs.declared.schedule.Entry.{Entry}
 use Rattle.jh_simnode.specs.declared.turns.Asked.TheVariants as asked

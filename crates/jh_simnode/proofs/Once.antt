@@ -3,7 +3,7 @@ use Rattle.std.proofs.Common.{◌≡◌, ℕ, zero, suc, ◌<◌, List, [], ◌�
 use Rattle.std.proofs.lemmas.Bool.{cases_eq, cases_lt}
 use Rattle.jh_nemesis.specs.declared.steps.Step.{Step}
 use Rattle.jh_nemesis.specs.declared.steps.StepAnswer.{StepAnswer}
-use Rattle.jh_simnode.specs.declared.copies.Reply.{Reply}
+use Rattle.jh_simnode.specs.declared.replicas.Reply.{Reply}
 use Rattle.jh_simnode.specs.declared.events.Event.{Event}
 use Rattle.jh_simnode.specs.Events.{Setup, opening, moment_at, IsDue, IsLegal}
 use Rattle.jh_simnode.specs.Histories.{history_of}

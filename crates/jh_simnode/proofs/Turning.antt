@@ -12,8 +12,8 @@ use Rattle.jh_ops.specs.declared.call.Request.{Request}
 use Rattle.jh_gen.specs.Tally.{Path}
 use Rattle.jh_gen.specs.DriverState.{DriverState, after_end, processes_after}
 use Rattle.jh_gen.specs.declared.answers.Thread.TheVariants as thread
-use Rattle.jh_simnode.specs.declared.copies.Reply.{Reply}
-use Rattle.jh_simnode.specs.declared.copies.Reply.TheVariants.{Ok, Fail, Info}
+use Rattle.jh_simnode.specs.declared.replicas.Reply.{Reply}
+use Rattle.jh_simnode.specs.declared.replicas.Reply.TheVariants.{Ok, Fail, Info}
 use Rattle.jh_simnode.specs.declared.events.Event.{Event}
 use Rattle.jh_simnode.specs.declared.turns.Run.{Run}
 use Rattle.jh_simnode.specs.Counts.{answered, applied, calls_by, process_after, is_call, is_step, is_call_by, is_crash_of, is_process_of}

@@ -1,14 +1,14 @@
--- What a request does to the contents of a copy: the objects that Jepsen's pages on checkers name, a register, a
+-- What a request does to the contents of a replica: the objects that Jepsen's pages on checkers name, a register, a
 -- counter, a set and ids.
 use Rattle.std.specs.Prelude.{ℤ, pos, negsuc, ◌+ℤ◌, ◌^◌, Bool, List, [], ◌∷◌, Option, Some, None, nat_lt, int_lt, if◌then◌else◌}
 use Rattle.std.specs.Ordering.{int_eq}
 use Rattle.jh_ops.specs.declared.call.Request.{Request}
 use Rattle.jh_ops.specs.declared.call.Request.TheVariants.{Read, Write, Cas, Add, Generate}
-use Rattle.jh_simnode.specs.declared.copies.Contents.{Contents}
-use Rattle.jh_simnode.specs.declared.copies.Contents.TheVariants.{One, Many}
-use Rattle.jh_simnode.specs.declared.copies.Got.{Got}
+use Rattle.jh_simnode.specs.declared.replicas.Contents.{Contents}
+use Rattle.jh_simnode.specs.declared.replicas.Contents.TheVariants.{One, Many}
+use Rattle.jh_simnode.specs.declared.replicas.Got.{Got}
 use Rattle.jh_simnode.specs.declared.effects.Change.{Change}
-use Rattle.jh_simnode.specs.Copies.{got_of}
+use Rattle.jh_simnode.specs.Replicas.{got_of}
 
 -- a number of 64 bits with a sign
 abbrev pub is_small : ℤ → Bool

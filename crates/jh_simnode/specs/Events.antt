@@ -6,14 +6,14 @@ use Rattle.jh_env.specs.Overlay.{EnvValue, work_of}
 use Rattle.jh_nemesis.specs.State.{State, faults_in}
 use Rattle.jh_nemesis.specs.Steps.{answer_of, state_after, FitsNodes}
 use Rattle.jh_simnode.specs.declared.settings.Settings.{Settings}
-use Rattle.jh_simnode.specs.declared.copies.NodeCopy.{NodeCopy}
+use Rattle.jh_simnode.specs.declared.replicas.Replica.{Replica}
 use Rattle.jh_simnode.specs.declared.events.Event.{Event}
 use Rattle.jh_simnode.specs.declared.events.WorldError.{WorldError}
 use Rattle.jh_simnode.specs.declared.events.WorldError.TheVariants.{UnknownNode, TooManyEvents, OutOfMemory}
 use Rattle.jh_simnode.specs.Limits.{max_events}
-use Rattle.jh_simnode.specs.Copies.{first_copy}
+use Rattle.jh_simnode.specs.Replicas.{first_replica}
 use Rattle.jh_simnode.specs.Reach.{Cells, cells_over}
-use Rattle.jh_simnode.specs.Stores.{serve, ticked, dead, forgotten, version_at}
+use Rattle.jh_simnode.specs.Stores.{serve, replicas_after_tick, dead, replicas_after_kills, version_at}
 
 -- what a world keeps for good: the nodes, their starting cells, and the settings
 pub record Setup : Type 0 where
@@ -21,11 +21,11 @@ pub record Setup : Type 0 where
   pub start : Table
   pub settings : Settings
 
--- where a world stands: the number of events so far, the faults with their past and future, and the copies
+-- where a world stands: the number of events so far, the faults with their past and future, and the replicas
 pub record Moment : Type 0 where
   pub number : ℕ
   pub faults : State
-  pub copies : List NodeCopy
+  pub replicas : List Replica
 
 -- no fault was begun so far
 abbrev pub calm_state : Setup → State
@@ -33,7 +33,11 @@ calm_state u = record { names = u.names; start = u.start; past = []; active = []
 
 -- where a world stands at first
 abbrev pub opening : Setup → Moment
-opening u = record { number = 0; faults = calm_state u; copies = replicate (length u.names) (first_copy u.settings) }
+opening u = record {
+  number = 0;
+  faults = calm_state u;
+  replicas = replicate (length u.names) (first_replica u.settings);
+}
 
 -- the environment: what the active faults make of the starting one
 abbrev pub env_of : State → Cells
@@ -45,17 +49,18 @@ faults_after s (Event.Call process node request draw reply) = s
 faults_after s (Event.Step step answer) = state_after s step
 faults_after s Event.Tick = s
 
--- the copies after an event
-abbrev pub copies_after : Setup → Moment → Event → List NodeCopy
-copies_after u m (Event.Call process node request draw reply) =
-    (serve u.settings (env_of m.faults) m.copies m.number node request draw).copies
-copies_after u m (Event.Step step answer) =
-    forgotten u.settings (dead (env_of m.faults) (length u.names)) (env_of (state_after m.faults step)) m.copies
-copies_after u m Event.Tick = ticked u.settings.store (env_of m.faults) m.copies
+-- the replicas after an event
+abbrev pub replicas_after : Setup → Moment → Event → List Replica
+replicas_after u m (Event.Call process node request draw reply) =
+    (serve u.settings (env_of m.faults) m.replicas m.number node request draw).replicas
+replicas_after u m (Event.Step step answer) =
+    replicas_after_kills u.settings (dead (env_of m.faults) (length u.names)) (env_of (state_after m.faults step))
+    m.replicas
+replicas_after u m Event.Tick = replicas_after_tick u.settings.store (env_of m.faults) m.replicas
 
 -- the moment after an event
 abbrev pub next : Setup → Moment → Event → Moment
-next u m e = record { number = m.number + 1; faults = faults_after m.faults e; copies = copies_after u m e }
+next u m e = record { number = m.number + 1; faults = faults_after m.faults e; replicas = replicas_after u m e }
 
 -- the moment after these events one after another
 abbrev pub after_all : Setup → Moment → List Event → Moment
@@ -69,7 +74,7 @@ moment_at u journal = after_all u (opening u) journal
 -- the answer or the reply is the one that is due, and the nodes named are there
 abbrev pub IsDue : Setup → Moment → Event → Type 0
 IsDue u m (Event.Call process node request draw reply) =
-    (node < length u.names) × (reply ≡ (serve u.settings (env_of m.faults) m.copies m.number node request draw).reply)
+    (node < length u.names) × (reply ≡ (serve u.settings (env_of m.faults) m.replicas m.number node request draw).reply)
 IsDue u m (Event.Step step answer) = FitsNodes (length u.names) step × (answer ≡ answer_of m.faults step)
 IsDue u m Event.Tick = Unit {0}
 
@@ -96,16 +101,16 @@ pub record IsNew (env : EnvValue) (chosen : Settings) (new : WorldValue) : Type 
   pub settings : new.setup.settings ≡ chosen
   pub work : new.work ≡ work_of env
 
--- a copy for each of so many nodes, and no version above a number
-pub record AreTidy (count number : ℕ) (all : List NodeCopy) : Type 0 where
+-- a replica for each of so many nodes, and no version above a number
+pub record AreTidy (count number : ℕ) (all : List Replica) : Type 0 where
   pub sized : length all ≡ count
   pub low : (place : ℕ) → version_at all place ≤ number
 
--- the nemesis and the copies of a world are those that its journal leads to
-pub record IsWorldOf (u : Setup) (state : State) (all : List NodeCopy) (events : List Event) : Type 0 where
+-- the nemesis and the replicas of a world are those that its journal leads to
+pub record IsWorldOf (u : Setup) (state : State) (all : List Replica) (events : List Event) : Type 0 where
   pub legal : IsLegal u events
   pub faults : state ≡ (moment_at u events).faults
-  pub copies : all ≡ (moment_at u events).copies
+  pub replicas : all ≡ (moment_at u events).replicas
   pub tidy : AreTidy (length u.names) (length events) all
   pub few : length events ≤ max_events
 

@@ -16,7 +16,7 @@ world_of a = record { setup = setup_of a.nemesis.state a.settings; journal = a.j
 
 -- what holds of every world
 abbrev pub IsSound : Inside → Type 0
-IsSound a = IsWorldOf (setup_of a.nemesis.state a.settings) a.nemesis.state a.copies.items a.journal.items
+IsSound a = IsWorldOf (setup_of a.nemesis.state a.settings) a.nemesis.state a.replicas.items a.journal.items
 
 -- what callers see of what a plan is made of
 abbrev pub plan_of : plan.Inside → PlanValue

@@ -1,5 +1,5 @@
 pub mod Requests
-pub mod Copies
+pub mod Replicas
 pub mod Effects
 pub mod Reach
 pub mod Stores

@@ -62,8 +62,8 @@ places zero = []
 places (suc n) = places n ++ n ∷ []
 
 -- a call of a node reaches another, and its answer comes back
-abbrev pub is_touched : Cells → ℕ → ℕ → ℕ → Bool
-is_touched env draw node other =
+abbrev pub is_reached : Cells → ℕ → ℕ → ℕ → Bool
+is_reached env draw node other =
     (other == node)
     || (runs (env.node other) && (carries draw (env.link node other) && carries draw (env.link other node)))
 
@@ -72,9 +72,9 @@ abbrev pub is_timely : Cells → ℕ → ℕ → Bool
 is_timely env node other =
     (other == node) || nat_le (delay_of (env.link node other) + delay_of (env.link other node)) 1000
 
--- the nodes, of so many, that a call of a node touches, and those that are heard in time
-abbrev pub touched : Cells → ℕ → ℕ → ℕ → List ℕ
-touched env count draw node = filter (is_touched env draw node) (places count)
+-- the nodes, of so many, that a call of a node reaches, and those that respond in time
+abbrev pub reached_nodes : Cells → ℕ → ℕ → ℕ → List ℕ
+reached_nodes env count draw node = filter (is_reached env draw node) (places count)
 
-abbrev pub heard : Cells → ℕ → List ℕ → List ℕ
-heard env node reached = filter (is_timely env node) reached
+abbrev pub responding_nodes : Cells → ℕ → List ℕ → List ℕ
+responding_nodes env node reached = filter (is_timely env node) reached

@@ -9,8 +9,8 @@ use Rattle.jh_gen.specs.DriverState as driver
 use Rattle.jh_gen.specs.declared.answers.Thread.TheVariants as thread
 use Rattle.jh_gen.specs.declared.answers.Ended.{Ended}
 use Rattle.jh_gen.specs.declared.answers.Ended.TheVariants as ends
-use Rattle.jh_simnode.specs.declared.copies.Reply.{Reply}
-use Rattle.jh_simnode.specs.declared.copies.Reply.TheVariants.{Ok, Fail, Info}
+use Rattle.jh_simnode.specs.declared.replicas.Reply.{Reply}
+use Rattle.jh_simnode.specs.declared.replicas.Reply.TheVariants.{Ok, Fail, Info}
 use Rattle.jh_simnode.specs.declared.events.Event.{Event}
 use Rattle.jh_simnode.specs.declared.schedule.Entry.{Entry}
 use Rattle.jh_simnode.specs.declared.turns.Asked.{Asked}

@@ -15,7 +15,7 @@ use Rattle.jh_gen.specs.Scope.{Question}
 use Rattle.jh_gen.specs.Offers.{spent, offer, Offer}
 use Rattle.jh_gen.specs.DriverState.{all_seats}
 use Rattle.jh_nemesis.specs.declared.steps.StepAnswer.{StepAnswer}
-use Rattle.jh_simnode.specs.declared.copies.Reply.{Reply}
+use Rattle.jh_simnode.specs.declared.replicas.Reply.{Reply}
 use Rattle.jh_simnode.specs.declared.events.Event.{Event}
 use Rattle.jh_simnode.specs.declared.events.WorldError.TheVariants as world
 use Rattle.jh_simnode.specs.declared.schedule.Entry.{Entry}

@@ -1,10 +1,10 @@
-//! What a request does to the contents of a copy. `specs/Effects.antt` has the rule.
+//! What a request does to the contents of a replica. `specs/Effects.antt` has the rule.
 
 ghost use Rattle.std.specs.Prelude.{◌≡◌, ◌≤◌, Some, None, ℤ, List, IfOk, MatchOption, length, take, drop, ◌++◌, ◌∷◌};
 ghost use Rattle.jh_simnode.specs.Effects.{effect, wrote, put_in, after_cas, after_add, after_generate};
 ghost use Rattle.jh_ops.specs.declared.call.Request.TheVariants.{Read, Write, Cas, Add, Generate};
 
-use crate::copies::{Contents, Got, Numbers};
+use crate::replicas::{Contents, Got, Numbers};
 use jh_ops::Request;
 use std::alloc::{AllocError, Global};
 

@@ -3,7 +3,7 @@
 ghost use Rattle.std.specs.Prelude.{◌≡◌, ◌↔◌, length, IfOk, IsTrue};
 ghost use Rattle.jh_nemesis.specs.Steps.{FitsNodes};
 
-use crate::copies::Reply;
+use crate::replicas::Reply;
 use jh_env::{Env, Node};
 use jh_nemesis::{Step, StepAnswer};
 use jh_ops::Request;

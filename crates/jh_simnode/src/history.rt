@@ -9,8 +9,8 @@ ghost use Rattle.jh_simnode.specs.Histories as rule;
 ghost use Rattle.jh_simnode.specs.Limits.{max_events};
 ghost use Rattle.jh_simnode.specs.Histories.{answered_by, asked_with, at_place, begun, completed, invoked, replied_with, told_with};
 
-use crate::copies::{Got, Reply};
 use crate::events::Event;
+use crate::replicas::{Got, Reply};
 use jh_edn::{Pairs, Text, Value, Values};
 use jh_nemesis::StepAnswer;
 use jh_ops::{Kind, Op, Process, Request};

@@ -1,8 +1,7 @@
-//! A simulated cluster: copies of a database on the nodes of an environment, kept by one of three stores, under the faults of a
+//! A simulated cluster: replicas of a database on the nodes of an environment, kept by one of three stores, under the faults of a
 //! nemesis. A world has a journal of all that happened, and stands where its journal leads to.
 #![tactic(auto)]
 
-mod copies;
 mod effects;
 mod events;
 mod history;
@@ -10,6 +9,7 @@ mod laws;
 mod plan;
 mod reach;
 mod replay;
+mod replicas;
 mod requests;
 mod schedule;
 mod serial;
@@ -18,7 +18,6 @@ mod stores;
 mod turns;
 mod world;
 
-pub use copies::{Contents, Got, Mark, NodeCopy, Numbers, Reply};
 pub use events::{Event, MAX_EVENTS, WorldError};
 pub use history::{
     code_of, completion, entry_begun, entry_ended, invocation, kind_of, push_placed,
@@ -26,6 +25,7 @@ pub use history::{
 pub use laws::{limits, world_laws};
 pub use plan::{MAX_ROWS, Plan, PlanError};
 pub use replay::nemesis_after;
+pub use replicas::{Contents, Got, Mark, Numbers, Replica, Reply};
 pub use schedule::{Entry, MAX_ENTRIES, Schedule, TooLong};
 pub use serial::{RunError, one_run, run_serial, world_of};
 pub use settings::{Settings, Store};

@@ -238,7 +238,7 @@ impl Plan {
         self.settings.store
     }
 
-    /// Whether a node that is killed loses its copy.
+    /// Whether a node that is killed loses its replica.
     pub fn volatile(&self) -> bool
         ensures { result ≡ self.now.settings.volatile }
     {

@@ -2,7 +2,7 @@
 
 ghost use Rattle.std.specs.Prelude.{◌≡◌, ◌<◌, ◌≤◌, length, IfOk, take};
 ghost use Rattle.std.specs.List.{All};
-ghost use Rattle.jh_simnode.specs.Reach.{cells_of, runs, is_killed, is_touched, is_timely, touched, heard, places, carries, delay_of};
+ghost use Rattle.jh_simnode.specs.Reach.{cells_of, runs, is_killed, is_reached, is_timely, reached_nodes, responding_nodes, places, carries, delay_of};
 ghost use Rattle.jh_simnode.specs.Stores.{dead, is_open};
 
 use arrayvec::ArrayVec;
@@ -63,8 +63,8 @@ fn delay_on(link: Option<Link>) -> u64
 }
 
 /// Whether a call of a node reaches another, and its answer comes back.
-fn is_touched(env: &Env, draw: u64, node: Node, other: Node) -> bool
-    ensures { result ≡ is_touched (cells_of env.now) draw node other }
+fn is_reached(env: &Env, draw: u64, node: Node, other: Node) -> bool
+    ensures { result ≡ is_reached (cells_of env.now) draw node other }
 {
     if other.place() == node.place() {
         return true;
@@ -74,22 +74,22 @@ fn is_touched(env: &Env, draw: u64, node: Node, other: Node) -> bool
         && is_carried(env.link(other, node), draw)
 }
 
-/// Whether a call of a node touches the node at a place.
+/// Whether a call of a node reaches the node at a place.
 fn touches(env: &Env, draw: u64, node: Node, place: usize) -> bool
     requires { place < length env.now.names }
-    ensures { result ≡ is_touched (cells_of env.now) draw node place }
+    ensures { result ≡ is_reached (cells_of env.now) draw node place }
 {
     let _count = env.nodes().len();
     match env.nodes().at(place as u8) {
-        Some(other) => is_touched(env, draw, node, other),
+        Some(other) => is_reached(env, draw, node, other),
         None => false,
     }
 }
 
-/// The nodes that a call of a node touches.
+/// The nodes that a call of a node reaches.
 #[tactic(auto, using(crate::proofs::Places::filter_places_kept, crate::proofs::Places::filter_places_dropped, crate::proofs::Places::filter_below))]
-pub(crate) fn touched(env: &Env, draw: u64, node: Node) -> NodePlaces
-    ensures places { result.items ≡ touched (cells_of env.now) (length env.now.names) draw node }
+pub(crate) fn reached_nodes(env: &Env, draw: u64, node: Node) -> NodePlaces
+    ensures places { result.items ≡ reached_nodes (cells_of env.now) (length env.now.names) draw node }
     ensures known { All (λ p. p < length env.now.names) result.items }
 {
     let mut these = NodePlaces::new();
@@ -101,7 +101,7 @@ pub(crate) fn touched(env: &Env, draw: u64, node: Node) -> NodePlaces
     these
 }
 
-/// Whether the answer of a node that was touched comes in time.
+/// Whether a node that was reached responds in time.
 fn is_timely(env: &Env, node: Node, other: Node) -> bool
     ensures { result ≡ is_timely (cells_of env.now) node other }
 {
@@ -124,10 +124,10 @@ fn comes_in_time(env: &Env, node: Node, place: usize) -> bool
 }
 
 /// Those of the nodes reached whose answers come in time.
-pub(crate) fn heard(env: &Env, node: Node, reached: &[usize]) -> NodePlaces
+pub(crate) fn responding_nodes(env: &Env, node: Node, reached: &[usize]) -> NodePlaces
     requires known { All (λ p. p < length env.now.names) reached.now }
     requires few { length reached.now ≤ 64 }
-    ensures places { result.items ≡ heard (cells_of env.now) node reached.now }
+    ensures places { result.items ≡ responding_nodes (cells_of env.now) node reached.now }
     ensures known { All (λ p. p < length env.now.names) result.items }
 {
     let mut these = NodePlaces::new();

@@ -2,14 +2,14 @@
 
 use jh_ops::Workload;
 
-/// How the nodes keep their copies together.
+/// How the nodes keep their replicas together.
 #[derive(Clone, Copy, Debug, PartialEq, Eq)]
 pub enum Store {
     /// A request is done by more than half of the nodes, or not at all.
     Quorum,
-    /// The last writer wins: each node answers from its own copy, and keeps the copy with the greatest stamp that it met.
+    /// The last writer wins: each node answers from its own replica, and keeps the replica with the greatest stamp that it met.
     Lww,
-    /// Each node has a copy of its own, of which no other node learns.
+    /// Each node has a replica of its own, of which no other node learns.
     Local,
 }
 
@@ -17,7 +17,7 @@ pub enum Store {
 #[derive(Clone, Copy, Debug, PartialEq, Eq)]
 pub struct Settings {
     pub store: Store,
-    /// Whether a node that is killed loses its copy.
+    /// Whether a node that is killed loses its replica.
     pub volatile: bool,
     pub workload: Workload,
     /// What a register holds at first. It matters to no other workload.

@@ -3,12 +3,12 @@
 ghost use Rattle.std.specs.Prelude.{◌≡◌, ℕ, pos, ◌+ℤ◌, ◌<◌, ◌≤◌, ◌&&◌, [], length, IfOk};
 ghost use Rattle.std.specs.List.{All};
 ghost use Rattle.jh_simnode.specs.Reach.{cells_of, is_killed, places, runs};
-ghost use Rattle.jh_simnode.specs.Outcomes.{Gives, AreTaken, AreSources, with_all, copies_from};
-ghost use Rattle.jh_simnode.specs.Stores.{serve_local, serve_lww, serve_quorum, quorum_read, quorum_write, newest, newer_place, give_all, older, version_at, dead, ticked, tell, tell_all, spread, is_open, forgotten, serve};
+ghost use Rattle.jh_simnode.specs.Outcomes.{Gives, AreTaken, AreSources, with_all, replicas_from};
+ghost use Rattle.jh_simnode.specs.Stores.{serve_local, serve_lww, serve_quorum, quorum_read, quorum_write, newest, newer_place, give_all, older, version_at, dead, replicas_after_tick, tell, tell_all, spread, is_open, replicas_after_kills, serve};
 
-use crate::copies::{Mark, NodeCopy, Reply};
 use crate::effects::effect;
-use crate::reach::{NodePlaces, heard, is_down, is_open, is_up, touched};
+use crate::reach::{NodePlaces, is_down, is_open, is_up, reached_nodes, responding_nodes};
+use crate::replicas::{Mark, Replica, Reply};
 use crate::requests::{is_read, only_asks};
 use crate::settings::{Settings, Store};
 use arrayvec::ArrayVec;
@@ -16,21 +16,21 @@ use jh_env::{Env, Life, Node};
 use jh_ops::Request;
 use std::alloc::{AllocError, Global};
 
-/// A copy that the node at a place takes over.
+/// A replica that the node at a place takes over.
 #[derive(Drop)]
 pub(crate) struct Taken {
     pub(crate) place: usize,
-    pub(crate) copy: NodeCopy,
+    pub(crate) replica: Replica,
 }
 
-/// A reply, and the copies that nodes take over with it, one for each node that changes its own.
+/// A reply, and the replicas that nodes take over with it, one for each node that changes its own.
 #[derive(Drop)]
 pub(crate) struct Outcome {
     pub(crate) reply: Reply,
     pub(crate) taken: Vec<Taken>,
 }
 
-/// Of each place, in order, the place whose copy its node has in the end.
+/// Of each place, in order, the place whose replica its node has in the end.
 type Sources = ArrayVec<usize, 64>;
 
 /// Of each node, in order, whether it is killed.
@@ -60,25 +60,25 @@ pub(crate) fn dead_nodes(env: &Env) -> Flags
     all
 }
 
-/// Makes the copy of each node that is killed now and wasn't before as it is at first, where the settings say so.
-#[tactic(auto, using(crate::proofs::Places::fold_places_more), unfolding(crate::specs::Stores::forgotten))]
+/// Makes the replica of each node that is killed now and wasn't before as it is at first, where the settings say so.
+#[tactic(auto, using(crate::proofs::Places::fold_places_more), unfolding(crate::specs::Stores::replicas_after_kills))]
 pub(crate) fn forget(
     alloc: Global,
     settings: &Settings,
     before: &[bool],
     env: &Env,
-    copies: &mut [NodeCopy],
+    replicas: &mut [Replica],
 )
     requires before { length before.now ≡ length env.now.names }
-    requires sized { length copies.old ≡ length env.now.names }
-    ensures { copies.new ≡ forgotten settings.now before.now (cells_of env.now) copies.old }
+    requires sized { length replicas.old ≡ length env.now.names }
+    ensures { replicas.new ≡ replicas_after_kills settings.now before.now (cells_of env.now) replicas.old }
 {
     if !settings.volatile {
         return;
     }
     for place in 0..env.nodes().len() {
         if is_down_at(env, place) && !before[place] {
-            copies[place] = NodeCopy::first(alloc, settings);
+            replicas[place] = Replica::first(alloc, settings);
         }
     }
 }
@@ -100,31 +100,31 @@ fn tells(env: &Env, from: usize, to: usize) -> bool
 }
 
 /// One node tells another what it has: the other takes it where its own stamp is lower.
-fn tell(env: &Env, copies: &[NodeCopy], from: usize, sources: &mut [usize], to: usize)
+fn tell(env: &Env, replicas: &[Replica], from: usize, sources: &mut [usize], to: usize)
     requires from { from < length env.now.names }
     requires to { to < length env.now.names }
-    requires sized { length copies.now ≡ length env.now.names }
+    requires sized { length replicas.now ≡ length env.now.names }
     requires sources { AreSources (length env.now.names) sources.old }
-    ensures told { copies_from copies.now sources.new ≡ tell (cells_of env.now) from (copies_from copies.now sources.old) to }
+    ensures told { replicas_from replicas.now sources.new ≡ tell (cells_of env.now) from (replicas_from replicas.now sources.old) to }
     ensures sources { AreSources (length env.now.names) sources.new }
 {
     let source = sources[from];
-    if tells(env, from, to) && copies[sources[to]].mark.is_lower(copies[source].mark) {
+    if tells(env, from, to) && replicas[sources[to]].mark.is_lower(replicas[source].mark) {
         sources[to] = source;
     }
 }
 
 /// One node tells all what it has.
 #[tactic(auto, using(crate::proofs::Places::fold_places_more))]
-fn tell_all(env: &Env, copies: &[NodeCopy], sources: &mut [usize], from: usize)
+fn tell_all(env: &Env, replicas: &[Replica], sources: &mut [usize], from: usize)
     requires from { from < length env.now.names }
-    requires sized { length copies.now ≡ length env.now.names }
+    requires sized { length replicas.now ≡ length env.now.names }
     requires sources { AreSources (length env.now.names) sources.old }
-    ensures told { copies_from copies.now sources.new ≡ tell_all (cells_of env.now) (length env.now.names) (copies_from copies.now sources.old) from }
+    ensures told { replicas_from replicas.now sources.new ≡ tell_all (cells_of env.now) (length env.now.names) (replicas_from replicas.now sources.old) from }
     ensures sources { AreSources (length env.now.names) sources.new }
 {
     for to in 0..env.nodes().len() {
-        tell(env, copies, from, sources, to);
+        tell(env, replicas, from, sources, to);
     }
 }
 
@@ -141,100 +141,102 @@ fn own_sources(env: &Env) -> Sources
 
 /// All nodes tell all what they have.
 #[tactic(auto, using(crate::proofs::Places::fold_places_more))]
-fn spread(env: &Env, copies: &[NodeCopy]) -> Sources
-    requires sized { length copies.now ≡ length env.now.names }
-    ensures told { copies_from copies.now result.items ≡ spread (cells_of env.now) (length env.now.names) copies.now }
+fn spread(env: &Env, replicas: &[Replica]) -> Sources
+    requires sized { length replicas.now ≡ length env.now.names }
+    ensures told { replicas_from replicas.now result.items
+        ≡ spread (cells_of env.now) (length env.now.names) replicas.now }
     ensures sources { AreSources (length env.now.names) result.items }
 {
     let mut sources = own_sources(env);
     for from in 0..env.nodes().len() {
-        tell_all(env, copies, &mut sources, from);
+        tell_all(env, replicas, &mut sources, from);
     }
     sources
 }
 
-/// The copies that nodes take over from others.
+/// The replicas that nodes take over from others.
 fn taken_from(
     alloc: Global,
-    copies: &[NodeCopy],
+    replicas: &[Replica],
     sources: &[usize],
 ) -> Result<Vec<Taken>, AllocError>
-    requires { AreSources (length copies.now) sources.now }
-    ensures { IfOk result (λ taken. AreTaken copies.now taken.items (copies_from copies.now sources.now)) }
+    requires { AreSources (length replicas.now) sources.now }
+    ensures { IfOk result (λ taken. AreTaken replicas.now taken.items (replicas_from replicas.now sources.now)) }
 {
     let mut taken = Vec::new(alloc);
     for place in 0..sources.len() {
         let source = sources[place];
         if source != place {
-            let copy = copies[source].copy(alloc)?;
-            taken.push(Taken { place, copy })?;
+            let replica = replicas[source].copy(alloc)?;
+            taken.push(Taken { place, replica })?;
         }
     }
     Ok(taken)
 }
 
-/// The copies that nodes take over after they told each other what they have, if the store does so.
-#[tactic(auto, unfolding(crate::specs::Stores::ticked))]
-pub(crate) fn tick_copies(
+/// The replicas that nodes take over after they told each other what they have, if the store does so.
+#[tactic(auto, unfolding(crate::specs::Stores::replicas_after_tick))]
+pub(crate) fn tick_replicas(
     alloc: Global,
     store: Store,
     env: &Env,
-    copies: &[NodeCopy],
+    replicas: &[Replica],
 ) -> Result<Vec<Taken>, AllocError>
-    requires sized { length copies.now ≡ length env.now.names }
-    ensures { IfOk result (λ taken. AreTaken copies.now taken.items (ticked store (cells_of env.now) copies.now)) }
+    requires sized { length replicas.now ≡ length env.now.names }
+    ensures { IfOk result (λ taken. AreTaken replicas.now taken.items
+        (replicas_after_tick store (cells_of env.now) replicas.now)) }
 {
     match store {
         Store::Lww => {
-            let sources = spread(env, copies);
-            taken_from(alloc, copies, &sources)
+            let sources = spread(env, replicas);
+            taken_from(alloc, replicas, &sources)
         }
         Store::Quorum => Ok(Vec::new(alloc)),
         Store::Local => Ok(Vec::new(alloc)),
     }
 }
 
-/// Takes over these copies, each at its place.
-pub(crate) fn take_over(copies: &mut Vec<NodeCopy>, taken: Vec<Taken>)
-    requires { All (λ t. t.place < length copies.old.items) taken.items }
-    ensures { copies.new.items ≡ with_all copies.old.items taken.items }
+/// Takes over these replicas, each at its place.
+pub(crate) fn take_over(replicas: &mut Vec<Replica>, taken: Vec<Taken>)
+    requires { All (λ t. t.place < length replicas.old.items) taken.items }
+    ensures { replicas.new.items ≡ with_all replicas.old.items taken.items }
 {
     for one in taken {
-        copies[one.place] = one.copy;
+        replicas[one.place] = one.replica;
     }
 }
 
-/// The new copy for each of these nodes.
+/// The new replica for each of these nodes.
 fn give_all(
     alloc: Global,
-    copies: &[NodeCopy],
-    new: &NodeCopy,
+    replicas: &[Replica],
+    new: &Replica,
     these: &[usize],
 ) -> Result<Vec<Taken>, AllocError>
-    requires { All (λ p. p < length copies.now) these.now }
-    ensures { IfOk result (λ taken. AreTaken copies.now taken.items (give_all new.now copies.now these.now)) }
+    requires { All (λ p. p < length replicas.now) these.now }
+    ensures { IfOk result (λ taken. AreTaken replicas.now taken.items (give_all new.now replicas.now these.now)) }
 {
     let mut taken = Vec::new(alloc);
     for place in these {
-        let copy = new.copy(alloc)?;
+        let replica = new.copy(alloc)?;
         taken.push(Taken {
             place: *place,
-            copy,
+            replica,
         })?;
     }
     Ok(taken)
 }
 
 /// Those of these nodes whose own stamp is lower.
-fn older(copies: &[NodeCopy], stamp: Mark, these: &[usize]) -> NodePlaces
-    requires known { All (λ p. p < length copies.now) these.now }
+fn older(replicas: &[Replica], stamp: Mark, these: &[usize]) -> NodePlaces
+    requires known { All (λ p. p < length replicas.now) these.now }
     requires few { length these.now ≤ 64 }
-    ensures places { result.items ≡ older copies.now stamp these.now }
-    ensures known { All (λ p. p < length copies.now) result.items }
+    ensures places { result.items ≡ older replicas.now stamp these.now }
+    ensures known { All (λ p. p < length replicas.now) result.items }
 {
     let mut those = NodePlaces::new();
     for place in these {
-        if copies[*place].mark.is_lower(stamp) {
+        if replicas[*place].mark.is_lower(stamp) {
             those.push(*place);
         }
     }
@@ -242,13 +244,13 @@ fn older(copies: &[NodeCopy], stamp: Mark, these: &[usize]) -> NodePlaces
 }
 
 /// The place of the greater version of two, or else the first of them.
-fn newer_place(copies: &[NodeCopy], best: usize, place: usize) -> usize
-    requires best { best < length copies.now }
-    requires place { place < length copies.now }
-    ensures value { result ≡ newer_place copies.now best place }
-    ensures known { result < length copies.now }
+fn newer_place(replicas: &[Replica], best: usize, place: usize) -> usize
+    requires best { best < length replicas.now }
+    requires place { place < length replicas.now }
+    ensures value { result ≡ newer_place replicas.now best place }
+    ensures known { result < length replicas.now }
 {
-    if copies[best].mark.version() < copies[place].mark.version() {
+    if replicas[best].mark.version() < replicas[place].mark.version() {
         place
     } else {
         best
@@ -256,23 +258,23 @@ fn newer_place(copies: &[NodeCopy], best: usize, place: usize) -> usize
 }
 
 /// The place of the greatest version among these places, of equals the first.
-fn newest(copies: &[NodeCopy], these: &[usize]) -> usize
-    requires known { All (λ p. p < length copies.now) these.now }
-    requires some { 0 < length copies.now }
-    ensures value { result ≡ newest copies.now these.now }
-    ensures known { result < length copies.now }
+fn newest(replicas: &[Replica], these: &[usize]) -> usize
+    requires known { All (λ p. p < length replicas.now) these.now }
+    requires some { 0 < length replicas.now }
+    ensures value { result ≡ newest replicas.now these.now }
+    ensures known { result < length replicas.now }
 {
     if these.is_empty() {
         return 0;
     }
     let mut best = these[0];
     for place in &these[1..] {
-        best = newer_place(copies, best, *place);
+        best = newer_place(replicas, best, *place);
     }
     best
 }
 
-/// A reply with which no node takes over a copy.
+/// A reply with which no node takes over a replica.
 fn unchanged(alloc: Global, reply: Reply) -> Outcome
     ensures reply { result.reply ≡ reply }
     ensures taken { result.taken.items ≡ [] }
@@ -285,26 +287,26 @@ fn unchanged(alloc: Global, reply: Reply) -> Outcome
 
 fn serve_local(
     alloc: Global,
-    copies: &[NodeCopy],
+    replicas: &[Replica],
     node: Node,
     request: Request,
 ) -> Result<Outcome, AllocError>
-    requires { node < length copies.now }
-    ensures { IfOk result (λ told. Gives copies.now told (serve_local copies.now node request)) }
+    requires { node < length replicas.now }
+    ensures { IfOk result (λ told. Gives replicas.now told (serve_local replicas.now node request)) }
 {
     let place = node.place() as usize;
     if is_read(request) {
-        let got = copies[place].contents.got(alloc)?;
+        let got = replicas[place].contents.got(alloc)?;
         return Ok(unchanged(alloc, Reply::Ok(got)));
     }
-    match effect(alloc, request, &copies[place].contents)? {
+    match effect(alloc, request, &replicas[place].contents)? {
         Some(change) => {
-            let copy = NodeCopy {
-                mark: copies[place].mark,
+            let replica = Replica {
+                mark: replicas[place].mark,
                 contents: change.after,
             };
             let mut taken = Vec::new(alloc);
-            taken.push(Taken { place, copy })?;
+            taken.push(Taken { place, replica })?;
             Ok(Outcome {
                 reply: Reply::Ok(change.got),
                 taken,
@@ -324,29 +326,29 @@ fn stamp_time(number: u64, clock: i64) -> i128
 fn serve_lww(
     alloc: Global,
     env: &Env,
-    copies: &[NodeCopy],
+    replicas: &[Replica],
     at: i128,
     node: Node,
     request: Request,
     draw: u64,
 ) -> Result<Outcome, AllocError>
-    requires known { node < length copies.now }
-    requires sized { length copies.now ≡ length env.now.names }
-    ensures { IfOk result (λ told. Gives copies.now told (serve_lww (cells_of env.now) copies.now at node request draw)) }
+    requires known { node < length replicas.now }
+    requires sized { length replicas.now ≡ length env.now.names }
+    ensures { IfOk result (λ told. Gives replicas.now told (serve_lww (cells_of env.now) replicas.now at node request draw)) }
 {
     let place = node.place() as usize;
     if is_read(request) {
-        let got = copies[place].contents.got(alloc)?;
+        let got = replicas[place].contents.got(alloc)?;
         return Ok(unchanged(alloc, Reply::Ok(got)));
     }
-    match effect(alloc, request, &copies[place].contents)? {
+    match effect(alloc, request, &replicas[place].contents)? {
         Some(change) => {
-            let new = NodeCopy {
+            let new = Replica {
                 mark: Mark::Stamp(at, node.place()),
                 contents: change.after,
             };
-            let these = older(copies, new.mark, &touched(env, draw, node));
-            let taken = give_all(alloc, copies, &new, &these)?;
+            let these = older(replicas, new.mark, &reached_nodes(env, draw, node));
+            let taken = give_all(alloc, replicas, &new, &these)?;
             Ok(Outcome {
                 reply: Reply::Ok(change.got),
                 taken,
@@ -358,45 +360,45 @@ fn serve_lww(
 
 fn quorum_read(
     alloc: Global,
-    copies: &[NodeCopy],
+    replicas: &[Replica],
     answering: &[usize],
 ) -> Result<Outcome, AllocError>
-    requires known { All (λ p. p < length copies.now) answering.now }
-    requires some { 0 < length copies.now }
-    ensures { IfOk result (λ told. Gives copies.now told (quorum_read copies.now answering.now)) }
+    requires known { All (λ p. p < length replicas.now) answering.now }
+    requires some { 0 < length replicas.now }
+    ensures { IfOk result (λ told. Gives replicas.now told (quorum_read replicas.now answering.now)) }
 {
-    if answering.len() < copies.len() / 2 + 1 {
+    if answering.len() < replicas.len() / 2 + 1 {
         return Ok(unchanged(alloc, Reply::Fail));
     }
-    let best = newest(copies, answering);
-    let got = copies[best].contents.got(alloc)?;
+    let best = newest(replicas, answering);
+    let got = replicas[best].contents.got(alloc)?;
     Ok(unchanged(alloc, Reply::Ok(got)))
 }
 
 fn quorum_write(
     alloc: Global,
-    copies: &[NodeCopy],
+    replicas: &[Replica],
     reached: &[usize],
     answering: usize,
     request: Request,
 ) -> Result<Outcome, AllocError>
-    requires known { All (λ p. p < length copies.now) reached.now }
-    requires some { 0 < length copies.now }
-    requires low { (place : ℕ) → version_at copies.now place < 65536 }
-    ensures { IfOk result (λ told. Gives copies.now told (quorum_write copies.now reached.now answering request)) }
+    requires known { All (λ p. p < length replicas.now) reached.now }
+    requires some { 0 < length replicas.now }
+    requires low { (place : ℕ) → version_at replicas.now place < 65536 }
+    ensures { IfOk result (λ told. Gives replicas.now told (quorum_write replicas.now reached.now answering request)) }
 {
-    if reached.len() < copies.len() / 2 + 1 {
+    if reached.len() < replicas.len() / 2 + 1 {
         return Ok(unchanged(alloc, Reply::Fail));
     }
-    let best = newest(copies, reached);
-    match effect(alloc, request, &copies[best].contents)? {
+    let best = newest(replicas, reached);
+    match effect(alloc, request, &replicas[best].contents)? {
         Some(change) => {
-            let new = NodeCopy {
-                mark: Mark::Version(copies[best].mark.version() + 1),
+            let new = Replica {
+                mark: Mark::Version(replicas[best].mark.version() + 1),
                 contents: change.after,
             };
-            let taken = give_all(alloc, copies, &new, reached)?;
-            let reply = if answering < copies.len() / 2 + 1 {
+            let taken = give_all(alloc, replicas, &new, reached)?;
+            let reply = if answering < replicas.len() / 2 + 1 {
                 Reply::Info
             } else {
                 Reply::Ok(change.got)
@@ -410,41 +412,41 @@ fn quorum_write(
 fn serve_quorum(
     alloc: Global,
     env: &Env,
-    copies: &[NodeCopy],
+    replicas: &[Replica],
     node: Node,
     request: Request,
     draw: u64,
 ) -> Result<Outcome, AllocError>
-    requires known { node < length copies.now }
-    requires sized { length copies.now ≡ length env.now.names }
-    requires low { (place : ℕ) → version_at copies.now place < 65536 }
-    ensures { IfOk result (λ told. Gives copies.now told (serve_quorum (cells_of env.now) copies.now node request draw)) }
+    requires known { node < length replicas.now }
+    requires sized { length replicas.now ≡ length env.now.names }
+    requires low { (place : ℕ) → version_at replicas.now place < 65536 }
+    ensures { IfOk result (λ told. Gives replicas.now told (serve_quorum (cells_of env.now) replicas.now node request draw)) }
 {
-    let reached = touched(env, draw, node);
-    let answering = heard(env, node, &reached);
+    let reached = reached_nodes(env, draw, node);
+    let answering = responding_nodes(env, node, &reached);
     if is_read(request) {
-        return quorum_read(alloc, copies, &answering);
+        return quorum_read(alloc, replicas, &answering);
     }
-    quorum_write(alloc, copies, &reached, answering.len(), request)
+    quorum_write(alloc, replicas, &reached, answering.len(), request)
 }
 
-/// What a node replies to a request, and the copies after it.
+/// What a node replies to a request, and the replicas after it.
 #[tactic(auto, unfolding(crate::specs::Stores::serve))]
 pub(crate) fn serve(
     alloc: Global,
     settings: &Settings,
     env: &Env,
-    copies: &[NodeCopy],
+    replicas: &[Replica],
     number: u64,
     node: Node,
     request: Request,
     draw: u64,
 ) -> Result<Outcome, AllocError>
-    requires sized { length copies.now ≡ length env.now.names }
-    requires known { node < length copies.now }
-    requires low { (place : ℕ) → version_at copies.now place ≤ number }
+    requires sized { length replicas.now ≡ length env.now.names }
+    requires known { node < length replicas.now }
+    requires low { (place : ℕ) → version_at replicas.now place ≤ number }
     requires few { number < 65536 }
-    ensures { IfOk result (λ told. Gives copies.now told (serve settings.now (cells_of env.now) copies.now number node request draw)) }
+    ensures { IfOk result (λ told. Gives replicas.now told (serve settings.now (cells_of env.now) replicas.now number node request draw)) }
 {
     if !request.is_of(settings.workload) {
         return Ok(unchanged(alloc, Reply::Fail));
@@ -463,12 +465,12 @@ pub(crate) fn serve(
             Ok(unchanged(alloc, reply))
         }
         Life::Running => match settings.store {
-            Store::Quorum => serve_quorum(alloc, env, copies, node, request, draw),
+            Store::Quorum => serve_quorum(alloc, env, replicas, node, request, draw),
             Store::Lww => {
                 let at = stamp_time(number, cell.clock);
-                serve_lww(alloc, env, copies, at, node, request, draw)
+                serve_lww(alloc, env, replicas, at, node, request, draw)
             }
-            Store::Local => serve_local(alloc, copies, node, request),
+            Store::Local => serve_local(alloc, replicas, node, request),
         },
     }
 }

@@ -9,8 +9,8 @@ ghost use Rattle.jh_simnode.specs.Running as running;
 ghost use Rattle.jh_simnode.specs.Running.{Asks, Halts, HasCalled, IsFirst, Keeps, MayCall, Settled, Stands};
 ghost use Rattle.jh_simnode.specs.declared.events.Event.{Event};
 
-use crate::copies::Reply;
 use crate::plan::Plan;
+use crate::replicas::Reply;
 use crate::schedule::Entry;
 use crate::serial::RunError;
 use crate::world::World;

@@ -1,4 +1,4 @@
-//! A world: one environment, one nemesis and one copy for each node, changed in place, with the journal of all that
+//! A world: one environment, one nemesis and one replica for each node, changed in place, with the journal of all that
 //! happened. `specs/Events.antt` recomputes where a world stands from its journal.
 
 ghost use Rattle.std.specs.Prelude.{◌≡◌, ◌+◌, ◌<◌, ◌≤◌, [], length, IfOk, OnErr, MatchResult, replicate, ⊤};
@@ -9,24 +9,24 @@ ghost use Rattle.jh_simnode.specs.Events.{Adds, Refuses, IsLegal, IsNew, moment_
 ghost use Rattle.jh_simnode.specs.Limits.{max_events};
 ghost use Rattle.jh_simnode.specs.declared.events.Event.TheVariants as Event;
 
-use crate::copies::{NodeCopy, Reply, first_copies};
 use crate::events::{Event, MAX_EVENTS, WorldError, fits};
+use crate::replicas::{Replica, Reply, first_replicas};
 use crate::settings::{Settings, Store};
-use crate::stores::{dead_nodes, forget, serve, take_over, tick_copies};
+use crate::stores::{dead_nodes, forget, serve, take_over, tick_replicas};
 use jh_env::{Env, Node};
 use jh_nemesis::{Nemesis, Step, StepAnswer};
 use jh_ops::{Request, Workload};
 use std::alloc::{AllocError, Global};
 use std::marker::Model;
 
-/// An environment under faults, the copies of a database on its nodes, and a journal of all that happened. A contract
+/// An environment under faults, the replicas of a database on its nodes, and a journal of all that happened. A contract
 /// sees what the world keeps for good, its names, starting cells and settings, and the journal.
 #[derive(Debug, Drop)]
 pub struct World {
     alloc: Global,
     settings: Settings,
     nemesis: Nemesis,
-    copies: Vec<NodeCopy>,
+    replicas: Vec<Replica>,
     journal: Vec<Event>,
 }
 
@@ -62,12 +62,12 @@ impl World {
             workload,
             initial,
         };
-        let copies = first_copies(alloc, &settings, env.nodes().len())?;
+        let replicas = first_replicas(alloc, &settings, env.nodes().len())?;
         Ok(World {
             alloc,
             settings,
             nemesis: Nemesis::new(alloc, env),
-            copies,
+            replicas,
             journal: Vec::new(alloc),
         })
     }
@@ -89,17 +89,17 @@ impl World {
         &self.nemesis
     }
 
-    /// The copies of the database, one for each node by its place: those that the journal leads to.
-    pub fn copies(&self) -> &[NodeCopy]
-        ensures { result.now ≡ (moment_at self.now.setup self.now.journal).copies }
+    /// The replicas of the database, one for each node by its place: those that the journal leads to.
+    pub fn replicas(&self) -> &[Replica]
+        ensures { result.now ≡ (moment_at self.now.setup self.now.journal).replicas }
     {
-        &self.copies
+        &self.replicas
     }
 
     /// A client's call of a node. Answers the number of the event and the reply, which is the one that is due. `draw`
     /// decides whether a message of the call is lost: on a link of loss n it is where draw mod 20 is below n.
     ///
-    /// Takes time for the nodes, and for the copies that it reads or changes.
+    /// Takes time for the nodes, and for the replicas that it reads or changes.
     ///
     /// Errors, which change nothing: `UnknownNode`; `TooManyEvents` after 65,536 events; `OutOfMemory`.
     pub fn call(
@@ -114,7 +114,7 @@ impl World {
             (λ e. (self.new ≡ self.old) × Refuses (node < length self.old.setup.names) self.old.journal e) }
         ensures work { self.new.work ≡ self.old.work }
     {
-        if node.place() as usize >= self.copies.len() {
+        if node.place() as usize >= self.replicas.len() {
             return Err(WorldError::UnknownNode);
         }
         if self.journal.len() >= MAX_EVENTS {
@@ -126,14 +126,14 @@ impl World {
             self.alloc,
             &self.settings,
             self.nemesis.env(),
-            &self.copies,
+            &self.replicas,
             number,
             node,
             request,
             draw,
         )?;
         let reply = served.reply.copy(self.alloc)?;
-        take_over(&mut self.copies, served.taken);
+        take_over(&mut self.replicas, served.taken);
         self.journal.push_reserved(Event::Call {
             process,
             node,
@@ -145,7 +145,7 @@ impl World {
     }
 
     /// A step of the nemesis. Answers the number of the event and the answer of the nemesis; a step that it refuses is an
-    /// event too. Where the settings say so, a node that is killed by it loses its copy. A step back or forth takes
+    /// event too. Where the settings say so, a node that is killed by it loses its replica. A step back or forth takes
     /// memory for its event only.
     ///
     /// Errors, which change nothing: `UnknownNode` where the fault of a begin names one; `TooManyEvents` after 65,536
@@ -172,7 +172,7 @@ impl World {
             &self.settings,
             before.as_slice(),
             self.nemesis.env(),
-            &mut self.copies,
+            &mut self.replicas,
         );
         self.journal
             .push_reserved(Event::Step { step: kept, answer });
@@ -194,13 +194,13 @@ impl World {
         }
         let number = self.journal.len() as u64;
         self.journal.reserve(1)?;
-        let taken = tick_copies(
+        let taken = tick_replicas(
             self.alloc,
             self.settings.store,
             self.nemesis.env(),
-            &self.copies,
+            &self.replicas,
         )?;
-        take_over(&mut self.copies, taken);
+        take_over(&mut self.replicas, taken);
         self.journal.push_reserved(Event::Tick);
         Ok(number)
     }

@@ -3,15 +3,15 @@
 //! None is answered where memory was refused, or where a place is none of the environment's.
 
 use crate::held::{first_held, held_after};
-use crate::reach::{heard, link, node_at, process, touched};
+use crate::reach::{link, node_at, process, reached, responding};
 use jh_env::{Env, Life};
 use jh_ops::{Request, Workload};
 use jh_simnode::{Got, Reply, Settings, Store};
 use std::alloc::Global;
 
-/// How new a copy is, by a version or a time and then by a node, and what it holds.
+/// How new a replica is, by a version or a time and then by a node, and what it holds.
 #[derive(Drop)]
-struct PlainCopy {
+struct PlainReplica {
     time: i128,
     by: usize,
     held: Vec<i64>,
@@ -20,7 +20,7 @@ struct PlainCopy {
 /// A reply to a request.
 #[derive(Drop)]
 pub enum PlainReply {
-    /// It was done, and got what a copy held, where it asks for something.
+    /// It was done, and got what a replica held, where it asks for something.
     Ok(Option<Vec<i64>>),
     /// It was not done.
     Fail,
@@ -28,12 +28,12 @@ pub enum PlainReply {
     Info,
 }
 
-/// The copies of a database on its nodes, by place.
+/// The replicas of a database on its nodes, by place.
 #[derive(Drop)]
 pub struct PlainCluster {
     alloc: Global,
     settings: Settings,
-    copies: Vec<PlainCopy>,
+    replicas: Vec<PlainReplica>,
 }
 
 /// A request at a node, which is the number of its event, with the nodes that it reaches.
@@ -42,8 +42,8 @@ struct Asked {
     number: i128,
     at: usize,
     request: Request,
-    touched: Vec<usize>,
-    heard: Vec<usize>,
+    reached: Vec<usize>,
+    responding: Vec<usize>,
 }
 
 impl PlainReply {
@@ -68,19 +68,19 @@ fn is_got(got: &Got, held: &[i64]) -> bool {
     }
 }
 
-fn first_copy(alloc: Global, settings: &Settings) -> Option<PlainCopy> {
-    Some(PlainCopy {
+fn first_replica(alloc: Global, settings: &Settings) -> Option<PlainReplica> {
+    Some(PlainReplica {
         time: i128::MIN,
         by: 0,
         held: first_held(alloc, settings.workload, settings.initial).ok()?,
     })
 }
 
-/// The place of the first of the newest copies.
-fn newest(copies: &[PlainCopy], these: &[usize]) -> Option<usize> {
+/// The place of the first of the newest replicas.
+fn newest(replicas: &[PlainReplica], these: &[usize]) -> Option<usize> {
     let mut best = *these.first()?;
     for place in these {
-        if copies.get(*place)?.time > copies.get(best)?.time {
+        if replicas.get(*place)?.time > replicas.get(best)?.time {
             best = *place;
         }
     }
@@ -98,73 +98,73 @@ fn got(alloc: Global, request: Request, held: &[i64]) -> Option<PlainReply> {
 }
 
 impl PlainCluster {
-    /// So many nodes with their first copies.
+    /// So many nodes with their first replicas.
     pub fn new(alloc: Global, settings: Settings, count: usize) -> Option<PlainCluster> {
-        let mut copies = Vec::new(alloc);
+        let mut replicas = Vec::new(alloc);
         for _place in 0..count {
-            copies.push(first_copy(alloc, &settings)?).ok()?;
+            replicas.push(first_replica(alloc, &settings)?).ok()?;
         }
         Some(PlainCluster {
             alloc,
             settings,
-            copies,
+            replicas,
         })
     }
 
     fn held(&self, place: usize) -> Option<&[i64]> {
-        Some(self.copies.get(place)?.held.as_slice())
+        Some(self.replicas.get(place)?.held.as_slice())
     }
 
     fn is_majority(&self, these: &[usize]) -> bool {
-        these.len() > self.copies.len() / 2
+        these.len() > self.replicas.len() / 2
     }
 
     fn keep(&mut self, place: usize, time: i128, by: usize, held: &[i64]) -> Option<()> {
         let held = held.to_vec(self.alloc).ok()?;
-        *self.copies.get_mut(place)? = PlainCopy { time, by, held };
+        *self.replicas.get_mut(place)? = PlainReplica { time, by, held };
         Some(())
     }
 
     fn is_older(&self, place: usize, time: i128, by: usize) -> Option<bool> {
-        let copy = self.copies.get(place)?;
-        Some(copy.time < time || copy.time == time && copy.by < by)
+        let replica = self.replicas.get(place)?;
+        Some(replica.time < time || replica.time == time && replica.by < by)
     }
 
     fn read_by_quorum(&self, asked: &Asked) -> Option<PlainReply> {
-        if !self.is_majority(asked.heard.as_slice()) {
+        if !self.is_majority(asked.responding.as_slice()) {
             return Some(PlainReply::Fail);
         }
-        let best = newest(self.copies.as_slice(), asked.heard.as_slice())?;
+        let best = newest(self.replicas.as_slice(), asked.responding.as_slice())?;
         got(self.alloc, asked.request, self.held(best)?)
     }
 
-    /// What is held after the request on the copy at a place. None within: the request fails.
+    /// What is held after the request on the replica at a place. None within: the request fails.
     fn after(&self, asked: &Asked, place: usize) -> Option<Option<Vec<i64>>> {
         let workload = self.settings.workload;
         held_after(self.alloc, workload, asked.request, self.held(place)?).ok()
     }
 
     fn change_by_quorum(&mut self, asked: &Asked) -> Option<PlainReply> {
-        if !self.is_majority(asked.touched.as_slice()) {
+        if !self.is_majority(asked.reached.as_slice()) {
             return Some(PlainReply::Fail);
         }
-        let best = newest(self.copies.as_slice(), asked.touched.as_slice())?;
+        let best = newest(self.replicas.as_slice(), asked.reached.as_slice())?;
         let Some(held) = self.after(asked, best)? else {
             return Some(PlainReply::Fail);
         };
         let reply = got(self.alloc, asked.request, self.held(best)?)?;
-        let version = self.copies.get(best)?.time.checked_add(1)?;
-        for place in asked.touched.as_slice() {
+        let version = self.replicas.get(best)?.time.checked_add(1)?;
+        for place in asked.reached.as_slice() {
             self.keep(*place, version, 0, held.as_slice())?;
         }
-        if self.is_majority(asked.heard.as_slice()) {
+        if self.is_majority(asked.responding.as_slice()) {
             Some(reply)
         } else {
             Some(PlainReply::Info)
         }
     }
 
-    /// A change of a node's own copy, which goes to the nodes that are told of it and have an older one.
+    /// A change of a node's own replica, which goes to the nodes that are told of it and have an older one.
     fn change_own(&mut self, asked: &Asked, time: i128, told: &[usize]) -> Option<PlainReply> {
         let Some(held) = self.after(asked, asked.at)? else {
             return Some(PlainReply::Fail);
@@ -184,7 +184,7 @@ impl PlainCluster {
             (Store::Quorum, _) => self.change_by_quorum(asked),
             (Store::Lww, _) => {
                 let time = i128::from(clock).saturating_add(asked.number);
-                self.change_own(asked, time, asked.touched.as_slice())
+                self.change_own(asked, time, asked.reached.as_slice())
             }
             (Store::Local, _) => self.change_own(asked, asked.number, &[asked.at]),
         }
@@ -211,13 +211,13 @@ impl PlainCluster {
             (Life::Paused, _) => return Some(PlainReply::Info),
             (Life::Running, _) => (),
         }
-        let touched = touched(self.alloc, env, at, draw)?;
+        let reached = reached(self.alloc, env, at, draw)?;
         let asked = Asked {
             number: number as i128,
             at,
             request,
-            heard: heard(self.alloc, env, at, touched.as_slice())?,
-            touched,
+            responding: responding(self.alloc, env, at, reached.as_slice())?,
+            reached,
         };
         self.serve_running(&asked, cell.clock)
     }
@@ -227,9 +227,9 @@ impl PlainCluster {
         if from == to || !is_running || link(env, from, to)?.cut {
             return Some(());
         }
-        let copy = self.copies.get(from)?;
-        let (time, by) = (copy.time, copy.by);
-        let held = copy.held.as_slice().to_vec(self.alloc).ok()?;
+        let replica = self.replicas.get(from)?;
+        let (time, by) = (replica.time, replica.by);
+        let held = replica.held.as_slice().to_vec(self.alloc).ok()?;
         if self.is_older(to, time, by)? {
             self.keep(to, time, by, held.as_slice())?;
         }
@@ -238,7 +238,7 @@ impl PlainCluster {
 
     /// A moment in which the nodes of a last writer's store tell each other what they have.
     pub fn tick(&mut self, env: &Env) -> Option<()> {
-        let count = self.copies.len();
+        let count = self.replicas.len();
         if self.settings.store == Store::Lww {
             for from in 0..count {
                 for to in 0..count {
@@ -249,11 +249,11 @@ impl PlainCluster {
         Some(())
     }
 
-    /// Where copies are volatile, nodes lose them that are killed and weren't `before`, by place.
+    /// Where replicas are volatile, nodes lose them that are killed and weren't `before`, by place.
     pub fn forget(&mut self, before: &[bool], env: &Env) -> Option<()> {
         for (place, was_killed) in before.iter().enumerate() {
             if self.settings.volatile && !*was_killed && process(env, place)? == Life::Killed {
-                *self.copies.get_mut(place)? = first_copy(self.alloc, &self.settings)?;
+                *self.replicas.get_mut(place)? = first_replica(self.alloc, &self.settings)?;
             }
         }
         Some(())
@@ -262,7 +262,7 @@ impl PlainCluster {
     /// Which nodes are killed, by place.
     pub fn killed(&self, env: &Env) -> Option<Vec<bool>> {
         let mut all = Vec::new(self.alloc);
-        for place in 0..self.copies.len() {
+        for place in 0..self.replicas.len() {
             all.push(process(env, place)? == Life::Killed).ok()?;
         }
         Some(all)

@@ -1,6 +1,7 @@
-//! What a copy holds, and what requests make of it.
+//! What a replica holds, and what requests make of it.
 //!
-//! A copy holds a list of numbers: none or one of a register, one of a counter and of ids, all of a set, which ascend.
+//! A replica holds a list of numbers: none or one of a register, one of a counter and of ids, all of a set, which
+//! ascend.
 
 use jh_ops::{Request, Workload};
 use std::alloc::{AllocError, Global};
@@ -9,7 +10,7 @@ fn one(alloc: Global, value: i64) -> Result<Vec<i64>, AllocError> {
     Ok(vec![in alloc; value]?)
 }
 
-/// What a copy holds at first.
+/// What a replica holds at first.
 pub(crate) fn first_held(
     alloc: Global,
     workload: Workload,

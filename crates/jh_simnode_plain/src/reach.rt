@@ -24,7 +24,7 @@ fn carries(env: &Env, from: usize, to: usize, draw: u64) -> Option<bool> {
     Some(!link.cut && draw % 20 >= u64::from(link.loss))
 }
 
-fn is_touched(env: &Env, at: usize, other: usize, draw: u64) -> Option<bool> {
+fn is_reached(env: &Env, at: usize, other: usize, draw: u64) -> Option<bool> {
     if at == other {
         return Some(true);
     }
@@ -32,7 +32,7 @@ fn is_touched(env: &Env, at: usize, other: usize, draw: u64) -> Option<bool> {
     Some(is_running && carries(env, at, other, draw)? && carries(env, other, at, draw)?)
 }
 
-fn is_heard(env: &Env, at: usize, other: usize) -> Option<bool> {
+fn is_responding(env: &Env, at: usize, other: usize) -> Option<bool> {
     if at == other {
         return Some(true);
     }
@@ -42,10 +42,10 @@ fn is_heard(env: &Env, at: usize, other: usize) -> Option<bool> {
 }
 
 /// The nodes that a request at a node changes or asks.
-pub(crate) fn touched(alloc: Global, env: &Env, at: usize, draw: u64) -> Option<Vec<usize>> {
+pub(crate) fn reached(alloc: Global, env: &Env, at: usize, draw: u64) -> Option<Vec<usize>> {
     let mut these = Vec::new(alloc);
     for other in 0..env.nodes().len() {
-        if is_touched(env, at, other, draw)? {
+        if is_reached(env, at, other, draw)? {
             these.push(other).ok()?;
         }
     }
@@ -53,10 +53,15 @@ pub(crate) fn touched(alloc: Global, env: &Env, at: usize, draw: u64) -> Option<
 }
 
 /// Those of them whose answer comes in time.
-pub(crate) fn heard(alloc: Global, env: &Env, at: usize, touched: &[usize]) -> Option<Vec<usize>> {
+pub(crate) fn responding(
+    alloc: Global,
+    env: &Env,
+    at: usize,
+    reached: &[usize],
+) -> Option<Vec<usize>> {
     let mut these = Vec::new(alloc);
-    for other in touched {
-        if is_heard(env, at, *other)? {
+    for other in reached {
+        if is_responding(env, at, *other)? {
             these.push(*other).ok()?;
         }
     }

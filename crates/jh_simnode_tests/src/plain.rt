@@ -1,5 +1,5 @@
 //! Random events in a world and in the plain cluster, side by side. A seed tells the store, the workload, whether
-//! copies are volatile, and the events.
+//! replicas are volatile, and the events.
 
 use crate::fixtures::{env_of, value};
 use jh_edn::Value;

@@ -1,8 +1,8 @@
 //! Which plans are refused and why, what a plan answers, and how long a schedule is.
 //!
 //! The text of a row is settings, as `fixtures` has them. They come to the parts of their plan: the number of nodes,
-//! the store, whether copies are volatile, the workload, what a register holds first; the clients, the calls, after how
-//! many of them a client ticks, the rows and the seed; the generator, and the schedule.
+//! the store, whether replicas are volatile, the workload, what a register holds first; the clients, the calls, after
+//! how many of them a client ticks, the rows and the seed; the generator, and the schedule.
 
 use crate::fixtures::{plan_of, value};
 use crate::rows::{Kind, first_wrong};

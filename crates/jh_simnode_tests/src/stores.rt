@@ -32,11 +32,11 @@ const ACTS: &str = r#"
 {:start {:nodes ["n1"]}, :store :local}
 [0 :read] [0 [:cas 0 1]] [0 [:write 0]] [0 [:cas 0 1]] [0 [:cas 0 1]] [0 :read] [0 [:add 1]] [0 :generate]
 → ok nil; fail; ok; ok; fail; ok 1; fail; fail
-§ ; a volatile copy is lost, and undoing the kill gives nothing back
+§ ; a volatile replica is lost, and undoing the kill gives nothing back
 {:start {:nodes ["n1"]}, :store :local, :volatile true, :initial 7}
 [0 [:write 5]] [:begin 1 [:kill ["n1"]]] [0 :read] [:undo] [0 :read] [0 [:write 5]] [:redo] [:withdraw-all] [0 :read]
 → ok; Ok; fail; Ok; ok 7; ok; Ok; Ok; ok 7
-§ ; where copies aren't volatile, it isn't
+§ ; where replicas aren't volatile, it isn't
 {:start {:nodes ["n1"]}, :store :local, :initial 7}
 [0 [:write 5]] [:begin 1 [:kill ["n1"]]] [0 :read] [:undo] [0 :read]
 → ok; Ok; fail; Ok; ok 5

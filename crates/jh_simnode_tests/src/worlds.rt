@@ -1,7 +1,7 @@
 //! Faults, ticks and the journal of a world.
 //!
 //! The text of a row is the settings of a world, and acts in it. An act is `:tick`, a step, or a call: the place of a
-//! node, a request, and a draw where it is not 0; or `:copies`, which tells what each node holds. What comes of each act stands behind the arrow, with `; ` between. An
+//! node, a request, and a draw where it is not 0; or `:replicas`, which tells what each node holds. What comes of each act stands behind the arrow, with `; ` between. An
 //! act whose memory was refused is taken once more.
 
 use crate::fixtures::{value, values, word, world_of};
@@ -39,13 +39,13 @@ const ACTS: &str = r#"
 § {:start {:nodes ["n1" "n2" "n3"], :cut [["n1" "n3"] ["n3" "n1"]]}, :store :lww, :initial 0}
 [:begin 1 [:pause ["n1" "n2"]]] [2 [:write 1]] [:withdraw 1] :tick [0 :read] [1 :read] :tick [0 :read]
 → Ok; ok; Ok; tick; ok 0; ok 1; tick; ok 1
-§ ; each node has a copy of its own, and a set is empty at first
+§ ; each node has a replica of its own, and a set is empty at first
 {:start {:nodes ["n1" "n2"]}, :store :local, :initial 7}
-:copies [0 [:write 5]] :copies [1 [:write 9]] :copies
-→ copies 7 7; ok; copies 5 7; ok; copies 5 9
+:replicas [0 [:write 5]] :replicas [1 [:write 9]] :replicas
+→ replicas 7 7; ok; replicas 5 7; ok; replicas 5 9
 § {:start {:nodes ["n1"]}, :store :lww, :workload :set}
-:copies [0 [:add 4]] [0 [:add -1]] :copies
-→ copies []; ok; ok; copies [-1, 4]
+:replicas [0 [:add 4]] [0 [:add -1]] :replicas
+→ replicas []; ok; ok; replicas [-1, 4]
 § ; refused steps are events too
 {:start {:nodes ["n1"]}, :store :quorum}
 [:undo] [:redo] [:withdraw-all] [:withdraw 9] [:begin 9 [:cut []]] [:begin 9 [:cut []]] :tick [:undo] [:redo] [0 [:write 3]] [0 :read]
@@ -162,10 +162,10 @@ fn tick(world: &mut World, text: &mut Vec<u8>) -> Option<Option<u64>> {
 }
 
 /// Writes what each node holds, in the order of the nodes.
-fn put_copies(world: &World, text: &mut Vec<u8>) -> Option<Option<u64>> {
-    write!(text, "copies").ok()?;
-    for copy in world.copies() {
-        match &copy.contents {
+fn put_replicas(world: &World, text: &mut Vec<u8>) -> Option<Option<u64>> {
+    write!(text, "replicas").ok()?;
+    for replica in world.replicas() {
+        match &replica.contents {
             Contents::One(None) => write!(text, " nil").ok()?,
             Contents::One(Some(value)) => write!(text, " {value}").ok()?,
             Contents::Many(numbers) => write!(text, " {:?}", numbers.as_slice()).ok()?,
@@ -176,7 +176,7 @@ fn put_copies(world: &World, text: &mut Vec<u8>) -> Option<Option<u64>> {
 
 fn act(alloc: Global, world: &mut World, text: &mut Vec<u8>, act: &Value) -> Option<Option<u64>> {
     match act.elements() {
-        None if word(act) == "copies" => put_copies(world, text),
+        None if word(act) == "replicas" => put_replicas(world, text),
         None => tick(world, text),
         Some([Value::Int(_), ..]) => call(world, text, act.elements()?),
         Some(_) => step(alloc, world, text, act),

@@ -6,9 +6,9 @@ use Rattle.jh_ops.specs.Operation.{Operation}
 use Rattle.jh_ops.specs.Words.{IsRecordedAs}
 use Rattle.jh_ops.specs.declared.call.Request.{Request}
 use Rattle.jh_ops.specs.declared.call.Request.TheVariants.{Cas}
-use Rattle.jh_simnode.specs.declared.copies.Got.TheVariants.{Many}
-use Rattle.jh_simnode.specs.declared.copies.Reply.{Reply}
-use Rattle.jh_simnode.specs.declared.copies.Reply.TheVariants.{Ok}
+use Rattle.jh_simnode.specs.declared.replicas.Got.TheVariants.{Many}
+use Rattle.jh_simnode.specs.declared.replicas.Reply.{Reply}
+use Rattle.jh_simnode.specs.declared.replicas.Reply.TheVariants.{Ok}
 
 -- how many integers the completion of a request tells, after the three words of each record
 abbrev pub integers_told : Request → Reply → ℕ

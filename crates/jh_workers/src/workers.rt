@@ -4,7 +4,7 @@
 ghost use Rattle.std.specs.Prelude.{◌≡◌, ℕ, ◌+◌, ◌*◌, ◌<◌, ◌≤◌, ◌^◌, if◌then◌else◌, min, OnOk, IfOk};
 ghost use Rattle.jh_nemesis.specs.declared.steps.StepAnswer.{StepAnswer};
 ghost use Rattle.jh_ops.specs.Operation.{operation};
-ghost use Rattle.jh_simnode.specs.declared.copies.Reply.{Reply};
+ghost use Rattle.jh_simnode.specs.declared.replicas.Reply.{Reply};
 ghost use Rattle.jh_simnode.specs.Histories as rule;
 ghost use Rattle.jh_simnode.specs.Running as running;
 ghost use Rattle.jh_simnode.specs.Runs.{ticks_at};

@@ -5,7 +5,7 @@ use Rattle.jh_simnode.proofs.stores.older.Given as goal
 
 abbrev pub invariant-loop-place : goal.invariant-loop-place
 invariant-loop-place l = record {
-  so_far : l.those.items ≡ older l.copies l.stamp (take l.place-index l.these);
-  known : All (λ p. p < length l.copies) l.those.items;
+  so_far : l.those.items ≡ older l.replicas l.stamp (take l.place-index l.these);
+  known : All (λ p. p < length l.replicas) l.those.items;
   few : length l.those.items ≤ l.place-index;
 }

@@ -9,6 +9,6 @@ abbrev pub invariant-loop-one : goal.invariant-loop-one
 invariant-loop-one l = record {
   can : (goal.iterator-loop-one).can_next l.one-iterator;
   ends : (goal.iterator-loop-one).is_finite l.one-iterator;
-  rest : with_all l.copies.items (into_iter_items l.one-iterator) ≡ with_all l.fn.copies.items l.fn.taken.items;
-  known : All (λ (t : Taken). t.place < length l.copies.items) (into_iter_items l.one-iterator);
+  rest : with_all l.replicas.items (into_iter_items l.one-iterator) ≡ with_all l.fn.replicas.items l.fn.taken.items;
+  known : All (λ (t : Taken). t.place < length l.replicas.items) (into_iter_items l.one-iterator);
 }

@@ -43,8 +43,8 @@ invariant_of-self-2 c =
     let fits : FitsNodes (length i.nemesis.state.names) c.args.step = rw c.env.ensures.names at (c.fits.ensures.0 c.if-not-fits.false) in
     let flags : c.dead_nodes-before.result.items ≡ dead (cells_of c.env-2.result.now) (length i.nemesis.state.names) = rw c.env-2.ensures.names at c.dead_nodes-before.ensures in
     let forgot = rw (c.as_slice.ensures.value, flags, c.deref_mut.ensures.value) at c.forget.ensures in
-    let size : length c.forget.new.copies ≡ i.copies.len =
-    ap length forgot ∙ (forgotten_tidy i.settings (dead (cells_of c.env-2.result.now) (length i.nemesis.state.names)) (cells_of c.env-3.result.now) (length i.nemesis.state.names) (length i.journal.items) i.copies.items c.self.invariant.tidy).sized ∙ sym c.self.invariant.tidy.sized ∙ sym i.copies.ok.0 in
-    rw (c.push_reserved.ensures.items, c.reserve.ensures.items, c.in_ok-kept.ensures, written i.copies.len c.forget.new.copies i.copies.items size)
-    (step_goes_on i.nemesis.state c.apply.new.self.state i.settings i.copies.items c.forget.new.copies i.journal.items c.env-2.result.now c.env-3.result.now c.args.step c.in_ok-answer.answer
+    let size : length c.forget.new.replicas ≡ i.replicas.len =
+    ap length forgot ∙ (forgotten_tidy i.settings (dead (cells_of c.env-2.result.now) (length i.nemesis.state.names)) (cells_of c.env-3.result.now) (length i.nemesis.state.names) (length i.journal.items) i.replicas.items c.self.invariant.tidy).sized ∙ sym c.self.invariant.tidy.sized ∙ sym i.replicas.ok.0 in
+    rw (c.push_reserved.ensures.items, c.reserve.ensures.items, c.in_ok-kept.ensures, written i.replicas.len c.forget.new.replicas i.replicas.items size)
+    (step_goes_on i.nemesis.state c.apply.new.self.state i.settings i.replicas.items c.forget.new.replicas i.journal.items c.env-2.result.now c.env-3.result.now c.args.step c.in_ok-answer.answer
     c.self.invariant few c.env-2.ensures.overlay c.env-2.ensures.start fits c.in_ok-answer.ensures.answer.0 c.in_ok-answer.ensures.answer.1 c.env-3.ensures.overlay c.env-3.ensures.start forgot)

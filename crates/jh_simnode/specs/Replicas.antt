@@ -4,27 +4,27 @@ use Rattle.std.specs.Ordering.{int_eq}
 use Rattle.jh_ops.specs.declared.call.Workload.{Workload}
 use Rattle.jh_ops.specs.declared.call.Workload.TheVariants.{Register, Counter, Set, Ids}
 use Rattle.jh_simnode.specs.declared.settings.Settings.{Settings}
-use Rattle.jh_simnode.specs.declared.copies.Contents.{Contents}
-use Rattle.jh_simnode.specs.declared.copies.Contents.TheVariants.{One, Many}
-use Rattle.jh_simnode.specs.declared.copies.Got.{Got}
-use Rattle.jh_simnode.specs.declared.copies.Mark.{Mark}
-use Rattle.jh_simnode.specs.declared.copies.Mark.TheVariants.{First, Version, Stamp}
-use Rattle.jh_simnode.specs.declared.copies.NodeCopy.{NodeCopy}
+use Rattle.jh_simnode.specs.declared.replicas.Contents.{Contents}
+use Rattle.jh_simnode.specs.declared.replicas.Contents.TheVariants.{One, Many}
+use Rattle.jh_simnode.specs.declared.replicas.Got.{Got}
+use Rattle.jh_simnode.specs.declared.replicas.Mark.{Mark}
+use Rattle.jh_simnode.specs.declared.replicas.Mark.TheVariants.{First, Version, Stamp}
+use Rattle.jh_simnode.specs.declared.replicas.Replica.{Replica}
 
--- what a copy holds at first
+-- what a replica holds at first
 abbrev pub contents_of : Workload → Option ℤ → Contents
 contents_of Register initial = One initial
 contents_of Counter initial = One (Some (pos 0))
 contents_of Set initial = Many []
 contents_of Ids initial = One (Some (pos 0))
 
--- the contents of each copy at first, by the settings
+-- the contents of each replica at first, by the settings
 abbrev pub first_contents : Settings → Contents
 first_contents s = contents_of s.workload s.initial
 
--- each copy at first
-abbrev pub first_copy : Settings → NodeCopy
-first_copy s = record { mark = First; contents = first_contents s }
+-- each replica at first
+abbrev pub first_replica : Settings → Replica
+first_replica s = record { mark = First; contents = first_contents s }
 
 -- what a read of the contents gets
 abbrev pub got_of : Contents → Got
@@ -47,10 +47,10 @@ is_lower (Stamp at place) First = false
 is_lower (Stamp at place) (Version v) = false
 is_lower (Stamp at place) (Stamp at' place') = int_lt at at' || (int_eq at at' && nat_lt place place')
 
--- what stands for the copy of a place that isn't there
-abbrev pub blank : NodeCopy
+-- what stands for the replica of a place that isn't there
+abbrev pub blank : Replica
 blank = record { mark = First; contents = One None }
 
--- the copy of the node at a place
-abbrev pub copy_at : List NodeCopy → ℕ → NodeCopy
-copy_at copies place = slice_index_or copies place blank
+-- the replica of the node at a place
+abbrev pub replica_at : List Replica → ℕ → Replica
+replica_at replicas place = slice_index_or replicas place blank

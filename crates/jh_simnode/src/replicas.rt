@@ -1,7 +1,7 @@
-//! What nodes keep of the database, and what they answer. `specs/Copies.antt` has the rules of marks and of first copies.
+//! What nodes keep of the database, and what they answer. `specs/Replicas.antt` has the rules of marks and of first replicas.
 
 ghost use Rattle.std.specs.Prelude.{◌≡◌, ℕ, List, [], length, IfOk, slice_index_or, replicate};
-ghost use Rattle.jh_simnode.specs.Copies.{first_contents, first_copy, is_lower, version, got_of};
+ghost use Rattle.jh_simnode.specs.Replicas.{first_contents, first_replica, is_lower, version, got_of};
 
 use crate::settings::Settings;
 use jh_ops::Workload;
@@ -22,7 +22,7 @@ impl Model for Numbers {
     ghost view = { λ a. a.items.items };
 }
 
-/// What a copy holds: one value, none at all, or the elements of a set.
+/// What a replica holds: one value, none at all, or the elements of a set.
 #[derive(Debug, Drop)]
 pub enum Contents {
     One(Option<i64>),
@@ -48,7 +48,7 @@ pub enum Reply {
     Info,
 }
 
-/// How new a copy is.
+/// How new a replica is.
 #[derive(Clone, Copy, Debug, PartialEq, Eq)]
 pub enum Mark {
     /// As at first.
@@ -59,9 +59,9 @@ pub enum Mark {
     Stamp(i128, u8),
 }
 
-/// A node's copy of the store.
+/// A node's replica of the store.
 #[derive(Debug, Drop)]
-pub struct NodeCopy {
+pub struct Replica {
     pub mark: Mark,
     pub contents: Contents,
 }
@@ -106,7 +106,7 @@ impl Numbers {
 }
 
 impl Contents {
-    /// What a copy holds at first.
+    /// What a replica holds at first.
     pub(crate) fn first(alloc: Global, settings: &Settings) -> Contents
         ensures { result ≡ first_contents settings.now }
     {
@@ -187,38 +187,38 @@ impl Mark {
     }
 }
 
-impl NodeCopy {
-    /// A node's copy at first.
-    pub(crate) fn first(alloc: Global, settings: &Settings) -> NodeCopy
-        ensures { result ≡ first_copy settings.now }
+impl Replica {
+    /// A node's replica at first.
+    pub(crate) fn first(alloc: Global, settings: &Settings) -> Replica
+        ensures { result ≡ first_replica settings.now }
     {
-        NodeCopy {
+        Replica {
             mark: Mark::First,
             contents: Contents::first(alloc, settings),
         }
     }
 
-    pub(crate) fn copy(&self, alloc: Global) -> Result<NodeCopy, AllocError>
+    pub(crate) fn copy(&self, alloc: Global) -> Result<Replica, AllocError>
         ensures { IfOk result (λ copy. copy ≡ self.now) }
     {
-        Ok(NodeCopy {
+        Ok(Replica {
             mark: self.mark,
             contents: self.contents.copy(alloc)?,
         })
     }
 }
 
-/// So many copies as they are at first.
-pub(crate) fn first_copies(
+/// So many replicas as they are at first.
+pub(crate) fn first_replicas(
     alloc: Global,
     settings: &Settings,
     count: usize,
-) -> Result<Vec<NodeCopy>, AllocError>
-    ensures { IfOk result (λ all. all.items ≡ replicate count (first_copy settings.now)) }
+) -> Result<Vec<Replica>, AllocError>
+    ensures { IfOk result (λ all. all.items ≡ replicate count (first_replica settings.now)) }
 {
     let mut all = Vec::new(alloc);
     for _place in 0..count {
-        all.push(NodeCopy::first(alloc, settings))?;
+        all.push(Replica::first(alloc, settings))?;
     }
     Ok(all)
 }
