@@ -7,7 +7,7 @@ use Rattle.std.proofs.lemmas.List.Elements.{All-filter}
 use Rattle.std.proofs.lemmas.List.{get_or_append_left, get_or_at, length-map, map-append}
 use Rattle.jh_env.specs.Faults.{FaultValue, FitsCount}
 use Rattle.jh_env.specs.Overlay.{EnvValue, StandsWith, SamePlace}
-use Rattle.jh_nemesis.specs.State.{State, Active, is_active, is_empty, moved_on, back_to, forth_to}
+use Rattle.jh_nemesis.specs.State.{State, Active, is_active, is_empty, next_state, back_to, forth_to}
 use Rattle.jh_nemesis.specs.Steps.{begin_answer, withdraw_answer, withdraw_all_answer, state_after, without}
 use Rattle.jh_nemesis.specs.RecordsInside.{record_at, played, played_back, active_after, fault_of, faults_at, past_of, future_of, stamped_at, AreStamps, IsBegin, IsRight, IsTrueTo}
 use Rattle.jh_nemesis.specs.NemesisInside.{state_from}
@@ -191,7 +191,7 @@ module _ {env : EnvValue} {records : List Record} {cursor : ℕ} {active : List 
     -- the state once that step was taken
     pub put_state : (next : Active) → faults_at put (played cursor step active) ≡ next
         → forth_to (state_from env put cursor active) (future_of put cursor (length put - cursor))
-        ≡ moved_on (state_from env records cursor active) next
+        ≡ next_state (state_from env records cursor active) next
     put_state next is =
         let left : length put - cursor ≡ suc zero = omega (arith, put_long) in
         let now : active_after put cursor ≡ active = same_active cursor records put put_same ∙ sym sound.now in
@@ -224,7 +224,7 @@ module _ {env : EnvValue} {records : List Record} {cursor : ℕ} {active : List 
   taken : (step : Record) (items : List Record) (new : State) (next : Active) → items ≡ put step
       → new ≡ forth_to (state_from env items cursor active) (future_of items cursor (length items - cursor))
       → faults_at (put step) (played cursor step active) ≡ next
-      → new ≡ moved_on (state_from env records cursor active) next
+      → new ≡ next_state (state_from env records cursor active) next
   taken step items new next is forth faults = rw is at forth ∙ put_state step next faults
 
   pub begun_state : (id : ℕ) (fault : FaultValue) (items : List Record) (new : State) → items ≡ put (Begun id fault)

@@ -5,7 +5,7 @@ use Rattle.std.specs.List.{list_any}
 use Rattle.jh_env.specs.Overlay.{cuts, link_over}
 use Rattle.std.proofs.lemmas.List.Elements.{filter-append}
 use Rattle.jh_env.specs.Faults.{FaultValue}
-use Rattle.jh_nemesis.specs.State.{State, Active, has_id, is_active, faults_in, moved_on}
+use Rattle.jh_nemesis.specs.State.{State, Active, has_id, is_active, faults_in, next_state}
 use Rattle.jh_nemesis.specs.Steps.{answer_of, begin_answer, state_after, is_ok, moved, without}
 use Rattle.jh_nemesis.specs.Laws.{CutsOfOthersStay, CutsOfStartStay, WithdrawalLeavesOthers, WithdrawalEndsBegin, OthersAloneMake, WithdrawingAllLeavesStart, IsAtStart}
 use Rattle.std.proofs.lemmas.List.{append-nil}
@@ -82,7 +82,7 @@ without_other before after id other f apart =
 
 pub others_stay : CutsOfOthersStay
 others_stay s before after id other f a b l now apart h =
-    elim (is_ok (answer_of s (Withdraw id))) as (λ k. (link_over (faults_in (if k then moved_on s (without s.active id) else s).active) a b l).cut ≡ true) [
+    elim (is_ok (answer_of s (Withdraw id))) as (λ k. (link_over (faults_in (if k then next_state s (without s.active id) else s).active) a b l).cut ≡ true) [
       | true ↦ rw (now, without_other before after id other f apart) (or_right l.cut _ (cut_among (without before id) (without after id) (other, f) a b h))
       | false ↦ rw now (or_right l.cut _ (cut_among before after (other, f) a b h))
     ]

@@ -34,8 +34,8 @@ abbrev pub faults_in : Active → List FaultValue
 faults_in active = map (λ f. f.1) active
 
 -- a new moment: what was now is the last of the past, and nothing is undone
-abbrev pub moved_on : State → Active → State
-moved_on s next = record s { past = s.active ∷ s.past; active = next; future = [] }
+abbrev pub next_state : State → Active → State
+next_state s next = record s { past = s.active ∷ s.past; active = next; future = [] }
 
 -- nothing is in the list
 abbrev pub is_empty : {A : Type 0} → List A → Bool

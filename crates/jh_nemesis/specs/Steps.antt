@@ -1,7 +1,7 @@
 -- The steps of a nemesis (this project's own): the answer to a step and the state that it leaves.
 use Rattle.std.specs.Prelude.{◌≡◌, ◌⊎◌, ℕ, Bool, true, false, List, [], ◌∷◌, ◌++◌, length, filter, not, nat_le, if◌then◌else◌}
 use Rattle.jh_env.specs.Faults.{FitsCount}
-use Rattle.jh_nemesis.specs.State.{State, Active, has_id, is_active, is_empty, moved_on, back_to, forth_to}
+use Rattle.jh_nemesis.specs.State.{State, Active, has_id, is_active, is_empty, next_state, back_to, forth_to}
 use Rattle.jh_nemesis.specs.declared.steps.Step.{Step}
 use Rattle.jh_nemesis.specs.declared.steps.Step.TheVariants.{Begin, Withdraw, WithdrawAll, Undo, Redo}
 use Rattle.jh_nemesis.specs.declared.steps.StepAnswer.{StepAnswer}
@@ -54,9 +54,9 @@ without active id = filter (λ f. not (has_id id f)) active
 
 -- the state after an accepted step: a fault that is begun stands last, one that is withdrawn is gone
 abbrev pub moved : State → Step → State
-moved s (Begin id f) = moved_on s (s.active ++ (id, f) ∷ [])
-moved s (Withdraw id) = moved_on s (without s.active id)
-moved s WithdrawAll = moved_on s []
+moved s (Begin id f) = next_state s (s.active ++ (id, f) ∷ [])
+moved s (Withdraw id) = next_state s (without s.active id)
+moved s WithdrawAll = next_state s []
 moved s Undo = back_to s s.past
 moved s Redo = forth_to s s.future
 

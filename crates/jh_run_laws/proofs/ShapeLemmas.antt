@@ -26,7 +26,7 @@ use Rattle.jh_simnode.specs.Replicas.{blank, contents_of, replica_at, first_repl
 use Rattle.jh_simnode.specs.Effects.{after_add, after_cas, after_generate, effect, is_small, put_in}
 use Rattle.jh_simnode.specs.Reach.{Cells, responding_nodes, is_killed, places, reached_nodes}
 use Rattle.jh_simnode.specs.Requests.{is_read, only_asks}
-use Rattle.jh_simnode.specs.Stores.{Served, served, serve, serve_at, serve_in, serve_running, local_served, lww_served, quorum, quorum_changed, quorum_read, quorum_write, newest, newer_place, version_at, give, give_all, older, replicas_after_tick, tell, tell_all, replicas_after_kills, forget_one}
+use Rattle.jh_simnode.specs.Stores.{Served, served, serve, serve_at, serve_in, serve_running, local_change, lww_change, quorum, quorum_change, quorum_read, quorum_write, newest, newer_place, version_at, give, give_all, older, replicas_after_tick, tell, tell_all, replicas_after_kills, forget_one}
 use Rattle.jh_simnode.proofs.Places.{places_below}
 use Rattle.jh_simnode.specs.declared.events.Event.{Event}
 use Rattle.jh_simnode.specs.Events.{AreDue, IsLegal, Moment, Setup, env_of, next, opening}
@@ -151,25 +151,25 @@ give_shaped w c new all [] h t = t
 give_shaped w c new all (p ∷ ps) h t = give_shaped w c new (set all p new) ps h (set_shaped w c all p new t h)
 
 local_shaped : (w : Workload) (c : ℕ) (all : List Replica) (node : ℕ) (request : Request) (contents : Contents) → IfSome (effect request contents) (λ e. IsShaped w e.after × GotFits w request e.got)
-    → AreShaped w c all → IsServed w c request (local_served all node (effect request contents))
+    → AreShaped w c all → IsServed w c request (local_change all node (effect request contents))
 local_shaped w c all node request contents fits t =
-    elim (effect request contents) as (λ o. IfSome o (λ e. IsShaped w e.after × GotFits w request e.got) → IsServed w c request (local_served all node o)) [
+    elim (effect request contents) as (λ o. IfSome o (λ e. IsShaped w e.after × GotFits w request e.got) → IsServed w c request (local_change all node o)) [
       | None ↦ λ h. (t, tt)
       | Some e ↦ λ h. (set_shaped w c all node (record { mark = (replica_at all node).mark; contents = e.after }) t h.0, h.1)
     ] fits
 
 lww_shaped : (w : Workload) (c : ℕ) (all : List Replica) (at : ℤ) (node : ℕ) (these : List ℕ) (request : Request) (contents : Contents) → IfSome (effect request contents) (λ e. IsShaped w e.after × GotFits w request e.got)
-    → AreShaped w c all → IsServed w c request (lww_served all (Stamp at node) these (effect request contents))
+    → AreShaped w c all → IsServed w c request (lww_change all (Stamp at node) these (effect request contents))
 lww_shaped w c all at node these request contents fits t =
-    elim (effect request contents) as (λ o. IfSome o (λ e. IsShaped w e.after × GotFits w request e.got) → IsServed w c request (lww_served all (Stamp at node) these o)) [
+    elim (effect request contents) as (λ o. IfSome o (λ e. IsShaped w e.after × GotFits w request e.got) → IsServed w c request (lww_change all (Stamp at node) these o)) [
       | None ↦ λ h. (t, tt)
       | Some e ↦ λ h. (give_shaped w c (record { mark = Stamp at node; contents = e.after }) all (older all (Stamp at node) these) h.0 t, h.1)
     ] fits
 
 changed_shaped : (w : Workload) (c : ℕ) (all : List Replica) (best : ℕ) (these : List ℕ) (k : ℕ) (request : Request) (contents : Contents) → IfSome (effect request contents) (λ e. IsShaped w e.after × GotFits w request e.got)
-    → AreShaped w c all → IsServed w c request (quorum_changed all best these k (effect request contents))
+    → AreShaped w c all → IsServed w c request (quorum_change all best these k (effect request contents))
 changed_shaped w c all best these k request contents fits t =
-    elim (effect request contents) as (λ o. IfSome o (λ e. IsShaped w e.after × GotFits w request e.got) → IsServed w c request (quorum_changed all best these k o)) [
+    elim (effect request contents) as (λ o. IfSome o (λ e. IsShaped w e.after × GotFits w request e.got) → IsServed w c request (quorum_change all best these k o)) [
       | None ↦ λ h. (t, tt)
       | Some e ↦ λ h. (
         give_shaped w c (record { mark = Version (version_at all best + 1); contents = e.after }) all these h.0 t,
@@ -180,7 +180,7 @@ changed_shaped w c all best these k request contents fits t =
 -- ---- what a node does
 
 local_served_fits : (w : Workload) (c : ℕ) (all : List Replica) (node : ℕ) (request : Request) → is_request_of request w ≡ true → node < c → AreShaped w c all
-    → IsServed w c request (local_served all node (effect request (replica_at all node).contents))
+    → IsServed w c request (local_change all node (effect request (replica_at all node).contents))
 local_served_fits w c all node request r n t =
     local_shaped w c all node request (replica_at all node).contents (effect_fits w request (replica_at all node).contents r (t.each node (rw t.sized n))) t
 
@@ -207,7 +207,7 @@ quorum_served w c env all node request draw r t =
     (λ _. (t, tt))
     (λ many. read_served w c all (newest all answering) request reads (rw (← t.sized) (newest_below (length all) all answering (some_of (length answering) (length all) many) near)) t))
     (λ _. either (IsServed w c request) (nat_lt (length reached) (quorum (length all))) (served all said.Fail)
-    (quorum_changed all (newest all reached) reached (length answering) (effect request (replica_at all (newest all reached)).contents))
+    (quorum_change all (newest all reached) reached (length answering) (effect request (replica_at all (newest all reached)).contents))
     (λ _. (t, tt))
     (λ many.
     let best : newest all reached < length all = newest_below (length all) all reached (some_of (length reached) (length all) many) low in

@@ -8,7 +8,7 @@ use Rattle.jh_simnode.specs.declared.schedule.Entry.{Entry}
 use Rattle.jh_simnode.specs.Limits.{max_entries}
 use Rattle.jh_shrink.specs.declared.changes.Change.{Change}
 use Rattle.jh_shrink.specs.declared.changes.Change.TheVariants.{Put, Take, Swap}
-use Rattle.jh_shrink.specs.Edits.{EditState, back_to, forth_to, undone, redone, edited}
+use Rattle.jh_shrink.specs.Edits.{EditState, back_to, forth_to, undone, redone, state_after_edit}
 use Rattle.jh_shrink.specs.ChangesInside.{changed, back_from, played, Play, Fits, state_from}
 
 remove_put : {X : Type 0} (xs : List X) (i : ℕ) (x : X) → i ≤ length xs → remove (insert xs i x) i ≡ xs
@@ -113,6 +113,6 @@ redone_is entries past new future rest change back off on fits takes =
 
 pub edited_is : (entries : List Entry) (past new future : List Change) (change back : Change) → new ≡ past ++ back ∷ []
     → Fits change entries → back_from change entries back
-    → state_from (changed change entries) new [] ≡ edited (state_from entries past future) (changed change entries)
+    → state_from (changed change entries) new [] ≡ state_after_edit (state_from entries past future) (changed change entries)
 edited_is entries past new future change back on fits takes =
     ap (λ p. record { past = p; now = changed change entries; future = [] }) (played_on entries past new change back on fits takes)

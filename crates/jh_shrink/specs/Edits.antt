@@ -14,12 +14,12 @@ pub record EditState : Type 0 where
   pub future : List (List Entry)
 
 -- nothing was edited yet
-abbrev pub unedited : List Entry → EditState
-unedited schedule = record { past = []; now = schedule; future = [] }
+abbrev pub state_before_edits : List Entry → EditState
+state_before_edits schedule = record { past = []; now = schedule; future = [] }
 
 -- after an edit: what was now is the latest of the past, and nothing is undone
-abbrev pub edited : EditState → List Entry → EditState
-edited s next = record { past = s.now ∷ s.past; now = next; future = [] }
+abbrev pub state_after_edit : EditState → List Entry → EditState
+state_after_edit s next = record { past = s.now ∷ s.past; now = next; future = [] }
 
 -- back to the latest of these before: what was now is the latest that is undone
 abbrev pub back_to : EditState → List (List Entry) → EditState

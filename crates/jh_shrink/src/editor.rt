@@ -3,7 +3,7 @@
 ghost use Rattle.std.specs.Prelude.{◌≡◌, ◌↔◌, ◌≤◌, [], length, slice_set, IfOk, IsErr, IsTrue, MatchResult, OnErr, OnOk};
 ghost use Rattle.std.specs.List.{insert, remove};
 ghost use Rattle.jh_simnode.specs.Limits.{max_entries};
-ghost use Rattle.jh_shrink.specs.Edits.{edited, redone, undone, unedited, HasRoom, MayEdit, MayInsert, RefusesEdit, RefusesInsert};
+ghost use Rattle.jh_shrink.specs.Edits.{state_after_edit, redone, undone, state_before_edits, HasRoom, MayEdit, MayInsert, RefusesEdit, RefusesInsert};
 ghost use Rattle.jh_shrink.specs.ChangesInside.{changed, Fits};
 
 use crate::changes::{Change, make};
@@ -102,7 +102,7 @@ impl Editor {
     ///
     /// Error: memory was refused.
     pub fn new(alloc: Global, schedule: Schedule) -> Result<Editor, AllocError>
-        ensures { IfOk result (λ editor. editor ≡ unedited schedule) }
+        ensures { IfOk result (λ editor. editor ≡ state_before_edits schedule) }
     {
         let mut entries = schedule.into_entries();
         entries.reserve(MAX_ENTRIES - entries.len())?;
@@ -170,7 +170,7 @@ impl Editor {
     /// Makes a change. All memory is taken first, that of its undo and redo too.
     fn edit(&mut self, change: Change) -> Result<(), AllocError>
         requires { Fits change self.old.now }
-        ensures edited { OnOk result (self.new ≡ edited self.old (changed change self.old.now)) }
+        ensures edited { OnOk result (self.new ≡ state_after_edit self.old (changed change self.old.now)) }
         ensures unchanged { OnErr result (self.new ≡ self.old) }
     {
         let Editor {
@@ -191,7 +191,7 @@ impl Editor {
     /// past; `OutOfMemory`.
     pub fn delete(&mut self, place: usize) -> Result<(), EditError>
         ensures answer { MatchResult result
-            (λ _. MayEdit self.old place × (self.new ≡ edited self.old (remove self.old.now place)))
+            (λ _. MayEdit self.old place × (self.new ≡ state_after_edit self.old (remove self.old.now place)))
             (λ e. (self.new ≡ self.old) × RefusesEdit self.old place e) }
     {
         self.check(place)?;
@@ -205,7 +205,7 @@ impl Editor {
     /// entries; `TooManyEdits` where 4,096 edits lie in the past; `OutOfMemory`.
     pub fn insert(&mut self, place: usize, entry: Entry) -> Result<(), InsertError>
         ensures answer { MatchResult result
-            (λ _. MayInsert self.old place × (self.new ≡ edited self.old (insert self.old.now place entry)))
+            (λ _. MayInsert self.old place × (self.new ≡ state_after_edit self.old (insert self.old.now place entry)))
             (λ e. (self.new ≡ self.old) × RefusesInsert self.old place e) }
     {
         self.check_insert(place)?;
@@ -219,7 +219,7 @@ impl Editor {
     /// past; `OutOfMemory`.
     pub fn replace(&mut self, place: usize, entry: Entry) -> Result<(), EditError>
         ensures answer { MatchResult result
-            (λ _. MayEdit self.old place × (self.new ≡ edited self.old (slice_set self.old.now place entry)))
+            (λ _. MayEdit self.old place × (self.new ≡ state_after_edit self.old (slice_set self.old.now place entry)))
             (λ e. (self.new ≡ self.old) × RefusesEdit self.old place e) }
     {
         self.check(place)?;

@@ -18,7 +18,7 @@ use Rattle.jh_simnode.specs.Replicas.{blank, replica_at, version, first_replica}
 use Rattle.jh_simnode.specs.Effects.{effect}
 use Rattle.jh_simnode.specs.declared.effects.Change.{Change}
 use Rattle.jh_simnode.specs.Reach.{Cells, places, reached_nodes, responding_nodes}
-use Rattle.jh_simnode.specs.Stores.{Served, serve, serve_at, serve_in, serve_running, local_served, lww_served, quorum_changed, newest, version_at, give, give_all, older, replicas_after_tick, tell, tell_all, replicas_after_kills, forget_one}
+use Rattle.jh_simnode.specs.Stores.{Served, serve, serve_at, serve_in, serve_running, local_change, lww_change, quorum_change, newest, version_at, give, give_all, older, replicas_after_tick, tell, tell_all, replicas_after_kills, forget_one}
 use Rattle.jh_simnode.specs.Events.{AreTidy}
 
 -- what each step of a fold keeps is kept by the fold
@@ -49,15 +49,15 @@ later_tidy c n all t = record { sized = t.sized; low = λ q. let h = t.low q in 
 give_tidy : (c n : ℕ) (new : Replica) (all : List Replica) (these : List ℕ) → version new.mark ≤ n → AreTidy c n all → AreTidy c n (give_all new all these)
 give_tidy c n new all these h t = fold_keeps (AreTidy c n) (give new) (λ a p k. set_tidy c n a p new k h) all these t
 
-local_tidy : (c n : ℕ) (all : List Replica) (node : ℕ) (e : Option Change) → AreTidy c n all → AreTidy c (n + 1) (local_served all node e).replicas
+local_tidy : (c n : ℕ) (all : List Replica) (node : ℕ) (e : Option Change) → AreTidy c n all → AreTidy c (n + 1) (local_change all node e).replicas
 local_tidy c n all node None t = later_tidy c n all t
 local_tidy c n all node (Some e) t = later_tidy c n _ (set_tidy c n all node (record { mark = (replica_at all node).mark; contents = e.after }) t (t.low node))
 
-lww_tidy : (c n : ℕ) (all : List Replica) (at : ℤ) (node : ℕ) (these : List ℕ) (e : Option Change) → AreTidy c n all → AreTidy c (n + 1) (lww_served all (Stamp at node) these e).replicas
+lww_tidy : (c n : ℕ) (all : List Replica) (at : ℤ) (node : ℕ) (these : List ℕ) (e : Option Change) → AreTidy c n all → AreTidy c (n + 1) (lww_change all (Stamp at node) these e).replicas
 lww_tidy c n all at node these None t = later_tidy c n all t
 lww_tidy c n all at node these (Some e) t = later_tidy c n _ (give_tidy c n (record { mark = Stamp at node; contents = e.after }) all (older all (Stamp at node) these) (omega arith) t)
 
-changed_tidy : (c n : ℕ) (all : List Replica) (best : ℕ) (these : List ℕ) (k : ℕ) (e : Option Change) → AreTidy c n all → AreTidy c (n + 1) (quorum_changed all best these k e).replicas
+changed_tidy : (c n : ℕ) (all : List Replica) (best : ℕ) (these : List ℕ) (k : ℕ) (e : Option Change) → AreTidy c n all → AreTidy c (n + 1) (quorum_change all best these k e).replicas
 changed_tidy c n all best these k None t = later_tidy c n all t
 changed_tidy c n all best these k (Some e) t =
     let h = t.low best in

@@ -59,39 +59,39 @@ abbrev pub older : List Replica → Mark → List ℕ → List ℕ
 older replicas stamp these = filter (λ p. is_lower (replica_at replicas p).mark stamp) these
 
 -- what a change of a node's own replica comes to
-abbrev pub local_served : List Replica → ℕ → Option Change → Served
-local_served replicas node None = served replicas Fail
-local_served replicas node (Some e) = record {
+abbrev pub local_change : List Replica → ℕ → Option Change → Served
+local_change replicas node None = served replicas Fail
+local_change replicas node (Some e) = record {
   reply = Ok e.got;
   replicas = slice_set replicas node (record { mark = (replica_at replicas node).mark; contents = e.after });
 }
 
 -- a change with this stamp, which goes to those of the nodes reached whose own stamp is lower
-abbrev pub lww_served : List Replica → Mark → List ℕ → Option Change → Served
-lww_served replicas stamp reached None = served replicas Fail
-lww_served replicas stamp reached (Some e) =
+abbrev pub lww_change : List Replica → Mark → List ℕ → Option Change → Served
+lww_change replicas stamp reached None = served replicas Fail
+lww_change replicas stamp reached (Some e) =
     record {
       reply = Ok e.got;
       replicas = give_all (record { mark = stamp; contents = e.after }) replicas (older replicas stamp reached);
     }
 
 -- a change at a majority, of which so many nodes respond
-abbrev pub quorum_changed : List Replica → ℕ → List ℕ → ℕ → Option Change → Served
-quorum_changed replicas best reached answering None = served replicas Fail
-quorum_changed replicas best reached answering (Some e) = record {
+abbrev pub quorum_change : List Replica → ℕ → List ℕ → ℕ → Option Change → Served
+quorum_change replicas best reached answering None = served replicas Fail
+quorum_change replicas best reached answering (Some e) = record {
   reply = if nat_lt answering (quorum (length replicas)) then Info else Ok e.got;
   replicas = give_all (record { mark = Version (version_at replicas best + 1); contents = e.after }) replicas reached;
 }
 
 -- the local store: each node has a replica of its own
 abbrev pub serve_local : List Replica → ℕ → Request → Served
-serve_local replicas node request = local_served replicas node (effect request (replica_at replicas node).contents)
+serve_local replicas node request = local_change replicas node (effect request (replica_at replicas node).contents)
 
 -- the last writer wins: a read of the own replica, or a change with a stamp
 abbrev pub serve_lww : Cells → List Replica → ℤ → ℕ → Request → ℕ → Served
 serve_lww env replicas at node request draw =
     if is_read request then served replicas (Ok (got_of (replica_at replicas node).contents))
-    else lww_served replicas (Stamp at node) (reached_nodes env (length replicas) draw node)
+    else lww_change replicas (Stamp at node) (reached_nodes env (length replicas) draw node)
     (effect request (replica_at replicas node).contents)
 
 -- a read of the greatest version of those that respond; fails below a majority
@@ -104,7 +104,7 @@ quorum_read replicas answering =
 abbrev pub quorum_write : List Replica → List ℕ → ℕ → Request → Served
 quorum_write replicas reached answering request =
     if nat_lt (length reached) (quorum (length replicas)) then served replicas Fail
-    else quorum_changed replicas (newest replicas reached) reached answering
+    else quorum_change replicas (newest replicas reached) reached answering
     (effect request (replica_at replicas (newest replicas reached)).contents)
 
 -- the store of quorums

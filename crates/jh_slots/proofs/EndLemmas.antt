@@ -9,7 +9,7 @@ use Rattle.std.specs.FinMap as map
 use Rattle.std.proofs.lemmas.List.{length-set, get_or-set_other, get_or-set_same, take-take, length-take-le}
 use Rattle.atomic_table.specs.Table.{step, Allows, keeps}
 use Rattle.atomic_table.proofs.Lists.{at_map}
-use Rattle.jh_slots.specs.Seats.{Mark, Words, Void, Claim, claim_at, ended}
+use Rattle.jh_slots.specs.Seats.{Mark, Words, Void, Claim, claim_at, after_end}
 use Rattle.jh_slots.specs.States.{IsSound, len_of}
 use Rattle.jh_slots.specs.Stored.{View, IsKept, IsStored, shown, mark_at, mark_of, status_of, status_at, place_at}
 use Rattle.jh_slots.specs.Steps.{Mine, knowing, Ends}
@@ -43,7 +43,7 @@ module _ (cap : ℕ) (words : List ℕ) (views : List View) (id : ℕ) (v : View
   Now = set words At x
 
   abbrev New : View
-  New = knowing v (ended f m v.knows)
+  New = knowing v (after_end f m v.knows)
 
   abbrev Has : Type 0
   Has = map.get v.knows.claims f ≡ Some c
@@ -152,7 +152,7 @@ ends cap slots id f x me c m live here has fits is s kept len at small =
             let claim : claim_at v.knows h ≡ c = ap (claim_at v.knows) (sym one) ∙ claim_is v.knows f c has in
             let both : Some m ≡ Some y = sym is ∙ (ap (mark_of x) (ap (λ (d : Claim). d.words) (sym claim)) ∙ eq) in
             let same : m ≡ y = cc in
-            λ i. knowing v (ended (one i) (same i) v.knows),
+            λ i. knowing v (after_end (one i) (same i) v.knows),
       ),
     )
 

@@ -7,7 +7,7 @@ use native.Mathlib.Decide.{ℕ_discrete}
 use lib.ListN.{get_elem?}
 use Rattle.std.specs.FinMap as map
 use Rattle.std.proofs.lemmas.List.{length-set, length-take-le}
-use Rattle.jh_slots.specs.Seats.{Mark, Words, Void, Claim, Knowledge, newcomer, looked, took, wrote, ended, published, voided, saw, copied, joint, claim_at, write_in}
+use Rattle.jh_slots.specs.Seats.{Mark, Words, Void, Claim, Knowledge, newcomer, after_look, after_claim, after_write, after_end, after_publish, after_void, after_read, after_split, after_join, claim_at, write_in}
 use Rattle.jh_slots.specs.States.{State, IsSound, Moves, moved, len_of}
 use Rattle.jh_slots.specs.Events.{Event, look, claim, write, publish, void, read, split, join, marking, opening_state, Leads, Runs, Lasts, SlotLaws}
 use Rattle.jh_slots.proofs.SoundLemmas.{good_moves}
@@ -40,7 +40,7 @@ module _ (cap : ℕ) (s : State) (i : ℕ) (v : Knowledge) (g : IsSound cap s) (
       let back : (f : ℕ) (c : Claim) → map.get w.claims f ≡ Some c → map.get v.claims f ≡ Some c = λ f c e. ap (λ x. map.get x f) (sym same) ∙ e in
       record { up = omega arith; low = low; seen = seen; grows = λ r m e. e; claims = λ f c e. ((g.claims i v f c at (back f c e)).2, inl (c, back f c e, refl)); marked = λ r m e. inl e }
 
-  taking : (rows : ℕ) → 1 ≤ rows → Moves s v (took s.next rows v) (s.next + rows) s.marks
+  taking : (rows : ℕ) → 1 ≤ rows → Moves s v (after_claim s.next rows v) (s.next + rows) s.marks
   taking rows one =
       let fresh : Claim = record { rows = rows; words = replicate (5 * rows) 0 } in
       record {
@@ -55,7 +55,7 @@ module _ (cap : ℕ) (s : State) (i : ℕ) (v : Knowledge) (g : IsSound cap s) (
         marked = λ r m e. inl e;
       }
 
-  writing : (f p x : ℕ) (c : Claim) → map.get v.claims f ≡ Some c → Moves s v (wrote f p x v) s.next s.marks
+  writing : (f p x : ℕ) (c : Claim) → map.get v.claims f ≡ Some c → Moves s v (after_write f p x v) s.next s.marks
   writing f p x c has =
       let put : Claim = write_in (claim_at v f) p x in
       let is : put ≡ write_in c p x = ap (λ (y : Claim). write_in y p x) (claim_is v f c has) in
@@ -82,7 +82,7 @@ module _ (cap : ℕ) (s : State) (i : ℕ) (v : Knowledge) (g : IsSound cap s) (
   marks_else : (f r : ℕ) (m : Mark) → r ≢ f → marking f m s.marks r ≡ s.marks r
   marks_else f r m ne = ap (λ b. cond b (Some m) (s.marks r)) (ne_eqb r f ne)
 
-  ending : (f : ℕ) (c : Claim) (m : Mark) → map.get v.claims f ≡ Some c → len_of m ≤ 5 * c.rows → Moves s v (ended f m v) s.next (marking f m s.marks)
+  ending : (f : ℕ) (c : Claim) (m : Mark) → map.get v.claims f ≡ Some c → len_of m ≤ 5 * c.rows → Moves s v (after_end f m v) s.next (marking f m s.marks)
   ending f c m has small =
       let one : 1 ≤ c.rows = (g.claims i v f c at has).0 in
       let grows : (r : ℕ) (x : Mark) → s.marks r ≡ Some x → marking f m s.marks r ≡ Some x =
@@ -107,24 +107,24 @@ module _ (cap : ℕ) (s : State) (i : ℕ) (v : Knowledge) (g : IsSound cap s) (
   by_move w next marks t m le is = subst (λ (x : State). IsSound cap x × Lasts s x) (sym is) (good_moves cap s i v w next marks g at m le, m.grows)
 
   leads : (e : Event) (t : State) → Leads cap s i v e t → IsSound cap t × Lasts s t
-  leads look t is = by_move (looked s.next v) s.next s.marks t (quiet (looked s.next v) (omega arith) refl (λ r m e. g.seen i v r m at e)) g.next is
-  leads (claim rows) t (one, fit, is) = by_move (took s.next rows v) (s.next + rows) s.marks t (taking rows one) fit is
-  leads (write f p x) t (c, has, lt, is) = by_move (wrote f p x v) s.next s.marks t (writing f p x c has) g.next is
+  leads look t is = by_move (after_look s.next v) s.next s.marks t (quiet (after_look s.next v) (omega arith) refl (λ r m e. g.seen i v r m at e)) g.next is
+  leads (claim rows) t (one, fit, is) = by_move (after_claim s.next rows v) (s.next + rows) s.marks t (taking rows one) fit is
+  leads (write f p x) t (c, has, lt, is) = by_move (after_write f p x v) s.next s.marks t (writing f p x c has) g.next is
   leads (publish f len) t (c, has, one, fit, is) =
       let m : Mark = Words (take len c.words) in
       let own : length c.words ≡ 5 * c.rows = (g.claims i v f c at has).2 in
       let n : length (take len c.words) ≡ len = length-take-le len c.words (omega arith) in
-      let same : published f len v ≡ ended f m v = ap (λ (y : Claim). ended f (Words (take len y.words)) v) (claim_is v f c has) in
-      by_move (ended f m v) s.next (marking f m s.marks) t (ending f c m has (omega arith)) g.next (is ∙ ap (λ w. moved s i w s.next (marking f m s.marks)) same)
-  leads (void f) t (c, has, is) = by_move (voided f v) s.next (marking f Void s.marks) t (ending f c Void has (omega arith)) g.next is
+      let same : after_publish f len v ≡ after_end f m v = ap (λ (y : Claim). after_end f (Words (take len y.words)) v) (claim_is v f c has) in
+      by_move (after_end f m v) s.next (marking f m s.marks) t (ending f c m has (omega arith)) g.next (is ∙ ap (λ w. moved s i w s.next (marking f m s.marks)) same)
+  leads (void f) t (c, has, is) = by_move (after_void f v) s.next (marking f Void s.marks) t (ending f c Void has (omega arith)) g.next is
   leads (read r) t (inl (m, here, is)) =
-      by_move (saw r m v) s.next s.marks t
-      (quiet (saw r m v) (g.low i v at) refl
+      by_move (after_read r m v) s.next s.marks t
+      (quiet (after_read r m v) (g.low i v at) refl
       (λ q x e. ⊎_elim (λ (y : (q ≡ r) × (m ≡ x)). subst (λ (z : ℕ × Mark). s.marks z.0 ≡ Some z.1) (λ k. (sym y.0 k, y.1 k)) here) (λ (y : (q ≢ r) × (map.get v.seen q ≡ Some x)). g.seen i v q x at y.1) (inserted v.seen r q m x e)))
       g.next is
   leads (read r) t (inr (none, is)) = subst (λ (x : State). IsSound cap x × Lasts s x) (sym is) (g, λ q m e. e)
-  leads split t is = subst (λ (x : State). IsSound cap x × Lasts s x) (sym is) (good_was cap s (s.seats ++ copied v ∷ []) (λ k j. k ≡ j) g (was_split cap s i v g at), λ q m e. e)
-  leads (join j) t (w, ne, at', is) = subst (λ (x : State). IsSound cap x × Lasts s x) (sym is) (good_was cap s (set (set s.seats i (joint v w)) j newcomer) (JoinsTo i j) g (was_join cap s i j v w g ne at at'), λ q m e. e)
+  leads split t is = subst (λ (x : State). IsSound cap x × Lasts s x) (sym is) (good_was cap s (s.seats ++ after_split v ∷ []) (λ k j. k ≡ j) g (was_split cap s i v g at), λ q m e. e)
+  leads (join j) t (w, ne, at', is) = subst (λ (x : State). IsSound cap x × Lasts s x) (sym is) (good_was cap s (set (set s.seats i (after_join v w)) j newcomer) (JoinsTo i j) g (was_join cap s i j v w g ne at at'), λ q m e. e)
 
 runs : (cap : ℕ) (es : List (ℕ × Event)) (s t : State) → IsSound cap s → Runs cap s es t → IsSound cap t × Lasts s t
 runs cap [] s t g is = subst (λ (x : State). IsSound cap x × Lasts s x) is (g, λ r m e. e)
@@ -143,8 +143,8 @@ slot_laws_hold cap before after s t a b =
       agree = λ i j v w r m n at at' is is'. let e : Some m ≡ Some n = sym (two.1 r m (one.0.seen i v r m at is)) ∙ g.seen j w r n at' is' in cc;
       apart = g.apart;
       begins = λ i v at. (g.low i v at, g.next, λ r m is. (g.marked r m (g.seen i v r m at is)).0);
-      publishes = λ i v f len c at has. seen_published v (published f len v) f len refl ∙ ap (λ (y : Claim). Some (Words (take len y.words))) (claim_is v f c has);
+      publishes = λ i v f len c at has. seen_published v (after_publish f len v) f len refl ∙ ap (λ (y : Claim). Some (Words (take len y.words))) (claim_is v f c has);
       joins = λ i j v w ne at at'.
           let same = agrees cap t i j v w g ne at at' in
-          (same, (λ r m is. joined_first v w (joint v w) r m refl is), (λ r m is. joined_second v w (joint v w) r m refl same is));
+          (same, (λ r m is. joined_first v w (after_join v w) r m refl is), (λ r m is. joined_second v w (after_join v w) r m refl same is));
     }

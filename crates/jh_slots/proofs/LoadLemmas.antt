@@ -8,7 +8,7 @@ use Rattle.std.proofs.lemmas.Bool.{eqb-true}
 use Rattle.std.proofs.lemmas.List.{take_more, take_all, get_or-drop, get_or-take, length_push, length-take}
 use Rattle.atomic_table.specs.Table.{step, Allows, keeps}
 use Rattle.atomic_table.proofs.Lists.{at_map}
-use Rattle.jh_slots.specs.Seats.{Mark, Words, Void, Knowledge, saw}
+use Rattle.jh_slots.specs.Seats.{Mark, Words, Void, Knowledge, after_read}
 use Rattle.jh_slots.specs.States.{IsSound}
 use Rattle.jh_slots.specs.Stored.{Note, View, IsKept, IsStored, shown, mark_at, mark_of, status_at, place_at, IsNoted}
 use Rattle.jh_slots.specs.Steps.{Mine, IsStatus, Peeks, Gathers, peeked, gathered}
@@ -16,7 +16,7 @@ use Rattle.jh_slots.proofs.MapLemmas.{inserted}
 use Rattle.jh_slots.proofs.LookLemmas.{quietly, Quiet}
 
 -- a view that saw a mark of the table has only marks of the table
-saw_all : (marks : ℕ → Option Mark) (v : Knowledge) (r : ℕ) (m : Mark) → ((q : ℕ) (x : Mark) → map.get v.seen q ≡ Some x → marks q ≡ Some x) → marks r ≡ Some m → (q : ℕ) (x : Mark) → map.get (saw r m v).seen q ≡ Some x → marks q ≡ Some x
+saw_all : (marks : ℕ → Option Mark) (v : Knowledge) (r : ℕ) (m : Mark) → ((q : ℕ) (x : Mark) → map.get v.seen q ≡ Some x → marks q ≡ Some x) → marks r ≡ Some m → (q : ℕ) (x : Mark) → map.get (after_read r m v).seen q ≡ Some x → marks q ≡ Some x
 saw_all marks v r m all here q x e =
     ⊎_elim
     (λ (t : (q ≡ r) × (m ≡ x)). subst (λ (z : ℕ × Mark). marks z.0 ≡ Some z.1) (λ i. (sym t.0 i, t.1 i)) here)
@@ -109,12 +109,12 @@ module _ (cap : ℕ) (words : List ℕ) (views : List View) (id : ℕ) (v : View
   gather_quiet x is lt =
       let n : ℕ = slice_index words (place_at x.row (length x.words)) in
       let t = next_word x (l.notes id v x at is) lt in
-      let seen : (b : Bool) → (length x.words + 1 == x.len) ≡ b → (q : ℕ) (m : Mark) → map.get (cond b (saw x.row (Words (x.words ++ n ∷ [])) v.knows) v.knows).seen q ≡ Some m → mark_at cap words q ≡ Some m = by_end x n t in
+      let seen : (b : Bool) → (length x.words + 1 == x.len) ≡ b → (q : ℕ) (m : Mark) → map.get (cond b (after_read x.row (Words (x.words ++ n ∷ [])) v.knows) v.knows).seen q ≡ Some m → mark_at cap words q ≡ Some m = by_end x n t in
       record {
         live = refl;
         caps = refl;
-        claims = claims_same (length x.words + 1 == x.len) (saw x.row (Words (x.words ++ n ∷ [])) v.knows) refl;
-        low = low_same (length x.words + 1 == x.len) (saw x.row (Words (x.words ++ n ∷ [])) v.knows) refl;
+        claims = claims_same (length x.words + 1 == x.len) (after_read x.row (Words (x.words ++ n ∷ [])) v.knows) refl;
+        low = low_same (length x.words + 1 == x.len) (after_read x.row (Words (x.words ++ n ∷ [])) v.knows) refl;
         seen = seen (length x.words + 1 == x.len) refl;
         note = λ y e.
             let m : Note = record { row = x.row; len = x.len; words = x.words ++ n ∷ [] } in
@@ -124,7 +124,7 @@ module _ (cap : ℕ) (words : List ℕ) (views : List View) (id : ℕ) (v : View
       }
     where
       by_end : (x : Note) (n : ℕ) → (ws : List ℕ) × (mark_at cap words x.row ≡ Some (Words ws)) × (length ws ≡ x.len) × (take (length x.words + 1) ws ≡ x.words ++ slice_index words (place_at x.row (length x.words)) ∷ [])
-          → (b : Bool) → (length x.words + 1 == x.len) ≡ b → (q : ℕ) (m : Mark) → map.get (cond b (saw x.row (Words (x.words ++ slice_index words (place_at x.row (length x.words)) ∷ [])) v.knows) v.knows).seen q ≡ Some m → mark_at cap words q ≡ Some m
+          → (b : Bool) → (length x.words + 1 == x.len) ≡ b → (q : ℕ) (m : Mark) → map.get (cond b (after_read x.row (Words (x.words ++ slice_index words (place_at x.row (length x.words)) ∷ [])) v.knows) v.knows).seen q ≡ Some m → mark_at cap words q ≡ Some m
       by_end x n t true e q m is = saw_all (mark_at cap words) v.knows x.row (Words (x.words ++ slice_index words (place_at x.row (length x.words)) ∷ [])) (λ q m is. g.seen id v.knows q m known is) (whole x t (eqb-true (length x.words + 1) x.len e)) q m is
       by_end x n t false e q m is = g.seen id v.knows q m known is
 

@@ -9,7 +9,7 @@ use Rattle.std.proofs.lemmas.List.{set-get_or, map-set, length-set, get_or-set_o
 use Rattle.std.proofs.lemmas.Bool.{eqb-true}
 use Rattle.atomic_table.specs.Table.{State, Act, step, stepped, Valid, carried_after, Allows, keeps}
 use Rattle.atomic_table.proofs.Lists.{at_set, at_map, set_here}
-use Rattle.jh_slots.specs.Seats.{Mark, Words, Claim, Knowledge, looked, took, AreApart, Agree}
+use Rattle.jh_slots.specs.Seats.{Mark, Words, Claim, Knowledge, after_look, after_claim, AreApart, Agree}
 use Rattle.jh_slots.specs.States.{IsSound, Moves, len_of}
 use Rattle.jh_slots.specs.Stored.{Note, View, IsKept, IsStored, shown, mark_at, mark_of, status_of, status_at, place_at, IsNoted}
 use Rattle.jh_slots.specs.Steps.{Mine, knowing, Looks, Takes}
@@ -77,7 +77,7 @@ pub looks : (cap slots id : ℕ) (me : Mine) → Allows (IsKept cap) slots id me
 looks cap slots id me s kept len at small =
     let g = kept.0 in let l = kept.1 in let v = me.0 in let n = slice_index s.words 0 in
     let known = at_map (λ (u : View). u.knows) s.views id v at in
-    let w : View = knowing v (looked n v.knows) in (
+    let w : View = knowing v (after_look n v.knows) in (
       w,
       keeps,
       tt,
@@ -133,7 +133,7 @@ module _ (cap : ℕ) (words : List ℕ) (views : List View) (id : ℕ) (v : View
   Now = set words 0 (Next + rows)
 
   abbrev New : View
-  New = knowing v (took Next rows v.knows)
+  New = knowing v (after_claim Next rows v.knows)
 
   abbrev Fresh : Claim
   Fresh = record { rows = rows; words = replicate (5 * rows) 0 }
@@ -211,8 +211,8 @@ TakesIf cap slots id me s old new b =
     (w : View) × (a : Act ℕ) × Valid s.homes me.1 a × IsKept cap (stepped s 0 (either b new (slice_index s.words 0)) id me.1 w a)
     × ((carried_after me.1 a ≡ me.1) × (me.0.knows.low ≤ slice_index s.words 0) × (me.0.live ≡ true → slice_index s.words 0 ≤ me.0.cap)
     × MatchBool b
-    ((w ≡ knowing me.0 (took (slice_index s.words 0) (new - old) me.0.knows)) × ((r : ℕ) (m : Mark) → map.get me.0.knows.seen r ≡ Some m → r < slice_index s.words 0) × AreApart w.knows)
-    (w ≡ knowing me.0 (looked (slice_index s.words 0) me.0.knows)))
+    ((w ≡ knowing me.0 (after_claim (slice_index s.words 0) (new - old) me.0.knows)) × ((r : ℕ) (m : Mark) → map.get me.0.knows.seen r ≡ Some m → r < slice_index s.words 0) × AreApart w.knows)
+    (w ≡ knowing me.0 (after_look (slice_index s.words 0) me.0.knows)))
 
 takes_if : (cap slots id old rows : ℕ) (me : Mine) → 1 ≤ rows → old + rows ≤ cap → (s : State ℕ View) → IsKept cap s → get_elem? s.views id ≡ some me.0 → (b : Bool) → (slice_index s.words 0 == old) ≡ b → TakesIf cap slots id me s old (old + rows) b
 takes_if cap slots id old rows me one fit s kept at true is =
@@ -220,11 +220,11 @@ takes_if cap slots id old rows me one fit s kept at true is =
     let same : n ≡ old = eqb-true n old is in
     let count : rows ≡ (old + rows) - old = omega arith in
     let all = taken cap s.words s.views id v rows g l at one (omega arith) in
-    let both : IsSound cap (shown cap (set s.words 0 (old + rows)) (set s.views id (knowing v (took n ((old + rows) - old) v.knows)))) × IsStored cap (set s.words 0 (old + rows)) (set s.views id (knowing v (took n ((old + rows) - old) v.knows))) =
-    subst (λ (x : ℕ × ℕ). IsSound cap (shown cap (set s.words 0 x.0) (set s.views id (knowing v (took n x.1 v.knows)))) × IsStored cap (set s.words 0 x.0) (set s.views id (knowing v (took n x.1 v.knows)))) (λ i. (ap (λ k. k + rows) same i, count i)) all in
-    let apart = own_apart cap (set s.words 0 (old + rows)) s.views id v (knowing v (took n ((old + rows) - old) v.knows)) at both.0 in
+    let both : IsSound cap (shown cap (set s.words 0 (old + rows)) (set s.views id (knowing v (after_claim n ((old + rows) - old) v.knows)))) × IsStored cap (set s.words 0 (old + rows)) (set s.views id (knowing v (after_claim n ((old + rows) - old) v.knows))) =
+    subst (λ (x : ℕ × ℕ). IsSound cap (shown cap (set s.words 0 x.0) (set s.views id (knowing v (after_claim n x.1 v.knows)))) × IsStored cap (set s.words 0 x.0) (set s.views id (knowing v (after_claim n x.1 v.knows)))) (λ i. (ap (λ k. k + rows) same i, count i)) all in
+    let apart = own_apart cap (set s.words 0 (old + rows)) s.views id v (knowing v (after_claim n ((old + rows) - old) v.knows)) at both.0 in
     let known = at_map (λ (u : View). u.knows) s.views id v at in (
-      knowing v (took n ((old + rows) - old) v.knows),
+      knowing v (after_claim n ((old + rows) - old) v.knows),
       keeps,
       tt,
       both,
@@ -233,7 +233,7 @@ takes_if cap slots id old rows me one fit s kept at true is =
 takes_if cap slots id old rows me one fit s kept at false is =
     let g = kept.0 in let l = kept.1 in let v = me.0 in let n : ℕ = slice_index s.words 0 in
     let known = at_map (λ (u : View). u.knows) s.views id v at in
-    let w : View = knowing v (looked n v.knows) in (
+    let w : View = knowing v (after_look n v.knows) in (
       w,
       keeps,
       tt,

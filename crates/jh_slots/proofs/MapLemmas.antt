@@ -6,7 +6,7 @@ use Rattle.std.specs.Ordering.{nat_cmp, eq_by_cmp}
 use Rattle.std.specs.Cmp.{nat_cmp_total, unsigned_tied}
 use Rattle.std.proofs.Common.{◌*◌, replicate, set}
 use Rattle.std.specs.Option.{unwrap_or}
-use Rattle.jh_slots.specs.Seats.{gather, Claim, Knowledge, Holds, took, wrote, write_in, claim_at, no_claim}
+use Rattle.jh_slots.specs.Seats.{gather, Claim, Knowledge, Holds, after_claim, after_write, write_in, claim_at, no_claim}
 use mathlib.Core.Logic.{dite}
 use native.Mathlib.Decide.{ℕ_discrete}
 use Rattle.std.proofs.Common.{ne_eqb}
@@ -78,10 +78,10 @@ pub nothing_at : {X : Type 0} (q : ℕ) (x : X) → map.get (map.empty {X = X} {
 nothing_at {X} q x e = let n : map.get (map.empty {X = X} {R = nat_cmp}) q ≡ None = map.get-empty nat_cmp q in let h : None ≡ Some x = sym n ∙ e in absurd (cc)
 
 -- a claim is held once it is taken, and stays held when it is written
-pub holds_took : (v w : Knowledge) (f rows : ℕ) → w ≡ took f rows v → Holds w f rows
+pub holds_took : (v w : Knowledge) (f rows : ℕ) → w ≡ after_claim f rows v → Holds w f rows
 holds_took v w f rows e = (replicate (5 * rows) 0, ap (λ (x : Knowledge). map.get x.claims f) e ∙ get_new v.claims f (record { rows = rows; words = replicate (5 * rows) 0 }))
 
-pub holds_wrote : (v w : Knowledge) (f rows p x : ℕ) → w ≡ wrote f p x v → Holds v f rows → Holds w f rows
+pub holds_wrote : (v w : Knowledge) (f rows p x : ℕ) → w ≡ after_write f p x v → Holds v f rows → Holds w f rows
 holds_wrote v w f rows p x e (ws, is) =
     let c : Claim = record { rows = rows; words = ws } in
     let at : claim_at v f ≡ c = ap (λ o. unwrap_or o no_claim) is in

@@ -3,7 +3,7 @@ use Rattle.std.proofs.Common.{◌≡◌, ◌≢◌, ℕ, zero, suc, ◌+◌, ◌
 use Rattle.std.specs.Prelude.{◌==◌, Option}
 use Rattle.std.specs.FinMap as map
 use Rattle.std.proofs.lemmas.List.{length_push, length-take-le, take_more_set}
-use Rattle.jh_slots.specs.Seats.{Mark, Words, Void, Knowledge, saw}
+use Rattle.jh_slots.specs.Seats.{Mark, Words, Void, Knowledge, after_read}
 use Rattle.jh_slots.specs.Stored.{Note, View, IsSeat, status_at, place_at}
 use Rattle.jh_slots.specs.Steps.{knowing, noting, peeked, gathered, reading, IsStatus}
 use Rattle.jh_slots.specs.Reading.{Again}
@@ -39,7 +39,7 @@ noted v w row n t a b = t.1 ∙ by n a b
     by (suc zero) a b = absurd (b refl)
     by (suc (suc n)) a b = let e : suc n ≡ suc (suc n) - 1 = omega arith in ap (noting v row) e
 
-pub voids : (v w : View) (row n : ℕ) → Told v w row n → n ≡ 1 → (w.knows ≡ saw row Void v.knows) × Again v.knows row Void
+pub voids : (v w : View) (row n : ℕ) → Told v w row n → n ≡ 1 → (w.knows ≡ after_read row Void v.knows) × Again v.knows row Void
 voids v w row n t e = (ap (λ (u : View). u.knows) (t.1 ∙ ap (λ k. peeked k row v) e), λ m is. subst (λ k. IsStatus k m) e (t.0 m is))
 
 words_of : (m : Mark) (n : ℕ) → n ≢ 0 → n ≢ 1 → IsStatus n m → (ws : List ℕ) × (m ≡ Words ws) × (length ws ≡ n - 1)
@@ -53,27 +53,27 @@ small v w row n t a b m is = words_of m n a b (t.0 m is)
 pub starts : (v w : View) (row len : ℕ) → w ≡ noting v row len → 1 ≤ len → w ≡ reading w row len []
 starts v w row len is one =
     let ne : (0 == len) ≡ false = ne_eqb 0 len (λ e. omega arith) in
-    λ i. record { live = w.live; cap = w.cap; knows = ap (λ b. cond b (saw row (Words []) w.knows) w.knows) (sym ne) i; note = ap (λ (u : View). u.note) is i; before = w.before }
+    λ i. record { live = w.live; cap = w.cap; knows = ap (λ b. cond b (after_read row (Words []) w.knows) w.knows) (sym ne) i; note = ap (λ (u : View). u.note) is i; before = w.before }
 
 -- a record of which words are left is not yet seen
 pub partial : (v : View) (row len : ℕ) (ws : List ℕ) → length ws < len → (reading v row len ws).knows ≡ v.knows
-partial v row len ws lt = ap (λ b. cond b (saw row (Words ws) v.knows) v.knows) (ne_eqb (length ws) len (λ e. omega arith))
+partial v row len ws lt = ap (λ b. cond b (after_read row (Words ws) v.knows) v.knows) (ne_eqb (length ws) len (λ e. omega arith))
 
-pub whole : (v : View) (row len : ℕ) (ws : List ℕ) → length ws ≡ len → (reading v row len ws).knows ≡ saw row (Words ws) v.knows
-whole v row len ws e = ap (λ b. cond b (saw row (Words ws) v.knows) v.knows) (eq-eqb (length ws) len e)
+pub whole : (v : View) (row len : ℕ) (ws : List ℕ) → length ws ≡ len → (reading v row len ws).knows ≡ after_read row (Words ws) v.knows
+whole v row len ws e = ap (λ b. cond b (after_read row (Words ws) v.knows) v.knows) (eq-eqb (length ws) len e)
 
 pub goes_on : (v : View) (row len n : ℕ) (ws : List ℕ) → length ws < len → gathered n (record { row = row; len = len; words = ws }) (reading v row len ws) ≡ reading v row len (ws ++ n ∷ [])
 goes_on v row len n ws lt =
     let k = partial v row len ws lt in
     let l : length ws + 1 ≡ length (ws ++ n ∷ []) = sym (length_push ws n) in
-    λ i. record { live = v.live; cap = v.cap; knows = cond (l i == len) (saw row (Words (ws ++ n ∷ [])) (k i)) (k i); note = Some (record { row = row; len = len; words = ws ++ n ∷ [] }); before = v.before }
+    λ i. record { live = v.live; cap = v.cap; knows = cond (l i == len) (after_read row (Words (ws ++ n ∷ [])) (k i)) (k i); note = Some (record { row = row; len = len; words = ws ++ n ∷ [] }); before = v.before }
 
 -- a seat that reads is a seat
 pub read_stay : (k : ℕ) (v : View) (row len : ℕ) (ws : List ℕ) → IsSeat k v → row < v.cap → IsSeat k (reading v row len ws)
 read_stay k v row len ws s lt = by (length ws == len)
   where
-    by : (b : Bool) → IsSeat k (record { live = v.live; cap = v.cap; knows = cond b (saw row (Words ws) v.knows) v.knows; note = Some (record { row = row; len = len; words = ws }); before = v.before })
-    by true = seat_note k (knowing v (saw row (Words ws) v.knows)) _ (seat_saw k v s row (Words ws) lt) refl refl refl
+    by : (b : Bool) → IsSeat k (record { live = v.live; cap = v.cap; knows = cond b (after_read row (Words ws) v.knows) v.knows; note = Some (record { row = row; len = len; words = ws }); before = v.before })
+    by true = seat_note k (knowing v (after_read row (Words ws) v.knows)) _ (seat_saw k v s row (Words ws) lt) refl refl refl
     by false = seat_note k v _ s refl refl refl
 
 -- one more word of a record

@@ -3,7 +3,7 @@ use Rattle.std.proofs.Common.{◌≡◌, ◌≢◌, ℕ, ◌+◌, ◌*◌, ◌<�
 use Rattle.std.specs.FinMap as map
 use Rattle.std.specs.Ordering.{nat_cmp}
 use Rattle.std.proofs.lemmas.List.{length-set}
-use Rattle.jh_slots.specs.Seats.{Mark, Claim, Knowledge, Holds, claim_at, looked, took, wrote, ended, saw, write_in, AreApart}
+use Rattle.jh_slots.specs.Seats.{Mark, Claim, Knowledge, Holds, claim_at, after_look, after_claim, after_write, after_end, after_read, write_in, AreApart}
 use Rattle.jh_slots.specs.Stored.{View, IsSeat, opening_view, copy_view, join_view}
 use Rattle.atomic_table.specs.Seated.{TableId}
 use mathlib.Core.Option.{none}
@@ -30,10 +30,10 @@ seat_opening cap le =
     }
 
 module _ (n : ℕ) (v : View) (s : IsSeat n v) where
-  pub seat_looked : (k : ℕ) → IsSeat n (knowing v (looked k v.knows))
+  pub seat_looked : (k : ℕ) → IsSeat n (knowing v (after_look k v.knows))
   seat_looked k = record { live = s.live; size = s.size; small = s.small; claims = s.claims; seen = s.seen }
 
-  pub seat_took : (first rows : ℕ) → 1 ≤ rows → first + rows ≤ v.cap → IsSeat n (knowing v (took first rows v.knows))
+  pub seat_took : (first rows : ℕ) → 1 ≤ rows → first + rows ≤ v.cap → IsSeat n (knowing v (after_claim first rows v.knows))
   seat_took first rows one fit =
       record {
         live = s.live;
@@ -48,7 +48,7 @@ module _ (n : ℕ) (v : View) (s : IsSeat n v) where
         seen = s.seen;
       }
 
-  pub seat_wrote : (f p x : ℕ) (c : Claim) → map.get v.knows.claims f ≡ Some c → IsSeat n (knowing v (wrote f p x v.knows))
+  pub seat_wrote : (f p x : ℕ) (c : Claim) → map.get v.knows.claims f ≡ Some c → IsSeat n (knowing v (after_write f p x v.knows))
   seat_wrote f p x c has =
       let old = s.claims f c has in
       record {
@@ -68,10 +68,10 @@ module _ (n : ℕ) (v : View) (s : IsSeat n v) where
   seen_more : (r : ℕ) (m : Mark) → r < v.cap → (q : ℕ) (x : Mark) → map.get (map.insert v.knows.seen r m) q ≡ Some x → q < v.cap
   seen_more r m lt q x e = ⊎_elim (λ (t : (q ≡ r) × (m ≡ x)). let h = t.0 in omega arith) (λ (t : (q ≢ r) × (map.get v.knows.seen q ≡ Some x)). s.seen q x t.1) (inserted v.knows.seen r q m x e)
 
-  pub seat_ended : (f : ℕ) (m : Mark) → f < v.cap → IsSeat n (knowing v (ended f m v.knows))
+  pub seat_ended : (f : ℕ) (m : Mark) → f < v.cap → IsSeat n (knowing v (after_end f m v.knows))
   seat_ended f m lt = record { live = s.live; size = s.size; small = s.small; claims = λ g d e. s.claims g d (removed v.knows.claims f g d e).1; seen = seen_more f m lt }
 
-  pub seat_saw : (r : ℕ) (m : Mark) → r < v.cap → IsSeat n (knowing v (saw r m v.knows))
+  pub seat_saw : (r : ℕ) (m : Mark) → r < v.cap → IsSeat n (knowing v (after_read r m v.knows))
   seat_saw r m lt = record { live = s.live; size = s.size; small = s.small; claims = s.claims; seen = seen_more r m lt }
 
 -- the note and the events of a view may change it without a seat's facts
@@ -108,13 +108,13 @@ pub takes_stay : (cap slots first rows n : ℕ) (me you : Mine) (t u : TableId) 
     → Takes (step slots 0 first (first + rows) none) me n you → (you.1 ≡ []) × IsSeat u.words you.0
 takes_stay cap slots first rows n me you t u empty table s here one fit e = cases (n == first) refl e.3
   where
-    cases : (b : Bool) → (n == first) ≡ b → MatchBool b ((you.0 ≡ knowing me.0 (took n ((first + rows) - first) me.0.knows)) × ((r : ℕ) (m : Mark) → map.get me.0.knows.seen r ≡ Some m → r < n) × AreApart you.0.knows) (you.0 ≡ knowing me.0 (looked n me.0.knows)) → (you.1 ≡ []) × IsSeat u.words you.0
+    cases : (b : Bool) → (n == first) ≡ b → MatchBool b ((you.0 ≡ knowing me.0 (after_claim n ((first + rows) - first) me.0.knows)) × ((r : ℕ) (m : Mark) → map.get me.0.knows.seen r ≡ Some m → r < n) × AreApart you.0.knows) (you.0 ≡ knowing me.0 (after_look n me.0.knows)) → (you.1 ≡ []) × IsSeat u.words you.0
     cases true is h =
         let same : n ≡ first = eqb-true n first is in
         let k : (first + rows) - first ≡ rows = omega arith in
-        let w : View = knowing me.0 (took n rows me.0.knows) in
-        stays me.1 you.1 t u you.0 w empty e.0 table (h.0 ∙ ap (λ k. knowing me.0 (took n k me.0.knows)) k) (seat_took t.words me.0 s n rows one (omega arith))
-    cases false is h = stays me.1 you.1 t u you.0 (knowing me.0 (looked n me.0.knows)) empty e.0 table h (seat_looked t.words me.0 s n)
+        let w : View = knowing me.0 (after_claim n rows me.0.knows) in
+        stays me.1 you.1 t u you.0 w empty e.0 table (h.0 ∙ ap (λ k. knowing me.0 (after_claim n k me.0.knows)) k) (seat_took t.words me.0 s n rows one (omega arith))
+    cases false is h = stays me.1 you.1 t u you.0 (knowing me.0 (after_look n me.0.knows)) empty e.0 table h (seat_looked t.words me.0 s n)
 
 pub seat_copied : (n : ℕ) (v : View) → IsSeat n v → IsSeat n (copy_view v)
 seat_copied n v s = record { live = s.live; size = s.size; small = s.small; claims = λ f c e. absurd (nothing_at f c e); seen = s.seen }

@@ -7,7 +7,7 @@ use Rattle.std.specs.FinMap as fin
 use Rattle.std.proofs.lemmas.List.{map-append, map-set}
 use Rattle.atomic_table.specs.Table.{step, Allows, Splits, Joins, keeps}
 use Rattle.atomic_table.proofs.Lists.{at_set, at_snoc, at_map, set_again, set_else}
-use Rattle.jh_slots.specs.Seats.{Claim, Knowledge, newcomer, copied, joint, Agree}
+use Rattle.jh_slots.specs.Seats.{Claim, Knowledge, newcomer, after_split, after_join, Agree}
 use Rattle.jh_slots.specs.States.{IsSound}
 use Rattle.jh_slots.specs.Stored.{Note, View, IsKept, IsStored, shown, knows_of, mark_at, place_at, IsNoted, copy_view, join_view, spent_view}
 use Rattle.jh_slots.specs.Steps.{Mine, Recalls, forgetting}
@@ -53,7 +53,7 @@ splits cap id v s kept at =
     let seats = was_split cap (shown cap s.words s.views) id v.knows kept.0 (known s.views id v at) in
     subst back (sym (set_again s.views id v at)) (
       subst (λ ss. IsSound cap (record { next = slice_index s.words 0; marks = mark_at cap s.words; seats = ss })) (sym (map-append (λ (u : View). u.knows) s.views (copy_view v ∷ [])))
-          (good_was cap (shown cap s.words s.views) (knows_of s.views ++ copied v.knows ∷ []) (λ k j. k ≡ j) kept.0 seats),
+          (good_was cap (shown cap s.words s.views) (knows_of s.views ++ after_split v.knows ∷ []) (λ k j. k ≡ j) kept.0 seats),
       lies_all cap s.words s.views (s.views ++ copy_view v ∷ []) kept.1
           (λ j u e. ⊎_elim (λ old. fits cap s.words s.views j u kept.1 old) (λ (is : copy_view v ≡ u). subst (Fits cap s.words) is (fits_copy cap s.words v (fits cap s.words s.views id v kept.1 at))) (at_snoc s.views (copy_view v) u j e)),
     )
@@ -62,13 +62,13 @@ pub unites : (cap id : ℕ) (v : View) (other : ℕ) (w : View) → Joins (IsKep
 unites cap id v other w s kept at ne at' =
     let there : get_elem? s.views other ≡ some w = sym (set_else s.views id other (join_view v w) ne) ∙ at' in
     let now : List View = set (set s.views id (join_view v w)) other spent_view in
-    let is : knows_of now ≡ set (set (knows_of s.views) id (joint v.knows w.knows)) other newcomer =
+    let is : knows_of now ≡ set (set (knows_of s.views) id (after_join v.knows w.knows)) other newcomer =
     map-set (λ (u : View). u.knows) (set s.views id (join_view v w)) other spent_view ∙ ap (λ l. set l other newcomer) (map-set (λ (u : View). u.knows) s.views id (join_view v w)) in
     let a = known s.views id v at in let b = known s.views other w there in
     let agree = agrees cap (shown cap s.words s.views) id other v.knows w.knows kept.0 ne a b in
     let seats = was_join cap (shown cap s.words s.views) id other v.knows w.knows kept.0 ne a b in (
       subst (λ ss. IsSound cap (record { next = slice_index s.words 0; marks = mark_at cap s.words; seats = ss })) (sym is)
-          (good_was cap (shown cap s.words s.views) (set (set (knows_of s.views) id (joint v.knows w.knows)) other newcomer) (JoinsTo id other) kept.0 seats),
+          (good_was cap (shown cap s.words s.views) (set (set (knows_of s.views) id (after_join v.knows w.knows)) other newcomer) (JoinsTo id other) kept.0 seats),
       lies_all cap s.words s.views now kept.1
           (λ j u e. ⊎_elim
           (λ (t : (j ≡ other) × (spent_view ≡ u)). subst (Fits cap s.words) t.1 (fits_spent cap s.words))

@@ -4,7 +4,7 @@ use Rattle.std.specs.Prelude.{◌≡◌, ℕ, ◌+◌, ◌*◌, ◌<◌, ◌≤�
 use mathlib.Core.Option.{some}
 use lib.ListN.{get_elem?}
 use Rattle.std.specs.FinMap as map
-use Rattle.jh_slots.specs.Seats.{Mark, Words, Void, Claim, Knowledge, newcomer, looked, took, wrote, published, voided, saw, copied, joint, Agree}
+use Rattle.jh_slots.specs.Seats.{Mark, Words, Void, Claim, Knowledge, newcomer, after_look, after_claim, after_write, after_publish, after_void, after_read, after_split, after_join, Agree}
 use Rattle.jh_slots.specs.States.{State, moved}
 
 -- what a seat does: a look at the next free row; a claim of so many rows; a write at a place of an own claim; the end of
@@ -29,14 +29,14 @@ opening_state = record { next = 0; marks = λ _. None; seats = newcomer ∷ [] }
 
 -- the event of the seat i, which knows v, leads from s to t
 abbrev pub Leads : ℕ → State → ℕ → Knowledge → Event → State → Type 0
-Leads cap s i v look t = t ≡ moved s i (looked s.next v) s.next s.marks
-Leads cap s i v (claim rows) t = (1 ≤ rows) × (s.next + rows ≤ cap) × (t ≡ moved s i (took s.next rows v) (s.next + rows) s.marks)
-Leads cap s i v (write f p x) t = (c : Claim) × (map.get v.claims f ≡ Some c) × (p < 5 * c.rows) × (t ≡ moved s i (wrote f p x v) s.next s.marks)
-Leads cap s i v (publish f len) t = (c : Claim) × (map.get v.claims f ≡ Some c) × (1 ≤ len) × (len ≤ 5 * c.rows) × (t ≡ moved s i (published f len v) s.next (marking f (Words (take len c.words)) s.marks))
-Leads cap s i v (void f) t = (c : Claim) × (map.get v.claims f ≡ Some c) × (t ≡ moved s i (voided f v) s.next (marking f Void s.marks))
-Leads cap s i v (read r) t = ((m : Mark) × (s.marks r ≡ Some m) × (t ≡ moved s i (saw r m v) s.next s.marks)) ⊎ ((s.marks r ≡ None) × (t ≡ s))
-Leads cap s i v split t = t ≡ record { next = s.next; marks = s.marks; seats = s.seats ++ copied v ∷ [] }
-Leads cap s i v (join j) t = (w : Knowledge) × (¬ (j ≡ i)) × (get_elem? s.seats j ≡ some w) × (t ≡ record { next = s.next; marks = s.marks; seats = slice_set (slice_set s.seats i (joint v w)) j newcomer })
+Leads cap s i v look t = t ≡ moved s i (after_look s.next v) s.next s.marks
+Leads cap s i v (claim rows) t = (1 ≤ rows) × (s.next + rows ≤ cap) × (t ≡ moved s i (after_claim s.next rows v) (s.next + rows) s.marks)
+Leads cap s i v (write f p x) t = (c : Claim) × (map.get v.claims f ≡ Some c) × (p < 5 * c.rows) × (t ≡ moved s i (after_write f p x v) s.next s.marks)
+Leads cap s i v (publish f len) t = (c : Claim) × (map.get v.claims f ≡ Some c) × (1 ≤ len) × (len ≤ 5 * c.rows) × (t ≡ moved s i (after_publish f len v) s.next (marking f (Words (take len c.words)) s.marks))
+Leads cap s i v (void f) t = (c : Claim) × (map.get v.claims f ≡ Some c) × (t ≡ moved s i (after_void f v) s.next (marking f Void s.marks))
+Leads cap s i v (read r) t = ((m : Mark) × (s.marks r ≡ Some m) × (t ≡ moved s i (after_read r m v) s.next s.marks)) ⊎ ((s.marks r ≡ None) × (t ≡ s))
+Leads cap s i v split t = t ≡ record { next = s.next; marks = s.marks; seats = s.seats ++ after_split v ∷ [] }
+Leads cap s i v (join j) t = (w : Knowledge) × (¬ (j ≡ i)) × (get_elem? s.seats j ≡ some w) × (t ≡ record { next = s.next; marks = s.marks; seats = slice_set (slice_set s.seats i (after_join v w)) j newcomer })
 
 -- the events, each of the seat of that number, lead from s to t
 abbrev pub Runs : ℕ → State → List (ℕ × Event) → State → Type 0
@@ -57,9 +57,9 @@ pub record Laws (cap : ℕ) (s t : State) : Type 0 where
   -- a claim begins at the next free row, which is at or above the seat's `low`, and above all rows that the seat has seen
   pub begins : (i : ℕ) (v : Knowledge) → get_elem? t.seats i ≡ some v → (v.low ≤ t.next) × (t.next ≤ cap) × ((r : ℕ) (m : Mark) → map.get v.seen r ≡ Some m → r < t.next)
   -- a seat that publishes has seen its record, whose words are those that it wrote
-  pub publishes : (i : ℕ) (v : Knowledge) (f len : ℕ) (c : Claim) → get_elem? t.seats i ≡ some v → map.get v.claims f ≡ Some c → map.get (published f len v).seen f ≡ Some (Words (take len c.words))
+  pub publishes : (i : ℕ) (v : Knowledge) (f len : ℕ) (c : Claim) → get_elem? t.seats i ≡ some v → map.get v.claims f ≡ Some c → map.get (after_publish f len v).seen f ≡ Some (Words (take len c.words))
   -- two seats that are joined agree, and the one seat has seen what either had
-  pub joins : (i j : ℕ) (v w : Knowledge) → ¬ (j ≡ i) → get_elem? t.seats i ≡ some v → get_elem? t.seats j ≡ some w → Agree v w × ((r : ℕ) (m : Mark) → map.get v.seen r ≡ Some m → map.get (joint v w).seen r ≡ Some m) × ((r : ℕ) (m : Mark) → map.get w.seen r ≡ Some m → map.get (joint v w).seen r ≡ Some m)
+  pub joins : (i j : ℕ) (v w : Knowledge) → ¬ (j ≡ i) → get_elem? t.seats i ≡ some v → get_elem? t.seats j ≡ some w → Agree v w × ((r : ℕ) (m : Mark) → map.get v.seen r ≡ Some m → map.get (after_join v w).seen r ≡ Some m) × ((r : ℕ) (m : Mark) → map.get w.seen r ≡ Some m → map.get (after_join v w).seen r ≡ Some m)
 
 abbrev pub SlotLaws : Type 0
 SlotLaws = (cap : ℕ) (before after : List (ℕ × Event)) (s t : State) → Runs cap opening_state before s → Runs cap s after t → Laws cap s t

@@ -46,34 +46,34 @@ claim_at v first = unwrap_or (map.get v.claims first) no_claim
 abbrev pub Holds : Knowledge → ℕ → ℕ → Type 0
 Holds v first rows = (words : List ℕ) × (map.get v.claims first ≡ Some (record { rows = rows; words = words }))
 
--- each event, at the seat whose event it is
-abbrev pub looked : ℕ → Knowledge → Knowledge
-looked next v = record { seen = v.seen; low = next; claims = v.claims }
+-- what a seat knows after each event, at the seat whose event it is
+abbrev pub after_look : ℕ → Knowledge → Knowledge
+after_look next v = record { seen = v.seen; low = next; claims = v.claims }
 
-abbrev pub took : ℕ → ℕ → Knowledge → Knowledge
-took first rows v = record { seen = v.seen; low = first + rows; claims = map.insert v.claims first (record { rows = rows; words = replicate (5 * rows) 0 }) }
+abbrev pub after_claim : ℕ → ℕ → Knowledge → Knowledge
+after_claim first rows v = record { seen = v.seen; low = first + rows; claims = map.insert v.claims first (record { rows = rows; words = replicate (5 * rows) 0 }) }
 
 abbrev pub write_in : Claim → ℕ → ℕ → Claim
 write_in c place x = record { rows = c.rows; words = slice_set c.words place x }
 
-abbrev pub wrote : ℕ → ℕ → ℕ → Knowledge → Knowledge
-wrote first place x v = record { seen = v.seen; low = v.low; claims = map.insert v.claims first (write_in (claim_at v first) place x) }
+abbrev pub after_write : ℕ → ℕ → ℕ → Knowledge → Knowledge
+after_write first place x v = record { seen = v.seen; low = v.low; claims = map.insert v.claims first (write_in (claim_at v first) place x) }
 
-abbrev pub ended : ℕ → Mark → Knowledge → Knowledge
-ended first m v = record { seen = map.insert v.seen first m; low = v.low; claims = map.remove v.claims first }
+abbrev pub after_end : ℕ → Mark → Knowledge → Knowledge
+after_end first m v = record { seen = map.insert v.seen first m; low = v.low; claims = map.remove v.claims first }
 
-abbrev pub published : ℕ → ℕ → Knowledge → Knowledge
-published first len v = ended first (Words (take len (claim_at v first).words)) v
+abbrev pub after_publish : ℕ → ℕ → Knowledge → Knowledge
+after_publish first len v = after_end first (Words (take len (claim_at v first).words)) v
 
-abbrev pub voided : ℕ → Knowledge → Knowledge
-voided first v = ended first Void v
+abbrev pub after_void : ℕ → Knowledge → Knowledge
+after_void first v = after_end first Void v
 
-abbrev pub saw : ℕ → Mark → Knowledge → Knowledge
-saw row m v = record { seen = map.insert v.seen row m; low = v.low; claims = v.claims }
+abbrev pub after_read : ℕ → Mark → Knowledge → Knowledge
+after_read row m v = record { seen = map.insert v.seen row m; low = v.low; claims = v.claims }
 
 -- the second of two seats, after a split
-abbrev pub copied : Knowledge → Knowledge
-copied v = record { seen = v.seen; low = v.low; claims = map.empty }
+abbrev pub after_split : Knowledge → Knowledge
+after_split v = record { seen = v.seen; low = v.low; claims = map.empty }
 
 -- a seat: the table that it is of, and what it knows
 pub record Seated : Type 0 where
@@ -104,5 +104,5 @@ abbrev pub gather : {X : Type 0} → map.FinMap nat_cmp X → map.FinMap nat_cmp
 gather a b = map.from_entries (map.entries a ++ map.entries b)
 
 -- two seats as one
-abbrev pub joint : Knowledge → Knowledge → Knowledge
-joint v w = record { seen = gather v.seen w.seen; low = max v.low w.low; claims = gather v.claims w.claims }
+abbrev pub after_join : Knowledge → Knowledge → Knowledge
+after_join v w = record { seen = gather v.seen w.seen; low = max v.low w.low; claims = gather v.claims w.claims }

@@ -2,7 +2,7 @@
 use Rattle.std.specs.Prelude.{◌≡◌, ℕ, zero, suc, ◌+◌, ◌*◌, ◌-◌, ◌<◌, ◌≤◌, ◌==◌, List, [], ◌∷◌, ◌++◌, length, cond, MatchBool, true, None, Some}
 use Rattle.std.specs.FinMap as fin
 use Rattle.atomic_table.specs.Table.{Me, Step}
-use Rattle.jh_slots.specs.Seats.{Mark, Words, Void, Claim, Knowledge, claim_at, looked, took, wrote, ended, saw, AreApart, Agree}
+use Rattle.jh_slots.specs.Seats.{Mark, Words, Void, Claim, Knowledge, claim_at, after_look, after_claim, after_write, after_end, after_read, AreApart, Agree}
 use Rattle.jh_slots.specs.Stored.{Note, View, place_at, status_at, mark_of}
 
 abbrev pub Mine : Type 0
@@ -18,28 +18,28 @@ noting v row len = record { live = v.live; cap = v.cap; knows = v.knows; note = 
 
 -- what a look at the next free row tells
 abbrev pub Looks : Step ℕ → Mine → ℕ → Mine → Type 0
-Looks s me n you = (you.1 ≡ me.1) × (you.0 ≡ knowing me.0 (looked n me.0.knows)) × (me.0.knows.low ≤ n) × (me.0.live ≡ true → n ≤ me.0.cap)
+Looks s me n you = (you.1 ≡ me.1) × (you.0 ≡ knowing me.0 (after_look n me.0.knows)) × (me.0.knows.low ≤ n) × (me.0.live ≡ true → n ≤ me.0.cap)
 
 -- an exchange of the next free row: the rows are claimed, or it was a look
 abbrev pub Takes : Step ℕ → Mine → ℕ → Mine → Type 0
 Takes s me n you =
     (you.1 ≡ me.1) × (me.0.knows.low ≤ n) × (me.0.live ≡ true → n ≤ me.0.cap)
     × MatchBool (n == s.first)
-    ((you.0 ≡ knowing me.0 (took n (s.second - s.first) me.0.knows)) × ((r : ℕ) (m : Mark) → fin.get me.0.knows.seen r ≡ Some m → r < n) × AreApart you.0.knows)
-    (you.0 ≡ knowing me.0 (looked n me.0.knows))
+    ((you.0 ≡ knowing me.0 (after_claim n (s.second - s.first) me.0.knows)) × ((r : ℕ) (m : Mark) → fin.get me.0.knows.seen r ≡ Some m → r < n) × AreApart you.0.knows)
+    (you.0 ≡ knowing me.0 (after_look n me.0.knows))
 
 -- a word of an own claim is written
 abbrev pub Writes : Step ℕ → Mine → ℕ → Mine → Type 0
-Writes s me n you = (you.1 ≡ me.1) × ((f p : ℕ) (c : Claim) → fin.get me.0.knows.claims f ≡ Some c → p < 5 * c.rows → s.word ≡ place_at f p → you.0 ≡ knowing me.0 (wrote f p n me.0.knows))
+Writes s me n you = (you.1 ≡ me.1) × ((f p : ℕ) (c : Claim) → fin.get me.0.knows.claims f ≡ Some c → p < 5 * c.rows → s.word ≡ place_at f p → you.0 ≡ knowing me.0 (after_write f p n me.0.knows))
 
 -- the status of an own claim's first row is written
 abbrev pub Ends : Step ℕ → Mine → ℕ → Mine → Type 0
-Ends s me n you = (you.1 ≡ me.1) × ((f : ℕ) (m : Mark) → s.word ≡ status_at me.0.cap f → mark_of n (claim_at me.0.knows f).words ≡ Some m → you.0 ≡ knowing me.0 (ended f m me.0.knows))
+Ends s me n you = (you.1 ≡ me.1) × ((f : ℕ) (m : Mark) → s.word ≡ status_at me.0.cap f → mark_of n (claim_at me.0.knows f).words ≡ Some m → you.0 ≡ knowing me.0 (after_end f m me.0.knows))
 
 -- what a row's status makes of the view
 abbrev pub peeked : ℕ → ℕ → View → View
 peeked zero r v = v
-peeked (suc zero) r v = knowing v (saw r Void v.knows)
+peeked (suc zero) r v = knowing v (after_read r Void v.knows)
 peeked (suc (suc n)) r v = noting v r (suc n)
 
 -- the status shows the mark
@@ -60,7 +60,7 @@ gathered n x v =
     record {
       live = v.live;
       cap = v.cap;
-      knows = cond (length x.words + 1 == x.len) (saw x.row (Words (x.words ++ n ∷ [])) v.knows) v.knows;
+      knows = cond (length x.words + 1 == x.len) (after_read x.row (Words (x.words ++ n ∷ [])) v.knows) v.knows;
       note = Some (record { row = x.row; len = x.len; words = x.words ++ n ∷ [] });
       before = v.before;
     }
@@ -73,7 +73,7 @@ Gathers s me n you =
 
 -- the view while a record is read, once these words of it were
 abbrev pub reading : View → ℕ → ℕ → List ℕ → View
-reading v row len ws = record { live = v.live; cap = v.cap; knows = cond (length ws == len) (saw row (Words ws) v.knows) v.knows; note = Some (record { row = row; len = len; words = ws }); before = v.before }
+reading v row len ws = record { live = v.live; cap = v.cap; knows = cond (length ws == len) (after_read row (Words ws) v.knows) v.knows; note = Some (record { row = row; len = len; words = ws }); before = v.before }
 
 -- a load after a join tells what held of the two seats
 abbrev pub forgetting : View → View

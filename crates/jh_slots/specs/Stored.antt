@@ -6,7 +6,7 @@ use mathlib.Core.Option.{some}
 use lib.ListN.{get_elem?}
 use Rattle.std.specs.FinMap as fin
 use Rattle.atomic_table.specs.Table.{State}
-use Rattle.jh_slots.specs.Seats.{Mark, Words, Void, Claim, Knowledge, newcomer, copied, joint, Agree}
+use Rattle.jh_slots.specs.Seats.{Mark, Words, Void, Claim, Knowledge, newcomer, after_split, after_join, Agree}
 use Rattle.jh_slots.specs.States as law
 
 -- A record that a seat has begun to read: its row, its length, and the words so far
@@ -32,11 +32,11 @@ spent_view = record { live = false; cap = 0; knows = newcomer; note = None; befo
 
 -- the seat that a split makes
 abbrev pub copy_view : View → View
-copy_view v = record { live = v.live; cap = v.cap; knows = copied v.knows; note = None; before = None }
+copy_view v = record { live = v.live; cap = v.cap; knows = after_split v.knows; note = None; before = None }
 
 -- two seats as one
 abbrev pub join_view : View → View → View
-join_view v w = record { live = v.live; cap = v.cap; knows = joint v.knows w.knows; note = v.note; before = Some (v.knows, w.knows) }
+join_view v w = record { live = v.live; cap = v.cap; knows = after_join v.knows w.knows; note = v.note; before = Some (v.knows, w.knows) }
 
 abbrev pub place_at : ℕ → ℕ → ℕ
 place_at row place = 1 + (5 * row + place)

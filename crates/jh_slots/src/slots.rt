@@ -3,7 +3,7 @@
 
 ghost use Rattle.std.specs.Prelude.{◌≡◌, ℕ, ◌+◌, ◌*◌, ◌<◌, ◌≤◌, ◌==◌, IfOk, IfErr, MatchBool, MatchResult, List, [], ◌∷◌, length, take, drop, replicate, true, Some};
 ghost use Rattle.std.specs.FinMap as fin;
-ghost use Rattle.jh_slots.specs.Seats.{Mark, newcomer, looked, took, wrote, published, voided, copied, joint, Agree, Holds, AreApart, BeginsAbove};
+ghost use Rattle.jh_slots.specs.Seats.{Mark, newcomer, after_look, after_claim, after_write, after_publish, after_void, after_split, after_join, Agree, Holds, AreApart, BeginsAbove};
 ghost use Rattle.jh_slots.specs.Reading.{ReadsRow};
 ghost use Rattle.jh_slots.specs.Sizes.{IsSize, RefusesSize, max_claimed};
 
@@ -110,7 +110,8 @@ impl Slots {
     /// succeeds so far; a split that fails hands the seat back as it was.
     pub fn split(&self, seat: Seat) -> Result<(Seat, Seat), Seat>
         requires { seat.table ≡ self.now.table }
-        ensures split { IfOk result (λ r. (r.0 ≡ seat) × (r.1.table ≡ seat.table) × (r.1.knows ≡ copied seat.knows)) }
+        ensures split { IfOk result (λ r. (r.0 ≡ seat) × (r.1.table ≡ seat.table)
+            × (r.1.knows ≡ after_split seat.knows)) }
         ensures kept { IfErr result (λ s. s ≡ seat) }
     {
         let Seat { mut inner } = seat;
@@ -123,7 +124,7 @@ impl Slots {
     pub fn join(&self, seat: Seat, other: Seat) -> Seat
         requires { (seat.table ≡ self.now.table) × (other.table ≡ self.now.table) }
         ensures table { result.table ≡ seat.table }
-        ensures joint { result.knows ≡ joint seat.knows other.knows }
+        ensures joint { result.knows ≡ after_join seat.knows other.knows }
         ensures agree { Agree seat.knows other.knows }
     {
         let Seat { mut inner } = seat;
@@ -137,7 +138,7 @@ impl Slots {
     fn look(&self, seat: &mut Seat) -> u32
         requires { seat.old.table ≡ self.now.table }
         ensures table { seat.new.table ≡ seat.old.table }
-        ensures low { seat.new.knows ≡ looked result seat.old.knows }
+        ensures low { seat.new.knows ≡ after_look result seat.old.knows }
         ensures range { (seat.old.knows.low ≤ result) × (result ≤ self.now.rows) }
     {
         self.table.shared.load::<Look>(&mut seat.inner, 0) as u32
@@ -150,8 +151,8 @@ impl Slots {
         ensures table { seat.new.table ≡ seat.old.table }
         ensures range { (seat.old.knows.low ≤ result) × (result ≤ self.now.rows) }
         ensures taken { MatchBool (result == first)
-            ((seat.new.knows ≡ took result rows seat.old.knows) × BeginsAbove seat.old.knows result × AreApart seat.new.knows)
-            (seat.new.knows ≡ looked result seat.old.knows) }
+            ((seat.new.knows ≡ after_claim result rows seat.old.knows) × BeginsAbove seat.old.knows result × AreApart seat.new.knows)
+            (seat.new.knows ≡ after_look result seat.old.knows) }
     {
         self.table.shared.compare_exchange::<Take>(
             &mut seat.inner,
@@ -169,13 +170,13 @@ impl Slots {
         requires own { seat.old.table ≡ self.now.table }
         requires rows { (1 ≤ rows) × (rows ≤ max_claimed) }
         ensures table { seat.new.table ≡ seat.old.table }
-        ensures claimed { IfOk result (λ c. seat.new.knows ≡ took c.first rows seat.old.knows) }
+        ensures claimed { IfOk result (λ c. seat.new.knows ≡ after_claim c.first rows seat.old.knows) }
         ensures rows { IfOk result (λ c. (c.rows ≡ rows) × (c.first + rows ≤ self.now.rows)) }
         ensures held { IfOk result (λ c. Holds seat.new.knows c.first c.rows) }
         ensures above { IfOk result (λ c. BeginsAbove seat.old.knows c.first) }
         ensures apart { IfOk result (λ _. AreApart seat.new.knows) }
         ensures full { IfErr result (λ _. self.now.rows < seat.new.knows.low + rows) }
-        ensures looked { IfErr result (λ _. seat.new.knows ≡ looked seat.new.knows.low seat.old.knows) }
+        ensures looked { IfErr result (λ _. seat.new.knows ≡ after_look seat.new.knows.low seat.old.knows) }
         ensures rises { seat.old.knows.low ≤ seat.new.knows.low }
         ensures within { seat.new.knows.low ≤ self.now.rows }
     {
@@ -198,7 +199,7 @@ impl Slots {
         ensures table { seat.new.table ≡ seat.old.table }
         ensures claim { claim.new ≡ claim.old }
         ensures held { Holds seat.new.knows claim.new.first claim.new.rows }
-        ensures written { seat.new.knows ≡ wrote claim.old.first place value seat.old.knows }
+        ensures written { seat.new.knows ≡ after_write claim.old.first place value seat.old.knows }
     {
         self.table.shared.store::<Write>(
             &mut seat.inner,
@@ -214,7 +215,7 @@ impl Slots {
         requires holds { Holds seat.old.knows claim.first claim.rows }
         requires len { (1 ≤ len) × (len ≤ 5 * claim.rows) }
         ensures table { seat.new.table ≡ seat.old.table }
-        ensures published { seat.new.knows ≡ published claim.first len seat.old.knows }
+        ensures published { seat.new.knows ≡ after_publish claim.first len seat.old.knows }
         ensures receipt { (result.row ≡ claim.first) × (result.len ≡ len) }
     {
         let Claim { first, rows: _ } = claim;
@@ -231,7 +232,7 @@ impl Slots {
         requires own { seat.old.table ≡ self.now.table }
         requires holds { Holds seat.old.knows claim.first claim.rows }
         ensures table { seat.new.table ≡ seat.old.table }
-        ensures voided { seat.new.knows ≡ voided claim.first seat.old.knows }
+        ensures voided { seat.new.knows ≡ after_void claim.first seat.old.knows }
     {
         let Claim { first, rows: _ } = claim;
         self.table

@@ -14,7 +14,7 @@ use Rattle.jh_ops.specs.declared.words.WordsError.{WordsError}
 use Rattle.jh_ops.specs.declared.words.WordsError.TheVariants.{BadWords, OutOfMemory, NotRecordable, TooSmall}
 use Rattle.jh_simnode.specs.Histories.{at_place}
 use Rattle.jh_simnode.specs.Reach.{places}
-use Rattle.jh_slots.specs.Seats.{Mark, Marks, Words, Void, Knowledge, saw}
+use Rattle.jh_slots.specs.Seats.{Mark, Marks, Words, Void, Knowledge, after_read}
 use Rattle.jh_slots.proofs.MapLemmas.{get_new, get_else}
 use Rattle.jh_workers.specs.Gather.{is_record, record_rows, IsBadMark, IsRecordOf, AreRecordsOf, RefusesGather, rows_of_log}
 use Rattle.jh_workers.specs.GatherInside.{IsFound, RefusesRecord, RefusesRow, refusal_of, with_found}
@@ -23,10 +23,10 @@ use Rattle.jh_workers.specs.declared.records.GatherError.TheVariants as gather
 
 -- ---- a read of a row
 
-pub saw_at : (v w : Knowledge) (row : ℕ) (m : Mark) → w ≡ saw row m v → map.get w.seen row ≡ Some m
+pub saw_at : (v w : Knowledge) (row : ℕ) (m : Mark) → w ≡ after_read row m v → map.get w.seen row ≡ Some m
 saw_at v w row m e = ap (λ (y : Knowledge). map.get y.seen row) e ∙ get_new v.seen row m
 
-pub saw_below : (v w : Knowledge) (row : ℕ) (m : Mark) → w ≡ saw row m v → (r : ℕ) → r < row → map.get w.seen r ≡ map.get v.seen r
+pub saw_below : (v w : Knowledge) (row : ℕ) (m : Mark) → w ≡ after_read row m v → (r : ℕ) → r < row → map.get w.seen r ≡ map.get v.seen r
 saw_below v w row m e r low = ap (λ (y : Knowledge). map.get y.seen r) e ∙ get_else v.seen row r m (λ same. omega arith)
 
 -- the words of an operation are at most those of the rows of one claim

@@ -1,6 +1,6 @@
 use Rattle.std.proofs.Common.{ap, subst, sym, ◌∙◌, [], ◌∷◌, ◌++◌, rules}
 use Rattle.jh_shrink.specs.ChangesInside.{Fits, state_from, changed}
-use Rattle.jh_shrink.specs.Edits.{EditState, edited}
+use Rattle.jh_shrink.specs.Edits.{EditState, state_after_edit}
 use Rattle.jh_shrink.proofs.ChangeLemmas.{edited_is, few_changed, play_on}
 use Rattle.jh_shrink.proofs.editor.Editor.edit.Goals as goal
 
@@ -31,4 +31,4 @@ returns-clause-edited c =
     ∙ ap (state_from (changed c.args.change entries) c.push_reserved.new.self.items) c.clear.ensures.items
     ∙ edited_is entries c.self.inside.past.items c.push_reserved.new.self.items c.self.inside.future.items c.args.change c.make.result
     on fits made.back
-    ∙ ap (λ (s : EditState). edited s (changed c.args.change s.now)) c.self.view_is
+    ∙ ap (λ (s : EditState). state_after_edit s (changed c.args.change s.now)) c.self.view_is
