@@ -14,7 +14,7 @@ use Rattle.jh_keys.specs.Refusals.{RefusesKeys, asked_by}
 use Rattle.jh_keys.specs.declared.error.KeysError.{KeysError}
 use Rattle.jh_keys.specs.declared.finding.Judging.{Judging}
 use Rattle.jh_cli.specs.CheckText.{TakesInitial, IsCheckTextOf, judging_of}
-use Rattle.jh_cli.specs.Status.{check_error, edn_error, history_error, keys_error}
+use Rattle.jh_cli.specs.Status.{check_error, keys_error, IsInputError, IsHistoryError}
 use Rattle.jh_cli.specs.declared.check_command.Question.{Question}
 use Rattle.jh_cli.specs.declared.error.CliError.{CliError}
 use Rattle.jh_cli.specs.declared.error.CliError.TheVariants.{Input, History, OnlyForRegister, Read, Write, OutOfMemory}
@@ -44,7 +44,7 @@ RefusesJudging question history e = RefusesBy question.independent (judging_of q
 -- why values are refused
 abbrev pub RefusesValues : Question → List Edn → CliError → Type 0
 RefusesValues question values (History error) =
-    (history_error error ≡ History error) × told.RefusesValues values error
+    IsHistoryError error × told.RefusesValues values error
 RefusesValues question values OutOfMemory = Unit {0}
 RefusesValues question values e =
     (history : List Operation) × told.AreParsed values history × RefusesBy question.independent (judging_of question) history e
@@ -54,7 +54,7 @@ RefusesValues question values e =
 abbrev pub RefusesCheck : Question → List ℕ → CliError → Type 0
 RefusesCheck question input OnlyForRegister = TakesInitial question.workload question.initial → ⊥
 RefusesCheck question input (Input error) =
-    (edn_error error ≡ Input error) × edn.RefusesText input error × edn.IsFirstError input error
+    IsInputError error × edn.RefusesText input error × edn.IsFirstError input error
 RefusesCheck question input Read = Unit {0}
 RefusesCheck question input Write =
     (status : ℕ) × (output : List ℕ) × IsCheckTextOf question input status output

@@ -11,7 +11,7 @@ use Rattle.jh_nemesis.specs.StepText.{parsed_step}
 use Rattle.jh_nemesis.specs.declared.steps.Step.{Step}
 use Rattle.jh_nemesis.specs.declared.texts.StepTextError.{StepTextError}
 use Rattle.jh_cli.specs.EnvText.{IsEnvTextOf}
-use Rattle.jh_cli.specs.Status.{edn_error, environment_error}
+use Rattle.jh_cli.specs.Status.{IsInputError, IsEnvironmentError}
 use Rattle.jh_cli.specs.declared.error.CliError.{CliError}
 use Rattle.jh_cli.specs.declared.error.CliError.TheVariants.{Input, EnvironmentMissing, Environment, Element, History, Check, Settings, Run, HistoryFull, Mismatch, Thread, OnlyForRegister, Read, Write, OutOfMemory}
 
@@ -41,7 +41,7 @@ abbrev pub RefusesValues : List Edn → CliError → Type 0
 RefusesValues values (Input error) = ⊥
 RefusesValues values EnvironmentMissing = values ≡ []
 RefusesValues values (Environment error) =
-    (environment_error error ≡ Environment error)
+    IsEnvironmentError error
     × ((first : Edn) × (others : List Edn) × (values ≡ first ∷ others) × env.RefusesText first error)
 RefusesValues values (Element place error) =
     (first : Edn) × (others : List Edn) × (names : List (List ℕ)) × (start : Table) × (values ≡ first ∷ others)
@@ -61,7 +61,7 @@ RefusesValues values OutOfMemory = Unit {0}
 -- Why an input is refused: for the first error of its text, or for the values that it spells. A failed read and want of memory have names of
 -- their own and may come with any input; a failed write comes only where there is something to write.
 abbrev pub RefusesInput : List ℕ → CliError → Type 0
-RefusesInput input (Input error) = (edn_error error ≡ Input error) × edn.RefusesText input error × edn.IsFirstError input error
+RefusesInput input (Input error) = IsInputError error × edn.RefusesText input error × edn.IsFirstError input error
 RefusesInput input EnvironmentMissing = (values : List Edn) × SpellsAll values input × RefusesValues values EnvironmentMissing
 RefusesInput input (Environment error) = (values : List Edn) × SpellsAll values input × RefusesValues values (Environment error)
 RefusesInput input (Element place error) = (values : List Edn) × SpellsAll values input × RefusesValues values (Element place error)

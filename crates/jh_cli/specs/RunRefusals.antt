@@ -15,7 +15,7 @@ use Rattle.jh_settings.specs.Settings as settings
 use Rattle.jh_settings.specs.Settings.{AreSettingsOf}
 use Rattle.jh_settings.specs.declared.words.Mode.{Mode}
 use Rattle.jh_cli.specs.RunText.{IsRunTextOf}
-use Rattle.jh_cli.specs.Status.{edn_error, settings_error}
+use Rattle.jh_cli.specs.Status.{IsInputError, IsSettingsError}
 use Rattle.jh_cli.specs.declared.error.CliError.{CliError}
 use Rattle.jh_cli.specs.declared.error.CliError.TheVariants.{Input, Settings, Run, HistoryFull, Mismatch, Thread, Read, Write, OutOfMemory}
 
@@ -49,7 +49,7 @@ RefusesSettings p Mode.Threads e = RefusesThreads e
 
 -- Why the run that bytes tell is refused. Want of memory has a name of its own, wherever it came.
 abbrev pub RefusesBytes : List ℕ → CliError → Type 0
-RefusesBytes input (Settings error) = (settings_error error ≡ Settings error) × settings.RefusesSettings input error
+RefusesBytes input (Settings error) = IsSettingsError error × settings.RefusesSettings input error
 RefusesBytes input OutOfMemory = Unit {0}
 RefusesBytes input e =
     (p : PlanValue) × (mode : Mode) × (budget : ℕ) × AreSettingsOf input p mode budget × RefusesSettings p mode e
@@ -57,7 +57,7 @@ RefusesBytes input e =
 -- A failed read, an input that does not end and want of memory may come with any input; a failed write comes only where there is
 -- something to write.
 abbrev pub RefusesRun : List ℕ → CliError → Type 0
-RefusesRun input (Input error) = (edn_error error ≡ Input error) × IsReaderError error
+RefusesRun input (Input error) = IsInputError error × IsReaderError error
 RefusesRun input Read = Unit {0}
 RefusesRun input Write = (status : ℕ) × (output : List ℕ) × IsRunTextOf input status output
 RefusesRun input e = RefusesBytes input e

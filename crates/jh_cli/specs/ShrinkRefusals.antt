@@ -4,20 +4,20 @@ use Rattle.std.specs.Prelude.{◌≡◌, ℕ, List, ⊤}
 use Rattle.jh_edn.specs.Refused.{IsReaderError}
 use Rattle.jh_settings.specs.Settings as settings
 use Rattle.jh_cli.specs.ShrinkText.{IsShrinkTextOf}
-use Rattle.jh_cli.specs.Status.{edn_error, settings_error}
+use Rattle.jh_cli.specs.Status.{IsInputError, IsSettingsError}
 use Rattle.jh_cli.specs.declared.error.CliError.{CliError}
 use Rattle.jh_cli.specs.declared.error.CliError.TheVariants.{Input, Settings, Read, Write, OutOfMemory}
 
 -- why the schedule that bytes tell is not made small
 abbrev pub RefusesBytes : List ℕ → CliError → Type 0
-RefusesBytes input (Settings error) = (settings_error error ≡ Settings error) × settings.RefusesSettings input error
+RefusesBytes input (Settings error) = IsSettingsError error × settings.RefusesSettings input error
 RefusesBytes input OutOfMemory = ⊤
 RefusesBytes input e = ⊥
 
 -- A failed read, an input that does not end and want of memory may come with any input; a failed write comes only where there is
 -- something to write.
 abbrev pub RefusesShrinking : List ℕ → CliError → Type 0
-RefusesShrinking input (Input error) = (edn_error error ≡ Input error) × IsReaderError error
+RefusesShrinking input (Input error) = IsInputError error × IsReaderError error
 RefusesShrinking input Read = ⊤
 RefusesShrinking input Write = (status : ℕ) × (output : List ℕ) × IsShrinkTextOf input status output
 RefusesShrinking input e = RefusesBytes input e

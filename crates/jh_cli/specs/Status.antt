@@ -51,10 +51,18 @@ edn_error EdnError.Write = Write
 edn_error EdnError.OutOfMemory = OutOfMemory
 edn_error error = Input error
 
+-- an error of the reader of EDN that is the input's own: no failed read or write, and not out of memory
+abbrev pub IsInputError : EdnError.the_data → Type 0
+IsInputError error = edn_error error ≡ Input error
+
 -- what a refusal of the environment means to a command
 abbrev pub environment_error : EnvTextError.the_data → CliError
 environment_error EnvTextError.OutOfMemory = OutOfMemory
 environment_error error = Environment error
+
+-- a refusal of the environment, and not out of memory
+abbrev pub IsEnvironmentError : EnvTextError.the_data → Type 0
+IsEnvironmentError error = environment_error error ≡ Environment error
 
 -- what a refusal of the element at a place means to a command
 abbrev pub step_error : ℕ → StepTextError.the_data → CliError
@@ -65,6 +73,10 @@ step_error place error = Element place error
 abbrev pub history_error : HistoryError.the_data → CliError
 history_error HistoryError.OutOfMemory = OutOfMemory
 history_error error = History error
+
+-- a refusal of a history, and not out of memory
+abbrev pub IsHistoryError : HistoryError.the_data → Type 0
+IsHistoryError error = history_error error ≡ History error
 
 -- what it means to a command that no history is read
 abbrev pub reading_error : ReadHistoryError.the_data → CliError
@@ -87,6 +99,10 @@ keys_error KeysError.OutOfMemory = OutOfMemory
 abbrev pub settings_error : SettingsError.the_data → CliError
 settings_error SettingsError.OutOfMemory = OutOfMemory
 settings_error error = Settings error
+
+-- a refusal of settings, and not out of memory
+abbrev pub IsSettingsError : SettingsError.the_data → Type 0
+IsSettingsError error = settings_error error ≡ Settings error
 
 -- what the end of a run that was not completed means to a command
 abbrev pub run_error : RunError.the_data → CliError
