@@ -87,7 +87,13 @@ fn ends_entry(
 fn answered_calls(history: &[Op]) -> usize
     ensures { result ≡ count_by rule.is_answered_call (operations history.now) }
 {
-    history.iter().filter(|op| is_answered_call(op)).count()
+    let mut answered = 0;
+    for op in history {
+        if is_answered_call(op) {
+            answered += 1;
+        }
+    }
+    answered
 }
 
 /// Whether a completion of the nemesis tells the entry whose number is that of the completions before it.
