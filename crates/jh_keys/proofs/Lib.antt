@@ -5,3 +5,4 @@ pub mod FoundLemmas
 pub mod LawLemmas
 pub mod OperationLemmas
 pub mod StuckLemmas
+pub mod SharingLemmas

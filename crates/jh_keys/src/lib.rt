@@ -11,6 +11,7 @@ mod lines;
 mod operation_text;
 mod parts;
 mod serial;
+mod sharing;
 mod split;
 mod threads;
 

@@ -2,23 +2,19 @@
 //! has the rule of both.
 
 ghost use Rattle.std.specs.Prelude.{◌≡◌, ◌≤◌, MatchResult};
-ghost use Rattle.std.specs.Thread.{IsSend, IsSync};
+ghost use Rattle.std.specs.Thread.{IsSync};
 ghost use Rattle.jh_ops.specs.Operation.{operations};
 ghost use Rattle.jh_keys.specs.BoardInside.{AreAnswers, AreKeysAsked, IsAnswerAt};
 ghost use Rattle.jh_keys.specs.Keys.{AreTuples};
 ghost use Rattle.jh_keys.specs.Refusals.{AreFindings, RefusesKeys, asked_by};
 ghost use Rattle.jh_keys.specs.SplitInside.{groups_of, view_groups};
-ghost use Rattle.jh_keys.specs.contracts.explanation.Explanation as explanation;
-ghost use Rattle.jh_keys.specs.contracts.finding.Finding as finding;
-ghost use Rattle.jh_keys.specs.contracts.split.KeyPlaces as places;
-ghost use Rattle.jh_ops.specs.contracts.operation.Op as op;
 
 use crate::board::{Answer, Asking, Board};
 use crate::error::KeysError;
-use crate::explanation::Explanation;
-use crate::finding::{Finding, Judging};
+use crate::finding::Judging;
 use crate::parts::check_key;
 use crate::serial::KeyFinding;
+use crate::sharing::{explanations_can_be_sent, findings_can_be_sent, operations_can_be_shared, places_can_be_shared};
 use crate::split::{KeyPlaces, split};
 use jh_ops::Op;
 use std::alloc::Global;
@@ -154,44 +150,6 @@ fn work_all<K: Work<J, G, B> + Sync, J: Sync, G: Sync, B: Sync, R: Threads + Wai
             keys.work_at(rt, judge, gate, board);
         },
     );
-}
-
-/// Tells the prover, which looks no deeper than it must, that values of a type can be sent to threads.
-fn can_be_sent<T: Send>()
-    ensures { IsSend T.row }
-{}
-
-/// The same of values that threads can share.
-fn can_be_shared<T: Sync>()
-    ensures { IsSync T.row }
-{}
-
-/// Explanations can be sent.
-fn explanations_can_be_sent()
-    ensures { IsSend explanation.the_row }
-{
-    can_be_sent::<Explanation>()
-}
-
-/// Findings can be sent.
-fn findings_can_be_sent()
-    ensures { IsSend finding.the_row }
-{
-    can_be_sent::<Finding>()
-}
-
-/// Operations can be shared.
-fn operations_can_be_shared()
-    ensures { IsSync op.the_row }
-{
-    can_be_shared::<Op>()
-}
-
-/// Keys with their places can be shared.
-fn places_can_be_shared()
-    ensures { IsSync places.the_row }
-{
-    can_be_shared::<KeyPlaces>()
 }
 
 /// The work on a board. By itself, so that what is safe to share is shown of few values.

@@ -49,7 +49,7 @@ impl Tables {
         requires starting { All IsStartingLink links.now × All IsStartingNode nodes.now }
         ensures stands { IfOk result (λ tables. StandsAt tables []) }
         ensures start { IfOk result (λ tables. tables.start ≡ record { links = links.now; nodes = nodes.now }) }
-        ensures whole { IfOk result (λ tables. length tables.now.nodes ≡ length nodes.now) }
+        ensures whole { IfOk result (λ tables. length tables.cells.nodes ≡ length nodes.now) }
         ensures work { IfOk result (λ tables. tables.tallies.work ≡ 0) }
     {
         Ok(Tables {

@@ -1,0 +1,146 @@
+//! What threads may share and send: the operations of a history, its keys, and what is found of each.
+//!
+//! Each type is shown after those that it is made of, since the prover looks no deeper than it must.
+
+ghost use Rattle.std.specs.Thread.{IsSend, IsSync};
+ghost use Rattle.jh_check.specs.contracts.ids.Duplicates as duplicates;
+ghost use Rattle.jh_check.specs.contracts.ids.IdsResult as ids;
+ghost use Rattle.jh_check.specs.contracts.set.SetFound as found;
+ghost use Rattle.jh_check.specs.contracts.set.SetResult as set;
+ghost use Rattle.jh_edn.specs.contracts.text.Text as text;
+ghost use Rattle.jh_edn.specs.contracts.value.Pairs as pairs;
+ghost use Rattle.jh_edn.specs.contracts.value.Value as value;
+ghost use Rattle.jh_edn.specs.contracts.value.Values as values;
+ghost use Rattle.jh_keys.specs.contracts.explanation.Explanation as explanation;
+ghost use Rattle.jh_keys.specs.contracts.finding.Finding as finding;
+ghost use Rattle.jh_keys.specs.contracts.split.KeyPlaces as places;
+ghost use Rattle.jh_ops.specs.contracts.operation.Op as op;
+
+use crate::explanation::Explanation;
+use crate::finding::Finding;
+use crate::split::KeyPlaces;
+use jh_check::{Duplicates, IdsResult, SetFound, SetResult};
+use jh_edn::{Pairs, Text, Value, Values};
+use jh_ops::Op;
+
+/// Tells the prover that values of a type can be sent to threads.
+fn can_be_sent<T: Send>()
+    ensures { IsSend T.row }
+{}
+
+/// The same of values that threads can share.
+fn can_be_shared<T: Sync>()
+    ensures { IsSync T.row }
+{}
+
+fn texts_can_be_sent()
+    ensures { IsSend text.the_row }
+{
+    can_be_sent::<Text>()
+}
+
+fn values_can_be_sent()
+    ensures { IsSend value.the_row }
+{
+    texts_can_be_sent();
+    can_be_sent::<Value>()
+}
+
+fn lists_can_be_sent()
+    ensures { IsSend values.the_row }
+{
+    texts_can_be_sent();
+    values_can_be_sent();
+    can_be_sent::<Values>()
+}
+
+fn pairs_can_be_sent()
+    ensures { IsSend pairs.the_row }
+{
+    texts_can_be_sent();
+    values_can_be_sent();
+    can_be_sent::<Pairs>()
+}
+
+fn operations_can_be_sent()
+    ensures { IsSend op.the_row }
+{
+    values_can_be_sent();
+    pairs_can_be_sent();
+    can_be_sent::<Op>()
+}
+
+/// What is found of a set.
+fn sets_can_be_sent()
+    ensures found { IsSend found.the_row }
+    ensures result { IsSend set.the_row }
+{
+    lists_can_be_sent();
+    can_be_sent::<SetFound>();
+    can_be_sent::<SetResult>()
+}
+
+/// What is found of unique ids.
+fn ids_can_be_sent()
+    ensures duplicates { IsSend duplicates.the_row }
+    ensures result { IsSend ids.the_row }
+{
+    values_can_be_sent();
+    can_be_sent::<Duplicates>();
+    can_be_sent::<IdsResult>()
+}
+
+/// Findings can be sent.
+pub(crate) fn findings_can_be_sent()
+    ensures { IsSend finding.the_row }
+{
+    sets_can_be_sent();
+    ids_can_be_sent();
+    can_be_sent::<Finding>()
+}
+
+/// Explanations can be sent.
+pub(crate) fn explanations_can_be_sent()
+    ensures { IsSend explanation.the_row }
+{
+    operations_can_be_sent();
+    can_be_sent::<Explanation>()
+}
+
+fn texts_can_be_shared()
+    ensures { IsSync text.the_row }
+{
+    can_be_shared::<Text>()
+}
+
+fn values_can_be_shared()
+    ensures { IsSync value.the_row }
+{
+    texts_can_be_shared();
+    can_be_shared::<Value>()
+}
+
+fn pairs_can_be_shared()
+    ensures { IsSync pairs.the_row }
+{
+    texts_can_be_shared();
+    values_can_be_shared();
+    can_be_shared::<Pairs>()
+}
+
+/// Operations can be shared.
+pub(crate) fn operations_can_be_shared()
+    ensures { IsSync op.the_row }
+{
+    values_can_be_shared();
+    pairs_can_be_shared();
+    can_be_shared::<Op>()
+}
+
+/// Keys with their places can be shared.
+pub(crate) fn places_can_be_shared()
+    ensures { IsSync places.the_row }
+{
+    values_can_be_shared();
+    can_be_shared::<KeyPlaces>()
+}
