@@ -1,9 +1,14 @@
 //! The program `jeprun`: its exit status is that of what its arguments ask for, which `jh_arguments` does.
 #![tactic(auto)]
 
+use jh_arguments::{Terminals, status};
 use std::io::IsTerminal;
 use std::process::ExitCode;
 
 fn main(rt: HostRuntime) -> ExitCode {
-    ExitCode::from(jh_arguments::status(&rt, rt.stderr().is_terminal()))
+    let terminals = Terminals {
+        input: rt.stdin().is_terminal(),
+        errors: rt.stderr().is_terminal(),
+    };
+    ExitCode::from(status(&rt, terminals))
 }

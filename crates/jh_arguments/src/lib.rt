@@ -13,4 +13,4 @@ mod program;
 pub use commands::{Command, command_of, question_of, run};
 pub use jh_cli::Question;
 pub use line::{REFUSED, parse, status_of_refusal};
-pub use program::status;
+pub use program::{Terminals, status};

@@ -1,10 +1,13 @@
 //! What the process does: it reads its arguments, opens the standard streams, and ends with a status. What a terminal or a
 //! pipe gives or takes is no part of any clause, so this says nothing but that a status is given. A run on threads may wait.
 
+ghost use Rattle.std.specs.Prelude.{◌≢◌, IsNone};
+
 use crate::commands::{Command, command_of, run};
 use crate::line::{REFUSED, parse, status_of_refusal};
 use clap::ArgMatches;
 use jh_cli::CliError;
+use jh_ops::Workload;
 use jh_shrink::Observer;
 use std::alloc::Global;
 use std::env::Env;
@@ -12,12 +15,24 @@ use std::sync::Wait;
 use std::thread::Threads;
 use std::{env, io};
 
+/// The status of what is not known, as `run` of `commands.rt` gives it.
+const UNKNOWN: u8 = 2;
+
 /// Tells on standard error how far the work is, in one line that is written over and over.
 #[derive(Drop)]
 struct Progress<'a, P> {
     rt: &'a P,
     /// Whether anybody reads it.
     is_shown: bool,
+}
+
+/// Which of the standard streams lead to somebody, and not to a pipe or a file.
+#[derive(Clone, Copy, Debug)]
+pub struct Terminals {
+    /// Whether standard input is typed.
+    pub input: bool,
+    /// Whether standard error is read on a terminal.
+    pub errors: bool,
 }
 
 /// Goes back to the start of the line, and empties it.
@@ -40,6 +55,29 @@ impl<P: Eprint> Progress<'_, P> {
     }
 }
 
+/// What a command reads from standard input.
+fn input_of(command: Command) -> &'static str {
+    match command {
+        Command::Env => "an environment and steps",
+        Command::Check(_) => "a history",
+        Command::Run | Command::Shrink(_) => "settings",
+    }
+}
+
+/// What may decide what a command left unknown, of a register.
+fn remedy_of(command: Command, status: u8) -> Option<&'static str>
+    ensures known { status ≢ 2 → IsNone result }
+{
+    match command {
+        Command::Check(question) if status == UNKNOWN && question.workload == Workload::Register =>
+            { Some("unknown: a larger --budget may decide") }
+        Command::Run if status == UNKNOWN => {
+            Some("unknown: of a register, a larger budget in the settings may decide")
+        }
+        _ => None,
+    }
+}
+
 /// Says on standard error why a command ended early, and gives its status.
 fn failed(rt: &impl Eprint, error: CliError) -> u8 {
     let _ = eprintln!(rt; "jeprun: {error}");
@@ -58,16 +96,19 @@ fn refused(rt: &(impl Print + Eprint), refusal: &clap::Error) -> u8 {
 }
 
 /// Does what the arguments ask for, over the standard streams.
-fn done<R>(rt: &R, matches: &ArgMatches<'_>, has_terminal: bool) -> u8
+fn done<R>(rt: &R, matches: &ArgMatches<'_>, terminals: Terminals) -> u8
 where
     R: Input + Print + Eprint + Alloc<A = Global> + Threads + Wait + Sync,
 {
     let Some(command) = command_of(matches) else {
         return REFUSED;
     };
+    if terminals.input && terminals.errors {
+        let _ = eprintln!(rt; "jeprun: reads {} from standard input", input_of(command));
+    }
     let mut progress = Progress {
         rt,
-        is_shown: has_terminal && matches!(command, Command::Shrink(_)),
+        is_shown: terminals.errors && matches!(command, Command::Shrink(_)),
     };
     let answer = run(
         rt,
@@ -79,8 +120,21 @@ where
     );
     progress.end();
     match answer {
-        Ok(status) => status,
+        Ok(status) => {
+            advise(rt, command, status, terminals);
+            status
+        }
         Err(error) => failed(rt, error),
+    }
+}
+
+/// Says on a terminal what may decide what a command left unknown.
+fn advise(rt: &impl Eprint, command: Command, status: u8, terminals: Terminals) {
+    if !terminals.errors {
+        return;
+    }
+    if let Some(remedy) = remedy_of(command, status) {
+        let _ = eprintln!(rt; "jeprun: {remedy}");
     }
 }
 
@@ -92,10 +146,11 @@ fn arguments_of(rt: &(impl Env + Alloc<A = Global>)) -> io::Result<Vec<String>> 
 /// The exit status of the process, once it has done what its arguments ask for: 0, 1 or 2 as `run` answers, 0 where help or
 /// the version was asked for, 3 where the arguments or the input are refused, 4 where the machine failed or a run was not completed.
 ///
-/// `has_terminal` says whether standard error is a terminal; where it is, `shrink` tells there how far it is, and nowhere else.
+/// Where standard error is a terminal, three things are told there, and nowhere else: what is read, where standard input is a
+/// terminal too; how far `shrink` is; and what to raise, where a register was left unknown.
 ///
 /// A run on threads may wait.
-pub fn status<R>(rt: &R, has_terminal: bool) -> u8
+pub fn status<R>(rt: &R, terminals: Terminals) -> u8
 where
     R: Env + Input + Print + Eprint + Alloc<A = Global> + Threads + Wait + Sync,
 {
@@ -110,7 +165,7 @@ where
         }
     };
     match parse(rt.alloc(), arguments.as_slice()) {
-        Ok(matches) => done(rt, &matches, has_terminal),
+        Ok(matches) => done(rt, &matches, terminals),
         Err(refusal) => refused(rt, &refusal),
     }
 }
