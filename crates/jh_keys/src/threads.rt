@@ -14,7 +14,9 @@ use crate::error::KeysError;
 use crate::finding::Judging;
 use crate::parts::check_key;
 use crate::serial::KeyFinding;
-use crate::sharing::{explanations_can_be_sent, findings_can_be_sent, operations_can_be_shared, places_can_be_shared};
+use crate::sharing::{
+    explanations_can_be_sent, findings_can_be_sent, operations_can_be_shared, places_can_be_shared,
+};
 use crate::split::{KeyPlaces, split};
 use jh_ops::Op;
 use std::alloc::Global;
