@@ -5,4 +5,5 @@ pub mod FoundLemmas
 pub mod LawLemmas
 pub mod OperationLemmas
 pub mod StuckLemmas
+pub mod BoardLemmas
 pub mod SharingLemmas
