@@ -7,13 +7,13 @@ PROGRAM is the program `jeprun`. First it makes N runs (1,000) of random plans, 
 workload in turn, 1 to 16 clients, 1 to 5 nodes, at most 200 calls and 48 entries with steps of every kind, and logs of which a
 third has too few rows. A run is given out only where its audit finds nothing, so a status of 0 to 2 says that it was audited. Its
 history is counted once more here: each invocation has its completion, each event is named once, and no index is left out. Then
-`jeprun check` judges it once more, and its status and its line have to be those of the run. Where the log is too small the run may
-end with `history full`, with nothing printed. All else is a run that was lost, also one of over a minute. It prints how many ran, how
-they ended, and in how many a call began before another had ended, which are more on more processors. It ends with status 1
-where one was lost.
+`jeprun check` judges it once more, and its status and its line have to be those of the run. Where the log is too small the run
+may end with `history full`, with nothing printed. All else is a run that was lost, also one of over a minute. It prints how many
+ran, how they ended, and in how many a call began before another had ended, which are more on more processors. It ends with status
+1 where one was lost.
 
-Then it prints how long a plan of 10,000 calls takes on threads and serially, of 4 clients and of 16, the least of five each, and the
-processor time. All of a run is in it: its audit, its checker and its output too.
+Then it prints how long a plan of 10,000 calls takes on threads and serially, of 4 clients and of 16, the least of five each, and
+the processor time. All of a run is in it: its audit, its checker and its output too.
 """
 
 import argparse

@@ -1,7 +1,7 @@
 /* What tools/hostile-calls puts between the program and the C library, by LD_PRELOAD.
  *
- * MEMORY=N refuses the N-th malloc or realloc, and ALL=1 each one behind it too; READ=K and WRITE=K refuse the K-th read of standard
- * input and the K-th write of standard output; BYTES=1 gives and takes one byte at a time. COUNTS names a file into which the
+ * MEMORY=N refuses the N-th malloc or realloc, and ALL=1 each one behind it too; READ=K and WRITE=K refuse the K-th read of
+ * standard input and the K-th write of standard output; BYTES=1 gives and takes one byte at a time. COUNTS names a file into which the
  * number of each of the three is written at the end.
  */
 #define _GNU_SOURCE
