@@ -1,58 +1,117 @@
 #!/usr/bin/env python3
 """Runs on threads: that none is lost, and how long they take.
 
-    bench/threads.py PROGRAM [--runs N]
+    bench/threads.py PROGRAM [--runs N] [--seed S]
 
-PROGRAM is the program `jeprun`. First it makes N runs (1,000) of 16 clients on threads under steps of every kind, over each store
-and workload in turn. A run is given out only where its audit finds nothing, so a status of 0 to 2 says that it was audited; the
-history is counted once more here: each invocation has its completion, each event is named once, and no index is left out. It
-prints how many ran, and ends with status 1 where one was lost. Then it prints how long a plan of 10,000 calls takes on threads and
-serially, of 4 clients and of 16, the least of five each, and the processor time. All of a run is in it: its audit, its checker and
-its output too.
+PROGRAM is the program `jeprun`. First it makes N runs (1,000) of random plans, the same plans for the same S (0): each store and
+workload in turn, 1 to 16 clients, 1 to 5 nodes, at most 200 calls and 48 entries with steps of every kind, and logs of which a
+third has too few rows. A run is given out only where its audit finds nothing, so a status of 0 to 2 says that it was audited. Its
+history is counted once more here: each invocation has its completion, each event is named once, and no index is left out. Then
+`jeprun check` judges it once more, and its status and its line have to be those of the run. Where the log is too small the run
+may end with `history full`, with nothing printed. All else is a run that was lost, also one of over a minute. It prints how many
+ran, how they ended, and in how many a call began before another had ended, which are more on more processors. It ends with status
+1 where one was lost.
+
+Then it prints how long a plan of 10,000 calls takes on threads and serially, of 4 clients and of 16, the least of five each, and
+the processor time. All of a run is in it: its audit, its checker and its output too.
 """
 
 import argparse
+import collections
+import random
 import re
 import resource
 import subprocess
 import sys
 import time
 
-FAULTS = (
-    '[:cut [["n1" "n2"]]]',
-    '[:slow 20 [["n2" "n3"]]]',
-    '[:loss 3 [["n3" "n1"]]]',
-    '[:fix 5 [["n1" "n3"]]]',
-    '[:pause ["n2"]]',
-    '[:kill ["n3"]]',
-    '[:bump {"n1" 700}]',
-    "[:halves]",
-    '[:split-one "n2"]',
-    "[:bridge]",
-    "[:ring]",
-)
 CALLS = {
-    "register": "[:mix [:forever :read] [:forever [:write 1]] [:forever [:cas 1 2]]]",
-    "counter": "[:mix [:forever :read] [:forever [:add 2]]]",
-    "set": "[:phases [:limit 199 [:rising 0]] [:once :read]]",
-    "unique-ids": "[:forever :generate]",
+    "register": (":read", "[:write 1]", "[:write 2]", "[:cas 1 2]"),
+    "counter": (":read", "[:add 2]", "[:add 3]"),
+    "set": (":read", "[:add 1]", "[:add 2]"),
+    "unique-ids": (":generate",),
 }
+STORES = ("quorum", "lww", "local")
 EVENT = re.compile(r":event (\d+)}$")
+CALL = re.compile(r":type :(\w+), :process (\d+),")
+BUDGET = 5_000
+SECONDS = 60
 
 
-def schedule(number):
-    """Begins of each kind of fault in an order of its own, with withdrawals and steps back and forth between them."""
+def generator(chance, workload, clients):
+    """A mixture of calls, by itself, before a last call, for each thread, or for some threads alone."""
+    calls = CALLS[workload]
+    some = chance.sample(calls, chance.randint(1, len(calls)))
+    mixture = "[:mix " + " ".join(f"[:forever {call}]" for call in some) + "]"
+    first = f"[:mix {mixture} [:rising 0]]" if workload == "set" else mixture
+    last = f"[:once {calls[0]}]"
+    return chance.choice(
+        (
+            first,
+            f"[:phases [:limit {chance.randint(0, 150)} {first}] {last}]",
+            f"[:each-thread [:seq [:limit {chance.randint(0, 20)} {mixture}] {last}]]",
+            f"[:reserve {chance.randint(0, clients)} {first} [:clients {mixture}]]",
+        )
+    )
+
+
+def fault(chance, nodes):
+    """A fault of any kind, of some nodes or links."""
+    some = chance.sample(nodes, chance.randint(1, len(nodes)))
+    names = "[" + " ".join(some) + "]"
+    links = [f"[{source} {destination}]" for source in nodes for destination in nodes if source != destination]
+    cuts = "[" + " ".join(chance.sample(links, chance.randint(0, len(links)))) + "]"
+    return chance.choice(
+        (
+            f"[:cut {cuts}]",
+            f"[:slow {chance.randint(1, 2000)} {cuts}]",
+            f"[:loss {chance.randint(1, 3)} {cuts}]",
+            f"[:fix {chance.randint(0, 2000)} {cuts}]",
+            f"[:pause {names}]",
+            f"[:kill {names}]",
+            "[:bump {" + ", ".join(f"{node} {chance.choice((-700, 1, 900))}" for node in some) + "}]",
+            "[:halves]",
+            f"[:split-one {some[0]}]",
+            "[:bridge]",
+            "[:ring]",
+            f"[:ring {chance.randint(0, 99)}]",
+        )
+    )
+
+
+def schedule(chance, nodes, ops):
+    """Steps of every kind. Some are refused: an id may be taken or not active, and there may be nothing to undo."""
     entries = []
-    for place, fault in enumerate(FAULTS[number % len(FAULTS) :] + FAULTS[: number % len(FAULTS)]):
-        entries.append(f"[{8 * place} [:begin {place} {fault}]]")
-        entries.append(f"[{8 * place + 3} {('[:undo]', '[:withdraw %d]' % place, '[:withdraw-all]')[place % 3]}]")
-        entries.append(f"[{8 * place + 5} [:redo]]")
+    for at in sorted(chance.randint(0, ops + 5) for _ in range(chance.choice((0, 4, 16, 48)))):
+        begin = f"[:begin {chance.randint(0, 9)} {fault(chance, nodes)}]"
+        step = chance.choice((begin, begin, begin, f"[:withdraw {chance.randint(0, 9)}]", "[:withdraw-all]", "[:undo]", "[:redo]"))
+        entries.append(f"[{at} {step}]")
     return entries
 
 
-def settings(mode, store, workload, clients, ops, entries, rows):
+def plan(number, seed):
+    """A random plan: its settings, the words by which `jeprun check` judges its history, and whether its log may be too small."""
+    chance = random.Random(f"{seed} {number}")
+    workload = list(CALLS)[number // 3 % 4]
+    nodes = [f'"n{node}"' for node in range(1, chance.randint(1, 5) + 1)]
+    clients, ops = chance.randint(1, 16), chance.randint(1, 200)
+    entries = schedule(chance, nodes, ops)
+    # What a read of a set answers has a row for each five words, and at most as many elements as there are calls.
+    enough = 2 * (ops + len(entries)) + (ops * ((ops + 7) // 5) if workload == "set" else 0)
+    rows = enough if number % 9 < 6 else chance.randint(1, enough)
+    initial = chance.choice((None, 0, 1)) if workload == "register" else None
+    text = settings("threads", STORES[number % 3], workload, clients, ops, entries, rows, nodes, generator(chance, workload, clients))
+    text += f"seed = {chance.getrandbits(62)}\nvolatile = {chance.choice(('true', 'false'))}\nbudget = {BUDGET}\n"
+    words = ["--workload", workload, "--budget", str(BUDGET)]
+    if initial is not None:
+        text += f"initial = {initial}\n"
+        words.append(f"--initial={initial}")
+    return text, words, rows < enough
+
+
+def settings(mode, store, workload, clients, ops, entries, rows, nodes, generator):
     lines = [
-        """start = '{:nodes ["n1" "n2" "n3"]}'""",
+        f"start = '{{:nodes [{' '.join(nodes)}]}}'",
         f'mode = "{mode}"',
         f'store = "{store}"',
         f'workload = "{workload}"',
@@ -60,15 +119,14 @@ def settings(mode, store, workload, clients, ops, entries, rows):
         f"ops = {ops}",
         f"rows = {rows}",
         "tick_every = 5",
-        f"generator = '{CALLS[workload]}'",
+        f"generator = '{generator}'",
         "schedule = [" + ", ".join(f"'{entry}'" for entry in entries) + "]",
     ]
     return "\n".join(lines) + "\n"
 
 
-def is_whole(text):
+def is_whole(history):
     """Whether a printed history has no gap: each call and step is completed, and each event is named once."""
-    history = text.splitlines()[:-3]
     events = [EVENT.search(line) for line in history]
     named = [int(found[1]) for found in events if found]
     return 2 * len(named) == len(history) and len(set(named)) == len(named) and all(
@@ -76,31 +134,70 @@ def is_whole(text):
     )
 
 
-def run(program, text):
-    return subprocess.run([program, "run"], input=text, capture_output=True, text=True)
+def has_overlap(history):
+    """Whether a call begins before another has ended."""
+    busy = 0
+    for line in history:
+        client = CALL.search(line)
+        if client and client[1] == "invoke":
+            busy += 1
+        elif client:
+            busy -= 1
+        if busy > 1:
+            return True
+    return False
 
 
-def stress(program, runs):
-    lost = 0
+def call(program, words, text):
+    return subprocess.run([program, *words], input=text, capture_output=True, text=True, timeout=SECONDS)
+
+
+def ending(program, number, seed):
+    """How one run ended, and its history; `lost` and why where it was lost."""
+    text, words, is_small = plan(number, seed)
+    ran = call(program, ["run"], text)
+    if is_small and (ran.returncode, ran.stdout, ran.stderr) == (4, "", "jeprun: history full\n"):
+        return "history full", []
+    if ran.returncode not in (0, 1, 2) or ran.stderr:
+        return f"lost: status {ran.returncode} {ran.stderr.strip()}", []
+    lines = ran.stdout.splitlines()
+    history, judged = lines[:-3], lines[-1]
+    if not is_whole(history):
+        return "lost: a gap", []
+    again = call(program, ["check", *words], "\n".join(history))
+    if (again.returncode, again.stdout, again.stderr) != (ran.returncode, judged + "\n", ""):
+        return f"lost: judged {judged[:80]} and then {again.returncode} {again.stdout[:80]}{again.stderr.strip()}", []
+    return ("valid", "not valid", "unknown")[ran.returncode], history
+
+
+def stress(program, runs, seed):
+    ended, operations, overlaps, lost = collections.Counter(), 0, 0, 0
     for number in range(runs):
-        store = ("quorum", "lww", "local")[number % 3]
-        workload = list(CALLS)[number // 3 % 4]
-        ended = run(program, settings("threads", store, workload, 16, 200, schedule(number), 2000))
-        if ended.returncode not in (0, 1, 2) or not is_whole(ended.stdout):
+        try:
+            how, history = ending(program, number, seed)
+        except subprocess.TimeoutExpired:
+            how, history = "lost: over a minute", []
+        operations += len(history)
+        overlaps += has_overlap(history)
+        if how.startswith("lost"):
             lost += 1
-            print(f"run {number}: status {ended.returncode} {ended.stderr.strip()}")
-    print(f"{runs} runs of 16 clients, {lost} lost")
+            print(f"run {number}: {how}", flush=True)
+        else:
+            ended[how] += 1
+    counts = ", ".join(f"{count} {how}" for how, count in ended.most_common())
+    print(f"{runs} runs: {counts}, {lost} lost; {operations} operations, calls overlap in {overlaps} runs", flush=True)
     return lost
 
 
 def times(program):
+    calls = "[:mix [:forever :read] [:forever [:add 2]]]"
     for clients, mode in ((4, "threads"), (4, "serial"), (16, "threads"), (16, "serial")):
-        text = settings(mode, "quorum", "counter", clients, 10_000, [], 65_536)
+        text = settings(mode, "quorum", "counter", clients, 10_000, [], 65_536, ['"n1"', '"n2"', '"n3"'], calls)
         least, used = None, None
         for _ in range(5):
             before = resource.getrusage(resource.RUSAGE_CHILDREN)
             began = time.monotonic()
-            run(program, text)
+            call(program, ["run"], text)
             took = time.monotonic() - began
             after = resource.getrusage(resource.RUSAGE_CHILDREN)
             if least is None or took < least:
@@ -113,8 +210,9 @@ def main():
     parser = argparse.ArgumentParser(description=__doc__.splitlines()[0])
     parser.add_argument("program")
     parser.add_argument("--runs", type=int, default=1000)
+    parser.add_argument("--seed", type=int, default=0)
     arguments = parser.parse_args()
-    lost = stress(arguments.program, arguments.runs)
+    lost = stress(arguments.program, arguments.runs, arguments.seed)
     times(arguments.program)
     sys.exit(1 if lost else 0)
 
