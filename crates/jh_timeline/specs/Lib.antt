@@ -1,0 +1,6 @@
+pub mod Markup
+pub mod Labels
+pub mod Pictures
+pub mod Lanes
+pub mod Marks
+pub mod Page
