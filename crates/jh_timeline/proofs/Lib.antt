@@ -1,1 +1,2 @@
 mod MarkupLemmas
+mod LaneLemmas

@@ -1,10 +1,11 @@
 -- Which operations are drawn, and in which lanes (this project's own; that a process does one operation at a time is
 -- jepsen.history's). Indexes count the records of the whole history from 0.
 use Rattle.std.specs.Prelude.{◌≡◌, ℕ, ◌+◌, ◌<◌, Bool, true, false, ◌&&◌, ◌==◌, nat_le, nat_lt, List, [], ◌∷◌, ◌++◌, if◌then◌else◌, map, filter, find, MatchOption, Option, Some, None, unwrap_or}
-use Rattle.std.specs.List.{list_any}
+use Rattle.std.specs.List.{enumerate_from, list_any}
 use Rattle.jh_ops.specs.Operation.{Operation}
 use Rattle.jh_ops.specs.Pairing.{is_client, is_invoke}
 use Rattle.jh_ops.specs.declared.operation.Kind.{Kind}
+use Rattle.jh_ops.specs.declared.operation.Op.{Op}
 use Rattle.jh_ops.specs.declared.operation.Process.{Process}
 use Rattle.jh_timeline.specs.declared.picture.Bar.{Bar}
 use Rattle.jh_timeline.specs.declared.picture.Call.{Call}
@@ -80,3 +81,17 @@ TakeLanes before (bar ∷ bars) = TakesLane before bar × TakeLanes (before ++ b
 pub record AreBarsOf (window : Window) (history : List Operation) (bars : List Bar) : Type 0 where
   pub calls : map (λ bar. bar.call) bars ≡ calls_in window history
   pub lanes : TakeLanes [] bars
+
+-- ---- faults
+
+-- a process is the nemesis, and its record is drawn
+abbrev pub is_drawn_fault : Bool → Process → Bool
+is_drawn_fault drawn (Process.Client client) = false
+is_drawn_fault drawn Process.Nemesis = drawn
+
+abbrev pub is_fault : Window → ℕ → Op → Bool
+is_fault window index op = is_drawn_fault (is_within window index) op.process
+
+-- the indexes of the records of the nemesis in the window, in order
+abbrev pub faults_in : Window → List Op → List ℕ
+faults_in window history = map (λ numbered. numbered.0) (filter (λ numbered. is_fault window numbered.0 numbered.1) (enumerate_from 0 history))

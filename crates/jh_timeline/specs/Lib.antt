@@ -2,5 +2,6 @@ pub mod Markup
 pub mod Labels
 pub mod Pictures
 pub mod Lanes
+pub mod LanesInside
 pub mod Marks
 pub mod Page

@@ -3,6 +3,7 @@
 
 mod error;
 mod label;
+mod lanes;
 mod marks;
 mod markup;
 mod page;
@@ -10,6 +11,7 @@ mod picture;
 mod record;
 
 pub use error::PageError;
+pub use lanes::{bars_in, faults_in};
 pub use marks::{Mark, Note};
 pub use markup::{escaped_text_is_inert, write_escaped};
 pub use page::write_page;
