@@ -1,9 +1,9 @@
 -- The calls of a history, record by record from its end, and the lanes of bars, one by one.
-use Rattle.std.proofs.Common.{◌≡◌, ℕ, zero, suc, ◌+◌, ◌<◌, ◌≤◌, Bool, true, false, cond, eqb, List, [], ◌∷◌, ◌++◌, length, min, drop, take, get_or, map, reverse, Option, Some, None, refl, sym, ap, subst, ◌∙◌, arith, is_eq, append-nil, append_assoc, ltb, leb, set, length-append, length-set, get_or-set_same, get_or-set_other}
+use Rattle.std.proofs.Common.{◌≡◌, ℕ, zero, suc, ◌+◌, ◌<◌, ◌≤◌, Bool, true, false, cond, eqb, List, [], ◌∷◌, ◌++◌, length, min, drop, take, get_or, map, reverse, Option, Some, None, refl, sym, ap, subst, ◌∙◌, arith, is_eq, ◌⊎◌, inl, inr, append-nil, append_assoc, ltb, leb, set, length-append, length-set, get_or-set_same, get_or-set_other}
 use Rattle.std.specs.Prelude.{◌&&◌, ◌||◌, nat_le, nat_lt, filter, find, All, MatchOption, option_map, unwrap_or}
 use Rattle.std.specs.List.{list_any}
 use Rattle.std.specs.Option.{option_or}
-use Rattle.std.proofs.lemmas.List.Elements.{All-append, All-cons, All-head, All-tail}
+use Rattle.std.proofs.lemmas.List.Elements.{All-append, All-cons, All-push, All-head, All-tail}
 use Rattle.std.proofs.lemmas.List.Folds.{find-append, list_any-append}
 use Rattle.std.proofs.Math.Bool.{or-false, or-true}
 use Rattle.std.specs.Ordering.{nat_cmp}
@@ -17,7 +17,7 @@ use Rattle.jh_ops.specs.Pairing.{is_client, is_invoke}
 use Rattle.jh_ops.specs.declared.operation.Kind.{Kind}
 use Rattle.jh_ops.specs.declared.operation.Op.{Op}
 use Rattle.jh_ops.specs.declared.operation.Process.{Process}
-use Rattle.jh_timeline.specs.Lanes.{IsFirstFree, TakeLanes, TakesLane, first_bar, is_held, call_of, calls_from, calls_in, completion_in, is_within, last_in}
+use Rattle.jh_timeline.specs.Lanes.{AreApart, AreBarsOf, AreKeptApart, ends_at, IsFirstFree, TakeLanes, TakesLane, first_bar, is_held, call_of, calls_from, calls_in, completion_in, is_within, last_in}
 use Rattle.jh_timeline.specs.LanesInside.{AreInOrder, Follows, KeepsLane, Takes, TakesFree, ahead_in, ahead_with, call_with, calls_within, new_calls}
 use Rattle.jh_timeline.specs.declared.lanes.Ahead.{Ahead}
 use Rattle.jh_timeline.specs.declared.picture.Bar.{Bar}
@@ -483,6 +483,8 @@ laned_more old new ends later bars grown calls k lane d order below takes laned 
 pub record IsAhead (index : ℕ) (ops : List Operation) (call : Call) : Type 0 where
   pub invoke : index ≤ call.invoke
   pub last : last_in call.client index ops ≡ Some call.last
+  pub reach : call.invoke ≤ call.last
+  pub ended : (p : ℕ) → completion_in call.client index ops ≡ Some p → p < call.invoke
 
 all_weaker : (P Q : Call → Type 0) (calls : List Call) → ((call : Call) → P call → Q call) → All P calls → All Q calls
 all_weaker P Q calls f all = λ k d below. f (get_or calls k d) (all k d below)
@@ -498,42 +500,114 @@ last_more false i last o e = e
 self_eqb : (a : ℕ) → eqb a a ≡ true
 self_eqb a = eq-eqb a a refl
 
--- the same of the call of the record in front
-abbrev IsOwn : Process → ℕ → List Operation → Call → Type 0
-IsOwn process i ops call =
-    (i ≤ call.invoke) × (cond (is_client call.client process) (Some (unwrap_or (last_in call.client (i + 1) ops) i)) (last_in call.client (i + 1) ops) ≡ Some call.last)
+above_step : (t : Bool) (j z : ℕ) (o : Option ℕ) → ((w : ℕ) → o ≡ Some w → j + 1 ≤ w) → cond t (Some (unwrap_or o j)) o ≡ Some z → j ≤ z
+above_step true j z None h e = let same : j ≡ z = cc in omega arith
+above_step true j z (Some w) h e =
+    let same : w ≡ z = cc in
+    let low = h w refl in
+    omega (arith, low)
+above_step false j z o h e = let low = h z e in omega (arith, low)
 
-own_ahead : (kind : Kind) (process : Process) (i : ℕ) (ops : List Operation) → All (IsOwn process i ops) (call_of kind process i ops)
+last_above : (client j : ℕ) (ops : List Operation) (z : ℕ) → last_in client j ops ≡ Some z → j ≤ z
+last_above client j [] z e = absurd (let wrong : None ≡ Some z = e in cc)
+last_above client j (op ∷ ops) z e = above_step (is_client client op.process) j z (last_in client (j + 1) ops) (λ w is. last_above client (j + 1) ops w is) e
+
+-- a last record at that index or behind
+abbrev EndsBehind : ℕ → Option ℕ → Type 0
+EndsBehind p o = (z : ℕ) × (o ≡ Some z) × (p ≤ z)
+
+unwrap_above : (j : ℕ) (o : Option ℕ) → ((w : ℕ) → o ≡ Some w → j + 1 ≤ w) → j ≤ unwrap_or o j
+unwrap_above j None h = omega arith
+unwrap_above j (Some w) h = let low = h w refl in omega (arith, low)
+
+behind_step : (t k : Bool) (j p : ℕ) (c o : Option ℕ) → ((w : ℕ) → o ≡ Some w → j + 1 ≤ w) → (c ≡ Some p → EndsBehind p o)
+    → cond t (cond k None (Some j)) c ≡ Some p → EndsBehind p (cond t (Some (unwrap_or o j)) o)
+behind_step true true j p c o low h e = absurd (let wrong : None ≡ Some p = e in cc)
+behind_step true false j p c o low h e =
+    let same : j ≡ p = cc in
+    (unwrap_or o j, refl, subst (λ n. n ≤ unwrap_or o j) same (unwrap_above j o low))
+behind_step false k j p c o low h e = h e
+
+completion_last : (client j : ℕ) (ops : List Operation) (p : ℕ) → completion_in client j ops ≡ Some p → EndsBehind p (last_in client j ops)
+completion_last client j [] p e = absurd (let wrong : None ≡ Some p = e in cc)
+completion_last client j (op ∷ ops) p e =
+    behind_step (is_client client op.process) (is_invoke op.kind) j p (completion_in client (j + 1) ops) (last_in client (j + 1) ops)
+    (λ w is. last_above client (j + 1) ops w is) (λ is. completion_last client (j + 1) ops p is) e
+
+within_step : (i : ℕ) (c o : Option ℕ) → ((p : ℕ) → c ≡ Some p → EndsBehind p o) → ((w : ℕ) → o ≡ Some w → i + 1 ≤ w) → unwrap_or c i ≤ unwrap_or o i
+within_step i None o h low = unwrap_above i o low
+within_step i (Some p) o h low = let end = h p refl in rw end.1 end.2
+
+-- a call ends no later than its process
+ends_within : (client i : ℕ) (ops : List Operation) → unwrap_or (completion_in client (i + 1) ops) i ≤ unwrap_or (last_in client (i + 1) ops) i
+ends_within client i ops =
+    within_step i (completion_in client (i + 1) ops) (last_in client (i + 1) ops) (λ p is. completion_last client (i + 1) ops p is)
+    (λ w is. last_above client (i + 1) ops w is)
+
+ended_more : (t k : Bool) (i p invoke : ℕ) (c : Option ℕ) → i + 1 ≤ invoke → (c ≡ Some p → p < invoke) → cond t (cond k None (Some i)) c ≡ Some p → p < invoke
+ended_more true true i p invoke c low h e = absurd (let wrong : None ≡ Some p = e in cc)
+ended_more true false i p invoke c low h e = let same : i ≡ p = cc in omega arith
+ended_more false k i p invoke c low h e = h e
+
+ends_before : (i invoke : ℕ) (c : Option ℕ) → i + 1 ≤ invoke → ((p : ℕ) → c ≡ Some p → p < invoke) → unwrap_or c i < invoke
+ends_before i invoke None low h = omega arith
+ends_before i invoke (Some p) low h = h p refl
+
+-- the same of the call of the record in front
+pub record IsOwn (kind : Kind) (process : Process) (i : ℕ) (ops : List Operation) (call : Call) : Type 0 where
+  pub invoke : i ≤ call.invoke
+  pub last : cond (is_client call.client process) (Some (unwrap_or (last_in call.client (i + 1) ops) i)) (last_in call.client (i + 1) ops) ≡ Some call.last
+  pub reach : call.invoke ≤ call.last
+  pub ended : (p : ℕ) → cond (is_client call.client process) (cond (is_invoke kind) None (Some i)) (completion_in call.client (i + 1) ops) ≡ Some p → p < call.invoke
+
+abbrev front_call : ℕ → ℕ → List Operation → Call
+front_call client i ops = record { client = client; invoke = i; completion = completion_in client (i + 1) ops; last = unwrap_or (last_in client (i + 1) ops) i }
+
+no_end : (t : Bool) (i p : ℕ) (c : Option ℕ) → t ≡ true → cond t None c ≡ Some p → p < i
+no_end true i p c is e = absurd (let wrong : None ≡ Some p = e in cc)
+no_end false i p c is e = absurd (cc)
+
+own_ahead : (kind : Kind) (process : Process) (i : ℕ) (ops : List Operation) → All (IsOwn kind process i ops) (call_of kind process i ops)
 own_ahead Kind.Invoke (Process.Client client) i ops =
-    let call : Call = record { client = client; invoke = i; completion = completion_in client (i + 1) ops; last = unwrap_or (last_in client (i + 1) ops) i } in
-    let own : IsOwn (Process.Client client) i ops call =
-    (omega arith, ap (λ t. cond t (Some (unwrap_or (last_in client (i + 1) ops) i)) (last_in client (i + 1) ops)) (self_eqb client)) in
-    All-cons (IsOwn (Process.Client client) i ops) call [] own (all_none (IsOwn (Process.Client client) i ops))
-own_ahead Kind.Invoke Process.Nemesis i ops = all_none (IsOwn Process.Nemesis i ops)
-own_ahead Kind.Ok process i ops = all_none (IsOwn process i ops)
-own_ahead Kind.Fail process i ops = all_none (IsOwn process i ops)
-own_ahead Kind.Info process i ops = all_none (IsOwn process i ops)
+    let own : IsOwn Kind.Invoke (Process.Client client) i ops (front_call client i ops) = record {
+      invoke = omega arith;
+      last = ap (λ t. cond t (Some (unwrap_or (last_in client (i + 1) ops) i)) (last_in client (i + 1) ops)) (self_eqb client);
+      reach = unwrap_above i (last_in client (i + 1) ops) (λ w is. last_above client (i + 1) ops w is);
+      ended = λ p e. no_end (eqb client client) i p (completion_in client (i + 1) ops) (self_eqb client) e;
+    } in
+    All-cons (IsOwn Kind.Invoke (Process.Client client) i ops) (front_call client i ops) [] own (all_none (IsOwn Kind.Invoke (Process.Client client) i ops))
+own_ahead Kind.Invoke Process.Nemesis i ops = all_none (IsOwn Kind.Invoke Process.Nemesis i ops)
+own_ahead Kind.Ok process i ops = all_none (IsOwn Kind.Ok process i ops)
+own_ahead Kind.Fail process i ops = all_none (IsOwn Kind.Fail process i ops)
+own_ahead Kind.Info process i ops = all_none (IsOwn Kind.Info process i ops)
 
 all_ahead : (i : ℕ) (ops : List Operation) → All (IsAhead i ops) (calls_from i ops)
 all_ahead i [] = all_none (IsAhead i [])
 all_ahead i (op ∷ ops) =
     All-append (IsAhead i (op ∷ ops)) (call_of op.kind op.process i ops) (calls_from (i + 1) ops)
-    (all_weaker (IsOwn op.process i ops) (IsAhead i (op ∷ ops)) (call_of op.kind op.process i ops) (λ call own. record { invoke = own.0; last = own.1 }) (own_ahead op.kind op.process i ops))
+    (all_weaker (IsOwn op.kind op.process i ops) (IsAhead i (op ∷ ops)) (call_of op.kind op.process i ops)
+    (λ call own. record { invoke = own.invoke; last = own.last; reach = own.reach; ended = own.ended }) (own_ahead op.kind op.process i ops))
     (all_weaker (IsAhead (i + 1) ops) (IsAhead i (op ∷ ops)) (calls_from (i + 1) ops)
-    (λ call behind. record { invoke = let low = behind.invoke in omega (arith, low); last = last_more (is_client call.client op.process) i call.last (last_in call.client (i + 1) ops) behind.last })
-    (all_ahead (i + 1) ops))
+    (λ call behind. record {
+      invoke = let low = behind.invoke in omega (arith, low);
+      last = last_more (is_client call.client op.process) i call.last (last_in call.client (i + 1) ops) behind.last;
+      reach = behind.reach;
+      ended = λ p e. ended_more (is_client call.client op.process) (is_invoke op.kind) i p call.invoke (completion_in call.client (i + 1) ops) behind.invoke (λ is. behind.ended p is) e;
+    }) (all_ahead (i + 1) ops))
 
 own_order : (kind : Kind) (process : Process) (i : ℕ) (ops : List Operation) → All (IsAhead (i + 1) ops) (calls_from (i + 1) ops) → AreInOrder (calls_from (i + 1) ops)
     → AreInOrder (call_of kind process i ops ++ calls_from (i + 1) ops)
-own_order Kind.Invoke (Process.Client client) i ops ahead order =
-    let first : Call = record { client = client; invoke = i; completion = completion_in client (i + 1) ops; last = unwrap_or (last_in client (i + 1) ops) i } in (
-      all_weaker (IsAhead (i + 1) ops) (Follows first) (calls_from (i + 1) ops)
-          (λ later behind. record {
-            invoke = let low = behind.invoke in omega (arith, low);
-            last = λ same. ap (λ z. unwrap_or (last_in z (i + 1) ops) i) same ∙ ap (λ o. unwrap_or o i) behind.last;
-          }) ahead,
-      order,
-    )
+own_order Kind.Invoke (Process.Client client) i ops ahead order = (
+  all_weaker (IsAhead (i + 1) ops) (Follows (front_call client i ops)) (calls_from (i + 1) ops)
+      (λ later behind. record {
+        invoke = let low = behind.invoke in omega (arith, low);
+        last = λ same. ap (λ z. unwrap_or (last_in z (i + 1) ops) i) same ∙ ap (λ o. unwrap_or o i) behind.last;
+        ended = λ same. ends_before i later.invoke (completion_in client (i + 1) ops) behind.invoke (λ p is. behind.ended p (ap (λ z. completion_in z (i + 1) ops) (sym same) ∙ is));
+        within = ends_within client i ops;
+        reach = behind.reach;
+      }) ahead,
+  order,
+)
 own_order Kind.Invoke Process.Nemesis i ops ahead order = order
 own_order Kind.Ok process i ops ahead order = order
 own_order Kind.Fail process i ops ahead order = order
@@ -562,3 +636,164 @@ order_filtered p (c ∷ calls) order = step (p c) c (filter p calls) (all_filter
 -- the calls that begin in a window are in order
 pub within_order : (window : Window) (history : List Operation) → AreInOrder (calls_in window history)
 within_order window history = order_filtered (λ call. is_within window call.invoke) (calls_from 0 history) (calls_order 0 history)
+
+-- ---- bars of one lane are apart
+
+-- The processes of two bars in one lane are one, or the one has its last record before the other's bar begins.
+abbrev AreDisjoint : Bar → Bar → Type 0
+AreDisjoint a b = a.lane ≡ b.lane → (a.call.client ≡ b.call.client → ⊥) → (a.call.last < b.call.invoke) ⊎ (b.call.last < a.call.invoke)
+
+-- what is known of bars that took their lanes
+record Spread (bars : List Bar) : Type 0 where
+  one : All (λ b. option_map (λ x. x.lane) (first_bar b.call.client bars) ≡ Some b.lane) bars
+  disjoint : All (λ a. All (AreDisjoint a) bars) bars
+  apart : AreApart bars
+
+-- the process of an earlier bar in the lane of a new one, if it is another, has its last record before
+abbrev IsBehind : Bar → Bar → Type 0
+IsBehind bar b = b.lane ≡ bar.lane → (b.call.client ≡ bar.call.client → ⊥) → b.call.last < bar.call.invoke
+
+some_same : (a b : ℕ) → Some a ≡ Some b → a ≡ b
+some_same a b e = cc
+
+or_false_parts : (a b : Bool) → a || b ≡ false → (a ≡ false) × (b ≡ false)
+or_false_parts true b e = absurd (cc)
+or_false_parts false b e = (refl, e)
+
+none_any : (p : Bar → Bool) (bars : List Bar) → list_any p bars ≡ false → All (λ b. p b ≡ false) bars
+none_any p [] e = λ k d below. absurd (omega arith)
+none_any p (b ∷ bars) e =
+    let parts = or_false_parts (p b) (list_any p bars) e in
+    All-cons (λ x. p x ≡ false) b bars parts.0 (none_any p bars parts.1)
+
+leb_not : (a b : ℕ) → leb a b ≡ false → b < a
+leb_not a b e = grind (arith, nat_tests)
+
+past_test : (a lane index last : ℕ) → (eqb a lane && leb index last) ≡ false → a ≡ lane → last < index
+past_test a lane index last e same =
+    leb_not index last (sym (ap (λ t. t && leb index last) (eq-eqb a lane same)) ∙ e)
+
+behind_free : (bars : List Bar) (bar : Bar) → is_held bars bar.call.invoke bar.lane ≡ false → All (IsBehind bar) bars
+behind_free bars bar free =
+    let none = none_any (λ b. eqb b.lane bar.lane && leb bar.call.invoke b.call.last) bars free in
+    λ k d below same other. past_test (get_or bars k d).lane bar.lane bar.call.invoke (get_or bars k d).call.last (none k d below) same
+
+behind_one : (first b bar : Bar) → first.call.client ≡ bar.call.client → bar.lane ≡ first.lane → AreDisjoint first b → Follows first.call bar.call → Follows b.call bar.call → IsBehind bar b
+behind_one first b bar client lane disjoint follows later same other =
+    let order : (first.call.last < b.call.invoke) ⊎ (b.call.last < first.call.invoke) =
+    disjoint (sym lane ∙ sym same) (λ one. other (sym one ∙ client)) in
+    let last : first.call.last ≡ bar.call.last = follows.last client in
+    let begin : first.call.invoke < bar.call.invoke = follows.invoke in
+    let reach : bar.call.invoke ≤ bar.call.last = follows.reach in
+    let before : b.call.invoke < bar.call.invoke = later.invoke in
+    elim order as (λ _. b.call.last < bar.call.invoke) [ inl early ↦ absurd (omega arith) | inr late ↦ omega arith ]
+
+behind_all : (bars : List Bar) (bar : Bar) (o : Option Bar) → first_bar bar.call.client bars ≡ o
+    → MatchOption o (IsFirstFree bars bar.call.invoke bar.lane) (λ first. bar.lane ≡ first.lane) → Spread bars → All (λ b. Follows b.call bar.call) bars → All (IsBehind bar) bars
+behind_all bars bar None is takes spread follows = behind_free bars bar takes.free
+behind_all bars bar (Some first) is takes spread follows =
+    let both : All (λ a. All (AreDisjoint a) bars × Follows a.call bar.call) bars = λ k d below. (spread.disjoint k d below, follows k d below) in
+    let found = found_is (λ a. All (AreDisjoint a) bars × Follows a.call bar.call) (λ b. eqb bar.call.client b.call.client) bars first both is in
+    let client : first.call.client ≡ bar.call.client = sym (equal bar.call.client first.call.client found.passes) in
+    λ k d below. behind_one first (get_or bars k d) bar client takes (found.holds.0 k d below) found.holds.1 (follows k d below)
+
+lane_kept : (o p : Option Bar) (lane : ℕ) → option_map (λ x. x.lane) o ≡ Some lane → option_map (λ x. x.lane) (option_or o p) ≡ Some lane
+lane_kept None p lane e = absurd (let wrong : None ≡ Some lane = e in cc)
+lane_kept (Some b) p lane e = e
+
+lane_taken : (o : Option Bar) (bar : Bar) (P : Type 0) (t : Bool) → t ≡ true → MatchOption o P (λ first. bar.lane ≡ first.lane)
+    → option_map (λ x. x.lane) (option_or o (cond t (Some bar) None)) ≡ Some bar.lane
+lane_taken None bar P true is takes = refl
+lane_taken None bar P false is takes = absurd (cc)
+lane_taken (Some first) bar P t is takes = ap (λ n. Some n) (sym takes)
+
+ends_by : (t : Bool) (b bar : Bar) → eqb b.call.client bar.call.client ≡ t → Follows b.call bar.call → IsBehind bar b → b.lane ≡ bar.lane → ends_at b.call < bar.call.invoke
+ends_by true b bar is follows behind same = follows.ended (equal b.call.client bar.call.client is)
+ends_by false b bar is follows behind same =
+    let early : b.call.last < bar.call.invoke = behind same (λ e. differ b.call.client bar.call.client is e) in
+    let within : ends_at b.call ≤ b.call.last = follows.within in
+    omega arith
+
+ends_first : (b bar : Bar) → Follows b.call bar.call → IsBehind bar b → b.lane ≡ bar.lane → ends_at b.call < bar.call.invoke
+ends_first b bar = ends_by (eqb b.call.client bar.call.client) b bar refl
+
+apart_at : (t : Bool) (bars : List Bar) (bar : Bar) (j k : ℕ) (d : Bar) → ltb k (length bars) ≡ t → AreApart bars → All (λ b. Follows b.call bar.call) bars → All (IsBehind bar) bars
+    → j < k → k < length bars + 1 → (get_or bars j d).lane ≡ (get_or (bars ++ bar ∷ []) k d).lane → ends_at (get_or bars j d).call < (get_or (bars ++ bar ∷ []) k d).call.invoke
+apart_at true bars bar j k d is apart follows behind before below same =
+    let low : k < length bars = ltb_is k (length bars) is in
+    let right : get_or (bars ++ bar ∷ []) k d ≡ get_or bars k d = get_or_append_left bars (bar ∷ []) d k low in
+    subst (λ b. ends_at (get_or bars j d).call < b.call.invoke) (sym right) (apart j k d before low (same ∙ ap (λ b. b.lane) right))
+apart_at false bars bar j k d is apart follows behind before below same =
+    let high : length bars ≤ k = ltb_not k (length bars) is in
+    let at : k ≡ length bars = omega arith in
+    let right : get_or (bars ++ bar ∷ []) k d ≡ bar = ap (λ n. get_or (bars ++ bar ∷ []) n d) at ∙ get_or-append_seam bars bar [] d in
+    let inside : j < length bars = omega arith in
+    subst (λ b. ends_at (get_or bars j d).call < b.call.invoke) (sym right)
+    (ends_first (get_or bars j d) bar (follows j d inside) (behind j d inside) (same ∙ ap (λ b. b.lane) right))
+
+apart_more : (bars : List Bar) (bar : Bar) → AreApart bars → All (λ b. Follows b.call bar.call) bars → All (IsBehind bar) bars → AreApart (bars ++ bar ∷ [])
+apart_more bars bar apart follows behind = λ j k d before below same.
+    let long : length (bars ++ bar ∷ []) ≡ length bars + 1 = simp length-append in
+    let left : get_or (bars ++ bar ∷ []) j d ≡ get_or bars j d = get_or_append_left bars (bar ∷ []) d j (omega (arith, long)) in
+    let shorter : k < length bars + 1 = omega (arith, long) in
+    subst (λ b. ends_at b.call < (get_or (bars ++ bar ∷ []) k d).call.invoke) (sym left)
+    (apart_at (ltb k (length bars)) bars bar j k d refl apart follows behind before shorter (sym (ap (λ b. b.lane) left) ∙ same))
+
+spread_more : (bars : List Bar) (bar : Bar) → Spread bars → TakesLane bars bar → All (λ b. Follows b.call bar.call) bars → Spread (bars ++ bar ∷ [])
+spread_more bars bar spread takes follows =
+    let behind = behind_all bars bar (first_bar bar.call.client bars) refl takes spread follows in
+    record {
+      one =
+          All-push (λ b. option_map (λ x. x.lane) (first_bar b.call.client (bars ++ bar ∷ [])) ≡ Some b.lane) bars bar
+          (λ k d below.
+          let b = get_or bars k d in
+          ap (option_map (λ x. x.lane)) (first_snoc b.call.client bars bar)
+          ∙ lane_kept (first_bar b.call.client bars) (cond (eqb b.call.client bar.call.client) (Some bar) None) b.lane (spread.one k d below))
+          (ap (option_map (λ x. x.lane)) (first_snoc bar.call.client bars bar)
+          ∙ lane_taken (first_bar bar.call.client bars) bar (IsFirstFree bars bar.call.invoke bar.lane) (eqb bar.call.client bar.call.client) (self_eqb bar.call.client) takes);
+      disjoint =
+          All-push (λ a. All (AreDisjoint a) (bars ++ bar ∷ [])) bars bar
+          (λ k d below. All-push (AreDisjoint (get_or bars k d)) bars bar (spread.disjoint k d below) (λ same other. inl (behind k d below same other)))
+          (All-push (AreDisjoint bar) bars bar (λ k d below same other. inr (behind k d below (sym same) (λ one. other (sym one)))) (λ same other. absurd (other refl)));
+      apart = apart_more bars bar spread.apart follows behind;
+    }
+
+spread_none : Spread []
+spread_none = record {
+  one = λ k d below. absurd (omega arith);
+  disjoint = λ k d below. absurd (omega arith);
+  apart = λ j k d before below same. absurd (omega arith);
+}
+
+all_mid : (P : Call → Type 0) (xs ys : List Call) (c : Call) → All P (xs ++ c ∷ ys) → P c
+all_mid P [] ys c all = All-head P c ys all
+all_mid P (x ∷ xs) ys c all = all_mid P xs ys c (All-tail P x (xs ++ c ∷ ys) all)
+
+order_mid : (xs ys : List Call) (c : Call) → AreInOrder (xs ++ c ∷ ys) → All (λ x. Follows x c) xs
+order_mid [] ys c order = all_none (λ x. Follows x c)
+order_mid (x ∷ xs) ys c order = All-cons (λ a. Follows a c) x xs (all_mid (Follows x) xs ys c order.0) (order_mid xs ys c order.1)
+
+all_mapped : (c : Call) (bars : List Bar) → All (λ x. Follows x c) (map (λ b. b.call) bars) → All (λ b. Follows b.call c) bars
+all_mapped c [] all = λ k d below. absurd (omega arith)
+all_mapped c (b ∷ bars) all =
+    All-cons (λ x. Follows x.call c) b bars (All-head (λ x. Follows x c) b.call (map (λ x. x.call) bars) all)
+    (all_mapped c bars (All-tail (λ x. Follows x c) b.call (map (λ x. x.call) bars) all))
+
+spread_all : (before bars : List Bar) → Spread before → TakeLanes before bars → AreInOrder (map (λ b. b.call) (before ++ bars)) → Spread (before ++ bars)
+spread_all before [] spread takes order = subst Spread (sym (append-nil before)) spread
+spread_all before (bar ∷ bars) spread takes order =
+    let calls : map (λ b. b.call) (before ++ bar ∷ bars) ≡ map (λ b. b.call) before ++ bar.call ∷ map (λ b. b.call) bars = map-append (λ (b : Bar). b.call) before (bar ∷ bars) in
+    let follows = all_mapped bar.call before (order_mid (map (λ b. b.call) before) (map (λ b. b.call) bars) bar.call (subst AreInOrder calls order)) in
+    let whole : (before ++ bar ∷ []) ++ bars ≡ before ++ bar ∷ bars = append_assoc before (bar ∷ []) bars in
+    subst Spread whole
+    (spread_all (before ++ bar ∷ []) bars (spread_more before bar spread takes.0 follows) takes.1 (subst (λ bs. AreInOrder (map (λ b. b.call) bs)) (sym whole) order))
+
+pub kept_apart : (window : Window) (history : List Operation) (bars : List Bar) → AreBarsOf window history bars → AreKeptApart bars
+kept_apart window history bars are =
+    let spread = spread_all [] bars spread_none are.lanes (subst AreInOrder (sym are.calls) (within_order window history)) in
+    record {
+      apart = spread.apart;
+      one_lane = λ j k d left right same.
+          some_same (get_or bars j d).lane (get_or bars k d).lane
+          (sym (spread.one j d left) ∙ ap (λ c. option_map (λ x. x.lane) (first_bar c bars)) same ∙ spread.one k d right);
+    }

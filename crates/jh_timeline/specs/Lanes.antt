@@ -1,6 +1,6 @@
 -- Which operations are drawn, and in which lanes (this project's own; that a process does one operation at a time is
 -- jepsen.history's). Indexes count the records of the whole history from 0.
-use Rattle.std.specs.Prelude.{◌≡◌, ℕ, ◌+◌, ◌<◌, Bool, true, false, ◌&&◌, ◌==◌, nat_le, nat_lt, List, [], ◌∷◌, ◌++◌, if◌then◌else◌, map, filter, find, MatchOption, Option, Some, None, unwrap_or}
+use Rattle.std.specs.Prelude.{◌≡◌, ℕ, ◌+◌, ◌<◌, Bool, true, false, ◌&&◌, ◌==◌, nat_le, nat_lt, List, [], ◌∷◌, ◌++◌, if◌then◌else◌, length, map, filter, find, slice_index_or, MatchOption, Option, Some, None, unwrap_or}
 use Rattle.std.specs.List.{enumerate_from, list_any}
 use Rattle.jh_ops.specs.Operation.{Operation}
 use Rattle.jh_ops.specs.Pairing.{is_client, is_invoke}
@@ -95,3 +95,25 @@ is_fault window index op = is_drawn_fault (is_within window index) op.process
 -- the indexes of the records of the nemesis in the window, in order
 abbrev pub faults_in : Window → List Op → List ℕ
 faults_in window history = map (λ numbered. numbered.0) (filter (λ numbered. is_fault window numbered.0 numbered.1) (enumerate_from 0 history))
+
+-- ---- what lanes are proved to be
+
+-- the index of a call's last record: that of its completion, if it has one
+abbrev pub ends_at : Call → ℕ
+ends_at call = unwrap_or call.completion call.invoke
+
+-- Of two bars in one lane the later begins below the end of the earlier.
+abbrev pub AreApart : List Bar → Type 0
+AreApart bars =
+    (j k : ℕ) (d : Bar) → j < k → k < length bars → (slice_index_or bars j d).lane ≡ (slice_index_or bars k d).lane
+    → ends_at (slice_index_or bars j d).call < (slice_index_or bars k d).call.invoke
+
+-- All bars of a process have one lane.
+abbrev pub HaveOneLane : List Bar → Type 0
+HaveOneLane bars =
+    (j k : ℕ) (d : Bar) → j < length bars → k < length bars → (slice_index_or bars j d).call.client ≡ (slice_index_or bars k d).call.client
+    → (slice_index_or bars j d).lane ≡ (slice_index_or bars k d).lane
+
+pub record AreKeptApart (bars : List Bar) : Type 0 where
+  pub apart : AreApart bars
+  pub one_lane : HaveOneLane bars

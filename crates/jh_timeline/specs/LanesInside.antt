@@ -6,7 +6,7 @@ use Rattle.jh_ops.specs.Operation.{Operation}
 use Rattle.jh_ops.specs.Pairing.{is_client, is_invoke}
 use Rattle.jh_ops.specs.declared.operation.Kind.{Kind}
 use Rattle.jh_ops.specs.declared.operation.Process.{Process}
-use Rattle.jh_timeline.specs.Lanes.{calls_from, completion_in, is_within, last_in}
+use Rattle.jh_timeline.specs.Lanes.{calls_from, completion_in, ends_at, is_within, last_in}
 use Rattle.jh_timeline.specs.declared.lanes.Ahead.{Ahead}
 use Rattle.jh_timeline.specs.declared.picture.Call.{Call}
 use Rattle.jh_timeline.specs.declared.picture.Window.{Window}
@@ -35,10 +35,14 @@ new_calls drawn _ client index behind = []
 abbrev pub calls_within : Window → ℕ → List Operation → List Call
 calls_within window index records = filter (λ call. is_within window call.invoke) (calls_from index records)
 
--- a call after another: it begins later, and if both are of one client, they have one last record
+-- A call after another: it begins later, and if both are of one client, behind the end of the earlier, and they have one last
+-- record.
 pub record Follows (earlier later : Call) : Type 0 where
   pub invoke : earlier.invoke < later.invoke
   pub last : earlier.client ≡ later.client → earlier.last ≡ later.last
+  pub ended : earlier.client ≡ later.client → ends_at earlier < later.invoke
+  pub within : ends_at earlier ≤ earlier.last
+  pub reach : later.invoke ≤ later.last
 
 abbrev pub AreInOrder : List Call → Type 0
 AreInOrder [] = Unit {0}

@@ -3,7 +3,7 @@
 ghost use Rattle.std.specs.Prelude.{◌≡◌, ℕ, ◌<◌, ◌≤◌, [], ◌∷◌, ◌++◌, IfOk, OnOk, if◌then◌else◌, length, map, nat_lt, slice_index, slice_set};
 ghost use Rattle.jh_ops.specs.Operation.{operations};
 ghost use Rattle.jh_timeline.specs.Lanes as rule;
-ghost use Rattle.jh_timeline.specs.Lanes.{AreBarsOf, TakeLanes};
+ghost use Rattle.jh_timeline.specs.Lanes.{AreBarsOf, AreKeptApart, TakeLanes};
 ghost use Rattle.jh_timeline.specs.LanesInside as inside;
 ghost use Rattle.jh_timeline.specs.LanesInside.{AreInOrder, Takes, new_calls};
 
@@ -181,7 +181,8 @@ fn bars_of(alloc: Global, calls: &[Call]) -> Result<Vec<Bar>, AllocError>
 ///
 /// Errors: where memory runs out.
 pub fn bars_in(alloc: Global, window: Window, history: &[Op]) -> Result<Vec<Bar>, AllocError>
-    ensures { IfOk result (λ bars. AreBarsOf window (operations history.now) bars.items) }
+    ensures drawn { IfOk result (λ bars. AreBarsOf window (operations history.now) bars.items) }
+    ensures apart { IfOk result (λ bars. AreKeptApart bars.items) }
 {
     let calls = calls_in(alloc, window, history)?;
     bars_of(alloc, &calls)
