@@ -8,7 +8,7 @@ use Rattle.std.proofs.lemmas.List.Folds.{find-append, list_any-append}
 use Rattle.std.proofs.Math.Bool.{or-false, or-true}
 use Rattle.std.specs.Ordering.{nat_cmp}
 use Rattle.std.specs.BTreeMap.{BTreeMap, get, Updates}
-use Rattle.std.proofs.lemmas.Bool.{cases_eq, eq-eqb, ne_eqb}
+use Rattle.std.proofs.lemmas.Bool.{eq-eqb}
 use Rattle.std.proofs.lemmas.Bool.Decides.{nat_tests}
 use Rattle.std.proofs.lemmas.List.{get_or-map, get_or-take, get_or_append_left, length-map, length-take, map-append, reverse-append, take_more}
 use Rattle.std.proofs.Math.Seq.{get_or-append_seam}

@@ -1,11 +1,10 @@
 -- What is kept on the way to the calls of a history, and what bars are made of: proofs rest on it, and no public clause names it.
-use Rattle.std.specs.Prelude.{◌≡◌, ℕ, ◌+◌, ◌<◌, ◌≤◌, Bool, nat_lt, List, [], ◌∷◌, ◌++◌, if◌then◌else◌, filter, length, slice_index, slice_set, All, MatchOption, Option, Some, None, option_map}
+use Rattle.std.specs.Prelude.{◌≡◌, ℕ, ◌<◌, ◌≤◌, Bool, nat_lt, List, [], ◌∷◌, ◌++◌, if◌then◌else◌, filter, length, slice_index, slice_set, All, MatchOption, Option, Some, None, option_map}
 use Rattle.std.specs.BTreeMap.{BTreeMap, get, Updates}
 use Rattle.std.specs.Ordering.{nat_cmp}
 use Rattle.jh_ops.specs.Operation.{Operation}
-use Rattle.jh_ops.specs.Pairing.{is_client, is_invoke}
+use Rattle.jh_ops.specs.Pairing.{is_invoke}
 use Rattle.jh_ops.specs.declared.operation.Kind.{Kind}
-use Rattle.jh_ops.specs.declared.operation.Process.{Process}
 use Rattle.jh_timeline.specs.Lanes.{calls_from, completion_in, ends_at, is_within, last_in}
 use Rattle.jh_timeline.specs.declared.lanes.Ahead.{Ahead}
 use Rattle.jh_timeline.specs.declared.picture.Call.{Call}

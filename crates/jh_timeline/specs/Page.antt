@@ -1,5 +1,5 @@
 -- The page of a history, byte for byte (this project's own; HTML that is XML too, with one picture in SVG).
-use Rattle.std.specs.Prelude.{ℕ, ◌+◌, ◌-◌, ◌*◌, List, [], ◌∷◌, ◌++◌, codes, length, slice_get, vec_len, Option, Some, None, option_map, option_and_then}
+use Rattle.std.specs.Prelude.{ℕ, List, [], ◌++◌, codes, length, slice_get, vec_len, Option, Some, None, option_map, option_and_then}
 use Rattle.std.specs.Fmt.{decimal}
 use Rattle.std.specs.List.{flat_map}
 use Rattle.jh_edn.specs.Edn.{Edn}
@@ -15,7 +15,6 @@ use Rattle.jh_timeline.specs.declared.page.TheConstants.{BODY, OPENING, STYLE}
 use Rattle.jh_timeline.specs.declared.picture.Bar.{Bar}
 use Rattle.jh_timeline.specs.declared.picture.Lane.{Lane}
 use Rattle.jh_timeline.specs.declared.picture.Picture.{Picture}
-use Rattle.jh_timeline.specs.declared.picture.TheConstants.{LANE_WIDTH, ROW_HEIGHT}
 use Rattle.jh_timeline.specs.declared.picture.Window.{Window}
 
 -- ---- bars

@@ -1,5 +1,5 @@
 -- What of a history is drawn, and where (this project's own; that a process does one operation at a time is jepsen.history's).
-use Rattle.std.specs.Prelude.{ℕ, ◌+◌, ◌-◌, ◌*◌, min, Option}
+use Rattle.std.specs.Prelude.{ℕ, ◌+◌, ◌-◌, ◌*◌, min}
 use Rattle.std.specs.Option.{option_map_or}
 use Rattle.jh_timeline.specs.declared.picture.Call.{Call}
 use Rattle.jh_timeline.specs.declared.picture.TheConstants.{LANE_WIDTH, ROW_HEIGHT}

@@ -1,4 +1,4 @@
-use Rattle.std.proofs.Common.{◌≡◌, ◌∙◌, [], map, subst, sym, Vec, Global, Result, Ok, Err, IfOk}
+use Rattle.std.proofs.Common.{◌≡◌, ◌∙◌, [], map, subst, sym, Result, Ok, Err, IfOk}
 use Rattle.jh_ops.specs.Operation.{operations}
 use Rattle.jh_timeline.specs.Lanes.{AreBarsOf, AreKeptApart, TakeLanes}
 use Rattle.jh_timeline.specs.LanesInside.{AreInOrder}
