@@ -1,12 +1,14 @@
 -- The calls of a history, record by record from its end, and the lanes of bars, one by one.
 use Rattle.std.proofs.Common.{◌≡◌, ℕ, zero, suc, ◌+◌, ◌<◌, ◌≤◌, Bool, true, false, cond, eqb, List, [], ◌∷◌, ◌++◌, length, min, drop, take, get_or, map, reverse, Option, Some, None, refl, sym, ap, subst, ◌∙◌, arith, is_eq, ◌⊎◌, inl, inr, append-nil, append_assoc, ltb, leb, set, length-append, length-set, get_or-set_same, get_or-set_other}
-use Rattle.std.specs.Prelude.{◌&&◌, ◌||◌, nat_le, nat_lt, filter, find, All, MatchOption, option_map, unwrap_or}
+use Rattle.std.specs.Prelude.{is_none, is_some, not, ◌&&◌, ◌||◌, nat_le, nat_lt, filter, find, All, MatchOption, option_map, unwrap_or}
 use Rattle.std.specs.List.{list_any}
 use Rattle.std.specs.Option.{option_or}
-use Rattle.std.proofs.lemmas.List.Elements.{All-append, All-cons, All-push, All-head, All-tail}
+use Rattle.std.proofs.lemmas.List.Elements.{filter-append, All-append, All-cons, All-push, All-head, All-tail}
 use Rattle.std.proofs.lemmas.List.Folds.{find-append, list_any-append}
 use Rattle.std.proofs.Math.Bool.{or-false, or-true}
 use Rattle.std.specs.Ordering.{nat_cmp}
+use Rattle.std.specs.BTreeSet as sets
+use Rattle.std.specs.BTreeSet.{BTreeSet}
 use Rattle.std.specs.BTreeMap.{BTreeMap, get, Updates}
 use Rattle.std.proofs.lemmas.Bool.{eq-eqb}
 use Rattle.std.proofs.lemmas.Bool.Decides.{nat_tests}
@@ -17,11 +19,12 @@ use Rattle.jh_ops.specs.Pairing.{is_client, is_invoke}
 use Rattle.jh_ops.specs.declared.operation.Kind.{Kind}
 use Rattle.jh_ops.specs.declared.operation.Op.{Op}
 use Rattle.jh_ops.specs.declared.operation.Process.{Process}
-use Rattle.jh_timeline.specs.Lanes.{AreApart, AreBarsOf, AreKeptApart, ends_at, IsFirstFree, TakeLanes, TakesLane, first_bar, is_held, call_of, calls_from, calls_in, completion_in, is_within, last_in}
+use Rattle.jh_timeline.specs.Lanes.{first_bars, clients_of, lane_clients, AreApart, AreBarsOf, AreKeptApart, ends_at, IsFirstFree, TakeLanes, TakesLane, first_bar, is_held, call_of, calls_from, calls_in, completion_in, is_within, last_in}
 use Rattle.jh_timeline.specs.LanesInside.{AreInOrder, Follows, KeepsLane, Takes, TakesFree, ahead_in, ahead_with, call_with, calls_within, new_calls}
 use Rattle.jh_timeline.specs.declared.lanes.Ahead.{Ahead}
 use Rattle.jh_timeline.specs.declared.picture.Bar.{Bar}
 use Rattle.jh_timeline.specs.declared.picture.Call.{Call}
+use Rattle.jh_timeline.specs.declared.picture.Lane.{Lane}
 use Rattle.jh_timeline.specs.declared.picture.Window.{Window}
 
 -- ---- calls
@@ -797,3 +800,121 @@ kept_apart window history bars are =
           some_same (get_or bars j d).lane (get_or bars k d).lane
           (sym (spread.one j d left) ∙ ap (λ c. option_map (λ x. x.lane) (first_bar c bars)) same ∙ spread.one k d right);
     }
+
+-- ---- the processes of a lane
+
+firsts_snoc : (before bars : List Bar) (bar : Bar)
+    → first_bars before (bars ++ bar ∷ []) ≡ first_bars before bars ++ cond (is_none (first_bar bar.call.client (before ++ bars))) (bar ∷ []) []
+firsts_snoc before [] bar =
+    append-nil (cond (is_none (first_bar bar.call.client before)) (bar ∷ []) [])
+    ∙ ap (λ bs. cond (is_none (first_bar bar.call.client bs)) (bar ∷ []) []) (sym (append-nil before))
+firsts_snoc before (b ∷ bars) bar =
+    let head = cond (is_none (first_bar b.call.client before)) (b ∷ []) [] in
+    ap (λ ws. head ++ ws) (firsts_snoc (before ++ b ∷ []) bars bar
+    ∙ ap (λ bs. first_bars (before ++ b ∷ []) bars ++ cond (is_none (first_bar bar.call.client bs)) (bar ∷ []) []) (append_assoc before (b ∷ []) bars))
+    ∙ sym (append_assoc head (first_bars (before ++ b ∷ []) bars) (cond (is_none (first_bar bar.call.client (before ++ b ∷ bars))) (bar ∷ []) []))
+
+one_client : (lane : ℕ) (t : Bool) (bar : Bar)
+    → map (λ b. b.call.client) (filter (λ b. eqb b.lane lane) (cond t (bar ∷ []) [])) ≡ cond t (cond (eqb bar.lane lane) (bar.call.client ∷ []) []) []
+one_client lane true bar = by_lane (eqb bar.lane lane) bar
+  where
+    by_lane : (t : Bool) (bar : Bar) → map (λ b. b.call.client) (cond t (bar ∷ []) []) ≡ cond t (bar.call.client ∷ []) []
+    by_lane true bar = refl
+    by_lane false bar = refl
+one_client lane false bar = refl
+
+clients_snoc : (lane : ℕ) (bars : List Bar) (bar : Bar)
+    → clients_of lane (bars ++ bar ∷ []) ≡ clients_of lane bars ++ cond (is_none (first_bar bar.call.client bars)) (cond (eqb bar.lane lane) (bar.call.client ∷ []) []) []
+clients_snoc lane bars bar =
+    let new = cond (is_none (first_bar bar.call.client bars)) (bar ∷ []) [] in
+    let keeps : Bar → Bool = λ b. eqb b.lane lane in
+    ap (λ bs. map (λ b. b.call.client) (filter keeps bs)) (firsts_snoc [] bars bar)
+    ∙ ap (map (λ b. b.call.client)) (filter-append keeps (first_bars [] bars) new)
+    ∙ map-append (λ (b : Bar). b.call.client) (filter keeps (first_bars [] bars)) (filter keeps new)
+    ∙ ap (λ ws. clients_of lane bars ++ ws) (one_client lane (is_none (first_bar bar.call.client bars)) bar)
+
+some_or : (o : Option Bar) (t : Bool) (bar : Bar) → is_some (option_or o (cond t (Some bar) None)) ≡ is_some o || t
+some_or None true bar = refl
+some_or None false bar = refl
+some_or (Some b) t bar = refl
+
+seen_snoc : (client : ℕ) (bars : List Bar) (bar : Bar) → is_some (first_bar client (bars ++ bar ∷ [])) ≡ is_some (first_bar client bars) || eqb client bar.call.client
+seen_snoc client bars bar = ap is_some (first_snoc client bars bar) ∙ some_or (first_bar client bars) (eqb client bar.call.client) bar
+
+-- what is kept of the bars so far: which processes they are of, and which each lane had
+pub record Listed (seen : ℕ → Bool) (lanes : List Lane) (bars : List Bar) : Type 0 where
+  pub seen_all : (client : ℕ) → seen client ≡ is_some (first_bar client bars)
+  pub listed : (lane : ℕ) → lane_clients lane lanes ≡ clients_of lane bars
+
+none_is : (o : Option Bar) (t : Bool) → is_some o ≡ t → is_none o ≡ not t
+none_is None t e = ap not e
+none_is (Some b) t e = ap not e
+
+seen_more : (old new : ℕ → Bool) (bars : List Bar) (bar : Bar) → ((client : ℕ) → old client ≡ is_some (first_bar client bars)) → new bar.call.client ≡ true
+    → ((other : ℕ) → (bar.call.client ≡ other → ⊥) → new other ≡ old other) → (client : ℕ) → new client ≡ is_some (first_bar client (bars ++ bar ∷ []))
+seen_more old new bars bar seen here apart client = by_client (eqb client bar.call.client) refl ∙ sym (seen_snoc client bars bar)
+  where
+    by_client : (t : Bool) → eqb client bar.call.client ≡ t → new client ≡ is_some (first_bar client bars) || eqb client bar.call.client
+    by_client true is =
+        let same : client ≡ bar.call.client = equal client bar.call.client is in
+        ap new same ∙ here ∙ sym (ap (λ t. is_some (first_bar client bars) || t) is ∙ or-true (is_some (first_bar client bars)))
+    by_client false is =
+        apart client (λ e. differ client bar.call.client is (sym e)) ∙ seen client
+        ∙ sym (ap (λ t. is_some (first_bar client bars) || t) is ∙ or-false (is_some (first_bar client bars)))
+
+pub listed_new : (old new : ℕ → Bool) (lanes longer : List Lane) (bars : List Bar) (bar : Bar) → Listed old lanes bars → old bar.call.client ≡ false
+    → new bar.call.client ≡ true → ((other : ℕ) → (bar.call.client ≡ other → ⊥) → new other ≡ old other)
+    → ((lane : ℕ) → lane_clients lane longer ≡ lane_clients lane lanes ++ cond (eqb bar.lane lane) (bar.call.client ∷ []) []) → Listed new longer (bars ++ bar ∷ [])
+listed_new old new lanes longer bars bar listed unseen here apart added = record {
+  seen_all = seen_more old new bars bar listed.seen_all here apart;
+  listed = λ lane.
+      let none : is_none (first_bar bar.call.client bars) ≡ true = none_is (first_bar bar.call.client bars) false (sym (listed.seen_all bar.call.client) ∙ unseen) in
+      added lane ∙ ap (λ ws. ws ++ cond (eqb bar.lane lane) (bar.call.client ∷ []) []) (listed.listed lane)
+      ∙ sym (clients_snoc lane bars bar ∙ ap (λ t. clients_of lane bars ++ cond t (cond (eqb bar.lane lane) (bar.call.client ∷ []) []) []) none);
+}
+
+pub listed_known : (old new : ℕ → Bool) (lanes : List Lane) (bars : List Bar) (bar : Bar) → Listed old lanes bars → old bar.call.client ≡ true
+    → ((other : ℕ) → new other ≡ old other) → Listed new lanes (bars ++ bar ∷ [])
+listed_known old new lanes bars bar listed known same = record {
+  seen_all = seen_more old new bars bar listed.seen_all (same bar.call.client ∙ known) (λ other apart. same other);
+  listed = λ lane.
+      let some : is_none (first_bar bar.call.client bars) ≡ false = none_is (first_bar bar.call.client bars) true (sym (listed.seen_all bar.call.client) ∙ known) in
+      listed.listed lane ∙ sym (clients_snoc lane bars bar ∙ ap (λ t. clients_of lane bars ++ cond t (cond (eqb bar.lane lane) (bar.call.client ∷ []) []) []) some ∙ append-nil (clients_of lane bars));
+}
+
+not_true : (b : Bool) → not b ≡ true → b ≡ false
+not_true true e = absurd (cc)
+not_true false e = refl
+
+not_false : (b : Bool) → not b ≡ false → b ≡ true
+not_false true e = refl
+not_false false e = absurd (cc)
+
+known_by : (t : Bool) (old new : BTreeSet ℕ) (client other : ℕ) → eqb client other ≡ t → sets.Updates nat_cmp old new client true → sets.contains nat_cmp old client ≡ true
+    → sets.contains nat_cmp new other ≡ sets.contains nat_cmp old other
+known_by true old new client other is updates known =
+    let same : client ≡ other = equal client other is in
+    ap (sets.contains nat_cmp new) (sym same) ∙ updates.1 ∙ sym known ∙ ap (sets.contains nat_cmp old) same
+known_by false old new client other is updates known = updates.2 other (missed client other (differ client other is))
+
+-- a bar of a process that is new
+pub bar_new : (old new : BTreeSet ℕ) (lanes longer : List Lane) (bars : List Bar) (i : ℕ) (d : Bar) → i < length bars → Listed (sets.contains nat_cmp old) lanes (take i bars)
+    → true ≡ not (sets.contains nat_cmp old (get_or bars i d).call.client) → sets.Updates nat_cmp old new (get_or bars i d).call.client true
+    → ((lane : ℕ) → lane_clients lane longer ≡ lane_clients lane lanes ++ cond (eqb (get_or bars i d).lane lane) ((get_or bars i d).call.client ∷ []) [])
+    → Listed (sets.contains nat_cmp new) longer (take (i + 1) bars)
+bar_new old new lanes longer bars i d below listed unseen updates added =
+    let bar = get_or bars i d in
+    subst (λ bs. Listed (sets.contains nat_cmp new) longer bs) (sym (take_more bars i d below))
+    (listed_new (sets.contains nat_cmp old) (sets.contains nat_cmp new) lanes longer (take i bars) bar listed (not_true (sets.contains nat_cmp old bar.call.client) (sym unseen)) updates.1
+    (λ other apart. updates.2 other (missed bar.call.client other apart)) added)
+
+-- a bar of a process that has one
+pub bar_known : (old new : BTreeSet ℕ) (lanes : List Lane) (bars : List Bar) (i : ℕ) (d : Bar) → i < length bars → Listed (sets.contains nat_cmp old) lanes (take i bars)
+    → false ≡ not (sets.contains nat_cmp old (get_or bars i d).call.client) → sets.Updates nat_cmp old new (get_or bars i d).call.client true
+    → Listed (sets.contains nat_cmp new) lanes (take (i + 1) bars)
+bar_known old new lanes bars i d below listed seen updates =
+    let bar = get_or bars i d in
+    let known = not_false (sets.contains nat_cmp old bar.call.client) (sym seen) in
+    subst (λ bs. Listed (sets.contains nat_cmp new) lanes bs) (sym (take_more bars i d below))
+    (listed_known (sets.contains nat_cmp old) (sets.contains nat_cmp new) lanes (take i bars) bar listed known
+    (λ other. known_by (eqb bar.call.client other) old new bar.call.client other refl updates known))

@@ -1,7 +1,8 @@
 -- Which operations are drawn, and in which lanes (this project's own; that a process does one operation at a time is
 -- jepsen.history's). Indexes count the records of the whole history from 0.
-use Rattle.std.specs.Prelude.{◌≡◌, ℕ, ◌+◌, ◌<◌, Bool, true, false, ◌&&◌, ◌==◌, nat_le, nat_lt, List, [], ◌∷◌, ◌++◌, if◌then◌else◌, length, map, filter, find, slice_index_or, MatchOption, Option, Some, None, unwrap_or}
+use Rattle.std.specs.Prelude.{◌≡◌, ℕ, ◌+◌, ◌<◌, Bool, true, false, ◌&&◌, ◌==◌, nat_le, nat_lt, List, [], ◌∷◌, ◌++◌, if◌then◌else◌, length, map, filter, find, is_none, slice_get, slice_index_or, MatchOption, Option, Some, None, unwrap_or}
 use Rattle.std.specs.List.{enumerate_from, list_any}
+use Rattle.std.specs.Option.{option_map_or}
 use Rattle.jh_ops.specs.Operation.{Operation}
 use Rattle.jh_ops.specs.Pairing.{is_client, is_invoke}
 use Rattle.jh_ops.specs.declared.operation.Kind.{Kind}
@@ -9,6 +10,7 @@ use Rattle.jh_ops.specs.declared.operation.Op.{Op}
 use Rattle.jh_ops.specs.declared.operation.Process.{Process}
 use Rattle.jh_timeline.specs.declared.picture.Bar.{Bar}
 use Rattle.jh_timeline.specs.declared.picture.Call.{Call}
+use Rattle.jh_timeline.specs.declared.picture.Lane.{Lane}
 use Rattle.jh_timeline.specs.declared.picture.Window.{Window}
 
 -- ---- calls
@@ -117,3 +119,22 @@ HaveOneLane bars =
 pub record AreKeptApart (bars : List Bar) : Type 0 where
   pub apart : AreApart bars
   pub one_lane : HaveOneLane bars
+
+-- ---- the processes of a lane
+
+-- the bars that are the first of their process, among bars behind others
+abbrev pub first_bars : List Bar → List Bar → List Bar
+first_bars before [] = []
+first_bars before (bar ∷ bars) = (if is_none (first_bar bar.call.client before) then bar ∷ [] else []) ++ first_bars (before ++ bar ∷ []) bars
+
+-- the processes that a lane had, in order
+abbrev pub clients_of : ℕ → List Bar → List ℕ
+clients_of lane bars = map (λ bar. bar.call.client) (filter (λ bar. bar.lane == lane) (first_bars [] bars))
+
+-- the processes that a lane of a picture has
+abbrev pub lane_clients : ℕ → List Lane → List ℕ
+lane_clients lane lanes = option_map_or (λ one. one.clients.items) (slice_get lanes lane) []
+
+-- Each lane has the processes whose bars are in it.
+abbrev pub AreLanesOf : List Bar → List Lane → Type 0
+AreLanesOf bars lanes = (lane : ℕ) → lane_clients lane lanes ≡ clients_of lane bars

@@ -1,16 +1,16 @@
 //! Which operations are drawn, and in which lanes. `specs/Lanes.antt` has the rule.
 
-ghost use Rattle.std.specs.Prelude.{◌≡◌, ℕ, ◌<◌, ◌≤◌, [], ◌∷◌, ◌++◌, IfOk, OnOk, if◌then◌else◌, length, map, nat_lt, slice_index, slice_set};
+ghost use Rattle.std.specs.Prelude.{◌≡◌, ◌==◌, ℕ, ◌<◌, ◌≤◌, [], ◌∷◌, ◌++◌, IfOk, OnOk, if◌then◌else◌, length, map, nat_lt, slice_index, slice_set};
 ghost use Rattle.jh_ops.specs.Operation.{operations};
 ghost use Rattle.jh_timeline.specs.Lanes as rule;
-ghost use Rattle.jh_timeline.specs.Lanes.{AreBarsOf, AreKeptApart, TakeLanes};
+ghost use Rattle.jh_timeline.specs.Lanes.{AreBarsOf, AreKeptApart, AreLanesOf, TakeLanes, faults_in, lane_clients};
 ghost use Rattle.jh_timeline.specs.LanesInside as inside;
 ghost use Rattle.jh_timeline.specs.LanesInside.{AreInOrder, Takes, new_calls};
 
-use crate::picture::{Bar, Call, Window};
+use crate::picture::{Bar, Call, Lane, Picture, Window};
 use jh_ops::{Kind, Op, Process};
 use std::alloc::{AllocError, Global};
-use std::collections::BTreeMap;
+use std::collections::{BTreeMap, BTreeSet};
 
 /// What the records of a process from an index on say of the record that it has before them.
 #[derive(Clone, Copy, Debug)]
@@ -173,14 +173,8 @@ fn bars_of(alloc: Global, calls: &[Call]) -> Result<Vec<Bar>, AllocError>
     Ok(bars)
 }
 
-/// The bars of a history: one for each invocation of a client in the window, in order, each in the lane of its process. A process
-/// takes the first lane that is free at its first bar, and has it up to its last record.
-///
-/// Any history has them: where a process has an invocation right behind another, the first has no completion. Takes O(n log n) for n
-/// records, and a look at each lane for each process.
-///
-/// Errors: where memory runs out.
-pub fn bars_in(alloc: Global, window: Window, history: &[Op]) -> Result<Vec<Bar>, AllocError>
+/// The bars of a history, each in its lane.
+fn bars_in(alloc: Global, window: Window, history: &[Op]) -> Result<Vec<Bar>, AllocError>
     ensures drawn { IfOk result (λ bars. AreBarsOf window (operations history.now) bars.items) }
     ensures apart { IfOk result (λ bars. AreKeptApart bars.items) }
 {
@@ -199,9 +193,7 @@ fn is_fault(window: Window, index: usize, op: &Op) -> bool
 }
 
 /// The indexes of the records of the nemesis in the window, in order.
-///
-/// Errors: where memory runs out.
-pub fn faults_in(alloc: Global, window: Window, history: &[Op]) -> Result<Vec<usize>, AllocError>
+fn faults_in(alloc: Global, window: Window, history: &[Op]) -> Result<Vec<usize>, AllocError>
     ensures { IfOk result (λ faults. faults.items ≡ rule.faults_in window history.now) }
 {
     history
@@ -210,4 +202,70 @@ pub fn faults_in(alloc: Global, window: Window, history: &[Op]) -> Result<Vec<us
         .filter(|(index, op)| is_fault(window, *index, op))
         .map(|(index, _)| index)
         .collect(alloc)
+}
+
+/// Makes lanes up to one, with no process yet.
+fn make_lanes(alloc: Global, lanes: &mut Vec<Lane>, lane: usize) -> Result<(), AllocError>
+    ensures made { OnOk result (lane < length lanes.new.items) }
+    ensures same { OnOk result ((other : ℕ) → lane_clients other lanes.new.items ≡ lane_clients other lanes.old.items) }
+{
+    'missing: while lanes.len() <= lane {
+        lanes.push(Lane {
+            clients: Vec::new(alloc),
+        })?;
+    }
+    Ok(())
+}
+
+/// Adds a process to those that a lane had.
+fn add_client(
+    alloc: Global,
+    lanes: &mut Vec<Lane>,
+    lane: usize,
+    client: u64,
+) -> Result<(), AllocError>
+    ensures { OnOk result ((other : ℕ) → lane_clients other lanes.new.items
+        ≡ lane_clients other lanes.old.items ++ (if lane == other then client ∷ [] else [])) }
+{
+    make_lanes(alloc, lanes, lane)?;
+    lanes[lane].clients.push(client)?;
+    Ok(())
+}
+
+/// The lanes of bars, each with the processes that it had.
+fn lanes_of(alloc: Global, bars: &[Bar]) -> Result<Vec<Lane>, AllocError>
+    ensures { IfOk result (λ lanes. AreLanesOf bars.now lanes.items) }
+{
+    let mut seen = BTreeSet::new(alloc);
+    let mut lanes = Vec::new(alloc);
+    for bar in bars {
+        if seen.insert(bar.call.client)? {
+            add_client(alloc, &mut lanes, bar.lane, bar.call.client)?;
+        }
+    }
+    Ok(lanes)
+}
+
+/// What is drawn of a history in a window. One bar for each invocation of a client, in order, each in the lane of its process: a
+/// process takes the first lane that is free at its first bar, and has it up to its last record in the whole history. The records of
+/// the nemesis. And the processes that each lane had, in order.
+///
+/// Any history has a picture: where a process has an invocation right behind another, the first has no completion. Takes O(n log n)
+/// for n records, and a look at each lane for each process.
+///
+/// Errors: where memory runs out.
+pub fn picture_in(alloc: Global, window: Window, history: &[Op]) -> Result<Picture, AllocError>
+    ensures bars { IfOk result (λ picture. AreBarsOf window (operations history.now) picture.bars.items) }
+    ensures apart { IfOk result (λ picture. AreKeptApart picture.bars.items) }
+    ensures faults { IfOk result (λ picture. picture.faults.items ≡ faults_in window history.now) }
+    ensures lanes { IfOk result (λ picture. AreLanesOf picture.bars.items picture.lanes.items) }
+{
+    let bars = bars_in(alloc, window, history)?;
+    let faults = faults_in(alloc, window, history)?;
+    let lanes = lanes_of(alloc, &bars)?;
+    Ok(Picture {
+        bars,
+        faults,
+        lanes,
+    })
 }

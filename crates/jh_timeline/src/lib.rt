@@ -11,7 +11,7 @@ mod picture;
 mod record;
 
 pub use error::PageError;
-pub use lanes::{bars_in, faults_in};
+pub use lanes::picture_in;
 pub use marks::{Mark, Note};
 pub use markup::{escaped_text_is_inert, write_escaped};
 pub use page::write_page;
