@@ -1,0 +1,11 @@
+use Rattle.std.proofs.lemmas.Result.{on_ok_weaker}
+use Rattle.jh_edn.proofs.Facts.{appends_then}
+use Rattle.jh_timeline.proofs.page.write_bar_label.Goals as goal
+
+pub returns : goal.returns
+returns g c =
+    let contents = g.W.Write.contents in
+    let start = contents c.args.writer.now in
+    let a = appends_then start (contents c.put.new.writer) (contents c.write_ending.new.writer) _ _ c.in_ok-put.ensures.bytes c.in_ok-write_ending.ensures in
+    let b = appends_then start (contents c.write_ending.new.writer) (contents c.write_answer.new.writer) _ _ a c.in_ok-write_answer.ensures in
+    on_ok_weaker c.put-2.result (λ end. appends_then start (contents c.write_answer.new.writer) (contents c.put-2.new.writer) _ _ b end) c.put-2.ensures.bytes

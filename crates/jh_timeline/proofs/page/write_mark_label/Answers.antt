@@ -1,0 +1,10 @@
+use Rattle.std.proofs.lemmas.Result.{on_ok_weaker}
+use Rattle.jh_edn.proofs.Facts.{appends_then}
+use Rattle.jh_timeline.proofs.page.write_mark_label.Goals as goal
+
+pub returns : goal.returns
+returns g c =
+    let contents = g.W.Write.contents in
+    let start = contents c.args.writer.now in
+    let a = appends_then start (contents c.put.new.writer) (contents c.write_note.new.writer) _ _ c.in_ok-put.ensures.bytes c.in_ok-write_note.ensures.bytes in
+    on_ok_weaker c.put-2.result (λ end. appends_then start (contents c.write_note.new.writer) (contents c.put-2.new.writer) _ _ a end) c.put-2.ensures.bytes

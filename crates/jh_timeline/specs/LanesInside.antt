@@ -1,0 +1,66 @@
+-- What is kept on the way to the calls of a history, and what bars are made of: proofs rest on it, and no public clause names it.
+use Rattle.std.specs.Prelude.{◌≡◌, ℕ, ◌<◌, ◌≤◌, Bool, nat_lt, List, [], ◌∷◌, ◌++◌, if◌then◌else◌, filter, length, slice_index, slice_set, All, MatchOption, Option, Some, None, option_map}
+use Rattle.std.specs.BTreeMap.{BTreeMap, get, Updates}
+use Rattle.std.specs.Ordering.{nat_cmp}
+use Rattle.jh_ops.specs.Operation.{Operation}
+use Rattle.jh_ops.specs.Pairing.{is_invoke}
+use Rattle.jh_ops.specs.declared.operation.Kind.{Kind}
+use Rattle.jh_timeline.specs.Lanes.{calls_from, completion_in, ends_at, is_within, last_in}
+use Rattle.jh_timeline.specs.declared.lanes.Ahead.{Ahead}
+use Rattle.jh_timeline.specs.declared.picture.Call.{Call}
+use Rattle.jh_timeline.specs.declared.picture.Window.{Window}
+
+-- what records of a client say of the one that it has before them, if there are any
+abbrev pub ahead_in : ℕ → ℕ → List Operation → Option Ahead
+ahead_in client index records =
+    option_map (λ last. record { completion = completion_in client index records; last = last }) (last_in client index records)
+
+-- the same with one record more in front
+abbrev pub ahead_with : Kind → ℕ → Option Ahead → Ahead
+ahead_with kind index None = record { completion = if is_invoke kind then None else Some index; last = index }
+ahead_with kind index (Some behind) = record { completion = if is_invoke kind then None else Some index; last = behind.last }
+
+-- the call of an invocation in front of these
+abbrev pub call_with : ℕ → ℕ → Option Ahead → Call
+call_with client index None = record { client = client; invoke = index; completion = None; last = index }
+call_with client index (Some behind) = record { client = client; invoke = index; completion = behind.completion; last = behind.last }
+
+-- the same of an invocation that is drawn, and nothing of any other record
+abbrev pub new_calls : Bool → Kind → ℕ → ℕ → Option Ahead → List Call
+new_calls drawn Kind.Invoke client index behind = if drawn then call_with client index behind ∷ [] else []
+new_calls drawn _ client index behind = []
+
+-- the calls of records from an index on
+abbrev pub calls_within : Window → ℕ → List Operation → List Call
+calls_within window index records = filter (λ call. is_within window call.invoke) (calls_from index records)
+
+-- A call after another: it begins later, and if both are of one client, behind the end of the earlier, and they have one last
+-- record.
+pub record Follows (earlier later : Call) : Type 0 where
+  pub invoke : earlier.invoke < later.invoke
+  pub last : earlier.client ≡ later.client → earlier.last ≡ later.last
+  pub ended : earlier.client ≡ later.client → ends_at earlier < later.invoke
+  pub within : ends_at earlier ≤ earlier.last
+  pub reach : later.invoke ≤ later.last
+
+abbrev pub AreInOrder : List Call → Type 0
+AreInOrder [] = Unit {0}
+AreInOrder (call ∷ calls) = All (Follows call) calls × AreInOrder calls
+
+-- A process takes a lane at its first call: the first lane that is free, which it has up to its last record.
+pub record TakesFree (old new : BTreeMap ℕ ℕ) (ends longer : List ℕ) (call : Call) (lane : ℕ) : Type 0 where
+  pub within : lane ≤ length ends
+  pub free : lane < length ends → slice_index ends lane < call.invoke
+  pub first : (lower : ℕ) → lower < lane → call.invoke ≤ slice_index ends lower
+  pub until : longer ≡ (if nat_lt lane (length ends) then slice_set ends lane call.last else ends ++ call.last ∷ [])
+  pub held : Updates nat_cmp old new call.client (Some lane)
+
+-- A process keeps the lane that it has.
+pub record KeepsLane (old new : BTreeMap ℕ ℕ) (ends longer : List ℕ) (had lane : ℕ) : Type 0 where
+  pub same : lane ≡ had
+  pub until : longer ≡ ends
+  pub held : new ≡ old
+
+abbrev pub Takes : BTreeMap ℕ ℕ → BTreeMap ℕ ℕ → List ℕ → List ℕ → Call → ℕ → Type 0
+Takes old new ends longer call lane =
+    MatchOption (get nat_cmp old call.client) (TakesFree old new ends longer call lane) (λ had. KeepsLane old new ends longer had lane)
