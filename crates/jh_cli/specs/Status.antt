@@ -1,6 +1,6 @@
 -- How a command ends early (this project's own): refusals of the arguments and of the input have status 3, errors of the machine and
 -- runs that were not completed 4.
-use Rattle.std.specs.Prelude.{ℕ, List, Option, Some, None, codes}
+use Rattle.std.specs.Prelude.{◌≡◌, ℕ, List, Option, Some, None, codes}
 use Rattle.jh_edn.specs.declared.error.EdnError.TheVariants as EdnError
 use Rattle.jh_env.specs.declared.texts.EnvTextError.TheVariants as EnvTextError
 use Rattle.jh_ops.specs.declared.history.HistoryError.TheVariants as HistoryError
