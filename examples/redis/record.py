@@ -232,9 +232,10 @@ def run_nemesis(given, pair, history, over):
 
 
 def read_last(clients):
-    """The last read, by the first client that has an answer."""
-    if clients[0].workload.is_read_last:
-        any(client.call("read", None) for client in clients)
+    """Reads once more where the workload wants that, by the first client that gets an answer."""
+    for client in clients:
+        if not client.workload.is_read_last or client.call("read", None):
+            break
 
 
 def record(given, pair):
