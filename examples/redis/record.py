@@ -1,21 +1,20 @@
 #!/usr/bin/env python3
-"""Records a history of a real Redis, taken for one register, which `jeprun check --workload register` judges.
+"""Records a history of a real Redis, taken for a register, a set, a counter or a giver of unique ids.
 
     python3 record.py [OPTION ..] > history.edn
-    python3 record.py --read-from replica --fault cut | jeprun check --workload register
+    python3 record.py --workload set --fault replace-primary | jeprun check --workload set
 
 It starts a primary and a replica that follows it asynchronously, on free ports and in a temporary folder, and stops both at the
-end; or it takes two that run already, and first deletes its key there. It needs Python 3.10 or later, and `redis-server` (Debian:
-`apt-get install redis-server`) where none runs. `--help` tells the options, README.md explains them.
+end; or it takes two that run already, and first deletes its key there. It needs Python 3.10 or later, servers.py beside it,
+and `redis-server` (Debian: `apt-get install redis-server`) where none runs. `--help` tells the options, README.md explains them.
 
-Client threads write by SET, and compare and set by a script, at the primary; they read by GET, at the primary or the replica. The
-faults that are asked for are begun and withdrawn one after another, again and again, until the calls are over.
+Client threads write at the primary; they read from the primary or the replica. The faults that are asked for are begun and
+withdrawn one after another, again and again, until the calls are over. A set and a counter are read once more at the end.
 
 It writes the history as Jepsen does, one operation a line, in the order in which they happened; :time counts nanoseconds. An
 invocation is recorded before its request is sent, a completion after its reply came. It is :ok where the call was done, and :fail
-where a :cas found another value or a read was refused. It is :info where the outcome is not known: the client waited longer than
-the limit, or a write or a :cas was refused or lost its connection. Behind an :info the thread goes on as a new process, on new
-connections. A key that is not there reads as nil.
+where it is known to have changed nothing. It is :info where the outcome is not known: the client waited longer than the limit, or
+lost its connection on the way. Behind an :info the thread goes on as a new process, on new connections.
 """
 
 import argparse
@@ -23,98 +22,128 @@ import concurrent.futures
 import contextlib
 import itertools
 import random
-import shutil
 import signal
-import socket
-import subprocess
 import sys
-import tempfile
 import threading
 import time
 
-HOST = "127.0.0.1"
-KEY = "jeprun-register"
-CAS = "if redis.call('GET', KEYS[1]) ~= ARGV[1] then return 0 end redis.call('SET', KEYS[1], ARGV[2]) return 1"
-PATIENCE = 20  # seconds: a server that takes longer to start, or to answer the nemesis, ends the run
-
-# Of each fault the server that it is put on, and the signal or the command that begins it and that withdraws it.
-FAULTS = {
-    "pause-primary": ("primary", signal.SIGSTOP, signal.SIGCONT),
-    "pause-replica": ("replica", signal.SIGSTOP, signal.SIGCONT),
-    "hold-writes": ("primary", "CLIENT PAUSE 3600000 WRITE", "CLIENT UNPAUSE"),
-    "cut": ("replica", "REPLICAOF NO ONE", f"REPLICAOF {HOST} {{primary}}"),
-}
+from servers import FAULTS, Connection, NotDone, Pair, new_pair
 
 
-class ErrorReply(Exception):
-    """A reply that says that a command was not done. Its first word says why."""
+class Workload:
+    """What a client does with one key: calls of the functions that have a share. Each thread has one."""
+
+    shares = {}
+    is_read_last = False
+
+    def __init__(self, thread, given):
+        self.thread, self.given = thread, given
+
+    def draw_function(self, dice):
+        return dice.choices(list(self.shares), self.given.mix)[0]
+
+    def draw(self, dice):
+        """The next call: its function and the value of its invocation."""
+        raise NotImplementedError
+
+    def perform(self, client, f, value):
+        """Makes a call: the value of its :ok. It raises NotDone where the call is known to have changed nothing."""
+        raise NotImplementedError
 
 
-class Connection:
-    """A connection to a server, for one command at a time. Where the server lets it wait too long it raises TimeoutError."""
+class Register(Workload):
+    """One value: SET, GET, and a script that compares and sets. A key that is not there reads as nil."""
 
-    def __init__(self, port, seconds):
-        self.socket = socket.create_connection((HOST, port), timeout=seconds)
-        self.replies = self.socket.makefile("rb")
+    shares = {"read": 2, "write": 1, "cas": 1}
+    script = "if redis.call('GET', KEYS[1]) ~= ARGV[1] then return 0 end redis.call('SET', KEYS[1], ARGV[2]) return 1"
 
-    def ask(self, *words):
-        """The reply to a command: an integer, a text, or None where there is no such key."""
-        parts = [str(word).encode() for word in words]
-        self.socket.sendall(b"*%d\r\n" % len(parts) + b"".join(b"$%d\r\n%s\r\n" % (len(part), part) for part in parts))
-        line = self.replies.readline()
-        if line[:1] == b"$" and line[1:2].isdigit():
-            line = b"+" + self.replies.read(int(line[1:]) + 2)
-        if not line.endswith(b"\r\n"):
-            raise ConnectionResetError
-        kind, text = line[:1], line[1:-2].decode()
-        if kind == b"-":
-            raise ErrorReply(text)
-        return None if kind == b"$" else int(text) if kind == b":" else text
+    def __init__(self, thread, given):
+        super().__init__(thread, given)
+        self.fresh, self.seen = thread, 0
 
-    def close(self):
-        self.replies.close()
-        self.socket.close()
+    def draw(self, dice):
+        old, new = dice.randrange(5), dice.randrange(5)
+        if self.given.values == "unique":
+            self.fresh += self.given.threads
+            old, new = self.seen, self.fresh
+        f = self.draw_function(dice)
+        return f, {"read": None, "write": new, "cas": (old, new)}[f]
 
-
-def ask_once(port, *words):
-    """The reply to a command on a connection of its own."""
-    with contextlib.closing(Connection(port, PATIENCE)) as connection:
-        return connection.ask(*words)
-
-
-@contextlib.contextmanager
-def new_servers():
-    """A primary and its replica, which are stopped at the end: their ports and their system processes."""
-    if not shutil.which("redis-server"):
-        sys.exit("record.py: there is no redis-server")
-    with socket.create_server((HOST, 0)) as one, socket.create_server((HOST, 0)) as other:
-        ports, servers = {"primary": one.getsockname()[1], "replica": other.getsockname()[1]}, {}
-    with tempfile.TemporaryDirectory(prefix="record-") as folder:
-        try:
-            for role, port in ports.items():
-                words = ["redis-server", "--bind", HOST, "--port", port, "--dir", folder, "--save", ""]
-                words += ["--repl-diskless-sync", "yes", "--repl-diskless-sync-delay", 0]
-                words += ["--replicaof", HOST, ports["primary"]] if role == "replica" else []
-                servers[role] = subprocess.Popen([str(word) for word in words], stdout=subprocess.DEVNULL)
-            yield ports, servers
-        finally:
-            for server in servers.values():
-                server.kill()
-                server.wait()
+    def perform(self, client, f, value):
+        if f == "read":
+            text = client.read("GET", client.key)
+            value = None if text is None else int(text)
+        elif f == "write":
+            client.write("SET", client.key, value)
+        elif not client.write("EVAL", self.script, 1, client.key, *value):
+            raise NotDone("did-not-match")
+        if value is not None:
+            self.seen = value[1] if f == "cas" else value
+        return value
 
 
-def make_ready(ports):
-    """Waits until the replica shows what is done at the primary, and deletes the key."""
-    end = time.monotonic() + PATIENCE
-    for words, is_there in (("SET", KEY, 0), 1), (("DEL", KEY), 0):
-        while time.monotonic() < end:
-            with contextlib.suppress(OSError, ErrorReply):
-                ask_once(ports["primary"], *words)
-                if ask_once(ports["replica"], "EXISTS", KEY) == is_there:
-                    break
-            time.sleep(0.05)
-        else:
-            sys.exit("record.py: the replica does not follow the primary")
+class Set(Workload):
+    """Members: SADD and SMEMBERS. None is added twice."""
+
+    shares = {"read": 0, "add": 1}
+    is_read_last = True
+
+    def __init__(self, thread, given):
+        super().__init__(thread, given)
+        self.members = itertools.count(thread, given.threads)
+
+    def draw(self, dice):
+        f = self.draw_function(dice)
+        return f, next(self.members) if f == "add" else None
+
+    def perform(self, client, f, value):
+        if f == "read":
+            return {int(member) for member in client.read("SMEMBERS", client.key)}
+        client.write("SADD", client.key, value)
+        return value
+
+
+class Counter(Workload):
+    """A sum: INCRBY and GET. A key that is not there reads as 0."""
+
+    shares = {"read": 1, "add": 1}
+    is_read_last = True
+
+    def draw(self, dice):
+        f = self.draw_function(dice)
+        return f, dice.randint(1, 5) if f == "add" else None
+
+    def perform(self, client, f, value):
+        if f == "read":
+            return int(client.read("GET", client.key) or 0)
+        client.write("INCRBY", client.key, value)
+        return value
+
+
+class UniqueIds(Workload):
+    """Numbers that rise: GET, and SET to one more, as a client does that knows no INCR. Between the two others may do the same."""
+
+    shares = {"generate": 1}
+
+    def draw(self, dice):
+        return self.draw_function(dice), None
+
+    def perform(self, client, f, value):
+        number = int(client.read("GET", client.key) or 0) + 1
+        client.write("SET", client.key, number)
+        return number
+
+
+WORKLOADS = {"register": Register, "set": Set, "counter": Counter, "unique-ids": UniqueIds}
+
+
+def written(value):
+    """A value as EDN."""
+    if isinstance(value, tuple):
+        return "[{} {}]".format(*value)
+    if isinstance(value, set):
+        return "#{" + " ".join(map(str, sorted(value))) + "}"
+    return "nil" if value is None else value
 
 
 class History:
@@ -124,117 +153,128 @@ class History:
         self.lock, self.lines, self.start = threading.Lock(), [], time.monotonic_ns()
 
     def append(self, kind, process, f, value, error=None):
-        text = "nil" if value is None else "[{} {}]".format(*value) if isinstance(value, tuple) else value
         with self.lock:
             now = time.monotonic_ns() - self.start
-            line = f":index {len(self.lines)}, :type :{kind}, :process {process}, :f :{f}, :value {text}, :time {now}"
+            line = f":index {len(self.lines)}, :type :{kind}, :process {process}, :f :{f}, :value {written(value)}, :time {now}"
             self.lines.append("{" + line + (f", :error :{error}" if error else "") + "}")
 
 
 class Client:
     """A client thread, which is one process after another."""
 
-    def __init__(self, thread, given, ports, history):
-        self.thread, self.given, self.ports, self.history = thread, given, ports, history
-        self.process, self.fresh, self.seen = thread, thread, 0
-        self.dice, self.connections = random.Random(f"{given.seed} {thread}"), {}
+    def __init__(self, thread, given, pair, history):
+        self.thread, self.given, self.pair, self.history = thread, given, pair, history
+        self.workload, self.key = WORKLOADS[given.workload](thread, given), f"jeprun-{given.workload}"
+        self.process, self.dice, self.connections = thread, random.Random(f"{given.seed} {thread}"), {}
 
-    def draw(self):
-        """The next call: its function and the value of its invocation."""
-        old, new = self.dice.randrange(5), self.dice.randrange(5)
-        if self.given.values == "unique":
-            self.fresh += self.given.threads
-            old, new = self.seen, self.fresh
-        f = self.dice.choices(("read", "write", "cas"), self.given.mix)[0]
-        return f, {"read": None, "write": new, "cas": (old, new)}[f]
+    def ask(self, role, words):
+        port = self.pair.ports[role]
+        if port not in self.connections:
+            self.connections[port] = Connection(port, self.given.limit / 1000)
+        return self.connections[port].ask(*words)
 
-    def ask(self, role, *words):
-        if role not in self.connections:
-            self.connections[role] = Connection(self.ports[role], self.given.limit / 1000)
-        return self.connections[role].ask(*words)
+    def read(self, *words):
+        """The reply to a command that changes nothing, from the server that reads go to."""
+        return self.ask(self.given.read_from, words)
+
+    def write(self, *words):
+        """The primary's reply to a command."""
+        return self.ask("primary", words)
 
     def close(self):
         while self.connections:
             self.connections.popitem()[1].close()
 
-    def perform(self, f, value):
+    def outcome(self, f, value):
         """Makes a call: the type of its completion, the value, and why it isn't :ok."""
         try:
-            if f == "read":
-                text = self.ask(self.given.read_from, "GET", KEY)
-                return "ok", None if text is None else int(text), None
-            if f == "write":
-                self.ask("primary", "SET", KEY, value)
-            elif not self.ask("primary", "EVAL", CAS, 1, KEY, *value):
-                return "fail", value, "did-not-match"
-            return "ok", value, None
+            return "ok", self.workload.perform(self, f, value), None
+        except NotDone as why:
+            return "fail", value, why
         except TimeoutError:
             return "info", value, "timeout"
-        except OSError as why:
-            error = "refused" if isinstance(why, ConnectionRefusedError) else "connection-lost"
-        except ErrorReply as why:
-            error = str(why).split()[0].lower()
+        except ConnectionRefusedError:
+            kind, error = "fail", "refused"
+        except OSError:
+            kind, error = "fail" if f == "read" else "info", "connection-lost"
         self.close()
-        return "fail" if f == "read" else "info", value, error
+        return kind, value, error
+
+    def call(self, f, value):
+        """Makes a call, and records it: whether it is :ok."""
+        self.history.append("invoke", self.process, f, value)
+        kind, value, error = self.outcome(f, value)
+        self.history.append(kind, self.process, f, value, error)
+        if kind == "info":
+            self.process += self.given.threads
+            self.close()
+        return kind == "ok"
 
     def run(self, over):
         """Makes the calls of this thread, and waits a while before each."""
         for _ in range(self.thread, self.given.calls, self.given.threads):
             if over.wait(self.dice.uniform(0, self.given.gap / 500)):
                 break
-            f, value = self.draw()
-            self.history.append("invoke", self.process, f, value)
-            kind, value, error = self.perform(f, value)
-            self.history.append(kind, self.process, f, value, error)
-            if kind == "info":
-                self.process += self.given.threads
-                self.close()
-            elif kind == "ok" and value is not None:
-                self.seen = value[1] if f == "cas" else value
-        self.close()
+            self.call(*self.workload.draw(self.dice))
 
 
-def run_nemesis(given, ports, servers, history, over):
+def run_nemesis(given, pair, history, over):
     """Begins and withdraws the faults in turn, until the calls are over."""
     for fault in itertools.cycle(given.fault):
         if over.wait(given.fault_gap / 1000):
             break
-        role, *steps = FAULTS[fault]
-        for f, step in zip(("begin", "withdraw"), steps):
+        for f, step in zip(("begin", "withdraw"), FAULTS[fault]):
             history.append("info", ":nemesis", f, f":{fault}")
-            if isinstance(step, str):
-                ask_once(ports[role], *step.format(**ports).split())
-            else:
-                servers[role].send_signal(step)
+            step(pair)
             history.append("info", ":nemesis", f, f":{fault}")
             if f == "begin":
                 over.wait(given.fault_length / 1000)
 
 
-def record(given, ports, servers):
+def read_last(clients):
+    """Reads once more where the workload wants that, by the first client that gets an answer."""
+    for client in clients:
+        if not client.workload.is_read_last or client.call("read", None):
+            break
+
+
+def record(given, pair):
     """The lines of the history of a run."""
-    make_ready(ports)
+    pair.catch_up()
+    pair.ask("primary", "DEL", f"jeprun-{given.workload}")
+    pair.catch_up()
     history, over = History(), threading.Event()
+    clients = [Client(thread, given, pair, history) for thread in range(given.threads)]
     with concurrent.futures.ThreadPoolExecutor(given.threads + 1) as pool:
-        nemesis = pool.submit(run_nemesis, given, ports, servers, history, over)
-        clients = [pool.submit(Client(it, given, ports, history).run, over) for it in range(given.threads)]
+        nemesis = pool.submit(run_nemesis, given, pair, history, over)
+        runs = [pool.submit(client.run, over) for client in clients]
         try:
-            for client in clients:
-                client.result()
+            for run in runs:
+                run.result()
+            if given.last_read == "at-once":
+                read_last(clients)
         finally:
             over.set()
         nemesis.result()
+    if given.last_read == "healed":
+        pair.catch_up()
+        read_last(clients)
+    for client in clients:
+        client.close()
     return history.lines
 
 
-def main():
-    words = argparse.ArgumentParser(description="Records a history of a real Redis, taken for one register.")
+def options():
+    """What was asked for."""
+    words = argparse.ArgumentParser(description="Records a history of a real Redis.")
+    words.add_argument("--workload", choices=WORKLOADS, default="register", help="what Redis is taken for (register)")
     words.add_argument("--threads", type=int, default=3, help="client threads (3)")
     words.add_argument("--calls", type=int, default=40, help="of all threads together (40)")
     words.add_argument("--seed", type=int, default=1, help="of the calls (1)")
-    words.add_argument("--mix", type=int, nargs=3, default=(2, 1, 1), metavar=("READ", "WRITE", "CAS"), help="shares (2 1 1)")
-    words.add_argument("--values", choices=("small", "unique"), default="small", help="0 to 4, or none written twice (small)")
+    words.add_argument("--mix", type=int, nargs="+", metavar="N", help="shares of the workload's functions (README.md)")
+    words.add_argument("--values", choices=("small", "unique"), default="small", help="of a register: 0 to 4, or none twice (small)")
     words.add_argument("--read-from", choices=("primary", "replica"), default="primary", help="where reads go (primary)")
+    words.add_argument("--last-read", choices=("healed", "at-once"), default="healed", help="behind the faults, or not (healed)")
     words.add_argument("--limit", type=float, default=100, metavar="MS", help="of a client's patience with a server (100)")
     words.add_argument("--gap", type=float, default=20, metavar="MS", help="before each call of a thread, on average (20)")
     words.add_argument("--fault", choices=FAULTS, action="append", default=[], help="may be given again, for another (none)")
@@ -242,12 +282,20 @@ def main():
     words.add_argument("--fault-length", type=float, default=250, metavar="MS", help="how long each is active (250)")
     words.add_argument("--servers", type=int, nargs=2, metavar=("PRIMARY", "REPLICA"), help="ports of two that run already")
     given = words.parse_args()
-    if given.servers and any(it.startswith("pause") for it in given.fault):
-        words.error("only servers that are started here can be paused")
+    shares = WORKLOADS[given.workload].shares
+    given.mix = given.mix or list(shares.values())
+    if len(given.mix) != len(shares) or min(given.mix) < 0 or not any(given.mix):
+        words.error(f"--mix takes a share of each of these: {', '.join(shares)}")
+    if given.servers and any(it.startswith(("pause", "kill")) for it in given.fault):
+        words.error("only servers that are started here can be paused or killed")
+    return given
+
+
+def main():
+    given = options()
     signal.signal(signal.SIGTERM, lambda *_: sys.exit(1))
-    running = (dict(zip(("primary", "replica"), given.servers or ())), {})
-    with contextlib.nullcontext(running) if given.servers else new_servers() as (ports, servers):
-        print("\n".join(record(given, ports, servers)))
+    with contextlib.nullcontext(Pair(given.servers)) if given.servers else new_pair() as pair:
+        print("\n".join(record(given, pair)))
 
 
 if __name__ == "__main__":
