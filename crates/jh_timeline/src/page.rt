@@ -31,8 +31,20 @@ const OPENING: &[u8] =
     b"<!DOCTYPE html>\n<html xmlns=\"http://www.w3.org/1999/xhtml\" lang=\"en\">\n<head>\n<meta charset=\"utf-8\"/>\n<title>Timeline</title>\n<style>\n";
 
 /// The style of the page: its colours in light and dark, and on paper.
-const STYLE: &[u8] =
-    b":root { color-scheme: light dark; --ink: #1a1a1a; --paper: #ffffff; --ok: #b7e1b0; --fail: #f2c6c6; --info: #fbe3a6; --open: #dddddd; --fault: #7a4fbf; --mark: #c00000 }\n@media (prefers-color-scheme: dark) { :root { --ink: #e6e6e6; --paper: #161616; --ok: #2f5d2a; --fail: #6b2b2b; --info: #6a5314; --open: #3a3a3a; --fault: #b497f0; --mark: #ff7070 } }\n@media print { :root { --ink: #000000; --paper: #ffffff; --ok: #ffffff; --fail: #d8d8d8; --info: #ffffff; --open: #ffffff; --fault: #000000; --mark: #000000 } }\nbody { margin: 1em; font: 12px sans-serif; color: var(--ink); background: var(--paper) }\nh1 { font: bold 14px monospace; overflow-wrap: anywhere }\nsvg text { font: 11px monospace; fill: var(--ink) }\nrect { stroke: var(--ink); fill: var(--open) }\n.ok rect { fill: var(--ok) }\n.fail rect { fill: var(--fail) }\n.info rect { fill: var(--info) }\n.info rect, .open rect { stroke-dasharray: 4 2 }\n.fault line { stroke: var(--fault); stroke-width: 2 }\n.fault text { fill: var(--fault) }\n.mark { pointer-events: none }\n.mark rect { fill: none; stroke: var(--mark); stroke-width: 4 }\n.mark text { fill: var(--mark); font-weight: bold; text-anchor: end }\n";
+const STYLE: &[u8] = b"\
+    :root { color-scheme: light dark; --ink: #1a1a1a; --paper: #ffffff; --ok: #b7e1b0; --fail: #f2c6c6; \
+    --info: #fbe3a6; --open: #dddddd; --fault: #7a4fbf; --mark: #c00000 }\n\
+    @media (prefers-color-scheme: dark) { :root { --ink: #e6e6e6; --paper: #161616; --ok: #2f5d2a; --fail: #6b2b2b; \
+    --info: #6a5314; --open: #3a3a3a; --fault: #b497f0; --mark: #ff7070 } }\n\
+    @media print { :root { --ink: #000000; --paper: #ffffff; --ok: #ffffff; --fail: #d8d8d8; --info: #ffffff; \
+    --open: #ffffff; --fault: #000000; --mark: #000000 } }\n\
+    body { margin: 1em; font: 12px sans-serif; color: var(--ink); background: var(--paper) }\n\
+    h1 { font: bold 14px monospace; overflow-wrap: anywhere }\nsvg text { font: 11px monospace; fill: var(--ink) }\n\
+    rect { stroke: var(--ink); fill: var(--open) }\n.ok rect { fill: var(--ok) }\n.fail rect { fill: var(--fail) }\n\
+    .info rect { fill: var(--info) }\n.info rect, .open rect { stroke-dasharray: 4 2 }\n\
+    .fault line { stroke: var(--fault); stroke-width: 2 }\n.fault text { fill: var(--fault) }\n\
+    .mark { pointer-events: none }\n.mark rect { fill: none; stroke: var(--mark); stroke-width: 4 }\n\
+    .mark text { fill: var(--mark); font-weight: bold; text-anchor: end }\n";
 
 /// The page from its style to the line on top.
 const BODY: &[u8] = b"</style>\n</head>\n<body>\n<h1>";
