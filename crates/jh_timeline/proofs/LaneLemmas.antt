@@ -224,7 +224,7 @@ found_is P p (b ∷ bars) found all e =
     found_either P p b found bars (p b) refl (All-head P b bars all) e (found_is P p bars found (All-tail P b bars all))
 
 -- one more of these holds
-all_snoc : (P : Bar → Type 0) (bars : List Bar) (bar : Bar) → All P (bars ++ bar ∷ []) → All P bars × P bar
+pub all_snoc : (P : Bar → Type 0) (bars : List Bar) (bar : Bar) → All P (bars ++ bar ∷ []) → All P bars × P bar
 all_snoc P [] bar all = (λ k d h. absurd (omega arith), All-head P bar [] all)
 all_snoc P (b ∷ bars) bar all =
     let rest = all_snoc P bars bar (All-tail P b (bars ++ bar ∷ []) all) in
@@ -453,7 +453,7 @@ one_more : (old new : BTreeMap ℕ ℕ) (ends later : List ℕ) (bars : List Bar
     → bar.call ≡ call → All (λ b. Follows b.call call) bars → Laned (get nat_cmp old) ends bars (take k calls)
     → Laned (get nat_cmp new) later (bars ++ bar ∷ []) (take k calls ++ call ∷ [])
 one_more old new ends later bars calls k call bar None is takes mine follows laned =
-    laned_takes (get nat_cmp old) (get nat_cmp new) ends later bars (take k calls) call bar mine laned follows is takes.within takes.free takes.first takes.until takes.held.1
+    laned_takes (get nat_cmp old) (get nat_cmp new) ends later bars (take k calls) call bar mine laned follows is takes.free.within takes.free.free takes.free.first takes.until takes.held.1
     (λ other apart. takes.held.2 other (missed call.client other apart))
 one_more old new ends later bars calls k call bar (Some had) is keeps mine follows laned =
     let built : bar ≡ record { call = call; lane = had } =
@@ -462,7 +462,7 @@ one_more old new ends later bars calls k call bar (Some had) is keeps mine follo
     (subst (λ l. Laned (get nat_cmp old) l (bars ++ bar ∷ []) (take k calls ++ call ∷ [])) (sym keeps.until)
     (laned_keeps (get nat_cmp old) ends bars (take k calls) call had bar built laned follows is))
 
-any_default : (calls : List Call) (k : ℕ) (d e : Call) → k < length calls → get_or calls k d ≡ get_or calls k e
+pub any_default : (calls : List Call) (k : ℕ) (d e : Call) → k < length calls → get_or calls k d ≡ get_or calls k e
 any_default [] k d e below = absurd (omega arith)
 any_default (c ∷ calls) zero d e below = refl
 any_default (c ∷ calls) (suc k) d e below = any_default calls k d e (omega arith)

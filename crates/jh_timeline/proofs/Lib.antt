@@ -1,2 +1,3 @@
 mod MarkupLemmas
 mod LaneLemmas
+mod EndLemmas

@@ -1,12 +1,16 @@
 -- What is kept on the way to the calls of a history, and what bars are made of: proofs rest on it, and no public clause names it.
-use Rattle.std.specs.Prelude.{◌≡◌, ℕ, ◌<◌, ◌≤◌, Bool, nat_lt, List, [], ◌∷◌, ◌++◌, if◌then◌else◌, filter, length, slice_index, slice_set, All, MatchOption, Option, Some, None, option_map}
+use Rattle.std.specs.Prelude.{◌≡◌, ℕ, ◌<◌, ◌≤◌, Bool, true, false, nat_lt, List, [], ◌∷◌, ◌++◌, if◌then◌else◌, filter, length, slice_index, slice_set, All, MatchOption, Option, Some, None, option_map}
 use Rattle.std.specs.BTreeMap.{BTreeMap, get, Updates}
-use Rattle.std.specs.Ordering.{nat_cmp}
+use Rattle.std.specs.BTreeSet as sets
+use Rattle.std.specs.BTreeSet.{BTreeSet, contains}
+use Rattle.std.specs.declared.cmp.Ordering.{Ordering}
+use Rattle.std.specs.Ordering.{nat_cmp, ordering_then}
 use Rattle.jh_ops.specs.Operation.{Operation}
 use Rattle.jh_ops.specs.Pairing.{is_invoke}
 use Rattle.jh_ops.specs.declared.operation.Kind.{Kind}
 use Rattle.jh_timeline.specs.Lanes.{calls_from, completion_in, ends_at, is_within, last_in}
 use Rattle.jh_timeline.specs.declared.lanes.Ahead.{Ahead}
+use Rattle.jh_timeline.specs.declared.lanes.Ends.{Ends}
 use Rattle.jh_timeline.specs.declared.picture.Call.{Call}
 use Rattle.jh_timeline.specs.declared.picture.Window.{Window}
 
@@ -47,12 +51,47 @@ abbrev pub AreInOrder : List Call → Type 0
 AreInOrder [] = Unit {0}
 AreInOrder (call ∷ calls) = All (Follows call) calls × AreInOrder calls
 
+-- ---- lanes that are free
+
+-- pairs of an index and a lane, by the index first
+abbrev pub pair_cmp : ℕ × ℕ → ℕ × ℕ → Ordering
+pair_cmp a b = ordering_then (nat_cmp a.0 b.0) (nat_cmp a.1 b.1)
+
+-- a lane is among the busy ones, up to that index
+abbrev pub is_busy : BTreeSet (ℕ × ℕ) → ℕ → ℕ → Bool
+is_busy busy last lane = contains pair_cmp busy (last, lane)
+
+-- each busy lane is held at the index
+abbrev pub AreHeld : BTreeSet (ℕ × ℕ) → ℕ → Type 0
+AreHeld busy index = (last lane : ℕ) → is_busy busy last lane ≡ true → index ≤ last
+
+-- one lane less is busy, which was held up to an index before that one
+pub record IsPopped (old new : BTreeSet (ℕ × ℕ)) (index : ℕ) (popped : ℕ × ℕ) : Type 0 where
+  pub ended : popped.0 < index
+  pub had : contains pair_cmp old popped ≡ true
+  pub updates : sets.Updates pair_cmp old new popped false
+  pub fewer : length new.keys < length old.keys
+
+-- At an index each lane but one is free, and held no longer, or busy up to where it is held.
+pub record AreKept (ends : Ends) (index but : ℕ) : Type 0 where
+  pub known : (lane : ℕ) → lane < length ends.until.items → (lane ≡ but → ⊥) → contains nat_cmp ends.free lane ≡ false → is_busy ends.busy (slice_index ends.until.items lane) lane ≡ true
+  pub free : (lane : ℕ) → contains nat_cmp ends.free lane ≡ true → (lane < length ends.until.items) × (slice_index ends.until.items lane < index) × (lane ≡ but → ⊥)
+  pub busy : (last lane : ℕ) → is_busy ends.busy last lane ≡ true → (lane < length ends.until.items) × (slice_index ends.until.items lane ≡ last) × (lane ≡ but → ⊥)
+
+-- the first lane that is free at the index, where each lane is held up to one
+pub record IsFirst (ends : List ℕ) (index lane : ℕ) : Type 0 where
+  pub within : lane ≤ length ends
+  pub free : lane < length ends → slice_index ends lane < index
+  pub first : (lower : ℕ) → lower < lane → index ≤ slice_index ends lower
+
+-- up to where lanes are held, with one that is held now
+abbrev pub until_with : List ℕ → ℕ → ℕ → List ℕ
+until_with ends lane last = if nat_lt lane (length ends) then slice_set ends lane last else ends ++ last ∷ []
+
 -- A process takes a lane at its first call: the first lane that is free, which it has up to its last record.
 pub record TakesFree (old new : BTreeMap ℕ ℕ) (ends longer : List ℕ) (call : Call) (lane : ℕ) : Type 0 where
-  pub within : lane ≤ length ends
-  pub free : lane < length ends → slice_index ends lane < call.invoke
-  pub first : (lower : ℕ) → lower < lane → call.invoke ≤ slice_index ends lower
-  pub until : longer ≡ (if nat_lt lane (length ends) then slice_set ends lane call.last else ends ++ call.last ∷ [])
+  pub free : IsFirst ends call.invoke lane
+  pub until : longer ≡ until_with ends lane call.last
   pub held : Updates nat_cmp old new call.client (Some lane)
 
 -- A process keeps the lane that it has.

@@ -1,11 +1,11 @@
 //! Which operations are drawn, and in which lanes. `specs/Lanes.antt` has the rule.
 
-ghost use Rattle.std.specs.Prelude.{◌≡◌, ◌==◌, ℕ, ◌<◌, ◌≤◌, [], ◌∷◌, ◌++◌, IfOk, OnOk, if◌then◌else◌, length, map, nat_lt, slice_index, slice_set};
+ghost use Rattle.std.specs.Prelude.{◌≡◌, ◌==◌, ℕ, ◌<◌, ◌≤◌, [], ◌∷◌, ◌++◌, IfNone, IfOk, IfSome, OnOk, if◌then◌else◌, length, map};
 ghost use Rattle.jh_ops.specs.Operation.{operations};
 ghost use Rattle.jh_timeline.specs.Lanes as rule;
 ghost use Rattle.jh_timeline.specs.Lanes.{AreBarsOf, AreKeptApart, AreLanesOf, TakeLanes, faults_in, lane_clients};
 ghost use Rattle.jh_timeline.specs.LanesInside as inside;
-ghost use Rattle.jh_timeline.specs.LanesInside.{AreInOrder, Takes, new_calls};
+ghost use Rattle.jh_timeline.specs.LanesInside.{AreHeld, AreInOrder, AreKept, IsFirst, IsPopped, Takes, new_calls, until_with};
 
 use crate::picture::{Bar, Call, Lane, Picture, Window};
 use jh_ops::{Kind, Op, Process};
@@ -111,23 +111,63 @@ fn calls_in(alloc: Global, window: Window, history: &[Op]) -> Result<Vec<Call>, 
     Ok(calls)
 }
 
-/// The first lane that is free at an index, where each lane is held up to an index.
-fn free_lane(until: &[usize], index: usize) -> usize
-    ensures within { result ≤ length until.now }
-    ensures free { result < length until.now → slice_index until.now result < index }
-    ensures first { (lane : ℕ) → lane < result → index ≤ slice_index until.now lane }
-{
-    until
-        .iter()
-        .position(|last| *last < index)
-        .unwrap_or(until.len())
+/// Up to which index each lane is held.
+#[derive(Drop)]
+struct Ends {
+    /// For each lane, the index up to which it is held, or was.
+    until: Vec<usize>,
+    /// Lanes that may be held, each behind that index.
+    busy: BTreeSet<(usize, usize)>,
+    /// Lanes that are free.
+    free: BTreeSet<usize>,
 }
 
-/// Holds a lane up to an index.
-fn hold(until: &mut Vec<usize>, lane: usize, last: usize) -> Result<(), AllocError>
+/// Takes out the lane that is held no longer than any other, where it is free at an index.
+fn pop_free(busy: &mut BTreeSet<(usize, usize)>, index: usize) -> Option<(usize, usize)>
+    ensures some { IfSome result (IsPopped busy.old busy.new index) }
+    ensures none { IfNone result (AreHeld busy.old index) }
+    ensures same { IfNone result (busy.new ≡ busy.old) }
+{
+    let first = *busy.first()?;
+    if first.0 < index {
+        busy.remove(&first);
+        Some(first)
+    } else {
+        None
+    }
+}
+
+/// Frees the lanes that are free at an index.
+fn release(ends: &mut Ends, index: usize) -> Result<(), AllocError>
+    requires { AreKept ends.old index (length ends.old.until.items) }
+    ensures kept { OnOk result (AreKept ends.new index (length ends.new.until.items)) }
+    ensures held { OnOk result (AreHeld ends.new.busy index) }
+    ensures until { OnOk result (ends.new.until ≡ ends.old.until) }
+{
+    'freed: while let Some((_, lane)) = pop_free(&mut ends.busy, index) {
+        ends.free.insert(lane)?;
+    }
+    Ok(())
+}
+
+/// The first lane that is free at an index, taken out of those that are free.
+fn free_lane(ends: &mut Ends, index: usize) -> Result<usize, AllocError>
+    requires { AreKept ends.old index (length ends.old.until.items) }
+    ensures first { IfOk result (IsFirst ends.old.until.items index) }
+    ensures kept { IfOk result (AreKept ends.new index) }
+    ensures until { OnOk result (ends.new.until ≡ ends.old.until) }
+{
+    release(ends, index)?;
+    match ends.free.pop_first() {
+        Some(lowest) => Ok(lowest),
+        None => Ok(ends.until.len()),
+    }
+}
+
+/// Says up to which index a lane is held.
+fn set_until(until: &mut Vec<usize>, lane: usize, last: usize) -> Result<(), AllocError>
     requires { lane ≤ length until.old.items }
-    ensures { OnOk result (until.new.items ≡ if nat_lt lane (length until.old.items)
-        then slice_set until.old.items lane last else until.old.items ++ last ∷ []) }
+    ensures { OnOk result (until.new.items ≡ until_with until.old.items lane last) }
 {
     if lane < until.len() {
         until[lane] = last;
@@ -137,20 +177,34 @@ fn hold(until: &mut Vec<usize>, lane: usize, last: usize) -> Result<(), AllocErr
     Ok(())
 }
 
+/// Holds a lane up to an index.
+fn hold(ends: &mut Ends, lane: usize, last: usize) -> Result<(), AllocError>
+    requires { lane ≤ length ends.old.until.items }
+    ensures until { OnOk result (ends.new.until.items ≡ until_with ends.old.until.items lane last) }
+    ensures kept { OnOk result ((index : ℕ) → AreKept ends.old index lane
+        → AreKept ends.new index (length ends.new.until.items)) }
+{
+    set_until(&mut ends.until, lane, last)?;
+    ends.busy.insert((last, lane))?;
+    Ok(())
+}
+
 /// The lane of a call: the one that its process has, or else the first that is free at its invocation.
 fn take_lane(
     call: &Call,
     held: &mut BTreeMap<u64, usize>,
-    until: &mut Vec<usize>,
+    ends: &mut Ends,
 ) -> Result<usize, AllocError>
-    ensures { IfOk result (Takes held.old held.new until.old.items until.new.items call.now) }
+    requires { AreKept ends.old call.now.invoke (length ends.old.until.items) }
+    ensures takes { IfOk result (Takes held.old held.new ends.old.until.items ends.new.until.items call.now) }
+    ensures kept { OnOk result (AreKept ends.new call.now.invoke (length ends.new.until.items)) }
 {
     let had = held.get(&call.client).copied();
     match had {
         Some(lane) => Ok(lane),
         None => {
-            let lane = free_lane(until, call.invoke);
-            hold(until, lane, call.last)?;
+            let lane = free_lane(ends, call.invoke)?;
+            hold(ends, lane, call.last)?;
             held.insert(call.client, lane)?;
             Ok(lane)
         }
@@ -164,10 +218,14 @@ fn bars_of(alloc: Global, calls: &[Call]) -> Result<Vec<Bar>, AllocError>
     ensures lanes { IfOk result (λ bars. TakeLanes [] bars.items) }
 {
     let mut held = BTreeMap::new(alloc);
-    let mut until = Vec::new(alloc);
+    let mut ends = Ends {
+        until: Vec::new(alloc),
+        busy: BTreeSet::new(alloc),
+        free: BTreeSet::new(alloc),
+    };
     let mut bars = Vec::new(alloc);
     for call in calls {
-        let lane = take_lane(call, &mut held, &mut until)?;
+        let lane = take_lane(call, &mut held, &mut ends)?;
         bars.push(Bar { call: *call, lane })?;
     }
     Ok(bars)
@@ -251,7 +309,7 @@ fn lanes_of(alloc: Global, bars: &[Bar]) -> Result<Vec<Lane>, AllocError>
 /// the nemesis. And the processes that each lane had, in order.
 ///
 /// Any history has a picture: where a process has an invocation right behind another, the first has no completion. Takes O(n log n)
-/// for n records, and a look at each lane for each process.
+/// for n records.
 ///
 /// Errors: where memory runs out.
 pub fn picture_in(alloc: Global, window: Window, history: &[Op]) -> Result<Picture, AllocError>
