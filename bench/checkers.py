@@ -67,26 +67,31 @@ def history(workload, operations, seed):
     return "".join(lines).encode()
 
 
-def measured(workload, text):
+def measured(workload, operations, seed):
+    """The status, the seconds, the megabytes of text, and the most memory of one run."""
     with tempfile.TemporaryFile() as source:
-        source.write(text)
+        # The history is made by a process of its own: what a process was before it runs a program counts among its memory.
+        subprocess.run([sys.executable, __file__, "--write", workload, str(operations), str(seed)], stdout=source, check=True)
+        size = source.seek(0, os.SEEK_END)
         source.seek(0)
         start = time.perf_counter()
         run = subprocess.Popen([PROGRAM, "check", "--workload", workload], stdin=source, stdout=subprocess.DEVNULL)
         _, status, usage = os.wait4(run.pid, 0)
-        return os.waitstatus_to_exitcode(status), time.perf_counter() - start, usage.ru_maxrss // 1024
+        return os.waitstatus_to_exitcode(status), time.perf_counter() - start, size / 1e6, usage.ru_maxrss // 1024
 
 
 def main():
+    if sys.argv[1:2] == ["--write"]:
+        sys.stdout.buffer.write(history(sys.argv[2], int(sys.argv[3]), int(sys.argv[4])))
+        return
     most, seed = (int(word) for word in (sys.argv[1:] + ["1000000", "1"][len(sys.argv) - 1 :]))
     operations = 10_000
     while operations <= most:
         for workload in ("set", "counter", "unique-ids"):
-            text = history(workload, operations, seed)
-            status, took, memory = measured(workload, text)
+            status, took, size, memory = measured(workload, operations, seed)
             print(
-                f"{operations:,} operations of a {workload}, status {status}: {took:.2f} s, "
-                f"{len(text) / took / 1e6:.0f} MB/s, {operations / took:,.0f} operations a second, {memory} MB"
+                f"{operations:,} operations of a {workload}, {size:.1f} MB, status {status}: {took:.2f} s, "
+                f"{size / took:.0f} MB/s, {operations / took:,.0f} operations a second, {memory} MB"
             )
         operations *= 10
 
