@@ -48,7 +48,7 @@ shrink = with_rule (new_app (codes "shrink")) (budget (codes "10000"))
 
 abbrev pub jeprun : Bor (List (Bor Text)) → App
 jeprun names = with_subcommand (with_subcommand (with_subcommand (with_subcommand
-    (on_top (λ s. record s { has_version = true; subcommand_required = true }) (new_app (codes "jeprun")))
+    (on_top (λ s. record s { has_version = true; subcommand_required = true; arg_required_else_help = true }) (new_app (codes "jeprun")))
     (new_app (codes "env")).top) (check names).top) (new_app (codes "run")).top) shrink.top
 
 abbrev pub workload_names : List Text

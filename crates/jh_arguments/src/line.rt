@@ -47,6 +47,7 @@ fn command_line<'a>(alloc: Global) -> Result<Command<'a>, Error>
         .after_help(help::JEPRUN)
         .version(help::VERSION)
         .subcommand_required(true)
+        .arg_required_else_help(true)
         .subcommand(env)?
         .subcommand(check_command(alloc)?)?
         .subcommand(run)?
