@@ -48,7 +48,9 @@ fn write_shown<W: Write>(c: char, writer: &mut W) -> Result<(), PageError>
         '&' => put(b"&amp;", writer),
         '"' => put(b"&quot;", writer),
         '\'' => put(b"&#39;", writer),
-        '\0'..='\t' | '\x0b'..='\x1f' | '\x7f'..='\u{9f}' | '\u{fffe}' | '\u{ffff}' => write_number(c, writer),
+        '\0'..='\t' | '\x0b'..='\x1f' | '\x7f'..='\u{9f}' | '\u{fffe}' | '\u{ffff}' => write_number(
+            c, writer,
+        ),
         _ => write_itself(c, writer),
     }
 }

@@ -4,8 +4,9 @@ ghost use Rattle.std.specs.Prelude.{◌≡◌, ◌++◌, All, OnOk, length};
 ghost use Rattle.std.specs.Io.KnownBytes.{Appends};
 ghost use Rattle.std.specs.List.{enumerate_from, flat_map};
 ghost use Rattle.jh_ops.specs.OperationWritten.{IsWritable};
+ghost use Rattle.jh_pages.specs.Page as rule;
 ghost use Rattle.jh_pages.specs.Page.{below_text, client_text, contents_text, heading_text, lane_text, link_text};
-ghost use Rattle.jh_pages.specs.Page.{page_text, section_text, window_text};
+ghost use Rattle.jh_pages.specs.Page.{name_text, page_text, range_text, section_text, window_text};
 
 use crate::drawing::{end_in, write_picture};
 use crate::error::PageError;
@@ -16,7 +17,8 @@ use std::alloc::Global;
 use std::io::Write;
 
 /// The page up to the line on top. Its colours are for light and dark, and on paper a picture is as wide as the paper at most.
-const HEAD: &[u8] = b"<!DOCTYPE html>\n<html xmlns=\"http://www.w3.org/1999/xhtml\" lang=\"en\">\n<head>\n\
+const HEAD: &[u8] =
+    b"<!DOCTYPE html>\n<html xmlns=\"http://www.w3.org/1999/xhtml\" lang=\"en\">\n<head>\n\
     <meta charset=\"utf-8\"/>\n<title>Timeline</title>\n<style>\n\
     :root { color-scheme: light dark; --ink: #1a1a1a; --paper: #ffffff; --ok: #b7e1b0; --fail: #f2c6c6; \
     --info: #fbe3a6; --open: #dddddd; --fault: #7a4fbf; --mark: #c00000 }\n\
@@ -41,9 +43,17 @@ const HEAD: &[u8] = b"<!DOCTYPE html>\n<html xmlns=\"http://www.w3.org/1999/xhtm
     </style>\n</head>\n<body>\n<h1>";
 
 /// The end of the line on top, and what signs and colours mean.
-const LEGEND: &[u8] = b"</h1>\n<p class=\"legend\"><span class=\"ok\">&#10003; ok</span> <span class=\"fail\">&#10007; fail</span> \
+const LEGEND: &[u8] =
+    b"</h1>\n<p class=\"legend\"><span class=\"ok\">&#10003; ok</span> <span class=\"fail\">&#10007; fail</span> \
     <span class=\"info\">? info</span> <span class=\"open\">&#8230; no completion</span> <span class=\"marked\">mark</span> \
     Time goes down, a line across is a fault, and a bold outline is a mark. Point at a bar or a line to see its records.</p>\n";
+
+/// Writes the end of a tag with the name of a section, or a link to it.
+fn write_name<W: Write>(tag: &str, number: usize, writer: &mut W) -> Result<(), PageError>
+    ensures { OnOk result (Appends (W.contents writer.old) (W.contents writer.new) (name_text tag.now number)) }
+{
+    write!(writer, "{tag}part-{number}\">").map_err(|_| PageError::Write)
+}
 
 /// Writes the heading of a section.
 fn write_heading<W: Write>(
@@ -55,28 +65,45 @@ fn write_heading<W: Write>(
     ensures { OnOk result (Appends (W.contents writer.old) (W.contents writer.new) (heading_text number heading.now)) }
 {
     if heading.is_empty() {
-        return write!(writer, "<p id=\"part-{number}\">").map_err(|_| PageError::Write);
+        return write_name("<p id=\"", number, writer);
     }
-    write!(writer, "<h2 id=\"part-{number}\">").map_err(|_| PageError::Write)?;
+    write_name("<h2 id=\"", number, writer)?;
     write_escaped_bytes(alloc, heading, writer)?;
     put(b"</h2>\n<p>", writer)
+}
+
+/// Whether all records are drawn.
+fn is_whole(window: Window, total: usize) -> bool
+    ensures { result ≡ rule.is_whole window total }
+{
+    window.from == 0 && total <= window.to
+}
+
+/// Writes that records from one to another are drawn.
+fn write_range<W: Write>(
+    first: usize,
+    last: usize,
+    total: usize,
+    writer: &mut W,
+) -> Result<(), PageError>
+    ensures { OnOk result (Appends (W.contents writer.old) (W.contents writer.new) (range_text first last total)) }
+{
+    write!(
+        writer,
+        "Records {first} to {last} of {total}; --from and --to choose others.</p>\n"
+    )
+    .map_err(|_| PageError::Write)
 }
 
 /// Writes which of so many records are drawn.
 fn write_window<W: Write>(window: Window, total: usize, writer: &mut W) -> Result<(), PageError>
     ensures { OnOk result (Appends (W.contents writer.old) (W.contents writer.new) (window_text window total)) }
 {
-    let from = window.from;
     let end = end_in(window, total);
-    if from == 0 && total <= window.to {
+    if is_whole(window, total) {
         write!(writer, "All {total} records.</p>\n").map_err(|_| PageError::Write)
-    } else if from < end {
-        let last = end - 1;
-        write!(
-            writer,
-            "Records {from} to {last} of {total}; --from and --to choose others.</p>\n"
-        )
-        .map_err(|_| PageError::Write)
+    } else if window.from < end {
+        write_range(window.from, end - 1, total, writer)
     } else {
         write!(
             writer,
@@ -126,10 +153,10 @@ fn write_section<W: Write>(
     requires { All (λ op. IsWritable op.process) section.now.history.items }
     ensures { OnOk result (Appends (W.contents writer.old) (W.contents writer.new) (section_text number section.now)) }
 {
-    write_heading(alloc, number, &section.heading, writer)?;
+    write_heading(alloc, number, section.heading.as_slice(), writer)?;
     write_window(section.window, section.history.len(), writer)?;
     put(b"<ol>\n", writer)?;
-    write_lanes(&section.picture.lanes, writer)?;
+    write_lanes(section.picture.lanes.as_slice(), writer)?;
     put(b"</ol>\n", writer)?;
     write_picture(alloc, section, writer)
 }
@@ -159,8 +186,8 @@ fn write_link<W: Write>(
 ) -> Result<(), PageError>
     ensures { OnOk result (Appends (W.contents writer.old) (W.contents writer.new) (link_text number section.now)) }
 {
-    write!(writer, "<li><a href=\"#part-{number}\">").map_err(|_| PageError::Write)?;
-    write_escaped_bytes(alloc, &section.heading, writer)?;
+    write_name("<li><a href=\"#", number, writer)?;
+    write_escaped_bytes(alloc, section.heading.as_slice(), writer)?;
     put(b"</a></li>\n", writer)
 }
 
