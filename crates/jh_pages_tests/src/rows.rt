@@ -140,13 +140,7 @@ pub(crate) fn write_asked<W: Write>(
     let above = given.split("\n#").next().unwrap_or("");
     let (line, below) = above.split_once('\n').unwrap_or((above, ""));
     let sections = sections_of(alloc, given)?;
-    write_page(
-        alloc,
-        line.as_bytes(),
-        &sections,
-        below.as_bytes(),
-        writer,
-    )
+    write_page(alloc, line.as_bytes(), &sections, below.as_bytes(), writer)
 }
 
 /// The page that a row asks for. It has room from the start, so no writer fails.
@@ -180,8 +174,8 @@ pub(crate) fn ask_all(alloc: Global, rows: &str) -> Result<(), Fail> {
     for row in rows.split("\n\n") {
         let (given, body) = row.split_once("\n=>\n").ok_or("no page")?;
         let page = asked(alloc, given).ok_or("no answer")?;
-        let is_right = head_of(&page, body)
-            .is_some_and(|head| head.starts_with(OPENING) && head.ends_with(BODY));
+        let is_right = head_of(&page, body).is_some_and(|head| head.starts_with(OPENING)
+            && head.ends_with(BODY));
         if !is_right {
             return Err(Fail::new(given));
         }

@@ -4,7 +4,7 @@ use Rattle.std.specs.Io.KnownBytes.{Appends}
 use Rattle.std.specs.Prelude.{OnOk}
 use Rattle.jh_edn.proofs.Facts.{appends_then}
 use Rattle.jh_pages.specs.Drawings.{place_text}
-use Rattle.jh_pages.specs.Pixels.{height_of, left_of, top_of}
+use Rattle.jh_pages.specs.Pixels.{left_of, top_of}
 use Rattle.jh_pages.proofs.drawing.write_box.Goals as goal
 
 pub returns : goal.returns
