@@ -75,20 +75,23 @@ bar_text window bar (Some invocation) completion =
 -- a bar, with the records that it has in the history
 abbrev pub drawn_bar : Section → Bar → List ℕ
 drawn_bar section bar =
-    bar_text section.window bar (record_of section bar.call.invoke) (option_and_then (λ index. record_of section index) bar.call.completion)
+    bar_text section.window bar (record_of section bar.call.invoke)
+    (option_and_then (λ index. record_of section index) bar.call.completion)
 
 -- ---- faults
 
 -- a line across all lanes, in the row of an index
 abbrev pub line_text : Window → ℕ → List ℕ
 line_text window index =
-    codes "<svg class=\"fault\" y=\"" ++ (decimal (top_of window index) ++ codes "\" width=\"100%\" height=\"16\"><line x2=\"100%\"/><title>")
+    codes "<svg class=\"fault\" y=\""
+    ++ (decimal (top_of window index) ++ codes "\" width=\"100%\" height=\"16\"><line x2=\"100%\"/><title>")
 
 -- a record of the nemesis, and nothing where there is none
 abbrev pub fault_text : Window → ℕ → Option Operation → List ℕ
 fault_text window index None = []
 fault_text window index (Some op) =
-    line_text window index ++ record_text op ++ codes "</title><text x=\"4\" y=\"12\">" ++ label_text op.f op.value ++ codes "</text></svg>\n"
+    line_text window index ++ record_text op ++ codes "</title><text x=\"4\" y=\"12\">"
+    ++ label_text op.f op.value ++ codes "</text></svg>\n"
 
 abbrev pub drawn_fault : Section → ℕ → List ℕ
 drawn_fault section index = fault_text section.window index (record_of section index)
@@ -122,12 +125,14 @@ view_text width height = codes " viewBox=\"0 0 " ++ (decimal width ++ (codes " "
 -- the opening of a picture of this size
 abbrev pub opening_text : ℕ → ℕ → List ℕ
 opening_text width height =
-    codes "<div class=\"picture\">\n<svg xmlns=\"http://www.w3.org/2000/svg\"" ++ sides_text width height ++ view_text width height
+    codes "<div class=\"picture\">\n<svg xmlns=\"http://www.w3.org/2000/svg\""
+    ++ sides_text width height ++ view_text width height
 
 -- the opening of the picture: as wide as its lanes, with the one of the nemesis, and as high as the records that are drawn
 abbrev pub picture_head : Section → List ℕ
 picture_head section =
-    opening_text (left_of (vec_len section.picture.lanes)) (top_of section.window (end_in section.window (vec_len section.history)))
+    opening_text (left_of (vec_len section.picture.lanes))
+    (top_of section.window (end_in section.window (vec_len section.history)))
 
 -- faults below bars, and bars below marks
 abbrev pub picture_text : Section → List ℕ

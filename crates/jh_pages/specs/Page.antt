@@ -74,4 +74,5 @@ below_text below = if length below == 0 then [] else codes "<pre>" ++ escaped_by
 abbrev pub page_text : List ℕ → List Section → List ℕ → List ℕ
 page_text line sections below =
     HEAD.now ++ escaped_bytes line ++ LEGEND.now ++ contents_text sections
-    ++ flat_map (λ numbered. section_text numbered.0 numbered.1) (enumerate_from 0 sections) ++ below_text below ++ codes "</body>\n</html>\n"
+    ++ flat_map (λ numbered. section_text numbered.0 numbered.1) (enumerate_from 0 sections)
+    ++ below_text below ++ codes "</body>\n</html>\n"

@@ -61,7 +61,8 @@ fn ending_sign(ending: Option<Kind>) -> &'static str
 
 /// What the label of an operation has behind its function.
 fn answer_of<'a>(invocation: &'a Op, completion: Option<&'a Op>) -> &'a Value
-    ensures { view result.now ≡ rule.answer_of (operation invocation.now) (option_map (λ op. operation op.now) completion.entry) }
+    ensures { view result.now ≡ rule.answer_of (operation invocation.now)
+        (option_map (λ op. operation op.now) completion.entry) }
 {
     match completion {
         Some(op) => match op.kind {
@@ -82,7 +83,8 @@ fn write_records<W: Write>(
     requires invocation { IsWritable invocation.now.process }
     requires completion { ForSome completion (λ op. IsWritable op.now.process) }
     ensures { OnOk result (Appends (W.contents writer.old) (W.contents writer.new)
-        (records_text (operation invocation.now) (option_map (λ op. operation op.now) completion.entry))) }
+        (records_text (operation invocation.now)
+        (option_map (λ op. operation op.now) completion.entry))) }
 {
     write_record(alloc, invocation, writer)?;
     match completion {
@@ -101,11 +103,13 @@ fn write_place<W: Write>(
     height: u128,
     writer: &mut W,
 ) -> Result<(), PageError>
-    ensures { OnOk result (Appends (W.contents writer.old) (W.contents writer.new) (place_text left top height)) }
+    ensures { OnOk result
+        (Appends (W.contents writer.old) (W.contents writer.new) (place_text left top height)) }
 {
     write!(
         writer,
-        "\" x=\"{left}\" y=\"{top}\" width=\"172\" height=\"{height}\"><rect width=\"100%\" height=\"100%\"/>"
+        "\" x=\"{left}\" y=\"{top}\" width=\"172\" height=\"{height}\">\
+         <rect width=\"100%\" height=\"100%\"/>"
     )
     .map_err(|_| PageError::Write)
 }
@@ -117,7 +121,9 @@ fn write_box<W: Write>(
     bar: &Bar,
     writer: &mut W,
 ) -> Result<(), PageError>
-    ensures { OnOk result (Appends (W.contents writer.old) (W.contents writer.new) (box_text class.now window bar.now)) }
+    ensures { OnOk result
+        (Appends (W.contents writer.old) (W.contents writer.new)
+        (box_text class.now window bar.now)) }
 {
     put(b"<svg class=\"", writer)?;
     put(class.as_bytes(), writer)?;
@@ -138,7 +144,8 @@ fn write_bar<W: Write>(
     requires invocation { IsWritable invocation.now.process }
     requires completion { ForSome completion (λ op. IsWritable op.now.process) }
     ensures { OnOk result (Appends (W.contents writer.old) (W.contents writer.new)
-        (bar_text window bar.now (Some (operation invocation.now)) (option_map (λ op. operation op.now) completion.entry))) }
+        (bar_text window bar.now (Some (operation invocation.now))
+        (option_map (λ op. operation op.now) completion.entry))) }
 {
     let ending = ending_of(completion);
     write_box(ending_class(ending), window, bar, writer)?;
@@ -176,7 +183,8 @@ fn draw_bar<W: Write>(
     writer: &mut W,
 ) -> Result<(), PageError>
     requires { All (λ op. IsWritable op.process) section.now.history.items }
-    ensures { OnOk result (Appends (W.contents writer.old) (W.contents writer.new) (drawn_bar section.now bar.now)) }
+    ensures { OnOk result
+        (Appends (W.contents writer.old) (W.contents writer.new) (drawn_bar section.now bar.now)) }
 {
     let completion = completion_of(section, bar);
     match section.record(bar.call.invoke) {
@@ -199,7 +207,8 @@ fn draw_bars<W: Write>(alloc: Global, section: &Section, writer: &mut W) -> Resu
 
 /// Writes the opening of a line in the row of an index.
 fn write_line<W: Write>(window: Window, index: usize, writer: &mut W) -> Result<(), PageError>
-    ensures { OnOk result (Appends (W.contents writer.old) (W.contents writer.new) (line_text window index)) }
+    ensures { OnOk result
+        (Appends (W.contents writer.old) (W.contents writer.new) (line_text window index)) }
 {
     let top = top_of(window, index);
     write!(
@@ -236,7 +245,8 @@ fn draw_fault<W: Write>(
     writer: &mut W,
 ) -> Result<(), PageError>
     requires { All (λ op. IsWritable op.process) section.now.history.items }
-    ensures { OnOk result (Appends (W.contents writer.old) (W.contents writer.new) (drawn_fault section.now index)) }
+    ensures { OnOk result
+        (Appends (W.contents writer.old) (W.contents writer.new) (drawn_fault section.now index)) }
 {
     match section.record(index) {
         Some(op) => write_fault(alloc, section.window, index, op, writer),
@@ -263,7 +273,9 @@ fn write_mark<W: Write>(
     bar: &Bar,
     writer: &mut W,
 ) -> Result<(), PageError>
-    ensures { OnOk result (Appends (W.contents writer.old) (W.contents writer.new) (mark_text window note (Some bar.now))) }
+    ensures { OnOk result
+        (Appends (W.contents writer.old) (W.contents writer.new)
+        (mark_text window note (Some bar.now))) }
 {
     write_box(class_of(note), window, bar, writer)?;
     put(b"<text x=\"168\" y=\"12\">", writer)?;
@@ -273,7 +285,9 @@ fn write_mark<W: Write>(
 
 /// Writes a mark at the bar that it names.
 fn draw_mark<W: Write>(section: &Section, mark: &Mark, writer: &mut W) -> Result<(), PageError>
-    ensures { OnOk result (Appends (W.contents writer.old) (W.contents writer.new) (drawn_mark section.now mark.now)) }
+    ensures { OnOk result
+        (Appends (W.contents writer.old) (W.contents writer.new)
+        (drawn_mark section.now mark.now)) }
 {
     match section.bar(mark.bar) {
         Some(bar) => write_mark(section.window, mark.note, &bar, writer),
@@ -301,21 +315,24 @@ pub(crate) fn end_in(window: Window, total: usize) -> usize
 
 /// Writes how wide and how high something is.
 fn write_sides<W: Write>(width: u128, height: u128, writer: &mut W) -> Result<(), PageError>
-    ensures { OnOk result (Appends (W.contents writer.old) (W.contents writer.new) (sides_text width height)) }
+    ensures { OnOk result
+        (Appends (W.contents writer.old) (W.contents writer.new) (sides_text width height)) }
 {
     write!(writer, " width=\"{width}\" height=\"{height}\"").map_err(|_| PageError::Write)
 }
 
 /// Writes the same, whatever it is made as wide as.
 fn write_view<W: Write>(width: u128, height: u128, writer: &mut W) -> Result<(), PageError>
-    ensures { OnOk result (Appends (W.contents writer.old) (W.contents writer.new) (view_text width height)) }
+    ensures { OnOk result
+        (Appends (W.contents writer.old) (W.contents writer.new) (view_text width height)) }
 {
     write!(writer, " viewBox=\"0 0 {width} {height}\">\n").map_err(|_| PageError::Write)
 }
 
 /// Writes the opening of a picture of this size.
 fn write_opening<W: Write>(width: u128, height: u128, writer: &mut W) -> Result<(), PageError>
-    ensures { OnOk result (Appends (W.contents writer.old) (W.contents writer.new) (opening_text width height)) }
+    ensures { OnOk result
+        (Appends (W.contents writer.old) (W.contents writer.new) (opening_text width height)) }
 {
     put(
         b"<div class=\"picture\">\n<svg xmlns=\"http://www.w3.org/2000/svg\"",
@@ -327,7 +344,8 @@ fn write_opening<W: Write>(width: u128, height: u128, writer: &mut W) -> Result<
 
 /// Writes the opening of the picture.
 fn write_picture_head<W: Write>(section: &Section, writer: &mut W) -> Result<(), PageError>
-    ensures { OnOk result (Appends (W.contents writer.old) (W.contents writer.new) (picture_head section.now)) }
+    ensures { OnOk result
+        (Appends (W.contents writer.old) (W.contents writer.new) (picture_head section.now)) }
 {
     let width = left_of(section.picture.lanes.len());
     let end = end_in(section.window, section.history.len());
@@ -341,7 +359,8 @@ pub(crate) fn write_picture<W: Write>(
     writer: &mut W,
 ) -> Result<(), PageError>
     requires { All (λ op. IsWritable op.process) section.now.history.items }
-    ensures { OnOk result (Appends (W.contents writer.old) (W.contents writer.new) (picture_text section.now)) }
+    ensures { OnOk result
+        (Appends (W.contents writer.old) (W.contents writer.new) (picture_text section.now)) }
 {
     write_picture_head(section, writer)?;
     draw_faults(alloc, section, writer)?;

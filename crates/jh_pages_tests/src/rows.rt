@@ -1,9 +1,10 @@
 //! Rows of histories with the page of each.
 //!
-//! A row is the line on top, and what stands below all sections in further lines; for each section a line `#` with its heading, a line
-//! with the window's two indexes, and behind each `;` a mark: a bar and what is said of it, and its records; a line `=>`; and the page
-//! from its line on, without the legend. An empty line ends it. A table is one text, since the proof of an array takes a second for
-//! each row.
+//! A row is the line on top, and what stands below all sections in further lines; for each section
+//! a line `#` with its heading, a line with the window's two indexes, and behind each `;` a mark: a
+//! bar and what is said of it, and its records; a line `=>`; and the page from its line on, without
+//! the legend. An empty line ends it. A table is one text, since the proof of an array takes a
+//! second for each row.
 
 ghost use Rattle.std.specs.Prelude.{All, IfOk};
 ghost use Rattle.jh_ops.specs.OperationWritten.{IsWritable};
@@ -25,10 +26,11 @@ const OPENING: &str =
 const BODY: &str = "</style>\n</head>\n<body>\n";
 
 /// What stands behind the line on top.
-const LEGEND: &str =
-    "<p class=\"legend\"><span class=\"ok\">&#10003; ok</span> <span class=\"fail\">&#10007; fail</span> \
-    <span class=\"info\">? info</span> <span class=\"open\">&#8230; no completion</span> <span class=\"marked\">mark</span> \
-    Time goes down, a line across is a fault, and a bold outline is a mark. Point at a bar or a line to see its records.</p>\n";
+const LEGEND: &str = "<p class=\"legend\"><span class=\"ok\">&#10003; ok</span> \
+    <span class=\"fail\">&#10007; fail</span> <span class=\"info\">? info</span> \
+    <span class=\"open\">&#8230; no completion</span> <span class=\"marked\">mark</span> \
+    Time goes down, a line across is a fault, and a bold outline is a mark. \
+    Point at a bar or a line to see its records.</p>\n";
 
 /// More bytes than any page here has.
 const ROOM: usize = 20_000;
@@ -122,7 +124,8 @@ fn section_of(alloc: Global, text: &str) -> Result<Section, PageError>
 
 /// The sections of a row.
 fn sections_of(alloc: Global, given: &str) -> Result<Vec<Section>, PageError>
-    ensures { IfOk result (λ sections. All (λ section. All (λ op. IsWritable op.process) section.history.items) sections.items) }
+    ensures { IfOk result (λ sections. All (λ section. All (λ op. IsWritable op.process)
+        section.history.items) sections.items) }
 {
     let mut sections = Vec::new(alloc);
     for text in given.split("\n#").skip(1) {
