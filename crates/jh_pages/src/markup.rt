@@ -85,11 +85,11 @@ fn write_short<W: Write>(text: &str, writer: &mut W) -> Result<(), PageError>
         (Appends (W.contents writer.old) (W.contents writer.new) (short (chars text.now))) }
 {
     let mut written = 0;
-    for c in text.chars() {
+    for character in text.chars() {
         if written == MAX_SHOWN {
             return put(b"&#8230;", writer);
         }
-        write_shown(c, writer)?;
+        write_shown(character, writer)?;
         written += 1;
     }
     Ok(())

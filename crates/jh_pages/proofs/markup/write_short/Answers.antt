@@ -29,17 +29,17 @@ short_whole cs ys few all =
 pub returns-then-written-eq-MAX_SHOWN : goal.returns-then-written-eq-MAX_SHOWN
 returns-then-written-eq-MAX_SHOWN g c =
     let contents = g.W.Write.contents in
-    let ys = c.loop-c.yielded in
+    let ys = c.loop-character.yielded in
     let road = YieldsList-from_chars c.args.text.now c.utf8.text cc in
-    let begins = sym (map_itself ys) ∙ YieldsList-so_far road ys _ c.loop-c.yielded_by in
-    let turn = YieldsList-turn road ys _ c.loop-c.yielded_by _ _ c.in-Some.c c.in-Some.is c.next.ensures.steps in
-    let count = sym c.loop-c.invariant.0 ∙ c.if-written-eq-MAX_SHOWN.true in
+    let begins = sym (map_itself ys) ∙ YieldsList-so_far road ys _ c.loop-character.yielded_by in
+    let turn = YieldsList-turn road ys _ c.loop-character.yielded_by _ _ c.in-Some.character c.in-Some.is c.next.ensures.steps in
+    let count = sym c.loop-character.invariant.0 ∙ c.if-written-eq-MAX_SHOWN.true in
     on_ok_weaker c.put.result (λ end. subst (Appends (contents c.args.writer.now) (contents c.put.new.writer)) (sym (short_long _ ys count begins turn.0))
-    (appends_then (contents c.args.writer.now) (contents c.loop-c.writer) (contents c.put.new.writer) _ _ c.loop-c.invariant.2 end)) c.put.ensures.bytes
+    (appends_then (contents c.args.writer.now) (contents c.loop-character.writer) (contents c.put.new.writer) _ _ c.loop-character.invariant.2 end)) c.put.ensures.bytes
 
 pub returns : goal.returns
 returns g c =
     let contents = g.W.Write.contents in
-    let ys = c.loop-c.yielded in
-    let all = YieldsList-end (YieldsList-from_chars c.args.text.now c.utf8.text cc) ys _ c.loop-c.yielded_by _ _ c.in-None.is c.next.ensures.steps in
-    subst (Appends (contents c.args.writer.now) (contents c.loop-c.writer)) (sym (short_whole _ ys c.loop-c.invariant.1 (sym (map_itself ys) ∙ all.0))) c.loop-c.invariant.2
+    let ys = c.loop-character.yielded in
+    let all = YieldsList-end (YieldsList-from_chars c.args.text.now c.utf8.text cc) ys _ c.loop-character.yielded_by _ _ c.in-None.is c.next.ensures.steps in
+    subst (Appends (contents c.args.writer.now) (contents c.loop-character.writer)) (sym (short_whole _ ys c.loop-character.invariant.1 (sym (map_itself ys) ∙ all.0))) c.loop-character.invariant.2
