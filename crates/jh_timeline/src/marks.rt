@@ -16,8 +16,8 @@ pub enum Note {
     Placed(usize),
     /// With its completion the history has no order any more.
     Stuck,
-    /// It is pending where the history is stuck.
-    Pending,
+    /// It is pending where the history is stuck, with its number in the order of what is before, if it has one.
+    Pending(Option<usize>),
     /// It added an element that is lost.
     Lost,
     /// It added an element that is read, and was not acknowledged.
@@ -50,7 +50,7 @@ pub(crate) fn class_of(note: Note) -> &'static str
     match note {
         Note::Placed(_) => "placed",
         Note::Stuck => "stuck",
-        Note::Pending => "pending",
+        Note::Pending(_) => "pending",
         Note::Lost => "lost",
         Note::Recovered => "recovered",
         Note::Unexpected => "unexpected",
@@ -67,6 +67,9 @@ pub(crate) fn write_note<W: Write>(note: Note, writer: &mut W) -> Result<(), Pag
 {
     match note {
         Note::Placed(number) => write!(writer, "{number}").map_err(|_| PageError::Write),
+        Note::Pending(Some(number)) => {
+            write!(writer, "pending {number}").map_err(|_| PageError::Write)
+        }
         Note::Outside { lower, upper } => {
             write!(writer, "[{lower} {upper}]").map_err(|_| PageError::Write)
         }

@@ -53,7 +53,7 @@ fn note_of(name: &str, lower: i128, upper: i128) -> Option<Note> {
     match name {
         "placed" => Some(Note::Placed(usize::try_from(lower).ok()?)),
         "stuck" => Some(Note::Stuck),
-        "pending" => Some(Note::Pending),
+        "pending" => Some(Note::Pending(None)),
         "lost" => Some(Note::Lost),
         "recovered" => Some(Note::Recovered),
         "unexpected" => Some(Note::Unexpected),
