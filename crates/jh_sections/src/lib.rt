@@ -1,6 +1,8 @@
-//! What a page of a history shows: which part of a text is the history, which of its records, and the sections that are made of it.
+//! What a page of histories shows: which part of a text is a history, which of its records, and the sections that are made of it.
 #![tactic(auto)]
 
 mod parts;
+mod window;
 
 pub use parts::{Parts, history_and_rest, read_parts};
+pub use window::{BEFORE, Choice, MAX_SHOWN, SHOWN_AROUND};
