@@ -1,3 +1,2 @@
-mod MarkupLemmas
 mod LaneLemmas
 mod EndLemmas

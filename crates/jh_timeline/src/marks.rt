@@ -1,13 +1,4 @@
-//! What is marked in a page. `specs/Marks.antt` has the rule.
-
-ghost use Rattle.std.specs.Prelude.{◌≡◌, OnOk, IfErr};
-ghost use Rattle.std.specs.Io.KnownBytes.{Appends};
-ghost use Rattle.jh_timeline.specs.Marks as rule;
-ghost use Rattle.jh_timeline.specs.Marks.{note_text};
-
-use crate::error::PageError;
-use crate::markup::put;
-use std::io::Write;
+//! What is marked in a picture.
 
 /// What a mark says of an operation.
 #[derive(Clone, Copy, Debug, PartialEq, Eq)]
@@ -16,8 +7,8 @@ pub enum Note {
     Placed(usize),
     /// With its completion the history has no order any more.
     Stuck,
-    /// It is pending where the history is stuck.
-    Pending,
+    /// It is pending where the history is stuck, with its number in the order that is found up to there, if it has one.
+    Pending(Option<usize>),
     /// It added an element that is lost.
     Lost,
     /// It added an element that is read, and was not acknowledged.
@@ -41,35 +32,4 @@ pub struct Mark {
     /// The number of the bar in the picture, from 0.
     pub bar: usize,
     pub note: Note,
-}
-
-/// The class of a note in the style.
-pub(crate) fn class_of(note: Note) -> &'static str
-    ensures { result.now ≡ rule.class_of note }
-{
-    match note {
-        Note::Placed(_) => "placed",
-        Note::Stuck => "stuck",
-        Note::Pending => "pending",
-        Note::Lost => "lost",
-        Note::Recovered => "recovered",
-        Note::Unexpected => "unexpected",
-        Note::Repeated => "repeated",
-        Note::Outside { .. } => "outside",
-    }
-}
-
-/// Writes what a note says.
-pub(crate) fn write_note<W: Write>(note: Note, writer: &mut W) -> Result<(), PageError>
-    ensures bytes { OnOk result
-        (Appends (W.contents writer.old) (W.contents writer.new) (note_text note)) }
-    ensures error { IfErr result (λ e. e ≡ PageError.Write) }
-{
-    match note {
-        Note::Placed(number) => write!(writer, "{number}").map_err(|_| PageError::Write),
-        Note::Outside { lower, upper } => {
-            write!(writer, "[{lower} {upper}]").map_err(|_| PageError::Write)
-        }
-        _ => put(class_of(note).as_bytes(), writer),
-    }
 }

@@ -1,0 +1,2 @@
+mod MarkupLemmas
+mod ListLemmas

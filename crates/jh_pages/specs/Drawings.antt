@@ -1,0 +1,127 @@
+-- The picture of a history, byte for byte (this project's own; SVG within HTML that is XML too).
+use Rattle.std.specs.Prelude.{ℕ, List, [], ◌++◌, codes, length, min, slice_get, Option, Some, None, option_map, option_and_then}
+use Rattle.std.specs.Fmt.{decimal}
+use Rattle.std.specs.List.{flat_map}
+use Rattle.jh_edn.specs.Edn.{Edn}
+use Rattle.jh_ops.specs.Operation.{Operation, operations}
+use Rattle.jh_ops.specs.declared.operation.Kind.{Kind}
+use Rattle.jh_pages.specs.Labels.{label_text, record_text}
+use Rattle.jh_pages.specs.Marks.{class_of, note_text}
+use Rattle.jh_pages.specs.Pixels.{height_of, left_of, top_of}
+use Rattle.jh_pages.specs.declared.section.Section.{Section}
+use Rattle.jh_timeline.specs.declared.marks.Mark.{Mark}
+use Rattle.jh_timeline.specs.declared.marks.Note.{Note}
+use Rattle.jh_timeline.specs.declared.picture.Bar.{Bar}
+use Rattle.jh_timeline.specs.declared.picture.Window.{Window}
+
+-- the record that a section has at an index, if there is one
+abbrev pub record_of : Section → ℕ → Option Operation
+record_of section index = slice_get (operations section.history.items) index
+
+-- ---- bars
+
+-- how an operation ended, if it did
+abbrev pub ending_of : Option Operation → Option Kind
+ending_of completion = option_map (λ op. op.kind) completion
+
+-- the class of a bar in the style, by how its operation ended
+abbrev pub ending_class : Option Kind → List ℕ
+ending_class (Some Kind.Ok) = codes "ok"
+ending_class (Some Kind.Fail) = codes "fail"
+ending_class (Some _) = codes "info"
+ending_class None = codes "open"
+
+-- the sign in a bar, by how its operation ended: a check mark, a cross, a question mark, or dots
+abbrev pub ending_sign : Option Kind → List ℕ
+ending_sign (Some Kind.Ok) = codes "&#10003; "
+ending_sign (Some Kind.Fail) = codes "&#10007; "
+ending_sign (Some _) = codes "? "
+ending_sign None = codes "&#8230; "
+
+-- of what an operation asked with and what it answered, the one that its label shows: where it happened, what it answered
+abbrev pub shown_value : Kind → Edn → Edn → Edn
+shown_value Kind.Ok asked answered = answered
+shown_value _ asked answered = asked
+
+-- what the label of an operation has behind its function
+abbrev pub answer_of : Operation → Option Operation → Edn
+answer_of invocation None = invocation.value
+answer_of invocation (Some completion) = shown_value completion.kind invocation.value completion.value
+
+-- both records of an operation, one above the other
+abbrev pub records_text : Operation → Option Operation → List ℕ
+records_text invocation None = record_text invocation
+records_text invocation (Some completion) = record_text invocation ++ codes "\n" ++ record_text completion
+
+-- the box of a bar, in its lane from its first row to its last
+abbrev pub box_text : List ℕ → Window → Bar → List ℕ
+box_text class window bar =
+    codes "<svg class=\"" ++ (class ++ (codes "\" x=\"" ++ (decimal (left_of bar.lane)
+    ++ (codes "\" y=\"" ++ (decimal (top_of window bar.call.invoke) ++ (codes "\" width=\"172\" height=\""
+    ++ (decimal (height_of window bar.call) ++ codes "\"><rect width=\"100%\" height=\"100%\"/>")))))))
+
+-- an operation: its box, its records, and its label behind a sign
+abbrev pub bar_text : Window → Bar → Operation → Option Operation → List ℕ
+bar_text window bar invocation completion =
+    box_text (ending_class (ending_of completion)) window bar ++ codes "<title>" ++ records_text invocation completion
+    ++ (codes "</title><text x=\"4\" y=\"12\">" ++ ending_sign (ending_of completion))
+    ++ label_text invocation.f (answer_of invocation completion) ++ codes "</text></svg>\n"
+
+-- the same of the records that there are, and nothing where there is no invocation
+abbrev pub bar_of : Window → Bar → Option Operation → Option Operation → List ℕ
+bar_of window bar None completion = []
+bar_of window bar (Some invocation) completion = bar_text window bar invocation completion
+
+-- a bar, with the records that it has in the history
+abbrev pub drawn_bar : Section → Bar → List ℕ
+drawn_bar section bar =
+    bar_of section.window bar (record_of section bar.call.invoke) (option_and_then (λ index. record_of section index) bar.call.completion)
+
+-- ---- faults
+
+-- a line across all lanes, in the row of an index
+abbrev pub line_text : Window → ℕ → List ℕ
+line_text window index =
+    codes "<svg class=\"fault\" y=\"" ++ (decimal (top_of window index) ++ codes "\" width=\"100%\" height=\"16\"><line x2=\"100%\"/><title>")
+
+-- a record of the nemesis, and nothing where there is none
+abbrev pub fault_text : Window → ℕ → Option Operation → List ℕ
+fault_text window index None = []
+fault_text window index (Some op) =
+    line_text window index ++ record_text op ++ codes "</title><text x=\"4\" y=\"12\">" ++ label_text op.f op.value ++ codes "</text></svg>\n"
+
+abbrev pub drawn_fault : Section → ℕ → List ℕ
+drawn_fault section index = fault_text section.window index (record_of section index)
+
+-- ---- marks
+
+-- what a mark says, at the right end of a bar, and nothing where there is no bar
+abbrev pub mark_text : Window → Note → Option Bar → List ℕ
+mark_text window note None = []
+mark_text window note (Some bar) =
+    box_text (class_of note) window bar ++ codes "<text x=\"168\" y=\"12\">" ++ note_text note ++ codes "</text></svg>\n"
+
+-- a mark at the bar that it names
+abbrev pub drawn_mark : Section → Mark → List ℕ
+drawn_mark section mark = mark_text section.window mark.note (slice_get section.picture.bars.items mark.bar)
+
+-- ---- the picture
+
+-- the index before which records are drawn
+abbrev pub end_in : Window → ℕ → ℕ
+end_in window total = min window.to total
+
+-- the opening of the picture: as wide as its lanes, with the one of the nemesis, and as high as the records that are drawn
+abbrev pub picture_head : Section → List ℕ
+picture_head section =
+    let width = decimal (left_of (length section.picture.lanes.items)) in
+    let height = decimal (top_of section.window (end_in section.window (length section.history.items))) in
+    codes "<div class=\"picture\">\n<svg xmlns=\"http://www.w3.org/2000/svg\" width=\"" ++ (width ++ (codes "\" height=\"" ++ (height
+    ++ (codes "\" viewBox=\"0 0 " ++ (width ++ (codes " " ++ (height ++ codes "\">\n")))))))
+
+-- faults below bars, and bars below marks
+abbrev pub picture_text : Section → List ℕ
+picture_text section =
+    picture_head section ++ flat_map (drawn_fault section) section.picture.faults.items
+    ++ flat_map (drawn_bar section) section.picture.bars.items ++ codes "<g class=\"marks\">\n"
+    ++ flat_map (drawn_mark section) section.marks.items ++ codes "</g>\n</svg>\n</div>\n"

@@ -1,0 +1,32 @@
+-- The texts of records, and the short labels of what they ask for (this project's own).
+use Rattle.std.specs.Prelude.{ℕ, List, [], ◌∷◌, ◌++◌, codes}
+use Rattle.std.specs.List.{flat_map}
+use Rattle.jh_edn.specs.Edn.{Edn, nil, keyword, list, vector, list_of}
+use Rattle.jh_edn.specs.Print.{print}
+use Rattle.jh_ops.specs.Operation.{Operation}
+use Rattle.jh_ops.specs.OperationWritten.{value_written}
+use Rattle.jh_pages.specs.Markup.{escaped_bytes}
+
+-- a record, as it is written
+abbrev pub record_text : Operation → List ℕ
+record_text op = escaped_bytes (print (value_written op))
+
+-- the name of a function: that of a keyword without its colon
+abbrev pub name_of : Edn → List ℕ
+name_of (keyword name) = name
+name_of f = print f
+
+-- what a function is asked with: nothing, the elements of a list or a vector, or one value
+abbrev pub arguments_of : Edn → List Edn
+arguments_of nil = []
+arguments_of (list xs) = list_of xs
+arguments_of (vector xs) = list_of xs
+arguments_of value = value ∷ []
+
+-- a value behind others
+abbrev pub argument_text : Edn → List ℕ
+argument_text value = codes " " ++ print value
+
+-- a function with what it is asked with, as `cas 0 1`
+abbrev pub label_text : Edn → Edn → List ℕ
+label_text f value = escaped_bytes (name_of f ++ flat_map argument_text (arguments_of value))

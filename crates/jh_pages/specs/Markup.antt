@@ -1,0 +1,66 @@
+-- A text as it stands in the page, where no character of it is read as markup (XML 1.0: section 2.2 says which characters a
+-- document may have, 4.1 and 4.6 how an entity stands for one). A line feed stays. Another character that would not show stands as
+-- `\u{1f}` (this project's own).
+use Rattle.std.specs.Prelude.{ℕ, Bool, true, false, not, ◌&&◌, ◌||◌, ◌==◌, nat_lt, nat_eq, List, [], ◌∷◌, ◌++◌, if◌then◌else◌, codes, encode_utf8}
+use Rattle.std.specs.Fmt.{digits}
+use Rattle.std.specs.List.{flat_map, list_any, starts_with}
+use Rattle.std.specs.Str.{byte, chars}
+use Rattle.std.specs.Str.Lossy.{utf8_lossy}
+
+abbrev pub less : ℕ
+less = byte "<"
+
+abbrev pub greater : ℕ
+greater = byte ">"
+
+abbrev pub ampersand : ℕ
+ampersand = byte "&"
+
+abbrev pub quote : ℕ
+quote = byte "\""
+
+abbrev pub apostrophe : ℕ
+apostrophe = byte "'"
+
+-- a control character but a line feed, or one of the two code points below 2 ^ 16 that are no surrogates and that XML has no place
+-- for
+abbrev pub is_unshown : ℕ → Bool
+is_unshown c = (nat_lt c 32 && not (c == 10)) || (nat_lt 126 c && nat_lt c 160) || c == 65534 || c == 65535
+
+-- a character by its number, in hexadecimal digits
+abbrev pub number_text : ℕ → List ℕ
+number_text c = codes "\\u{" ++ (digits 16 false c ++ codes "}")
+
+-- a character, as it stands between tags and in attributes
+unfoldable pub shown : ℕ → List ℕ
+shown c =
+    if c == less then codes "&lt;" else if c == greater then codes "&gt;" else if c == ampersand then codes "&amp;"
+    else if c == quote then codes "&quot;" else if c == apostrophe then codes "&#39;"
+    else if is_unshown c then number_text c else encode_utf8 c
+
+-- a text, as it stands between tags and in attributes
+abbrev pub escaped : List ℕ → List ℕ
+escaped text = flat_map shown (chars text)
+
+-- The same of bytes that something else printed. Where they are no UTF-8, which no printed value is, the replacement character
+-- stands for those that are none.
+abbrev pub escaped_bytes : List ℕ → List ℕ
+escaped_bytes bytes = escaped (utf8_lossy bytes)
+
+-- ---- what an escaped text is proved to be
+
+-- a byte that begins or ends markup
+abbrev pub is_markup : ℕ → Bool
+is_markup b = b == less || b == greater || b == ampersand || b == quote || b == apostrophe
+
+abbrev pub entities : List (List ℕ)
+entities = codes "&lt;" ∷ codes "&gt;" ∷ codes "&amp;" ∷ codes "&quot;" ∷ codes "&#39;" ∷ []
+
+-- an entity begins the text
+abbrev pub begins_entity : List ℕ → Bool
+begins_entity text = list_any (λ entity. starts_with nat_eq text entity) entities
+
+-- No byte of the text is read as markup: each one that could be is the ampersand of an entity.
+abbrev pub is_inert : List ℕ → Bool
+is_inert [] = true
+is_inert (b ∷ text) = (not (is_markup b) || begins_entity (b ∷ text)) && is_inert text

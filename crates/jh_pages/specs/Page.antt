@@ -1,0 +1,65 @@
+-- The page of histories, byte for byte (this project's own; HTML that is XML too).
+use Rattle.std.specs.Prelude.{ℕ, ◌-◌, ◌==◌, ◌&&◌, nat_le, nat_lt, List, [], ◌++◌, if◌then◌else◌, codes, length}
+use Rattle.std.specs.Fmt.{decimal}
+use Rattle.std.specs.List.{enumerate_from, flat_map}
+use Rattle.jh_pages.specs.Drawings.{end_in, picture_text}
+use Rattle.jh_pages.specs.Markup.{escaped_bytes}
+use Rattle.jh_pages.specs.declared.page.TheConstants.{HEAD, LEGEND}
+use Rattle.jh_pages.specs.declared.section.Section.{Section}
+use Rattle.jh_timeline.specs.declared.picture.Lane.{Lane}
+use Rattle.jh_timeline.specs.declared.picture.Window.{Window}
+
+-- ---- sections
+
+-- the heading of a section, where links to it lead; where it has none, its first line is where they lead
+abbrev pub heading_text : ℕ → List ℕ → List ℕ
+heading_text number heading =
+    if length heading == 0 then codes "<p id=\"part-" ++ (decimal number ++ codes "\">")
+    else (codes "<h2 id=\"part-" ++ (decimal number ++ codes "\">")) ++ escaped_bytes heading ++ codes "</h2>\n<p>"
+
+-- which of so many records are drawn, and how others are
+abbrev pub window_text : Window → ℕ → List ℕ
+window_text window total =
+    if window.from == 0 && nat_le total window.to then codes "All " ++ (decimal total ++ codes " records.</p>\n")
+    else if nat_lt window.from (end_in window total) then
+      codes "Records " ++ (decimal window.from ++ (codes " to " ++ (decimal (end_in window total - 1) ++ (codes " of "
+      ++ (decimal total ++ codes "; --from and --to choose others.</p>\n")))))
+    else codes "No record of " ++ (decimal total ++ codes "; --from and --to choose others.</p>\n")
+
+-- a process that a lane had
+abbrev pub client_text : ℕ → List ℕ
+client_text client = codes " " ++ decimal client
+
+-- the processes that a lane had
+abbrev pub lane_text : Lane → List ℕ
+lane_text lane = codes "<li>process" ++ flat_map client_text lane.clients.items ++ codes "</li>\n"
+
+-- a history: its heading, which of its records are drawn, the lanes numbered from 1, and its picture
+abbrev pub section_text : ℕ → Section → List ℕ
+section_text number section =
+    heading_text number section.heading.items ++ window_text section.window (length section.history.items) ++ codes "<ol>\n"
+    ++ flat_map lane_text section.picture.lanes.items ++ codes "</ol>\n" ++ picture_text section
+
+-- ---- the page
+
+-- a link to a section
+abbrev pub link_text : ℕ → Section → List ℕ
+link_text number section =
+    (codes "<li><a href=\"#part-" ++ (decimal number ++ codes "\">")) ++ escaped_bytes section.heading.items ++ codes "</a></li>\n"
+
+-- a link to each section, where there is more than one
+abbrev pub contents_text : List Section → List ℕ
+contents_text sections =
+    if nat_lt 1 (length sections) then
+      codes "<ul>\n" ++ flat_map (λ numbered. link_text numbered.0 numbered.1) (enumerate_from 0 sections) ++ codes "</ul>\n"
+    else []
+
+-- what stands below all sections
+abbrev pub below_text : List ℕ → List ℕ
+below_text below = if length below == 0 then [] else codes "<pre>" ++ escaped_bytes below ++ codes "</pre>\n"
+
+-- the whole page
+abbrev pub page_text : List ℕ → List Section → List ℕ → List ℕ
+page_text line sections below =
+    HEAD.now ++ escaped_bytes line ++ LEGEND.now ++ contents_text sections
+    ++ flat_map (λ numbered. section_text numbered.0 numbered.1) (enumerate_from 0 sections) ++ below_text below ++ codes "</body>\n</html>\n"

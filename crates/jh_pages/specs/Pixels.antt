@@ -1,0 +1,23 @@
+-- Where the picture of a history has what is drawn, in pixels (this project's own).
+use Rattle.std.specs.Prelude.{ℕ, ◌+◌, ◌-◌, ◌*◌, min}
+use Rattle.std.specs.Option.{option_map_or}
+use Rattle.jh_pages.specs.declared.pixels.TheConstants.{LANE_WIDTH, ROW_HEIGHT}
+use Rattle.jh_timeline.specs.declared.picture.Call.{Call}
+use Rattle.jh_timeline.specs.declared.picture.Window.{Window}
+
+-- how far to the right a lane begins: behind the one of the nemesis, which is the first
+abbrev pub left_of : ℕ → ℕ
+left_of lane = (lane + 1) * LANE_WIDTH
+
+-- how far down the row of an index begins
+abbrev pub top_of : Window → ℕ → ℕ
+top_of window index = (index - window.from) * ROW_HEIGHT
+
+-- the index down to which a bar is drawn: that of its completion, but no further than the window; where there is none, that of
+-- its invocation
+abbrev pub end_of : Window → Call → ℕ
+end_of window call = option_map_or (λ completion. min completion (window.to - 1)) call.completion call.invoke
+
+-- how high a bar is: a row for each index
+abbrev pub height_of : Window → Call → ℕ
+height_of window call = (end_of window call - call.invoke + 1) * ROW_HEIGHT

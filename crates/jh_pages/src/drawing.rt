@@ -1,0 +1,293 @@
+//! The picture of a history. `specs/Drawings.antt` has the rule.
+
+ghost use Rattle.std.specs.Prelude.{◌≡◌, ◌++◌, All, IfSome, OnOk, codes, option_and_then, option_map};
+ghost use Rattle.std.specs.Io.KnownBytes.{Appends};
+ghost use Rattle.std.specs.List.{flat_map};
+ghost use Rattle.std.specs.Option.{ForSome};
+ghost use Rattle.jh_edn.specs.View.{view};
+ghost use Rattle.jh_ops.specs.Operation.{operation};
+ghost use Rattle.jh_ops.specs.OperationWritten.{IsWritable};
+ghost use Rattle.jh_pages.specs.Drawings as rule;
+ghost use Rattle.jh_pages.specs.Drawings.{bar_text, box_text, drawn_bar, drawn_fault, drawn_mark, fault_text};
+ghost use Rattle.jh_pages.specs.Drawings.{line_text, mark_text, picture_head, picture_text, record_of, records_text};
+
+use crate::error::PageError;
+use crate::label::write_label;
+use crate::marks::{class_of, write_note};
+use crate::markup::put;
+use crate::pixels::{height_of, left_of, top_of};
+use crate::record::write_record;
+use crate::section::Section;
+use jh_edn::Value;
+use jh_ops::{Kind, Op};
+use jh_timeline::{Bar, Mark, Window};
+use std::alloc::Global;
+use std::io::Write;
+
+/// How an operation ended, if it did.
+fn ending_of(completion: Option<&Op>) -> Option<Kind>
+    ensures { result ≡ rule.ending_of (option_map (λ op. operation op.now) completion.entry) }
+{
+    match completion {
+        Some(op) => Some(op.kind),
+        None => None,
+    }
+}
+
+/// The class of a bar in the style.
+fn ending_class(ending: Option<Kind>) -> &'static str
+    ensures { result.now ≡ rule.ending_class ending }
+{
+    match ending {
+        Some(Kind::Ok) => "ok",
+        Some(Kind::Fail) => "fail",
+        Some(_) => "info",
+        None => "open",
+    }
+}
+
+/// The sign in a bar.
+fn ending_sign(ending: Option<Kind>) -> &'static str
+    ensures { result.now ≡ rule.ending_sign ending }
+{
+    match ending {
+        Some(Kind::Ok) => "&#10003; ",
+        Some(Kind::Fail) => "&#10007; ",
+        Some(_) => "? ",
+        None => "&#8230; ",
+    }
+}
+
+/// What the label of an operation has behind its function.
+fn answer_of<'a>(invocation: &'a Op, completion: Option<&'a Op>) -> &'a Value
+    ensures { view result.now ≡ rule.answer_of (operation invocation.now) (option_map (λ op. operation op.now) completion.entry) }
+{
+    match completion {
+        Some(op) => match op.kind {
+            Kind::Ok => &op.value,
+            _ => &invocation.value,
+        },
+        None => &invocation.value,
+    }
+}
+
+/// Writes both records of an operation.
+fn write_records<W: Write>(
+    alloc: Global,
+    invocation: &Op,
+    completion: Option<&Op>,
+    writer: &mut W,
+) -> Result<(), PageError>
+    requires invocation { IsWritable invocation.now.process }
+    requires completion { ForSome completion (λ op. IsWritable op.now.process) }
+    ensures { OnOk result (Appends (W.contents writer.old) (W.contents writer.new)
+        (records_text (operation invocation.now) (option_map (λ op. operation op.now) completion.entry))) }
+{
+    write_record(alloc, invocation, writer)?;
+    match completion {
+        Some(op) => {
+            put(b"\n", writer)?;
+            write_record(alloc, op, writer)
+        }
+        None => Ok(()),
+    }
+}
+
+/// Writes the box of a bar.
+fn write_box<W: Write>(
+    class: &str,
+    window: Window,
+    bar: &Bar,
+    writer: &mut W,
+) -> Result<(), PageError>
+    ensures { OnOk result (Appends (W.contents writer.old) (W.contents writer.new) (box_text class.now window bar.now)) }
+{
+    let left = left_of(bar.lane);
+    let top = top_of(window, bar.call.invoke);
+    let height = height_of(window, &bar.call);
+    write!(
+        writer,
+        "<svg class=\"{class}\" x=\"{left}\" y=\"{top}\" width=\"172\" height=\"{height}\"><rect width=\"100%\" height=\"100%\"/>"
+    )
+    .map_err(|_| PageError::Write)
+}
+
+/// Writes a bar.
+fn write_bar<W: Write>(
+    alloc: Global,
+    window: Window,
+    bar: &Bar,
+    invocation: &Op,
+    completion: Option<&Op>,
+    writer: &mut W,
+) -> Result<(), PageError>
+    requires invocation { IsWritable invocation.now.process }
+    requires completion { ForSome completion (λ op. IsWritable op.now.process) }
+    ensures { OnOk result (Appends (W.contents writer.old) (W.contents writer.new)
+        (bar_text window bar.now (operation invocation.now) (option_map (λ op. operation op.now) completion.entry))) }
+{
+    let ending = ending_of(completion);
+    let sign = ending_sign(ending);
+    write_box(ending_class(ending), window, bar, writer)?;
+    put(b"<title>", writer)?;
+    write_records(alloc, invocation, completion, writer)?;
+    write!(writer, "</title><text x=\"4\" y=\"12\">{sign}").map_err(|_| PageError::Write)?;
+    write_label(alloc, &invocation.f, answer_of(invocation, completion), writer)?;
+    put(b"</text></svg>\n", writer)
+}
+
+/// The completion of a bar, if it has one.
+fn completion_of<'a>(section: &'a Section, bar: &Bar) -> Option<&'a Op>
+    requires { All (λ op. IsWritable op.process) section.now.history.items }
+    ensures found { option_map (λ op. operation op.now) result
+        ≡ option_and_then (λ index. record_of section.now index) bar.now.call.completion }
+    ensures writable { IfSome result (λ op. IsWritable op.now.process) }
+{
+    match bar.call.completion {
+        Some(index) => section.record(index),
+        None => None,
+    }
+}
+
+/// Writes a bar, with the records that it has in the history.
+fn draw_bar<W: Write>(
+    alloc: Global,
+    section: &Section,
+    bar: &Bar,
+    writer: &mut W,
+) -> Result<(), PageError>
+    requires { All (λ op. IsWritable op.process) section.now.history.items }
+    ensures { OnOk result (Appends (W.contents writer.old) (W.contents writer.new) (drawn_bar section.now bar.now)) }
+{
+    let completion = completion_of(section, bar);
+    match section.record(bar.call.invoke) {
+        Some(invocation) => write_bar(alloc, section.window, bar, invocation, completion, writer),
+        None => Ok(()),
+    }
+}
+
+/// Writes all bars.
+fn draw_bars<W: Write>(
+    alloc: Global,
+    section: &Section,
+    writer: &mut W,
+) -> Result<(), PageError>
+    requires { All (λ op. IsWritable op.process) section.now.history.items }
+    ensures { OnOk result (Appends (W.contents writer.old) (W.contents writer.new)
+        (flat_map (drawn_bar section.now) section.now.picture.bars.items)) }
+{
+    for bar in &section.picture.bars {
+        draw_bar(alloc, section, bar, writer)?;
+    }
+    Ok(())
+}
+
+/// Writes the opening of a line in the row of an index.
+fn write_line<W: Write>(window: Window, index: usize, writer: &mut W) -> Result<(), PageError>
+    ensures { OnOk result (Appends (W.contents writer.old) (W.contents writer.new) (line_text window index)) }
+{
+    let top = top_of(window, index);
+    write!(
+        writer,
+        "<svg class=\"fault\" y=\"{top}\" width=\"100%\" height=\"16\"><line x2=\"100%\"/><title>"
+    )
+    .map_err(|_| PageError::Write)
+}
+
+/// Writes a record of the nemesis that the history has at an index.
+fn draw_fault<W: Write>(
+    alloc: Global,
+    section: &Section,
+    index: usize,
+    writer: &mut W,
+) -> Result<(), PageError>
+    requires { All (λ op. IsWritable op.process) section.now.history.items }
+    ensures { OnOk result (Appends (W.contents writer.old) (W.contents writer.new) (drawn_fault section.now index)) }
+{
+    let Some(op) = section.record(index) else {
+        return Ok(());
+    };
+    write_line(section.window, index, writer)?;
+    write_record(alloc, op, writer)?;
+    put(b"</title><text x=\"4\" y=\"12\">", writer)?;
+    write_label(alloc, &op.f, &op.value, writer)?;
+    put(b"</text></svg>\n", writer)
+}
+
+/// Writes all records of the nemesis.
+fn draw_faults<W: Write>(
+    alloc: Global,
+    section: &Section,
+    writer: &mut W,
+) -> Result<(), PageError>
+    requires { All (λ op. IsWritable op.process) section.now.history.items }
+    ensures { OnOk result (Appends (W.contents writer.old) (W.contents writer.new)
+        (flat_map (drawn_fault section.now) section.now.picture.faults.items)) }
+{
+    for fault in &section.picture.faults {
+        draw_fault(alloc, section, *fault, writer)?;
+    }
+    Ok(())
+}
+
+/// Writes a mark at the bar that it names.
+fn draw_mark<W: Write>(section: &Section, mark: &Mark, writer: &mut W) -> Result<(), PageError>
+    ensures { OnOk result (Appends (W.contents writer.old) (W.contents writer.new) (drawn_mark section.now mark.now)) }
+{
+    let Some(bar) = section.picture.bars.get(mark.bar) else {
+        return Ok(());
+    };
+    write_box(class_of(mark.note), section.window, bar, writer)?;
+    put(b"<text x=\"168\" y=\"12\">", writer)?;
+    write_note(mark.note, writer)?;
+    put(b"</text></svg>\n", writer)
+}
+
+/// Writes all marks.
+fn draw_marks<W: Write>(section: &Section, writer: &mut W) -> Result<(), PageError>
+    ensures { OnOk result (Appends (W.contents writer.old) (W.contents writer.new)
+        (flat_map (drawn_mark section.now) section.now.marks.items)) }
+{
+    for mark in &section.marks {
+        draw_mark(section, mark, writer)?;
+    }
+    Ok(())
+}
+
+/// The index before which records are drawn.
+pub(crate) fn end_in(window: Window, total: usize) -> usize
+    ensures { result ≡ rule.end_in window total }
+{
+    window.to.min(total)
+}
+
+/// Writes the opening of the picture.
+fn write_picture_head<W: Write>(section: &Section, writer: &mut W) -> Result<(), PageError>
+    ensures { OnOk result (Appends (W.contents writer.old) (W.contents writer.new) (picture_head section.now)) }
+{
+    let width = left_of(section.picture.lanes.len());
+    let end = end_in(section.window, section.history.len());
+    let height = top_of(section.window, end);
+    write!(
+        writer,
+        "<div class=\"picture\">\n<svg xmlns=\"http://www.w3.org/2000/svg\" width=\"{width}\" height=\"{height}\" viewBox=\"0 0 {width} {height}\">\n"
+    )
+    .map_err(|_| PageError::Write)
+}
+
+/// Writes the picture of a history.
+pub(crate) fn write_picture<W: Write>(
+    alloc: Global,
+    section: &Section,
+    writer: &mut W,
+) -> Result<(), PageError>
+    requires { All (λ op. IsWritable op.process) section.now.history.items }
+    ensures { OnOk result (Appends (W.contents writer.old) (W.contents writer.new) (picture_text section.now)) }
+{
+    write_picture_head(section, writer)?;
+    draw_faults(alloc, section, writer)?;
+    draw_bars(alloc, section, writer)?;
+    put(b"<g class=\"marks\">\n", writer)?;
+    draw_marks(section, writer)?;
+    put(b"</g>\n</svg>\n</div>\n", writer)
+}

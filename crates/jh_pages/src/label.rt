@@ -1,0 +1,89 @@
+//! The short labels of operations. `specs/Labels.antt` has the rule.
+
+ghost use Rattle.std.specs.Prelude.{◌≡◌, ◌++◌, IfOk, OnOk};
+ghost use Rattle.std.specs.Io.KnownBytes.{Appends};
+ghost use Rattle.std.specs.List.{flat_map};
+ghost use Rattle.jh_edn.specs.View.{view, views};
+ghost use Rattle.jh_pages.specs.Labels.{argument_text, arguments_of, label_text, name_of};
+
+use crate::error::PageError;
+use crate::markup::write_escaped_bytes;
+use jh_edn::{EdnError, Value, write};
+use std::alloc::Global;
+use std::io::Write;
+
+/// Writes bytes as they are.
+fn put<W: Write>(bytes: &[u8], writer: &mut W) -> Result<(), EdnError>
+    ensures { OnOk result (Appends (W.contents writer.old) (W.contents writer.new) bytes.now) }
+{
+    writer.write_all(bytes).map_err(|_| EdnError::Write)
+}
+
+/// Writes the name of a function.
+fn write_name<W: Write>(f: &Value, writer: &mut W) -> Result<(), EdnError>
+    ensures { OnOk result
+        (Appends (W.contents writer.old) (W.contents writer.new) (name_of (view f.now))) }
+{
+    match f {
+        Value::Keyword(name) => put(name.as_str().as_bytes(), writer),
+        _ => write(f, writer),
+    }
+}
+
+/// Writes a value behind others.
+fn write_argument<W: Write>(value: &Value, writer: &mut W) -> Result<(), EdnError>
+    ensures { OnOk result
+        (Appends (W.contents writer.old) (W.contents writer.new) (argument_text (view value.now))) }
+{
+    put(b" ", writer)?;
+    write(value, writer)
+}
+
+/// Writes values behind others.
+fn write_each<W: Write>(values: &[Value], writer: &mut W) -> Result<(), EdnError>
+    ensures { OnOk result (Appends (W.contents writer.old) (W.contents writer.new)
+        (flat_map argument_text (views values.now))) }
+{
+    for value in values {
+        write_argument(value, writer)?;
+    }
+    Ok(())
+}
+
+/// Writes what a function is asked with.
+fn write_arguments<W: Write>(value: &Value, writer: &mut W) -> Result<(), EdnError>
+    ensures { OnOk result (Appends (W.contents writer.old) (W.contents writer.new)
+        (flat_map argument_text (arguments_of (view value.now)))) }
+{
+    match value {
+        Value::Nil => Ok(()),
+        Value::List(values) => write_each(values.as_slice(), writer),
+        Value::Vector(values) => write_each(values.as_slice(), writer),
+        _ => write_argument(value, writer),
+    }
+}
+
+/// The text of a label, as it is printed.
+fn label(alloc: Global, f: &Value, value: &Value) -> Result<Vec<u8>, EdnError>
+    ensures { IfOk result (λ text. text.items
+        ≡ name_of (view f.now) ++ flat_map argument_text (arguments_of (view value.now))) }
+{
+    let mut text = Vec::new(alloc);
+    write_name(f, &mut text)?;
+    write_arguments(value, &mut text)?;
+    Ok(text)
+}
+
+/// Writes a label into the page: a function with what it is asked with.
+pub(crate) fn write_label<W: Write>(
+    alloc: Global,
+    f: &Value,
+    value: &Value,
+    writer: &mut W,
+) -> Result<(), PageError>
+    ensures { OnOk result (Appends (W.contents writer.old) (W.contents writer.new)
+        (label_text (view f.now) (view value.now))) }
+{
+    let text = label(alloc, f, value).map_err(|_| PageError::OutOfMemory)?;
+    write_escaped_bytes(alloc, text.as_slice(), writer)
+}

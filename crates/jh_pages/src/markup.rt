@@ -1,0 +1,89 @@
+//! Texts as they stand in the page. `specs/Markup.antt` has the rule.
+
+ghost use Rattle.std.specs.Prelude.{◌≡◌, ℕ, List, IfErr, IsTrue, OnOk, encode_utf8};
+ghost use Rattle.std.specs.Io.KnownBytes.{Appends};
+ghost use Rattle.jh_pages.specs.Markup.{escaped, escaped_bytes, is_inert, number_text, shown};
+
+use crate::error::PageError;
+use std::alloc::Global;
+use std::io::Write;
+
+/// Writes bytes as they are.
+pub(crate) fn put<W: Write>(bytes: &[u8], writer: &mut W) -> Result<(), PageError>
+    ensures bytes { OnOk result (Appends (W.contents writer.old) (W.contents writer.new) bytes.now) }
+    ensures error { IfErr result (λ e. e ≡ PageError.Write) }
+{
+    writer.write_all(bytes).map_err(|_| PageError::Write)
+}
+
+/// Writes a character by its number.
+fn write_number<W: Write>(c: char, writer: &mut W) -> Result<(), PageError>
+    ensures bytes { OnOk result
+        (Appends (W.contents writer.old) (W.contents writer.new) (number_text c)) }
+    ensures error { IfErr result (λ e. e ≡ PageError.Write) }
+{
+    let number = c as u32;
+    write!(writer, "\\u{{{number:x}}}").map_err(|_| PageError::Write)
+}
+
+/// Writes a character by itself.
+fn write_itself<W: Write>(c: char, writer: &mut W) -> Result<(), PageError>
+    ensures bytes { OnOk result
+        (Appends (W.contents writer.old) (W.contents writer.new) (encode_utf8 c)) }
+    ensures error { IfErr result (λ e. e ≡ PageError.Write) }
+{
+    let mut bytes = [0; 4];
+    put(c.encode_utf8(&mut bytes).as_bytes(), writer)
+}
+
+/// Writes a character as it stands in the page.
+#[tactic(auto, unfolding(crate::specs::Markup::shown))]
+fn write_shown<W: Write>(c: char, writer: &mut W) -> Result<(), PageError>
+    ensures bytes { OnOk result (Appends (W.contents writer.old) (W.contents writer.new) (shown c)) }
+    ensures error { IfErr result (λ e. e ≡ PageError.Write) }
+{
+    match c {
+        '<' => put(b"&lt;", writer),
+        '>' => put(b"&gt;", writer),
+        '&' => put(b"&amp;", writer),
+        '"' => put(b"&quot;", writer),
+        '\'' => put(b"&#39;", writer),
+        '\0'..='\t' | '\x0b'..='\x1f' | '\x7f'..='\u{9f}' | '\u{fffe}' | '\u{ffff}' => write_number(c, writer),
+        _ => write_itself(c, writer),
+    }
+}
+
+/// Writes a text so that it can stand between tags and in attributes, and no character of it is read as markup: `<`, `>`, `&`
+/// and quotes as entities, and what would not show as `\u{..}`, but for line feeds, which stay.
+///
+/// Takes no memory. The writer may have taken a part of the text where it failed.
+///
+/// Errors: `Write` where the writer failed, and no other.
+pub fn write_escaped<W: Write>(text: &str, writer: &mut W) -> Result<(), PageError>
+    ensures bytes { OnOk result
+        (Appends (W.contents writer.old) (W.contents writer.new) (escaped text.now)) }
+    ensures error { IfErr result (λ e. e ≡ PageError.Write) }
+{
+    for c in text.chars() {
+        write_shown(c, writer)?;
+    }
+    Ok(())
+}
+
+/// Writes bytes that something else printed, in the same way.
+pub(crate) fn write_escaped_bytes<W: Write>(
+    alloc: Global,
+    bytes: &[u8],
+    writer: &mut W,
+) -> Result<(), PageError>
+    ensures { OnOk result
+        (Appends (W.contents writer.old) (W.contents writer.new) (escaped_bytes bytes.now)) }
+{
+    let text = String::from_utf8_lossy(alloc, bytes)?;
+    write_escaped(text.as_str(), writer)
+}
+
+/// A law: no byte of an escaped text is read as markup, whatever the text is.
+pub fn escaped_text_is_inert()
+    ensures { (text : List ℕ) → IsTrue (is_inert (escaped text)) }
+{}

@@ -1,0 +1,39 @@
+//! The histories of a page.
+
+ghost use Rattle.std.specs.Prelude.{◌≡◌, All, IfSome, option_map};
+ghost use Rattle.jh_ops.specs.Operation.{operation};
+ghost use Rattle.jh_ops.specs.OperationWritten.{IsWritable};
+
+use jh_ops::Op;
+use jh_timeline::{Mark, Picture, Window};
+
+/// A history as a page shows it.
+#[derive(Drop)]
+pub struct Section {
+    /// What stands above it, as bytes that something printed. Empty: it has no heading.
+    pub heading: Vec<u8>,
+    pub history: Vec<Op>,
+    /// Which of its records are drawn.
+    pub window: Window,
+    /// What is drawn of it.
+    pub picture: Picture,
+    /// What is told at its bars.
+    pub marks: Vec<Mark>,
+}
+
+impl Section {
+    ghost use Rattle.jh_pages.specs.Drawings.{record_of};
+
+    /// The record at an index, if there is one.
+    pub(crate) fn record(&self, index: usize) -> Option<&Op>
+        requires { All (λ op. IsWritable op.process) self.now.history.items }
+        ensures found { option_map (λ op. operation op.now) result ≡ record_of self.now index }
+        ensures writable { IfSome result (λ op. IsWritable op.now.process) }
+    {
+        if index < self.history.len() {
+            Some(&self.history[index])
+        } else {
+            None
+        }
+    }
+}

@@ -1,5 +1,0 @@
-use Rattle.jh_timeline.proofs.MarkupLemmas.{escaped_inert}
-use Rattle.jh_timeline.proofs.markup.escaped_text_is_inert.Goals as goal
-
-pub returns : goal.returns
-returns c = λ text. escaped_inert text
