@@ -12,7 +12,7 @@ use Rattle.jh_timeline.specs.declared.picture.Window.{Window}
 -- A note that points at something: any but a place in an order, and that an operation is pending.
 abbrev pub is_pointer : Note → Bool
 is_pointer (Placed number) = false
-is_pointer Pending = false
+is_pointer (Pending number) = false
 is_pointer note = true
 
 -- the index at which the first bar ends that something points at

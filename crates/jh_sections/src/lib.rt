@@ -2,7 +2,9 @@
 #![tactic(auto)]
 
 mod parts;
+mod section;
 mod window;
 
 pub use parts::{Parts, history_and_rest, read_parts};
+pub use section::section_of;
 pub use window::{BEFORE, Choice, MAX_SHOWN, SHOWN_AROUND};

@@ -56,7 +56,7 @@ fn is_pointer(note: Note) -> bool
     ensures { result ≡ is_pointer note }
 {
     match note {
-        Note::Placed(_) | Note::Pending => false,
+        Note::Placed(_) | Note::Pending(_) => false,
         _ => true,
     }
 }
