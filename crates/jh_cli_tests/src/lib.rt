@@ -28,3 +28,5 @@ mod runs;
 mod shrinks;
 #[cfg(test)]
 mod streams;
+#[cfg(test)]
+mod timelines;

@@ -1,6 +1,6 @@
 //! The section of a history in a page. `specs/Sections.antt` has the rule.
 
-ghost use Rattle.std.specs.Prelude.{◌≡◌, ℕ, IfOk, Option};
+ghost use Rattle.std.specs.Prelude.{◌≡◌, ℕ, IfOk, Option, length};
 ghost use Rattle.std.specs.Option.{option_copied};
 ghost use Rattle.jh_ops.specs.Operation.{operations};
 ghost use Rattle.jh_sections.specs.Sections as rule;
