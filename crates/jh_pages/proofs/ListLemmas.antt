@@ -1,5 +1,5 @@
 -- Texts of lists of which one element more is written.
-use Rattle.std.proofs.Common.{◌≡◌, ◌∙◌, ℕ, ◌+◌, ◌<◌, ◌≤◌, List, [], ◌∷◌, ◌++◌, length, take, get_or, ap, sym, subst, refl, append-nil, arith}
+use Rattle.std.proofs.Common.{◌≡◌, ◌∙◌, ℕ, ◌+◌, ◌<◌, ◌≤◌, List, [], ◌∷◌, ◌++◌, length, take, get_or, ap, sym, subst, append-nil, zero-add}
 use Rattle.std.proofs.lemmas.List.{take_all, take_more}
 use Rattle.std.proofs.lemmas.List.Concat.{flat_map-append}
 use Rattle.std.proofs.lemmas.List.FromFn.{get_or-enumerate_from, length-enumerate_from}
@@ -18,7 +18,7 @@ pub numbered_next : {X : Type 0} (f : ℕ × X → List ℕ) (xs : List X) (i : 
     → flat_map f (take i (enumerate_from 0 xs)) ++ f (i, x) ≡ flat_map f (take (i + 1) (enumerate_from 0 xs))
 numbered_next f xs i x below same =
     flat_map_next f (enumerate_from 0 xs) i (i, x) (subst (λ n. i < n) (sym (length-enumerate_from 0 xs)) below)
-    (ap (λ y. (i, y)) same ∙ sym (get_or-enumerate_from 0 xs i (i, x) below))
+    (ap (λ y. (i, y)) same ∙ sym (get_or-enumerate_from 0 xs i (i, x) below ∙ ap (λ n. (n, get_or xs i x)) (zero-add i)))
 
 -- all numbered elements
 pub numbered_all : {X : Type 0} (xs : List X) (n : ℕ) → length xs ≤ n → take n (enumerate_from 0 xs) ≡ enumerate_from 0 xs

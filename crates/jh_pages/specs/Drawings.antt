@@ -1,5 +1,5 @@
 -- The picture of a history, byte for byte (this project's own; SVG within HTML that is XML too).
-use Rattle.std.specs.Prelude.{ℕ, List, [], ◌++◌, codes, length, min, slice_get, Option, Some, None, option_map, option_and_then}
+use Rattle.std.specs.Prelude.{ℕ, List, [], ◌++◌, codes, min, slice_get, vec_len, Option, Some, None, option_map, option_and_then}
 use Rattle.std.specs.Fmt.{decimal}
 use Rattle.std.specs.List.{flat_map}
 use Rattle.jh_edn.specs.Edn.{Edn}
@@ -53,42 +53,45 @@ abbrev pub records_text : Operation → Option Operation → List ℕ
 records_text invocation None = record_text invocation
 records_text invocation (Some completion) = record_text invocation ++ codes "\n" ++ record_text completion
 
--- the box of a bar, in its lane from its first row to its last
+-- where a box begins, and how high it is
+abbrev pub place_text : ℕ → ℕ → ℕ → List ℕ
+place_text left top height =
+    codes "\" x=\"" ++ (decimal left ++ (codes "\" y=\"" ++ (decimal top
+    ++ (codes "\" width=\"172\" height=\"" ++ (decimal height ++ codes "\"><rect width=\"100%\" height=\"100%\"/>")))))
+
+-- the box of a bar, of a class in the style: in its lane, from its first row to its last
 abbrev pub box_text : List ℕ → Window → Bar → List ℕ
 box_text class window bar =
-    codes "<svg class=\"" ++ (class ++ (codes "\" x=\"" ++ (decimal (left_of bar.lane)
-    ++ (codes "\" y=\"" ++ (decimal (top_of window bar.call.invoke) ++ (codes "\" width=\"172\" height=\""
-    ++ (decimal (height_of window bar.call) ++ codes "\"><rect width=\"100%\" height=\"100%\"/>")))))))
+    codes "<svg class=\"" ++ class ++ place_text (left_of bar.lane) (top_of window bar.call.invoke) (height_of window bar.call)
 
--- an operation: its box, its records, and its label behind a sign
-abbrev pub bar_text : Window → Bar → Operation → Option Operation → List ℕ
-bar_text window bar invocation completion =
+-- an operation: its box, its records, and its label behind a sign; nothing where there is no invocation
+abbrev pub bar_text : Window → Bar → Option Operation → Option Operation → List ℕ
+bar_text window bar None completion = []
+bar_text window bar (Some invocation) completion =
     box_text (ending_class (ending_of completion)) window bar ++ codes "<title>" ++ records_text invocation completion
-    ++ (codes "</title><text x=\"4\" y=\"12\">" ++ ending_sign (ending_of completion))
+    ++ codes "</title><text x=\"4\" y=\"12\">" ++ ending_sign (ending_of completion)
     ++ label_text invocation.f (answer_of invocation completion) ++ codes "</text></svg>\n"
-
--- the same of the records that there are, and nothing where there is no invocation
-abbrev pub bar_of : Window → Bar → Option Operation → Option Operation → List ℕ
-bar_of window bar None completion = []
-bar_of window bar (Some invocation) completion = bar_text window bar invocation completion
 
 -- a bar, with the records that it has in the history
 abbrev pub drawn_bar : Section → Bar → List ℕ
 drawn_bar section bar =
-    bar_of section.window bar (record_of section bar.call.invoke) (option_and_then (λ index. record_of section index) bar.call.completion)
+    bar_text section.window bar (record_of section bar.call.invoke)
+    (option_and_then (λ index. record_of section index) bar.call.completion)
 
 -- ---- faults
 
 -- a line across all lanes, in the row of an index
 abbrev pub line_text : Window → ℕ → List ℕ
 line_text window index =
-    codes "<svg class=\"fault\" y=\"" ++ (decimal (top_of window index) ++ codes "\" width=\"100%\" height=\"16\"><line x2=\"100%\"/><title>")
+    codes "<svg class=\"fault\" y=\""
+    ++ (decimal (top_of window index) ++ codes "\" width=\"100%\" height=\"16\"><line x2=\"100%\"/><title>")
 
 -- a record of the nemesis, and nothing where there is none
 abbrev pub fault_text : Window → ℕ → Option Operation → List ℕ
 fault_text window index None = []
 fault_text window index (Some op) =
-    line_text window index ++ record_text op ++ codes "</title><text x=\"4\" y=\"12\">" ++ label_text op.f op.value ++ codes "</text></svg>\n"
+    line_text window index ++ record_text op ++ codes "</title><text x=\"4\" y=\"12\">"
+    ++ label_text op.f op.value ++ codes "</text></svg>\n"
 
 abbrev pub drawn_fault : Section → ℕ → List ℕ
 drawn_fault section index = fault_text section.window index (record_of section index)
@@ -111,13 +114,25 @@ drawn_mark section mark = mark_text section.window mark.note (slice_get section.
 abbrev pub end_in : Window → ℕ → ℕ
 end_in window total = min window.to total
 
+-- so wide and so high, on a screen
+abbrev pub sides_text : ℕ → ℕ → List ℕ
+sides_text width height = codes " width=\"" ++ (decimal width ++ (codes "\" height=\"" ++ (decimal height ++ codes "\"")))
+
+-- the same, whatever it is made as wide as
+abbrev pub view_text : ℕ → ℕ → List ℕ
+view_text width height = codes " viewBox=\"0 0 " ++ (decimal width ++ (codes " " ++ (decimal height ++ codes "\">\n")))
+
+-- the opening of a picture of this size
+abbrev pub opening_text : ℕ → ℕ → List ℕ
+opening_text width height =
+    codes "<div class=\"picture\">\n<svg xmlns=\"http://www.w3.org/2000/svg\""
+    ++ sides_text width height ++ view_text width height
+
 -- the opening of the picture: as wide as its lanes, with the one of the nemesis, and as high as the records that are drawn
 abbrev pub picture_head : Section → List ℕ
 picture_head section =
-    let width = decimal (left_of (length section.picture.lanes.items)) in
-    let height = decimal (top_of section.window (end_in section.window (length section.history.items))) in
-    codes "<div class=\"picture\">\n<svg xmlns=\"http://www.w3.org/2000/svg\" width=\"" ++ (width ++ (codes "\" height=\"" ++ (height
-    ++ (codes "\" viewBox=\"0 0 " ++ (width ++ (codes " " ++ (height ++ codes "\">\n")))))))
+    opening_text (left_of (vec_len section.picture.lanes))
+    (top_of section.window (end_in section.window (vec_len section.history)))
 
 -- faults below bars, and bars below marks
 abbrev pub picture_text : Section → List ℕ

@@ -1,6 +1,6 @@
 -- A text as it stands in the page, where no character of it is read as markup (XML 1.0: section 2.2 says which characters a
--- document may have, 4.1 and 4.6 how an entity stands for one). A line feed stays. Another character that would not show stands as
--- `\u{1f}` (this project's own).
+-- document may have, 4.1 and 4.6 how an entity stands for one). A line feed stays; another character that would not show stands
+-- as `\u{1f}` (this project's own).
 use Rattle.std.specs.Prelude.{ℕ, Bool, true, false, not, ◌&&◌, ◌||◌, ◌==◌, nat_lt, nat_eq, List, [], ◌∷◌, ◌++◌, if◌then◌else◌, codes, encode_utf8}
 use Rattle.std.specs.Fmt.{digits}
 use Rattle.std.specs.List.{flat_map, list_any, starts_with}
@@ -22,8 +22,8 @@ quote = byte "\""
 abbrev pub apostrophe : ℕ
 apostrophe = byte "'"
 
--- a control character but a line feed, or one of the two code points below 2 ^ 16 that are no surrogates and that XML has no place
--- for
+-- a control character but a line feed, or one of the two code points below 2 ^ 16 that are no surrogates and that XML has no
+-- place for
 abbrev pub is_unshown : ℕ → Bool
 is_unshown c = (nat_lt c 32 && not (c == 10)) || (nat_lt 126 c && nat_lt c 160) || c == 65534 || c == 65535
 

@@ -9,7 +9,8 @@ ghost use Rattle.jh_ops.specs.Operation.{operation};
 ghost use Rattle.jh_ops.specs.OperationWritten.{IsWritable};
 ghost use Rattle.jh_pages.specs.Drawings as rule;
 ghost use Rattle.jh_pages.specs.Drawings.{bar_text, box_text, drawn_bar, drawn_fault, drawn_mark, fault_text};
-ghost use Rattle.jh_pages.specs.Drawings.{line_text, mark_text, picture_head, picture_text, record_of, records_text};
+ghost use Rattle.jh_pages.specs.Drawings.{line_text, mark_text, opening_text, picture_head, picture_text};
+ghost use Rattle.jh_pages.specs.Drawings.{place_text, record_of, records_text, sides_text, view_text};
 
 use crate::error::PageError;
 use crate::label::write_label;
@@ -20,7 +21,7 @@ use crate::record::write_record;
 use crate::section::Section;
 use jh_edn::Value;
 use jh_ops::{Kind, Op};
-use jh_timeline::{Bar, Mark, Window};
+use jh_timeline::{Bar, Mark, Note, Window};
 use std::alloc::Global;
 use std::io::Write;
 
@@ -60,7 +61,8 @@ fn ending_sign(ending: Option<Kind>) -> &'static str
 
 /// What the label of an operation has behind its function.
 fn answer_of<'a>(invocation: &'a Op, completion: Option<&'a Op>) -> &'a Value
-    ensures { view result.now ≡ rule.answer_of (operation invocation.now) (option_map (λ op. operation op.now) completion.entry) }
+    ensures { view result.now ≡ rule.answer_of (operation invocation.now)
+        (option_map (λ op. operation op.now) completion.entry) }
 {
     match completion {
         Some(op) => match op.kind {
@@ -81,7 +83,8 @@ fn write_records<W: Write>(
     requires invocation { IsWritable invocation.now.process }
     requires completion { ForSome completion (λ op. IsWritable op.now.process) }
     ensures { OnOk result (Appends (W.contents writer.old) (W.contents writer.new)
-        (records_text (operation invocation.now) (option_map (λ op. operation op.now) completion.entry))) }
+        (records_text (operation invocation.now)
+        (option_map (λ op. operation op.now) completion.entry))) }
 {
     write_record(alloc, invocation, writer)?;
     match completion {
@@ -93,6 +96,24 @@ fn write_records<W: Write>(
     }
 }
 
+/// Writes where a box begins, and how high it is.
+fn write_place<W: Write>(
+    left: u128,
+    top: u128,
+    height: u128,
+    writer: &mut W,
+) -> Result<(), PageError>
+    ensures { OnOk result
+        (Appends (W.contents writer.old) (W.contents writer.new) (place_text left top height)) }
+{
+    write!(
+        writer,
+        "\" x=\"{left}\" y=\"{top}\" width=\"172\" height=\"{height}\">\
+         <rect width=\"100%\" height=\"100%\"/>"
+    )
+    .map_err(|_| PageError::Write)
+}
+
 /// Writes the box of a bar.
 fn write_box<W: Write>(
     class: &str,
@@ -100,16 +121,15 @@ fn write_box<W: Write>(
     bar: &Bar,
     writer: &mut W,
 ) -> Result<(), PageError>
-    ensures { OnOk result (Appends (W.contents writer.old) (W.contents writer.new) (box_text class.now window bar.now)) }
+    ensures { OnOk result
+        (Appends (W.contents writer.old) (W.contents writer.new)
+        (box_text class.now window bar.now)) }
 {
+    put(b"<svg class=\"", writer)?;
+    put(class.as_bytes(), writer)?;
     let left = left_of(bar.lane);
     let top = top_of(window, bar.call.invoke);
-    let height = height_of(window, &bar.call);
-    write!(
-        writer,
-        "<svg class=\"{class}\" x=\"{left}\" y=\"{top}\" width=\"172\" height=\"{height}\"><rect width=\"100%\" height=\"100%\"/>"
-    )
-    .map_err(|_| PageError::Write)
+    write_place(left, top, height_of(window, &bar.call), writer)
 }
 
 /// Writes a bar.
@@ -124,15 +144,21 @@ fn write_bar<W: Write>(
     requires invocation { IsWritable invocation.now.process }
     requires completion { ForSome completion (λ op. IsWritable op.now.process) }
     ensures { OnOk result (Appends (W.contents writer.old) (W.contents writer.new)
-        (bar_text window bar.now (operation invocation.now) (option_map (λ op. operation op.now) completion.entry))) }
+        (bar_text window bar.now (Some (operation invocation.now))
+        (option_map (λ op. operation op.now) completion.entry))) }
 {
     let ending = ending_of(completion);
-    let sign = ending_sign(ending);
     write_box(ending_class(ending), window, bar, writer)?;
     put(b"<title>", writer)?;
     write_records(alloc, invocation, completion, writer)?;
-    write!(writer, "</title><text x=\"4\" y=\"12\">{sign}").map_err(|_| PageError::Write)?;
-    write_label(alloc, &invocation.f, answer_of(invocation, completion), writer)?;
+    put(b"</title><text x=\"4\" y=\"12\">", writer)?;
+    put(ending_sign(ending).as_bytes(), writer)?;
+    write_label(
+        alloc,
+        &invocation.f,
+        answer_of(invocation, completion),
+        writer,
+    )?;
     put(b"</text></svg>\n", writer)
 }
 
@@ -157,7 +183,8 @@ fn draw_bar<W: Write>(
     writer: &mut W,
 ) -> Result<(), PageError>
     requires { All (λ op. IsWritable op.process) section.now.history.items }
-    ensures { OnOk result (Appends (W.contents writer.old) (W.contents writer.new) (drawn_bar section.now bar.now)) }
+    ensures { OnOk result
+        (Appends (W.contents writer.old) (W.contents writer.new) (drawn_bar section.now bar.now)) }
 {
     let completion = completion_of(section, bar);
     match section.record(bar.call.invoke) {
@@ -167,11 +194,7 @@ fn draw_bar<W: Write>(
 }
 
 /// Writes all bars.
-fn draw_bars<W: Write>(
-    alloc: Global,
-    section: &Section,
-    writer: &mut W,
-) -> Result<(), PageError>
+fn draw_bars<W: Write>(alloc: Global, section: &Section, writer: &mut W) -> Result<(), PageError>
     requires { All (λ op. IsWritable op.process) section.now.history.items }
     ensures { OnOk result (Appends (W.contents writer.old) (W.contents writer.new)
         (flat_map (drawn_bar section.now) section.now.picture.bars.items)) }
@@ -184,7 +207,8 @@ fn draw_bars<W: Write>(
 
 /// Writes the opening of a line in the row of an index.
 fn write_line<W: Write>(window: Window, index: usize, writer: &mut W) -> Result<(), PageError>
-    ensures { OnOk result (Appends (W.contents writer.old) (W.contents writer.new) (line_text window index)) }
+    ensures { OnOk result
+        (Appends (W.contents writer.old) (W.contents writer.new) (line_text window index)) }
 {
     let top = top_of(window, index);
     write!(
@@ -192,6 +216,25 @@ fn write_line<W: Write>(window: Window, index: usize, writer: &mut W) -> Result<
         "<svg class=\"fault\" y=\"{top}\" width=\"100%\" height=\"16\"><line x2=\"100%\"/><title>"
     )
     .map_err(|_| PageError::Write)
+}
+
+/// Writes a record of the nemesis.
+fn write_fault<W: Write>(
+    alloc: Global,
+    window: Window,
+    index: usize,
+    op: &Op,
+    writer: &mut W,
+) -> Result<(), PageError>
+    requires { IsWritable op.now.process }
+    ensures { OnOk result (Appends (W.contents writer.old) (W.contents writer.new)
+        (fault_text window index (Some (operation op.now)))) }
+{
+    write_line(window, index, writer)?;
+    write_record(alloc, op, writer)?;
+    put(b"</title><text x=\"4\" y=\"12\">", writer)?;
+    write_label(alloc, &op.f, &op.value, writer)?;
+    put(b"</text></svg>\n", writer)
 }
 
 /// Writes a record of the nemesis that the history has at an index.
@@ -202,24 +245,17 @@ fn draw_fault<W: Write>(
     writer: &mut W,
 ) -> Result<(), PageError>
     requires { All (λ op. IsWritable op.process) section.now.history.items }
-    ensures { OnOk result (Appends (W.contents writer.old) (W.contents writer.new) (drawn_fault section.now index)) }
+    ensures { OnOk result
+        (Appends (W.contents writer.old) (W.contents writer.new) (drawn_fault section.now index)) }
 {
-    let Some(op) = section.record(index) else {
-        return Ok(());
-    };
-    write_line(section.window, index, writer)?;
-    write_record(alloc, op, writer)?;
-    put(b"</title><text x=\"4\" y=\"12\">", writer)?;
-    write_label(alloc, &op.f, &op.value, writer)?;
-    put(b"</text></svg>\n", writer)
+    match section.record(index) {
+        Some(op) => write_fault(alloc, section.window, index, op, writer),
+        None => Ok(()),
+    }
 }
 
 /// Writes all records of the nemesis.
-fn draw_faults<W: Write>(
-    alloc: Global,
-    section: &Section,
-    writer: &mut W,
-) -> Result<(), PageError>
+fn draw_faults<W: Write>(alloc: Global, section: &Section, writer: &mut W) -> Result<(), PageError>
     requires { All (λ op. IsWritable op.process) section.now.history.items }
     ensures { OnOk result (Appends (W.contents writer.old) (W.contents writer.new)
         (flat_map (drawn_fault section.now) section.now.picture.faults.items)) }
@@ -230,17 +266,33 @@ fn draw_faults<W: Write>(
     Ok(())
 }
 
+/// Writes a mark at a bar.
+fn write_mark<W: Write>(
+    window: Window,
+    note: Note,
+    bar: &Bar,
+    writer: &mut W,
+) -> Result<(), PageError>
+    ensures { OnOk result
+        (Appends (W.contents writer.old) (W.contents writer.new)
+        (mark_text window note (Some bar.now))) }
+{
+    write_box(class_of(note), window, bar, writer)?;
+    put(b"<text x=\"168\" y=\"12\">", writer)?;
+    write_note(note, writer)?;
+    put(b"</text></svg>\n", writer)
+}
+
 /// Writes a mark at the bar that it names.
 fn draw_mark<W: Write>(section: &Section, mark: &Mark, writer: &mut W) -> Result<(), PageError>
-    ensures { OnOk result (Appends (W.contents writer.old) (W.contents writer.new) (drawn_mark section.now mark.now)) }
+    ensures { OnOk result
+        (Appends (W.contents writer.old) (W.contents writer.new)
+        (drawn_mark section.now mark.now)) }
 {
-    let Some(bar) = section.picture.bars.get(mark.bar) else {
-        return Ok(());
-    };
-    write_box(class_of(mark.note), section.window, bar, writer)?;
-    put(b"<text x=\"168\" y=\"12\">", writer)?;
-    write_note(mark.note, writer)?;
-    put(b"</text></svg>\n", writer)
+    match section.bar(mark.bar) {
+        Some(bar) => write_mark(section.window, mark.note, &bar, writer),
+        None => Ok(()),
+    }
 }
 
 /// Writes all marks.
@@ -261,18 +313,43 @@ pub(crate) fn end_in(window: Window, total: usize) -> usize
     window.to.min(total)
 }
 
+/// Writes how wide and how high something is.
+fn write_sides<W: Write>(width: u128, height: u128, writer: &mut W) -> Result<(), PageError>
+    ensures { OnOk result
+        (Appends (W.contents writer.old) (W.contents writer.new) (sides_text width height)) }
+{
+    write!(writer, " width=\"{width}\" height=\"{height}\"").map_err(|_| PageError::Write)
+}
+
+/// Writes the same, whatever it is made as wide as.
+fn write_view<W: Write>(width: u128, height: u128, writer: &mut W) -> Result<(), PageError>
+    ensures { OnOk result
+        (Appends (W.contents writer.old) (W.contents writer.new) (view_text width height)) }
+{
+    write!(writer, " viewBox=\"0 0 {width} {height}\">\n").map_err(|_| PageError::Write)
+}
+
+/// Writes the opening of a picture of this size.
+fn write_opening<W: Write>(width: u128, height: u128, writer: &mut W) -> Result<(), PageError>
+    ensures { OnOk result
+        (Appends (W.contents writer.old) (W.contents writer.new) (opening_text width height)) }
+{
+    put(
+        b"<div class=\"picture\">\n<svg xmlns=\"http://www.w3.org/2000/svg\"",
+        writer,
+    )?;
+    write_sides(width, height, writer)?;
+    write_view(width, height, writer)
+}
+
 /// Writes the opening of the picture.
 fn write_picture_head<W: Write>(section: &Section, writer: &mut W) -> Result<(), PageError>
-    ensures { OnOk result (Appends (W.contents writer.old) (W.contents writer.new) (picture_head section.now)) }
+    ensures { OnOk result
+        (Appends (W.contents writer.old) (W.contents writer.new) (picture_head section.now)) }
 {
     let width = left_of(section.picture.lanes.len());
     let end = end_in(section.window, section.history.len());
-    let height = top_of(section.window, end);
-    write!(
-        writer,
-        "<div class=\"picture\">\n<svg xmlns=\"http://www.w3.org/2000/svg\" width=\"{width}\" height=\"{height}\" viewBox=\"0 0 {width} {height}\">\n"
-    )
-    .map_err(|_| PageError::Write)
+    write_opening(width, top_of(section.window, end), writer)
 }
 
 /// Writes the picture of a history.
@@ -282,7 +359,8 @@ pub(crate) fn write_picture<W: Write>(
     writer: &mut W,
 ) -> Result<(), PageError>
     requires { All (λ op. IsWritable op.process) section.now.history.items }
-    ensures { OnOk result (Appends (W.contents writer.old) (W.contents writer.new) (picture_text section.now)) }
+    ensures { OnOk result
+        (Appends (W.contents writer.old) (W.contents writer.new) (picture_text section.now)) }
 {
     write_picture_head(section, writer)?;
     draw_faults(alloc, section, writer)?;

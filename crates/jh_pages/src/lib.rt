@@ -1,4 +1,5 @@
-//! A page that shows histories: operations as bars in lanes, faults as lines across them, and marks at bars.
+//! A page that shows histories: operations as bars in lanes, faults as lines across them, and marks
+//! at bars.
 #![tactic(auto)]
 
 mod drawing;

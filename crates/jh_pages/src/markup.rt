@@ -10,7 +10,8 @@ use std::io::Write;
 
 /// Writes bytes as they are.
 pub(crate) fn put<W: Write>(bytes: &[u8], writer: &mut W) -> Result<(), PageError>
-    ensures bytes { OnOk result (Appends (W.contents writer.old) (W.contents writer.new) bytes.now) }
+    ensures bytes { OnOk result
+        (Appends (W.contents writer.old) (W.contents writer.new) bytes.now) }
     ensures error { IfErr result (λ e. e ≡ PageError.Write) }
 {
     writer.write_all(bytes).map_err(|_| PageError::Write)
@@ -39,7 +40,8 @@ fn write_itself<W: Write>(c: char, writer: &mut W) -> Result<(), PageError>
 /// Writes a character as it stands in the page.
 #[tactic(auto, unfolding(crate::specs::Markup::shown))]
 fn write_shown<W: Write>(c: char, writer: &mut W) -> Result<(), PageError>
-    ensures bytes { OnOk result (Appends (W.contents writer.old) (W.contents writer.new) (shown c)) }
+    ensures bytes { OnOk result
+        (Appends (W.contents writer.old) (W.contents writer.new) (shown c)) }
     ensures error { IfErr result (λ e. e ≡ PageError.Write) }
 {
     match c {
@@ -48,13 +50,16 @@ fn write_shown<W: Write>(c: char, writer: &mut W) -> Result<(), PageError>
         '&' => put(b"&amp;", writer),
         '"' => put(b"&quot;", writer),
         '\'' => put(b"&#39;", writer),
-        '\0'..='\t' | '\x0b'..='\x1f' | '\x7f'..='\u{9f}' | '\u{fffe}' | '\u{ffff}' => write_number(c, writer),
+        '\0'..='\t' | '\x0b'..='\x1f' | '\x7f'..='\u{9f}' | '\u{fffe}' | '\u{ffff}' => write_number(
+            c, writer,
+        ),
         _ => write_itself(c, writer),
     }
 }
 
-/// Writes a text so that it can stand between tags and in attributes, and no character of it is read as markup: `<`, `>`, `&`
-/// and quotes as entities, and what would not show as `\u{..}`, but for line feeds, which stay.
+/// Writes a text so that it can stand between tags and in attributes, and no character of it is
+/// read as markup: `<`, `>`, `&` and quotes as entities, and what would not show as `\u{..}`, but
+/// for line feeds, which stay.
 ///
 /// Takes no memory. The writer may have taken a part of the text where it failed.
 ///

@@ -4,8 +4,9 @@ ghost use Rattle.std.specs.Prelude.{◌≡◌, ◌++◌, All, OnOk, length};
 ghost use Rattle.std.specs.Io.KnownBytes.{Appends};
 ghost use Rattle.std.specs.List.{enumerate_from, flat_map};
 ghost use Rattle.jh_ops.specs.OperationWritten.{IsWritable};
+ghost use Rattle.jh_pages.specs.Page as rule;
 ghost use Rattle.jh_pages.specs.Page.{below_text, client_text, contents_text, heading_text, lane_text, link_text};
-ghost use Rattle.jh_pages.specs.Page.{page_text, section_text, window_text};
+ghost use Rattle.jh_pages.specs.Page.{name_text, page_text, range_text, section_text, window_text};
 
 use crate::drawing::{end_in, write_picture};
 use crate::error::PageError;
@@ -15,35 +16,52 @@ use jh_timeline::{Lane, Window};
 use std::alloc::Global;
 use std::io::Write;
 
-/// The page up to the line on top. Its colours are for light and dark, and on paper a picture is as wide as the paper at most.
-const HEAD: &[u8] = b"<!DOCTYPE html>\n<html xmlns=\"http://www.w3.org/1999/xhtml\" lang=\"en\">\n<head>\n\
+/// The page up to the line on top. Its colours are for light and dark, and on paper a picture is as
+/// wide as the paper at most.
+const HEAD: &[u8] =
+    b"<!DOCTYPE html>\n<html xmlns=\"http://www.w3.org/1999/xhtml\" lang=\"en\">\n<head>\n\
     <meta charset=\"utf-8\"/>\n<title>Timeline</title>\n<style>\n\
-    :root { color-scheme: light dark; --ink: #1a1a1a; --paper: #ffffff; --ok: #b7e1b0; --fail: #f2c6c6; \
-    --info: #fbe3a6; --open: #dddddd; --fault: #7a4fbf; --mark: #c00000 }\n\
-    @media (prefers-color-scheme: dark) { :root { --ink: #e6e6e6; --paper: #161616; --ok: #2f5d2a; --fail: #6b2b2b; \
-    --info: #6a5314; --open: #3a3a3a; --fault: #b497f0; --mark: #ff7070 } }\n\
+    :root { color-scheme: light dark; --ink: #1a1a1a; --paper: #ffffff; --ok: #b7e1b0; \
+    --fail: #f2c6c6; --info: #fbe3a6; --open: #dddddd; --fault: #7a4fbf; --mark: #c00000 }\n\
+    @media (prefers-color-scheme: dark) { :root { --ink: #e6e6e6; --paper: #161616; \
+    --ok: #2f5d2a; --fail: #6b2b2b; --info: #6a5314; --open: #3a3a3a; \
+    --fault: #b497f0; --mark: #ff7070 } }\n\
     body { margin: 1em; font: 12px sans-serif; color: var(--ink); background: var(--paper) }\n\
     h1, h2, pre { font: 12px monospace; white-space: pre-wrap; overflow-wrap: anywhere }\n\
-    h1, h2 { font-weight: bold }\nh1 { font-size: 14px }\nh2 { margin-top: 2em }\na { color: inherit }\n\
-    ul, ol { padding-left: 2em }\n.picture { overflow-x: auto }\nsvg text { font: 11px monospace; fill: var(--ink) }\n\
-    rect { stroke: var(--ink); fill: var(--open) }\n.ok rect { fill: var(--ok) }\n.fail rect { fill: var(--fail) }\n\
-    .info rect { fill: var(--info) }\n.info rect, .open rect { stroke-dasharray: 4 2 }\n\
+    h1, h2 { font-weight: bold }\nh1 { font-size: 14px }\nh2 { margin-top: 2em }\n\
+    a { color: inherit }\nul, ol { padding-left: 2em }\n.picture { overflow-x: auto }\n\
+    svg text { font: 11px monospace; fill: var(--ink) }\n\
+    rect { stroke: var(--ink); fill: var(--open) }\n.ok rect { fill: var(--ok) }\n\
+    .fail rect { fill: var(--fail) }\n.info rect { fill: var(--info) }\n\
+    .info rect, .open rect { stroke-dasharray: 4 2 }\n\
     .fault line { stroke: var(--fault); stroke-width: 2 }\n.fault text { fill: var(--fault) }\n\
-    .marks { pointer-events: none }\n.marks rect { fill: none; stroke: var(--mark); stroke-width: 4 }\n\
+    .marks { pointer-events: none }\n\
+    .marks rect { fill: none; stroke: var(--mark); stroke-width: 4 }\n\
     .marks text { fill: var(--mark); font-weight: bold; text-anchor: end }\n\
     .legend span { padding: 0 4px; border: 1px solid var(--ink); background: var(--open) }\n\
     .legend .ok { background: var(--ok) }\n.legend .fail { background: var(--fail) }\n\
-    .legend .info { background: var(--info) }\n.legend .info, .legend .open { border-style: dashed }\n\
+    .legend .info { background: var(--info) }\n\
+    .legend .info, .legend .open { border-style: dashed }\n\
     .legend .marked { border: 2px solid var(--mark); color: var(--mark); background: none }\n\
-    @media print { :root { --ink: #000000; --paper: #ffffff; --ok: #ffffff; --fail: #d8d8d8; --info: #ffffff; \
-    --open: #ffffff; --fault: #000000; --mark: #000000 }\n\
+    @media print { :root { --ink: #000000; --paper: #ffffff; --ok: #ffffff; --fail: #d8d8d8; \
+    --info: #ffffff; --open: #ffffff; --fault: #000000; --mark: #000000 }\n\
     .picture { overflow: visible }\n.picture > svg { max-width: 100%; height: auto } }\n\
     </style>\n</head>\n<body>\n<h1>";
 
 /// The end of the line on top, and what signs and colours mean.
-const LEGEND: &[u8] = b"</h1>\n<p class=\"legend\"><span class=\"ok\">&#10003; ok</span> <span class=\"fail\">&#10007; fail</span> \
-    <span class=\"info\">? info</span> <span class=\"open\">&#8230; no completion</span> <span class=\"marked\">mark</span> \
-    Time goes down, a line across is a fault, and a bold outline is a mark. Point at a bar or a line to see its records.</p>\n";
+const LEGEND: &[u8] = b"</h1>\n<p class=\"legend\"><span class=\"ok\">&#10003; ok</span> \
+    <span class=\"fail\">&#10007; fail</span> <span class=\"info\">? info</span> \
+    <span class=\"open\">&#8230; no completion</span> <span class=\"marked\">mark</span> \
+    Time goes down, a line across is a fault, and a bold outline is a mark. \
+    Point at a bar or a line to see its records.</p>\n";
+
+/// Writes the end of a tag with the name of a section, or a link to it.
+fn write_name<W: Write>(tag: &str, number: usize, writer: &mut W) -> Result<(), PageError>
+    ensures { OnOk result
+        (Appends (W.contents writer.old) (W.contents writer.new) (name_text tag.now number)) }
+{
+    write!(writer, "{tag}part-{number}\">").map_err(|_| PageError::Write)
+}
 
 /// Writes the heading of a section.
 fn write_heading<W: Write>(
@@ -52,31 +70,52 @@ fn write_heading<W: Write>(
     heading: &[u8],
     writer: &mut W,
 ) -> Result<(), PageError>
-    ensures { OnOk result (Appends (W.contents writer.old) (W.contents writer.new) (heading_text number heading.now)) }
+    ensures { OnOk result
+        (Appends (W.contents writer.old) (W.contents writer.new)
+        (heading_text number heading.now)) }
 {
     if heading.is_empty() {
-        return write!(writer, "<p id=\"part-{number}\">").map_err(|_| PageError::Write);
+        return write_name("<p id=\"", number, writer);
     }
-    write!(writer, "<h2 id=\"part-{number}\">").map_err(|_| PageError::Write)?;
+    write_name("<h2 id=\"", number, writer)?;
     write_escaped_bytes(alloc, heading, writer)?;
     put(b"</h2>\n<p>", writer)
 }
 
+/// Whether all records are drawn.
+fn is_whole(window: Window, total: usize) -> bool
+    ensures { result ≡ rule.is_whole window total }
+{
+    window.from == 0 && total <= window.to
+}
+
+/// Writes that records from one to another are drawn.
+fn write_range<W: Write>(
+    first: usize,
+    last: usize,
+    total: usize,
+    writer: &mut W,
+) -> Result<(), PageError>
+    ensures { OnOk result
+        (Appends (W.contents writer.old) (W.contents writer.new) (range_text first last total)) }
+{
+    write!(
+        writer,
+        "Records {first} to {last} of {total}; --from and --to choose others.</p>\n"
+    )
+    .map_err(|_| PageError::Write)
+}
+
 /// Writes which of so many records are drawn.
 fn write_window<W: Write>(window: Window, total: usize, writer: &mut W) -> Result<(), PageError>
-    ensures { OnOk result (Appends (W.contents writer.old) (W.contents writer.new) (window_text window total)) }
+    ensures { OnOk result
+        (Appends (W.contents writer.old) (W.contents writer.new) (window_text window total)) }
 {
-    let from = window.from;
     let end = end_in(window, total);
-    if from == 0 && total <= window.to {
+    if is_whole(window, total) {
         write!(writer, "All {total} records.</p>\n").map_err(|_| PageError::Write)
-    } else if from < end {
-        let last = end - 1;
-        write!(
-            writer,
-            "Records {from} to {last} of {total}; --from and --to choose others.</p>\n"
-        )
-        .map_err(|_| PageError::Write)
+    } else if window.from < end {
+        write_range(window.from, end - 1, total, writer)
     } else {
         write!(
             writer,
@@ -99,7 +138,8 @@ fn write_clients<W: Write>(lane: &Lane, writer: &mut W) -> Result<(), PageError>
 
 /// Writes a lane.
 fn write_lane<W: Write>(lane: &Lane, writer: &mut W) -> Result<(), PageError>
-    ensures { OnOk result (Appends (W.contents writer.old) (W.contents writer.new) (lane_text lane.now)) }
+    ensures { OnOk result
+        (Appends (W.contents writer.old) (W.contents writer.new) (lane_text lane.now)) }
 {
     put(b"<li>process", writer)?;
     write_clients(lane, writer)?;
@@ -108,7 +148,8 @@ fn write_lane<W: Write>(lane: &Lane, writer: &mut W) -> Result<(), PageError>
 
 /// Writes all lanes.
 fn write_lanes<W: Write>(lanes: &[Lane], writer: &mut W) -> Result<(), PageError>
-    ensures { OnOk result (Appends (W.contents writer.old) (W.contents writer.new) (flat_map lane_text lanes.now)) }
+    ensures { OnOk result
+        (Appends (W.contents writer.old) (W.contents writer.new) (flat_map lane_text lanes.now)) }
 {
     for lane in lanes {
         write_lane(lane, writer)?;
@@ -124,12 +165,14 @@ fn write_section<W: Write>(
     writer: &mut W,
 ) -> Result<(), PageError>
     requires { All (λ op. IsWritable op.process) section.now.history.items }
-    ensures { OnOk result (Appends (W.contents writer.old) (W.contents writer.new) (section_text number section.now)) }
+    ensures { OnOk result
+        (Appends (W.contents writer.old) (W.contents writer.new)
+        (section_text number section.now)) }
 {
-    write_heading(alloc, number, &section.heading, writer)?;
+    write_heading(alloc, number, section.heading.as_slice(), writer)?;
     write_window(section.window, section.history.len(), writer)?;
     put(b"<ol>\n", writer)?;
-    write_lanes(&section.picture.lanes, writer)?;
+    write_lanes(section.picture.lanes.as_slice(), writer)?;
     put(b"</ol>\n", writer)?;
     write_picture(alloc, section, writer)
 }
@@ -140,9 +183,11 @@ fn write_sections<W: Write>(
     sections: &[Section],
     writer: &mut W,
 ) -> Result<(), PageError>
-    requires { All (λ section. All (λ op. IsWritable op.process) section.history.items) sections.now }
+    requires { All (λ section. All (λ op. IsWritable op.process) section.history.items)
+        sections.now }
     ensures { OnOk result (Appends (W.contents writer.old) (W.contents writer.new)
-        (flat_map (λ numbered. section_text numbered.0 numbered.1) (enumerate_from 0 sections.now))) }
+        (flat_map (λ numbered. section_text numbered.0 numbered.1)
+        (enumerate_from 0 sections.now))) }
 {
     for (number, section) in sections.iter().enumerate() {
         write_section(alloc, number, section, writer)?;
@@ -157,10 +202,11 @@ fn write_link<W: Write>(
     section: &Section,
     writer: &mut W,
 ) -> Result<(), PageError>
-    ensures { OnOk result (Appends (W.contents writer.old) (W.contents writer.new) (link_text number section.now)) }
+    ensures { OnOk result
+        (Appends (W.contents writer.old) (W.contents writer.new) (link_text number section.now)) }
 {
-    write!(writer, "<li><a href=\"#part-{number}\">").map_err(|_| PageError::Write)?;
-    write_escaped_bytes(alloc, &section.heading, writer)?;
+    write_name("<li><a href=\"#", number, writer)?;
+    write_escaped_bytes(alloc, section.heading.as_slice(), writer)?;
     put(b"</a></li>\n", writer)
 }
 
@@ -185,7 +231,8 @@ fn write_contents<W: Write>(
     sections: &[Section],
     writer: &mut W,
 ) -> Result<(), PageError>
-    ensures { OnOk result (Appends (W.contents writer.old) (W.contents writer.new) (contents_text sections.now)) }
+    ensures { OnOk result
+        (Appends (W.contents writer.old) (W.contents writer.new) (contents_text sections.now)) }
 {
     if sections.len() <= 1 {
         return Ok(());
@@ -197,7 +244,8 @@ fn write_contents<W: Write>(
 
 /// Writes what stands below all sections.
 fn write_below<W: Write>(alloc: Global, below: &[u8], writer: &mut W) -> Result<(), PageError>
-    ensures { OnOk result (Appends (W.contents writer.old) (W.contents writer.new) (below_text below.now)) }
+    ensures { OnOk result
+        (Appends (W.contents writer.old) (W.contents writer.new) (below_text below.now)) }
 {
     if below.is_empty() {
         return Ok(());
@@ -207,11 +255,12 @@ fn write_below<W: Write>(alloc: Global, below: &[u8], writer: &mut W) -> Result<
     put(b"</pre>\n", writer)
 }
 
-/// Writes a page: a line on top, a table of contents where there is more than one section, then each section with its picture, and
-/// a text below them all, if there is one.
+/// Writes a page: a line on top, a table of contents where there is more than one section, then
+/// each section with its picture, and a text below them all, if there is one.
 ///
-/// Processes can be written, which `Process::is_writable` tests. A bar or a fault whose index its history lacks is not drawn, nor is
-/// a mark whose bar its picture lacks. A bar has at most one mark, or else their texts lie upon each other.
+/// Processes can be written, which `Process::is_writable` tests. A bar or a fault whose index its
+/// history lacks is not drawn, nor is a mark whose bar its picture lacks. A bar has at most one
+/// mark, or else their texts lie upon each other.
 ///
 /// The writer may have taken a part of the page where this failed.
 ///
@@ -225,7 +274,8 @@ pub fn write_page<W: Write>(
     below: &[u8],
     writer: &mut W,
 ) -> Result<(), PageError>
-    requires { All (λ section. All (λ op. IsWritable op.process) section.history.items) sections.now }
+    requires { All (λ section. All (λ op. IsWritable op.process) section.history.items)
+        sections.now }
     ensures { OnOk result (Appends (W.contents writer.old) (W.contents writer.new)
         (page_text line.now sections.now below.now)) }
 {

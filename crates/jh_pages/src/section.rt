@@ -1,11 +1,11 @@
 //! The histories of a page.
 
-ghost use Rattle.std.specs.Prelude.{◌≡◌, All, IfSome, option_map};
+ghost use Rattle.std.specs.Prelude.{◌≡◌, All, IfSome, option_map, slice_get};
 ghost use Rattle.jh_ops.specs.Operation.{operation};
 ghost use Rattle.jh_ops.specs.OperationWritten.{IsWritable};
 
 use jh_ops::Op;
-use jh_timeline::{Mark, Picture, Window};
+use jh_timeline::{Bar, Mark, Picture, Window};
 
 /// A history as a page shows it.
 #[derive(Drop)]
@@ -23,6 +23,13 @@ pub struct Section {
 
 impl Section {
     ghost use Rattle.jh_pages.specs.Drawings.{record_of};
+
+    /// The bar of this number, if there is one.
+    pub(crate) fn bar(&self, number: usize) -> Option<Bar>
+        ensures { result ≡ slice_get self.now.picture.bars.items number }
+    {
+        self.picture.bars.get(number).copied()
+    }
 
     /// The record at an index, if there is one.
     pub(crate) fn record(&self, index: usize) -> Option<&Op>

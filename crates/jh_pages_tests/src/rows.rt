@@ -1,9 +1,10 @@
 //! Rows of histories with the page of each.
 //!
-//! A row is the line on top, and what stands below all sections in further lines; for each section a line `#` with its heading, a line
-//! with the window's two indexes, and behind each `;` a mark: a bar and what is said of it, and its records; a line `=>`; and the page
-//! from its line on, without the legend. An empty line ends it. A table is one text, since the proof of an array takes a second for
-//! each row.
+//! A row is the line on top, and what stands below all sections in further lines; for each section
+//! a line `#` with its heading, a line with the window's two indexes, and behind each `;` a mark: a
+//! bar and what is said of it, and its records; a line `=>`; and the page from its line on, without
+//! the legend. An empty line ends it. A table is one text, since the proof of an array takes a
+//! second for each row.
 
 ghost use Rattle.std.specs.Prelude.{All, IfOk};
 ghost use Rattle.jh_ops.specs.OperationWritten.{IsWritable};
@@ -25,10 +26,11 @@ const OPENING: &str =
 const BODY: &str = "</style>\n</head>\n<body>\n";
 
 /// What stands behind the line on top.
-const LEGEND: &str =
-    "<p class=\"legend\"><span class=\"ok\">&#10003; ok</span> <span class=\"fail\">&#10007; fail</span> \
-    <span class=\"info\">? info</span> <span class=\"open\">&#8230; no completion</span> <span class=\"marked\">mark</span> \
-    Time goes down, a line across is a fault, and a bold outline is a mark. Point at a bar or a line to see its records.</p>\n";
+const LEGEND: &str = "<p class=\"legend\"><span class=\"ok\">&#10003; ok</span> \
+    <span class=\"fail\">&#10007; fail</span> <span class=\"info\">? info</span> \
+    <span class=\"open\">&#8230; no completion</span> <span class=\"marked\">mark</span> \
+    Time goes down, a line across is a fault, and a bold outline is a mark. \
+    Point at a bar or a line to see its records.</p>\n";
 
 /// More bytes than any page here has.
 const ROOM: usize = 20_000;
@@ -122,7 +124,8 @@ fn section_of(alloc: Global, text: &str) -> Result<Section, PageError>
 
 /// The sections of a row.
 fn sections_of(alloc: Global, given: &str) -> Result<Vec<Section>, PageError>
-    ensures { IfOk result (λ sections. All (λ section. All (λ op. IsWritable op.process) section.history.items) sections.items) }
+    ensures { IfOk result (λ sections. All (λ section. All (λ op. IsWritable op.process)
+        section.history.items) sections.items) }
 {
     let mut sections = Vec::new(alloc);
     for text in given.split("\n#").skip(1) {
@@ -140,13 +143,7 @@ pub(crate) fn write_asked<W: Write>(
     let above = given.split("\n#").next().unwrap_or("");
     let (line, below) = above.split_once('\n').unwrap_or((above, ""));
     let sections = sections_of(alloc, given)?;
-    write_page(
-        alloc,
-        line.as_bytes(),
-        &sections,
-        below.as_bytes(),
-        writer,
-    )
+    write_page(alloc, line.as_bytes(), &sections, below.as_bytes(), writer)
 }
 
 /// The page that a row asks for. It has room from the start, so no writer fails.
@@ -180,8 +177,8 @@ pub(crate) fn ask_all(alloc: Global, rows: &str) -> Result<(), Fail> {
     for row in rows.split("\n\n") {
         let (given, body) = row.split_once("\n=>\n").ok_or("no page")?;
         let page = asked(alloc, given).ok_or("no answer")?;
-        let is_right = head_of(&page, body)
-            .is_some_and(|head| head.starts_with(OPENING) && head.ends_with(BODY));
+        let is_right = head_of(&page, body).is_some_and(|head| head.starts_with(OPENING)
+            && head.ends_with(BODY));
         if !is_right {
             return Err(Fail::new(given));
         }

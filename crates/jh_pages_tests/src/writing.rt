@@ -33,7 +33,8 @@ const ALL: &str = "{:valid? false}\n& below\n#\n0 0\n# key 1\n0 4; 0 outside -1 
     {:type :ok, :process 0, :f :read, :value 5}\n\
     {:type :invoke, :process 3, :f :add, :value [1 2]}";
 
-/// What a page comes to where the writer takes so many bytes; asked once more where memory was refused.
+/// What a page comes to where the writer takes so many bytes; asked once more where memory was
+/// refused.
 fn written(alloc: Global, left: usize) -> Result<(), PageError> {
     match write_asked(alloc, ALL, &mut Narrow { left }) {
         Err(PageError::OutOfMemory) => write_asked(alloc, ALL, &mut Narrow { left }),

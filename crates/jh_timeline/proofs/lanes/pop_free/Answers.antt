@@ -1,5 +1,5 @@
 use Rattle.std.proofs.Common.{arith}
-use Rattle.jh_timeline.proofs.EndLemmas.{held_empty, held_from}
+use Rattle.jh_timeline.proofs.EndLemmas.{held_from}
 use Rattle.jh_timeline.proofs.lanes.pop_free.Goals as goal
 
 pub returns-else-first-index-clause-none : goal.returns-else-first-index-clause-none
