@@ -1,5 +1,5 @@
--- Why `jeprun timeline` refuses an input (this project's own): what is no text of values, no history, or a history that the checker of
--- the workload cannot judge. Each is looked at only where all before it is right.
+-- Why `jeprun timeline` refuses an input (this project's own): what is no text of values, no history, or a history that the checker
+-- of the workload cannot judge. Each is looked at only where all before it is right.
 use Rattle.std.specs.Prelude.{◌≡◌, ℕ, List, Option, Some, None}
 use Rattle.jh_histories.specs.declared.error.ReadHistoryError.TheVariants as reading
 use Rattle.jh_ops.specs.Operation.{Operation}
@@ -22,8 +22,8 @@ abbrev pub RefusesPage : TimelineQuestion → List Operation → CliError → Ty
 RefusesPage question history OutOfMemory = Unit {0}
 RefusesPage question history e = RefusesFinding question.judging history e
 
--- Why an input is refused, where for its text then as its parts are. A failed read and out of memory may come with any input; a failed
--- write comes only where there is something to write.
+-- Why an input is refused, where for its text then as its parts are. A failed read and out of memory may come with any input; a
+-- failed write comes only where there is something to write.
 abbrev pub RefusesTimeline : TimelineQuestion → List ℕ → CliError → Type 0
 RefusesTimeline question input OnlyForRegister = TakesInitialBy question.judging → ⊥
 RefusesTimeline question input (Input error) = IsInputError error × RefusesParts input (reading.Text error)

@@ -38,7 +38,8 @@ status_of None = 0
 status_of (Some found) = check.status_of (verdict_of found.finding)
 
 -- what a page shows of a history: a line on top, and one section, which has no heading
-pub record Shows (question : TimelineQuestion) (history : List Operation) (status : ℕ) (line : List ℕ) (sections : List Section) : Type 0 where
+pub record Shows (question : TimelineQuestion) (history : List Operation) (status : ℕ) (line : List ℕ) (sections : List Section)
+    : Type 0 where
   pub found : Option Found
   pub judged : IsFoundBy question.judging history found
   pub section : Section
@@ -50,7 +51,8 @@ pub record Shows (question : TimelineQuestion) (history : List Operation) (statu
 -- the page of a history, with a text below
 abbrev pub IsPage : TimelineQuestion → List Operation → List ℕ → ℕ → List ℕ → Type 0
 IsPage question history below status output =
-    (line : List ℕ) × (sections : List Section) × Shows question history status line sections × (output ≡ page_text line sections below)
+    (line : List ℕ) × (sections : List Section) × Shows question history status line sections
+    × (output ≡ page_text line sections below)
 
 -- for an input, with the exit status: the page of the history in it, with what else it has below
 abbrev pub IsTimelineTextOf : TimelineQuestion → List ℕ → ℕ → List ℕ → Type 0

@@ -1,7 +1,9 @@
-//! The command `timeline`: reads a history, or all that `run` printed, and writes a page that shows it. What is written stands in
-//! `specs/TimelineText.antt`, why an input is refused in `specs/TimelineRefusals.antt`.
+//! The command `timeline`: reads a history, or all that `run` printed, and writes a page that shows
+//! it. What is written stands in `specs/TimelineText.antt`, why an input is refused in
+//! `specs/TimelineRefusals.antt`.
 
-ghost use Rattle.std.specs.Prelude.{◌≡◌, ◌≢◌, ◌↔◌, ℕ, List, All, IfErr, IfOk, IfSome, IsErrOf, IsTrue, MatchResult};
+ghost use Rattle.std.specs.Prelude.{◌≡◌, ◌≢◌, ◌↔◌, ℕ, List, All, IfErr, IfOk, IfSome, IsErrOf};
+ghost use Rattle.std.specs.Prelude.{IsTrue, MatchResult};
 ghost use Rattle.std.specs.Io.KnownBytes.{Appends};
 ghost use Rattle.std.specs.Option.{option_copied};
 ghost use Rattle.jh_ops.specs.Operation.{operations};
@@ -9,7 +11,8 @@ ghost use Rattle.jh_ops.specs.OperationWritten.{IsWritable};
 ghost use Rattle.jh_pages.specs.Page as pages;
 ghost use Rattle.jh_cli.specs.TimelineRefusals.{RefusesFinding, RefusesPage, RefusesTimeline};
 ghost use Rattle.jh_cli.specs.TimelineText as text;
-ghost use Rattle.jh_cli.specs.TimelineText.{IsFoundBy, IsPage, IsTimelineTextOf, Shows, TakesInitialBy};
+ghost use Rattle.jh_cli.specs.TimelineText.{IsFoundBy, IsPage, IsTimelineTextOf, Shows};
+ghost use Rattle.jh_cli.specs.TimelineText.{TakesInitialBy};
 
 use crate::check_command;
 use crate::check_command::is_register;
@@ -57,16 +60,19 @@ struct Page {
     text: Vec<u8>,
 }
 
-/// Reads a history as `jh_sections::read_parts` does, or all that `run` printed, judges it by the checker of the workload, if there is
-/// one, and writes a page in HTML that shows the history: the line of the checker on top, the history as `jh_sections::section_of`
-/// shows it, and below it what `run` printed behind the history. The answer is the exit status: 0 where the history is valid or not
-/// judged, 1 where it is not valid, 2 where that is not known. All is read and judged, and the page made, before the first byte is
-/// written.
+/// Reads a history as `jh_sections::read_parts` does, or all that `run` printed, judges it by the
+/// checker of the workload, if there is one, and writes a page in HTML that shows the history: the
+/// line of the checker on top, the history as `jh_sections::section_of` shows it, and below it what
+/// `run` printed behind the history. The answer is the exit status: 0 where the history is valid or
+/// not judged, 1 where it is not valid, 2 where that is not known. All is read and judged, and the
+/// page made, before the first byte is written.
 ///
-/// Takes what the checker takes, O(n log n) for n records beside it, and memory for the text, the history and the page.
+/// Takes what the checker takes, O(n log n) for n records beside it, and memory for the text, the
+/// history and the page.
 ///
-/// Errors: `OnlyForRegister` where there is an initial value and no register, before anything is read; an error of
-/// reading, then of the text (`Input`), `History`, `Check`; `OutOfMemory`; `Write`. Nothing is written before any of them but `Write`.
+/// Errors: `OnlyForRegister` where there is an initial value and no register, before anything is
+/// read; an error of reading, then of the text (`Input`), `History`, `Check`; `OutOfMemory`;
+/// `Write`. Nothing is written before any of them but `Write`.
 pub fn timeline_run<R: Read, W: Write>(
     alloc: Global,
     reader: &mut R,
@@ -76,9 +82,11 @@ pub fn timeline_run<R: Read, W: Write>(
     ensures written { IfOk result (λ status. IfSome (R.remaining reader.old) (λ input.
         (output : List ℕ) × IsTimelineTextOf question input status output
         × Appends (W.contents writer.old) (W.contents writer.new) output)) }
-    ensures asked { IsErrOf result CliError.OnlyForRegister ↔ (TakesInitialBy question.judging → ⊥) }
+    ensures asked { IsErrOf result CliError.OnlyForRegister
+        ↔ (TakesInitialBy question.judging → ⊥) }
     ensures unread { IsErrOf result CliError.OnlyForRegister → reader.new ≡ reader.old }
-    ensures refused { IfErr result (λ e. IfSome (R.remaining reader.old) (λ input. RefusesTimeline question input e)) }
+    ensures refused { IfErr result (λ e. IfSome (R.remaining reader.old) (λ input.
+        RefusesTimeline question input e)) }
     ensures unwritten { IfErr result (λ e. e ≢ CliError.Write → writer.new ≡ writer.old) }
 {
     if !takes_initial(question.judging) {
@@ -154,10 +162,12 @@ fn status_of(found: Option<&Found>) -> u8
 fn shown_of(alloc: Global, history: Vec<Op>, question: TimelineQuestion) -> Result<Shown, CliError>
     requires { All (λ op. IsWritable op.process) history.items }
     ensures shows { MatchResult result
-        (λ shown. Shows question (operations history.items) shown.status shown.line.items shown.sections.items)
+        (λ shown. Shows question (operations history.items)
+            shown.status shown.line.items shown.sections.items)
         (RefusesPage question (operations history.items)) }
     ensures writable { IfOk result (λ shown.
-        All (λ section. All (λ op. IsWritable op.process) section.history.items) shown.sections.items) }
+        All (λ section. All (λ op. IsWritable op.process) section.history.items)
+            shown.sections.items) }
 {
     let found = found_in(alloc, &history, question.judging)?;
     let line = line_of(alloc, found.as_ref())?;
@@ -185,7 +195,8 @@ fn page_text(
     sections: &[Section],
     below: &[u8],
 ) -> Result<Vec<u8>, AllocError>
-    requires { All (λ section. All (λ op. IsWritable op.process) section.history.items) sections.now }
+    requires { All (λ section. All (λ op. IsWritable op.process) section.history.items)
+        sections.now }
     ensures { IfOk result (λ page. page.items ≡ pages.page_text line.now sections.now below.now) }
 {
     let mut page = Vec::new(alloc);
@@ -199,7 +210,8 @@ fn page_text(
 fn page_of(alloc: Global, parts: Parts, question: TimelineQuestion) -> Result<Page, CliError>
     requires { All (λ op. IsWritable op.process) parts.history.items }
     ensures { MatchResult result
-        (λ page. IsPage question (operations parts.history.items) parts.below.items page.status page.text.items)
+        (λ page. IsPage question (operations parts.history.items) parts.below.items
+            page.status page.text.items)
         (RefusesPage question (operations parts.history.items)) }
 {
     let Parts { history, below } = parts;

@@ -1,9 +1,11 @@
-//! The command `timeline`: pages of histories, and what is refused. A row is a question and an input, an arrow, and the answer: the
-//! status, and parts of the page, each on a line, which stand in it one behind the other; what stands on a line behind `!` does not
-//! stand behind them. Of an error the answer is that of `rows`, and nothing is written. What is expected follows from the definitions.
+//! The command `timeline`: pages of histories, and what is refused. A row is a question and an
+//! input, an arrow, and the answer: the status, and parts of the page, each on a line, which stand
+//! in it one behind the other; what stands on a line behind `!` does not stand behind them. Of an
+//! error the answer is that of `rows`, and nothing is written. What is expected follows from the
+//! definitions.
 //!
-//! A question is four words: a workload, the value that a register has at first, and the records from and before which are shown; each
-//! may be `-`, which is none.
+//! A question is four words: a workload, the value that a register has at first, and the records
+//! from and before which are shown; each may be `-`, which is none.
 
 use crate::rows::{push_error, with_status};
 use jh_cli::{CliError, TimelineJudging, TimelineQuestion, timeline_run};
@@ -247,8 +249,15 @@ fn push_faults(count: u32, text: &mut String) -> Option<()> {
     Some(())
 }
 
-/// A row with a long history: an id is given twice behind so many other records, with so many behind.
-fn long_row(alloc: Global, workload: &str, before: u32, behind: u32, parts: &str) -> Option<String> {
+/// A row with a long history: an id is given twice behind so many other records, with so many
+/// behind.
+fn long_row(
+    alloc: Global,
+    workload: &str,
+    before: u32,
+    behind: u32,
+    parts: &str,
+) -> Option<String> {
     let mut row = String::new(alloc);
     row.push_str(workload).ok()?;
     row.push_str(" - - -\n").ok()?;
@@ -272,7 +281,8 @@ fn is_long_row_right(alloc: Global, workload: &str, before: u32, behind: u32, pa
 /// The first bar that is marked ends at the index 1501.
 #[test]
 fn long_histories_are_shown_around_what_is_found(rt: HostRuntime) {
-    let shown = "1\nRecords 1001 to 2000 of 2504; --from and --to choose others.\n<svg class=\"repeated\" x=\"180\" y=\"7984\"\n";
+    let shown = "1\nRecords 1001 to 2000 of 2504; --from and --to choose others.\n\
+        <svg class=\"repeated\" x=\"180\" y=\"7984\"\n";
     assert!(rt; is_long_row_right(rt.alloc(), "unique-ids", 1_500, 1_000, shown));
     let near = "1\nRecords 0 to 999 of 2054;\n";
     assert!(rt; is_long_row_right(rt.alloc(), "unique-ids", 50, 2_000, near));

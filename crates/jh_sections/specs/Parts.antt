@@ -57,8 +57,8 @@ pub record RefusesBefore (text : List ℕ) (error : ReadHistoryError) : Type 0 w
   pub line : IsFirstLine text at
   pub refused : RefusesHistoryOf (take at text) error
 
--- Why a text has no history: its bytes; or why it is none as a whole, where it has no such line; or why what stands before that line
--- is none.
+-- Why a text has no history: its bytes; or why it is none as a whole, where it has no such line; or why what stands before that
+-- line is none.
 abbrev pub RefusesParts : List ℕ → ReadHistoryError → Type 0
 RefusesParts text error =
     (IsOfBytes error × RefusesHistoryOf text error) ⊎ ((HasNoLine text × RefusesHistoryOf text error) ⊎ RefusesBefore text error)

@@ -33,7 +33,8 @@ IsWindowOf choice history found window =
     × (window ≡ window_of choice (length history) focus)
 
 -- The section has this heading and this history, the window, what of the history is drawn in it, and a mark for what was found.
-pub record IsSectionOf (heading : List ℕ) (history : List Operation) (found : Option Found) (choice : Choice) (section : Section) : Type 0 where
+pub record IsSectionOf (heading : List ℕ) (history : List Operation) (found : Option Found) (choice : Choice) (section : Section)
+    : Type 0 where
   pub titled : section.heading.items ≡ heading
   pub records : operations section.history.items ≡ history
   pub window : IsWindowOf choice history found section.window

@@ -18,7 +18,8 @@ is_pointer note = true
 -- the index at which the first bar ends that something points at
 abbrev pub focus_of : List Bar → List Mark → Option ℕ
 focus_of bars marks =
-    option_and_then (λ mark. option_map (λ bar. ends_at bar.call) (slice_get bars mark.bar)) (find (λ mark. is_pointer mark.note) marks)
+    option_and_then (λ mark. option_map (λ bar. ends_at bar.call) (slice_get bars mark.bar))
+    (find (λ mark. is_pointer mark.note) marks)
 
 -- no records are chosen, and there are too many to show all
 abbrev pub is_open : Choice → ℕ → Bool

@@ -1,4 +1,5 @@
-//! What a page of histories shows: which part of a text is a history, which of its records, and the sections that are made of it.
+//! What a page of histories shows: which part of a text is a history, which of its records, and the
+//! sections that are made of it.
 #![tactic(auto)]
 
 mod parts;

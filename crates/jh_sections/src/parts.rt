@@ -5,7 +5,8 @@ ghost use Rattle.std.specs.Str.{IsCharBoundary};
 ghost use Rattle.jh_histories.specs.Histories.{RefusesHistoryOf};
 ghost use Rattle.jh_ops.specs.Operation.{operations};
 ghost use Rattle.jh_ops.specs.OperationWritten.{IsWritable};
-ghost use Rattle.jh_sections.specs.Parts.{ArePartsOf, HasNoLine, IsFirstLine, IsOfBytes, RefusesParts, TellsNone};
+ghost use Rattle.jh_sections.specs.Parts.{ArePartsOf, HasNoLine, IsFirstLine, IsOfBytes};
+ghost use Rattle.jh_sections.specs.Parts.{RefusesParts, TellsNone};
 
 use jh_edn::{EdnError, read_bytes, spelled_once};
 use jh_histories::{ReadHistoryError, history_in};
@@ -55,8 +56,10 @@ fn parts_before(
 ) -> Result<Parts, ReadHistoryError>
     requires refused { RefusesHistoryOf text.now whole }
     requires none { TellsNone text.now }
-    ensures told { IfOk result (λ parts. ArePartsOf text.now (operations parts.history.items) parts.below.items) }
-    ensures writable { IfOk result (λ parts. All (λ op. IsWritable op.process) parts.history.items) }
+    ensures told { IfOk result (λ parts.
+        ArePartsOf text.now (operations parts.history.items) parts.below.items) }
+    ensures writable { IfOk result (λ parts.
+        All (λ op. IsWritable op.process) parts.history.items) }
     ensures refused { IfErr result (RefusesParts text.now) }
 {
     let Some(end) = first_line(text) else {
@@ -67,17 +70,20 @@ fn parts_before(
     Ok(Parts { history, below })
 }
 
-/// The history that a text tells, and what is below it. Where the whole text is a history, nothing is. Else, if there is a line that
-/// begins with `:active`, as the first of those that `jeprun run` prints behind its history, that line and all behind it is below, and
-/// what stands before the first such line is the history.
+/// The history that a text tells, and what is below it. Where the whole text is a history, nothing
+/// is. Else, if there is a line that begins with `:active`, as the first of those that `jeprun run`
+/// prints behind its history, that line and all behind it is below, and what stands before the
+/// first such line is the history.
 ///
-/// Errors: those of `history_in` for the whole text, where memory runs out or there is no such line; else those for what stands before
-/// it.
+/// Errors: those of `history_in` for the whole text, where memory runs out or there is no such
+/// line; else those for what stands before it.
 ///
 /// Reads the text at most twice, looks for that line once, and copies what is below.
 pub fn history_and_rest(alloc: Global, text: &str) -> Result<Parts, ReadHistoryError>
-    ensures told { IfOk result (λ parts. ArePartsOf text.now (operations parts.history.items) parts.below.items) }
-    ensures writable { IfOk result (λ parts. All (λ op. IsWritable op.process) parts.history.items) }
+    ensures told { IfOk result (λ parts.
+        ArePartsOf text.now (operations parts.history.items) parts.below.items) }
+    ensures writable { IfOk result (λ parts.
+        All (λ op. IsWritable op.process) parts.history.items) }
     ensures refused { IfErr result (RefusesParts text.now) }
 {
     spelled_once();
@@ -91,8 +97,8 @@ pub fn history_and_rest(alloc: Global, text: &str) -> Result<Parts, ReadHistoryE
     }
 }
 
-/// The parts of the text of a reader, as `history_and_rest` tells them, read in at most `turns` reads. The text is dropped before they
-/// are given.
+/// The parts of the text of a reader, as `history_and_rest` tells them, read in at most `turns`
+/// reads. The text is dropped before they are given.
 ///
 /// Errors: those of `jh_edn::read_bytes`, then `Utf8`, then those of `history_and_rest`.
 pub fn read_parts<R: Read>(
@@ -102,8 +108,10 @@ pub fn read_parts<R: Read>(
 ) -> Result<Parts, ReadHistoryError>
     ensures told { IfOk result (λ parts. IfSome (R.remaining reader.old) (λ bytes.
         ArePartsOf bytes (operations parts.history.items) parts.below.items)) }
-    ensures writable { IfOk result (λ parts. All (λ op. IsWritable op.process) parts.history.items) }
-    ensures refused { IfErr result (λ e. IfSome (R.remaining reader.old) (λ bytes. RefusesParts bytes e)) }
+    ensures writable { IfOk result (λ parts.
+        All (λ op. IsWritable op.process) parts.history.items) }
+    ensures refused { IfErr result (λ e.
+        IfSome (R.remaining reader.old) (λ bytes. RefusesParts bytes e)) }
 {
     let bytes = read_bytes(alloc, reader, turns)?;
     let Ok(text) = str::from_utf8(&bytes) else {

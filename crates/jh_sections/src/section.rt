@@ -4,7 +4,7 @@ ghost use Rattle.std.specs.Prelude.{◌≡◌, ℕ, IfOk, Option, length};
 ghost use Rattle.std.specs.Option.{option_copied};
 ghost use Rattle.jh_ops.specs.Operation.{operations};
 ghost use Rattle.jh_sections.specs.Sections as rule;
-ghost use Rattle.jh_sections.specs.Windows as rules;
+ghost use Rattle.jh_sections.specs.Windows as windows;
 ghost use Rattle.jh_sections.specs.Sections.{IsFocus, IsSectionOf, IsWindowOf};
 
 use crate::window::{Choice, around, chosen, focus_of, is_open};
@@ -55,7 +55,8 @@ fn window_around(
     found: Option<&Found>,
 ) -> Result<Window, AllocError>
     ensures { IfOk result (λ window. (focus : Option ℕ)
-        × IsFocus (operations history.now) (option_copied found.entry) focus × (window ≡ rules.around focus (length history.now))) }
+        × IsFocus (operations history.now) (option_copied found.entry) focus
+        × (window ≡ windows.around focus (length history.now))) }
 {
     let focus = match found {
         Some(found) => focus_in(alloc, history, found)?,
@@ -80,11 +81,13 @@ fn window_in(
     }
 }
 
-/// The section of a history, with what was found in it. The records that are chosen are shown. Where none are chosen, all are, up to
-/// 2,000; of more, 1,000 around the index at which the first bar ends that is marked with anything but a place in an order and that it
-/// is pending; where none is so marked, the first 1,000.
+/// The section of a history, with what was found in it. The records that are chosen are shown.
+/// Where none are chosen, all are, up to 2,000; of more, 1,000 around the index at which the first
+/// bar ends that is marked with anything but a place in an order and that it is pending; where none
+/// is so marked, the first 1,000.
 ///
-/// Takes O(n log n) for n records: one picture of what is shown, and one of all where it has to be found what to show.
+/// Takes O(n log n) for n records: one picture of what is shown, and one of all where it has to be
+/// found what to show.
 ///
 /// Errors: where memory runs out.
 pub fn section_of(
@@ -94,7 +97,8 @@ pub fn section_of(
     found: Option<&Found>,
     choice: Choice,
 ) -> Result<Section, AllocError>
-    ensures section { IfOk result (IsSectionOf heading.items (operations history.items) (option_copied found.entry) choice) }
+    ensures section { IfOk result
+        (IsSectionOf heading.items (operations history.items) (option_copied found.entry) choice) }
     ensures kept { IfOk result (λ section. section.history ≡ history) }
 {
     let window = window_in(alloc, &history, found, choice)?;
