@@ -1,0 +1,2 @@
+mod MarkLemmas
+mod ReadLemmas
