@@ -45,13 +45,13 @@ reading_refused question input (reading.History (history_errors.Op place why)) r
 -- ---- a history is not judged
 
 -- what a checker, threads or memory may refuse a history with
-abbrev IsJudging : CliError → Type 0
+abbrev pub IsJudging : CliError → Type 0
 IsJudging (Check error) = Unit {0}
 IsJudging Thread = Unit {0}
 IsJudging OutOfMemory = Unit {0}
 IsJudging _ = ⊥
 
-by_checker : (error : CheckError) → IsJudging (check_error error)
+pub by_checker : (error : CheckError) → IsJudging (check_error error)
 by_checker (CheckErrors.Pair error) = tt
 by_checker (CheckErrors.BadValue place) = tt
 by_checker (CheckErrors.NegativeAdd place) = tt

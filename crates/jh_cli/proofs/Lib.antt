@@ -4,3 +4,4 @@ pub mod StepLemmas
 pub mod WritingLemmas
 pub mod RunLemmas
 pub mod ShrinkLemmas
+pub mod TimelineLemmas

@@ -8,3 +8,5 @@ pub mod RunRefusals
 pub mod RunInside
 pub mod ShrinkText
 pub mod ShrinkRefusals
+pub mod TimelineText
+pub mod TimelineRefusals

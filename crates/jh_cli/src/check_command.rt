@@ -85,7 +85,7 @@ pub fn check_run<T: Threads + Wait + Sync, R: Read, W: Write>(
     }
 }
 
-fn is_register(workload: Workload) -> bool
+pub(crate) fn is_register(workload: Workload) -> bool
     ensures { result ≡ text.is_register workload }
 {
     matches!(workload, Workload::Register)
@@ -154,7 +154,7 @@ pub(crate) fn judge(alloc: Global, history: &[Op], judging: Judging) -> Result<J
 }
 
 // The line of what is found in a history as one.
-fn line_of(alloc: Global, found: &Found) -> Result<Vec<u8>, AllocError>
+pub(crate) fn line_of(alloc: Global, found: &Found) -> Result<Vec<u8>, AllocError>
     ensures { IfOk result (λ text. text.items ≡ finding_line found.now) }
 {
     let mut text = Vec::new(alloc);

@@ -156,8 +156,7 @@ fn histories_of_register_have_their_lines(rt: HostRuntime) {
     assert_eq!(rt; first_wrong(&rt, rt.alloc(), check, REGISTER), None);
 }
 
-static SET: &str =
-    r#"{:index 0, :type :invoke, :process 0, :f :add, :value 0, :time 28855669}
+static SET: &str = r#"{:index 0, :type :invoke, :process 0, :f :add, :value 0, :time 28855669}
 {:index 1, :type :ok, :process 0, :f :add, :value 0, :time 29300748}
 {:index 2, :type :invoke, :process 1, :f :add, :value 1, :time 29399437}
 {:index 3, :type :ok, :process 1, :f :add, :value 1, :time 29624058}

@@ -1,0 +1,69 @@
+-- Why `timeline` refuses an input, from why its parts are not read or its history is not judged.
+use Rattle.std.proofs.Common.{◌≡◌, ℕ, ◌⊎◌, List, Option, Some, None, inl, inr, refl, sym, subst}
+use Rattle.jh_edn.specs.declared.error.EdnError.TheVariants as edn
+use Rattle.jh_histories.specs.declared.error.ReadHistoryError.{ReadHistoryError}
+use Rattle.jh_histories.specs.declared.error.ReadHistoryError.TheVariants as reading
+use Rattle.jh_ops.specs.Operation.{Operation}
+use Rattle.jh_ops.specs.declared.history.HistoryError.TheVariants as history_errors
+use Rattle.jh_sections.specs.Parts.{ArePartsOf, RefusesParts}
+use Rattle.jh_cli.proofs.CheckLemmas.{IsJudging, by_checker}
+use Rattle.jh_cli.specs.Status.{reading_error}
+use Rattle.jh_cli.specs.TimelineRefusals.{RefusesFinding, RefusesPage, RefusesTimeline}
+use Rattle.jh_cli.specs.declared.error.CliError.{CliError}
+use Rattle.jh_cli.specs.declared.error.CliError.TheVariants.{Input, EnvironmentMissing, Environment, Element, History, Check, Settings, Run, HistoryFull, Mismatch, Thread, OnlyForRegister, Read, Write, OutOfMemory}
+use Rattle.jh_cli.specs.declared.timeline_command.TimelineJudging.{TimelineJudging}
+use Rattle.jh_cli.specs.declared.timeline_command.TimelineQuestion.{TimelineQuestion}
+
+-- ---- no parts are read
+
+-- reading writes nothing
+nothing_written : (input : List ℕ) → RefusesParts input (reading.Text edn.Write) → ⊥
+nothing_written input refused =
+    elim refused [
+      | inl bytes ↦ bytes.0
+      | inr parts ↦ elim parts [
+        | inl whole ↦ whole.1.0
+        | inr before ↦ before.refused.0
+      ]
+    ]
+
+pub parts_refused : (question : TimelineQuestion) (input : List ℕ) (error : ReadHistoryError) → RefusesParts input error → RefusesTimeline question input (reading_error error)
+parts_refused question input (reading.Text (edn.UnexpectedEnd line)) refused = (refl, refused)
+parts_refused question input (reading.Text (edn.BadToken line)) refused = (refl, refused)
+parts_refused question input (reading.Text (edn.FloatUnsupported line)) refused = (refl, refused)
+parts_refused question input (reading.Text (edn.IntegerRange line)) refused = (refl, refused)
+parts_refused question input (reading.Text (edn.BadEscape line)) refused = (refl, refused)
+parts_refused question input (reading.Text (edn.OddMap line)) refused = (refl, refused)
+parts_refused question input (reading.Text (edn.DuplicateKey line)) refused = (refl, refused)
+parts_refused question input (reading.Text (edn.TooDeep line)) refused = (refl, refused)
+parts_refused question input (reading.Text edn.Utf8) refused = (refl, refused)
+parts_refused question input (reading.Text edn.TooLong) refused = (refl, refused)
+parts_refused question input (reading.Text edn.Read) refused = tt
+parts_refused question input (reading.Text edn.Write) refused = absurd (nothing_written input refused)
+parts_refused question input (reading.Text edn.OutOfMemory) refused = tt
+parts_refused question input (reading.History history_errors.OutOfMemory) refused = tt
+parts_refused question input (reading.History (history_errors.Op place why)) refused = (refl, refused)
+
+-- ---- a history is not judged
+
+by_finding : (judging : Option TimelineJudging) (history : List Operation) (e : CliError) → RefusesFinding judging history e → IsJudging e
+by_finding None history e refused = absurd refused
+by_finding (Some by) history e refused = subst IsJudging (sym refused.2) (by_checker refused.0)
+
+pub page_refused : (question : TimelineQuestion) (input : List ℕ) (history : List Operation) (below : List ℕ) (e : CliError) → ArePartsOf input history below → RefusesPage question history e
+    → RefusesTimeline question input e
+page_refused question input history below (Input error) parts refused = absurd (by_finding question.judging history (Input error) refused)
+page_refused question input history below EnvironmentMissing parts refused = (history, below, parts, refused)
+page_refused question input history below (Environment error) parts refused = (history, below, parts, refused)
+page_refused question input history below (Element place error) parts refused = (history, below, parts, refused)
+page_refused question input history below (History error) parts refused = absurd (by_finding question.judging history (History error) refused)
+page_refused question input history below (Check error) parts refused = (history, below, parts, refused)
+page_refused question input history below (Settings error) parts refused = (history, below, parts, refused)
+page_refused question input history below (Run error) parts refused = (history, below, parts, refused)
+page_refused question input history below HistoryFull parts refused = (history, below, parts, refused)
+page_refused question input history below Mismatch parts refused = (history, below, parts, refused)
+page_refused question input history below Thread parts refused = (history, below, parts, refused)
+page_refused question input history below OnlyForRegister parts refused = absurd (by_finding question.judging history OnlyForRegister refused)
+page_refused question input history below Read parts refused = tt
+page_refused question input history below Write parts refused = absurd (by_finding question.judging history Write refused)
+page_refused question input history below OutOfMemory parts refused = tt

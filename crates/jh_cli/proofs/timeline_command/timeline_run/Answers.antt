@@ -1,0 +1,12 @@
+use Rattle.std.proofs.lemmas.Result.{err_from_is_err_and}
+use Rattle.jh_cli.proofs.TimelineLemmas.{page_refused, parts_refused}
+use Rattle.jh_cli.proofs.WritingLemmas.{on_input}
+use Rattle.jh_cli.proofs.timeline_command.timeline_run.Goals as goal
+use Rattle.jh_ops.specs.Operation.{operations}
+
+pub returns-in_err-parts-clause-refused : goal.returns-in_err-parts-clause-refused
+returns-in_err-parts-clause-refused g c =
+    let p = err_from_is_err_and c.from_residual.result c.from_residual.ensures.1 in
+    rw (p.1, p.2) (on_input _ _ (g.R.Read.remaining c.args.reader.now) (λ input refused.
+    parts_refused c.args.question input c.in_err-parts.field-0.0 refused
+    ) c.in_err-parts.ensures.refused)

@@ -1,0 +1,11 @@
+//! What a page of histories shows: which part of a text is a history, which of its records, and the
+//! sections that are made of it.
+#![tactic(auto)]
+
+mod parts;
+mod section;
+mod window;
+
+pub use parts::{Parts, history_and_rest, read_parts};
+pub use section::section_of;
+pub use window::{BEFORE, Choice, MAX_SHOWN, SHOWN_AROUND};
