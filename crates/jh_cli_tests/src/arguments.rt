@@ -178,6 +178,29 @@ Exit status: 0 valid or done, 1 not valid, 2 unknown, 3 refused arguments or inp
 Examples:
   jeprun env < examples/two-cuts.edn
   jeprun run < examples/run/quorum-register.toml
+§ jeprun timeline --help → 0
+Writes a page that shows a history, which is read from standard input as EDN
+
+Usage: jeprun timeline [OPTIONS]
+
+Options:
+      --workload <NAME>  What the database was to be [possible values: register, set, counter, unique-ids]
+      --initial <N>      The register's first value; nil where it is left out
+      --budget <N>       How many configurations the judge of a register may reach [default: 100000]
+      --from <INDEX>     The first record that is shown, from 0
+      --to <INDEX>       The record behind the last one that is shown
+  -h, --help             Print help
+
+It writes an HTML page: each operation as a bar, each fault as a line, and with --workload what
+the checker finds, on top and as marks. It reads what run prints as well. Of more than 2,000
+records it shows 1,000, around the first mark, unless --from or --to choose others.
+
+Exit status: 0 valid or not judged, 1 not valid, 2 unknown, 3 refused arguments or input,
+4 where memory ran out, or a read or a write failed
+
+Examples:
+  jeprun timeline --workload register < examples/check/register-stale.edn > stale.html
+  jeprun run < examples/run/quorum-register.toml | jeprun timeline --workload register > run.html
 § jeprun run --help → 0
 Runs a simulated cluster by settings, read from standard input as TOML, and judges its history
 
@@ -243,11 +266,12 @@ A test harness for databases, over a simulated cluster under faults
 Usage: jeprun <COMMAND>
 
 Commands:
-  env     Applies fault steps to an environment, both read from standard input as EDN
-  check   Judges a history of operations, read from standard input as EDN
-  run     Runs a simulated cluster by settings, read from standard input as TOML, and judges its history
-  shrink  Makes the schedule of a failing run small, whose settings are read from standard input as TOML
-  help    Print this message or the help of the given subcommand(s)
+  env       Applies fault steps to an environment, both read from standard input as EDN
+  check     Judges a history of operations, read from standard input as EDN
+  run       Runs a simulated cluster by settings, read from standard input as TOML, and judges its history
+  shrink    Makes the schedule of a failing run small, whose settings are read from standard input as TOML
+  timeline  Writes a page that shows a history, which is read from standard input as EDN
+  help      Print this message or the help of the given subcommand(s)
 
 Options:
   -h, --help     Print help
