@@ -244,7 +244,8 @@ No record of 2
 /// So many records of the nemesis.
 fn push_faults(count: u32, text: &mut String) -> Option<()> {
     for _ in 0..count {
-        text.push_str("{:type :info, :process :nemesis, :f :note}\n").ok()?;
+        text.push_str("{:type :info, :process :nemesis, :f :note}\n")
+            .ok()?;
     }
     Some(())
 }
@@ -263,8 +264,10 @@ fn long_row(
     row.push_str(" - - -\n").ok()?;
     push_faults(before, &mut row)?;
     for _ in 0..2 {
-        row.push_str("{:type :invoke, :process 0, :f :generate}\n").ok()?;
-        row.push_str("{:type :ok, :process 0, :f :generate, :value 7}\n").ok()?;
+        row.push_str("{:type :invoke, :process 0, :f :generate}\n")
+            .ok()?;
+        row.push_str("{:type :ok, :process 0, :f :generate, :value 7}\n")
+            .ok()?;
     }
     push_faults(behind, &mut row)?;
     row.push_str("→ ").ok()?;
@@ -273,8 +276,9 @@ fn long_row(
 }
 
 fn is_long_row_right(alloc: Global, workload: &str, before: u32, behind: u32, parts: &str) -> bool {
-    let row = long_row(alloc, workload, before, behind, parts)
-        .or_else(|| long_row(alloc, workload, before, behind, parts));
+    let row = long_row(alloc, workload, before, behind, parts).or_else(|| long_row(
+        alloc, workload, before, behind, parts,
+    ));
     row.is_some_and(|row| first_wrong(alloc, row.as_str()) == None)
 }
 
