@@ -163,11 +163,11 @@ fn shown_of(alloc: Global, history: Vec<Op>, question: TimelineQuestion) -> Resu
     requires { All (λ op. IsWritable op.process) history.items }
     ensures shows { MatchResult result
         (λ shown. Shows question (operations history.items)
-            shown.status shown.line.items shown.sections.items)
+        shown.status shown.line.items shown.sections.items)
         (RefusesPage question (operations history.items)) }
     ensures writable { IfOk result (λ shown.
         All (λ section. All (λ op. IsWritable op.process) section.history.items)
-            shown.sections.items) }
+        shown.sections.items) }
 {
     let found = found_in(alloc, &history, question.judging)?;
     let line = line_of(alloc, found.as_ref())?;
@@ -211,7 +211,7 @@ fn page_of(alloc: Global, parts: Parts, question: TimelineQuestion) -> Result<Pa
     requires { All (λ op. IsWritable op.process) parts.history.items }
     ensures { MatchResult result
         (λ page. IsPage question (operations parts.history.items) parts.below.items
-            page.status page.text.items)
+        page.status page.text.items)
         (RefusesPage question (operations parts.history.items)) }
 {
     let Parts { history, below } = parts;

@@ -32,11 +32,7 @@ fn marks_in(
 }
 
 // The index at which the first bar of a history ends that what is found points at.
-fn focus_in(
-    alloc: Global,
-    history: &[Op],
-    found: &Found,
-) -> Result<Option<usize>, AllocError>
+fn focus_in(alloc: Global, history: &[Op], found: &Found) -> Result<Option<usize>, AllocError>
     ensures { IfOk result (IsFocus (operations history.now) (Some found.now)) }
 {
     let whole = Window {
@@ -49,11 +45,7 @@ fn focus_in(
 }
 
 // The records around what is pointed at, where something was judged.
-fn window_around(
-    alloc: Global,
-    history: &[Op],
-    found: Option<&Found>,
-) -> Result<Window, AllocError>
+fn window_around(alloc: Global, history: &[Op], found: Option<&Found>) -> Result<Window, AllocError>
     ensures { IfOk result (λ window. (focus : Option ℕ)
         × IsFocus (operations history.now) (option_copied found.entry) focus
         × (window ≡ windows.around focus (length history.now))) }
