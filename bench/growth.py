@@ -12,6 +12,7 @@ have one of them.
 - `run`: serial runs of 10,000 calls (1,000 of a set), for each store and workload, with output and verdict; a register with the
   budget 0, since its judge's search has no such bound.
 - `check`: histories of 1,000,000 operations of each workload; of a register that of one client, whose order is forced.
+- `timeline`: pages that show all records of histories of 100,000.
 """
 
 import argparse
@@ -65,6 +66,10 @@ def rows():
         words = ("check", "--workload", workload)
         yield f"check: {workload}", words, 1_000_000, lambda size, w=workload: checkers.history(w, size, 1)
     yield "check: register, one client", ("check", "--workload", "register"), 1_000_000, one_client
+    for workload in ("set", "unique-ids"):
+        words = ("timeline", "--workload", workload, "--from", "0", "--to", "100000")
+        yield f"timeline: {workload}, all shown", words, 100_000, lambda size, w=workload: checkers.history(w, size, 1)
+    yield "timeline: register, one client, all shown", ("timeline", "--workload", "register", "--to", "100000"), 100_000, one_client
 
 
 def seconds(words, text, times):

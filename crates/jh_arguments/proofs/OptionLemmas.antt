@@ -1,14 +1,15 @@
--- What the options of `check` read as, from what `clap`'s getters give.
-use Rattle.std.proofs.Common.{◌≡◌, ◌∙◌, sym, ap, codes, ℕ, ℤ, Bool, true, false, Option, Some, None}
+-- What the options of commands read as, from what `clap`'s getters give.
+use Rattle.std.proofs.Common.{◌≡◌, ◌∙◌, sym, ap, subst, codes, List, ℕ, ℤ, Bool, true, false, Option, Some, None}
 use Rattle.std.specs.Prelude.{Result, option_map, IfSome, IsNone}
 use Rattle.std.specs.Borrow.{Bor}
 use mir.Syntax.{w64}
 use Rattle.std.specs.Str.Parse.{ParsesSigned, ParsesUnsigned, ExplainsSignedError, ExplainsUnsignedError, HasSignedDigitsIfOk, HasUnsignedDigitsIfOk}
 use Rattle.std.specs.declared.num.ParseIntError.{ParseIntError}
-use Rattle.clap.specs.Words.{ReadsOne, Text, first_of, first_value, one_of, one_text, rows_of}
+use Rattle.clap.specs.Words.{ReadsOne, Row, Text, first_of, first_value, one_of, one_text, rows_of}
 use Rattle.clap.specs.declared.parser.matches.Found.{Found}
+use Rattle.jh_cli.specs.declared.timeline_command.TimelineJudging.{TimelineJudging}
 use Rattle.clap.proofs.WalkLemmas.{first_value-rows, one_text-rows}
-use Rattle.jh_arguments.specs.Commands.{IsFlag, IsInitial, IsNumber}
+use Rattle.jh_arguments.specs.Commands.{IsFlag, IsIndex, IsInitial, IsJudging, IsJudgingBy, IsNumber}
 
 -- what `FromStr` says of `i64` and of `u64`
 abbrev SignedGives : Text → Result ℤ ParseIntError → Type 0
@@ -50,6 +51,26 @@ number_unread f id None n none some = go (one_of id (rows_of f)) (one_text-rows 
     go : (o : Option Text) → one_text f id ≡ o → IsNumber o n → ⊥
     go None is wanted = wanted
     go (Some t) is wanted = (some t is).1.0 wanted.0
+
+-- an index, if there is one
+pub index_read : (f : Found) (id : Text) (r : Option ℕ) → (one_text f id ≡ None → r ≡ None)
+    → ((t : Text) → one_text f id ≡ Some t → ReadsOne UnsignedGives t r) → IsIndex (one_of id (rows_of f)) r
+index_read f id r none some = go (one_of id (rows_of f)) r (one_text-rows f id) none some
+  where
+    go : (o : Option Text) (r : Option ℕ) → one_text f id ≡ o → (one_text f id ≡ None → r ≡ None)
+        → ((t : Text) → one_text f id ≡ Some t → ReadsOne UnsignedGives t r) → IsIndex o r
+    go None r is none some = none is
+    go (Some t) (Some n) is none some = (some t is).0
+    go (Some t) None is none some = (some t is).1.0
+
+-- the name of a workload is given, and judged by it is nothing that asks for another
+pub judging_unread : (options : List Row) (name : Text) (judging : Option TimelineJudging) → first_of (codes "workload") options ≡ Some name
+    → ((by : TimelineJudging) → IsJudgingBy options name by → ⊥) → IsJudging options judging → ⊥
+judging_unread options name None given none is = let bad : Some name ≡ None = sym given ∙ is in cc
+judging_unread options name (Some by) given none (other, is, asks) =
+    let both : Some other ≡ Some name = sym is ∙ given in
+    let same : other ≡ name = cc in
+    none by (subst (λ n. IsJudgingBy options n by) same asks)
 
 -- one text writes one number
 pub number_one : (o : Option Text) (m n : ℕ) → IsNumber o m → IsNumber o n → m ≡ n

@@ -8,14 +8,18 @@ use Rattle.jh_cli.specs.EnvText.{IsEnvTextOf}
 use Rattle.jh_cli.specs.CheckText.{IsCheckTextOf}
 use Rattle.jh_cli.specs.RunText.{IsRunTextOf}
 use Rattle.jh_cli.specs.ShrinkText.{IsShrinkTextOf}
+use Rattle.jh_cli.specs.TimelineText.{IsTimelineTextOf}
 use Rattle.jh_cli.specs.Refusals.{RefusesInput}
 use Rattle.jh_cli.specs.CheckRefusals.{RefusesCheck}
 use Rattle.jh_cli.specs.RunRefusals.{RefusesRun}
 use Rattle.jh_cli.specs.ShrinkRefusals.{RefusesShrinking}
+use Rattle.jh_cli.specs.TimelineRefusals.{RefusesTimeline}
 use Rattle.jh_cli.specs.declared.error.CliError.{CliError}
 use Rattle.jh_cli.specs.declared.check_command.Question.{Question}
+use Rattle.jh_cli.specs.declared.timeline_command.TimelineJudging.{TimelineJudging}
+use Rattle.jh_cli.specs.declared.timeline_command.TimelineQuestion.{TimelineQuestion}
 use Rattle.jh_arguments.specs.declared.commands.Command.{Command}
-use Rattle.jh_arguments.specs.declared.commands.Command.TheVariants.{Env, Check, Run, Shrink}
+use Rattle.jh_arguments.specs.declared.commands.Command.TheVariants.{Env, Check, Run, Shrink, Timeline}
 
 abbrev pub name_of : Workload → Text
 name_of Workload.Register = codes "register"
@@ -60,6 +64,30 @@ pub record Asks (options : List Row) (question : Question) : Type 0 where
   pub independent : IsFlag (one_of (codes "independent") options) question.independent
   pub threads : IsThreads (one_of (codes "threads") options) question.threads
 
+-- the index that an option gives, if it is there
+abbrev pub IsIndex : Option Text → Option ℕ → Type 0
+IsIndex None index = index ≡ None
+IsIndex (Some text) (Some number) = WritesUnsigned text × (number ≡ digits_value 10 (without_leading_plus text))
+IsIndex (Some text) None = WritesUnsigned text → ⊥
+
+-- by a workload of this name a history is judged so
+pub record IsJudgingBy (options : List Row) (name : Text) (judging : TimelineJudging) : Type 0 where
+  pub workload : name ≡ name_of judging.workload
+  pub initial : IsInitial (one_of (codes "initial") options) judging.initial
+  pub budget : IsNumber (one_of (codes "budget") options) judging.budget
+
+-- what a history is judged by, where it is
+abbrev pub IsJudging : List Row → Option TimelineJudging → Type 0
+IsJudging options None = first_of (codes "workload") options ≡ None
+IsJudging options (Some judging) =
+    (name : Text) × (first_of (codes "workload") options ≡ Some name) × IsJudgingBy options name judging
+
+-- the options of `timeline` ask this
+pub record AsksTimeline (options : List Row) (question : TimelineQuestion) : Type 0 where
+  pub judging : IsJudging options question.judging
+  pub from : IsIndex (one_of (codes "from") options) question.choice.from
+  pub to : IsIndex (one_of (codes "to") options) question.choice.to
+
 -- A subcommand with its options asks for a command.
 abbrev pub AsksFor : Option (Text × List Row) → Command → Type 0
 AsksFor None command = ⊥
@@ -67,6 +95,7 @@ AsksFor (Some found) Env = found.0 ≡ codes "env"
 AsksFor (Some found) (Check question) = (found.0 ≡ codes "check") × Asks found.1 question
 AsksFor (Some found) Run = found.0 ≡ codes "run"
 AsksFor (Some found) (Shrink budget) = (found.0 ≡ codes "shrink") × IsNumber (one_of (codes "budget") found.1) budget
+AsksFor (Some found) (Timeline question) = (found.0 ≡ codes "timeline") × AsksTimeline found.1 question
 
 -- ---- what a command does
 
@@ -81,6 +110,7 @@ IsTextOf Env input status output = IsEnvTextOf input output × (status ≡ 0)
 IsTextOf (Check question) input status output = IsCheckTextOf question input status output
 IsTextOf Run input status output = IsRunTextOf input status output
 IsTextOf (Shrink budget) input status output = IsShrinkTextOf input status output
+IsTextOf (Timeline question) input status output = IsTimelineTextOf question input status output
 
 -- why it refuses an input, or does not do its work
 abbrev pub Refuses : Command → List ℕ → CliError → Type 0
@@ -88,3 +118,4 @@ Refuses Env input e = RefusesInput input e
 Refuses (Check question) input e = RefusesCheck question input e
 Refuses Run input e = RefusesRun input e
 Refuses (Shrink budget) input e = RefusesShrinking input e
+Refuses (Timeline question) input e = RefusesTimeline question input e

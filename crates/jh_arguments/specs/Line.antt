@@ -16,11 +16,18 @@ option name = record (new_rule name) { long = Some name; value_names = 1 }
 
 -- one of these names
 abbrev pub workload : Bor (List (Bor Text)) → Rule
-workload names = record (option (codes "workload")) { required = true; parser = Some (Names names) }
+workload names = record (option (codes "workload")) { parser = Some (Names names) }
+
+abbrev pub needed : Rule → Rule
+needed rule = record rule { required = true }
 
 -- a number of `i64`
 abbrev pub initial : Rule
 initial = record (option (codes "initial")) { parser = Some (Signed (negsuc 9223372036854775807) (pos 9223372036854775807)) }
+
+-- a number of `u64`
+abbrev pub index : Text → Rule
+index name = record (option name) { parser = Some (Unsigned 0 18446744073709551615) }
 
 -- a number that a parser reads, and this where nothing is said
 abbrev pub number : Text → ValueParser → Text → Rule
@@ -40,24 +47,26 @@ threads = number (codes "threads") (Unsigned 1 16) (codes "1")
 
 abbrev pub check : Bor (List (Bor Text)) → App
 check names =
-    with_rule (with_rule (with_rule (with_rule (with_rule (with_rule (new_app (codes "check")) (workload names)) initial)
+    with_rule (with_rule (with_rule (with_rule (with_rule (with_rule (new_app (codes "check")) (needed (workload names))) initial)
     (budget (codes "100000"))) (flag (codes "explain"))) (flag (codes "independent"))) threads
+
+abbrev pub timeline : Bor (List (Bor Text)) → App
+timeline names =
+    with_rule (with_rule (with_rule (with_rule (with_rule (new_app (codes "timeline")) (workload names)) initial)
+    (budget (codes "100000"))) (index (codes "from"))) (index (codes "to"))
 
 abbrev pub shrink : App
 shrink = with_rule (new_app (codes "shrink")) (budget (codes "10000"))
 
 abbrev pub jeprun : Bor (List (Bor Text)) → App
-jeprun names = with_subcommand (with_subcommand (with_subcommand (with_subcommand
-    (on_top (λ s. record s { has_version = true; subcommand_required = true }) (new_app (codes "jeprun")))
-    (new_app (codes "env")).top) (check names).top) (new_app (codes "run")).top) shrink.top
+jeprun names = with_subcommand (with_subcommand (with_subcommand (with_subcommand (with_subcommand
+    (on_top (λ s. record s { has_version = true; subcommand_required = true; arg_required_else_help = true }) (new_app (codes "jeprun")))
+    (new_app (codes "env")).top) (check names).top) (new_app (codes "run")).top) shrink.top) (timeline names).top
 
 abbrev pub workload_names : List Text
 workload_names = codes "register" ∷ codes "set" ∷ codes "counter" ∷ codes "unique-ids" ∷ []
 
--- the command line, and `check` alone
-abbrev pub IsCheck : App → Type 0
-IsCheck app = (names : Bor (List (Bor Text))) × (map (λ s. s.now) names.now ≡ workload_names) × (app ≡ check names)
-
+-- the command line
 abbrev pub IsLine : App → Type 0
 IsLine app = (names : Bor (List (Bor Text))) × (map (λ s. s.now) names.now ≡ workload_names) × (app ≡ jeprun names)
 

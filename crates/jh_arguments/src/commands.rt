@@ -1,21 +1,28 @@
 //! What the arguments ask for, and what is done then, over any reader and any writer. `specs/Commands.antt` says which
 //! arguments ask for which command, what a command writes, and why it refuses its input.
 
-ghost use Rattle.std.specs.Prelude.{◌≡◌, ◌≢◌, ◌↔◌, ℕ, List, codes, IfOk, IfErr, IfSome, IsNone, IsErrOf};
+ghost use Rattle.std.specs.Prelude.{◌≡◌, ◌≢◌, ◌↔◌, ℕ, List, Option, codes, IfOk, IfErr, IfSome, IsNone, IsErrOf};
 ghost use Rattle.std.specs.Io.KnownBytes.{Appends};
 ghost use Rattle.clap.specs.Words.{found_of, one_of, rows_of, subcommand_rows_of};
 ghost use Rattle.jh_cli.specs.CheckText.{TakesInitial};
 ghost use Rattle.jh_cli.specs.declared.error.CliError.TheVariants as CliError;
 ghost use Rattle.jh_arguments.specs.Commands as text;
-ghost use Rattle.jh_arguments.specs.Commands.{Asks, AsksFor, IsNumber, IsTextOf, IsThreads, Refuses, TakesThreads};
+ghost use Rattle.jh_arguments.specs.Commands.{Asks, AsksFor, AsksTimeline, IsIndex, IsJudging, IsJudgingBy, IsNumber};
+ghost use Rattle.jh_arguments.specs.Commands.{IsTextOf, IsThreads, Refuses, TakesThreads};
 ghost use Rattle.jh_arguments.specs.declared.commands.Command.{Command};
 ghost use Rattle.jh_arguments.specs.declared.commands.Command.TheVariants.{Check};
 ghost use Rattle.jh_cli.specs.declared.check_command.Question.{Question};
+ghost use Rattle.jh_cli.specs.declared.timeline_command.TimelineJudging.{TimelineJudging};
+ghost use Rattle.jh_cli.specs.declared.timeline_command.TimelineQuestion.{TimelineQuestion};
 ghost use Rattle.jh_ops.specs.declared.call.Workload.{Workload};
 
 use clap::ArgMatches;
-use jh_cli::{CliError, Question, check_run, env_run, run_run, shrink_run_observed};
+use jh_cli::{
+    CliError, Question, TimelineJudging, TimelineQuestion, check_run, env_run, run_run,
+    shrink_run_observed, timeline_run,
+};
 use jh_ops::Workload;
+use jh_sections::Choice;
 use jh_shrink::Observer;
 use std::alloc::Global;
 use std::io::{Read, Write};
@@ -33,6 +40,8 @@ pub enum Command {
     Run,
     /// The schedule of a run made small, by so many runs at most.
     Shrink(u64),
+    /// A page that shows a history.
+    Timeline(TimelineQuestion),
 }
 
 /// The command that the arguments ask for. `parse` has seen to it that there is one.
@@ -46,6 +55,7 @@ pub fn command_of(matches: &ArgMatches<'_>) -> Option<Command>
         ("check", options) => Some(Command::Check(question_of(options)?)),
         ("run", _) => Some(Command::Run),
         ("shrink", options) => Some(Command::Shrink(number_of(options, "budget")?)),
+        ("timeline", options) => Some(Command::Timeline(timeline_question_of(options)?)),
         _ => None,
     }
 }
@@ -65,6 +75,54 @@ pub fn question_of(options: &ArgMatches<'_>) -> Option<Question>
         independent: options.get_flag("independent"),
         threads: threads_of(options)?,
     })
+}
+
+/// What the options of `timeline` ask for. Where there is no workload, an initial value and a budget mean nothing. `parse` has seen
+/// to it that a workload is one of the four, and that the budget is a number.
+pub fn timeline_question_of(options: &ArgMatches<'_>) -> Option<TimelineQuestion>
+    ensures parsed { IfSome result (AsksTimeline (rows_of (found_of options.now))) }
+    ensures taken { IsNone result → (question : TimelineQuestion)
+        → AsksTimeline (rows_of (found_of options.now)) question → ⊥ }
+{
+    Some(TimelineQuestion {
+        judging: judging_of(options)?,
+        choice: Choice {
+            from: index_of(options, "from"),
+            to: index_of(options, "to"),
+        },
+    })
+}
+
+/// What a history is judged by, if options give a workload.
+fn judging_of(options: &ArgMatches<'_>) -> Option<Option<TimelineJudging>>
+    ensures parsed { IfSome result (IsJudging (rows_of (found_of options.now))) }
+    ensures taken { IsNone result → (judging : Option TimelineJudging)
+        → IsJudging (rows_of (found_of options.now)) judging → ⊥ }
+{
+    match options.get_str("workload") {
+        Some(name) => Some(Some(judging_by(options, name)?)),
+        None => Some(None),
+    }
+}
+
+/// What a history is judged by, with the workload of this name.
+fn judging_by(options: &ArgMatches<'_>, name: &str) -> Option<TimelineJudging>
+    ensures parsed { IfSome result (IsJudgingBy (rows_of (found_of options.now)) name.now) }
+    ensures taken { IsNone result → (judging : TimelineJudging)
+        → IsJudgingBy (rows_of (found_of options.now)) name.now judging → ⊥ }
+{
+    Some(TimelineJudging {
+        workload: workload_of(name)?,
+        initial: options.get_one::<i64>("initial"),
+        budget: number_of(options, "budget")?,
+    })
+}
+
+/// The index that an option gives, if it is there.
+fn index_of(options: &ArgMatches<'_>, name: &str) -> Option<usize>
+    ensures { IsIndex (one_of name.now (rows_of (found_of options.now))) result }
+{
+    options.get_one::<usize>(name)
 }
 
 /// The number that an option gives.
@@ -135,5 +193,6 @@ pub fn run<T: Threads + Wait + Sync, R: Read, W: Write, O: Observer>(
         Command::Check(question) => check_run(rt, alloc, reader, writer, question),
         Command::Run => run_run(rt, alloc, reader, writer),
         Command::Shrink(budget) => shrink_run_observed(alloc, reader, writer, budget, observer),
+        Command::Timeline(question) => timeline_run(alloc, reader, writer, question),
     }
 }

@@ -55,3 +55,15 @@ settings, 4 where memory ran out, a read or a write failed, or a run was not com
 Examples:
   jeprun shrink < examples/shrink/twenty-entries.toml
   jeprun shrink --budget 20 < examples/shrink/twenty-entries.toml";
+
+pub(crate) const TIMELINE: &str = "\
+It writes an HTML page: each operation as a bar, each fault as a line, and with --workload what
+the checker finds, on top and as marks. It reads what run prints as well. Of more than 2,000
+records it shows 1,000, around the first mark, unless --from or --to choose others.
+
+Exit status: 0 valid or not judged, 1 not valid, 2 unknown, 3 refused arguments or input,
+4 where memory ran out, or a read or a write failed
+
+Examples:
+  jeprun timeline --workload register < examples/check/register-stale.edn > stale.html
+  jeprun run < examples/run/quorum-register.toml | jeprun timeline --workload register > run.html";

@@ -10,7 +10,7 @@ mod help;
 mod line;
 mod program;
 
-pub use commands::{Command, command_of, question_of, run};
-pub use jh_cli::Question;
+pub use commands::{Command, command_of, question_of, run, timeline_question_of};
+pub use jh_cli::{Question, TimelineQuestion};
 pub use line::{REFUSED, parse, status_of_refusal};
 pub use program::{Terminals, status};

@@ -1,12 +1,12 @@
 //! The commands and their options, as `clap` reads them, and what its refusals mean to the program. Its texts stand here
 //! and in `help` alone: help and complaints are shown by tests.
 
-ghost use Rattle.std.specs.Prelude.{◌≡◌, ◌≢◌, ◌↔◌, false, IfOk, IfErr, IsErrOf, Ok, map};
+ghost use Rattle.std.specs.Prelude.{◌≡◌, ◌≢◌, ◌↔◌, codes, false, IfOk, IfErr, IsErrOf, Ok, map};
 ghost use Rattle.clap.specs.Words.{app_of, kind_of, rule_of};
 ghost use Rattle.clap.specs.declared.error.ErrorKind.TheVariants as ErrorKind;
 ghost use Rattle.jh_cli.specs.declared.error.CliError.TheVariants as CliError;
 ghost use Rattle.jh_arguments.specs.Line as text;
-ghost use Rattle.jh_arguments.specs.Line.{IsCheck, IsFound, IsLine, IsRefused, workload_names};
+ghost use Rattle.jh_arguments.specs.Line.{IsFound, IsLine, IsRefused, workload_names};
 
 use crate::help;
 use clap::builder::ValueParser;
@@ -34,6 +34,7 @@ fn command_line<'a>(alloc: Global) -> Result<Command<'a>, Error>
     ensures line { IfOk result (λ line. IsLine (app_of line)) }
     ensures memory { IfErr result (λ e. kind_of e ≡ ErrorKind.OutOfMemory) }
 {
+    let names = workloads();
     let env = Command::new(alloc, "env")
         .about("Applies fault steps to an environment, both read from standard input as EDN")
         .after_help(help::ENV);
@@ -47,34 +48,20 @@ fn command_line<'a>(alloc: Global) -> Result<Command<'a>, Error>
         .after_help(help::JEPRUN)
         .version(help::VERSION)
         .subcommand_required(true)
+        .arg_required_else_help(true)
         .subcommand(env)?
-        .subcommand(check_command(alloc)?)?
+        .subcommand(check_command(alloc, names)?)?
         .subcommand(run)?
-        .subcommand(shrink_command(alloc)?)?;
+        .subcommand(shrink_command(alloc)?)?
+        .subcommand(timeline_command(alloc, names)?)?;
     Ok(jeprun)
 }
 
 /// The command `check` and its options.
-fn check_command<'a>(alloc: Global) -> Result<Command<'a>, Error>
-    ensures check { IfOk result (λ check. IsCheck (app_of check)) }
+fn check_command<'a>(alloc: Global, names: &'static [&'static str]) -> Result<Command<'a>, Error>
+    ensures check { IfOk result (λ check. app_of check ≡ text.check names.entry) }
     ensures memory { IfErr result (λ e. kind_of e ≡ ErrorKind.OutOfMemory) }
 {
-    let workload = Arg::new(alloc, "workload")
-        .long("workload")
-        .value_name("NAME")
-        .help("What the database was to be")
-        .required(true)
-        .value_parser(workloads());
-    let initial = Arg::new(alloc, "initial")
-        .long("initial")
-        .value_name("N")
-        .help("The register's first value; nil where it is left out")
-        .value_parser(value_parser!(i64));
-    let budget = budget_option(
-        alloc,
-        "How many configurations the judge of a register may reach",
-        "100000",
-    );
     let explain = flag_option(
         alloc,
         "explain",
@@ -88,13 +75,29 @@ fn check_command<'a>(alloc: Global) -> Result<Command<'a>, Error>
     let check = Command::new(alloc, "check")
         .about("Judges a history of operations, read from standard input as EDN")
         .after_help(help::CHECK)
-        .arg(workload)?
-        .arg(initial)?
-        .arg(budget)?
+        .arg(workload_option(alloc, names).required(true))?
+        .arg(initial_option(alloc))?
+        .arg(judge_option(alloc))?
         .arg(explain)?
         .arg(independent)?
         .arg(threads_option(alloc))?;
     Ok(check)
+}
+
+/// The command `timeline` and its options.
+fn timeline_command<'a>(alloc: Global, names: &'static [&'static str]) -> Result<Command<'a>, Error>
+    ensures timeline { IfOk result (λ timeline. app_of timeline ≡ text.timeline names.entry) }
+    ensures memory { IfErr result (λ e. kind_of e ≡ ErrorKind.OutOfMemory) }
+{
+    let timeline = Command::new(alloc, "timeline")
+        .about("Writes a page that shows a history, which is read from standard input as EDN")
+        .after_help(help::TIMELINE)
+        .arg(workload_option(alloc, names))?
+        .arg(initial_option(alloc))?
+        .arg(judge_option(alloc))?
+        .arg(index_option(alloc, "from", "The first record that is shown, from 0"))?
+        .arg(index_option(alloc, "to", "The record behind the last one that is shown"))?;
+    Ok(timeline)
 }
 
 /// The command `shrink` and its option.
@@ -110,6 +113,54 @@ fn shrink_command<'a>(alloc: Global) -> Result<Command<'a>, Error>
         .after_help(help::SHRINK)
         .arg(budget)?;
     Ok(shrink)
+}
+
+/// What the database was to be: one of these names.
+fn workload_option<'a>(alloc: Global, names: &'static [&'static str]) -> Arg<'a>
+    ensures rule { rule_of result ≡ text.workload names.entry }
+    ensures local { result.global ≡ false }
+{
+    Arg::new(alloc, "workload")
+        .long("workload")
+        .value_name("NAME")
+        .help("What the database was to be")
+        .value_parser(&*names)
+}
+
+/// What a register holds at first: a number of `i64`.
+fn initial_option<'a>(alloc: Global) -> Arg<'a>
+    ensures rule { rule_of result ≡ text.initial }
+    ensures local { result.global ≡ false }
+{
+    Arg::new(alloc, "initial")
+        .long("initial")
+        .value_name("N")
+        .help("The register's first value; nil where it is left out")
+        .value_parser(value_parser!(i64))
+}
+
+/// The index of a record: a number of `u64`.
+fn index_option<'a>(alloc: Global, name: &'static str, help: &'static str) -> Arg<'a>
+    ensures rule { rule_of result ≡ text.index name.now }
+    ensures local { result.global ≡ false }
+{
+    Arg::new(alloc, name)
+        .long(name)
+        .value_name("INDEX")
+        .help(help)
+        .value_parser(value_parser!(u64))
+}
+
+/// How much the judge of a register may do.
+fn judge_option<'a>(alloc: Global) -> Arg<'a>
+    ensures rule { rule_of result ≡ text.budget (codes "100000") }
+    ensures local { result.global ≡ false }
+{
+    budget_option(
+        alloc,
+        "How many configurations the judge of a register may reach",
+        "100000",
+    )
 }
 
 /// How much a command may do: a number up to 10,000,000.

@@ -6,7 +6,7 @@ ghost use Rattle.std.specs.Prelude.{◌≢◌, IsNone};
 use crate::commands::{Command, command_of, run};
 use crate::line::{REFUSED, parse, status_of_refusal};
 use clap::ArgMatches;
-use jh_cli::CliError;
+use jh_cli::{CliError, TimelineJudging};
 use jh_ops::Workload;
 use jh_shrink::Observer;
 use std::alloc::Global;
@@ -59,8 +59,16 @@ impl<P: Eprint> Progress<'_, P> {
 fn input_of(command: Command) -> &'static str {
     match command {
         Command::Env => "an environment and steps",
-        Command::Check(_) => "a history",
+        Command::Check(_) | Command::Timeline(_) => "a history",
         Command::Run | Command::Shrink(_) => "settings",
+    }
+}
+
+/// Whether a history is judged as one of a register.
+fn is_of_register(judging: Option<TimelineJudging>) -> bool {
+    match judging {
+        Some(by) => by.workload == Workload::Register,
+        None => false,
     }
 }
 
@@ -71,6 +79,9 @@ fn remedy_of(command: Command, status: u8) -> Option<&'static str>
     match command {
         Command::Check(question) if status == UNKNOWN && question.workload == Workload::Register =>
             { Some("unknown: a larger --budget may decide") }
+        Command::Timeline(question) if status == UNKNOWN && is_of_register(question.judging) => {
+            Some("unknown: a larger --budget may decide")
+        }
         Command::Run if status == UNKNOWN => {
             Some("unknown: of a register, a larger budget in the settings may decide")
         }

@@ -1,6 +1,7 @@
 //! What stands in the vectors of a line. `specs/Lines.antt` has the rule.
 
-ghost use Rattle.std.specs.Prelude.{◌≡◌, IfErr, OnOk, codes, map, pos};
+ghost use Rattle.std.specs.Prelude.{◌≡◌, ◌++◌, IfErr, OnOk, codes, map, pos};
+ghost use Rattle.std.specs.Fmt.{signed_decimal};
 ghost use Rattle.std.specs.Io.KnownBytes.{Appends};
 ghost use Rattle.jh_edn.specs.Edn.{Edn, int};
 ghost use Rattle.jh_edn.specs.Print.{joined, print, unless_first};
@@ -9,6 +10,7 @@ ghost use Rattle.jh_check.specs.Lines.{part_text, vector_of};
 
 use crate::counter::ReadBounds;
 use crate::ids::Duplicate;
+use itoa::Buffer;
 use jh_edn::{EdnError, Value, write};
 use std::io::Write;
 
@@ -20,6 +22,23 @@ pub fn put<W: Write>(text: &[u8], writer: &mut W) -> Result<(), EdnError>
     ensures error { IfErr result (λ e. e ≡ EdnError.Write) }
 {
     writer.write_all(text).map_err(|_| EdnError::Write)
+}
+
+/// Writes an integer.
+fn write_integer<W: Write>(n: i128, writer: &mut W) -> Result<(), EdnError>
+    ensures bytes { OnOk result (Appends (W.contents writer.old) (W.contents writer.new) (signed_decimal n)) }
+    ensures error { IfErr result (λ e. e ≡ EdnError.Write) }
+{
+    put(Buffer::new().format(n).as_bytes(), writer)
+}
+
+/// Writes an integer behind a text.
+fn write_behind<W: Write>(text: &[u8], n: i128, writer: &mut W) -> Result<(), EdnError>
+    ensures bytes { OnOk result (Appends (W.contents writer.old) (W.contents writer.new) (text.now ++ signed_decimal n)) }
+    ensures error { IfErr result (λ e. e ≡ EdnError.Write) }
+{
+    put(text, writer)?;
+    write_integer(n, writer)
 }
 
 /// What stands in a vector of a line. Those who have results of their own write them with it.
@@ -48,7 +67,7 @@ impl Element for usize {
     ghost value = { λ place. int (pos place) };
 
     fn write_to<W: Write>(&self, writer: &mut W) -> Result<(), EdnError> {
-        write!(writer, "{self}").map_err(|_| EdnError::Write)
+        put(Buffer::new().format(*self).as_bytes(), writer)
     }
 }
 
@@ -58,9 +77,10 @@ impl Element for ReadBounds {
     ghost value = { read_value };
 
     fn write_to<W: Write>(&self, writer: &mut W) -> Result<(), EdnError> {
-        write!(writer, "[{} {} {}]", self.lower, self.value, self.upper).map_err(
-            |_| EdnError::Write,
-        )
+        write_behind(b"[", self.lower, writer)?;
+        write_behind(b" ", i128::from(self.value), writer)?;
+        write_behind(b" ", self.upper, writer)?;
+        put(b"]", writer)
     }
 }
 

@@ -100,7 +100,7 @@ pub fn timeline_run<R: Read, W: Write>(
     }
 }
 
-// Whether an initial value goes with the workload, if there is one.
+/// Whether an initial value goes with the workload, if there is one.
 fn takes_initial(judging: Option<TimelineJudging>) -> bool
     ensures { IsTrue result ↔ TakesInitialBy judging }
 {
@@ -110,7 +110,7 @@ fn takes_initial(judging: Option<TimelineJudging>) -> bool
     }
 }
 
-// What a history is judged by.
+/// What a history is judged by.
 fn judging_of(by: TimelineJudging) -> Judging
     ensures { result ≡ text.judging_of by }
 {
@@ -122,7 +122,7 @@ fn judging_of(by: TimelineJudging) -> Judging
     }
 }
 
-// What is found in a history, if it is judged.
+/// What is found in a history, if it is judged.
 fn found_in(
     alloc: Global,
     history: &[Op],
@@ -138,7 +138,7 @@ fn found_in(
     }
 }
 
-// The line on top.
+/// The line on top.
 fn line_of(alloc: Global, found: Option<&Found>) -> Result<Vec<u8>, AllocError>
     ensures { IfOk result (λ line. line.items ≡ text.line_of (option_copied found.entry)) }
 {
@@ -148,7 +148,7 @@ fn line_of(alloc: Global, found: Option<&Found>) -> Result<Vec<u8>, AllocError>
     }
 }
 
-// The exit status.
+/// The exit status.
 fn status_of(found: Option<&Found>) -> u8
     ensures { result ≡ text.status_of (option_copied found.entry) }
 {
@@ -158,7 +158,7 @@ fn status_of(found: Option<&Found>) -> u8
     }
 }
 
-// What a page shows of a history.
+/// What a page shows of a history.
 fn shown_of(alloc: Global, history: Vec<Op>, question: TimelineQuestion) -> Result<Shown, CliError>
     requires { All (λ op. IsWritable op.process) history.items }
     ensures shows { MatchResult result
@@ -188,7 +188,7 @@ fn shown_of(alloc: Global, history: Vec<Op>, question: TimelineQuestion) -> Resu
     })
 }
 
-// The bytes of a page.
+/// The bytes of a page.
 fn page_text(
     alloc: Global,
     line: &[u8],
@@ -206,7 +206,7 @@ fn page_text(
     }
 }
 
-// The page of what was read.
+/// The page of what was read.
 fn page_of(alloc: Global, parts: Parts, question: TimelineQuestion) -> Result<Page, CliError>
     requires { All (λ op. IsWritable op.process) parts.history.items }
     ensures { MatchResult result

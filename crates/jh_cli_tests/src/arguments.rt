@@ -32,13 +32,43 @@ fn asks_for_commands(rt: HostRuntime) {
 § jeprun check --workload set --budget 10000000 → Check(Question { workload: Set, initial: None, budget: 10000000, explain: false, independent: false, threads: 1 })
 § jeprun shrink → Shrink(10000)
 § jeprun shrink --budget 10000000 → Shrink(10000000)
+§ jeprun timeline → Timeline(TimelineQuestion { judging: None, choice: Choice { from: None, to: None } })
+§ jeprun timeline --workload register --initial 0 --budget 5 --from 7 --to 18446744073709551615 → Timeline(TimelineQuestion { judging: Some(TimelineJudging { workload: Register, initial: Some(0), budget: 5 }), choice: Choice { from: Some(7), to: Some(18446744073709551615) } })
+§ jeprun timeline --workload set → Timeline(TimelineQuestion { judging: Some(TimelineJudging { workload: Set, initial: None, budget: 100000 }), choice: Choice { from: None, to: None } })
+§ jeprun timeline --initial 3 → Timeline(TimelineQuestion { judging: None, choice: Choice { from: None, to: None } })
+§ jeprun timeline --from -1 → 3
+error: unexpected argument '-1' found
+
+Usage: jeprun timeline [OPTIONS]
+
+For more information, try '--help'.
+§ jeprun timeline --to 18446744073709551616 → 3
+error: invalid value '18446744073709551616' for '--to <INDEX>': number too large to fit in target type
+
+For more information, try '--help'.
 § jeprun → 3
-error: 'jeprun' requires a subcommand but one was not provided
-  [subcommands: env, check, run, shrink, help]
+A test harness for databases, over a simulated cluster under faults
 
 Usage: jeprun <COMMAND>
 
-For more information, try '--help'.
+Commands:
+  env       Applies fault steps to an environment, both read from standard input as EDN
+  check     Judges a history of operations, read from standard input as EDN
+  run       Runs a simulated cluster by settings, read from standard input as TOML, and judges its history
+  shrink    Makes the schedule of a failing run small, whose settings are read from standard input as TOML
+  timeline  Writes a page that shows a history, which is read from standard input as EDN
+  help      Print this message or the help of the given subcommand(s)
+
+Options:
+  -h, --help     Print help
+  -V, --version  Print version
+
+Exit status: 0 valid or done, 1 not valid, 2 unknown, 3 refused arguments or input,
+4 where memory ran out, a read or a write failed, or a run was not completed
+
+Examples:
+  jeprun env < examples/two-cuts.edn
+  jeprun run < examples/run/quorum-register.toml
 § jeprun check → 3
 error: the following required arguments were not provided:
   --workload <NAME>
@@ -131,11 +161,12 @@ A test harness for databases, over a simulated cluster under faults
 Usage: jeprun <COMMAND>
 
 Commands:
-  env     Applies fault steps to an environment, both read from standard input as EDN
-  check   Judges a history of operations, read from standard input as EDN
-  run     Runs a simulated cluster by settings, read from standard input as TOML, and judges its history
-  shrink  Makes the schedule of a failing run small, whose settings are read from standard input as TOML
-  help    Print this message or the help of the given subcommand(s)
+  env       Applies fault steps to an environment, both read from standard input as EDN
+  check     Judges a history of operations, read from standard input as EDN
+  run       Runs a simulated cluster by settings, read from standard input as TOML, and judges its history
+  shrink    Makes the schedule of a failing run small, whose settings are read from standard input as TOML
+  timeline  Writes a page that shows a history, which is read from standard input as EDN
+  help      Print this message or the help of the given subcommand(s)
 
 Options:
   -h, --help     Print help
@@ -147,6 +178,29 @@ Exit status: 0 valid or done, 1 not valid, 2 unknown, 3 refused arguments or inp
 Examples:
   jeprun env < examples/two-cuts.edn
   jeprun run < examples/run/quorum-register.toml
+§ jeprun timeline --help → 0
+Writes a page that shows a history, which is read from standard input as EDN
+
+Usage: jeprun timeline [OPTIONS]
+
+Options:
+      --workload <NAME>  What the database was to be [possible values: register, set, counter, unique-ids]
+      --initial <N>      The register's first value; nil where it is left out
+      --budget <N>       How many configurations the judge of a register may reach [default: 100000]
+      --from <INDEX>     The first record that is shown, from 0
+      --to <INDEX>       The record behind the last one that is shown
+  -h, --help             Print help
+
+It writes an HTML page: each operation as a bar, each fault as a line, and with --workload what
+the checker finds, on top and as marks. It reads what run prints as well. Of more than 2,000
+records it shows 1,000, around the first mark, unless --from or --to choose others.
+
+Exit status: 0 valid or not judged, 1 not valid, 2 unknown, 3 refused arguments or input,
+4 where memory ran out, or a read or a write failed
+
+Examples:
+  jeprun timeline --workload register < examples/check/register-stale.edn > stale.html
+  jeprun run < examples/run/quorum-register.toml | jeprun timeline --workload register > run.html
 § jeprun run --help → 0
 Runs a simulated cluster by settings, read from standard input as TOML, and judges its history
 
@@ -212,11 +266,12 @@ A test harness for databases, over a simulated cluster under faults
 Usage: jeprun <COMMAND>
 
 Commands:
-  env     Applies fault steps to an environment, both read from standard input as EDN
-  check   Judges a history of operations, read from standard input as EDN
-  run     Runs a simulated cluster by settings, read from standard input as TOML, and judges its history
-  shrink  Makes the schedule of a failing run small, whose settings are read from standard input as TOML
-  help    Print this message or the help of the given subcommand(s)
+  env       Applies fault steps to an environment, both read from standard input as EDN
+  check     Judges a history of operations, read from standard input as EDN
+  run       Runs a simulated cluster by settings, read from standard input as TOML, and judges its history
+  shrink    Makes the schedule of a failing run small, whose settings are read from standard input as TOML
+  timeline  Writes a page that shows a history, which is read from standard input as EDN
+  help      Print this message or the help of the given subcommand(s)
 
 Options:
   -h, --help     Print help

@@ -21,6 +21,8 @@ mod histories;
 #[cfg(test)]
 mod hostile;
 #[cfg(test)]
+mod recorded;
+#[cfg(test)]
 mod rows;
 #[cfg(test)]
 mod runs;

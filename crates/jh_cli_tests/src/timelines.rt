@@ -117,13 +117,13 @@ fn registers_are_shown_with_what_is_found(rt: HostRuntime) {
 <h1>{:valid? true, :order [0 1]}</h1>
 All 4 records.
 <li>process 0 1</li>
-<svg class="ok" x="180" y="0" width="172" height="32">
+<svg class="ok" x="240" y="0" width="232" height="32">
  write 1</text>
-<svg class="ok" x="180" y="32" width="172" height="32">
+<svg class="ok" x="240" y="32" width="232" height="32">
  read 1</text>
-<svg class="placed" x="180" y="0"
+<svg class="placed" x="240" y="0"
 >0</text>
-<svg class="placed" x="180" y="32"
+<svg class="placed" x="240" y="32"
 >1</text>
 !<svg
 !<pre>
@@ -133,8 +133,8 @@ All 4 records.
 → 1
 <h1>{:valid? false, :stuck {:index 3, :type :ok, :process 1, :f :read, :value 0}, :order [0], :value 1, :pending [1]}</h1>
 <g class="marks">
-<svg class="placed" x="180" y="0"
-<svg class="stuck" x="180" y="32" width="172" height="32">
+<svg class="placed" x="240" y="0"
+<svg class="stuck" x="240" y="32" width="232" height="32">
 >stuck</text>
 !<svg
 § set - - -
@@ -142,7 +142,7 @@ All 4 records.
 → 2
 <h1>{:valid? :unknown, :error &quot;Set was never read&quot;}</h1>
 All 1 records.
-<svg class="open" x="180" y="0" width="172" height="16">
+<svg class="open" x="240" y="0" width="232" height="16">
  add 1</text>
 "#;
     assert_eq!(rt; first_wrong(rt.alloc(), rows), None);
@@ -223,15 +223,15 @@ fn records_are_chosen(rt: HostRuntime) {
 {:type :invoke, :process 0, :f :read} {:type :ok, :process 0, :f :read, :value 5}
 → 0
 Records 1 to 2 of 4; --from and --to choose others.
-<svg class="ok" x="180" y="16" width="172" height="16">
+<svg class="ok" x="240" y="16" width="232" height="16">
  read 5</text>
 !<svg
 § - - - 9
 {:type :invoke, :process 0, :f :read} {:type :invoke, :process 0, :f :read}
 → 0
 All 2 records.
-<svg class="open" x="180" y="0" width="172" height="16">
-<svg class="open" x="180" y="16" width="172" height="16">
+<svg class="open" x="240" y="0" width="232" height="16">
+<svg class="open" x="240" y="16" width="232" height="16">
 § - - 2 1
 {:type :invoke, :process 0, :f :read} {:type :invoke, :process 0, :f :read}
 → 0
@@ -286,7 +286,7 @@ fn is_long_row_right(alloc: Global, workload: &str, before: u32, behind: u32, pa
 #[test]
 fn long_histories_are_shown_around_what_is_found(rt: HostRuntime) {
     let shown = "1\nRecords 1001 to 2000 of 2504; --from and --to choose others.\n\
-        <svg class=\"repeated\" x=\"180\" y=\"7984\"\n";
+        <svg class=\"repeated\" x=\"240\" y=\"7984\"\n";
     assert!(rt; is_long_row_right(rt.alloc(), "unique-ids", 1_500, 1_000, shown));
     let near = "1\nRecords 0 to 999 of 2054;\n";
     assert!(rt; is_long_row_right(rt.alloc(), "unique-ids", 50, 2_000, near));

@@ -5,7 +5,7 @@ use Rattle.std.specs.List.{flat_map}
 use Rattle.jh_edn.specs.Edn.{Edn}
 use Rattle.jh_ops.specs.Operation.{Operation, operations}
 use Rattle.jh_ops.specs.declared.operation.Kind.{Kind}
-use Rattle.jh_pages.specs.Labels.{label_text, record_text}
+use Rattle.jh_pages.specs.Labels.{label_text, record_text, short_label_text}
 use Rattle.jh_pages.specs.Marks.{class_of, note_text}
 use Rattle.jh_pages.specs.Pixels.{height_of, left_of, top_of}
 use Rattle.jh_pages.specs.declared.section.Section.{Section}
@@ -57,7 +57,7 @@ records_text invocation (Some completion) = record_text invocation ++ codes "\n"
 abbrev pub place_text : ℕ → ℕ → ℕ → List ℕ
 place_text left top height =
     codes "\" x=\"" ++ (decimal left ++ (codes "\" y=\"" ++ (decimal top
-    ++ (codes "\" width=\"172\" height=\"" ++ (decimal height ++ codes "\"><rect width=\"100%\" height=\"100%\"/>")))))
+    ++ (codes "\" width=\"232\" height=\"" ++ (decimal height ++ codes "\"><rect width=\"100%\" height=\"100%\"/>")))))
 
 -- the box of a bar, of a class in the style: in its lane, from its first row to its last
 abbrev pub box_text : List ℕ → Window → Bar → List ℕ
@@ -70,7 +70,7 @@ bar_text window bar None completion = []
 bar_text window bar (Some invocation) completion =
     box_text (ending_class (ending_of completion)) window bar ++ codes "<title>" ++ records_text invocation completion
     ++ codes "</title><text x=\"4\" y=\"12\">" ++ ending_sign (ending_of completion)
-    ++ label_text invocation.f (answer_of invocation completion) ++ codes "</text></svg>\n"
+    ++ short_label_text invocation.f (answer_of invocation completion) ++ codes "</text></svg>\n"
 
 -- a bar, with the records that it has in the history
 abbrev pub drawn_bar : Section → Bar → List ℕ
@@ -102,7 +102,7 @@ drawn_fault section index = fault_text section.window index (record_of section i
 abbrev pub mark_text : Window → Note → Option Bar → List ℕ
 mark_text window note None = []
 mark_text window note (Some bar) =
-    box_text (class_of note) window bar ++ codes "<text x=\"168\" y=\"12\">" ++ note_text note ++ codes "</text></svg>\n"
+    box_text (class_of note) window bar ++ codes "<text x=\"228\" y=\"12\">" ++ note_text note ++ codes "</text></svg>\n"
 
 -- a mark at the bar that it names
 abbrev pub drawn_mark : Section → Mark → List ℕ

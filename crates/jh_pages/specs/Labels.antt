@@ -5,7 +5,7 @@ use Rattle.jh_edn.specs.Edn.{Edn, nil, keyword, list, vector, list_of}
 use Rattle.jh_edn.specs.Print.{print}
 use Rattle.jh_ops.specs.Operation.{Operation}
 use Rattle.jh_ops.specs.OperationWritten.{value_written}
-use Rattle.jh_pages.specs.Markup.{escaped_bytes}
+use Rattle.jh_pages.specs.Markup.{escaped_bytes, short_bytes}
 
 -- a record, as it is written
 abbrev pub record_text : Operation → List ℕ
@@ -28,5 +28,13 @@ abbrev pub argument_text : Edn → List ℕ
 argument_text value = codes " " ++ print value
 
 -- a function with what it is asked with, as `cas 0 1`
+abbrev pub asked_text : Edn → Edn → List ℕ
+asked_text f value = name_of f ++ flat_map argument_text (arguments_of value)
+
+-- the label of a line, which has room for it
 abbrev pub label_text : Edn → Edn → List ℕ
-label_text f value = escaped_bytes (name_of f ++ flat_map argument_text (arguments_of value))
+label_text f value = escaped_bytes (asked_text f value)
+
+-- the label of a bar, which has little
+abbrev pub short_label_text : Edn → Edn → List ℕ
+short_label_text f value = short_bytes (asked_text f value)

@@ -1,11 +1,12 @@
 -- A text as it stands in the page, where no character of it is read as markup (XML 1.0: section 2.2 says which characters a
 -- document may have, 4.1 and 4.6 how an entity stands for one). A line feed stays; another character that would not show stands
 -- as `\u{1f}` (this project's own).
-use Rattle.std.specs.Prelude.{ℕ, Bool, true, false, not, ◌&&◌, ◌||◌, ◌==◌, nat_lt, nat_eq, List, [], ◌∷◌, ◌++◌, if◌then◌else◌, codes, encode_utf8}
+use Rattle.std.specs.Prelude.{ℕ, length, take, Bool, true, false, not, ◌&&◌, ◌||◌, ◌==◌, nat_lt, nat_eq, List, [], ◌∷◌, ◌++◌, if◌then◌else◌, codes, encode_utf8}
 use Rattle.std.specs.Fmt.{digits}
 use Rattle.std.specs.List.{flat_map, list_any, starts_with}
 use Rattle.std.specs.Str.{byte, chars}
 use Rattle.std.specs.Str.Lossy.{utf8_lossy}
+use Rattle.jh_pages.specs.declared.markup.TheConstants.{MAX_SHOWN}
 
 abbrev pub less : ℕ
 less = byte "<"
@@ -42,10 +43,17 @@ shown c =
 abbrev pub escaped : List ℕ → List ℕ
 escaped text = flat_map shown (chars text)
 
+-- characters in so much room, with dots where there are more
+abbrev pub short : List ℕ → List ℕ
+short cs = if nat_lt MAX_SHOWN (length cs) then flat_map shown (take MAX_SHOWN cs) ++ codes "&#8230;" else flat_map shown cs
+
 -- The same of bytes that something else printed. Where they are no UTF-8, which no printed value is, the replacement character
 -- stands for those that are none.
 abbrev pub escaped_bytes : List ℕ → List ℕ
 escaped_bytes bytes = escaped (utf8_lossy bytes)
+
+abbrev pub short_bytes : List ℕ → List ℕ
+short_bytes bytes = short (chars (utf8_lossy bytes))
 
 -- ---- what an escaped text is proved to be
 

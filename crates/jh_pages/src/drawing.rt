@@ -13,7 +13,7 @@ ghost use Rattle.jh_pages.specs.Drawings.{line_text, mark_text, opening_text, pi
 ghost use Rattle.jh_pages.specs.Drawings.{place_text, record_of, records_text, sides_text, view_text};
 
 use crate::error::PageError;
-use crate::label::write_label;
+use crate::label::{write_label, write_short_label};
 use crate::marks::{class_of, write_note};
 use crate::markup::put;
 use crate::pixels::{height_of, left_of, top_of};
@@ -108,7 +108,7 @@ fn write_place<W: Write>(
 {
     write!(
         writer,
-        "\" x=\"{left}\" y=\"{top}\" width=\"172\" height=\"{height}\">\
+        "\" x=\"{left}\" y=\"{top}\" width=\"232\" height=\"{height}\">\
          <rect width=\"100%\" height=\"100%\"/>"
     )
     .map_err(|_| PageError::Write)
@@ -153,7 +153,7 @@ fn write_bar<W: Write>(
     write_records(alloc, invocation, completion, writer)?;
     put(b"</title><text x=\"4\" y=\"12\">", writer)?;
     put(ending_sign(ending).as_bytes(), writer)?;
-    write_label(
+    write_short_label(
         alloc,
         &invocation.f,
         answer_of(invocation, completion),
@@ -278,7 +278,7 @@ fn write_mark<W: Write>(
         (mark_text window note (Some bar.now))) }
 {
     write_box(class_of(note), window, bar, writer)?;
-    put(b"<text x=\"168\" y=\"12\">", writer)?;
+    put(b"<text x=\"228\" y=\"12\">", writer)?;
     write_note(note, writer)?;
     put(b"</text></svg>\n", writer)
 }

@@ -1,13 +1,13 @@
 //! The short labels of operations. `specs/Labels.antt` has the rule.
 
-ghost use Rattle.std.specs.Prelude.{◌≡◌, ◌++◌, IfOk, OnOk};
+ghost use Rattle.std.specs.Prelude.{◌≡◌, IfOk, OnOk};
 ghost use Rattle.std.specs.Io.KnownBytes.{Appends};
 ghost use Rattle.std.specs.List.{flat_map};
 ghost use Rattle.jh_edn.specs.View.{view, views};
-ghost use Rattle.jh_pages.specs.Labels.{argument_text, arguments_of, label_text, name_of};
+ghost use Rattle.jh_pages.specs.Labels.{argument_text, arguments_of, asked_text, label_text, name_of, short_label_text};
 
 use crate::error::PageError;
-use crate::markup::write_escaped_bytes;
+use crate::markup::{write_escaped_bytes, write_short_bytes};
 use jh_edn::{EdnError, Value, write};
 use std::alloc::Global;
 use std::io::Write;
@@ -63,10 +63,9 @@ fn write_arguments<W: Write>(value: &Value, writer: &mut W) -> Result<(), EdnErr
     }
 }
 
-/// The text of a label, as it is printed.
-fn label(alloc: Global, f: &Value, value: &Value) -> Result<Vec<u8>, EdnError>
-    ensures { IfOk result (λ text. text.items
-        ≡ name_of (view f.now) ++ flat_map argument_text (arguments_of (view value.now))) }
+/// A function with what it is asked with, as it is printed.
+fn asked(alloc: Global, f: &Value, value: &Value) -> Result<Vec<u8>, EdnError>
+    ensures { IfOk result (λ text. text.items ≡ asked_text (view f.now) (view value.now)) }
 {
     let mut text = Vec::new(alloc);
     write_name(f, &mut text)?;
@@ -74,7 +73,7 @@ fn label(alloc: Global, f: &Value, value: &Value) -> Result<Vec<u8>, EdnError>
     Ok(text)
 }
 
-/// Writes a label into the page: a function with what it is asked with.
+/// Writes the label of a line.
 pub(crate) fn write_label<W: Write>(
     alloc: Global,
     f: &Value,
@@ -84,6 +83,20 @@ pub(crate) fn write_label<W: Write>(
     ensures { OnOk result (Appends (W.contents writer.old) (W.contents writer.new)
         (label_text (view f.now) (view value.now))) }
 {
-    let text = label(alloc, f, value).map_err(|_| PageError::OutOfMemory)?;
+    let text = asked(alloc, f, value).map_err(|_| PageError::OutOfMemory)?;
     write_escaped_bytes(alloc, text.as_slice(), writer)
+}
+
+/// Writes the label of a bar.
+pub(crate) fn write_short_label<W: Write>(
+    alloc: Global,
+    f: &Value,
+    value: &Value,
+    writer: &mut W,
+) -> Result<(), PageError>
+    ensures { OnOk result (Appends (W.contents writer.old) (W.contents writer.new)
+        (short_label_text (view f.now) (view value.now))) }
+{
+    let text = asked(alloc, f, value).map_err(|_| PageError::OutOfMemory)?;
+    write_short_bytes(alloc, text.as_slice(), writer)
 }

@@ -2,11 +2,15 @@
 
 ghost use Rattle.std.specs.Prelude.{◌≡◌, ℕ, List, IfErr, IsTrue, OnOk, encode_utf8};
 ghost use Rattle.std.specs.Io.KnownBytes.{Appends};
-ghost use Rattle.jh_pages.specs.Markup.{escaped, escaped_bytes, is_inert, number_text, shown};
+ghost use Rattle.std.specs.Str.{chars};
+ghost use Rattle.jh_pages.specs.Markup.{escaped, escaped_bytes, is_inert, number_text, short, short_bytes, shown};
 
 use crate::error::PageError;
 use std::alloc::Global;
 use std::io::Write;
+
+/// How many characters of a text are shown where it has to be short.
+const MAX_SHOWN: usize = 18;
 
 /// Writes bytes as they are.
 pub(crate) fn put<W: Write>(bytes: &[u8], writer: &mut W) -> Result<(), PageError>
@@ -73,6 +77,35 @@ pub fn write_escaped<W: Write>(text: &str, writer: &mut W) -> Result<(), PageErr
         write_shown(c, writer)?;
     }
     Ok(())
+}
+
+/// Writes a text in the same way where there is little room: its first characters, and dots where it has more.
+fn write_short<W: Write>(text: &str, writer: &mut W) -> Result<(), PageError>
+    ensures { OnOk result
+        (Appends (W.contents writer.old) (W.contents writer.new) (short (chars text.now))) }
+{
+    let mut written = 0;
+    for character in text.chars() {
+        if written == MAX_SHOWN {
+            return put(b"&#8230;", writer);
+        }
+        write_shown(character, writer)?;
+        written += 1;
+    }
+    Ok(())
+}
+
+/// Writes bytes that something else printed, where there is little room.
+pub(crate) fn write_short_bytes<W: Write>(
+    alloc: Global,
+    bytes: &[u8],
+    writer: &mut W,
+) -> Result<(), PageError>
+    ensures { OnOk result
+        (Appends (W.contents writer.old) (W.contents writer.new) (short_bytes bytes.now)) }
+{
+    let text = String::from_utf8_lossy(alloc, bytes)?;
+    write_short(text.as_str(), writer)
 }
 
 /// Writes bytes that something else printed, in the same way.

@@ -31,13 +31,14 @@ const HEAD: &[u8] =
     h1, h2 { font-weight: bold }\nh1 { font-size: 14px }\nh2 { margin-top: 2em }\n\
     a { color: inherit }\nul, ol { padding-left: 2em }\n.picture { overflow-x: auto }\n\
     svg text { font: 11px monospace; fill: var(--ink) }\n\
-    rect { stroke: var(--ink); fill: var(--open) }\n.ok rect { fill: var(--ok) }\n\
+    rect { stroke: var(--ink); fill: var(--open); fill-opacity: 0.85 }\n.ok rect { fill: var(--ok) }\n\
     .fail rect { fill: var(--fail) }\n.info rect { fill: var(--info) }\n\
     .info rect, .open rect { stroke-dasharray: 4 2 }\n\
     .fault line { stroke: var(--fault); stroke-width: 2 }\n.fault text { fill: var(--fault) }\n\
     .marks { pointer-events: none }\n\
     .marks rect { fill: none; stroke: var(--mark); stroke-width: 4 }\n\
     .marks text { fill: var(--mark); font-weight: bold; text-anchor: end }\n\
+    .marks .placed rect { stroke: none }\n.marks .placed text { fill: var(--ink) }\n\
     .legend span { padding: 0 4px; border: 1px solid var(--ink); background: var(--open) }\n\
     .legend .ok { background: var(--ok) }\n.legend .fail { background: var(--fail) }\n\
     .legend .info { background: var(--info) }\n\
@@ -52,7 +53,7 @@ const HEAD: &[u8] =
 const LEGEND: &[u8] = b"</h1>\n<p class=\"legend\"><span class=\"ok\">&#10003; ok</span> \
     <span class=\"fail\">&#10007; fail</span> <span class=\"info\">? info</span> \
     <span class=\"open\">&#8230; no completion</span> <span class=\"marked\">mark</span> \
-    Time goes down, a line across is a fault, and a bold outline is a mark. \
+    <b>12</b> number in an order. Time goes down, and a line across is a fault. \
     Point at a bar or a line to see its records.</p>\n";
 
 /// Writes the end of a tag with the name of a section, or a link to it.

@@ -8,7 +8,7 @@ ghost use Rattle.jh_pages.specs.Pixels as rule;
 use jh_timeline::{Call, Window};
 
 /// How wide a lane is, in pixels.
-pub const LANE_WIDTH: u128 = 180;
+pub const LANE_WIDTH: u128 = 240;
 
 /// How high the row of a record is, in pixels.
 pub const ROW_HEIGHT: u128 = 16;

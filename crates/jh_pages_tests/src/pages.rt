@@ -31,7 +31,7 @@ in two lines</pre>
 <ol>
 </ol>
 <div class="picture">
-<svg xmlns="http://www.w3.org/2000/svg" width="180" height="0" viewBox="0 0 180 0">
+<svg xmlns="http://www.w3.org/2000/svg" width="240" height="0" viewBox="0 0 240 0">
 <g class="marks">
 </g>
 </svg>
@@ -52,11 +52,11 @@ in two lines</pre>
 <li>process 0</li>
 </ol>
 <div class="picture">
-<svg xmlns="http://www.w3.org/2000/svg" width="360" height="32" viewBox="0 0 360 32">
-<svg class="ok" x="180" y="0" width="172" height="32"><rect width="100%" height="100%"/><title>{:type :invoke, :process 0, :f :write, :value 5}
+<svg xmlns="http://www.w3.org/2000/svg" width="480" height="32" viewBox="0 0 480 32">
+<svg class="ok" x="240" y="0" width="232" height="32"><rect width="100%" height="100%"/><title>{:type :invoke, :process 0, :f :write, :value 5}
 {:type :ok, :process 0, :f :write, :value 5}</title><text x="4" y="12">&#10003; write 5</text></svg>
 <g class="marks">
-<svg class="placed" x="180" y="0" width="172" height="32"><rect width="100%" height="100%"/><text x="168" y="12">0</text></svg>
+<svg class="placed" x="240" y="0" width="232" height="32"><rect width="100%" height="100%"/><text x="228" y="12">0</text></svg>
 </g>
 </svg>
 </div>
@@ -88,8 +88,8 @@ in two lines</pre>
 <li>process 0</li>
 </ol>
 <div class="picture">
-<svg xmlns="http://www.w3.org/2000/svg" width="360" height="32" viewBox="0 0 360 32">
-<svg class="ok" x="180" y="0" width="172" height="32"><rect width="100%" height="100%"/><title>{:type :invoke, :process 0, :f :read, :value nil}
+<svg xmlns="http://www.w3.org/2000/svg" width="480" height="32" viewBox="0 0 480 32">
+<svg class="ok" x="240" y="0" width="232" height="32"><rect width="100%" height="100%"/><title>{:type :invoke, :process 0, :f :read, :value nil}
 {:type :ok, :process 0, :f :read, :value 7}</title><text x="4" y="12">&#10003; read 7</text></svg>
 <g class="marks">
 </g>
@@ -100,11 +100,11 @@ in two lines</pre>
 <li>process 1</li>
 </ol>
 <div class="picture">
-<svg xmlns="http://www.w3.org/2000/svg" width="360" height="32" viewBox="0 0 360 32">
-<svg class="fail" x="180" y="0" width="172" height="32"><rect width="100%" height="100%"/><title>{:type :invoke, :process 1, :f :read, :value nil}
+<svg xmlns="http://www.w3.org/2000/svg" width="480" height="32" viewBox="0 0 480 32">
+<svg class="fail" x="240" y="0" width="232" height="32"><rect width="100%" height="100%"/><title>{:type :invoke, :process 1, :f :read, :value nil}
 {:type :fail, :process 1, :f :read, :value nil}</title><text x="4" y="12">&#10007; read</text></svg>
 <g class="marks">
-<svg class="stuck" x="180" y="0" width="172" height="32"><rect width="100%" height="100%"/><text x="168" y="12">stuck</text></svg>
+<svg class="stuck" x="240" y="0" width="232" height="32"><rect width="100%" height="100%"/><text x="228" y="12">stuck</text></svg>
 </g>
 </svg>
 </div>
@@ -113,7 +113,7 @@ in two lines</pre>
 <ol>
 </ol>
 <div class="picture">
-<svg xmlns="http://www.w3.org/2000/svg" width="180" height="0" viewBox="0 0 180 0">
+<svg xmlns="http://www.w3.org/2000/svg" width="240" height="0" viewBox="0 0 240 0">
 <g class="marks">
 </g>
 </svg>
@@ -124,7 +124,7 @@ in two lines</pre>
     ask_all(rt.alloc(), rows)
 }
 
-/// An operation that happened, and one that failed beside one of unknown outcome.
+/// An operation that happened, and one that failed beside one of unknown outcome; labels of 18 characters and of more.
 #[test]
 fn draws_operations(rt: HostRuntime) -> Result<(), Fail> {
     let rows = r##"{:valid? true}
@@ -139,11 +139,11 @@ fn draws_operations(rt: HostRuntime) -> Result<(), Fail> {
 <li>process 0</li>
 </ol>
 <div class="picture">
-<svg xmlns="http://www.w3.org/2000/svg" width="360" height="32" viewBox="0 0 360 32">
-<svg class="ok" x="180" y="0" width="172" height="32"><rect width="100%" height="100%"/><title>{:type :invoke, :process 0, :f :write, :value 5}
+<svg xmlns="http://www.w3.org/2000/svg" width="480" height="32" viewBox="0 0 480 32">
+<svg class="ok" x="240" y="0" width="232" height="32"><rect width="100%" height="100%"/><title>{:type :invoke, :process 0, :f :write, :value 5}
 {:type :ok, :process 0, :f :write, :value 5}</title><text x="4" y="12">&#10003; write 5</text></svg>
 <g class="marks">
-<svg class="placed" x="180" y="0" width="172" height="32"><rect width="100%" height="100%"/><text x="168" y="12">0</text></svg>
+<svg class="placed" x="240" y="0" width="232" height="32"><rect width="100%" height="100%"/><text x="228" y="12">0</text></svg>
 </g>
 </svg>
 </div>
@@ -165,11 +165,41 @@ fn draws_operations(rt: HostRuntime) -> Result<(), Fail> {
 <li>process 1</li>
 </ol>
 <div class="picture">
-<svg xmlns="http://www.w3.org/2000/svg" width="540" height="64" viewBox="0 0 540 64">
-<svg class="fail" x="180" y="0" width="172" height="48"><rect width="100%" height="100%"/><title>{:type :invoke, :process 0, :f :cas, :value [0 1]}
+<svg xmlns="http://www.w3.org/2000/svg" width="720" height="64" viewBox="0 0 720 64">
+<svg class="fail" x="240" y="0" width="232" height="48"><rect width="100%" height="100%"/><title>{:type :invoke, :process 0, :f :cas, :value [0 1]}
 {:type :fail, :process 0, :f :cas, :value [0 1]}</title><text x="4" y="12">&#10007; cas 0 1</text></svg>
-<svg class="info" x="360" y="16" width="172" height="48"><rect width="100%" height="100%"/><title>{:type :invoke, :process 1, :f :write, :value 2}
+<svg class="info" x="480" y="16" width="232" height="48"><rect width="100%" height="100%"/><title>{:type :invoke, :process 1, :f :write, :value 2}
 {:type :info, :process 1, :f :write, :value 2}</title><text x="4" y="12">? write 2</text></svg>
+<g class="marks">
+</g>
+</svg>
+</div>
+</body>
+</html>
+
+{:valid? true}
+#
+0 6
+{:type :invoke, :process 0, :f :read, :value nil}
+{:type :ok, :process 0, :f :read, :value [0 1 2 3 4 5 7]}
+{:type :invoke, :process 0, :f :read, :value nil}
+{:type :ok, :process 0, :f :read, :value [0 1 2 3 4 5 17]}
+{:type :invoke, :process 0, :f :add, :value "aaaaaaaaaaaa&b"}
+{:type :info, :process 0, :f :add, :value "aaaaaaaaaaaa&b"}
+=>
+<h1>{:valid? true}</h1>
+<p id="part-0">All 6 records.</p>
+<ol>
+<li>process 0</li>
+</ol>
+<div class="picture">
+<svg xmlns="http://www.w3.org/2000/svg" width="480" height="96" viewBox="0 0 480 96">
+<svg class="ok" x="240" y="0" width="232" height="32"><rect width="100%" height="100%"/><title>{:type :invoke, :process 0, :f :read, :value nil}
+{:type :ok, :process 0, :f :read, :value [0 1 2 3 4 5 7]}</title><text x="4" y="12">&#10003; read 0 1 2 3 4 5 7</text></svg>
+<svg class="ok" x="240" y="32" width="232" height="32"><rect width="100%" height="100%"/><title>{:type :invoke, :process 0, :f :read, :value nil}
+{:type :ok, :process 0, :f :read, :value [0 1 2 3 4 5 17]}</title><text x="4" y="12">&#10003; read 0 1 2 3 4 5 1&#8230;</text></svg>
+<svg class="info" x="240" y="64" width="232" height="32"><rect width="100%" height="100%"/><title>{:type :invoke, :process 0, :f :add, :value &quot;aaaaaaaaaaaa&amp;b&quot;}
+{:type :info, :process 0, :f :add, :value &quot;aaaaaaaaaaaa&amp;b&quot;}</title><text x="4" y="12">? add &quot;aaaaaaaaaaaa&amp;&#8230;</text></svg>
 <g class="marks">
 </g>
 </svg>
@@ -200,14 +230,14 @@ fn draws_lanes_and_faults(rt: HostRuntime) -> Result<(), Fail> {
 <li>process 1</li>
 </ol>
 <div class="picture">
-<svg xmlns="http://www.w3.org/2000/svg" width="540" height="112" viewBox="0 0 540 112">
-<svg class="info" x="180" y="0" width="172" height="48"><rect width="100%" height="100%"/><title>{:type :invoke, :process 0, :f :read, :value nil}
+<svg xmlns="http://www.w3.org/2000/svg" width="720" height="112" viewBox="0 0 720 112">
+<svg class="info" x="240" y="0" width="232" height="48"><rect width="100%" height="100%"/><title>{:type :invoke, :process 0, :f :read, :value nil}
 {:type :info, :process 0, :f :read, :value nil}</title><text x="4" y="12">? read</text></svg>
-<svg class="ok" x="360" y="16" width="172" height="64"><rect width="100%" height="100%"/><title>{:type :invoke, :process 1, :f :add, :value 7}
+<svg class="ok" x="480" y="16" width="232" height="64"><rect width="100%" height="100%"/><title>{:type :invoke, :process 1, :f :add, :value 7}
 {:type :ok, :process 1, :f :add, :value 7}</title><text x="4" y="12">&#10003; add 7</text></svg>
-<svg class="ok" x="180" y="48" width="172" height="48"><rect width="100%" height="100%"/><title>{:type :invoke, :process 4, :f :read, :value nil}
+<svg class="ok" x="240" y="48" width="232" height="48"><rect width="100%" height="100%"/><title>{:type :invoke, :process 4, :f :read, :value nil}
 {:type :ok, :process 4, :f :read, :value 3}</title><text x="4" y="12">&#10003; read 3</text></svg>
-<svg class="open" x="360" y="96" width="172" height="16"><rect width="100%" height="100%"/><title>{:type :invoke, :process 1, :f :add, :value 8}</title><text x="4" y="12">&#8230; add 8</text></svg>
+<svg class="open" x="480" y="96" width="232" height="16"><rect width="100%" height="100%"/><title>{:type :invoke, :process 1, :f :add, :value 8}</title><text x="4" y="12">&#8230; add 8</text></svg>
 <g class="marks">
 </g>
 </svg>
@@ -229,10 +259,10 @@ fn draws_lanes_and_faults(rt: HostRuntime) -> Result<(), Fail> {
 <li>process 0</li>
 </ol>
 <div class="picture">
-<svg xmlns="http://www.w3.org/2000/svg" width="360" height="64" viewBox="0 0 360 64">
+<svg xmlns="http://www.w3.org/2000/svg" width="480" height="64" viewBox="0 0 480 64">
 <svg class="fault" y="0" width="100%" height="16"><line x2="100%"/><title>{:type :info, :process :nemesis, :f :start, :value [&quot;n1&quot; &quot;n2&quot;]}</title><text x="4" y="12">start &quot;n1&quot; &quot;n2&quot;</text></svg>
 <svg class="fault" y="32" width="100%" height="16"><line x2="100%"/><title>{:type :info, :process :nemesis, :f :stop, :value nil}</title><text x="4" y="12">stop</text></svg>
-<svg class="ok" x="180" y="16" width="172" height="48"><rect width="100%" height="100%"/><title>{:type :invoke, :process 0, :f :write, :value 1}
+<svg class="ok" x="240" y="16" width="232" height="48"><rect width="100%" height="100%"/><title>{:type :invoke, :process 0, :f :write, :value 1}
 {:type :ok, :process 0, :f :write, :value 1}</title><text x="4" y="12">&#10003; write 1</text></svg>
 <g class="marks">
 </g>
@@ -264,10 +294,10 @@ fn cuts_at_a_window(rt: HostRuntime) -> Result<(), Fail> {
 <li>process 4</li>
 </ol>
 <div class="picture">
-<svg xmlns="http://www.w3.org/2000/svg" width="540" height="48" viewBox="0 0 540 48">
-<svg class="ok" x="180" y="0" width="172" height="48"><rect width="100%" height="100%"/><title>{:type :invoke, :process 1, :f :add, :value 7}
+<svg xmlns="http://www.w3.org/2000/svg" width="720" height="48" viewBox="0 0 720 48">
+<svg class="ok" x="240" y="0" width="232" height="48"><rect width="100%" height="100%"/><title>{:type :invoke, :process 1, :f :add, :value 7}
 {:type :ok, :process 1, :f :add, :value 7}</title><text x="4" y="12">&#10003; add 7</text></svg>
-<svg class="ok" x="360" y="32" width="172" height="16"><rect width="100%" height="100%"/><title>{:type :invoke, :process 4, :f :read, :value nil}
+<svg class="ok" x="480" y="32" width="232" height="16"><rect width="100%" height="100%"/><title>{:type :invoke, :process 4, :f :read, :value nil}
 {:type :ok, :process 4, :f :read, :value 3}</title><text x="4" y="12">&#10003; read 3</text></svg>
 <g class="marks">
 </g>
@@ -289,7 +319,7 @@ fn cuts_at_a_window(rt: HostRuntime) -> Result<(), Fail> {
 <ol>
 </ol>
 <div class="picture">
-<svg xmlns="http://www.w3.org/2000/svg" width="180" height="0" viewBox="0 0 180 0">
+<svg xmlns="http://www.w3.org/2000/svg" width="240" height="0" viewBox="0 0 240 0">
 <g class="marks">
 </g>
 </svg>
@@ -314,13 +344,13 @@ fn cuts_at_a_window(rt: HostRuntime) -> Result<(), Fail> {
 <li>process 4 1</li>
 </ol>
 <div class="picture">
-<svg xmlns="http://www.w3.org/2000/svg" width="360" height="80" viewBox="0 0 360 80">
-<svg class="ok" x="180" y="16" width="172" height="48"><rect width="100%" height="100%"/><title>{:type :invoke, :process 4, :f :read, :value nil}
+<svg xmlns="http://www.w3.org/2000/svg" width="480" height="80" viewBox="0 0 480 80">
+<svg class="ok" x="240" y="16" width="232" height="48"><rect width="100%" height="100%"/><title>{:type :invoke, :process 4, :f :read, :value nil}
 {:type :ok, :process 4, :f :read, :value 3}</title><text x="4" y="12">&#10003; read 3</text></svg>
-<svg class="open" x="180" y="64" width="172" height="16"><rect width="100%" height="100%"/><title>{:type :invoke, :process 1, :f :add, :value 8}</title><text x="4" y="12">&#8230; add 8</text></svg>
+<svg class="open" x="240" y="64" width="232" height="16"><rect width="100%" height="100%"/><title>{:type :invoke, :process 1, :f :add, :value 8}</title><text x="4" y="12">&#8230; add 8</text></svg>
 <g class="marks">
-<svg class="stuck" x="180" y="16" width="172" height="48"><rect width="100%" height="100%"/><text x="168" y="12">stuck</text></svg>
-<svg class="pending" x="180" y="64" width="172" height="16"><rect width="100%" height="100%"/><text x="168" y="12">pending</text></svg>
+<svg class="stuck" x="240" y="16" width="232" height="48"><rect width="100%" height="100%"/><text x="228" y="12">stuck</text></svg>
+<svg class="pending" x="240" y="64" width="232" height="16"><rect width="100%" height="100%"/><text x="228" y="12">pending</text></svg>
 </g>
 </svg>
 </div>
@@ -352,8 +382,8 @@ fn cuts_at_a_window(rt: HostRuntime) -> Result<(), Fail> {
 <li>process 0</li>
 </ol>
 <div class="picture">
-<svg xmlns="http://www.w3.org/2000/svg" width="360" height="16" viewBox="0 0 360 16">
-<svg class="ok" x="180" y="0" width="172" height="16"><rect width="100%" height="100%"/><title>{:type :invoke, :process 0, :f :add, :value 1}
+<svg xmlns="http://www.w3.org/2000/svg" width="480" height="16" viewBox="0 0 480 16">
+<svg class="ok" x="240" y="0" width="232" height="16"><rect width="100%" height="100%"/><title>{:type :invoke, :process 0, :f :add, :value 1}
 {:type :ok, :process 0, :f :add, :value 1}</title><text x="4" y="12">&#10003; add 1</text></svg>
 <g class="marks">
 </g>
@@ -364,7 +394,7 @@ fn cuts_at_a_window(rt: HostRuntime) -> Result<(), Fail> {
 <ol>
 </ol>
 <div class="picture">
-<svg xmlns="http://www.w3.org/2000/svg" width="180" height="0" viewBox="0 0 180 0">
+<svg xmlns="http://www.w3.org/2000/svg" width="240" height="0" viewBox="0 0 240 0">
 <g class="marks">
 </g>
 </svg>
@@ -374,7 +404,7 @@ fn cuts_at_a_window(rt: HostRuntime) -> Result<(), Fail> {
 <ol>
 </ol>
 <div class="picture">
-<svg xmlns="http://www.w3.org/2000/svg" width="180" height="16" viewBox="0 0 180 16">
+<svg xmlns="http://www.w3.org/2000/svg" width="240" height="16" viewBox="0 0 240 16">
 <g class="marks">
 </g>
 </svg>
@@ -402,22 +432,22 @@ fn marks_bars(rt: HostRuntime) -> Result<(), Fail> {
 <li>process 1</li>
 </ol>
 <div class="picture">
-<svg xmlns="http://www.w3.org/2000/svg" width="540" height="64" viewBox="0 0 540 64">
-<svg class="ok" x="180" y="0" width="172" height="48"><rect width="100%" height="100%"/><title>{:type :invoke, :process 0, :f :read, :value nil}
+<svg xmlns="http://www.w3.org/2000/svg" width="720" height="64" viewBox="0 0 720 64">
+<svg class="ok" x="240" y="0" width="232" height="48"><rect width="100%" height="100%"/><title>{:type :invoke, :process 0, :f :read, :value nil}
 {:type :ok, :process 0, :f :read, :value 3}</title><text x="4" y="12">&#10003; read 3</text></svg>
-<svg class="ok" x="360" y="16" width="172" height="48"><rect width="100%" height="100%"/><title>{:type :invoke, :process 1, :f :read, :value nil}
+<svg class="ok" x="480" y="16" width="232" height="48"><rect width="100%" height="100%"/><title>{:type :invoke, :process 1, :f :read, :value nil}
 {:type :ok, :process 1, :f :read, :value 4}</title><text x="4" y="12">&#10003; read 4</text></svg>
 <g class="marks">
-<svg class="placed" x="180" y="0" width="172" height="48"><rect width="100%" height="100%"/><text x="168" y="12">12</text></svg>
-<svg class="stuck" x="360" y="16" width="172" height="48"><rect width="100%" height="100%"/><text x="168" y="12">stuck</text></svg>
-<svg class="pending" x="180" y="0" width="172" height="48"><rect width="100%" height="100%"/><text x="168" y="12">pending</text></svg>
-<svg class="lost" x="360" y="16" width="172" height="48"><rect width="100%" height="100%"/><text x="168" y="12">lost</text></svg>
-<svg class="recovered" x="180" y="0" width="172" height="48"><rect width="100%" height="100%"/><text x="168" y="12">recovered</text></svg>
-<svg class="unexpected" x="360" y="16" width="172" height="48"><rect width="100%" height="100%"/><text x="168" y="12">unexpected</text></svg>
-<svg class="repeated" x="180" y="0" width="172" height="48"><rect width="100%" height="100%"/><text x="168" y="12">repeated</text></svg>
-<svg class="outside" x="360" y="16" width="172" height="48"><rect width="100%" height="100%"/><text x="168" y="12">[-3 170141183460469231731687303715884105727]</text></svg>
-<svg class="pending" x="180" y="0" width="172" height="48"><rect width="100%" height="100%"/><text x="168" y="12">pending 0</text></svg>
-<svg class="pending" x="360" y="16" width="172" height="48"><rect width="100%" height="100%"/><text x="168" y="12">pending 18446744073709551615</text></svg>
+<svg class="placed" x="240" y="0" width="232" height="48"><rect width="100%" height="100%"/><text x="228" y="12">12</text></svg>
+<svg class="stuck" x="480" y="16" width="232" height="48"><rect width="100%" height="100%"/><text x="228" y="12">stuck</text></svg>
+<svg class="pending" x="240" y="0" width="232" height="48"><rect width="100%" height="100%"/><text x="228" y="12">pending</text></svg>
+<svg class="lost" x="480" y="16" width="232" height="48"><rect width="100%" height="100%"/><text x="228" y="12">lost</text></svg>
+<svg class="recovered" x="240" y="0" width="232" height="48"><rect width="100%" height="100%"/><text x="228" y="12">recovered</text></svg>
+<svg class="unexpected" x="480" y="16" width="232" height="48"><rect width="100%" height="100%"/><text x="228" y="12">unexpected</text></svg>
+<svg class="repeated" x="240" y="0" width="232" height="48"><rect width="100%" height="100%"/><text x="228" y="12">repeated</text></svg>
+<svg class="outside" x="480" y="16" width="232" height="48"><rect width="100%" height="100%"/><text x="228" y="12">[-3 170141183460469231731687303715884105727]</text></svg>
+<svg class="pending" x="240" y="0" width="232" height="48"><rect width="100%" height="100%"/><text x="228" y="12">pending 0</text></svg>
+<svg class="pending" x="480" y="16" width="232" height="48"><rect width="100%" height="100%"/><text x="228" y="12">pending 18446744073709551615</text></svg>
 </g>
 </svg>
 </div>
@@ -451,12 +481,12 @@ fn escapes_what_histories_say(rt: HostRuntime) -> Result<(), Fail> {
 <li>process 0</li>
 </ol>
 <div class=\"picture\">
-<svg xmlns=\"http://www.w3.org/2000/svg\" width=\"360\" height=\"48\" viewBox=\"0 0 360 48\">
+<svg xmlns=\"http://www.w3.org/2000/svg\" width=\"480\" height=\"48\" viewBox=\"0 0 480 48\">
 <svg class=\"fault\" y=\"16\" width=\"100%\" height=\"16\"><line x2=\"100%\"/><title>{:type :info, :process :nemesis, :f :&lt;&amp;&gt;, :value &quot;&lt;!-- \\u{1}\\u{1f}\\u{7f}\\u{80}\\u{9f}\u{a0}\\u{fffe}\\u{ffff}\u{10000}&quot;}</title><text x=\"4\" y=\"12\">&lt;&amp;&gt; &quot;&lt;!-- \\u{1}\\u{1f}\\u{7f}\\u{80}\\u{9f}\u{a0}\\u{fffe}\\u{ffff}\u{10000}&quot;</text></svg>
-<svg class=\"ok\" x=\"180\" y=\"0\" width=\"172\" height=\"48\"><rect width=\"100%\" height=\"100%\"/><title>{:type :invoke, :process 0, :f :write, :value &quot;&lt;a href=&#39;b&#39;&gt;&amp;amp;\\&quot;\\\\&quot;}
+<svg class=\"ok\" x=\"240\" y=\"0\" width=\"232\" height=\"48\"><rect width=\"100%\" height=\"100%\"/><title>{:type :invoke, :process 0, :f :write, :value &quot;&lt;a href=&#39;b&#39;&gt;&amp;amp;\\&quot;\\\\&quot;}
 {:type :ok, :process 0, :f :write, :value (&quot;]]&gt;&quot; :a&amp;b)}</title><text x=\"4\" y=\"12\">&#10003; write &quot;]]&gt;&quot; :a&amp;b</text></svg>
 <g class=\"marks\">
-<svg class=\"placed\" x=\"180\" y=\"0\" width=\"172\" height=\"48\"><rect width=\"100%\" height=\"100%\"/><text x=\"168\" y=\"12\">1</text></svg>
+<svg class=\"placed\" x=\"240\" y=\"0\" width=\"232\" height=\"48\"><rect width=\"100%\" height=\"100%\"/><text x=\"228\" y=\"12\">1</text></svg>
 </g>
 </svg>
 </div>
@@ -465,7 +495,7 @@ fn escapes_what_histories_say(rt: HostRuntime) -> Result<(), Fail> {
 <ol>
 </ol>
 <div class=\"picture\">
-<svg xmlns=\"http://www.w3.org/2000/svg\" width=\"180\" height=\"0\" viewBox=\"0 0 180 0\">
+<svg xmlns=\"http://www.w3.org/2000/svg\" width=\"240\" height=\"0\" viewBox=\"0 0 240 0\">
 <g class=\"marks\">
 </g>
 </svg>

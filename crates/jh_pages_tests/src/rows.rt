@@ -29,7 +29,7 @@ const BODY: &str = "</style>\n</head>\n<body>\n";
 const LEGEND: &str = "<p class=\"legend\"><span class=\"ok\">&#10003; ok</span> \
     <span class=\"fail\">&#10007; fail</span> <span class=\"info\">? info</span> \
     <span class=\"open\">&#8230; no completion</span> <span class=\"marked\">mark</span> \
-    Time goes down, a line across is a fault, and a bold outline is a mark. \
+    <b>12</b> number in an order. Time goes down, and a line across is a fault. \
     Point at a bar or a line to see its records.</p>\n";
 
 /// More bytes than any page here has.

@@ -104,5 +104,5 @@ fn is_told(alloc: Global, error: PageError, expected: &str) -> bool {
 fn tells_why_there_is_no_page(rt: HostRuntime) {
     assert!(rt; is_told(rt.alloc(), PageError::Write, "write failed"));
     assert!(rt; is_told(rt.alloc(), PageError::OutOfMemory, "out of memory"));
-    assert_eq!(rt; (LANE_WIDTH, ROW_HEIGHT), (180, 16));
+    assert_eq!(rt; (LANE_WIDTH, ROW_HEIGHT), (240, 16));
 }

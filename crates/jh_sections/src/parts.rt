@@ -22,7 +22,7 @@ pub struct Parts {
     pub below: Vec<u8>,
 }
 
-// Where the first line begins that begins with `:active`.
+/// Where the first line begins that begins with `:active`.
 fn first_line(text: &str) -> Option<usize>
     ensures place { MatchOption result (HasNoLine text.now) (IsFirstLine text.now) }
     ensures boundary { IfSome result (IsCharBoundary text.now) }
@@ -36,7 +36,7 @@ fn first_line(text: &str) -> Option<usize>
     }
 }
 
-// Whether an error does not come from what a text says.
+/// Whether an error does not come from what a text says.
 fn is_of_bytes(error: ReadHistoryError) -> bool
     ensures { IsTrue result ↔ IsOfBytes error }
 {
@@ -48,7 +48,7 @@ fn is_of_bytes(error: ReadHistoryError) -> bool
     )
 }
 
-// The parts of a text that is no history as a whole, for this reason.
+/// The parts of a text that is no history as a whole, for this reason.
 fn parts_before(
     alloc: Global,
     text: &str,

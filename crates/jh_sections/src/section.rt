@@ -15,7 +15,7 @@ use jh_pages::Section;
 use jh_timeline::{Bar, Mark, Window, picture_in};
 use std::alloc::{AllocError, Global};
 
-// The marks of what is found, and none where nothing was judged.
+/// The marks of what is found, and none where nothing was judged.
 fn marks_in(
     alloc: Global,
     history: &[Op],
@@ -31,7 +31,7 @@ fn marks_in(
     }
 }
 
-// The index at which the first bar of a history ends that what is found points at.
+/// The index at which the first bar of a history ends that what is found points at.
 fn focus_in(alloc: Global, history: &[Op], found: &Found) -> Result<Option<usize>, AllocError>
     ensures { IfOk result (IsFocus (operations history.now) (Some found.now)) }
 {
@@ -44,7 +44,7 @@ fn focus_in(alloc: Global, history: &[Op], found: &Found) -> Result<Option<usize
     Ok(focus_of(&picture.bars, &marks))
 }
 
-// The records around what is pointed at, where something was judged.
+/// The records around what is pointed at, where something was judged.
 fn window_around(alloc: Global, history: &[Op], found: Option<&Found>) -> Result<Window, AllocError>
     ensures { IfOk result (λ window. (focus : Option ℕ)
         × IsFocus (operations history.now) (option_copied found.entry) focus
@@ -57,7 +57,7 @@ fn window_around(alloc: Global, history: &[Op], found: Option<&Found>) -> Result
     Ok(around(focus, history.len()))
 }
 
-// The records that are shown.
+/// The records that are shown.
 fn window_in(
     alloc: Global,
     history: &[Op],

@@ -23,14 +23,14 @@ pub struct Choice {
     pub to: Option<usize>,
 }
 
-// Whether no records are chosen, and there are too many to show all.
+/// Whether no records are chosen, and there are too many to show all.
 pub(crate) fn is_open(choice: Choice, total: usize) -> bool
     ensures { result ≡ rule.is_open choice total }
 {
     choice.from.is_none() && choice.to.is_none() && total > MAX_SHOWN
 }
 
-// The records that are chosen, or all.
+/// The records that are chosen, or all.
 pub(crate) fn chosen(choice: Choice, total: usize) -> Window
     ensures { result ≡ rule.chosen choice total }
 {
@@ -40,7 +40,7 @@ pub(crate) fn chosen(choice: Choice, total: usize) -> Window
     }
 }
 
-// The records around an index, or the first.
+/// The records around an index, or the first.
 pub(crate) fn around(focus: Option<usize>, total: usize) -> Window
     ensures { result ≡ rule.around focus total }
 {
@@ -51,7 +51,7 @@ pub(crate) fn around(focus: Option<usize>, total: usize) -> Window
     }
 }
 
-// Whether a note points at something.
+/// Whether a note points at something.
 fn is_pointer(note: Note) -> bool
     ensures { result ≡ is_pointer note }
 {
@@ -61,21 +61,21 @@ fn is_pointer(note: Note) -> bool
     }
 }
 
-// The index at which a call ends.
+/// The index at which a call ends.
 fn ends_at(call: Call) -> usize
     ensures { result ≡ lanes.ends_at call }
 {
     call.completion.unwrap_or(call.invoke)
 }
 
-// The first mark that points at something.
+/// The first mark that points at something.
 fn first_pointer(marks: &[Mark]) -> Option<&Mark>
     ensures { option_map (λ mark. mark.now) result ≡ find (λ mark. is_pointer mark.note) marks.now }
 {
     marks.iter().find(|mark| is_pointer(mark.note))
 }
 
-// The index at which a bar ends, if there is one.
+/// The index at which a bar ends, if there is one.
 fn end_at(bars: &[Bar], number: usize) -> Option<usize>
     ensures { result ≡ option_map (λ bar. lanes.ends_at bar.call) (slice_get bars.now number) }
 {
@@ -85,7 +85,7 @@ fn end_at(bars: &[Bar], number: usize) -> Option<usize>
     }
 }
 
-// The index at which the first bar ends that something points at.
+/// The index at which the first bar ends that something points at.
 pub(crate) fn focus_of(bars: &[Bar], marks: &[Mark]) -> Option<usize>
     ensures { result ≡ rule.focus_of bars.now marks.now }
 {

@@ -9,10 +9,13 @@ use std::fmt::{self, Display, Formatter, Write};
 use std::marker::Model;
 use thiserror::Error;
 
+/// How many bytes a key has at most that is shown itself.
+const MAX_SHOWN: usize = 200;
+
 /// The text of a key that no setting has. A contract sees its bytes, which are UTF-8.
 ///
 /// It is shown on one line: control characters are written as `\u{..}`, with their number in hexadecimal
-/// digits, and all others as they are.
+/// digits, and all others as they are. A key of more than 200 bytes is shown by how many bytes it has.
 #[derive(Debug, Drop)]
 pub struct KeyText {
     text: String,
@@ -65,6 +68,26 @@ impl Display for Shown {
     }
 }
 
+/// A text on one line, as it is shown.
+#[derive(Clone, Copy)]
+struct OnOneLine<'a>(&'a String);
+
+impl Display for OnOneLine<'_> {
+    ghost use Rattle.std.specs.Prelude.{Some};
+    ghost use Rattle.std.specs.String.{string_bytes};
+    ghost use Rattle.jh_settings.specs.Shown.{on_one_line};
+
+    ghost output = { λ line. Some (on_one_line (string_bytes line.0.now)) };
+
+    fn fmt<W: Write>(&self, f: &mut Formatter<W>) -> fmt::Result {
+        let OnOneLine(text) = *self;
+        for character in text.chars() {
+            write!(f, "{}", Shown(character))?;
+        }
+        Ok(())
+    }
+}
+
 impl Display for KeyText {
     ghost use Rattle.std.specs.Prelude.{Some};
     ghost use Rattle.jh_settings.specs.Shown.{shown};
@@ -72,10 +95,12 @@ impl Display for KeyText {
     ghost output = { λ key. Some (shown key) };
 
     fn fmt<W: Write>(&self, f: &mut Formatter<W>) -> fmt::Result {
-        for character in self.text.chars() {
-            write!(f, "{}", Shown(character))?;
+        let bytes = self.text.len();
+        if bytes > MAX_SHOWN {
+            write!(f, "a key of {bytes} bytes")
+        } else {
+            write!(f, "{}", OnOneLine(&self.text))
         }
-        Ok(())
     }
 }
 

@@ -62,6 +62,8 @@ Zebra = 1
 § "" = 1 → : unknown
 § "two\nlines" = 1 → two\u{a}lines: unknown
 § "\u007f\u0085\\é" = 1 → \u{7f}\u{85}\é: unknown
+§ kkkkkkkkkkkkkkkkkkkkkkkkkkkkkkkkkkkkkkkkkkkkkkkkkkkkkkkkkkkkkkkkkkkkkkkkkkkkkkkkkkkkkkkkkkkkkkkkkkkkkkkkkkkkkkkkkkkkkkkkkkkkkkkkkkkkkkkkkkkkkkkkkkkkkkkkkkkkkkkkkkkkkkkkkkkkkkkkkkkkkkkkkkkkkkkkkkkkkkkkk = 1
+→ a key of 201 bytes: unknown
 § unheard = 1
 !start
 clients = 0

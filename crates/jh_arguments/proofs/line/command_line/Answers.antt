@@ -5,6 +5,9 @@ use Rattle.clap.proofs.SimpleLemmas.{plain_fields}
 use Rattle.jh_arguments.specs.Line.{jeprun}
 use Rattle.jh_arguments.proofs.line.command_line.Goals as goal
 
+abbrev helping : App → App
+helping a = on_top (λ s. record s { arg_required_else_help = true }) a
+
 abbrev wants_one : App → App
 wants_one a = on_top (λ s. record s { subcommand_required = true }) a
 
@@ -13,17 +16,24 @@ versioned a = on_top (λ s. record s { has_version = true }) a
 
 pub returns-clause-line : goal.returns-clause-line
 returns-clause-line c =
-    let found = c.in_ok-check_command.ensures.check in
-    let plain = plain_fields c.in_ok-check_command.field-0 (ap (λ (a : App). a.top.is_plain) found.2) in
+    let names = c.workloads-names.result in
+    let check = c.in_ok-check_command.ensures.check in
+    let timeline = c.in_ok-timeline_command.ensures.timeline in
+    let shrink = c.in_ok-shrink_command.ensures.shrink in
+    let of_check = plain_fields c.in_ok-check_command.field-0 (ap (λ (a : App). a.top.is_plain) check) in
+    let of_timeline = plain_fields c.in_ok-timeline_command.field-0 (ap (λ (a : App). a.top.is_plain) timeline) in
+    let of_shrink = plain_fields c.in_ok-shrink_command.field-0 (ap (λ (a : App). a.top.is_plain) shrink) in
     let env : app_of c.after_help-env.result ≡ new_app (codes "env") = ap app_of_fields c.after_help-env.ensures ∙ (ap app_of_fields c.about.ensures ∙ c.new.ensures.app) in
     let run : app_of c.after_help-run.result ≡ new_app (codes "run") = ap app_of_fields c.after_help-run.ensures ∙ (ap app_of_fields c.about-2.ensures ∙ c.new-2.ensures.app) in
-    let top : app_of c.subcommand_required.result ≡ wants_one (versioned (new_app (codes "jeprun"))) = ap app_of_fields c.subcommand_required.ensures
+    let asked : app_of c.subcommand_required.result ≡ wants_one (versioned (new_app (codes "jeprun"))) = ap app_of_fields c.subcommand_required.ensures
     ∙ ap wants_one (ap app_of_fields c.version.ensures ∙ ap versioned (ap app_of_fields c.after_help.ensures
     ∙ (ap app_of_fields c.about-3.ensures ∙ c.new-3.ensures.app))) in
-    let small = plain_fields c.in_ok-shrink_command.field-0 (ap (λ (a : App). a.top.is_plain) c.in_ok-shrink_command.ensures.shrink) in
-    let whole : app_of c.in_ok-jeprun.jeprun ≡ jeprun found.0 = c.in_ok-jeprun.ensures.shape small.globals ∙ ap₂ with_subcommand
+    let top : app_of c.arg_required_else_help.result ≡ helping (wants_one (versioned (new_app (codes "jeprun")))) = ap app_of_fields c.arg_required_else_help.ensures
+    ∙ ap helping asked in
+    let whole : app_of c.in_ok-jeprun.jeprun ≡ jeprun names = c.in_ok-jeprun.ensures.shape of_timeline.globals ∙ ap₂ with_subcommand
+    (c.in_ok-subcommand-4.ensures.shape of_shrink.globals ∙ ap₂ with_subcommand
     (c.in_ok-subcommand-3.ensures.shape (rw (c.after_help-run.ensures, c.about-2.ensures) c.new-2.ensures.local) ∙ ap₂ with_subcommand
-    (c.in_ok-subcommand-2.ensures.shape plain.globals ∙ ap₂ with_subcommand
+    (c.in_ok-subcommand-2.ensures.shape of_check.globals ∙ ap₂ with_subcommand
     (c.in_ok-subcommand.ensures.shape (rw (c.after_help-env.ensures, c.about.ensures) c.new.ensures.local) ∙ ap₂ with_subcommand top (ap (λ (a : App). a.top) env))
-    (ap (λ (a : App). a.top) found.2)) (ap (λ (a : App). a.top) run)) (ap (λ (a : App). a.top) c.in_ok-shrink_command.ensures.shrink) in
-    (found.0, found.1, whole)
+    (ap (λ (a : App). a.top) check)) (ap (λ (a : App). a.top) run)) (ap (λ (a : App). a.top) shrink)) (ap (λ (a : App). a.top) timeline) in
+    (names, c.workloads-names.ensures, whole)
