@@ -10,3 +10,23 @@ returns-in_err-parts-clause-refused g c =
     rw (p.1, p.2) (on_input _ _ (g.R.Read.remaining c.args.reader.now) (λ input refused.
     parts_refused c.args.question input c.in_err-parts.field-0.0 refused
     ) c.in_err-parts.ensures.refused)
+
+pub returns-in-Ok-clause-written : goal.returns-in-Ok-clause-written
+returns-in-Ok-clause-written g c =
+    let parts = c.in_ok-parts.parts in
+    let appended = rw c.deref.ensures.value at c.in-Ok.ensures.bytes in
+    on_input _ _ (g.R.Read.remaining c.args.reader.now) (λ input told. (
+      c.in_ok-page.page.text.items,
+      (operations parts.history.items, parts.below.items, told, c.in_ok-page.ensures),
+      appended,
+    )) c.in_ok-parts.ensures.told
+
+pub returns-clause-refused : goal.returns-clause-refused
+returns-clause-refused g c =
+    let parts = c.in_ok-parts.parts in
+    let page = c.in_ok-page.page in
+    on_input _ _ (g.R.Read.remaining c.args.reader.now) (λ input told. (
+      page.status,
+      page.text.items,
+      (operations parts.history.items, parts.below.items, told, c.in_ok-page.ensures),
+    )) c.in_ok-parts.ensures.told
