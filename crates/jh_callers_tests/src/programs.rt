@@ -72,7 +72,8 @@ fn an_environment_without_steps_is_written(rt: HostRuntime) {
     let alloc = rt.alloc();
     let input = "{:nodes [\"n1\"]}";
     let answer = written_by_env(alloc, input).or_else(|| written_by_env(alloc, input));
-    let wanted = b":active []\n{:nodes [\"n1\"], :cut [], :slow [], :loss [], :down [], :clock []}\n";
+    let wanted =
+        b":active []\n{:nodes [\"n1\"], :cut [], :slow [], :loss [], :down [], :clock []}\n";
     assert!(rt; answer.is_some_and(|written| written.as_slice() == wanted.as_slice()));
 }
 

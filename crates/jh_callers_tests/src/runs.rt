@@ -40,7 +40,14 @@ fn is_audited(alloc: Global, text: &str) -> Option<bool> {
 fn entries_left(alloc: Global, text: &str) -> Option<usize> {
     let settings = settings_of(alloc, text.as_bytes()).ok()?;
     let schedule = settings.plan.schedule().copy(alloc).ok()?;
-    match shrink(alloc, schedule, |left| Some(!left.entries().is_empty()), 100).ok()? {
+    match shrink(
+        alloc,
+        schedule,
+        |left| Some(!left.entries().is_empty()),
+        100,
+    )
+    .ok()?
+    {
         Shrunk::Minimal(schedule) => Some(schedule.entries().len()),
         _ => None,
     }
