@@ -30,5 +30,3 @@ mod runs;
 mod shrinks;
 #[cfg(test)]
 mod streams;
-#[cfg(test)]
-mod timelines;
