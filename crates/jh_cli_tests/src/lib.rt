@@ -30,3 +30,5 @@ mod runs;
 mod shrinks;
 #[cfg(test)]
 mod streams;
+#[cfg(test)]
+mod timelines;
