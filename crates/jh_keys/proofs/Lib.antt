@@ -2,6 +2,7 @@ pub mod RunLemmas
 pub mod SplitLemmas
 pub mod PartLemmas
 pub mod FoundLemmas
+pub mod HistoryLemmas
 pub mod LawLemmas
 pub mod OperationLemmas
 pub mod StuckLemmas

@@ -72,3 +72,11 @@ without_key op = with_value (value_of op.value) op
 
 abbrev pub history_of : Edn → List Operation → List Operation
 history_of key history = map (λ placed. without_key placed.1) (placed_of key history)
+
+-- a key with its history
+abbrev pub with_history : List Operation → Edn → Edn × List Operation
+with_history history key = (key, history_of key history)
+
+-- all keys with their histories, in the order of the keys
+abbrev pub histories_of : List Operation → List (Edn × List Operation)
+histories_of history = map (with_history history) (keys_of history)

@@ -1,4 +1,5 @@
 pub mod Keys
+pub mod Histories
 pub mod Lines
 pub mod Findings
 pub mod Explanations

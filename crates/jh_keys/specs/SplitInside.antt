@@ -1,14 +1,14 @@
 -- What splitting a history goes by: proofs rest on it, and no public clause names it.
-use Rattle.std.specs.Prelude.{ℕ, Bool, List, map, filter, filter_map, Option, option_map}
+use Rattle.std.specs.Prelude.{◌≡◌, ℕ, Bool, List, ◌++◌, map, filter, filter_map, All, Option, option_map}
 use Rattle.std.specs.List.{enumerate_from}
 use Rattle.jh_edn.specs.Edn.{Edn}
 use Rattle.jh_edn.specs.Order.{is_below}
 use Rattle.jh_edn.specs.View.{view}
 use Rattle.jh_ops.specs.Operation.{Operation}
 use Rattle.jh_check.specs.Distinct.{is_same, once}
-use Rattle.jh_keys.specs.Keys.{AreTuples, IsFirstBad, key_of, keys_of, places_of}
-use Rattle.jh_keys.specs.declared.error.KeysError.{KeysError}
-use Rattle.jh_keys.specs.declared.error.KeysError.TheVariants.{BadValue, Key, Thread, OutOfMemory}
+use Rattle.jh_keys.specs.Histories.{view_histories}
+use Rattle.jh_keys.specs.Keys.{histories_of, key_of, keys_of, places_of, with_history}
+use Rattle.jh_keys.specs.declared.histories.KeyHistory.{KeyHistory}
 use Rattle.jh_keys.specs.declared.split.KeyPlaces.{KeyPlaces}
 use Rattle.jh_keys.specs.declared.split.Keyed.{Keyed}
 
@@ -52,9 +52,9 @@ groups_in keyed = map (λ key. (key, places_in key keyed)) (once (keys_in keyed)
 abbrev pub groups_of : List Operation → List (Edn × List ℕ)
 groups_of history = map (λ key. (key, places_of key history)) (keys_of history)
 
--- why a history is not split
-abbrev pub RefusesSplit : List Operation → KeysError → Type 0
-RefusesSplit history (BadValue place) = IsFirstBad history place
-RefusesSplit history (Key error) = ⊥
-RefusesSplit history Thread = ⊥
-RefusesSplit history OutOfMemory = AreTuples history
+-- ---- keys with their histories
+
+-- The groups that are left stand behind the keys that have their history, each with its places.
+pub record IsCutSoFar (history : List Operation) (parts : List KeyHistory) (rest : List KeyPlaces) : Type 0 where
+  pub keys : view_histories parts ++ map (with_history history) (map (λ group. view group.key) rest) ≡ histories_of history
+  pub places : All (λ group. group.places.items ≡ places_of (view group.key) history) rest

@@ -49,6 +49,19 @@ fn part_of(alloc: Global, history: &[Op], places: &[usize]) -> Result<Vec<Op>, A
     Ok(part)
 }
 
+/// The history of one key.
+pub(crate) fn history_of(
+    alloc: Global,
+    history: &[Op],
+    group: &KeyPlaces,
+) -> Result<Vec<Op>, AllocError>
+    requires { group.now.places.items ≡ places_of (view group.now.key) (operations history.now) }
+    ensures { IfOk result (λ part. operations part.items
+        ≡ rule.history_of (view group.now.key) (operations history.now)) }
+{
+    part_of(alloc, history, &group.places)
+}
+
 fn place_in(places: &[usize], place: usize) -> usize
     ensures { result ≡ slice_index_or places.now place 0 }
 {
@@ -95,7 +108,7 @@ pub(crate) fn check_key(
         (RefusesKey (asked_by judging (operations history.now)) (view group.now.key)) }
     ensures alone { IsErrOf result KeysError.Thread → ⊥ }
 {
-    let part = part_of(alloc, history, &group.places)?;
+    let part = history_of(alloc, history, group)?;
     match check_history(alloc, &part, judging) {
         Ok(found) => Ok(found),
         Err(error) => Err(error_in(&group.places, error)),

@@ -7,9 +7,10 @@ ghost use Rattle.jh_ops.specs.Operation.{operation, operations};
 ghost use Rattle.jh_check.specs.Asked as asked;
 ghost use Rattle.jh_check.specs.Distinct as distinct;
 ghost use Rattle.jh_check.specs.Distinct.{Ascends};
+ghost use Rattle.jh_keys.specs.Histories.{RefusesSplit};
 ghost use Rattle.jh_keys.specs.Keys as rule;
 ghost use Rattle.jh_keys.specs.Keys.{AreTuples, IsFirstBad};
-ghost use Rattle.jh_keys.specs.SplitInside.{RefusesSplit, groups_in, groups_of, is_key_below, keyed_in, keys_in, view_group, view_groups, view_keyed, with_key};
+ghost use Rattle.jh_keys.specs.SplitInside.{groups_in, groups_of, is_key_below, keyed_in, keys_in, view_group, view_groups, view_keyed, with_key};
 
 use crate::error::KeysError;
 use jh_edn::Value;
