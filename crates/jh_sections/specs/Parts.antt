@@ -36,7 +36,7 @@ pub record AreApart (text : List ℕ) (history : List Operation) (below : List �
   pub none : TellsNone text
   pub at : ℕ
   pub line : IsFirstLine text at
-  pub told : IsHistoryOf (take at text) history
+  pub parsed : IsHistoryOf (take at text) history
   pub rest : below ≡ drop at text
 
 -- The text is a history as a whole, with nothing below, or in two parts.

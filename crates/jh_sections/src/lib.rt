@@ -2,10 +2,12 @@
 //! sections that are made of it.
 #![tactic(auto)]
 
+mod key_sections;
 mod parts;
 mod section;
 mod window;
 
+pub use key_sections::sections_of_keys;
 pub use parts::{Parts, history_and_rest, read_parts};
 pub use section::section_of;
 pub use window::{BEFORE, Choice, MAX_SHOWN, SHOWN_AROUND};

@@ -56,7 +56,7 @@ fn parts_before(
 ) -> Result<Parts, ReadHistoryError>
     requires refused { RefusesHistoryOf text.now whole }
     requires none { TellsNone text.now }
-    ensures told { IfOk result (λ parts.
+    ensures parsed { IfOk result (λ parts.
         ArePartsOf text.now (operations parts.history.items) parts.below.items) }
     ensures writable { IfOk result (λ parts.
         All (λ op. IsWritable op.process) parts.history.items) }
@@ -80,7 +80,7 @@ fn parts_before(
 ///
 /// Reads the text at most twice, looks for that line once, and copies what is below.
 pub fn history_and_rest(alloc: Global, text: &str) -> Result<Parts, ReadHistoryError>
-    ensures told { IfOk result (λ parts.
+    ensures parsed { IfOk result (λ parts.
         ArePartsOf text.now (operations parts.history.items) parts.below.items) }
     ensures writable { IfOk result (λ parts.
         All (λ op. IsWritable op.process) parts.history.items) }
@@ -106,7 +106,7 @@ pub fn read_parts<R: Read>(
     reader: &mut R,
     turns: u32,
 ) -> Result<Parts, ReadHistoryError>
-    ensures told { IfOk result (λ parts. IfSome (R.remaining reader.old) (λ bytes.
+    ensures parsed { IfOk result (λ parts. IfSome (R.remaining reader.old) (λ bytes.
         ArePartsOf bytes (operations parts.history.items) parts.below.items)) }
     ensures writable { IfOk result (λ parts.
         All (λ op. IsWritable op.process) parts.history.items) }
