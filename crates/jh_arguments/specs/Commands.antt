@@ -85,6 +85,7 @@ IsJudging options (Some judging) =
 -- the options of `timeline` ask this
 pub record AsksTimeline (options : List Row) (question : TimelineQuestion) : Type 0 where
   pub judging : IsJudging options question.judging
+  pub independent : IsFlag (one_of (codes "independent") options) question.independent
   pub from : IsIndex (one_of (codes "from") options) question.choice.from
   pub to : IsIndex (one_of (codes "to") options) question.choice.to
 

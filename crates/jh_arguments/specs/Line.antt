@@ -52,8 +52,8 @@ check names =
 
 abbrev pub timeline : Bor (List (Bor Text)) → App
 timeline names =
-    with_rule (with_rule (with_rule (with_rule (with_rule (new_app (codes "timeline")) (workload names)) initial)
-    (budget (codes "100000"))) (index (codes "from"))) (index (codes "to"))
+    with_rule (with_rule (with_rule (with_rule (with_rule (with_rule (new_app (codes "timeline")) (workload names)) initial)
+    (budget (codes "100000"))) (flag (codes "independent"))) (index (codes "from"))) (index (codes "to"))
 
 abbrev pub shrink : App
 shrink = with_rule (new_app (codes "shrink")) (budget (codes "10000"))

@@ -7,7 +7,8 @@ ghost use Rattle.clap.specs.Words.{found_of, one_of, rows_of, subcommand_rows_of
 ghost use Rattle.jh_cli.specs.CheckText.{TakesInitial};
 ghost use Rattle.jh_cli.specs.declared.error.CliError.TheVariants as CliError;
 ghost use Rattle.jh_arguments.specs.Commands as text;
-ghost use Rattle.jh_arguments.specs.Commands.{Asks, AsksFor, AsksTimeline, IsIndex, IsJudging, IsJudgingBy, IsNumber};
+ghost use Rattle.jh_arguments.specs.Commands.{Asks, AsksFor, AsksTimeline, IsFlag, IsIndex, IsInitial};
+ghost use Rattle.jh_arguments.specs.Commands.{IsJudging, IsJudgingBy, IsNumber};
 ghost use Rattle.jh_arguments.specs.Commands.{IsTextOf, IsThreads, Refuses, TakesThreads};
 ghost use Rattle.jh_arguments.specs.declared.commands.Command.{Command};
 ghost use Rattle.jh_arguments.specs.declared.commands.Command.TheVariants.{Check};
@@ -46,7 +47,7 @@ pub enum Command {
 
 /// The command that the arguments ask for. `parse` has seen to it that there is one.
 pub fn command_of(matches: &ArgMatches<'_>) -> Option<Command>
-    ensures told { IfSome result (AsksFor (subcommand_rows_of matches.now)) }
+    ensures parsed { IfSome result (AsksFor (subcommand_rows_of matches.now)) }
     ensures threads { IfSome result TakesThreads }
     ensures taken { IsNone result → (command : Command) → AsksFor (subcommand_rows_of matches.now) command → ⊥ }
 {
@@ -63,16 +64,16 @@ pub fn command_of(matches: &ArgMatches<'_>) -> Option<Command>
 /// What the options of `check` ask for. `parse` has seen to it that the workload is one of the four, that the budget is a
 /// number, and that the number of threads is from 1 to 16.
 pub fn question_of(options: &ArgMatches<'_>) -> Option<Question>
-    ensures told { IfSome result (Asks (rows_of (found_of options.now))) }
+    ensures parsed { IfSome result (Asks (rows_of (found_of options.now))) }
     ensures taken { IsNone result → (question : Question) → Asks (rows_of (found_of options.now)) question → ⊥ }
 {
     let workload = workload_of(options.get_str("workload")?)?;
     Some(Question {
         workload,
-        initial: options.get_one::<i64>("initial"),
+        initial: initial_of(options),
         budget: number_of(options, "budget")?,
-        explain: options.get_flag("explain"),
-        independent: options.get_flag("independent"),
+        explain: flag_of(options, "explain"),
+        independent: flag_of(options, "independent"),
         threads: threads_of(options)?,
     })
 }
@@ -84,8 +85,10 @@ pub fn timeline_question_of(options: &ArgMatches<'_>) -> Option<TimelineQuestion
     ensures taken { IsNone result → (question : TimelineQuestion)
         → AsksTimeline (rows_of (found_of options.now)) question → ⊥ }
 {
+    let independent = flag_of(options, "independent");
     Some(TimelineQuestion {
         judging: judging_of(options)?,
+        independent,
         choice: Choice {
             from: index_of(options, "from"),
             to: index_of(options, "to"),
@@ -113,9 +116,23 @@ fn judging_by(options: &ArgMatches<'_>, name: &str) -> Option<TimelineJudging>
 {
     Some(TimelineJudging {
         workload: workload_of(name)?,
-        initial: options.get_one::<i64>("initial"),
+        initial: initial_of(options),
         budget: number_of(options, "budget")?,
     })
+}
+
+/// The initial value that is given, if it is.
+fn initial_of(options: &ArgMatches<'_>) -> Option<i64>
+    ensures { IsInitial (one_of (codes "initial") (rows_of (found_of options.now))) result }
+{
+    options.get_one::<i64>("initial")
+}
+
+/// Whether a flag is there.
+fn flag_of(options: &ArgMatches<'_>, name: &str) -> bool
+    ensures { IsFlag (one_of name.now (rows_of (found_of options.now))) result }
+{
+    options.get_flag(name)
 }
 
 /// The index that an option gives, if it is there.
@@ -127,7 +144,7 @@ fn index_of(options: &ArgMatches<'_>, name: &str) -> Option<usize>
 
 /// The number that an option gives.
 fn number_of(options: &ArgMatches<'_>, name: &str) -> Option<u64>
-    ensures told { IfSome result (IsNumber (one_of name.now (rows_of (found_of options.now)))) }
+    ensures parsed { IfSome result (IsNumber (one_of name.now (rows_of (found_of options.now)))) }
     ensures taken { IsNone result → (number : ℕ)
         → IsNumber (one_of name.now (rows_of (found_of options.now))) number → ⊥ }
 {
@@ -136,7 +153,7 @@ fn number_of(options: &ArgMatches<'_>, name: &str) -> Option<u64>
 
 /// How many threads options give.
 fn threads_of(options: &ArgMatches<'_>) -> Option<u32>
-    ensures told { IfSome result (IsThreads (one_of (codes "threads") (rows_of (found_of options.now)))) }
+    ensures parsed { IfSome result (IsThreads (one_of (codes "threads") (rows_of (found_of options.now)))) }
     ensures taken { IsNone result → (threads : ℕ)
         → IsThreads (one_of (codes "threads") (rows_of (found_of options.now))) threads → ⊥ }
 {
@@ -150,7 +167,7 @@ fn threads_of(options: &ArgMatches<'_>) -> Option<u32>
 
 /// The workload of this name.
 fn workload_of(name: &str) -> Option<Workload>
-    ensures told { IfSome result (λ workload. name.now ≡ text.name_of workload) }
+    ensures parsed { IfSome result (λ workload. name.now ≡ text.name_of workload) }
     ensures taken { IsNone result → (workload : Workload) → name.now ≡ text.name_of workload → ⊥ }
 {
     match name {

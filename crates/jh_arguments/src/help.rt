@@ -59,7 +59,8 @@ Examples:
 pub(crate) const TIMELINE: &str = "\
 It writes an HTML page: each operation as a bar, each fault as a line, and with --workload what
 the checker finds, on top and as marks. It reads what run prints as well. Of more than 2,000
-records it shows 1,000, around the first mark, unless --from or --to choose others.
+records it shows 1,000, around the first mark, unless --from or --to choose others. With
+--independent each key has a section of its own, those of keys that are not valid first.
 
 Exit status: 0 valid or not judged, 1 not valid, 2 unknown, 3 refused arguments or input,
 4 where memory ran out, or a read or a write failed

@@ -89,12 +89,18 @@ fn timeline_command<'a>(alloc: Global, names: &'static [&'static str]) -> Result
     ensures timeline { IfOk result (λ timeline. app_of timeline ≡ text.timeline names.entry) }
     ensures memory { IfErr result (λ e. kind_of e ≡ ErrorKind.OutOfMemory) }
 {
+    let independent = flag_option(
+        alloc,
+        "independent",
+        "Shows each key by itself; values are tuples of a key and a value",
+    );
     let timeline = Command::new(alloc, "timeline")
         .about("Writes a page that shows a history, which is read from standard input as EDN")
         .after_help(help::TIMELINE)
         .arg(workload_option(alloc, names))?
         .arg(initial_option(alloc))?
         .arg(judge_option(alloc))?
+        .arg(independent)?
         .arg(index_option(alloc, "from", "The first record that is shown, from 0"))?
         .arg(index_option(alloc, "to", "The record behind the last one that is shown"))?;
     Ok(timeline)

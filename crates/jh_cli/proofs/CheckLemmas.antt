@@ -1,5 +1,5 @@
 -- Why `check` refuses an input, from why its history is not read or not judged.
-use Rattle.std.proofs.Common.{◌≡◌, ℕ, Bool, true, false, List, refl, sym, subst}
+use Rattle.std.proofs.Common.{ℕ, Bool, true, false, List, refl, sym, subst}
 use Rattle.jh_check.specs.declared.error.CheckError.{CheckError}
 use Rattle.jh_check.specs.declared.error.CheckError.TheVariants as CheckErrors
 use Rattle.jh_edn.specs.declared.error.EdnError.{EdnError}
@@ -57,7 +57,7 @@ by_checker (CheckErrors.BadValue place) = tt
 by_checker (CheckErrors.NegativeAdd place) = tt
 by_checker CheckErrors.OutOfMemory = tt
 
-by_keys : (error : KeysError) → IsJudging (keys_error error)
+pub by_keys : (error : KeysError) → IsJudging (keys_error error)
 by_keys (KeysErrors.BadValue place) = tt
 by_keys (KeysErrors.Key error) = by_checker error
 by_keys KeysErrors.Thread = tt

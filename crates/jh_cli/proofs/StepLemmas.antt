@@ -1,4 +1,4 @@
--- Steps that are told one after another.
+-- Steps that are parsed one after another.
 use Rattle.std.proofs.Common.{◌≡◌, ℕ, suc, ◌+◌, ◌<◌, List, [], ◌∷◌, ◌++◌, length, take, drop, get_or, ap, sym, ◌∙◌, arith, drop-cons, inl, inr}
 use Rattle.std.specs.Prelude.{map, ◌⊎◌, Some, Ok, Err, IsOk, pos, slice_get}
 use Rattle.std.proofs.lemmas.Option.{slice_get_within, get_or_from_slice_get}
@@ -19,7 +19,7 @@ use Rattle.jh_cli.specs.declared.error.CliError.{CliError}
 has_step_error : (names : List (List ℕ)) (values : List Value) (i : ℕ) (v : Value) (steps : List Step) (error : StepTextError.the_data)
     → i < length values → v ≡ get_or values i v → map (parsed_step names) (views (take i values)) ≡ map Ok steps
     → parsed_step names (view v) ≡ Err error → HasStepError names (views values) (i + 2) error
-has_step_error names values i v steps error below is told in_error =
+has_step_error names values i v steps error below is parsed in_error =
     let seam : values ≡ take i values ++ (v ∷ drop (suc i) values) =
     sym (take-append-drop i values) ∙ ap (λ r. take i values ++ r) (rw (← is) at (drop-cons values i v below)) in
     let size : length (views (take i values)) ≡ i = length-map (take i values) view ∙ length-take-le i values (omega arith) in
@@ -29,7 +29,7 @@ has_step_error names values i v steps error below is told in_error =
       after = views (drop (suc i) values);
       parts = ap views seam ∙ map-append view (take i values) (v ∷ drop (suc i) values);
       steps = steps;
-      told = told;
+      parsed = parsed;
       in_error = in_error;
       place_is = omega (arith, size);
     }
@@ -39,13 +39,13 @@ pub refuses_element : (names : List (List ℕ)) (values : List Value) (i : ℕ) 
     → i < length values → v ≡ get_or values i v → map (parsed_step names) (views (take i values)) ≡ map Ok steps
     → (parsed_step names (view v) ≡ Err error) ⊎ ((error ≡ StepTextError.OutOfMemory) × IsOk (parsed_step names (view v)))
     → e ≡ step_error (i + 2) error → RefusesSteps names (views values) e
-refuses_element names values i v steps StepTextError.OutOfMemory e below is told answer named = rw named tt
-refuses_element names values i v steps StepTextError.BadStep e below is told (inl at) named = rw named (has_step_error names values i v steps StepTextError.BadStep below is told at)
-refuses_element names values i v steps StepTextError.BadId e below is told (inl at) named = rw named (has_step_error names values i v steps StepTextError.BadId below is told at)
-refuses_element names values i v steps StepTextError.UnknownNode e below is told (inl at) named = rw named (has_step_error names values i v steps StepTextError.UnknownNode below is told at)
-refuses_element names values i v steps StepTextError.SelfLink e below is told (inl at) named = rw named (has_step_error names values i v steps StepTextError.SelfLink below is told at)
-refuses_element names values i v steps StepTextError.BadAmount e below is told (inl at) named = rw named (has_step_error names values i v steps StepTextError.BadAmount below is told at)
-refuses_element names values i v steps error e below is told (inr memory) named = absurd (let bad = memory.0 in cc)
+refuses_element names values i v steps StepTextError.OutOfMemory e below is parsed answer named = rw named tt
+refuses_element names values i v steps StepTextError.BadStep e below is parsed (inl at) named = rw named (has_step_error names values i v steps StepTextError.BadStep below is parsed at)
+refuses_element names values i v steps StepTextError.BadId e below is parsed (inl at) named = rw named (has_step_error names values i v steps StepTextError.BadId below is parsed at)
+refuses_element names values i v steps StepTextError.UnknownNode e below is parsed (inl at) named = rw named (has_step_error names values i v steps StepTextError.UnknownNode below is parsed at)
+refuses_element names values i v steps StepTextError.SelfLink e below is parsed (inl at) named = rw named (has_step_error names values i v steps StepTextError.SelfLink below is parsed at)
+refuses_element names values i v steps StepTextError.BadAmount e below is parsed (inl at) named = rw named (has_step_error names values i v steps StepTextError.BadAmount below is parsed at)
+refuses_element names values i v steps error e below is parsed (inr memory) named = absurd (let bad = memory.0 in cc)
 
 -- the id of one more active error
 pub one_more_id : (active : Active) (i : ℕ) (id : ℕ) (f : FaultValue) → slice_get active i ≡ Some (id, f)

@@ -1,14 +1,20 @@
 -- Why `timeline` refuses an input, from why its parts are not read or its history is not judged.
-use Rattle.std.proofs.Common.{◌≡◌, ℕ, ◌⊎◌, List, Option, Some, None, inl, inr, refl, sym, subst}
+use Rattle.std.proofs.Common.{◌≡◌, ℕ, Bool, true, false, List, Option, Some, None, inl, inr, refl, sym, subst}
 use Rattle.jh_edn.specs.declared.error.EdnError.TheVariants as edn
 use Rattle.jh_histories.specs.declared.error.ReadHistoryError.{ReadHistoryError}
 use Rattle.jh_histories.specs.declared.error.ReadHistoryError.TheVariants as reading
+use Rattle.jh_check.specs.declared.error.CheckError.TheVariants as CheckErrors
+use Rattle.jh_keys.specs.Histories.{RefusesSplit}
+use Rattle.jh_keys.specs.Refusals.{RefusesKeys, asked_by}
+use Rattle.jh_keys.specs.declared.error.KeysError.{KeysError}
+use Rattle.jh_keys.specs.declared.error.KeysError.TheVariants as KeysErrors
 use Rattle.jh_ops.specs.Operation.{Operation}
 use Rattle.jh_ops.specs.declared.history.HistoryError.TheVariants as history_errors
 use Rattle.jh_sections.specs.Parts.{ArePartsOf, RefusesParts}
-use Rattle.jh_cli.proofs.CheckLemmas.{IsJudging, by_checker}
-use Rattle.jh_cli.specs.Status.{reading_error}
-use Rattle.jh_cli.specs.TimelineRefusals.{RefusesFinding, RefusesPage, RefusesTimeline}
+use Rattle.jh_cli.proofs.CheckLemmas.{IsJudging, by_checker, by_keys}
+use Rattle.jh_cli.specs.Status.{keys_error, reading_error}
+use Rattle.jh_cli.specs.TimelineRefusals.{RefusesFinding, RefusesPage, RefusesShowing, RefusesTimeline}
+use Rattle.jh_cli.specs.TimelineText.{judging_of}
 use Rattle.jh_cli.specs.declared.error.CliError.{CliError}
 use Rattle.jh_cli.specs.declared.error.CliError.TheVariants.{Input, EnvironmentMissing, Environment, Element, History, Check, Settings, Run, HistoryFull, Mismatch, Thread, OnlyForRegister, Read, Write, OutOfMemory}
 use Rattle.jh_cli.specs.declared.timeline_command.TimelineJudging.{TimelineJudging}
@@ -46,24 +52,50 @@ parts_refused question input (reading.History (history_errors.Op place why)) ref
 
 -- ---- a history is not judged
 
-by_finding : (judging : Option TimelineJudging) (history : List Operation) (e : CliError) → RefusesFinding judging history e → IsJudging e
-by_finding None history e refused = absurd refused
-by_finding (Some by) history e refused = subst IsJudging (sym refused.2) (by_checker refused.0)
+by_finding : (independent : Bool) (judging : Option TimelineJudging) (history : List Operation) (e : CliError) → RefusesFinding independent judging history e → IsJudging e
+by_finding true None history e refused = subst IsJudging (sym refused.2) (by_keys refused.0)
+by_finding true (Some by) history e refused = subst IsJudging (sym refused.3) (by_keys refused.0)
+by_finding false None history e refused = absurd refused
+by_finding false (Some by) history e refused = subst IsJudging (sym refused.2) (by_checker refused.0)
 
 pub page_refused : (question : TimelineQuestion) (input : List ℕ) (history : List Operation) (below : List ℕ) (e : CliError) → ArePartsOf input history below → RefusesPage question history e
     → RefusesTimeline question input e
-page_refused question input history below (Input error) parts refused = absurd (by_finding question.judging history (Input error) refused)
+page_refused question input history below (Input error) parts refused = absurd (by_finding question.independent question.judging history (Input error) refused)
 page_refused question input history below EnvironmentMissing parts refused = (history, below, parts, refused)
 page_refused question input history below (Environment error) parts refused = (history, below, parts, refused)
 page_refused question input history below (Element place error) parts refused = (history, below, parts, refused)
-page_refused question input history below (History error) parts refused = absurd (by_finding question.judging history (History error) refused)
+page_refused question input history below (History error) parts refused = absurd (by_finding question.independent question.judging history (History error) refused)
 page_refused question input history below (Check error) parts refused = (history, below, parts, refused)
 page_refused question input history below (Settings error) parts refused = (history, below, parts, refused)
 page_refused question input history below (Run error) parts refused = (history, below, parts, refused)
 page_refused question input history below HistoryFull parts refused = (history, below, parts, refused)
 page_refused question input history below Mismatch parts refused = (history, below, parts, refused)
 page_refused question input history below Thread parts refused = (history, below, parts, refused)
-page_refused question input history below OnlyForRegister parts refused = absurd (by_finding question.judging history OnlyForRegister refused)
+page_refused question input history below OnlyForRegister parts refused = absurd (by_finding question.independent question.judging history OnlyForRegister refused)
 page_refused question input history below Read parts refused = tt
-page_refused question input history below Write parts refused = absurd (by_finding question.judging history Write refused)
+page_refused question input history below Write parts refused = absurd (by_finding question.independent question.judging history Write refused)
 page_refused question input history below OutOfMemory parts refused = tt
+
+-- ---- keys are not judged, or not split
+
+pub keys_refused : (by : TimelineJudging) (history : List Operation) (error : KeysError) → RefusesKeys (asked_by (judging_of by) history) error → (error ≡ KeysErrors.Thread → ⊥)
+    → RefusesShowing true (Some by) history (keys_error error)
+keys_refused by history (KeysErrors.BadValue place) refused other = (KeysErrors.BadValue place, refused, other, refl)
+keys_refused by history (KeysErrors.Key (CheckErrors.Pair error)) refused other = (KeysErrors.Key (CheckErrors.Pair error), refused, other, refl)
+keys_refused by history (KeysErrors.Key (CheckErrors.BadValue place)) refused other = (KeysErrors.Key (CheckErrors.BadValue place), refused, other, refl)
+keys_refused by history (KeysErrors.Key (CheckErrors.NegativeAdd place)) refused other = (KeysErrors.Key (CheckErrors.NegativeAdd place), refused, other, refl)
+keys_refused by history (KeysErrors.Key CheckErrors.OutOfMemory) refused other = tt
+keys_refused by history KeysErrors.Thread refused other = absurd (other refl)
+keys_refused by history KeysErrors.OutOfMemory refused other = tt
+
+pub split_judged : (by : TimelineJudging) (history : List Operation) (error : KeysError) → RefusesSplit history error → RefusesShowing true (Some by) history (keys_error error)
+split_judged by history (KeysErrors.BadValue place) refused = (KeysErrors.BadValue place, refused, (λ e. cc), refl)
+split_judged by history (KeysErrors.Key error) refused = absurd refused
+split_judged by history KeysErrors.Thread refused = absurd refused
+split_judged by history KeysErrors.OutOfMemory refused = tt
+
+pub split_unjudged : (history : List Operation) (error : KeysError) → RefusesSplit history error → RefusesShowing true None history (keys_error error)
+split_unjudged history (KeysErrors.BadValue place) refused = (KeysErrors.BadValue place, refused, refl)
+split_unjudged history (KeysErrors.Key error) refused = absurd refused
+split_unjudged history KeysErrors.Thread refused = absurd refused
+split_unjudged history KeysErrors.OutOfMemory refused = tt

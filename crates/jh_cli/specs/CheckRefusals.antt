@@ -5,7 +5,7 @@ use Rattle.jh_edn.specs.Edn.{Edn}
 use Rattle.jh_edn.specs.Spelling.{SpellsAll}
 use Rattle.jh_edn.specs.Refused as edn
 use Rattle.jh_ops.specs.Operation.{Operation}
-use Rattle.jh_ops.specs.HistoryText as told
+use Rattle.jh_ops.specs.HistoryText as histories
 use Rattle.jh_ops.specs.declared.call.Workload.{Workload}
 use Rattle.jh_check.specs.declared.error.CheckError.{CheckError}
 use Rattle.jh_check.specs.declared.error.CheckError.TheVariants as CheckErrors
@@ -44,10 +44,10 @@ RefusesJudging question history e = RefusesBy question.independent (judging_of q
 -- why values are refused
 abbrev pub RefusesValues : Question → List Edn → CliError → Type 0
 RefusesValues question values (History error) =
-    IsHistoryError error × told.RefusesValues values error
+    IsHistoryError error × histories.RefusesValues values error
 RefusesValues question values OutOfMemory = Unit {0}
 RefusesValues question values e =
-    (history : List Operation) × told.AreParsed values history × RefusesBy question.independent (judging_of question) history e
+    (history : List Operation) × histories.AreParsed values history × RefusesBy question.independent (judging_of question) history e
 
 -- Why an input is refused, where for its text then for its first error. A failed read and out of memory may come with any
 -- input; a failed write comes only where there is something to write.

@@ -48,7 +48,7 @@ pub record Tells (values : List Edn) (env : EnvValue) (steps : List Step) : Type
   pub parts : values ≡ first ∷ others
   pub environment : IsTextOf first env.names env.start
   pub at_start : StandsFor env []
-  pub steps_told : map (parsed_step env.names) others ≡ map Ok steps
+  pub steps_parsed : map (parsed_step env.names) others ≡ map Ok steps
 
 -- the environment is what is active in the state makes of its start
 pub record IsEnvOf (state : State) (env : EnvValue) : Type 0 where

@@ -26,7 +26,7 @@ pub record HasStepError (names : List (List ℕ)) (values : List Edn) (place : �
   pub after : List Edn
   pub parts : values ≡ before ++ (value ∷ after)
   pub steps : List Step
-  pub told : map (parsed_step names) before ≡ map Ok steps
+  pub parsed : map (parsed_step names) before ≡ map Ok steps
   pub in_error : parsed_step names value ≡ Err error
   pub place_is : place ≡ length before + first_step
 

@@ -1,6 +1,6 @@
 -- Why `jeprun shrink` refuses an input (this project's own). A run that is refused is want of memory, for which a smaller schedule
 -- is no answer.
-use Rattle.std.specs.Prelude.{◌≡◌, ℕ, List, ⊤}
+use Rattle.std.specs.Prelude.{ℕ, List, ⊤}
 use Rattle.jh_edn.specs.Refused.{IsReaderError}
 use Rattle.jh_settings.specs.Settings as settings
 use Rattle.jh_cli.specs.ShrinkText.{IsShrinkTextOf}

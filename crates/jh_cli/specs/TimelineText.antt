@@ -1,13 +1,17 @@
 -- What `jeprun timeline` writes: a page that shows a history, with what its checker finds in it (this project's own).
-use Rattle.std.specs.Prelude.{◌≡◌, ℕ, true, List, [], ◌∷◌, codes, IsSomeAnd, Option, Some, None}
+use Rattle.std.specs.Prelude.{◌≡◌, ℕ, Bool, true, false, List, [], ◌∷◌, codes, IsSomeAnd, Option, Some, None}
 use Rattle.jh_keys.specs.Findings.{Found, IsFinding, verdict_of}
-use Rattle.jh_keys.specs.Lines.{finding_line}
+use Rattle.jh_keys.specs.Lines.{finding_line, keys_line, verdict_of_all}
+use Rattle.jh_keys.specs.Refusals.{AreFindings, asked_by}
 use Rattle.jh_keys.specs.declared.finding.Judging.{Judging}
+use Rattle.jh_keys.specs.declared.serial.KeyFinding.{KeyFinding}
 use Rattle.jh_ops.specs.Operation.{Operation}
 use Rattle.jh_pages.specs.Page.{page_text}
 use Rattle.jh_pages.specs.declared.section.Section.{Section}
+use Rattle.jh_sections.specs.KeySections.{AreSectionsOf}
 use Rattle.jh_sections.specs.Parts.{ArePartsOf}
 use Rattle.jh_sections.specs.Sections.{IsSectionOf}
+use Rattle.jh_sections.specs.declared.window.Choice.{Choice}
 use Rattle.jh_cli.specs.CheckText as check
 use Rattle.jh_cli.specs.CheckText.{TakesInitial}
 use Rattle.jh_cli.specs.declared.timeline_command.TimelineJudging.{TimelineJudging}
@@ -37,16 +41,54 @@ abbrev pub status_of : Option Found → ℕ
 status_of None = 0
 status_of (Some found) = check.status_of (verdict_of found.finding)
 
--- what a page shows of a history: a line on top, and one section, which has no heading
-pub record Shows (question : TimelineQuestion) (history : List Operation) (status : ℕ) (line : List ℕ) (sections : List Section)
-    : Type 0 where
+-- what a page shows of a history as one: a line on top, and one section, which has no heading
+pub record ShowsWhole
+    (judging : Option TimelineJudging) (choice : Choice) (history : List Operation) (status : ℕ) (line : List ℕ)
+    (sections : List Section) : Type 0 where
   pub found : Option Found
-  pub judged : IsFoundBy question.judging history found
+  pub judged : IsFoundBy judging history found
   pub section : Section
-  pub shown : IsSectionOf [] history found question.choice section
+  pub shown : IsSectionOf [] history found choice section
   pub alone : sections ≡ section ∷ []
-  pub told : line ≡ line_of found
+  pub top : line ≡ line_of found
   pub ended : status ≡ status_of found
+
+-- ---- independent keys
+
+-- what is found of each key of a history, if they are judged
+abbrev pub AreFoundBy : Option TimelineJudging → List Operation → Option (List KeyFinding) → Type 0
+AreFoundBy None history findings = findings ≡ None
+AreFoundBy (Some by) history findings = IsSomeAnd findings (AreFindings (asked_by (judging_of by) history))
+
+-- the line on top: that of what is found of all keys, or that here is a history
+abbrev pub keys_line_of : Option (List KeyFinding) → List ℕ
+keys_line_of None = codes "A history"
+keys_line_of (Some findings) = keys_line findings
+
+-- the exit status: that of the verdict on all keys, if there is one
+abbrev pub keys_status_of : Option (List KeyFinding) → ℕ
+keys_status_of None = 0
+keys_status_of (Some findings) = check.status_of (verdict_of_all findings)
+
+-- what a page shows of a history of independent keys: a line on top, and a section for each key
+pub record ShowsKeys
+    (judging : Option TimelineJudging) (choice : Choice) (history : List Operation) (status : ℕ) (line : List ℕ)
+    (sections : List Section) : Type 0 where
+  pub findings : Option (List KeyFinding)
+  pub judged : AreFoundBy judging history findings
+  pub shown : AreSectionsOf history choice findings sections
+  pub top : line ≡ keys_line_of findings
+  pub ended : status ≡ keys_status_of findings
+
+-- ---- the page
+
+-- by keys, if they are independent, or as one
+abbrev pub ShowsBy : Bool → TimelineQuestion → List Operation → ℕ → List ℕ → List Section → Type 0
+ShowsBy true question history status line sections = ShowsKeys question.judging question.choice history status line sections
+ShowsBy false question history status line sections = ShowsWhole question.judging question.choice history status line sections
+
+abbrev pub Shows : TimelineQuestion → List Operation → ℕ → List ℕ → List Section → Type 0
+Shows question history status line sections = ShowsBy question.independent question history status line sections
 
 -- the page of a history, with a text below
 abbrev pub IsPage : TimelineQuestion → List Operation → List ℕ → ℕ → List ℕ → Type 0

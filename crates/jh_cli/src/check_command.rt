@@ -5,7 +5,8 @@
 ghost use Rattle.std.specs.Prelude.{◌≡◌, ◌≢◌, ◌↔◌, ◌≤◌, ℕ, List, IfOk, IfErr, IfSome, IsErrOf, MatchResult};
 ghost use Rattle.std.specs.Io.KnownBytes.{Appends};
 ghost use Rattle.jh_ops.specs.Operation.{operations};
-ghost use Rattle.jh_keys.specs.Lines.{finding_line};
+ghost use Rattle.jh_keys.specs.Lines as lines;
+ghost use Rattle.jh_keys.specs.Lines.{finding_line, keys_line};
 ghost use Rattle.jh_cli.specs.CheckRefusals.{RefusesByKeys, RefusesCheck, RefusesJudging, RefusesWhole};
 ghost use Rattle.jh_cli.specs.CheckText as text;
 ghost use Rattle.jh_cli.specs.CheckText.{IsCheckTextOf, IsHistoryText, IsJudgement, IsKeysJudgement, TakesInitial};
@@ -15,7 +16,8 @@ use crate::error::CliError;
 use jh_check::Verdict;
 use jh_histories::read_history;
 use jh_keys::{
-    Found, Judging, check_history, check_keys, verdict_of_all, write_finding, write_findings,
+    Found, Judging, KeyFinding, check_history, check_keys, verdict_of_all, write_finding,
+    write_findings,
 };
 use jh_ops::{Op, Workload};
 use std::alloc::{AllocError, Global};
@@ -101,7 +103,7 @@ pub(crate) fn status_of(verdict: Verdict) -> u8
     }
 }
 
-// What a history is judged by.
+/// What a history is judged by.
 fn judging_of(question: Question) -> Judging
     ensures { result ≡ text.judging_of question }
 {
@@ -113,7 +115,7 @@ fn judging_of(question: Question) -> Judging
     }
 }
 
-// What is found in a history, with the line feed.
+/// What is found in a history, with the line feed.
 fn judge_history<T: Threads + Wait + Sync>(
     rt: &T,
     alloc: Global,
@@ -139,7 +141,7 @@ fn judge_history<T: Threads + Wait + Sync>(
     Ok(found)
 }
 
-// What is found in a history as one.
+/// What is found in a history as one.
 pub(crate) fn judge(alloc: Global, history: &[Op], judging: Judging) -> Result<Judgement, CliError>
     ensures { MatchResult result
         (λ found. IsJudgement judging (operations history.now) found.verdict found.text.items)
@@ -153,7 +155,7 @@ pub(crate) fn judge(alloc: Global, history: &[Op], judging: Judging) -> Result<J
     })
 }
 
-// The line of what is found in a history as one.
+/// The line of what is found in a history as one.
 pub(crate) fn line_of(alloc: Global, found: &Found) -> Result<Vec<u8>, AllocError>
     ensures { IfOk result (λ text. text.items ≡ finding_line found.now) }
 {
@@ -164,7 +166,7 @@ pub(crate) fn line_of(alloc: Global, found: &Found) -> Result<Vec<u8>, AllocErro
     }
 }
 
-// What is found in the history of each key.
+/// What is found in the history of each key.
 fn judge_keys<T: Threads + Wait + Sync>(
     rt: &T,
     alloc: Global,
@@ -179,9 +181,22 @@ fn judge_keys<T: Threads + Wait + Sync>(
 {
     let found = check_keys(rt, alloc, history, judging, threads)?;
     let verdict = verdict_of_all(alloc, &found)?;
-    let mut text = Vec::new(alloc);
-    if write_findings(verdict, &found, &mut text).is_err() {
-        return Err(CliError::OutOfMemory);
-    }
+    let text = keys_line_of(alloc, verdict, &found)?;
     Ok(Judgement { verdict, text })
+}
+
+/// The line of what is found of all keys, with the verdict on them.
+pub(crate) fn keys_line_of(
+    alloc: Global,
+    verdict: Verdict,
+    found: &[KeyFinding],
+) -> Result<Vec<u8>, AllocError>
+    requires { verdict ≡ lines.verdict_of_all found.now }
+    ensures { IfOk result (λ text. text.items ≡ keys_line found.now) }
+{
+    let mut text = Vec::new(alloc);
+    match write_findings(verdict, found, &mut text) {
+        Ok(()) => Ok(text),
+        Err(_) => Err(AllocError),
+    }
 }

@@ -55,7 +55,7 @@ pub fn env_run<R: Read, W: Write>(
     }
 }
 
-// What is written for these values.
+/// What is written for these values.
 fn env_text(alloc: Global, values: &[Value]) -> Result<Vec<u8>, CliError>
     ensures { MatchResult result
         (λ output. IsEnvText (views values.now) output.items)
@@ -70,9 +70,9 @@ fn env_text(alloc: Global, values: &[Value]) -> Result<Vec<u8>, CliError>
     Ok(report(alloc, nemesis, steps)?)
 }
 
-// The steps that these values tell.
+/// The steps that these values tell.
 fn steps_of(alloc: Global, nodes: &Nodes, values: &[Value]) -> Result<Vec<Step>, CliError>
-    ensures told { MatchResult result
+    ensures parsed { MatchResult result
         (λ steps. map (parsed_step nodes.now) (views values.now) ≡ map Ok steps.items)
         (RefusesSteps nodes.now (views values.now)) }
     ensures fit { IfOk result (λ steps. All (FitsNodes (length nodes.now)) steps.items) }
@@ -87,7 +87,7 @@ fn steps_of(alloc: Global, nodes: &Nodes, values: &[Value]) -> Result<Vec<Step>,
     Ok(steps)
 }
 
-// What a refusal of the element at a place means.
+/// What a refusal of the element at a place means.
 fn element_error(place: u64, error: StepTextError) -> CliError
     ensures { result ≡ step_error place error }
 {
@@ -97,7 +97,7 @@ fn element_error(place: u64, error: StepTextError) -> CliError
     }
 }
 
-// What is written for these steps.
+/// What is written for these steps.
 fn report(alloc: Global, mut nemesis: Nemesis, steps: Vec<Step>) -> Result<Vec<u8>, AllocError>
     requires { All (StepFits nemesis.state) steps.items }
     ensures { IfOk result (λ output. IsReport nemesis.state steps.items output.items) }
@@ -109,7 +109,7 @@ fn report(alloc: Global, mut nemesis: Nemesis, steps: Vec<Step>) -> Result<Vec<u
     Ok(output)
 }
 
-// Makes the steps, and writes a line with the answer to each.
+/// Makes the steps, and writes a line with the answer to each.
 fn answer_steps(
     alloc: Global,
     nemesis: &mut Nemesis,
@@ -157,7 +157,7 @@ fn answer_line(answer: StepAnswer) -> &'static str
     }
 }
 
-// Writes the ids of the active faults, in order.
+/// Writes the ids of the active faults, in order.
 pub(crate) fn write_active(
     alloc: Global,
     nemesis: &Nemesis,
@@ -176,7 +176,7 @@ fn id_value(id: u32) -> Value
     Value::Int(i64::from(id))
 }
 
-// The ids of the active faults, in order, as a vector.
+/// The ids of the active faults, in order, as a vector.
 fn active_ids(alloc: Global, nemesis: &Nemesis) -> Result<Value, AllocError>
     ensures { IfOk result (λ ids. view ids ≡ text.ids_of nemesis.now.state.active) }
 {
@@ -199,7 +199,7 @@ pub(crate) fn write_environment(
     write_line(&value_of_env(alloc, env)?, output)
 }
 
-// Writes a value and a line feed.
+/// Writes a value and a line feed.
 pub(crate) fn write_line(value: &Value, output: &mut Vec<u8>) -> Result<(), AllocError>
     ensures { OnOk result (output.new.items ≡ output.old.items ++ line (print (view value.now))) }
 {

@@ -68,7 +68,7 @@ pub fn run_run<T: Threads + Wait + Sync, R: Read, W: Write>(
     }
 }
 
-// All that is written for these bytes, with the verdict.
+/// All that is written for these bytes, with the verdict.
 fn run_bytes<T: Threads + Wait + Sync>(
     rt: &T,
     alloc: Global,
@@ -85,7 +85,7 @@ fn run_bytes<T: Threads + Wait + Sync>(
     }
 }
 
-// All that is written of a run, with the verdict on its history.
+/// All that is written of a run, with the verdict on its history.
 fn run_text<T: Threads + Wait + Sync>(
     rt: &T,
     alloc: Global,
@@ -101,7 +101,7 @@ fn run_text<T: Threads + Wait + Sync>(
     }
 }
 
-// All that is written of a serial run.
+/// All that is written of a serial run.
 fn serial_text(alloc: Global, plan: &Plan, budget: u64) -> Result<Judgement, CliError>
     ensures { MatchResult result
         (λ found. IsSerialText plan.now budget found.verdict found.text.items)
@@ -119,7 +119,7 @@ fn serial_text(alloc: Global, plan: &Plan, budget: u64) -> Result<Judgement, Cli
     })
 }
 
-// All that is written of a run on threads.
+/// All that is written of a run on threads.
 fn threads_text<T: Threads + Wait + Sync>(
     rt: &T,
     alloc: Global,
@@ -148,13 +148,13 @@ fn threads_text<T: Threads + Wait + Sync>(
     })
 }
 
-// A run of the plan on threads, over a locked world of its own: the history and the journal.
+/// A run of the plan on threads, over a locked world of its own: the history and the journal.
 fn run_threads<T: Threads + Wait + Sync>(
     rt: &T,
     alloc: Global,
     plan: &Plan,
 ) -> Result<(Vec<Op>, Vec<Event>), ThreadsError>
-    ensures outcome { IfOk result (λ told. IsOutcome plan.now told.1.items (operations told.0.items)) }
+    ensures outcome { IfOk result (λ run. IsOutcome plan.now run.1.items (operations run.0.items)) }
 {
     let Ok(world) = world_of(alloc, plan) else {
         return Err(ThreadsError::OutOfMemory);
@@ -162,7 +162,7 @@ fn run_threads<T: Threads + Wait + Sync>(
     run_over::<Brand, T>(rt, alloc, plan, world, Blank::new(WORLD_PARTS))
 }
 
-// The same over this world, whose shares are counted by a ledger of this name.
+/// The same over this world, whose shares are counted by a ledger of this name.
 fn run_over<L: Ledger + Send + Sync, T: Threads + Wait + Sync>(
     rt: &T,
     alloc: Global,
@@ -174,7 +174,7 @@ fn run_over<L: Ledger + Send + Sync, T: Threads + Wait + Sync>(
     requires name { blank.name ≡ L.name }
     requires parts { blank.parts ≡ L.parts }
     requires number { blank.parts ≡ 32 }
-    ensures outcome { IfOk result (λ told. IsOutcome plan.now told.1.items (operations told.0.items)) }
+    ensures outcome { IfOk result (λ run. IsOutcome plan.now run.1.items (operations run.0.items)) }
 {
     let port = LockedWorld::<L>::new(world, blank);
     match run(rt, alloc, plan, &port) {
@@ -190,7 +190,7 @@ fn run_over<L: Ledger + Send + Sync, T: Threads + Wait + Sync>(
     }
 }
 
-// What a refusal of the history of a run means.
+/// What a refusal of the history of a run means.
 fn own_error(error: CliError) -> CliError
     ensures { result ≡ own_error error }
 {
@@ -200,7 +200,7 @@ fn own_error(error: CliError) -> CliError
     }
 }
 
-// What the history of a run of the plan is judged by.
+/// What the history of a run of the plan is judged by.
 pub(crate) fn own_judging(plan: &Plan, budget: u64) -> Judging
     ensures { result ≡ text.own_judging plan.now budget }
 {
@@ -212,7 +212,7 @@ pub(crate) fn own_judging(plan: &Plan, budget: u64) -> Judging
     }
 }
 
-// The judgement of the history of a run of the plan.
+/// The judgement of the history of a run of the plan.
 fn judge_own(alloc: Global, plan: &Plan, history: &[Op], budget: u64) -> Result<Judgement, CliError>
     ensures { MatchResult result
         (λ found. IsJudgement (text.own_judging plan.now budget) (operations history.now) found.verdict found.text.items)
@@ -224,7 +224,7 @@ fn judge_own(alloc: Global, plan: &Plan, history: &[Op], budget: u64) -> Result<
     }
 }
 
-// The lines of a history, of the faults that are left and what they make, and of a judgement.
+/// The lines of a history, of the faults that are left and what they make, and of a judgement.
 fn lines_of(
     alloc: Global,
     nemesis: &Nemesis,
@@ -243,7 +243,7 @@ fn lines_of(
     Ok(output)
 }
 
-// Writes a line for each operation.
+/// Writes a line for each operation.
 fn write_history(history: &[Op], output: &mut Vec<u8>) -> Result<(), AllocError>
     ensures { OnOk result (output.new.items ≡ output.old.items ++ text.history_lines (operations history.now)) }
 {
@@ -253,7 +253,7 @@ fn write_history(history: &[Op], output: &mut Vec<u8>) -> Result<(), AllocError>
     Ok(())
 }
 
-// Writes the line of an operation.
+/// Writes the line of an operation.
 fn write_operation_line(op: &Op, output: &mut Vec<u8>) -> Result<(), AllocError>
     ensures { OnOk result (output.new.items ≡ output.old.items ++ line (print (value_written (operation op.now)))) }
 {

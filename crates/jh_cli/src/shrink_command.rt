@@ -28,7 +28,7 @@ use std::io::{Read, Write};
 
 /// What is written, and the exit status.
 #[derive(Drop)]
-struct Told {
+struct Written {
     status: u8,
     text: Vec<u8>,
 }
@@ -82,22 +82,22 @@ pub fn shrink_run_observed<R: Read, W: Write, O: Observer>(
     ensures unwritten { IfErr result (λ e. e ≢ CliError.Write → writer.new ≡ writer.old) }
 {
     let input = read_bytes(alloc, reader, MAX_READS)?;
-    let told = shrink_bytes(alloc, &input, budget, observer)?;
-    match writer.write_all(&told.text) {
-        Ok(()) => Ok(told.status),
+    let written = shrink_bytes(alloc, &input, budget, observer)?;
+    match writer.write_all(&written.text) {
+        Ok(()) => Ok(written.status),
         Err(_) => Err(CliError::Write),
     }
 }
 
-// All that is written for these bytes, with the exit status.
+/// All that is written for these bytes, with the exit status.
 fn shrink_bytes<O: Observer>(
     alloc: Global,
     input: &[u8],
     budget: u64,
     observer: &mut O,
-) -> Result<Told, CliError>
+) -> Result<Written, CliError>
     ensures { MatchResult result
-        (λ told. IsShrinkTextOf input.now told.status told.text.items)
+        (λ written. IsShrinkTextOf input.now written.status written.text.items)
         (RefusesBytes input.now) }
 {
     let settings = settings_of(alloc, input)?;
@@ -105,13 +105,13 @@ fn shrink_bytes<O: Observer>(
     let Ok(shrunk) = shrink_plan(alloc, plan, settings.budget, budget, observer) else {
         return Err(CliError::OutOfMemory);
     };
-    Ok(Told {
+    Ok(Written {
         status: status_of(&shrunk),
         text: lines_of(alloc, plan.environment().nodes(), &shrunk)?,
     })
 }
 
-// What is left of the schedule of a plan, whose histories are judged by a judge of the first budget.
+/// What is left of the schedule of a plan, whose histories are judged by a judge of the first budget.
 fn shrink_plan<O: Observer>(
     alloc: Global,
     plan: &Plan,
@@ -133,7 +133,7 @@ fn shrink_plan<O: Observer>(
     }
 }
 
-// Whether the run of a plan with another schedule fails, and nothing where it is refused.
+/// Whether the run of a plan with another schedule fails, and nothing where it is refused.
 fn answer_of(alloc: Global, plan: &Plan, judging: u64, schedule: &Schedule) -> Option<bool>
     ensures { RunAnswers plan.now judging schedule.now result }
 {
@@ -146,7 +146,7 @@ fn answer_of(alloc: Global, plan: &Plan, judging: u64, schedule: &Schedule) -> O
     }
 }
 
-// Whether the run of a plan fails, and nothing where it is refused.
+/// Whether the run of a plan fails, and nothing where it is refused.
 fn fails(alloc: Global, plan: &Plan, judging: u64) -> Option<bool>
     ensures { IfSome result (IsOutcomeOf plan.now judging) }
 {
@@ -198,7 +198,7 @@ fn first_line(shrunk: &Shrunk) -> &'static str
     }
 }
 
-// All that is written of what is left.
+/// All that is written of what is left.
 fn lines_of(alloc: Global, nodes: &Nodes, shrunk: &Shrunk) -> Result<Vec<u8>, AllocError>
     requires { All (λ entry. FitsNodes (length nodes.now) entry.step) (text.schedule_of shrunk.now) }
     ensures { IfOk result (λ output. output.items ≡ text.shrunk_lines nodes.now shrunk.now) }
@@ -209,7 +209,7 @@ fn lines_of(alloc: Global, nodes: &Nodes, shrunk: &Shrunk) -> Result<Vec<u8>, Al
     Ok(output)
 }
 
-// Writes a line for each entry.
+/// Writes a line for each entry.
 fn write_entries(
     alloc: Global,
     nodes: &Nodes,

@@ -3,25 +3,27 @@
 //! `specs/TimelineRefusals.antt`.
 
 ghost use Rattle.std.specs.Prelude.{◌≡◌, ◌≢◌, ◌↔◌, ℕ, List, All, IfErr, IfOk, IfSome, IsErrOf};
-ghost use Rattle.std.specs.Prelude.{IsTrue, MatchResult};
+ghost use Rattle.std.specs.Prelude.{IsTrue, MatchResult, None, Some, false, true};
 ghost use Rattle.std.specs.Io.KnownBytes.{Appends};
 ghost use Rattle.std.specs.Option.{option_copied};
 ghost use Rattle.jh_ops.specs.Operation.{operations};
 ghost use Rattle.jh_ops.specs.OperationWritten.{IsWritable};
 ghost use Rattle.jh_pages.specs.Page as pages;
-ghost use Rattle.jh_cli.specs.TimelineRefusals.{RefusesFinding, RefusesPage, RefusesTimeline};
+ghost use Rattle.jh_cli.specs.TimelineRefusals.{RefusesFinding, RefusesPage, RefusesShowing};
+ghost use Rattle.jh_cli.specs.TimelineRefusals.{RefusesTimeline};
 ghost use Rattle.jh_cli.specs.TimelineText as text;
 ghost use Rattle.jh_cli.specs.TimelineText.{IsFoundBy, IsPage, IsTimelineTextOf, Shows};
+ghost use Rattle.jh_cli.specs.TimelineText.{ShowsKeys, ShowsWhole};
 ghost use Rattle.jh_cli.specs.TimelineText.{TakesInitialBy};
 
 use crate::check_command;
 use crate::check_command::is_register;
 use crate::env_command::MAX_READS;
 use crate::error::CliError;
-use jh_keys::{Found, Judging, check_history};
+use jh_keys::{Found, Judging, check_history, check_keys_serial, verdict_of_all};
 use jh_ops::{Op, Workload};
 use jh_pages::{Section, write_page};
-use jh_sections::{Choice, Parts, read_parts, section_of};
+use jh_sections::{Choice, Parts, read_parts, section_of, sections_of_keys};
 use std::alloc::{AllocError, Global};
 use std::io::{Read, Write};
 
@@ -40,6 +42,8 @@ pub struct TimelineJudging {
 pub struct TimelineQuestion {
     /// What it is judged by: where there is nothing, it is shown, and not judged.
     pub judging: Option<TimelineJudging>,
+    /// Whether each key is judged by itself, and shown in a section of its own.
+    pub independent: bool,
     /// Which records are shown.
     pub choice: Choice,
 }
@@ -63,7 +67,9 @@ struct Page {
 /// Reads a history as `jh_sections::read_parts` does, or all that `run` printed, judges it by the
 /// checker of the workload, if there is one, and writes a page in HTML that shows the history: the
 /// line of the checker on top, the history as `jh_sections::section_of` shows it, and below it what
-/// `run` printed behind the history. The answer is the exit status: 0 where the history is valid or
+/// `run` printed behind the history. Where its keys are independent, each is judged by itself, one
+/// after another, the line is that on all keys, and each has the section that
+/// `jh_sections::sections_of_keys` makes. The answer is the exit status: 0 where the history is valid or
 /// not judged, 1 where it is not valid, 2 where that is not known. All is read and judged, and the
 /// page made, before the first byte is written.
 ///
@@ -130,7 +136,7 @@ fn found_in(
 ) -> Result<Option<Found>, CliError>
     ensures { MatchResult result
         (IsFoundBy judging (operations history.now))
-        (RefusesFinding judging (operations history.now)) }
+        (RefusesFinding false judging (operations history.now)) }
 {
     match judging {
         Some(by) => Ok(Some(check_history(alloc, history, judging_of(by))?)),
@@ -169,6 +175,28 @@ fn shown_of(alloc: Global, history: Vec<Op>, question: TimelineQuestion) -> Resu
         All (λ section. All (λ op. IsWritable op.process) section.history.items)
         shown.sections.items) }
 {
+    if question.independent {
+        shown_by_keys(alloc, &history, question)
+    } else {
+        shown_whole(alloc, history, question)
+    }
+}
+
+/// What a page shows of a history as one.
+fn shown_whole(
+    alloc: Global,
+    history: Vec<Op>,
+    question: TimelineQuestion,
+) -> Result<Shown, CliError>
+    requires { All (λ op. IsWritable op.process) history.items }
+    ensures shows { MatchResult result
+        (λ shown. ShowsWhole question.judging question.choice (operations history.items)
+        shown.status shown.line.items shown.sections.items)
+        (RefusesShowing false question.judging (operations history.items)) }
+    ensures writable { IfOk result (λ shown.
+        All (λ section. All (λ op. IsWritable op.process) section.history.items)
+        shown.sections.items) }
+{
     let found = found_in(alloc, &history, question.judging)?;
     let line = line_of(alloc, found.as_ref())?;
     let status = status_of(found.as_ref());
@@ -184,6 +212,72 @@ fn shown_of(alloc: Global, history: Vec<Op>, question: TimelineQuestion) -> Resu
     Ok(Shown {
         status,
         line,
+        sections,
+    })
+}
+
+/// What a page shows of a history of independent keys.
+fn shown_by_keys(
+    alloc: Global,
+    history: &[Op],
+    question: TimelineQuestion,
+) -> Result<Shown, CliError>
+    requires { All (λ op. IsWritable op.process) history.now }
+    ensures shows { MatchResult result
+        (λ shown. ShowsKeys question.judging question.choice (operations history.now)
+        shown.status shown.line.items shown.sections.items)
+        (RefusesShowing true question.judging (operations history.now)) }
+    ensures writable { IfOk result (λ shown.
+        All (λ section. All (λ op. IsWritable op.process) section.history.items)
+        shown.sections.items) }
+{
+    match question.judging {
+        Some(by) => shown_judged(alloc, history, by, question.choice),
+        None => shown_unjudged(alloc, history, question.choice),
+    }
+}
+/// What a page shows of a history of independent keys, each of them judged.
+fn shown_judged(
+    alloc: Global,
+    history: &[Op],
+    by: TimelineJudging,
+    choice: Choice,
+) -> Result<Shown, CliError>
+    requires { All (λ op. IsWritable op.process) history.now }
+    ensures shows { MatchResult result
+        (λ shown. ShowsKeys (Some by) choice (operations history.now)
+        shown.status shown.line.items shown.sections.items)
+        (RefusesShowing true (Some by) (operations history.now)) }
+    ensures writable { IfOk result (λ shown.
+        All (λ section. All (λ op. IsWritable op.process) section.history.items)
+        shown.sections.items) }
+{
+    let findings = check_keys_serial(alloc, history, judging_of(by))?;
+    let verdict = verdict_of_all(alloc, &findings)?;
+    let line = check_command::keys_line_of(alloc, verdict, &findings)?;
+    let sections = sections_of_keys(alloc, history, Some(findings), choice)?;
+    Ok(Shown {
+        status: check_command::status_of(verdict),
+        line,
+        sections,
+    })
+}
+
+/// What a page shows of a history of independent keys, none of them judged.
+fn shown_unjudged(alloc: Global, history: &[Op], choice: Choice) -> Result<Shown, CliError>
+    requires { All (λ op. IsWritable op.process) history.now }
+    ensures shows { MatchResult result
+        (λ shown. ShowsKeys None choice (operations history.now)
+        shown.status shown.line.items shown.sections.items)
+        (RefusesShowing true None (operations history.now)) }
+    ensures writable { IfOk result (λ shown.
+        All (λ section. All (λ op. IsWritable op.process) section.history.items)
+        shown.sections.items) }
+{
+    let sections = sections_of_keys(alloc, history, None, choice)?;
+    Ok(Shown {
+        status: 0,
+        line: line_of(alloc, None)?,
         sections,
     })
 }

@@ -32,10 +32,11 @@ fn asks_for_commands(rt: HostRuntime) {
 § jeprun check --workload set --budget 10000000 → Check(Question { workload: Set, initial: None, budget: 10000000, explain: false, independent: false, threads: 1 })
 § jeprun shrink → Shrink(10000)
 § jeprun shrink --budget 10000000 → Shrink(10000000)
-§ jeprun timeline → Timeline(TimelineQuestion { judging: None, choice: Choice { from: None, to: None } })
-§ jeprun timeline --workload register --initial 0 --budget 5 --from 7 --to 18446744073709551615 → Timeline(TimelineQuestion { judging: Some(TimelineJudging { workload: Register, initial: Some(0), budget: 5 }), choice: Choice { from: Some(7), to: Some(18446744073709551615) } })
-§ jeprun timeline --workload set → Timeline(TimelineQuestion { judging: Some(TimelineJudging { workload: Set, initial: None, budget: 100000 }), choice: Choice { from: None, to: None } })
-§ jeprun timeline --initial 3 → Timeline(TimelineQuestion { judging: None, choice: Choice { from: None, to: None } })
+§ jeprun timeline → Timeline(TimelineQuestion { judging: None, independent: false, choice: Choice { from: None, to: None } })
+§ jeprun timeline --workload register --initial 0 --budget 5 --from 7 --to 18446744073709551615 → Timeline(TimelineQuestion { judging: Some(TimelineJudging { workload: Register, initial: Some(0), budget: 5 }), independent: false, choice: Choice { from: Some(7), to: Some(18446744073709551615) } })
+§ jeprun timeline --workload set → Timeline(TimelineQuestion { judging: Some(TimelineJudging { workload: Set, initial: None, budget: 100000 }), independent: false, choice: Choice { from: None, to: None } })
+§ jeprun timeline --workload register --independent → Timeline(TimelineQuestion { judging: Some(TimelineJudging { workload: Register, initial: None, budget: 100000 }), independent: true, choice: Choice { from: None, to: None } })
+§ jeprun timeline --initial 3 → Timeline(TimelineQuestion { judging: None, independent: false, choice: Choice { from: None, to: None } })
 § jeprun timeline --from -1 → 3
 error: unexpected argument '-1' found
 
@@ -187,13 +188,15 @@ Options:
       --workload <NAME>  What the database was to be [possible values: register, set, counter, unique-ids]
       --initial <N>      The register's first value; nil where it is left out
       --budget <N>       How many configurations the judge of a register may reach [default: 100000]
+      --independent      Shows each key by itself; values are tuples of a key and a value
       --from <INDEX>     The first record that is shown, from 0
       --to <INDEX>       The record behind the last one that is shown
   -h, --help             Print help
 
 It writes an HTML page: each operation as a bar, each fault as a line, and with --workload what
 the checker finds, on top and as marks. It reads what run prints as well. Of more than 2,000
-records it shows 1,000, around the first mark, unless --from or --to choose others.
+records it shows 1,000, around the first mark, unless --from or --to choose others. With
+--independent each key has a section of its own, those of keys that are not valid first.
 
 Exit status: 0 valid or not judged, 1 not valid, 2 unknown, 3 refused arguments or input,
 4 where memory ran out, or a read or a write failed

@@ -5,7 +5,8 @@
 //! definitions.
 //!
 //! A question is four words: a workload, the value that a register has at first, and the records
-//! from and before which are shown; each may be `-`, which is none.
+//! from and before which are shown; each may be `-`, which is none. A fifth, `keys`, asks for a
+//! section for each key.
 
 use crate::rows::{push_error, with_status};
 use jh_cli::{CliError, TimelineJudging, TimelineQuestion, timeline_run};
@@ -27,7 +28,7 @@ fn workload_of(name: &str) -> Option<Workload> {
     }
 }
 
-/// The question that four words ask.
+/// The question that words ask.
 fn question_of(words: &str) -> Option<TimelineQuestion> {
     let mut words = words.split_whitespace();
     let workload = workload_of(words.next()?);
@@ -42,6 +43,7 @@ fn question_of(words: &str) -> Option<TimelineQuestion> {
             from: words.next()?.parse().ok(),
             to: words.next()?.parse().ok(),
         },
+        independent: words.next() == Some("keys"),
     })
 }
 
@@ -186,6 +188,52 @@ All 1 records.
 }
 
 #[test]
+fn keys_have_sections_of_their_own(rt: HostRuntime) {
+    let rows = r##"set - - - keys
+{:type :invoke, :process 0, :f :add, :value [:a 1]} {:type :ok, :process 0, :f :add, :value [:a 1]}
+{:type :info, :process :nemesis, :f :note}
+{:type :invoke, :process 0, :f :add, :value [:b 2]} {:type :ok, :process 0, :f :add, :value [:b 2]}
+{:type :invoke, :process 1, :f :add, :value [:c 3]} {:type :ok, :process 1, :f :add, :value [:c 3]}
+{:type :invoke, :process 0, :f :read, :value [:a nil]} {:type :ok, :process 0, :f :read, :value [:a [1]]}
+{:type :invoke, :process 0, :f :read, :value [:c nil]} {:type :ok, :process 0, :f :read, :value [:c []]}
+→ 1
+<h1>{:valid? false, :keys [[:a {:valid? true,
+<li><a href="#part-0">Key :c: not valid</a></li>
+<li><a href="#part-1">Key :b: unknown</a></li>
+<li><a href="#part-2">Key :a: valid</a></li>
+<h2 id="part-0">Key :c: not valid</h2>
+<p>All 4 records.</p>
+<li>process 1 0</li>
+ add 3</text>
+<svg class="lost" x="240" y="0" width="232" height="32">
+<h2 id="part-1">Key :b: unknown</h2>
+<p>All 2 records.</p>
+ add 2</text>
+<h2 id="part-2">Key :a: valid</h2>
+<p>All 4 records.</p>
+ add 1</text>
+!class="lost"
+§ - - - - keys
+{:type :invoke, :process 0, :f :read, :value (7 nil)}
+{:type :invoke, :process 1, :f :write, :value [7 5]}
+→ 0
+<h1>A history</h1>
+!<ul>
+<h2 id="part-0">Key 7</h2>
+<p>All 2 records.</p>
+<svg class="open" x="240" y="0" width="232" height="16">
+ read</text>
+ write 5</text>
+§ register - - - keys
+{:type :info, :process :nemesis, :f :note}
+→ 0
+<h1>{:valid? true, :keys []}</h1>
+!<svg
+"##;
+    assert_eq!(rt; first_wrong(rt.alloc(), rows), None);
+}
+
+#[test]
 fn inputs_are_refused(rt: HostRuntime) {
     let rows = r#"- - - -
 {:type :info, :process :nemesis, :f :note}
@@ -209,6 +257,12 @@ fn inputs_are_refused(rt: HostRuntime) {
 § register - - -
 {:type :invoke, :process 0, :f :add, :value 1}
 → 3 operation 0: bad value
+§ - - - - keys
+{:type :info, :process :nemesis, :f :note} {:type :invoke, :process 0, :f :read, :value 3}
+→ 3 operation 1: bad value
+§ counter - - - keys
+{:type :invoke, :process 0, :f :add, :value ["a" 1]} {:type :ok, :process 0, :f :add, :value ["b" 1]}
+→ 3 operation 1: no invocation
 § set 5 - -
 {:type
 → 3 --initial: only for register

@@ -1,24 +1,18 @@
 -- Each call of a run is of its workload, and by the process whose turn it is.
-use Rattle.std.proofs.Common.{◌≡◌, ℕ, suc, zero, ◌+◌, ◌%◌, ◌*◌, ◌≤◌, ◌<◌, Bool, true, false, ◌&&◌, List, [], ◌∷◌, ◌++◌, length, Option, Some, None, refl, sym, ap, subst, ◌∙◌, append_assoc, arith}
-use Rattle.std.specs.Prelude.{if◌then◌else◌, slice_get, nat_le}
+use Rattle.std.proofs.Common.{◌≡◌, ℕ, suc, zero, ◌+◌, ◌%◌, ◌<◌, Bool, true, false, ◌&&◌, List, [], ◌∷◌, ◌++◌, refl, sym, ap, subst, append_assoc, arith}
 use Rattle.std.proofs.lemmas.List.{append-nil}
 use Rattle.std.proofs.lemmas.Nat.{mod_below}
-use Rattle.jh_ops.specs.declared.call.Call.{Call}
 use Rattle.jh_ops.specs.declared.call.Call.TheVariants.{Client, Step}
 use Rattle.jh_ops.specs.declared.call.Request.{Request}
 use Rattle.jh_ops.specs.declared.call.Workload.{Workload}
 use Rattle.jh_gen.specs.DriverState.{all_seats}
 use Rattle.jh_gen.specs.Fits.{fits}
-use Rattle.jh_gen.specs.Generator.{Generator}
-use Rattle.jh_gen.specs.Offers.{Offer, offer, spent}
 use Rattle.jh_gen.specs.Suits.{has_only, is_call_for}
 use Rattle.jh_gen.specs.Tally.{Path}
-use Rattle.jh_simnode.specs.declared.replicas.Reply.{Reply}
 use Rattle.jh_simnode.specs.declared.events.Event.{Event}
-use Rattle.jh_simnode.specs.declared.schedule.Entry.{Entry}
-use Rattle.jh_simnode.specs.Counts.{applied, last, process_after}
+use Rattle.jh_simnode.specs.Counts.{process_after}
 use Rattle.jh_simnode.specs.Plans.{PlanValue, IsFit}
-use Rattle.jh_simnode.specs.Runs.{Turns, Move, Comes, Reaches, Runs, ask_move, call_event, entry_move, is_due, move_of, move_offered, question, run_generator, thread_of, ticks_after, turn_move}
+use Rattle.jh_simnode.specs.Runs.{Turns, Move, Comes, Reaches, Runs, call_event, move_of, question, run_generator, thread_of}
 use Rattle.jh_simnode.specs.Runs.Move.{Ticks, Applies, Waits, Calls, Ends, Rests}
 use Rattle.jh_simnode.proofs.GivenLemmas.{call_is}
 use Rattle.jh_simnode.proofs.Turning.{process_thread}

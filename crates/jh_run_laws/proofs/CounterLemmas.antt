@@ -1,26 +1,20 @@
 -- No call of a run of a counter or of a set has a bad value.
-use Rattle.std.proofs.Common.{◌≡◌, ℕ, zero, suc, ◌+◌, Bool, true, false, ◌&&◌, List, [], ◌∷◌, ◌++◌, length, refl, sym, ap, subst, ◌∙◌, arith}
-use Rattle.std.specs.Prelude.{ℤ, pos, negsuc, if◌then◌else◌, slice_get, Option, Some, None, codes, IsSome, ⊤}
-use Rattle.std.specs.List.{Contains, filter_map, enumerate_from}
-use Rattle.jh_edn.specs.Edn.{Edn, vector, items_of, int}
+use Rattle.std.proofs.Common.{◌≡◌, ℕ, List, [], ◌∷◌, refl, subst, arith}
+use Rattle.std.specs.Prelude.{pos, negsuc, Some, None}
+use Rattle.std.specs.List.{Contains}
 use Rattle.jh_ops.specs.Operation.{Operation}
 use Rattle.jh_ops.specs.Pairing.{pairs_of}
-use Rattle.jh_ops.specs.declared.call.Call.TheVariants.{Client}
-use Rattle.jh_ops.specs.declared.call.Request.{Request}
 use Rattle.jh_ops.specs.declared.call.Request.TheVariants.{Read, Write, Cas, Add, Generate}
-use Rattle.jh_ops.specs.declared.call.Workload.{Workload}
-use Rattle.jh_ops.specs.declared.call.Workload.TheVariants.{Register, Counter, Set, Ids}
+use Rattle.jh_ops.specs.declared.call.Workload.TheVariants.{Counter}
 use Rattle.jh_ops.specs.declared.pairs.Pair.{Pair}
-use Rattle.jh_check.specs.CounterResults.{call_error, errors_in, IsFirst, RefusesCounter}
+use Rattle.jh_check.specs.CounterResults.{call_error, errors_in, IsFirst}
 use Rattle.jh_check.specs.declared.error.CheckError.{CheckError}
-use Rattle.jh_gen.specs.Suits.{is_call_for}
 use Rattle.jh_simnode.specs.declared.replicas.Got.{Got}
-use Rattle.jh_simnode.specs.declared.replicas.Reply.{Reply}
 use Rattle.jh_simnode.specs.declared.replicas.Reply.TheVariants as said
 use Rattle.jh_simnode.specs.declared.events.Event.{Event}
-use Rattle.jh_simnode.specs.Histories.{completed, history_of, invoked}
-use Rattle.jh_run_laws.specs.OwnHistory.{CallsFit, RepliesFit, ReplyFits}
-use Rattle.jh_run_laws.proofs.PairLemmas.{Each, FromCall, each_pair, pair_at}
+use Rattle.jh_simnode.specs.Histories.{history_of}
+use Rattle.jh_run_laws.specs.OwnHistory.{CallsFit, RepliesFit}
+use Rattle.jh_run_laws.proofs.PairLemmas.{Each, FromCall, each_pair}
 
 -- the call at a place is not in error
 abbrev NoError : List Operation → Pair → Type 0

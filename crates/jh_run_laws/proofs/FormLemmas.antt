@@ -1,5 +1,5 @@
 -- The history of a run is well formed: a process that crashed does nothing more, for its thread goes on as another.
-use Rattle.std.proofs.Common.{◌≡◌, ℕ, suc, zero, ◌+◌, ◌%◌, ◌*◌, ◌≤◌, ◌<◌, ◌==◌, Bool, true, false, ◌&&◌, List, [], ◌∷◌, ◌++◌, length, refl, sym, ap, subst, ◌∙◌, arith, eq-eqb, eqb-true, add-mul}
+use Rattle.std.proofs.Common.{◌≡◌, ℕ, ◌+◌, ◌%◌, ◌*◌, ◌≤◌, ◌<◌, ◌==◌, true, false, List, [], ◌∷◌, ◌++◌, refl, sym, ap, subst, arith, eq-eqb, eqb-true, add-mul}
 use Rattle.std.specs.Prelude.{if◌then◌else◌, cond}
 use Rattle.std.specs.List.{count_by}
 use Rattle.std.proofs.lemmas.List.Sums.{sum_by-append}
@@ -10,10 +10,10 @@ use Rattle.jh_ops.specs.declared.operation.Kind.{Kind}
 use Rattle.jh_simnode.specs.declared.replicas.Reply.{Reply}
 use Rattle.jh_simnode.specs.declared.replicas.Reply.TheVariants as said
 use Rattle.jh_simnode.specs.declared.events.Event.{Event}
-use Rattle.jh_simnode.specs.Counts.{is_crash_of, is_info, process_after}
+use Rattle.jh_simnode.specs.Counts.{is_crash_of, process_after}
 use Rattle.jh_simnode.specs.Histories.{history_of, kind_of, told_from}
 use Rattle.jh_simnode.proofs.Counting.{count_yes}
-use Rattle.jh_run_laws.specs.OwnHistory.{CallsFit, FitsAfter}
+use Rattle.jh_run_laws.specs.OwnHistory.{CallsFit}
 
 -- the kinds of a client's operations, event by event
 abbrev kinds_in : ℕ → List Event → List Kind

@@ -1,5 +1,5 @@
 -- The lines of a run's history tell that history.
-use Rattle.std.proofs.Common.{◌≡◌, ℕ, ◌+◌, List, [], ◌∷◌, map, refl, sym, ap, subst, ◌∙◌}
+use Rattle.std.proofs.Common.{◌≡◌, ℕ, ◌+◌, List, [], ◌∷◌, map, refl, ap, ◌∙◌}
 use Rattle.std.specs.Prelude.{Ok}
 use Rattle.jh_ops.specs.HistoryText.{AreParsed, elements_in}
 use Rattle.jh_ops.specs.Operation.{Operation}
@@ -9,7 +9,7 @@ use Rattle.jh_ops.specs.declared.call.Request.{Request}
 use Rattle.jh_simnode.specs.declared.replicas.Reply.{Reply}
 use Rattle.jh_simnode.specs.declared.replicas.Reply.TheVariants as said
 use Rattle.jh_simnode.specs.declared.events.Event.{Event}
-use Rattle.jh_simnode.specs.Histories.{answered_by, begun, completed, history_of, invoked, told_from}
+use Rattle.jh_simnode.specs.Histories.{completed, history_of, told_from}
 use Rattle.jh_run_laws.proofs.PairLemmas.{Each}
 
 -- what is written of the operation tells it

@@ -1,15 +1,15 @@
 -- What a generator offers is a call that it has.
-use Rattle.std.proofs.Common.{◌≡◌, ℕ, suc, zero, ◌+◌, ◌%◌, ℤ, pos, negsuc, ◌+ℤ◌, Bool, true, false, ◌&&◌, not, List, [], ◌∷◌, ◌++◌, length, take, drop, filter, Option, Some, None, refl, sym, ap, subst, ◌∙◌, le-ltb, arith}
-use Rattle.std.specs.Prelude.{if◌then◌else◌, int_lt}
+use Rattle.std.proofs.Common.{◌≡◌, ℕ, suc, zero, ◌+◌, ◌%◌, ℤ, pos, negsuc, ◌+ℤ◌, Bool, true, false, ◌&&◌, not, List, [], ◌∷◌, ◌++◌, length, take, drop, filter, Some, None, refl, ap, le-ltb, arith}
+use Rattle.std.specs.Prelude.{if◌then◌else◌}
 use Rattle.std.specs.Option.{option_or}
 use Rattle.jh_ops.specs.declared.call.Call.{Call}
-use Rattle.jh_ops.specs.declared.call.Call.TheVariants.{Client, Step}
+use Rattle.jh_ops.specs.declared.call.Call.TheVariants.{Client}
 use Rattle.jh_ops.specs.declared.call.Request.TheVariants.{Add}
 use Rattle.jh_ops.specs.declared.call.Workload.{Workload}
 use Rattle.jh_ops.specs.declared.call.Workload.TheVariants.{Register, Counter, Set, Ids}
 use Rattle.jh_gen.specs.Generator.{Generator, nothing, once, rising, forever, seq, limit, mix, phases, reserve, each_thread, clients, nemesis_only, Generators, no_generators, generator, Shared, no_shares, share}
 use Rattle.jh_gen.specs.Fits.{shares_sum}
-use Rattle.jh_gen.specs.Tally.{Path, Tally, under}
+use Rattle.jh_gen.specs.Tally.{Tally, under}
 use Rattle.jh_gen.specs.Scope.{Scope, Question, is_client, is_among, is_beyond, is_in, is_empty, any_busy}
 use Rattle.jh_gen.specs.Offers.{Offer, offer, open_offers, share_offer, by_member, head_of, first_some, picked, unless_spent, spent, shares_len}
 use Rattle.jh_gen.specs.Suits.{has_only, all_have_only, shares_have_only, is_call_for}

@@ -1,5 +1,5 @@
 -- No checker refuses the history of a run.
-use Rattle.std.proofs.Common.{◌≡◌, ℕ, ◌<◌, List, [], ◌∷◌, refl, sym, subst, arith}
+use Rattle.std.proofs.Common.{◌≡◌, ℕ, ◌<◌, List, [], refl, sym, subst, arith}
 use Rattle.jh_ops.specs.Operation.{Operation}
 use Rattle.jh_ops.specs.Pairing.{IsWellFormed, RefusesHistory as RefusesPairing}
 use Rattle.jh_ops.specs.declared.call.Workload.{Workload}
@@ -14,7 +14,7 @@ use Rattle.jh_keys.specs.Findings.{RefusesHistory}
 use Rattle.jh_simnode.specs.declared.events.Event.{Event}
 use Rattle.jh_simnode.specs.Histories.{history_of}
 use Rattle.jh_simnode.specs.Plans.{PlanValue, IsFit}
-use Rattle.jh_simnode.specs.Runs.{Serial, setup_of}
+use Rattle.jh_simnode.specs.Runs.{setup_of}
 use Rattle.jh_run_laws.specs.OwnHistory.{CallsFit, RepliesFit, OwnHistoryIsFormed, OwnHistoryIsJudged}
 use Rattle.jh_run_laws.proofs.CallLemmas.{run_fits}
 use Rattle.jh_run_laws.proofs.CounterLemmas.{no_error}

@@ -1,21 +1,18 @@
 -- No call of a run of a register has a bad value.
-use Rattle.std.proofs.Common.{◌≡◌, ℕ, zero, suc, ◌+◌, ◌<◌, Bool, true, false, List, [], ◌∷◌, length, map, refl, sym, ap, subst, ◌∙◌, arith}
-use Rattle.std.specs.Prelude.{slice_index_or, Option, Some, None}
-use Rattle.std.specs.List.{Contains}
+use Rattle.std.proofs.Common.{◌≡◌, ℕ, zero, suc, ◌<◌, List, [], ◌∷◌, length, map, refl, sym, ◌∙◌, arith}
+use Rattle.std.specs.Prelude.{slice_index_or, Some, None}
 use Rattle.jh_ops.specs.Operation.{Operation}
 use Rattle.jh_ops.specs.Pairing.{pairs_of}
-use Rattle.jh_ops.specs.declared.call.Request.{Request}
 use Rattle.jh_ops.specs.declared.call.Request.TheVariants.{Read, Write, Cas, Add, Generate}
 use Rattle.jh_ops.specs.declared.call.Workload.TheVariants.{Register}
 use Rattle.jh_ops.specs.declared.pairs.Pair.{Pair}
 use Rattle.jh_linear.specs.Calls.{IsLeastBad, bad_place}
 use Rattle.jh_simnode.specs.declared.replicas.Got.{Got}
-use Rattle.jh_simnode.specs.declared.replicas.Reply.{Reply}
 use Rattle.jh_simnode.specs.declared.replicas.Reply.TheVariants as said
 use Rattle.jh_simnode.specs.declared.events.Event.{Event}
 use Rattle.jh_simnode.specs.Histories.{history_of}
 use Rattle.jh_run_laws.specs.OwnHistory.{CallsFit, RepliesFit}
-use Rattle.jh_run_laws.proofs.PairLemmas.{Each, FromCall, each_pair, pair_at}
+use Rattle.jh_run_laws.proofs.PairLemmas.{Each, FromCall, each_pair}
 
 abbrev NotBad : List Operation → Pair → Type 0
 NotBad history pair = bad_place history pair ≡ None

@@ -10,14 +10,12 @@ use Rattle.jh_env.specs.TextCells.{IsTextOf}
 use Rattle.jh_env.specs.TextLaws.{SameCells}
 use Rattle.jh_gen.specs.Generator.{Generator}
 use Rattle.jh_gen.specs.GeneratorText.{parsed_generator}
-use Rattle.jh_ops.specs.Operation.{Operation}
 use Rattle.jh_settings.specs.declared.keys.Key.{Key}
 use Rattle.jh_settings.specs.declared.words.Mode.{Mode}
 use Rattle.jh_settings.specs.Keys.{IsDocument, value_under}
-use Rattle.jh_settings.specs.Settings.{AreSettings, AreSettingsOf}
+use Rattle.jh_settings.specs.Settings.{AreSettings}
 use Rattle.jh_settings.specs.Parsed.{ScheduleOf, TellEntries, TellsEntry, TellsGenerator, TellsStart, parsed_entry}
 use Rattle.jh_settings.proofs.ElementLemmas.{element_once, held_once}
-use Rattle.jh_simnode.specs.declared.events.Event.{Event}
 use Rattle.jh_simnode.specs.declared.schedule.Entry.{Entry}
 use Rattle.jh_simnode.specs.Plans.{PlanValue}
 use Rattle.jh_simnode.specs.Runs.{OneRun, Serial}

@@ -1,10 +1,10 @@
 -- What replicas hold and what is replied in a run is of the shape that its workload has.
-use Rattle.std.proofs.Common.{◌≡◌, ℕ, zero, suc, ◌+◌, ◌-◌, ◌/◌, ◌<◌, ◌≤◌, Bool, true, false, List, [], ◌∷◌, length, get_or, set, replicate, refl, sym, ap, subst, ◌∙◌, arith, inl, inr, ltb-false}
-use Rattle.std.specs.Prelude.{ℤ, pos, ◌+ℤ◌, Option, Some, None, if◌then◌else◌, nat_lt, filter, IfSome, ⊤}
+use Rattle.std.proofs.Common.{◌≡◌, ℕ, ◌+◌, ◌-◌, ◌<◌, Bool, true, false, List, [], ◌∷◌, length, get_or, set, replicate, refl, sym, subst, ◌∙◌, arith, inl, inr, ltb-false}
+use Rattle.std.specs.Prelude.{ℤ, pos, ◌+ℤ◌, Option, Some, None, if◌then◌else◌, nat_lt, filter, IfSome}
 use Rattle.std.specs.List.{fold, All}
 use Rattle.std.specs.Ordering.{int_eq}
-use Rattle.std.proofs.lemmas.Bool.{cases_eq, cases_lt}
-use Rattle.std.proofs.lemmas.List.{get_or-set_same, get_or-set_other, set_past, length-set, length-replicate, get_or-replicate}
+use Rattle.std.proofs.lemmas.Bool.{cases_eq}
+use Rattle.std.proofs.lemmas.List.{get_or-set_same, get_or-set_other, length-set, length-replicate, get_or-replicate}
 use Rattle.std.proofs.lemmas.List.Elements.{All-head, All-tail}
 use Rattle.jh_env.specs.Cells.{Life, Running, Paused, Killed, NodeCell}
 use Rattle.jh_ops.specs.declared.call.Request.{Request}
@@ -17,16 +17,15 @@ use Rattle.jh_simnode.specs.declared.replicas.Contents.TheVariants.{One, Many}
 use Rattle.jh_simnode.specs.declared.replicas.Got.{Got}
 use Rattle.jh_simnode.specs.declared.replicas.Replica.{Replica}
 use Rattle.jh_simnode.specs.declared.replicas.Mark.TheVariants.{Version, Stamp}
-use Rattle.jh_simnode.specs.declared.replicas.Reply.{Reply}
 use Rattle.jh_simnode.specs.declared.replicas.Reply.TheVariants as said
 use Rattle.jh_simnode.specs.declared.settings.Settings.{Settings}
 use Rattle.jh_simnode.specs.declared.settings.Store.{Store}
 use Rattle.jh_simnode.specs.declared.settings.Store.TheVariants.{Quorum, Lww, Local}
 use Rattle.jh_simnode.specs.Replicas.{blank, contents_of, replica_at, first_replica, got_of, version}
-use Rattle.jh_simnode.specs.Effects.{after_add, after_cas, after_generate, effect, is_small, put_in}
-use Rattle.jh_simnode.specs.Reach.{Cells, responding_nodes, is_killed, places, reached_nodes}
+use Rattle.jh_simnode.specs.Effects.{after_add, after_cas, after_generate, effect, is_small}
+use Rattle.jh_simnode.specs.Reach.{Cells, responding_nodes, places, reached_nodes}
 use Rattle.jh_simnode.specs.Requests.{is_read, only_asks}
-use Rattle.jh_simnode.specs.Stores.{Served, served, serve, serve_at, serve_in, serve_running, local_change, lww_change, quorum, quorum_change, quorum_read, quorum_write, newest, newer_place, version_at, give, give_all, older, replicas_after_tick, tell, tell_all, replicas_after_kills, forget_one}
+use Rattle.jh_simnode.specs.Stores.{Served, served, serve, serve_at, serve_in, serve_running, local_change, lww_change, quorum, quorum_change, quorum_read, quorum_write, newest, newer_place, version_at, give_all, older, replicas_after_tick, tell, tell_all, replicas_after_kills, forget_one}
 use Rattle.jh_simnode.proofs.Places.{places_below}
 use Rattle.jh_simnode.specs.declared.events.Event.{Event}
 use Rattle.jh_simnode.specs.Events.{AreDue, IsLegal, Moment, Setup, env_of, next, opening}

@@ -1,5 +1,5 @@
 -- A run depends on the links and nodes of its start, and not on how they are kept.
-use Rattle.std.proofs.Common.{◌≡◌, ℕ, zero, suc, ◌+◌, ◌<◌, Bool, true, false, List, [], ◌∷◌, ◌++◌, length, refl, sym, ap, subst, ◌∙◌}
+use Rattle.std.proofs.Common.{◌≡◌, ℕ, zero, suc, ◌+◌, true, false, List, [], ◌∷◌, length, refl, sym, ap, subst, ◌∙◌}
 use Rattle.std.specs.Prelude.{option_map, if◌then◌else◌}
 use Rattle.jh_env.specs.Cells.{Table}
 use Rattle.jh_env.specs.Faults.{FaultValue}
@@ -10,12 +10,11 @@ use Rattle.jh_nemesis.specs.Steps.{answer_of, is_ok, moved, state_after}
 use Rattle.jh_nemesis.specs.declared.steps.Step.{Step}
 use Rattle.jh_nemesis.specs.declared.steps.Step.TheVariants.{Begin, Withdraw, WithdrawAll, Undo, Redo}
 use Rattle.jh_ops.specs.Operation.{Operation}
-use Rattle.jh_simnode.specs.declared.replicas.Replica.{Replica}
 use Rattle.jh_simnode.specs.declared.events.Event.{Event}
 use Rattle.jh_simnode.specs.Events.{AreDue, IsDue, IsLegal, Moment, Setup, env_of, faults_after, next, opening}
 use Rattle.jh_simnode.specs.Plans.{PlanValue}
 use Rattle.jh_simnode.specs.Reach.{Cells, cells_over}
-use Rattle.jh_simnode.specs.Runs.{Turns, Move, Comes, Reaches, Serial, call_event, move_of, setup_of}
+use Rattle.jh_simnode.specs.Runs.{Turns, Move, Comes, Reaches, Serial, move_of, setup_of}
 use Rattle.jh_simnode.specs.Runs.Move.{Ticks, Applies, Waits, Calls, Ends, Rests}
 use Rattle.jh_simnode.specs.Stores.{dead, replicas_after_kills, serve, replicas_after_tick}
 use Rattle.jh_simnode.proofs.StepLemmas.{state_after_start}

@@ -1,6 +1,6 @@
 -- What holds of the history that a serial run tells (this project's own): it is well formed, no checker refuses it, and it is
 -- read back from its lines.
-use Rattle.std.specs.Prelude.{◌≡◌, All, ℕ, ◌%◌, Bool, true, List, [], ◌∷◌, ◌++◌, Option, Some, None}
+use Rattle.std.specs.Prelude.{◌≡◌, All, ℕ, ◌%◌, Bool, true, List, [], ◌∷◌, ◌++◌, Some, None}
 use Rattle.jh_ops.specs.declared.call.Call.{Call}
 use Rattle.jh_ops.specs.declared.call.Call.TheVariants.{Client}
 use Rattle.jh_ops.specs.declared.call.Workload.{Workload}
@@ -13,7 +13,7 @@ use Rattle.jh_laws.specs.HistoryLines.{CanPrint, IsTextOfHistory, history_lines}
 use Rattle.jh_simnode.specs.Plans.{PlanValue, IsFit}
 use Rattle.jh_simnode.specs.Runs.{Serial}
 use Rattle.jh_gen.specs.Generator.{Generator}
-use Rattle.jh_gen.specs.Tally.{Path, Tally}
+use Rattle.jh_gen.specs.Tally.{Tally}
 use Rattle.jh_gen.specs.Scope.{Scope, Question}
 use Rattle.jh_gen.specs.Offers.{Offer, offer}
 use Rattle.jh_gen.specs.Suits.{has_only, is_call_for}

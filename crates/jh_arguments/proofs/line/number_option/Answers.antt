@@ -1,4 +1,4 @@
-use Rattle.std.proofs.Common.{ap, codes, ◌≡◌, ◌∙◌}
+use Rattle.std.proofs.Common.{ap, ◌≡◌, ◌∙◌}
 use Rattle.std.specs.Prelude.{Some}
 use Rattle.clap.specs.Words.{rule_of}
 use Rattle.jh_arguments.specs.Line.{option}

@@ -7,8 +7,10 @@ returns-clause-timeline c =
     let about : app_of c.about.result ≡ new_app (codes "timeline") = search rules in
     let top : app_of c.after_help.result ≡ new_app (codes "timeline") = search rules in
     c.in_ok-timeline.ensures.shape c.index_option-2.ensures.local ∙ ap₂ with_rule
-    (c.in_ok-arg-4.ensures.shape c.index_option.ensures.local ∙ ap₂ with_rule
+    (c.in_ok-arg-5.ensures.shape c.index_option.ensures.local ∙ ap₂ with_rule
+    (c.in_ok-arg-4.ensures.shape c.flag_option-independent.ensures.local ∙ ap₂ with_rule
     (c.in_ok-arg-3.ensures.shape c.judge_option.ensures.local ∙ ap₂ with_rule
     (c.in_ok-arg-2.ensures.shape c.initial_option.ensures.local ∙ ap₂ with_rule
     (c.in_ok-arg.ensures.shape c.workload_option.ensures.local ∙ ap₂ with_rule top c.workload_option.ensures.rule)
-    c.initial_option.ensures.rule) c.judge_option.ensures.rule) c.index_option.ensures.rule) c.index_option-2.ensures.rule
+    c.initial_option.ensures.rule) c.judge_option.ensures.rule) c.flag_option-independent.ensures.rule) c.index_option.ensures.rule)
+    c.index_option-2.ensures.rule

@@ -16,7 +16,7 @@ returns-in_err-steps c =
     let env = c.in_ok-env.env in
     let p = err_from_is_err_and c.from_residual-in_err-steps.result c.from_residual-in_err-steps.ensures.1 in
     let others = views (take (length c.args.values.now - 1) (drop 1 c.args.values.now)) in
-    let refused = rw c.nodes.ensures.names at c.in_err-steps.ensures.told in
+    let refused = rw c.nodes.ensures.names at c.in_err-steps.ensures.parsed in
     rw (p.1, p.2)
     (others_refused (views c.args.values.now) others (view c.first-item.result) env.names env.start c.in_err-steps.field-0.0
     (parts_of c.args.values.now c.first-item.result c.in-len1-up.len_at_least c.first-item.is) c.in_ok-env.ensures.1 refused)
@@ -34,7 +34,7 @@ returns c =
       parts = parts_of c.args.values.now c.first-item.result c.in-len1-up.len_at_least c.first-item.is;
       environment = c.in_ok-env.ensures.1;
       at_start = c.in_ok-env.ensures.0;
-      steps_told = rw c.nodes.ensures.names at c.in_ok-steps.ensures.told;
+      steps_parsed = rw c.nodes.ensures.names at c.in_ok-steps.ensures.parsed;
     } in
     let report : IsReport (first_state env) steps c.in_ok-report.field-0.items = rw c.new-nemesis.ensures.state at c.in_ok-report.ensures in
     (env, steps, told, report)

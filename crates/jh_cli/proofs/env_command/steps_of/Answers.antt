@@ -2,7 +2,7 @@ use Rattle.std.proofs.Common.{rules}
 use Rattle.jh_cli.proofs.StepLemmas.{refuses_element}
 use Rattle.jh_cli.proofs.env_command.steps_of.Goals as goal
 
-pub returns-in-Err-clause-told : goal.returns-in-Err-clause-told
-returns-in-Err-clause-told c =
+pub returns-in-Err-clause-parsed : goal.returns-in-Err-clause-parsed
+returns-in-Err-clause-parsed c =
     refuses_element c.args.nodes.now c.args.values.now c.loop-place.place c.index-values-place.result c.loop-place.steps.items c.in-Err.error
-    c.element_error.result (search rules) c.index-values-place.is c.loop-place.invariant.told c.in-Err.ensures.told c.element_error.ensures
+    c.element_error.result (search rules) c.index-values-place.is c.loop-place.invariant.parsed c.in-Err.ensures.told c.element_error.ensures

@@ -7,6 +7,6 @@ use Rattle.jh_cli.proofs.env_command.steps_of.Given as goal
 
 abbrev pub invariant-loop-place : goal.invariant-loop-place
 invariant-loop-place l = record {
-  told : map (parsed_step l.nodes) (views (take l.place l.values)) ≡ map Ok l.steps.items;
+  parsed : map (parsed_step l.nodes) (views (take l.place l.values)) ≡ map Ok l.steps.items;
   fit : All (FitsNodes (length l.nodes)) l.steps.items;
 }

@@ -5,19 +5,19 @@ use Rattle.jh_cli.proofs.shrink_command.shrink_run_observed.Goals as goal
 
 pub returns-in-Ok-clause-written : goal.returns-in-Ok-clause-written
 returns-in-Ok-clause-written g c =
-    let told = c.in_ok-told.told in
+    let written = c.in_ok-written.written in
     let appended = rw c.deref-2.ensures.value at c.in-Ok.ensures.bytes in
     on_input _ _ (g.R.Read.remaining c.args.reader.now) (λ input spelled. (
-      told.text.items,
-      subst (λ (bytes : List ℕ). IsShrinkTextOf bytes told.status told.text.items) spelled (rw c.deref.ensures.value at c.in_ok-told.ensures),
+      written.text.items,
+      subst (λ (bytes : List ℕ). IsShrinkTextOf bytes written.status written.text.items) spelled (rw c.deref.ensures.value at c.in_ok-written.ensures),
       appended,
     )) c.in_ok-input.ensures.bytes
 
 pub returns-clause-refused : goal.returns-clause-refused
 returns-clause-refused g c =
-    let told = c.in_ok-told.told in
+    let written = c.in_ok-written.written in
     on_input _ _ (g.R.Read.remaining c.args.reader.now) (λ input spelled. (
-      told.status,
-      told.text.items,
-      subst (λ (bytes : List ℕ). IsShrinkTextOf bytes told.status told.text.items) spelled (rw c.deref.ensures.value at c.in_ok-told.ensures),
+      written.status,
+      written.text.items,
+      subst (λ (bytes : List ℕ). IsShrinkTextOf bytes written.status written.text.items) spelled (rw c.deref.ensures.value at c.in_ok-written.ensures),
     )) c.in_ok-input.ensures.bytes

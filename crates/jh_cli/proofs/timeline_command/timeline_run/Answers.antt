@@ -1,5 +1,5 @@
 use Rattle.std.proofs.lemmas.Result.{err_from_is_err_and}
-use Rattle.jh_cli.proofs.TimelineLemmas.{page_refused, parts_refused}
+use Rattle.jh_cli.proofs.TimelineLemmas.{parts_refused}
 use Rattle.jh_cli.proofs.WritingLemmas.{on_input}
 use Rattle.jh_cli.proofs.timeline_command.timeline_run.Goals as goal
 use Rattle.jh_ops.specs.Operation.{operations}
@@ -19,7 +19,7 @@ returns-in-Ok-clause-written g c =
       c.in_ok-page.page.text.items,
       (operations parts.history.items, parts.below.items, told, c.in_ok-page.ensures),
       appended,
-    )) c.in_ok-parts.ensures.told
+    )) c.in_ok-parts.ensures.parsed
 
 pub returns-clause-refused : goal.returns-clause-refused
 returns-clause-refused g c =
@@ -29,4 +29,4 @@ returns-clause-refused g c =
       page.status,
       page.text.items,
       (operations parts.history.items, parts.below.items, told, c.in_ok-page.ensures),
-    )) c.in_ok-parts.ensures.told
+    )) c.in_ok-parts.ensures.parsed

@@ -5,7 +5,7 @@ use Rattle.jh_pages.specs.declared.section.Section.{Section}
 use Rattle.jh_sections.specs.Sections.{IsSectionOf}
 use Rattle.jh_cli.specs.TimelineText as text
 use Rattle.jh_cli.specs.TimelineText.{IsFoundBy}
-use Rattle.jh_cli.proofs.timeline_command.shown_of.Goals as goal
+use Rattle.jh_cli.proofs.timeline_command.shown_whole.Goals as goal
 
 pub returns-clause-shows : goal.returns-clause-shows
 returns-clause-shows c =
@@ -21,6 +21,6 @@ returns-clause-shows c =
           subst (λ (heading : List ℕ). IsSectionOf heading history found choice section) c.new.ensures.items
           (subst (λ (told : Option Found). IsSectionOf c.new.result.items history told choice section) c.as_ref-3.ensures.value c.in_ok-section.ensures.section);
       alone = c.in_ok-push.ensures.items ∙ ap (λ (sections : List Section). sections ++ section ∷ []) c.new-sections.ensures.items;
-      told = c.in_ok-line.ensures ∙ ap text.line_of c.as_ref.ensures.value;
+      top = c.in_ok-line.ensures ∙ ap text.line_of c.as_ref.ensures.value;
       ended = c.status_of-status.ensures ∙ ap text.status_of c.as_ref-2.ensures.value;
     }
