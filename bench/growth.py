@@ -12,7 +12,7 @@ have one of them.
 - `run`: serial runs of 10,000 calls (1,000 of a set), for each store and workload, with output and verdict; a register with the
   budget 0, since its judge's search has no such bound.
 - `check`: histories of 1,000,000 operations of each workload; of a register that of one client, whose order is forced.
-- `timeline`: pages that show all records of histories of 100,000.
+- `timeline`: pages that show all records of histories of 100,000, also with a section for each key.
 """
 
 import argparse
@@ -55,6 +55,15 @@ def one_client(operations):
     return "".join(lines).encode()
 
 
+def keyed(operations):
+    """The history of one client that is given ids, a key for each hundred records."""
+    lines = []
+    for call in range(operations // 2):
+        for kind, shown in ((":invoke", "nil"), (":ok", call)):
+            lines.append(checkers.line(len(lines), kind, 0, ":generate", f"[{call // 50} {shown}]"))
+    return "".join(lines).encode()
+
+
 def rows():
     """Each row: its name, the words behind the program, the whole size, and how an input of a size is made."""
     for nodes in (32, 64):
@@ -69,6 +78,8 @@ def rows():
     for workload in ("set", "unique-ids"):
         words = ("timeline", "--workload", workload, "--from", "0", "--to", "100000")
         yield f"timeline: {workload}, all shown", words, 100_000, lambda size, w=workload: checkers.history(w, size, 1)
+    words = ("timeline", "--workload", "unique-ids", "--independent", "--to", "100000")
+    yield "timeline: unique-ids, a key for each 100 records", words, 100_000, keyed
     yield "timeline: register, one client, all shown", ("timeline", "--workload", "register", "--to", "100000"), 100_000, one_client
 
 
