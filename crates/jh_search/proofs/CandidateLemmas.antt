@@ -1,0 +1,77 @@
+-- What is true of the entries and kinds of a candidate.
+use Rattle.std.proofs.Common.{◌≡◌, ℕ, ◌+◌, ◌<◌, Bool, true, false, List, ◌∷◌, length, length-append, take, drop, refl, ap, arith}
+use Rattle.std.specs.Prelude.{◌||◌, not, nat_lt, if◌then◌else◌}
+use Rattle.std.specs.List.{fold, insert, position_or_len, range_with_len}
+use Rattle.std.proofs.lemmas.Bool.{and_parts, ltb-true}
+use Rattle.std.proofs.lemmas.List.{take-append-drop}
+use Rattle.std.proofs.lemmas.List.Elements.{All-append, All-cons, All-drop, All-take}
+use Rattle.std.proofs.lemmas.List.Sums.{fold_push}
+use Rattle.jh_nemesis.specs.Steps.{FitsNodes}
+use Rattle.jh_nemesis.proofs.LinkLemmas.{all_from, kept, range_more}
+use Rattle.jh_simnode.specs.declared.schedule.Entry.{Entry}
+use Rattle.jh_simnode.specs.Limits.{max_entries}
+use Rattle.jh_simnode.specs.Plans.{PlanValue, IsFit, RefusesPlan}
+use Rattle.jh_simnode.specs.declared.plan.PlanError.TheVariants as PlanError
+use Rattle.jh_search.specs.declared.kinds.Kind.{Kind}
+use Rattle.jh_search.specs.declared.kinds.Palette.{Palette}
+use Rattle.jh_search.specs.declared.options.Options.{Options}
+use Rattle.jh_search.specs.Candidates.{replanned, with_entry, with_random}
+use Rattle.jh_search.specs.CandidatesInside.{AreEntriesFor}
+use Rattle.jh_search.specs.FaultsInside.{HasNamed, HaveNamed}
+use Rattle.jh_search.specs.Kinds.{all_kinds, has_kind, is_drawn, is_on_links, kinds_drawn}
+
+-- one fault more
+pub one_fault_more : (p : PlanValue) (options : Options) (seed n : ℕ)
+    → fold (with_random p options seed) p.schedule (range_with_len 0 (n + 1)) ≡ with_random p options seed (fold (with_random p options seed) p.schedule (range_with_len 0 n)) n
+one_fault_more p options seed n =
+    let same : 0 + n ≡ n = omega arith in
+    rw (← range_more 0 n, same) (fold_push (with_random p options seed) p.schedule (range_with_len 0 n) n)
+
+-- a kind that is drawn has something to name
+named_if_drawn : (palette : Palette) (count : ℕ) (kind : Kind) → is_drawn palette count kind ≡ true → HasNamed count kind
+named_if_drawn palette count kind drawn links = go (is_on_links kind) links (and_parts (has_kind palette kind) (not (is_on_links kind) || nat_lt 1 count) drawn).1 where
+  go : (b : Bool) → b ≡ true → (not b || nat_lt 1 count) ≡ true → 1 < count
+  go true is some = ltb-true 1 count some
+  go false is some = absurd cc
+
+pub drawn_named : (palette : Palette) (count : ℕ) → HaveNamed count (kinds_drawn palette count)
+drawn_named palette count =
+    all_from (HasNamed count) (kinds_drawn palette count)
+    (λ kind has. named_if_drawn palette count kind (kept (is_drawn palette count) all_kinds kind has).1)
+
+-- entries with one more are such as a schedule of the plan may have
+pub one_entry_more : (p : PlanValue) (entries : List Entry) (entry : Entry) → AreEntriesFor p entries → FitsNodes (length p.env.names) entry.step
+    → AreEntriesFor p (with_entry entries entry)
+one_entry_more p entries entry are fits =
+    let P : Entry → Type 0 = λ e. FitsNodes (length p.env.names) e.step in
+    let place = position_or_len (λ (other : Entry). nat_lt entry.at other.at) entries in
+    let whole = ap length (take-append-drop place entries) in
+    let parts = length-append (take place entries) (drop place entries) in
+    let longer = length-append (take place entries) (entry ∷ drop place entries) in
+    elim (nat_lt (length entries) max_entries) as (λ b. nat_lt (length entries) max_entries ≡ b → AreEntriesFor p (if b then insert entries place entry else entries)) [
+      | true ↦ λ room. record {
+        few = (let below : length entries < max_entries = ltb-true (length entries) max_entries room in omega (arith, whole, parts, longer, below));
+        fit = All-append P (take place entries) (entry ∷ drop place entries) (All-take P place entries are.fit)
+            (All-cons P entry (drop place entries) fits (All-drop P place entries are.fit));
+      }
+      | false ↦ λ full. are
+    ] refl
+
+-- a plan that can be run is refused for want of memory alone
+pub plan_refused : (p : PlanValue) (e : PlanError.the_data) → IsFit p → RefusesPlan p e → e ≡ PlanError.OutOfMemory
+plan_refused p PlanError.BadClients fit refused = absurd (refused fit.clients)
+plan_refused p PlanError.BadOps fit refused = absurd (refused.1 fit.ops)
+plan_refused p PlanError.BadRows fit refused = absurd (refused.2 fit.rows)
+plan_refused p PlanError.BadGenerator fit refused = absurd (refused.3 fit.generator)
+plan_refused p PlanError.BadStep fit refused = absurd (refused.4 fit.steps)
+plan_refused p PlanError.OutOfMemory fit refused = refl
+
+-- the plan with other entries and another seed can be run as well
+pub fit_replanned : (p : PlanValue) (entries : List Entry) (seed : ℕ) → IsFit p → AreEntriesFor p entries → IsFit (replanned p entries seed)
+fit_replanned p entries seed fit are = record {
+  clients = fit.clients;
+  ops = fit.ops;
+  rows = fit.rows;
+  generator = fit.generator;
+  steps = are.fit;
+}

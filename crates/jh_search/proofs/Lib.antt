@@ -1,0 +1,4 @@
+mod CandidateLemmas
+mod DrawLemmas
+mod FaultLemmas
+mod SearchLemmas

@@ -1,0 +1,21 @@
+use Rattle.std.proofs.Common.{length, ap, subst, sym, ◌∙◌}
+use Rattle.std.proofs.lemmas.Result.{IfOk-weaker}
+use Rattle.jh_env.specs.Faults as env
+use Rattle.jh_env.specs.Faults.{FitsCount, Slow, kept_links}
+use Rattle.jh_nemesis.specs.NamedFaults.{AreLinksAmong}
+use Rattle.jh_search.proofs.FaultLemmas.{links_refused, made_so, only_memory, where_ok}
+use Rattle.jh_search.proofs.random_faults.slow.Goals as goal
+
+pub made-requires : goal.made-requires
+made-requires c =
+    let n = length c.args.nodes.now in
+    let among : AreLinksAmong n c.deref.result.now = subst (AreLinksAmong n) (sym c.deref.ensures.value) c.in_ok-links.ensures.among in
+    only_memory _ _ c.slow.result (λ e refused. links_refused n c.deref.result.now (env.IsSlowAmount c.args.ms) e among c.requires.amount refused) c.slow.ensures.made
+
+pub returns-clause-made : goal.returns-clause-made
+returns-clause-made c =
+    made_so _ c.slow.result c.made.result c.made.ensures
+    (IfOk-weaker c.slow.result _ _ (λ fault made. made.0 ∙ ap (λ links. Slow c.args.ms (kept_links links)) (c.deref.ensures.value ∙ c.in_ok-links.ensures.links)) (where_ok _ _ c.slow.result c.slow.ensures.made))
+
+pub returns-clause-fits : goal.returns-clause-fits
+returns-clause-fits c = made_so (FitsCount (length c.args.nodes.now)) c.slow.result c.made.result c.made.ensures c.slow.ensures.fits

@@ -1,0 +1,44 @@
+use Rattle.std.proofs.Common.{rules, ◌≡◌, ◌<◌, ◌+◌, length, get_or, subst, arith}
+use Rattle.std.specs.Prelude.{None, Ok, Some}
+use Rattle.jh_search.specs.Search.{ComesOf}
+use Rattle.jh_search.specs.declared.outcomes.Outcome.TheVariants.{Fails}
+use Rattle.jh_search.proofs.SearchLemmas.{answer_comes, first_found, passed_more, unknown_more}
+use Rattle.jh_search.proofs.threads.after_block.Goals as goal
+use Rattle.jh_search.proofs.threads.after_block.Goals.{in-Passes, in-Unknown}
+
+pub returns-in-Fails : goal.returns-in-Fails
+returns-in-Fails c =
+    let p = c.args.plan.now in
+    let options = c.args.options.now in
+    let i = c.loop-answer.answer-index in
+    let far = c.loop-answer.invariant.far in
+    let here : options.from + c.args.progress.tried + i ≡ options.from + c.loop-answer.next.tried = omega (arith, far) in
+    let below : i < length c.args.answers.now = c.loop-answer-test.true in
+    let at : get_or c.args.answers.now i None ≡ Some (Ok c.in-Some-Ok.outcome) = search rules in
+    let came = answer_comes p options (options.from + c.args.progress.tried) c.args.answers.now i c.in-Some-Ok.outcome c.requires.answers below at in
+    let few = c.requires.few in
+    first_found p options c.loop-answer.next.tried c.loop-answer.next.unknown c.loop-answer.invariant.tried (omega (arith, far, few, below))
+    (subst (λ n. ComesOf p options n Fails) here (subst (ComesOf p options (options.from + c.args.progress.tried + i)) c.in-Fails.is came))
+
+pub loop-answer-preserved : goal.loop-answer-preserved
+loop-answer-preserved c =
+    let p = c.args.plan.now in
+    let options = c.args.options.now in
+    let i = c.loop-answer.answer-index in
+    let far = c.loop-answer.invariant.far in
+    let here : options.from + c.args.progress.tried + i ≡ options.from + c.loop-answer.next.tried = omega (arith, far) in
+    let below : i < length c.args.answers.now = c.loop-answer-test.true in
+    let at : get_or c.args.answers.now i None ≡ Some (Ok c.in-Some-Ok.outcome) = search rules in
+    let came = subst (λ n. ComesOf p options n c.in-Some-Ok.outcome) here
+    (answer_comes p options (options.from + c.args.progress.tried) c.args.answers.now i c.in-Some-Ok.outcome c.requires.answers below at) in
+    let before = c.loop-answer.next in
+    elim c.match-outcome.branch [
+      | in-Passes w ↦ rw (w.next-is) (record {
+        tried = passed_more p options before.tried before.unknown c.loop-answer.invariant.tried (subst (ComesOf p options (options.from + before.tried)) w.in-Passes.is came);
+        far = omega (arith, far);
+      })
+      | in-Unknown w ↦ rw (w.next-is) (record {
+        tried = unknown_more p options before.tried before.unknown c.loop-answer.invariant.tried (subst (ComesOf p options (options.from + before.tried)) w.in-Unknown.is came);
+        far = omega (arith, far);
+      })
+    ]

@@ -1,0 +1,12 @@
+-- What is known of entries and kinds while a candidate is made.
+use Rattle.std.specs.Prelude.{◌≤◌, List, length}
+use Rattle.std.specs.List.{All}
+use Rattle.jh_nemesis.specs.Steps.{FitsNodes}
+use Rattle.jh_simnode.specs.declared.schedule.Entry.{Entry}
+use Rattle.jh_simnode.specs.Limits.{max_entries}
+use Rattle.jh_simnode.specs.Plans.{PlanValue}
+
+-- a schedule of the plan may have these entries
+pub record AreEntriesFor (p : PlanValue) (entries : List Entry) : Type 0 where
+  pub few : length entries ≤ max_entries
+  pub fit : All (λ entry. FitsNodes (length p.env.names) entry.step) entries

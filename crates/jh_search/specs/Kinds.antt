@@ -1,0 +1,43 @@
+-- The kinds of faults that random schedules are made of (this project's own; what a fault of each kind does stands in
+-- jh_tables).
+use Rattle.std.specs.Prelude.{ℕ, ◌&&◌, ◌||◌, Bool, true, false, not, nat_lt, List, [], ◌∷◌, filter}
+use Rattle.jh_search.specs.declared.kinds.Kind.{Kind}
+use Rattle.jh_search.specs.declared.kinds.Kind.TheVariants.{Cut, Slow, Loss, Fix, Pause, Kill, Bump}
+use Rattle.jh_search.specs.declared.kinds.Palette.{Palette}
+
+-- all kinds, in the order in which one is chosen
+abbrev pub all_kinds : List Kind
+all_kinds = Cut ∷ Slow ∷ Loss ∷ Fix ∷ Pause ∷ Kill ∷ Bump ∷ []
+
+-- the palette that has them all
+abbrev pub whole_palette : Palette
+whole_palette =
+    record { cut = true; slow = true; loss = true; fix = true; pause = true; kill = true; bump = true }
+
+-- the palette has this kind
+abbrev pub has_kind : Palette → Kind → Bool
+has_kind palette Cut = palette.cut
+has_kind palette Slow = palette.slow
+has_kind palette Loss = palette.loss
+has_kind palette Fix = palette.fix
+has_kind palette Pause = palette.pause
+has_kind palette Kill = palette.kill
+has_kind palette Bump = palette.bump
+
+-- faults of this kind name links
+abbrev pub is_on_links : Kind → Bool
+is_on_links Cut = true
+is_on_links Slow = true
+is_on_links Loss = true
+is_on_links Fix = true
+is_on_links Pause = false
+is_on_links Kill = false
+is_on_links Bump = false
+
+-- Faults of this kind are drawn for so many nodes: the palette has it, and they have something to name, for one node has
+-- no link.
+abbrev pub is_drawn : Palette → ℕ → Kind → Bool
+is_drawn palette count kind = has_kind palette kind && (not (is_on_links kind) || nat_lt 1 count)
+
+abbrev pub kinds_drawn : Palette → ℕ → List Kind
+kinds_drawn palette count = filter (is_drawn palette count) all_kinds

@@ -1,0 +1,43 @@
+//! Entries put among those of a schedule, and the ids that are taken there. `specs/Candidates.antt` has the rules.
+
+ghost use Rattle.std.specs.Prelude.{◌≡◌, OnOk};
+ghost use Rattle.jh_search.specs.Candidates as rule;
+
+use jh_nemesis::Step;
+use jh_simnode::{Entry, MAX_ENTRIES};
+use std::alloc::AllocError;
+
+/// Puts an entry before the first that is due later, where a schedule has room for it.
+pub(crate) fn put_entry(entries: &mut Vec<Entry>, entry: Entry) -> Result<(), AllocError>
+    ensures { OnOk result (entries.new.items ≡ rule.with_entry entries.old.items entry) }
+{
+    if entries.len() < MAX_ENTRIES {
+        let later = entries.iter().position(|other| other.at > entry.at);
+        entries.insert(later.unwrap_or(entries.len()), entry)?;
+    }
+    Ok(())
+}
+
+/// The id that a step begins or withdraws, and 0 where it names none.
+fn id_named(step: &Step) -> u32
+    ensures { result ≡ rule.id_named step.now }
+{
+    match step {
+        Step::Begin(id, _) | Step::Withdraw(id) => *id,
+        Step::WithdrawAll | Step::Undo | Step::Redo => 0,
+    }
+}
+
+/// The greatest id of a schedule.
+pub(crate) fn greatest_id(entries: &[Entry]) -> u32
+    ensures { result ≡ rule.greatest_id entries.now }
+{
+    let mut greatest = 0;
+    for entry in entries {
+        let id = id_named(&entry.step);
+        if greatest < id {
+            greatest = id;
+        }
+    }
+    greatest
+}

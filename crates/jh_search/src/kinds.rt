@@ -1,0 +1,111 @@
+//! The kinds of faults that random schedules are made of. `specs/Kinds.antt` says which are drawn; a new kind is first a fault of
+//! `jh_env`, then a case here and there.
+
+ghost use Rattle.std.specs.Prelude.{◌≡◌, IfOk};
+ghost use Rattle.jh_search.specs.Kinds as rule;
+ghost use Rattle.jh_search.specs.Kinds.{kinds_drawn};
+
+use std::alloc::{AllocError, Global};
+
+/// A kind of fault.
+#[derive(Clone, Copy, Debug, PartialEq, Eq)]
+pub enum Kind {
+    Cut,
+    Slow,
+    Loss,
+    Fix,
+    Pause,
+    Kill,
+    Bump,
+}
+
+/// All kinds, in the order in which one is chosen.
+const ALL: [Kind; 7] = [
+    Kind::Cut,
+    Kind::Slow,
+    Kind::Loss,
+    Kind::Fix,
+    Kind::Pause,
+    Kind::Kill,
+    Kind::Bump,
+];
+
+/// Which kinds of faults a random schedule may have.
+#[derive(Clone, Copy, Debug, PartialEq, Eq)]
+pub struct Palette {
+    pub cut: bool,
+    pub slow: bool,
+    pub loss: bool,
+    pub fix: bool,
+    pub pause: bool,
+    pub kill: bool,
+    pub bump: bool,
+}
+
+impl Palette {
+    /// The palette of all kinds.
+    pub fn all() -> Palette
+        ensures { result ≡ rule.whole_palette }
+    {
+        Palette {
+            cut: true,
+            slow: true,
+            loss: true,
+            fix: true,
+            pause: true,
+            kill: true,
+            bump: true,
+        }
+    }
+
+    /// Whether it has a kind.
+    pub fn has(self, kind: Kind) -> bool
+        ensures { result ≡ rule.has_kind self kind }
+    {
+        match kind {
+            Kind::Cut => self.cut,
+            Kind::Slow => self.slow,
+            Kind::Loss => self.loss,
+            Kind::Fix => self.fix,
+            Kind::Pause => self.pause,
+            Kind::Kill => self.kill,
+            Kind::Bump => self.bump,
+        }
+    }
+}
+
+impl Kind {
+    /// Whether its faults name links.
+    fn is_on_links(self) -> bool
+        ensures { result ≡ rule.is_on_links self }
+    {
+        match self {
+            Kind::Cut | Kind::Slow | Kind::Loss | Kind::Fix => true,
+            Kind::Pause | Kind::Kill | Kind::Bump => false,
+        }
+    }
+}
+
+/// Whether a fault of this kind may be drawn, for so many nodes.
+fn is_drawn(palette: Palette, count: usize, kind: Kind) -> bool
+    ensures { result ≡ rule.is_drawn palette count kind }
+{
+    palette.has(kind) && (!kind.is_on_links() || count > 1)
+}
+
+/// The kinds of which faults are drawn, for so many nodes.
+pub(crate) fn kinds_of(
+    alloc: Global,
+    palette: Palette,
+    count: usize,
+) -> Result<Vec<Kind>, AllocError>
+    ensures { IfOk result (λ kinds. kinds.items ≡ kinds_drawn palette count) }
+{
+    let mut kinds = Vec::new(alloc);
+    for kind in &ALL {
+        if is_drawn(palette, count, *kind) {
+            kinds.push(*kind)?;
+        }
+    }
+    Ok(kinds)
+}

@@ -1,0 +1,19 @@
+//! Searches random schedules for a run that fails.
+#![tactic(auto)]
+
+mod candidates;
+mod draws;
+mod entries;
+mod kinds;
+mod options;
+mod outcomes;
+mod random_faults;
+mod serial;
+mod threads;
+
+pub use candidates::candidate;
+pub use kinds::{Kind, Palette};
+pub use options::Options;
+pub use outcomes::Outcome;
+pub use serial::{Searched, search_serial};
+pub use threads::{SearchError, search};

@@ -1,0 +1,18 @@
+//! What a search is asked. `specs/Candidates.antt` and `specs/Search.antt` say what its fields mean.
+
+use crate::kinds::Palette;
+
+/// What a search is asked.
+#[derive(Clone, Copy, Debug, PartialEq, Eq)]
+pub struct Options {
+    /// The number of the first candidate.
+    pub from: u64,
+    /// How many candidates are tried at most.
+    pub runs: u64,
+    /// How many random faults each has among the entries of the plan, where there is room for them.
+    pub faults: u32,
+    /// Of which kinds these are.
+    pub palette: Palette,
+    /// How many configurations the judge of a register may reach for each.
+    pub budget: u64,
+}

@@ -1,0 +1,229 @@
+//! Candidates tried on several threads, block by block. What is found is what `search_serial` may find.
+
+ghost use Rattle.std.specs.Prelude.{◌≡◌, ◌<◌, ◌≤◌, ◌+◌, ◌^◌, ℕ, IfOk, length};
+ghost use Rattle.jh_share.specs.Answers.{AreAnswers};
+ghost use Rattle.jh_search.specs.Search.{ComesOf, IsSearched};
+ghost use Rattle.jh_search.specs.SearchInside.{AreTries, HasTried, LeadsTo};
+ghost use Rattle.jh_search.specs.declared.outcomes.Outcome.{Outcome};
+ghost use Rattle.jh_search.specs.declared.threads.SearchError.TheVariants.{OutOfMemory};
+
+use crate::options::Options;
+use crate::outcomes::{Outcome, outcome_at};
+use crate::serial::Searched;
+use jh_share::{Task, share};
+use jh_simnode::Plan;
+use std::alloc::{AllocError, Global};
+use std::marker::{Brand, Model, PhantomData};
+use std::sync::Wait;
+use std::thread::Threads;
+use thiserror::Error;
+
+/// How many candidates the threads share at once: so a search of any length takes the memory of so many answers.
+const MAX_BLOCK: u64 = 65_536;
+
+/// Why a search ends without an answer.
+#[derive(Clone, Copy, Debug, PartialEq, Eq, Error)]
+pub enum SearchError {
+    /// A thread could not be had.
+    #[error("thread")]
+    Thread,
+    #[error("out of memory")]
+    OutOfMemory,
+}
+
+impl From<AllocError> for SearchError {
+    ghost use Rattle.std.specs.Prelude.{◌≡◌};
+    ghost use Rattle.jh_search.specs.declared.threads.SearchError.TheVariants.{OutOfMemory};
+
+    ghost from_gives = { λ _ e. e ≡ OutOfMemory };
+
+    fn from(_error: AllocError) -> SearchError {
+        SearchError::OutOfMemory
+    }
+}
+
+/// What trying one candidate gave.
+type Answer = Result<Outcome, AllocError>;
+
+/// The candidates of a block. Each block picks its own.
+pub trait Tries {
+    /// How many there are.
+    ghost count: { ℕ };
+
+    /// What may come of each.
+    ghost comes: { ℕ → Outcome → Type 0 };
+}
+
+impl Tries for Brand {
+    ghost count = { 0 };
+
+    ghost comes = { λ index outcome. Unit {0} };
+}
+
+/// The candidates from a number on.
+#[derive(Drop)]
+struct Candidates<'a, Q: Tries> {
+    alloc: Global,
+    plan: &'a Plan,
+    options: &'a Options,
+    from: u64,
+    of: PhantomData<Q>,
+}
+
+impl<'a, Q: Tries> Model for Candidates<'a, Q> {
+    ghost Value = { Unit {0} };
+
+    ghost view = { λ c. tt };
+
+    ghost invariant = { λ c. AreTries c.plan.now c.options.now c.from Q.count Q.comes };
+}
+
+impl<'a, Q: Tries> Task<Answer> for Candidates<'a, Q> {
+    ghost count = { Q.count };
+
+    ghost is_right = { λ index answer. IfOk answer (Q.comes index) };
+
+    fn answer_at(&self, number: usize) -> Answer {
+        outcome_at(
+            self.alloc,
+            self.plan,
+            self.options,
+            self.from + number as u64,
+        )
+    }
+
+    fn is_last(answer: &Answer) -> bool {
+        matches!(answer, Err(_) | Ok(Outcome::Fails))
+    }
+}
+
+/// What came of so many candidates.
+fn tried<Q: Tries + Send + Sync, R: Threads + Wait + Sync>(
+    rt: &R,
+    alloc: Global,
+    plan: &Plan,
+    options: &Options,
+    from: u64,
+    count: usize,
+    threads: u32,
+) -> Result<Vec<Option<Answer>>, AllocError>
+    requires tries { AreTries plan.now options.now from Q.count Q.comes }
+    requires count { count ≡ Q.count }
+    requires threads { (1 ≤ threads) × (threads ≤ 16) }
+    ensures { IfOk result (λ answers. AreAnswers Q.count (λ index answer. IfOk answer (Q.comes index)) answers.items) }
+{
+    let candidates = Candidates::<'_, Q> {
+        alloc,
+        plan,
+        options,
+        from,
+        of: PhantomData,
+    };
+    share::<Answer, Candidates<'_, Q>, R>(rt, alloc, &candidates, count, threads)
+}
+
+/// What came of the candidates of a block.
+fn block<R: Threads + Wait + Sync>(
+    rt: &R,
+    alloc: Global,
+    plan: &Plan,
+    options: &Options,
+    from: u64,
+    count: usize,
+    threads: u32,
+) -> Result<Vec<Option<Answer>>, AllocError>
+    requires few { from + count < 2 ^ 64 }
+    requires threads { (1 ≤ threads) × (threads ≤ 16) }
+    ensures { IfOk result (λ answers. AreAnswers count
+        (λ index answer. IfOk answer (ComesOf plan.now options.now (from + index))) answers.items) }
+{
+    tried::<Brand, R>(rt, alloc, plan, options, from, count, threads)
+}
+
+/// Where a search stands: how many candidates were tried, none of which fails, and how many of these are unknown.
+#[derive(Clone, Copy)]
+struct Progress {
+    tried: u64,
+    unknown: u64,
+}
+
+/// What a block leads to.
+#[derive(Clone, Copy)]
+enum Next {
+    Found(Searched),
+    Goes(Progress),
+}
+
+/// What the answers of a block lead to.
+fn after_block(
+    plan: &Plan,
+    options: &Options,
+    progress: Progress,
+    answers: &[Option<Answer>],
+) -> Result<Next, SearchError>
+    requires tried { HasTried plan.now options.now progress.tried progress.unknown }
+    requires answers { AreAnswers (length answers.now)
+        (λ index answer. IfOk answer (ComesOf plan.now options.now (options.now.from + progress.tried + index))) answers.now }
+    requires few { progress.tried + length answers.now ≤ options.now.runs }
+    requires range { options.now.from + options.now.runs < 2 ^ 64 }
+    ensures { IfOk result (LeadsTo plan.now options.now (progress.tried + length answers.now)) }
+{
+    let mut next = progress;
+    for answer in answers {
+        let outcome = match answer {
+            Some(Ok(outcome)) => *outcome,
+            Some(Err(error)) => return Err(SearchError::from(*error)),
+            None => return Err(SearchError::Thread),
+        };
+        match outcome {
+            Outcome::Fails => {
+                return Ok(Next::Found(Searched {
+                    failing: Some(options.from + next.tried),
+                    unknown: next.unknown,
+                }));
+            }
+            Outcome::Passes => {}
+            Outcome::Unknown => next.unknown += 1,
+        }
+        next.tried += 1;
+    }
+    Ok(Next::Goes(next))
+}
+
+/// Tries candidates on so many threads, this one among them: what is found is what `search_serial` may find, the least candidate
+/// that fails, whatever the number of threads. Each next thread that is free takes the next candidate, and none above one that
+/// fails is begun. All threads have ended when it returns.
+///
+/// May wait, and promises only if it returns. Takes the time of each run and of its judge, and memory for one at a time for each
+/// thread, and 2 bytes for each candidate of 65,536 at once.
+///
+/// Errors: at the first candidate that was not tried, `Thread` where a thread could not be had; `OutOfMemory`.
+pub fn search<R: Threads + Wait + Sync>(
+    rt: &R,
+    alloc: Global,
+    plan: &Plan,
+    options: &Options,
+    threads: u32,
+) -> Result<Searched, SearchError>
+    requires range { options.now.from + options.now.runs < 2 ^ 64 }
+    requires threads { (1 ≤ threads) × (threads ≤ 16) }
+    ensures { IfOk result (IsSearched plan.now options.now) }
+{
+    let mut progress = Progress {
+        tried: 0,
+        unknown: 0,
+    };
+    while progress.tried < options.runs {
+        let count = (options.runs - progress.tried).min(MAX_BLOCK) as usize;
+        let from = options.from + progress.tried;
+        let answers = block(rt, alloc, plan, options, from, count, threads)?;
+        match after_block(plan, options, progress, &answers)? {
+            Next::Found(found) => return Ok(found),
+            Next::Goes(next) => progress = next,
+        }
+    }
+    Ok(Searched {
+        failing: None,
+        unknown: progress.unknown,
+    })
+}

@@ -1,0 +1,17 @@
+//! Tests of `jh_search` and `jh_share`, through their public calls alone: candidates worked out by another program, random ones beside the plain
+//! ones of `jh_search_plain`, searches, and tasks that threads share. What the clauses say is proved: a test is for values that come from outside, and shows
+//! that memory suffices where there is some.
+//!
+//! What meets want of memory is made once more, so that the tests stand one refused allocation.
+#![tactic(auto)]
+
+#[cfg(test)]
+mod candidates;
+#[cfg(test)]
+mod first;
+#[cfg(test)]
+mod fixtures;
+#[cfg(test)]
+mod searches;
+#[cfg(test)]
+mod shares;
