@@ -1,4 +1,4 @@
 pub mod ChoiceLemmas
 pub mod FormLemmas
-pub mod ReplyValueLemmas
+pub mod ToldLemmas
 pub mod AuditLemmas

@@ -1,5 +1,4 @@
-//! The audit of a run: whether its history and its journal tell the same, and whether they keep to
-//! its plan.
+//! The audit of a run: whether its history and its journal tell the same, and whether they keep to its plan.
 //!
 //! No call takes memory or waits.
 #![tactic(auto)]
@@ -9,7 +8,7 @@ mod decode;
 mod forms;
 mod horizon;
 mod planned;
-mod replies;
+mod told;
 
 pub use checks::{AuditFault, audit};
 pub use planned::follows_plan;

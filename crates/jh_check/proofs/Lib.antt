@@ -1,7 +1,7 @@
 pub mod ListLemmas
-pub mod DistinctLemmas
+pub mod OnceLemmas
 pub mod SearchLemmas
-pub mod FinalReadLemmas
+pub mod FinalLemmas
 pub mod SumLemmas
 pub mod ErrorLemmas
-pub mod ElementLemmas
+pub mod LineLemmas

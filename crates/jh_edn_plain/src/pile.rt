@@ -9,7 +9,6 @@ use std::boxed::Box;
 /// How many may be open at one place.
 const MAX_OPEN: usize = 64;
 
-/// What is open: a bracket, a tag or a discard.
 #[derive(Drop)]
 enum Open {
     /// A bracket, with what stands behind it.
@@ -25,7 +24,6 @@ pub(crate) struct Pile {
     values: Vec<PlainValue>,
 }
 
-/// Whether this character closes the bracket.
 fn is_closed_by(bracket: Bracket, closing: char) -> bool {
     match bracket {
         Bracket::List => closing == ')',
@@ -50,7 +48,6 @@ fn pairs_of(
     Ok(key.is_none().then_some(pairs))
 }
 
-/// The map of these keys and values, or what is wrong with it.
 fn map_of(alloc: Global, values: Vec<PlainValue>, place: usize) -> Result<PlainValue, PlainError> {
     let Some(pairs) = pairs_of(alloc, values)? else {
         return Err(PlainError::Refused(PlainKind::OddMap, place));
@@ -61,7 +58,6 @@ fn map_of(alloc: Global, values: Vec<PlainValue>, place: usize) -> Result<PlainV
     Ok(PlainValue::Map(pairs))
 }
 
-/// The set of these values, or what is wrong with it.
 fn set_of(values: Vec<PlainValue>, place: usize) -> Result<PlainValue, PlainError> {
     if are_two_equal(&values) {
         return Err(PlainError::Refused(PlainKind::DuplicateKey, place));
@@ -70,7 +66,6 @@ fn set_of(values: Vec<PlainValue>, place: usize) -> Result<PlainValue, PlainErro
 }
 
 impl Pile {
-    /// An empty pile.
     pub(crate) fn new(alloc: Global) -> Pile {
         Pile {
             open: Vec::new(alloc),
@@ -78,7 +73,6 @@ impl Pile {
         }
     }
 
-    /// Opens a bracket, a tag or a discard, unless too many are open.
     fn open(&mut self, open: Open, place: usize) -> Result<(), PlainError> {
         if self.open.len() >= MAX_OPEN {
             return Err(PlainError::Refused(PlainKind::TooDeep, place));
@@ -103,7 +97,6 @@ impl Pile {
         Ok(())
     }
 
-    /// Closes the innermost bracket, and gives its value on.
     fn close(&mut self, alloc: Global, closing: char, place: usize) -> Result<(), PlainError> {
         let (bracket, values) = match self.open.pop() {
             Some(Open::Bracket(bracket, values)) if is_closed_by(bracket, closing) => {

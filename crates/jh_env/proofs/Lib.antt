@@ -1,6 +1,6 @@
 pub mod TextLemmas
 pub mod TextCellLemmas
-pub mod TextSettingLemmas
+pub mod TextTellingLemmas
 pub mod TextRefusalLemmas
 pub mod TextWritingLemmas
 pub mod TextFoldLemmas

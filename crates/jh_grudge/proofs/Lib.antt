@@ -1,5 +1,5 @@
 pub mod ListLemmas
-pub mod MetNodeLemmas
+pub mod MarkLemmas
 pub mod LinkLemmas
 pub mod AroundLemmas
 pub mod RankLemmas

@@ -1,2 +1,2 @@
 pub mod ParsingLemmas
-pub mod FirstValuesLemmas
+pub mod BegunLemmas

@@ -1,6 +1,6 @@
-pub mod SameKeyLemmas
+pub mod RunLemmas
 pub mod SplitLemmas
-pub mod KeyHistoryLemmas
+pub mod PartLemmas
 pub mod FoundLemmas
 pub mod HistoryLemmas
 pub mod LawLemmas

@@ -7,5 +7,5 @@ pub mod ListLemmas
 pub mod LinkLemmas
 pub mod GrudgeLemmas
 pub mod FaultTextLemmas
-pub mod StepLemmas
+pub mod RunLemmas
 pub mod WorkLemmas

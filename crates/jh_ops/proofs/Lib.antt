@@ -1,11 +1,11 @@
 pub mod KindLemmas
-pub mod ClientPairLemmas
+pub mod ClaimLemmas
 pub mod StageLemmas
 pub mod PlaceLemmas
-pub mod MapPairLemmas
+pub mod PartLemmas
 pub mod ReadBackLemmas
-pub mod FourPairLemmas
+pub mod WrittenLemmas
 pub mod HistoryLemmas
-pub mod PairPlaceLemmas
+pub mod WithinLemmas
 pub mod RecordLemmas
 pub mod RecordReadLemmas

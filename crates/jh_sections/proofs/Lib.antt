@@ -1,2 +1,2 @@
-pub mod FirstLineLemmas
+pub mod PartLemmas
 pub mod KeyLemmas

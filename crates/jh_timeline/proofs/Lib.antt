@@ -1,5 +1,2 @@
-mod CallLemmas
 mod LaneLemmas
-mod CallOrderLemmas
-mod LaneApartLemmas
 mod EndLemmas
