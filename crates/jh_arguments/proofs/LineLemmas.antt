@@ -4,22 +4,22 @@ use Rattle.std.specs.Prelude.{Result, Ok, Err, IfOk, IfErr}
 use Rattle.clap.specs.Words.{App, FailsBy, HasMatchesOf, Text, fault_of, is_simple, is_simple_and_free}
 use Rattle.clap.specs.declared.error.Error.{Error}
 use Rattle.clap.specs.declared.parser.matches.ArgMatches.{ArgMatches}
-use Rattle.jh_arguments.specs.Line.{IsFound, IsLine, IsRefused}
+use Rattle.jh_arguments.specs.Line.{AreMatches, IsCommandLine, IsRefused}
 
-pub line_simple : (app : App) → IsLine app → is_simple app ≡ true
+pub line_simple : (app : App) → IsCommandLine app → is_simple app ≡ true
 line_simple app line = ap is_simple line.2
 
-pub line_free : (app : App) → IsLine app → is_simple_and_free app ≡ true
+pub line_free : (app : App) → IsCommandLine app → is_simple_and_free app ≡ true
 line_free app line = ap is_simple_and_free line.2
 
-pub is_found : (r : Result ArgMatches Error) (arguments : List Text) (app : App) → IsLine app → FailsBy (fault_of app arguments) r
-    → IfOk r (HasMatchesOf app arguments) → IfOk r (IsFound arguments)
+pub is_found : (r : Result ArgMatches Error) (arguments : List Text) (app : App) → IsCommandLine app → FailsBy (fault_of app arguments) r
+    → IfOk r (HasMatchesOf app arguments) → IfOk r (AreMatches arguments)
 is_found (Ok m) arguments app line fails has =
     let both = has (line_simple app line) in
     (app, line, fails, both.0, both.1)
 is_found (Err e) arguments app line fails has = tt
 
-pub is_refused : (r : Result ArgMatches Error) (arguments : List Text) (app : App) → IsLine app → FailsBy (fault_of app arguments) r
+pub is_refused : (r : Result ArgMatches Error) (arguments : List Text) (app : App) → IsCommandLine app → FailsBy (fault_of app arguments) r
     → IfErr r (IsRefused arguments)
 is_refused (Ok m) arguments app line fails = tt
 is_refused (Err e) arguments app line fails = elim fails [

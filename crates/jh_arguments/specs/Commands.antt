@@ -1,9 +1,11 @@
--- Which arguments ask for which command, what it writes, and why its input is refused (this project's own).
-use Rattle.std.specs.Prelude.{◌≡◌, ◌<◌, ◌≤◌, ◌^◌, ℕ, ℤ, Bool, true, false, List, Option, Some, None, codes, FitsSigned}
+-- Which arguments ask for which command, what it writes, and why its input is refused (this
+-- project's own).
+use Rattle.std.specs.Prelude.{◌≡◌, ◌<◌, ◌≤◌, ◌^◌, ℕ, ℤ, Bool, true, false, List, Option, Some, None}
+use Rattle.std.specs.Prelude.{codes, FitsSigned}
 use mir.Syntax.{w64}
-use Rattle.std.specs.Str.Parse.{IsNumeral, digits_value, signed_digits_value, without_leading_plus, without_leading_sign}
+use Rattle.std.specs.Str.Parse.{IsNumeral, digits_value, signed_digits_value, without_leading_plus}
+use Rattle.std.specs.Str.Parse.{without_leading_sign}
 use Rattle.clap.specs.Words.{Row, Text, first_of, one_of}
-use Rattle.jh_ops.specs.declared.call.Workload.{Workload}
 use Rattle.jh_cli.specs.EnvText.{IsEnvTextOf}
 use Rattle.jh_cli.specs.CheckText.{IsCheckTextOf}
 use Rattle.jh_cli.specs.RunText.{IsRunTextOf}
@@ -19,21 +21,20 @@ use Rattle.jh_cli.specs.declared.check_command.Question.{Question}
 use Rattle.jh_cli.specs.declared.timeline_command.TimelineJudging.{TimelineJudging}
 use Rattle.jh_cli.specs.declared.timeline_command.TimelineQuestion.{TimelineQuestion}
 use Rattle.jh_arguments.specs.declared.commands.Command.{Command}
-use Rattle.jh_arguments.specs.declared.commands.Command.TheVariants.{Env, Check, Run, Shrink, Timeline}
-
-abbrev pub name_of : Workload → Text
-name_of Workload.Register = codes "register"
-name_of Workload.Set = codes "set"
-name_of Workload.Counter = codes "counter"
-name_of Workload.Ids = codes "unique-ids"
+use Rattle.jh_arguments.specs.declared.commands.Command.TheVariants.{Env, Check, Run, Shrink}
+use Rattle.jh_arguments.specs.declared.commands.Command.TheVariants.{Timeline}
+use Rattle.jh_ops.specs.Requests.{workload_name}
 
 -- the text writes a number of `i64`
 abbrev pub WritesSigned : Text → Type 0
-WritesSigned text = IsNumeral 10 (without_leading_sign text) × FitsSigned w64 (signed_digits_value 10 text)
+WritesSigned text =
+    IsNumeral 10 (without_leading_sign text) × FitsSigned w64 (signed_digits_value 10 text)
 
 -- the text writes a number of `u64`
 abbrev pub WritesUnsigned : Text → Type 0
-WritesUnsigned text = IsNumeral 10 (without_leading_plus text) × (digits_value 10 (without_leading_plus text) < 2 ^ 64)
+WritesUnsigned text =
+    IsNumeral 10 (without_leading_plus text)
+    × (digits_value 10 (without_leading_plus text) < 2 ^ 64)
 
 -- the initial value that an option gives, if it is there
 abbrev pub IsInitial : Option Text → Option ℤ → Type 0
@@ -44,7 +45,8 @@ IsInitial (Some text) None = WritesSigned text → ⊥
 -- the number that an option gives
 abbrev pub IsNumber : Option Text → ℕ → Type 0
 IsNumber None number = ⊥
-IsNumber (Some text) number = WritesUnsigned text × (number ≡ digits_value 10 (without_leading_plus text))
+IsNumber (Some text) number =
+    WritesUnsigned text × (number ≡ digits_value 10 (without_leading_plus text))
 
 -- how many threads an option gives
 abbrev pub IsThreads : Option Text → ℕ → Type 0
@@ -53,11 +55,12 @@ IsThreads text threads = IsNumber text threads × (1 ≤ threads) × (threads �
 -- whether a flag is there, which `clap` gives the text of yes or no
 abbrev pub IsFlag : Option Text → Bool → Type 0
 IsFlag None given = given ≡ false
-IsFlag (Some text) given = (text ≡ codes "true" → given ≡ true) × (text ≡ codes "false" → given ≡ false)
+IsFlag (Some text) given =
+    (text ≡ codes "true" → given ≡ true) × (text ≡ codes "false" → given ≡ false)
 
 -- the options of `check` ask this
-pub record Asks (options : List Row) (question : Question) : Type 0 where
-  pub workload : first_of (codes "workload") options ≡ Some (name_of question.workload)
+pub record AsksCheck (options : List Row) (question : Question) : Type 0 where
+  pub workload : first_of (codes "workload") options ≡ Some (workload_name question.workload)
   pub initial : IsInitial (one_of (codes "initial") options) question.initial
   pub budget : IsNumber (one_of (codes "budget") options) question.budget
   pub explain : IsFlag (one_of (codes "explain") options) question.explain
@@ -67,12 +70,13 @@ pub record Asks (options : List Row) (question : Question) : Type 0 where
 -- the index that an option gives, if it is there
 abbrev pub IsIndex : Option Text → Option ℕ → Type 0
 IsIndex None index = index ≡ None
-IsIndex (Some text) (Some number) = WritesUnsigned text × (number ≡ digits_value 10 (without_leading_plus text))
+IsIndex (Some text) (Some number) =
+    WritesUnsigned text × (number ≡ digits_value 10 (without_leading_plus text))
 IsIndex (Some text) None = WritesUnsigned text → ⊥
 
 -- by a workload of this name a history is judged so
 pub record IsJudgingBy (options : List Row) (name : Text) (judging : TimelineJudging) : Type 0 where
-  pub workload : name ≡ name_of judging.workload
+  pub workload : name ≡ workload_name judging.workload
   pub initial : IsInitial (one_of (codes "initial") options) judging.initial
   pub budget : IsNumber (one_of (codes "budget") options) judging.budget
 
@@ -80,7 +84,8 @@ pub record IsJudgingBy (options : List Row) (name : Text) (judging : TimelineJud
 abbrev pub IsJudging : List Row → Option TimelineJudging → Type 0
 IsJudging options None = first_of (codes "workload") options ≡ None
 IsJudging options (Some judging) =
-    (name : Text) × (first_of (codes "workload") options ≡ Some name) × IsJudgingBy options name judging
+    (name : Text) × (first_of (codes "workload") options ≡ Some name)
+    × IsJudgingBy options name judging
 
 -- the options of `timeline` ask this
 pub record AsksTimeline (options : List Row) (question : TimelineQuestion) : Type 0 where
@@ -93,10 +98,12 @@ pub record AsksTimeline (options : List Row) (question : TimelineQuestion) : Typ
 abbrev pub AsksFor : Option (Text × List Row) → Command → Type 0
 AsksFor None command = ⊥
 AsksFor (Some found) Env = found.0 ≡ codes "env"
-AsksFor (Some found) (Check question) = (found.0 ≡ codes "check") × Asks found.1 question
+AsksFor (Some found) (Check question) = (found.0 ≡ codes "check") × AsksCheck found.1 question
 AsksFor (Some found) Run = found.0 ≡ codes "run"
-AsksFor (Some found) (Shrink budget) = (found.0 ≡ codes "shrink") × IsNumber (one_of (codes "budget") found.1) budget
-AsksFor (Some found) (Timeline question) = (found.0 ≡ codes "timeline") × AsksTimeline found.1 question
+AsksFor (Some found) (Shrink budget) =
+    (found.0 ≡ codes "shrink") × IsNumber (one_of (codes "budget") found.1) budget
+AsksFor (Some found) (Timeline question) =
+    (found.0 ≡ codes "timeline") × AsksTimeline found.1 question
 
 -- ---- what a command does
 
@@ -106,17 +113,17 @@ TakesThreads (Check question) = (1 ≤ question.threads) × (question.threads �
 TakesThreads _ = Unit {0}
 
 -- what it writes for an input, with the exit status
-abbrev pub IsTextOf : Command → List ℕ → ℕ → List ℕ → Type 0
-IsTextOf Env input status output = IsEnvTextOf input output × (status ≡ 0)
-IsTextOf (Check question) input status output = IsCheckTextOf question input status output
-IsTextOf Run input status output = IsRunTextOf input status output
-IsTextOf (Shrink budget) input status output = IsShrinkTextOf input status output
-IsTextOf (Timeline question) input status output = IsTimelineTextOf question input status output
+abbrev pub IsOutputOf : Command → List ℕ → ℕ → List ℕ → Type 0
+IsOutputOf Env input status output = IsEnvTextOf input output × (status ≡ 0)
+IsOutputOf (Check question) input status output = IsCheckTextOf question input status output
+IsOutputOf Run input status output = IsRunTextOf input status output
+IsOutputOf (Shrink budget) input status output = IsShrinkTextOf input status output
+IsOutputOf (Timeline question) input status output = IsTimelineTextOf question input status output
 
 -- why it refuses an input, or does not do its work
-abbrev pub Refuses : Command → List ℕ → CliError → Type 0
-Refuses Env input e = RefusesInput input e
-Refuses (Check question) input e = RefusesCheck question input e
-Refuses Run input e = RefusesRun input e
-Refuses (Shrink budget) input e = RefusesShrinking input e
-Refuses (Timeline question) input e = RefusesTimeline question input e
+abbrev pub RefusesCommand : Command → List ℕ → CliError → Type 0
+RefusesCommand Env input e = RefusesInput input e
+RefusesCommand (Check question) input e = RefusesCheck question input e
+RefusesCommand Run input e = RefusesRun input e
+RefusesCommand (Shrink budget) input e = RefusesShrinking input e
+RefusesCommand (Timeline question) input e = RefusesTimeline question input e

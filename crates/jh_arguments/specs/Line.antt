@@ -1,14 +1,20 @@
--- The commands of `jeprun` and their options (this project's own), in the terms by which `clap` says what it makes of arguments.
+-- The commands of `jeprun` and their options (this project's own), in the terms by which `clap`
+-- says what it makes of arguments.
 use Rattle.std.specs.Prelude.{◌≡◌, ◌⊎◌, List, [], ◌∷◌, Some, pos, negsuc, true, map, codes}
 use Rattle.std.specs.Borrow.{Bor}
-use Rattle.clap.specs.Words.{App, Rule, Text, IsAmong, fault_of, kind_of, matches_of, new_app, new_rule, rows_of, found_of, subcommand_of, subcommand_rows_of, with_rule, with_subcommand}
+use Rattle.clap.specs.Words.{App, Rule, Text, IsAmong, fault_of, kind_of, matches_of, new_app}
+use Rattle.clap.specs.Words.{new_rule, rows_of, found_of, subcommand_of, subcommand_rows_of}
+use Rattle.clap.specs.Words.{with_rule, with_subcommand}
 use Rattle.clap.specs.Simple.{on_top}
 use Rattle.clap.specs.declared.builder.action.ArgAction.TheVariants.{SetTrue}
 use Rattle.clap.specs.declared.builder.value_parser.ValueParser.{ValueParser}
-use Rattle.clap.specs.declared.builder.value_parser.ValueParser.TheVariants.{Names, Signed, Unsigned}
+use Rattle.clap.specs.declared.builder.value_parser.ValueParser.TheVariants.{Names, Signed}
+use Rattle.clap.specs.declared.builder.value_parser.ValueParser.TheVariants.{Unsigned}
 use Rattle.clap.specs.declared.error.Error.{Error}
 use Rattle.clap.specs.declared.error.ErrorKind.TheVariants.{OutOfMemory}
 use Rattle.clap.specs.declared.parser.matches.ArgMatches.{ArgMatches}
+use Rattle.jh_ops.specs.Requests.{workload_name}
+use Rattle.jh_ops.specs.declared.call.Workload.TheVariants.{Register, Counter, Set, Ids}
 
 -- an option that takes one value
 abbrev pub option : Text → Rule
@@ -18,24 +24,27 @@ option name = record (new_rule name) { long = Some name; value_names = 1 }
 abbrev pub workload : Bor (List (Bor Text)) → Rule
 workload names = record (option (codes "workload")) { parser = Some (Names names) }
 
-abbrev pub needed : Rule → Rule
-needed rule = record rule { required = true }
+abbrev pub needed_rule : Rule → Rule
+needed_rule rule = record rule { required = true }
 
 -- a number of `i64`
-abbrev pub initial : Rule
-initial = record (option (codes "initial")) { parser = Some (Signed (negsuc 9223372036854775807) (pos 9223372036854775807)) }
+abbrev pub initial_rule : Rule
+initial_rule =
+    record (option (codes "initial"))
+    { parser = Some (Signed (negsuc 9223372036854775807) (pos 9223372036854775807)) }
 
 -- a number of `u64`
 abbrev pub index : Text → Rule
 index name = record (option name) { parser = Some (Unsigned 0 18446744073709551615) }
 
 -- a number that a parser reads, and this where nothing is said
-abbrev pub number : Text → ValueParser → Text → Rule
-number name parser default = record (option name) { parser = Some parser; defaults = default ∷ [] }
+abbrev pub number_rule : Text → ValueParser → Text → Rule
+number_rule name parser default =
+    record (option name) { parser = Some parser; defaults = default ∷ [] }
 
 -- how much may be done: at most 10,000,000
 abbrev pub budget : Text → Rule
-budget default = number (codes "budget") (Unsigned 0 10000000) default
+budget default = number_rule (codes "budget") (Unsigned 0 10000000) default
 
 -- an option that is there or not
 abbrev pub flag : Text → Rule
@@ -43,37 +52,51 @@ flag name = record (new_rule name) { long = Some name; action = Some SetTrue }
 
 -- by how many threads: from 1 to 16
 abbrev pub threads : Rule
-threads = number (codes "threads") (Unsigned 1 16) (codes "1")
+threads = number_rule (codes "threads") (Unsigned 1 16) (codes "1")
 
 abbrev pub check : Bor (List (Bor Text)) → App
 check names =
-    with_rule (with_rule (with_rule (with_rule (with_rule (with_rule (new_app (codes "check")) (needed (workload names))) initial)
+    with_rule (with_rule
+    (with_rule (with_rule
+    (with_rule (with_rule (new_app (codes "check")) (needed_rule (workload names)))
+    initial_rule)
     (budget (codes "100000"))) (flag (codes "explain"))) (flag (codes "independent"))) threads
 
 abbrev pub timeline : Bor (List (Bor Text)) → App
 timeline names =
-    with_rule (with_rule (with_rule (with_rule (with_rule (with_rule (new_app (codes "timeline")) (workload names)) initial)
-    (budget (codes "100000"))) (flag (codes "independent"))) (index (codes "from"))) (index (codes "to"))
+    with_rule (with_rule
+    (with_rule (with_rule
+    (with_rule (with_rule (new_app (codes "timeline")) (workload names)) initial_rule)
+    (budget (codes "100000"))) (flag (codes "independent"))) (index (codes "from")))
+    (index (codes "to"))
 
 abbrev pub shrink : App
 shrink = with_rule (new_app (codes "shrink")) (budget (codes "10000"))
 
 abbrev pub jeprun : Bor (List (Bor Text)) → App
 jeprun names = with_subcommand (with_subcommand (with_subcommand (with_subcommand (with_subcommand
-    (on_top (λ s. record s { has_version = true; subcommand_required = true; arg_required_else_help = true }) (new_app (codes "jeprun")))
-    (new_app (codes "env")).top) (check names).top) (new_app (codes "run")).top) shrink.top) (timeline names).top
+    (on_top (λ s.
+    record s { has_version = true; subcommand_required = true; arg_required_else_help = true })
+    (new_app (codes "jeprun")))
+    (new_app (codes "env")).top) (check names).top) (new_app (codes "run")).top) shrink.top)
+    (timeline names).top
 
 abbrev pub workload_names : List Text
-workload_names = codes "register" ∷ codes "set" ∷ codes "counter" ∷ codes "unique-ids" ∷ []
+workload_names = map workload_name (Register ∷ Set ∷ Counter ∷ Ids ∷ [])
 
 -- the command line
-abbrev pub IsLine : App → Type 0
-IsLine app = (names : Bor (List (Bor Text))) × (map (λ s. s.now) names.now ≡ workload_names) × (app ≡ jeprun names)
+abbrev pub IsCommandLine : App → Type 0
+IsCommandLine app =
+    (names : Bor (List (Bor Text))) × (map (λ s. s.now) names.now ≡ workload_names)
+    × (app ≡ jeprun names)
 
 -- What is found in the arguments, and why they are refused, by `clap`'s definitions.
-abbrev pub IsFound : List Text → ArgMatches → Type 0
-IsFound arguments matches = (app : App) × IsLine app × (fault_of app arguments ≡ [])
-    × (rows_of (found_of matches) ≡ matches_of app arguments) × (subcommand_rows_of matches ≡ subcommand_of app arguments)
+abbrev pub AreMatches : List Text → ArgMatches → Type 0
+AreMatches arguments matches = (app : App) × IsCommandLine app × (fault_of app arguments ≡ [])
+    × (rows_of (found_of matches) ≡ matches_of app arguments)
+    × (subcommand_rows_of matches ≡ subcommand_of app arguments)
 
 abbrev pub IsRefused : List Text → Error → Type 0
-IsRefused arguments refusal = (kind_of refusal ≡ OutOfMemory) ⊎ ((app : App) × IsLine app × IsAmong (kind_of refusal) (fault_of app arguments))
+IsRefused arguments refusal =
+    (kind_of refusal ≡ OutOfMemory)
+    ⊎ ((app : App) × IsCommandLine app × IsAmong (kind_of refusal) (fault_of app arguments))

@@ -1,15 +1,17 @@
-//! What the arguments ask for, and what is done then, over any reader and any writer. `specs/Commands.antt` says which
-//! arguments ask for which command, what a command writes, and why it refuses its input.
+//! What the arguments ask for, and what is done then, over any reader and any writer.
+//! `specs/Commands.antt` says which arguments ask for which command, what a command writes, and why
+//! it refuses its input.
 
-ghost use Rattle.std.specs.Prelude.{◌≡◌, ◌≢◌, ◌↔◌, ℕ, List, Option, codes, IfOk, IfErr, IfSome, IsNone, IsErrOf};
+ghost use Rattle.std.specs.Prelude.{◌≡◌, ◌≢◌, ◌↔◌, ℕ, List, Option, codes, IfOk, IfErr, IfSome};
+ghost use Rattle.std.specs.Prelude.{IsNone, IsErrOf};
 ghost use Rattle.std.specs.Io.KnownBytes.{Appends};
 ghost use Rattle.clap.specs.Words.{found_of, one_of, rows_of, subcommand_rows_of};
 ghost use Rattle.jh_cli.specs.CheckText.{TakesInitial};
 ghost use Rattle.jh_cli.specs.declared.error.CliError.TheVariants as CliError;
-ghost use Rattle.jh_arguments.specs.Commands as text;
-ghost use Rattle.jh_arguments.specs.Commands.{Asks, AsksFor, AsksTimeline, IsFlag, IsIndex, IsInitial};
+ghost use Rattle.jh_arguments.specs.Commands.{AsksCheck, AsksFor, AsksTimeline, IsFlag, IsIndex};
+ghost use Rattle.jh_arguments.specs.Commands.{IsInitial};
 ghost use Rattle.jh_arguments.specs.Commands.{IsJudging, IsJudgingBy, IsNumber};
-ghost use Rattle.jh_arguments.specs.Commands.{IsTextOf, IsThreads, Refuses, TakesThreads};
+ghost use Rattle.jh_arguments.specs.Commands.{IsOutputOf, IsThreads, RefusesCommand, TakesThreads};
 ghost use Rattle.jh_arguments.specs.declared.commands.Command.{Command};
 ghost use Rattle.jh_arguments.specs.declared.commands.Command.TheVariants.{Check};
 ghost use Rattle.jh_cli.specs.declared.check_command.Question.{Question};
@@ -49,7 +51,8 @@ pub enum Command {
 pub fn command_of(matches: &ArgMatches<'_>) -> Option<Command>
     ensures parsed { IfSome result (AsksFor (subcommand_rows_of matches.now)) }
     ensures threads { IfSome result TakesThreads }
-    ensures taken { IsNone result → (command : Command) → AsksFor (subcommand_rows_of matches.now) command → ⊥ }
+    ensures taken { IsNone result → (command : Command)
+        → AsksFor (subcommand_rows_of matches.now) command → ⊥ }
 {
     match matches.subcommand()? {
         ("env", _) => Some(Command::Env),
@@ -61,13 +64,14 @@ pub fn command_of(matches: &ArgMatches<'_>) -> Option<Command>
     }
 }
 
-/// What the options of `check` ask for. `parse` has seen to it that the workload is one of the four, that the budget is a
-/// number, and that the number of threads is from 1 to 16.
+/// What the options of `check` ask for. `parse` has seen to it that the workload is one of the
+/// four, that the budget is a number, and that the number of threads is from 1 to 16.
 pub fn question_of(options: &ArgMatches<'_>) -> Option<Question>
-    ensures parsed { IfSome result (Asks (rows_of (found_of options.now))) }
-    ensures taken { IsNone result → (question : Question) → Asks (rows_of (found_of options.now)) question → ⊥ }
+    ensures parsed { IfSome result (AsksCheck (rows_of (found_of options.now))) }
+    ensures taken { IsNone result → (question : Question)
+        → AsksCheck (rows_of (found_of options.now)) question → ⊥ }
 {
-    let workload = workload_of(options.get_str("workload")?)?;
+    let workload = Workload::named(options.get_str("workload")?)?;
     Some(Question {
         workload,
         initial: initial_of(options),
@@ -78,8 +82,9 @@ pub fn question_of(options: &ArgMatches<'_>) -> Option<Question>
     })
 }
 
-/// What the options of `timeline` ask for. Where there is no workload, an initial value and a budget mean nothing. `parse` has seen
-/// to it that a workload is one of the four, and that the budget is a number.
+/// What the options of `timeline` ask for. Where there is no workload, an initial value and a
+/// budget mean nothing. `parse` has seen to it that a workload is one of the four, and that the
+/// budget is a number.
 pub fn timeline_question_of(options: &ArgMatches<'_>) -> Option<TimelineQuestion>
     ensures parsed { IfSome result (AsksTimeline (rows_of (found_of options.now))) }
     ensures taken { IsNone result → (question : TimelineQuestion)
@@ -115,7 +120,7 @@ fn judging_by(options: &ArgMatches<'_>, name: &str) -> Option<TimelineJudging>
         → IsJudgingBy (rows_of (found_of options.now)) name.now judging → ⊥ }
 {
     Some(TimelineJudging {
-        workload: workload_of(name)?,
+        workload: Workload::named(name)?,
         initial: initial_of(options),
         budget: number_of(options, "budget")?,
     })
@@ -153,7 +158,8 @@ fn number_of(options: &ArgMatches<'_>, name: &str) -> Option<u64>
 
 /// How many threads options give.
 fn threads_of(options: &ArgMatches<'_>) -> Option<u32>
-    ensures parsed { IfSome result (IsThreads (one_of (codes "threads") (rows_of (found_of options.now)))) }
+    ensures parsed { IfSome result
+        (IsThreads (one_of (codes "threads") (rows_of (found_of options.now)))) }
     ensures taken { IsNone result → (threads : ℕ)
         → IsThreads (one_of (codes "threads") (rows_of (found_of options.now))) threads → ⊥ }
 {
@@ -165,27 +171,14 @@ fn threads_of(options: &ArgMatches<'_>) -> Option<u32>
     }
 }
 
-/// The workload of this name.
-fn workload_of(name: &str) -> Option<Workload>
-    ensures parsed { IfSome result (λ workload. name.now ≡ text.name_of workload) }
-    ensures taken { IsNone result → (workload : Workload) → name.now ≡ text.name_of workload → ⊥ }
-{
-    match name {
-        "register" => Some(Workload::Register),
-        "set" => Some(Workload::Set),
-        "counter" => Some(Workload::Counter),
-        "unique-ids" => Some(Workload::Ids),
-        _ => None,
-    }
-}
-
-/// Does what a command does, and gives its exit status: 0 where its work is done and nothing was found, 1 and 2 where the
-/// history that it judges is not valid, or where that is not known, and likewise where a schedule that fails was made small, or
-/// the budget did not suffice for it. The error has the status otherwise: 3 for an input that is refused, 4 for an error of the
-/// machine or a run that was not completed. Nothing is written before any error but `Write`.
+/// Does what a command does, and gives its exit status: 0 where its work is done and nothing was
+/// found, 1 and 2 where the history that it judges is not valid, or where that is not known, and
+/// likewise where a schedule that fails was made small, or the budget did not suffice for it. The
+/// error has the status otherwise: 3 for an input that is refused, 4 for an error of the machine or
+/// a run that was not completed. Nothing is written before any error but `Write`.
 ///
-/// The observer is told how far the work of `shrink` is. A run on threads and the judgement of keys may wait; all else returns
-/// if each call of the reader, the writer and the observer does.
+/// The observer is told how far the work of `shrink` is. A run on threads and the judgement of keys
+/// may wait; all else returns if each call of the reader, the writer and the observer does.
 pub fn run<T: Threads + Wait + Sync, R: Read, W: Write, O: Observer>(
     rt: &T,
     alloc: Global,
@@ -196,13 +189,15 @@ pub fn run<T: Threads + Wait + Sync, R: Read, W: Write, O: Observer>(
 ) -> Result<u8, CliError>
     requires { TakesThreads command }
     ensures written { IfOk result (λ status. IfSome (R.remaining reader.old) (λ input.
-        (output : List ℕ) × IsTextOf command input status output
+        (output : List ℕ) × IsOutputOf command input status output
         × Appends (W.contents writer.old) (W.contents writer.new) output)) }
     ensures asked { (question : Question) → command ≡ Check question
-        → IsErrOf result CliError.OnlyForRegister ↔ (TakesInitial question.workload question.initial → ⊥) }
+        → IsErrOf result CliError.OnlyForRegister
+        ↔ (TakesInitial question.workload question.initial → ⊥) }
     ensures unread { (question : Question) → command ≡ Check question
         → IsErrOf result CliError.OnlyForRegister → reader.new ≡ reader.old }
-    ensures refused { IfErr result (λ e. IfSome (R.remaining reader.old) (λ input. Refuses command input e)) }
+    ensures refused { IfErr result
+        (λ e. IfSome (R.remaining reader.old) (λ input. RefusesCommand command input e)) }
     ensures unwritten { IfErr result (λ e. e ≢ CliError.Write → writer.new ≡ writer.old) }
 {
     match command {

@@ -1,5 +1,5 @@
-//! What stands at the end of help: what a command writes, its exit statuses, and two examples that work as typed at the top of
-//! a clone.
+//! What stands at the end of help: what a command writes, its exit statuses, and two examples that
+//! work as typed at the top of a clone.
 
 /// The version that `--version` prints.
 pub(crate) const VERSION: &str = "0.1.0";

@@ -1,8 +1,8 @@
 //! The arguments of the command line: which command they ask for, and what is done then.
 //!
-//! `line.rt` has the commands and their options as `clap` reads them, `commands.rt` what each command is and does, and
-//! `program.rt` the standard streams and the exit status. A new command is a line of the first, and a case of `Command`, of
-//! `command_of` and of `run`.
+//! `line.rt` has the commands and their options as `clap` reads them, `commands.rt` what each
+//! command is and does, and `program.rt` the standard streams and the exit status. A new command is
+//! a line of the first, and a case of `Command`, of `command_of` and of `run`.
 #![tactic(auto)]
 
 mod commands;

@@ -1,12 +1,12 @@
-//! The commands and their options, as `clap` reads them, and what its refusals mean to the program. Its texts stand here
-//! and in `help` alone: help and complaints are shown by tests.
+//! The commands and their options, as `clap` reads them, and what its refusals mean to the program.
+//! Its texts stand here and in `help` alone: help and complaints are shown by tests.
 
 ghost use Rattle.std.specs.Prelude.{◌≡◌, ◌≢◌, ◌↔◌, codes, false, IfOk, IfErr, IsErrOf, Ok, map};
 ghost use Rattle.clap.specs.Words.{app_of, kind_of, rule_of};
 ghost use Rattle.clap.specs.declared.error.ErrorKind.TheVariants as ErrorKind;
 ghost use Rattle.jh_cli.specs.declared.error.CliError.TheVariants as CliError;
 ghost use Rattle.jh_arguments.specs.Line as text;
-ghost use Rattle.jh_arguments.specs.Line.{IsFound, IsLine, IsRefused, workload_names};
+ghost use Rattle.jh_arguments.specs.Line.{AreMatches, IsCommandLine, IsRefused, workload_names};
 
 use crate::help;
 use clap::builder::ValueParser;
@@ -31,7 +31,7 @@ fn workloads() -> &'static [&'static str]
 
 /// The commands and their options.
 fn command_line<'a>(alloc: Global) -> Result<Command<'a>, Error>
-    ensures line { IfOk result (λ line. IsLine (app_of line)) }
+    ensures line { IfOk result (λ line. IsCommandLine (app_of line)) }
     ensures memory { IfErr result (λ e. kind_of e ≡ ErrorKind.OutOfMemory) }
 {
     let names = workloads();
@@ -135,7 +135,7 @@ fn workload_option<'a>(alloc: Global, names: &'static [&'static str]) -> Arg<'a>
 
 /// What a register holds at first: a number of `i64`.
 fn initial_option<'a>(alloc: Global) -> Arg<'a>
-    ensures rule { rule_of result ≡ text.initial }
+    ensures rule { rule_of result ≡ text.initial_rule }
     ensures local { result.global ≡ false }
 {
     Arg::new(alloc, "initial")
@@ -206,7 +206,7 @@ fn number_option<'a>(
     parser: ValueParser<'a>,
     default: &'static str,
 ) -> Arg<'a>
-    ensures rule { rule_of result ≡ text.number name.now parser.entry default.now }
+    ensures rule { rule_of result ≡ text.number_rule name.now parser.entry default.now }
     ensures local { result.global ≡ false }
 {
     Arg::new(alloc, name)
@@ -217,22 +217,24 @@ fn number_option<'a>(
         .default_value(default)
 }
 
-/// What `clap` finds in these arguments, of which the first is the program's name; or its refusal, which is a request for
-/// help or for the version, a complaint, or want of memory.
+/// What `clap` finds in these arguments, of which the first is the program's name; or its refusal,
+/// which is a request for help or for the version, a complaint, or want of memory.
 pub fn parse<'a, S: AsStr>(alloc: Global, arguments: &'a [S]) -> Result<ArgMatches<'a>, Error>
-    ensures found { IfOk result (IsFound (map S.text arguments.entry.now)) }
+    ensures found { IfOk result (AreMatches (map S.text arguments.entry.now)) }
     ensures refused { IfErr result (IsRefused (map S.text arguments.entry.now)) }
 {
     command_line(alloc)?.try_get_matches_from(arguments)
 }
 
-/// The exit status of a refusal: 0 where the arguments ask for help or for the version, 3 where they are wrong. Where memory
-/// ran out that is an error, as it is of any command.
+/// The exit status of a refusal: 0 where the arguments ask for help or for the version, 3 where
+/// they are wrong. Where memory ran out that is an error, as it is of any command.
 pub fn status_of_refusal(refusal: &Error) -> Result<u8, CliError>
-    ensures memory { IsErrOf result CliError.OutOfMemory ↔ (kind_of refusal.now ≡ ErrorKind.OutOfMemory) }
+    ensures memory { IsErrOf result CliError.OutOfMemory
+        ↔ (kind_of refusal.now ≡ ErrorKind.OutOfMemory) }
     ensures help { (kind_of refusal.now ≡ ErrorKind.DisplayHelp) → result ≡ Ok 0 }
     ensures version { (kind_of refusal.now ≡ ErrorKind.DisplayVersion) → result ≡ Ok 0 }
-    ensures wrong { (kind_of refusal.now ≢ ErrorKind.OutOfMemory) → (kind_of refusal.now ≢ ErrorKind.DisplayHelp)
+    ensures wrong { (kind_of refusal.now ≢ ErrorKind.OutOfMemory)
+        → (kind_of refusal.now ≢ ErrorKind.DisplayHelp)
         → (kind_of refusal.now ≢ ErrorKind.DisplayVersion) → result ≡ Ok 3 }
 {
     if refusal.kind() == ErrorKind::OutOfMemory {

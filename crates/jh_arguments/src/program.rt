@@ -1,5 +1,6 @@
-//! What the process does: it reads its arguments, opens the standard streams, and ends with a status. What a terminal or a
-//! pipe gives or takes is no part of any clause, so this says nothing but that a status is given. A run on threads may wait.
+//! What the process does: it reads its arguments, opens the standard streams, and ends with a
+//! status. What a terminal or a pipe gives or takes is no part of any clause, so this says nothing
+//! but that a status is given. A run on threads may wait.
 
 ghost use Rattle.std.specs.Prelude.{◌≢◌, IsNone};
 
@@ -154,11 +155,13 @@ fn arguments_of(rt: &(impl Env + Alloc<A = Global>)) -> io::Result<Vec<String>> 
     Ok(env::args(rt)?.collect(rt.alloc())?)
 }
 
-/// The exit status of the process, once it has done what its arguments ask for: 0, 1 or 2 as `run` answers, 0 where help or
-/// the version was asked for, 3 where the arguments or the input are refused, 4 where the machine failed or a run was not completed.
+/// The exit status of the process, once it has done what its arguments ask for: 0, 1 or 2 as `run`
+/// answers, 0 where help or the version was asked for, 3 where the arguments or the input are
+/// refused, 4 where the machine failed or a run was not completed.
 ///
-/// Where standard error is a terminal, three things are told there, and nowhere else: what is read, where standard input is a
-/// terminal too; how far `shrink` is; and what to raise, where a register was left unknown.
+/// Where standard error is a terminal, three things are told there, and nowhere else: what is read,
+/// where standard input is a terminal too; how far `shrink` is; and what to raise, where a register
+/// was left unknown.
 ///
 /// A run on threads may wait.
 pub fn status<R>(rt: &R, terminals: Terminals) -> u8

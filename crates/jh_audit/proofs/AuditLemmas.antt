@@ -13,14 +13,14 @@ use Rattle.jh_audit.specs.declared.checks.AuditFault.{AuditFault}
 use Rattle.jh_audit.specs.declared.checks.AuditFault.TheVariants.{BadOp, NoEvent, WrongEvent, Repeat, Unpaired, WrongOrder, Unnamed}
 use Rattle.jh_audit.specs.declared.forms.Form.{Form}
 use Rattle.jh_audit.specs.Forms.{Says, SaysAt, event_in}
-use Rattle.jh_audit.specs.Audit.{AreSound, FaultAt, Follows, IsFirstFault, IsInOrder, IsOver, IsOverAt, JustBefore}
+use Rattle.jh_audit.specs.Audit.{AreSoundBelow, HasFaultAt, FollowsInvocation, IsFirstFault, IsInOrder, IsOverBy, IsOverAt, IsJustBefore}
 use Rattle.jh_audit.specs.HorizonInside.{NamesBelow}
 use Rattle.jh_audit.specs.Plans.{EndsEntry, EndsEntryAt, IsInTurn, is_answered_step, steps_below}
 use Rattle.jh_audit.proofs.ChoiceLemmas.{same_some}
 use Rattle.jh_audit.proofs.FormLemmas.{says_form_at}
 
 -- a fault at the least place is the first
-pub first_fault : (j : List Event) (h : List Operation) (i : ℕ) (e : AuditFault) → i < length h → AreSound j h i → FaultAt j h i e → IsFirstFault j h e
+pub first_fault : (j : List Event) (h : List Operation) (i : ℕ) (e : AuditFault) → i < length h → AreSoundBelow j h i → HasFaultAt j h i e → IsFirstFault j h e
 first_fault j h i (BadOp n) low sound fault = (i, low, sound, fault)
 first_fault j h i (NoEvent n) low sound fault = (i, low, sound, fault)
 first_fault j h i (WrongEvent n) low sound fault = (i, low, sound, fault)
@@ -47,7 +47,7 @@ pub one_said : (h : List Operation) (place : ℕ) (f g : Form) → SaysAt h plac
 one_said h place f g these those = same_some f g (sym (says_form_at h place f these) ∙ says_form_at h place g those)
 
 -- one place is just before another
-pub one_before : (h : List Operation) (a b place : ℕ) → JustBefore h a place → JustBefore h b place → a ≡ b
+pub one_before : (h : List Operation) (a b place : ℕ) → IsJustBefore h a place → IsJustBefore h b place → a ≡ b
 one_before h a b place this that =
     elim (cases_order a b) [
       | inl same ↦ same
@@ -57,37 +57,37 @@ one_before h a b place this that =
 -- ---- pairs
 
 pub over_at : (h : List Operation) (place : ℕ) (op : Operation) (form : Form) → slice_get h place ≡ Some op → SaysAt h place form
-    → IsOver op form → IsOverAt h place
+    → IsOverBy op form → IsOverAt h place
 over_at h place op form at says over = (op, form, at, says_of h place op form at says, over)
 
 pub over_said : (h : List Operation) (place : ℕ) (op : Operation) (form : Form) → slice_get h place ≡ Some op → SaysAt h place form
-    → IsOverAt h place → IsOver op form
+    → IsOverAt h place → IsOverBy op form
 over_said h place op form at says over =
     let same_op : over.0 ≡ op = same_some over.0 op (sym over.2 ∙ at) in
     let same_form : over.1 ≡ form = one_said h place over.1 form (over.0, over.2, over.3) says in
-    subst (λ o. IsOver o form) same_op (subst (λ f. IsOver over.0 f) same_form over.4)
+    subst (λ o. IsOverBy o form) same_op (subst (λ f. IsOverBy over.0 f) same_form over.4)
 
 -- what is said just before a place that follows
-followed : (h : List Operation) (k place : ℕ) (asked : Form) → JustBefore h k place → Follows h place asked → SaysAt h k asked
+followed : (h : List Operation) (k place : ℕ) (asked : Form) → IsJustBefore h k place → FollowsInvocation h place asked → SaysAt h k asked
 followed h k place asked before follows = subst (λ m. SaysAt h m asked) (one_before h follows.0 k place follows.1 before) follows.2
 
-pub follows_none : (h : List Operation) (k place : ℕ) (asked : Form) → JustBefore h k place → ((form : Form) → SaysAt h k form → ⊥)
-    → Follows h place asked → ⊥
+pub follows_none : (h : List Operation) (k place : ℕ) (asked : Form) → IsJustBefore h k place → ((form : Form) → SaysAt h k form → ⊥)
+    → FollowsInvocation h place asked → ⊥
 follows_none h k place asked before none follows = none asked (followed h k place asked before follows)
 
-pub follows_said : (h : List Operation) (k place : ℕ) (form asked : Form) → JustBefore h k place → SaysAt h k form
-    → Follows h place asked → form ≡ asked
+pub follows_said : (h : List Operation) (k place : ℕ) (form asked : Form) → IsJustBefore h k place → SaysAt h k form
+    → FollowsInvocation h place asked → form ≡ asked
 follows_said h k place form asked before says follows = one_said h k form asked says (followed h k place asked before follows)
 
 -- ---- order
 
-pub order_from : (h : List Operation) (place asked number : ℕ) (form : Form) → event_in form ≡ Some number → JustBefore h asked place
+pub order_from : (h : List Operation) (place asked number : ℕ) (form : Form) → event_in form ≡ Some number → IsJustBefore h asked place
     → NamesBelow h asked number → IsInOrder h place form
 order_from h place asked number form names before low e k m d is just under named =
     let at : m < asked = subst (λ n. m < n) (one_before h k asked place just before) under in
     subst (λ n. d < n) (same_some number e (sym names ∙ is)) (low m d at named)
 
-pub order_gives : (h : List Operation) (place asked number : ℕ) (form : Form) → event_in form ≡ Some number → JustBefore h asked place
+pub order_gives : (h : List Operation) (place asked number : ℕ) (form : Form) → event_in form ≡ Some number → IsJustBefore h asked place
     → IsInOrder h place form → NamesBelow h asked number
 order_gives h place asked number form names before order m d under named = order number asked m d names before under named
 

@@ -6,9 +6,9 @@ use Rattle.std.specs.List.{list_all}
 use Rattle.std.specs.Str.{bytes_eq}
 use Rattle.std.proofs.lemmas.Bool.Decides.{Decides-eqb, Decides-ltb}
 use Rattle.std.proofs.lemmas.Slice.Eq.{bytes_eq-Decides}
-use Rattle.jh_edn.specs.Edn.{Edn, Items, nil, int, keyword, vector, no_items, item, items_of, list_of}
+use Rattle.jh_edn.specs.Edn.{Edn, Items, nil, int, keyword, vector, no_items, item, items_of, list_of, is_integer, integer_of}
 use Rattle.jh_ops.specs.Operation.{Operation}
-use Rattle.jh_ops.specs.Words.{content_value, event_part}
+use Rattle.jh_ops.specs.Words.{content_value, pairs_of_event}
 use Rattle.jh_ops.specs.declared.call.Request.{Request}
 use Rattle.jh_ops.specs.declared.call.Request.TheVariants.{Read, Write, Cas, Add, Generate}
 use Rattle.jh_ops.specs.declared.operation.Kind.{Kind}
@@ -18,12 +18,13 @@ use Rattle.jh_nemesis.specs.declared.steps.StepAnswer.TheVariants as answer
 use Rattle.jh_simnode.specs.declared.replicas.Got.{Got}
 use Rattle.jh_simnode.specs.declared.replicas.Reply.{Reply}
 use Rattle.jh_simnode.specs.declared.replicas.Reply.TheVariants as reply
-use Rattle.jh_simnode.specs.Histories.{name_of, asked_with, told_with, replied_with, kind_of, code_of}
+use Rattle.jh_simnode.specs.Histories.{request_name, asked_content, got_content, replied_content, completion_kind, code_of}
 use Rattle.jh_audit.specs.declared.forms.Form.{Form}
 use Rattle.jh_audit.specs.declared.forms.Form.TheVariants.{Asks, Tells, Begins, Ends}
-use Rattle.jh_audit.specs.Forms.{MayGet, MayReply, Says, SaysAt, named_by}
-use Rattle.jh_audit.specs.DecodeInside.{name_in, is_nil, integer_in, is_integer, pair_among, pair_in, is_read, is_one, request_asked, request_done, request_told, number_of, entry_in, is_code, ended_by, ended_in, client_form, step_form, is_info, form_by, event_by, is_place, is_none, form_of, form_at}
+use Rattle.jh_audit.specs.Forms.{MayGet, MayReply, Says, SaysAt, named_event}
+use Rattle.jh_audit.specs.DecodeInside.{name_in, is_nil, pair_among, pair_in, is_read_value, is_one, request_asked, request_done, completed_request, natural_in, begun_entry, is_code, ended_entry_by, ended_entry_in, client_form, step_form, form_by, event_by, is_index_of, is_none, form_of, form_at}
 use Rattle.jh_audit.proofs.ChoiceLemmas.{same_some, chosen, mapped, bound, both_true}
+use Rattle.jh_ops.specs.Pairing.{is_info}
 
 -- ---- values
 
@@ -31,7 +32,7 @@ nil_is : (v : Edn) → is_nil v ≡ true → v ≡ nil
 nil_is nil e = refl
 nil_is _ e = absurd (cc)
 
-integer_is : (v : Edn) (z : ℤ) → integer_in v ≡ Some z → v ≡ int z
+integer_is : (v : Edn) (z : ℤ) → integer_of v ≡ Some z → v ≡ int z
 integer_is (int y) z e = ap int (same_some y z e)
 integer_is _ z e = absurd (cc)
 
@@ -69,31 +70,31 @@ all_integers (z ∷ zs) = all_integers zs
 
 -- ---- requests
 
-name_is : (name word : List ℕ) → bytes_eq name word ≡ true → name ≡ word
-name_is name word e = (bytes_eq-Decides name word).0 e
+name_is : (name spelling : List ℕ) → bytes_eq name spelling ≡ true → name ≡ spelling
+name_is name spelling e = (bytes_eq-Decides name spelling).0 e
 
-name_is_not : (name word : List ℕ) → bytes_eq name word ≡ false → name ≡ word → ⊥
-name_is_not name word differs same =
-    let yes = (bytes_eq-Decides name word).1 same in
+name_is_not : (name spelling : List ℕ) → bytes_eq name spelling ≡ false → name ≡ spelling → ⊥
+name_is_not name spelling differs same =
+    let yes = (bytes_eq-Decides name spelling).1 same in
     let clash : true ≡ false = sym yes ∙ differs in
     cc
 
 -- a request is asked by this name with this value
 abbrev pub IsAsked : List ℕ → Edn → Request → Type 0
-IsAsked name value request = (name ≡ name_of request) × (value ≡ content_value (asked_with request))
+IsAsked name value request = (name ≡ request_name request) × (value ≡ content_value (asked_content request))
 
-asked_nothing : (name word : List ℕ) (value : Edn) (request r : Request) → word ≡ name_of request → nil ≡ content_value (asked_with request)
-    → bytes_eq name word ≡ true → (if is_nil value then Some request else None) ≡ Some r → IsAsked name value r
-asked_nothing name word value request r named none is e =
+asked_nothing : (name spelling : List ℕ) (value : Edn) (request r : Request) → spelling ≡ request_name request → nil ≡ content_value (asked_content request)
+    → bytes_eq name spelling ≡ true → (if is_nil value then Some request else None) ≡ Some r → IsAsked name value r
+asked_nothing name spelling value request r named none is e =
     elim (chosen (is_nil value) (Some request) None r e)
-    [ inl t ↦ subst (IsAsked name value) (same_some request r t.1) (name_is name word is ∙ named, nil_is value t.0 ∙ none) | inr t ↦ absurd (let clash = t.1 in cc) ]
+    [ inl t ↦ subst (IsAsked name value) (same_some request r t.1) (name_is name spelling is ∙ named, nil_is value t.0 ∙ none) | inr t ↦ absurd (let clash = t.1 in cc) ]
 
-asked_integer : (name word : List ℕ) (value : Edn) (request : ℤ → Request) (r : Request) → ((z : ℤ) → word ≡ name_of (request z))
-    → ((z : ℤ) → int z ≡ content_value (asked_with (request z)))
-    → bytes_eq name word ≡ true → option_map request (integer_in value) ≡ Some r → IsAsked name value r
-asked_integer name word value request r named one is e =
-    let found = mapped request (integer_in value) r e in
-    subst (IsAsked name value) found.2 (name_is name word is ∙ named found.0, integer_is value found.0 found.1 ∙ one found.0)
+asked_integer : (name spelling : List ℕ) (value : Edn) (request : ℤ → Request) (r : Request) → ((z : ℤ) → spelling ≡ request_name (request z))
+    → ((z : ℤ) → int z ≡ content_value (asked_content (request z)))
+    → bytes_eq name spelling ≡ true → option_map request (integer_of value) ≡ Some r → IsAsked name value r
+asked_integer name spelling value request r named one is e =
+    let found = mapped request (integer_of value) r e in
+    subst (IsAsked name value) found.2 (name_is name spelling is ∙ named found.0, integer_is value found.0 found.1 ∙ one found.0)
 
 asked_pair : (name : List ℕ) (value : Edn) (r : Request) → bytes_eq name (codes "cas") ≡ true
     → option_map (λ p. Cas p.0 p.1) (pair_in value) ≡ Some r → IsAsked name value r
@@ -120,7 +121,7 @@ asked_is name value r e =
       ]
     ]
 
-pub is_asked : (r : Request) → request_asked (name_of r) (content_value (asked_with r)) ≡ Some r
+pub is_asked : (r : Request) → request_asked (request_name r) (content_value (asked_content r)) ≡ Some r
 is_asked Read = refl
 is_asked (Write v) = refl
 is_asked (Cas a b) = refl
@@ -130,9 +131,9 @@ is_asked Generate = refl
 -- a request of this name was done, and this value is told of it
 abbrev pub IsDone : List ℕ → Edn → Request → Got → Type 0
 IsDone name value request got =
-    MayGet request got × (name ≡ name_of request) × (value ≡ content_value (told_with request got))
+    MayGet request got × (name ≡ request_name request) × (value ≡ content_value (got_content request got))
 
-read_is : (v : Edn) → is_read v ≡ true → (got : Got) × MayGet Read got × (v ≡ content_value (told_with Read got))
+read_is : (v : Edn) → is_read_value v ≡ true → (got : Got) × MayGet Read got × (v ≡ content_value (got_content Read got))
 read_is nil e = (Got.One None, tt, refl)
 read_is (int z) e = (Got.One (Some z), tt, refl)
 read_is (vector xs) e =
@@ -140,7 +141,7 @@ read_is (vector xs) e =
     (Got.Many found.0, tt, ap vector (items-list xs ∙ ap items_of found.1))
 read_is _ e = absurd (cc)
 
-one_is : (v : Edn) → is_one v ≡ true → (got : Got) × MayGet Generate got × (v ≡ content_value (told_with Generate got))
+one_is : (v : Edn) → is_one v ≡ true → (got : Got) × MayGet Generate got × (v ≡ content_value (got_content Generate got))
 one_is nil e = (Got.One None, tt, refl)
 one_is (int z) e = (Got.One (Some z), tt, refl)
 one_is _ e = absurd (cc)
@@ -154,10 +155,10 @@ done_else name value (Cas a b) no_read no_id asked = (Got.Nothing, (tt, asked.0,
 done_else name value (Add v) no_read no_id asked = (Got.Nothing, (tt, asked.0, asked.1))
 done_else name value Generate no_read no_id asked = absurd (no_id asked.0)
 
-done_read : (name : List ℕ) (value : Edn) (r : Request) → bytes_eq name (codes "read") ≡ true → (if is_read value then Some Read else None) ≡ Some r
+done_read : (name : List ℕ) (value : Edn) (r : Request) → bytes_eq name (codes "read") ≡ true → (if is_read_value value then Some Read else None) ≡ Some r
     → (got : Got) × IsDone name value r got
 done_read name value r is e =
-    elim (chosen (is_read value) (Some Read) None r e) [
+    elim (chosen (is_read_value value) (Some Read) None r e) [
       | inl t ↦ (let found = read_is value t.0 in
           subst (λ q. (got : Got) × IsDone name value q got) (same_some Read r t.1) (found.0, (found.1, name_is name (codes "read") is, found.2)))
       | inr t ↦ absurd (let clash = t.1 in cc)
@@ -182,7 +183,7 @@ done_is name value r e =
       ]
     ]
 
-is_done : (r : Request) (got : Got) → MayGet r got → request_done (name_of r) (content_value (told_with r got)) ≡ Some r
+is_done : (r : Request) (got : Got) → MayGet r got → request_done (request_name r) (content_value (got_content r got)) ≡ Some r
 is_done Read Got.Nothing may = absurd may
 is_done Read (Got.One None) may = refl
 is_done Read (Got.One (Some z)) may = refl
@@ -204,10 +205,10 @@ is_done Generate (Got.Many xs) may = absurd may
 -- a client's completion of this kind tells the request, with this reply
 abbrev pub IsTelling : Kind → List ℕ → Edn → Request → Reply → Type 0
 IsTelling kind name value request reply =
-    MayReply request reply × (kind ≡ kind_of reply) × (name ≡ name_of request)
-    × (value ≡ content_value (replied_with request reply))
+    MayReply request reply × (kind ≡ completion_kind reply) × (name ≡ request_name request)
+    × (value ≡ content_value (replied_content request reply))
 
-told_is : (kind : Kind) (name : List ℕ) (value : Edn) (r : Request) → request_told kind name value ≡ Some r
+told_is : (kind : Kind) (name : List ℕ) (value : Edn) (r : Request) → completed_request kind name value ≡ Some r
     → (reply : Reply) × IsTelling kind name value r reply
 told_is Kind.Invoke name value r e = absurd (cc)
 told_is Kind.Ok name value r e =
@@ -215,7 +216,7 @@ told_is Kind.Ok name value r e =
 told_is Kind.Fail name value r e = let asked = asked_is name value r e in (reply.Fail, (tt, refl, asked.0, asked.1))
 told_is Kind.Info name value r e = let asked = asked_is name value r e in (reply.Info, (tt, refl, asked.0, asked.1))
 
-is_told : (r : Request) (y : Reply) → MayReply r y → request_told (kind_of y) (name_of r) (content_value (replied_with r y)) ≡ Some r
+is_told : (r : Request) (y : Reply) → MayReply r y → completed_request (completion_kind y) (request_name r) (content_value (replied_content r y)) ≡ Some r
 is_told r (reply.Ok got) may = is_done r got may
 is_told r reply.Fail may = is_asked r
 is_told r reply.Info may = is_asked r
@@ -226,14 +227,14 @@ keyword_is : (v : Edn) (c : ℕ) (cs : List ℕ) → name_in v ≡ c ∷ cs → 
 keyword_is (keyword name) c cs e = ap keyword e
 keyword_is _ c cs e = absurd (cc)
 
-request_keyword : (v : Edn) (r : Request) → name_in v ≡ name_of r → v ≡ keyword (name_of r)
+request_keyword : (v : Edn) (r : Request) → name_in v ≡ request_name r → v ≡ keyword (request_name r)
 request_keyword v Read e = keyword_is v _ _ e
 request_keyword v (Write x) e = keyword_is v _ _ e
 request_keyword v (Cas a b) e = keyword_is v _ _ e
 request_keyword v (Add x) e = keyword_is v _ _ e
 request_keyword v Generate e = keyword_is v _ _ e
 
-named_is : (rest : List (Edn × Edn)) (e : ℕ) → named_by rest ≡ Some e → rest ≡ event_part (Some e)
+named_is : (rest : List (Edn × Edn)) (e : ℕ) → named_event rest ≡ Some e → rest ≡ pairs_of_event (Some e)
 named_is ((keyword name, int (pos n)) ∷ []) e h =
     elim (chosen (bytes_eq name (codes "event")) (Some n) None e h) [
       | inl t ↦ ap (λ w. (keyword w, int (pos n)) ∷ []) (name_is name (codes "event") t.0)
@@ -242,13 +243,13 @@ named_is ((keyword name, int (pos n)) ∷ []) e h =
     ]
 named_is _ e h = absurd (cc)
 
-keys_are : (rest : List (Edn × Edn)) (event : Option ℕ) → event_by rest ≡ Some event → rest ≡ event_part event
-keys_are [] event e = ap event_part (same_some None event e)
+keys_are : (rest : List (Edn × Edn)) (event : Option ℕ) → event_by rest ≡ Some event → rest ≡ pairs_of_event event
+keys_are [] event e = ap pairs_of_event (same_some None event e)
 keys_are (p ∷ rest) event e =
-    let found = mapped Some (named_by (p ∷ rest)) event e in
-    named_is (p ∷ rest) found.0 found.1 ∙ ap event_part found.2
+    let found = mapped Some (named_event (p ∷ rest)) event e in
+    named_is (p ∷ rest) found.0 found.1 ∙ ap pairs_of_event found.2
 
-place_is : (place : ℕ) (index : Option ℤ) → is_place place index ≡ true → index ≡ Some (pos place)
+place_is : (place : ℕ) (index : Option ℤ) → is_index_of place index ≡ true → index ≡ Some (pos place)
 place_is place None e = absurd (cc)
 place_is place (Some (pos n)) e = ap (λ k. Some (pos k)) ((Decides-eqb n place).0 e)
 place_is place (Some (negsuc n)) e = absurd (cc)
@@ -268,7 +269,7 @@ made place process kind f value event = record {
   value = value;
   time = None;
   index = Some (pos place);
-  rest = event_part event;
+  rest = pairs_of_event event;
 }
 
 client_says : (place process : ℕ) (kind : Kind) (f value : Edn) (event : Option ℕ) (form : Form)
@@ -278,12 +279,12 @@ client_says place process Kind.Invoke f value None form e =
     let asked = asked_is (name_in f) value found.0 found.1 in
     subst (Says place (made place (Process.Client process) Kind.Invoke f value None)) found.2
     (ap (λ w. made place (Process.Client process) Kind.Invoke w value None) (request_keyword f found.0 asked.0)
-    ∙ ap (λ w. made place (Process.Client process) Kind.Invoke (keyword (name_of found.0)) w None) asked.1)
+    ∙ ap (λ w. made place (Process.Client process) Kind.Invoke (keyword (request_name found.0)) w None) asked.1)
 client_says place process Kind.Ok f value None form e = absurd (cc)
 client_says place process Kind.Fail f value None form e = absurd (cc)
 client_says place process Kind.Info f value None form e = absurd (cc)
 client_says place process kind f value (Some number) form e =
-    let found = mapped (λ request. Tells process request number) (request_told kind (name_in f) value) form e in
+    let found = mapped (λ request. Tells process request number) (completed_request kind (name_in f) value) form e in
     let told = told_is kind (name_in f) value found.0 found.1 in
     let r = found.0 in
     let y = told.0 in
@@ -291,11 +292,11 @@ client_says place process kind f value (Some number) form e =
       y,
       told.1.0,
       ap (λ k. made place (Process.Client process) k f value (Some number)) told.1.1
-          ∙ ap (λ w. made place (Process.Client process) (kind_of y) w value (Some number)) (request_keyword f r told.1.2)
-          ∙ ap (λ w. made place (Process.Client process) (kind_of y) (keyword (name_of r)) w (Some number)) told.1.3,
+          ∙ ap (λ w. made place (Process.Client process) (completion_kind y) w value (Some number)) (request_keyword f r told.1.2)
+          ∙ ap (λ w. made place (Process.Client process) (completion_kind y) (keyword (request_name r)) w (Some number)) told.1.3,
     )
 
-number_is : (z : ℤ) (n : ℕ) → number_of z ≡ Some n → z ≡ pos n
+number_is : (z : ℤ) (n : ℕ) → natural_in z ≡ Some n → z ≡ pos n
 number_is (pos m) n e = ap pos (same_some m n e)
 number_is (negsuc m) n e = absurd (cc)
 
@@ -315,17 +316,17 @@ code_is (negsuc n) e = absurd (cc)
 step_says : (place : ℕ) (f value : Edn) (event : Option ℕ) (form : Form) → name_in f ≡ codes "step"
     → step_form value event ≡ Some form → Says place (made place Process.Nemesis Kind.Info f value event) form
 step_says place f value None form named e =
-    let found = mapped Begins (entry_in value) form e in
-    let whole = bound number_of (integer_in value) found.0 found.1 in
+    let found = mapped Begins (begun_entry value) form e in
+    let whole = bound natural_in (integer_of value) found.0 found.1 in
     let is = integer_is value whole.0 whole.1 ∙ ap int (number_is whole.0 found.0 whole.2) in
     subst (Says place (made place Process.Nemesis Kind.Info f value None)) found.2
     (ap (λ w. made place Process.Nemesis Kind.Info w value None) (keyword_is f _ _ named)
     ∙ ap (λ w. made place Process.Nemesis Kind.Info (keyword (codes "step")) w None) is)
 step_says place f value (Some number) form named e =
-    let found = mapped (λ entry. Ends entry number) (ended_in value) form e in
-    let pair = bound ended_by (pair_in value) found.0 found.1 in
+    let found = mapped (λ entry. Ends entry number) (ended_entry_in value) form e in
+    let pair = bound ended_entry_by (pair_in value) found.0 found.1 in
     let p = pair.0 in
-    elim (chosen (is_code p.1) (number_of p.0) None found.0 pair.2) [
+    elim (chosen (is_code p.1) (natural_in p.0) None found.0 pair.2) [
       | inl t ↦ (let code = code_is p.1 t.0 in
           let is = pair_is value p pair.1 ∙ ap (λ z. vector (items_of (int z ∷ int p.1 ∷ []))) (number_is p.0 found.0 t.1)
           ∙ ap (λ z. vector (items_of (int (pos found.0) ∷ int z ∷ []))) code.1 in
@@ -357,8 +358,8 @@ made_says place Process.Nemesis kind f value event form e =
 -- what is found is said
 pub form_says : (place : ℕ) (op : Operation) (form : Form) → form_of place op ≡ Some form → Says place op form
 form_says place op form e =
-    elim (chosen (is_place place op.index && is_none op.time) (option_and_then (form_by op.process op.kind (name_in op.f) op.value) (event_by op.rest)) None form e) [
-      | inl t ↦ (let both = both_true (is_place place op.index) (is_none op.time) t.0 in
+    elim (chosen (is_index_of place op.index && is_none op.time) (option_and_then (form_by op.process op.kind (name_in op.f) op.value) (event_by op.rest)) None form e) [
+      | inl t ↦ (let both = both_true (is_index_of place op.index) (is_none op.time) t.0 in
           let found = bound (form_by op.process op.kind (name_in op.f) op.value) (event_by op.rest) form t.1 in
           let index = place_is place op.index both.0 in
           let time = none_is op.time both.1 in
@@ -372,7 +373,7 @@ form_says place op form e =
       | inr t ↦ absurd (let clash = t.1 in cc)
     ]
 
-at_its_place : (place : ℕ) → is_place place (Some (pos place)) ≡ true
+at_its_place : (place : ℕ) → is_index_of place (Some (pos place)) ≡ true
 at_its_place place = (Decides-eqb place place).1 refl
 
 -- a client's operation and the nemesis's at their place have the form of their parts
@@ -394,12 +395,12 @@ is_code_of answer.NothingToRedo = refl
 -- what is said is found
 pub says_form : (place : ℕ) (op : Operation) (form : Form) → Says place op form → form_of place op ≡ Some form
 says_form place op (Asks process request) says =
-    ap (form_of place) says ∙ made_form place (Process.Client process) Kind.Invoke (keyword (name_of request)) (content_value (asked_with request)) None
+    ap (form_of place) says ∙ made_form place (Process.Client process) Kind.Invoke (keyword (request_name request)) (content_value (asked_content request)) None
     ∙ ap (option_map (Asks process)) (is_asked request)
 says_form place op (Tells process request number) says =
     let y = says.0 in
     ap (form_of place) says.2
-    ∙ made_form place (Process.Client process) (kind_of y) (keyword (name_of request)) (content_value (replied_with request y)) (Some number)
+    ∙ made_form place (Process.Client process) (completion_kind y) (keyword (request_name request)) (content_value (replied_content request y)) (Some number)
     ∙ ap (option_map (λ r. Tells process r number)) (is_told request y says.1)
 says_form place op (Begins entry) says =
     ap (form_of place) says ∙ made_form place Process.Nemesis Kind.Info (keyword (codes "step")) (int (pos entry)) None

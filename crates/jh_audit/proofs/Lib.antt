@@ -1,4 +1,4 @@
 pub mod ChoiceLemmas
 pub mod FormLemmas
-pub mod ToldLemmas
+pub mod ReplyValueLemmas
 pub mod AuditLemmas

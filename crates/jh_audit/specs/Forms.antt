@@ -1,7 +1,8 @@
 -- What the operations of a run say: a client's process asks and is answered (jepsen.history: an
--- operation is invoked, and completed as `:ok`, `:fail` or `:info`); an entry of the schedule begins,
--- and has ended (this project's own).
-use Rattle.std.specs.Prelude.{◌≡◌, ℕ, List, [], ◌∷◌, pos, codes, Option, Some, None, ⊤, if◌then◌else◌, slice_get, option_and_then}
+-- operation is invoked, and completed as `:ok`, `:fail` or `:info`); an entry of the schedule
+-- begins, and has ended (this project's own).
+use Rattle.std.specs.Prelude.{◌≡◌, ℕ, List, [], ◌∷◌, pos, codes, Option, Some, None, ⊤}
+use Rattle.std.specs.Prelude.{if◌then◌else◌, slice_get, option_and_then}
 use Rattle.std.specs.Str.{bytes_eq}
 use Rattle.jh_edn.specs.Edn.{Edn, keyword, int}
 use Rattle.jh_ops.specs.Operation.{Operation}
@@ -11,7 +12,8 @@ use Rattle.jh_nemesis.specs.declared.steps.StepAnswer.{StepAnswer}
 use Rattle.jh_simnode.specs.declared.replicas.Got.{Got}
 use Rattle.jh_simnode.specs.declared.replicas.Reply.{Reply}
 use Rattle.jh_simnode.specs.declared.replicas.Reply.TheVariants as reply
-use Rattle.jh_simnode.specs.Histories.{invoked, completed, begun, answered_by}
+use Rattle.jh_simnode.specs.Histories.{placed_invocation, placed_completion}
+use Rattle.jh_simnode.specs.Histories.{placed_entry_invocation, placed_entry_completion}
 use Rattle.jh_audit.specs.declared.forms.Form.{Form}
 use Rattle.jh_audit.specs.declared.forms.Form.TheVariants.{Asks, Tells, Begins, Ends}
 
@@ -41,15 +43,18 @@ MayReply request reply.Info = ⊤
 
 -- the operation says this at its place in a history
 abbrev pub Says : ℕ → Operation → Form → Type 0
-Says place op (Asks process request) = op ≡ invoked place process request
+Says place op (Asks process request) = op ≡ placed_invocation place process request
 Says place op (Tells process request number) =
-    (reply : Reply) × MayReply request reply × (op ≡ completed place number process request reply)
-Says place op (Begins entry) = op ≡ begun place entry
-Says place op (Ends entry number) = (answer : StepAnswer) × (op ≡ answered_by place number entry answer)
+    (reply : Reply) × MayReply request reply
+    × (op ≡ placed_completion place number process request reply)
+Says place op (Begins entry) = op ≡ placed_entry_invocation place entry
+Says place op (Ends entry number) =
+    (answer : StepAnswer) × (op ≡ placed_entry_completion place number entry answer)
 
 -- the operation at a place of a history says this
 abbrev pub SaysAt : List Operation → ℕ → Form → Type 0
-SaysAt history place form = (op : Operation) × (slice_get history place ≡ Some op) × Says place op form
+SaysAt history place form =
+    (op : Operation) × (slice_get history place ≡ Some op) × Says place op form
 
 -- the event that completes what is said
 abbrev pub event_in : Form → Option ℕ
@@ -59,10 +64,11 @@ event_in (Begins entry) = None
 event_in (Ends entry number) = Some number
 
 -- the event that is named by these keys of an operation: they are `:event` alone, with a number
-abbrev pub named_by : List (Edn × Edn) → Option ℕ
-named_by ((keyword name, int (pos number)) ∷ []) = if bytes_eq name (codes "event") then Some number else None
-named_by _ = None
+abbrev pub named_event : List (Edn × Edn) → Option ℕ
+named_event ((keyword name, int (pos number)) ∷ []) =
+    if bytes_eq name (codes "event") then Some number else None
+named_event _ = None
 
 -- the event that the operation at a place of a history names
-abbrev pub named_at : List Operation → ℕ → Option ℕ
-named_at history place = option_and_then (λ op. named_by op.rest) (slice_get history place)
+abbrev pub named_event_at : List Operation → ℕ → Option ℕ
+named_event_at history place = option_and_then (λ op. named_event op.rest) (slice_get history place)

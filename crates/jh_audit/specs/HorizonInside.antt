@@ -1,12 +1,14 @@
--- How far the operations of a history are known to name low events only, so that a search need not look at them.
+-- How far the operations of a history are known to name low events only, so that a search need not
+-- look at them.
 use Rattle.std.specs.Prelude.{◌≡◌, ℕ, ◌<◌, ◌≤◌, List, Some, length}
 use Rattle.jh_ops.specs.Operation.{Operation}
 use Rattle.jh_audit.specs.declared.horizon.Horizon.{Horizon}
-use Rattle.jh_audit.specs.Forms.{named_at}
+use Rattle.jh_audit.specs.Forms.{named_event_at}
 
 -- all operations below a place name events below a number
 abbrev pub NamesBelow : List Operation → ℕ → ℕ → Type 0
-NamesBelow history place bound = (m d : ℕ) → m < place → named_at history m ≡ Some d → d < bound
+NamesBelow history place bound =
+    (m d : ℕ) → m < place → named_event_at history m ≡ Some d → d < bound
 
 -- so it is below the horizon, which is in the history
 pub record IsBehind (history : List Operation) (horizon : Horizon) : Type 0 where

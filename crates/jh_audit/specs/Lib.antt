@@ -3,4 +3,4 @@ pub mod Audit
 pub mod Plans
 pub mod DecodeInside
 pub mod HorizonInside
-pub mod ToldInside
+pub mod RepliesInside

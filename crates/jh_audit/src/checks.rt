@@ -1,47 +1,26 @@
-//! The audit. `specs/Audit.antt` says what is asked of each operation and event; each question has a function here, and
-//! `IsToldBy` one in `told.rt`.
+//! The audit. `specs/Audit.antt` says what is asked of each operation and event; each question has
+//! a function here, and `IsCompletionBy` one in `replies.rt`.
 
-ghost use Rattle.std.specs.Prelude.{◌≡◌, ◌<◌, ◌≤◌, ◌↔◌, ℕ, length, slice_get, Some, IsTrue, MatchOption, MatchResult};
-ghost use Rattle.jh_edn.specs.View.{view};
+ghost use Rattle.std.specs.Prelude.{◌≡◌, ◌<◌, ◌≤◌, ◌↔◌, length, Some, IsTrue, MatchOption};
+ghost use Rattle.std.specs.Prelude.{MatchResult};
 ghost use Rattle.jh_ops.specs.Operation.{operation, operations};
-ghost use Rattle.jh_ops.specs.Words.{Several, content_value};
-ghost use Rattle.jh_simnode.specs.Histories.{asked_with, told_with, replied_with, kind_of};
-ghost use Rattle.jh_audit.specs.Audit.{
-  AreNamed,
-  AreSound,
-  FaultAt,
-  Follows,
-  HasEvent,
-  IsAudited,
-  IsFirstFault,
-  IsGoneOn,
-  IsInOrder,
-  IsNamed,
-  IsNamedAsDue,
-  IsNew,
-  IsOver,
-  IsOverAt,
-  IsPaired,
-  IsSound,
-  IsToldBy,
-  JustBefore,
-  MayInvoke,
-  NeedsName,
-  NothingBefore,
-  SameProcess,
-  TellsEvent,
-};
-ghost use Rattle.jh_audit.specs.Forms.{Says, SaysAt};
+ghost use Rattle.jh_audit.specs.Audit.{AreNamed, AreSoundBelow, HasFaultAt, FollowsInvocation};
+ghost use Rattle.jh_audit.specs.Audit.{HasEvent, IsAudited, IsFirstFault, IsNotLast, IsInOrder};
+ghost use Rattle.jh_audit.specs.Audit.{IsNamed, IsNamedAsDue, IsNewEvent, IsOverBy, IsOverAt};
+ghost use Rattle.jh_audit.specs.Audit.{IsPaired, IsSoundAt, IsJustBefore, MayInvoke, NeedsName};
+ghost use Rattle.jh_audit.specs.Audit.{HasNothingBefore, HasSameProcess, CompletesEvent};
+ghost use Rattle.jh_audit.specs.Forms.{Says};
 ghost use Rattle.jh_audit.specs.HorizonInside.{IsBehind, NamesBelow};
 
-use crate::forms::{Form, form_at, named_at};
+use crate::forms::{Form, form_at, named_event_at};
 use crate::horizon::Horizon;
-use crate::told::is_told;
-use jh_ops::{Kind, Op, Process, Request};
+use crate::replies::is_completion_by;
+use jh_ops::{Kind, Op, Process};
 use jh_simnode::Event;
 use thiserror::Error;
 
-/// What is wrong first with a journal and a history, by the place of the operation, or by the number of the event.
+/// What is wrong first with a journal and a history, by the place of the operation, or by the
+/// number of the event.
 #[derive(Clone, Copy, Debug, PartialEq, Eq, Error)]
 pub enum AuditFault {
     /// It is no operation of a run.
@@ -56,7 +35,8 @@ pub enum AuditFault {
     /// The event that it names was named before.
     #[error("operation {0}: repeated event")]
     Repeat(usize),
-    /// It is no invocation that may be made and is completed, and no completion of the invocation before it.
+    /// It is no invocation that may be made and is completed, and no completion of the invocation
+    /// before it.
     #[error("operation {0}: unpaired")]
     Unpaired(usize),
     /// Its event is not above all that were named before its invocation.
@@ -71,7 +51,7 @@ pub enum AuditFault {
 fn same_process(history: &[Op], one: usize, other: usize) -> bool
     requires one { one < length history.now }
     requires other { other < length history.now }
-    ensures { IsTrue result ↔ SameProcess (operations history.now) one other }
+    ensures { IsTrue result ↔ HasSameProcess (operations history.now) one other }
 {
     match (history[one].process, history[other].process) {
         (Process::Client(one), Process::Client(other)) => one == other,
@@ -83,8 +63,8 @@ fn same_process(history: &[Op], one: usize, other: usize) -> bool
 /// Where the process of a place acted just before it.
 fn just_before(history: &[Op], place: usize) -> Option<usize>
     requires { place < length history.now }
-    ensures { MatchOption result (NothingBefore (operations history.now) place)
-        (λ k. JustBefore (operations history.now) k place) }
+    ensures { MatchOption result (HasNothingBefore (operations history.now) place)
+        (λ k. IsJustBefore (operations history.now) k place) }
 {
     for back in 0..place {
         let earlier = place - back - 1;
@@ -109,10 +89,10 @@ fn has_event(journal: &[Event], form: Form) -> bool
 fn tells_event(journal: &[Event], place: usize, op: &Op, form: Form) -> bool
     requires event { HasEvent journal.now form }
     requires says { Says place (operation op.now) form }
-    ensures { IsTrue result ↔ TellsEvent journal.now place (operation op.now) form }
+    ensures { IsTrue result ↔ CompletesEvent journal.now place (operation op.now) form }
 {
     match form.event() {
-        Some(number) => is_told(&journal[number as usize], place, op, form),
+        Some(number) => is_completion_by(&journal[number as usize], place, op, form),
         None => true,
     }
 }
@@ -125,7 +105,7 @@ fn is_named(history: &[Op], horizon: Horizon, place: usize, number: u64) -> bool
 {
     let start = horizon.start(history, number);
     for earlier in start..place {
-        if named_at(history, earlier) == Some(number) {
+        if named_event_at(history, earlier) == Some(number) {
             return true;
         }
     }
@@ -136,7 +116,7 @@ fn is_named(history: &[Op], horizon: Horizon, place: usize, number: u64) -> bool
 fn is_new(history: &[Op], horizon: Horizon, place: usize, form: Form) -> bool
     requires place { place < length history.now }
     requires behind { IsBehind (operations history.now) horizon }
-    ensures { IsTrue result ↔ IsNew (operations history.now) place form }
+    ensures { IsTrue result ↔ IsNewEvent (operations history.now) place form }
 {
     match form.event() {
         Some(number) => !is_named(history, horizon, place, number),
@@ -146,7 +126,7 @@ fn is_new(history: &[Op], horizon: Horizon, place: usize, form: Form) -> bool
 
 /// Whether a process may ask again after an operation that says this.
 fn is_over(op: &Op, form: Form) -> bool
-    ensures { IsTrue result ↔ IsOver (operation op.now) form }
+    ensures { IsTrue result ↔ IsOverBy (operation op.now) form }
 {
     match form {
         Form::Tells(_, _, _) => op.kind != Kind::Info,
@@ -180,7 +160,7 @@ fn may_ask(history: &[Op], place: usize) -> bool
 /// Whether an operation is not the last of its process.
 fn is_gone_on(history: &[Op], place: usize) -> bool
     requires { place < length history.now }
-    ensures { IsTrue result ↔ IsGoneOn (operations history.now) place }
+    ensures { IsTrue result ↔ IsNotLast (operations history.now) place }
 {
     for later in place + 1..history.len() {
         if same_process(history, later, place) {
@@ -208,7 +188,7 @@ fn same_form(one: Form, other: Form) -> bool
 /// Whether just before a completion stands its invocation.
 fn follows(history: &[Op], place: usize, asked: Form) -> bool
     requires { place < length history.now }
-    ensures { IsTrue result ↔ Follows (operations history.now) place asked }
+    ensures { IsTrue result ↔ FollowsInvocation (operations history.now) place asked }
 {
     let Some(earlier) = just_before(history, place) else {
         return false;
@@ -241,7 +221,7 @@ fn names_below(history: &[Op], horizon: Horizon, place: usize, number: u64) -> b
 {
     let start = horizon.start(history, number);
     for earlier in start..place {
-        if let Some(other) = named_at(history, earlier)
+        if let Some(other) = named_event_at(history, earlier)
             && other >= number
         {
             return false;
@@ -275,8 +255,8 @@ fn check_at(
     requires place { place < length history.now }
     requires behind { IsBehind (operations history.now) horizon }
     ensures { MatchResult result
-        (λ _. IsSound journal.now (operations history.now) place)
-        (FaultAt journal.now (operations history.now) place) }
+        (λ _. IsSoundAt journal.now (operations history.now) place)
+        (HasFaultAt journal.now (operations history.now) place) }
 {
     let Some(form) = form_at(history, place) else {
         return Err(AuditFault::BadOp(place));
@@ -318,7 +298,7 @@ fn is_named_as_due(journal: &[Event], history: &[Op], horizon: Horizon, number: 
 /// Refuses the first operation that is not sound.
 fn check_operations(journal: &[Event], history: &[Op]) -> Result<(), AuditFault>
     ensures { MatchResult result
-        (λ _. AreSound journal.now (operations history.now) (length (operations history.now)))
+        (λ _. AreSoundBelow journal.now (operations history.now) (length (operations history.now)))
         (IsFirstFault journal.now (operations history.now)) }
 {
     let mut horizon = Horizon::first(history);
@@ -336,7 +316,8 @@ fn check_operations(journal: &[Event], history: &[Op]) -> Result<(), AuditFault>
 fn first_unnamed(journal: &[Event], history: &[Op]) -> Option<usize>
     ensures { MatchOption result
         (AreNamed journal.now (operations history.now) (length journal.now))
-        (λ number. (number < length journal.now) × AreNamed journal.now (operations history.now) number
+        (λ number. (number < length journal.now)
+        × AreNamed journal.now (operations history.now) number
         × (IsNamedAsDue journal.now (operations history.now) number → ⊥)) }
 {
     let mut horizon = Horizon::first(history);
@@ -349,17 +330,19 @@ fn first_unnamed(journal: &[Event], history: &[Op]) -> Option<usize>
     None
 }
 
-/// Whether a journal and a history tell the same: each completion follows its invocation, a process ends with a
-/// completion, a client's `:info` is its last, each completion names one event of the journal, later than all that were
-/// named before its invocation, and each event but a tick is named once.
+/// Whether a journal and a history tell the same: each completion follows its invocation, a process
+/// ends with a completion, a client's `:info` is its last, each completion names one event of the
+/// journal, later than all that were named before its invocation, and each event but a tick is
+/// named once.
 ///
-/// Takes no memory. Each operation is compared with those since the operation of its process before it, and with those
-/// back to the last hundred or so that name lower events. So a history of few processes takes time linear in its length;
-/// one in which most processes crash, or most completions stand far from their events, takes its square.
+/// Takes no memory. Each operation is compared with those since the operation of its process before
+/// it, and with those back to the last hundred or so that name lower events. So a history of few
+/// processes takes time linear in its length; one in which most processes crash, or most
+/// completions stand far from their events, takes its square.
 ///
-/// Errors: the fault at the least place, at one place in this order: `BadOp`, `NoEvent`, `WrongEvent`, `Repeat`,
-/// `Unpaired`, `WrongOrder`; where there is none, `Unnamed` with the least number of a call or a step that no completion
-/// names.
+/// Errors: the fault at the least place, at one place in this order: `BadOp`, `NoEvent`,
+/// `WrongEvent`, `Repeat`, `Unpaired`, `WrongOrder`; where there is none, `Unnamed` with the least
+/// number of a call or a step that no completion names.
 pub fn audit(journal: &[Event], history: &[Op]) -> Result<(), AuditFault>
     ensures { MatchResult result
         (λ _. IsAudited journal.now (operations history.now))

@@ -1,8 +1,9 @@
-//! The parts of an operation of a run. `specs/DecodeInside.antt` says what is found of each; a new request is a case here
-//! and there, and of `specs/Forms.antt`.
+//! The parts of an operation of a run. `specs/DecodeInside.antt` says what is found of each; a new
+//! request is a case here and there, and of `specs/Forms.antt`.
 
 ghost use Rattle.std.specs.Prelude.{◌≡◌, ◌<◌, ◌^◌, IfSome};
 ghost use Rattle.std.specs.List.{list_all};
+ghost use Rattle.jh_edn.specs.Edn.{is_integer};
 ghost use Rattle.jh_edn.specs.View.{view, view_pairs, views};
 ghost use Rattle.jh_audit.specs.DecodeInside as rule;
 ghost use Rattle.jh_audit.specs.Forms as form;
@@ -27,23 +28,6 @@ pub(crate) fn is_nil(value: &Value) -> bool
     matches!(value, Value::Nil)
 }
 
-/// Whether the value is an integer.
-fn is_integer(value: &Value) -> bool
-    ensures { result ≡ rule.is_integer (view value.now) }
-{
-    matches!(value, Value::Int(_))
-}
-
-/// The integer that a value is.
-fn integer_in(value: &Value) -> Option<i64>
-    ensures { result ≡ rule.integer_in (view value.now) }
-{
-    match value {
-        Value::Int(number) => Some(*number),
-        _ => None,
-    }
-}
-
 /// The two integers that are all of some values.
 fn pair_among(values: &[Value]) -> Option<(i64, i64)>
     ensures { result ≡ rule.pair_among (views values.now) }
@@ -66,14 +50,14 @@ pub(crate) fn pair_in(value: &Value) -> Option<(i64, i64)>
 
 /// Whether all values are integers.
 fn are_integers(values: &[Value]) -> bool
-    ensures { result ≡ list_all (λ value. rule.is_integer (view value)) values.now }
+    ensures { result ≡ list_all (λ value. is_integer (view value)) values.now }
 {
-    values.iter().all(|value| is_integer(value))
+    values.iter().all(|value| value.is_integer())
 }
 
 /// Whether it is what a read may get.
-fn is_read(value: &Value) -> bool
-    ensures { result ≡ rule.is_read (view value.now) }
+fn is_read_value(value: &Value) -> bool
+    ensures { result ≡ rule.is_read_value (view value.now) }
 {
     match value {
         Value::Nil | Value::Int(_) => true,
@@ -95,12 +79,12 @@ pub(crate) fn request_asked(name: &str, value: &Value) -> Option<Request>
 {
     match name {
         "read" => is_nil(value).then_some(Request::Read),
-        "write" => Some(Request::Write(integer_in(value)?)),
+        "write" => Some(Request::Write(value.as_integer()?)),
         "cas" => {
             let (old, new) = pair_in(value)?;
             Some(Request::Cas(old, new))
         }
-        "add" => Some(Request::Add(integer_in(value)?)),
+        "add" => Some(Request::Add(value.as_integer()?)),
         "generate" => is_nil(value).then_some(Request::Generate),
         _ => None,
     }
@@ -111,15 +95,15 @@ fn request_done(name: &str, value: &Value) -> Option<Request>
     ensures { result ≡ rule.request_done name.now (view value.now) }
 {
     match name {
-        "read" => is_read(value).then_some(Request::Read),
+        "read" => is_read_value(value).then_some(Request::Read),
         "generate" => is_one(value).then_some(Request::Generate),
         _ => request_asked(name, value),
     }
 }
 
 /// The request that a client's completion tells.
-pub(crate) fn request_told(kind: Kind, name: &str, value: &Value) -> Option<Request>
-    ensures { result ≡ rule.request_told kind name.now (view value.now) }
+pub(crate) fn completed_request(kind: Kind, name: &str, value: &Value) -> Option<Request>
+    ensures { result ≡ rule.completed_request kind name.now (view value.now) }
 {
     match kind {
         Kind::Invoke => None,
@@ -129,17 +113,17 @@ pub(crate) fn request_told(kind: Kind, name: &str, value: &Value) -> Option<Requ
 }
 
 /// The number that an integer is, where it is not negative.
-fn number_of(integer: i64) -> Option<u64>
-    ensures { result ≡ rule.number_of integer }
+fn natural_in(integer: i64) -> Option<u64>
+    ensures { result ≡ rule.natural_in integer }
 {
     u64::try_from(integer).ok()
 }
 
 /// The entry of the schedule that begins.
-pub(crate) fn entry_in(value: &Value) -> Option<u64>
-    ensures { result ≡ rule.entry_in (view value.now) }
+pub(crate) fn begun_entry(value: &Value) -> Option<u64>
+    ensures { result ≡ rule.begun_entry (view value.now) }
 {
-    number_of(integer_in(value)?)
+    natural_in(value.as_integer()?)
 }
 
 /// Whether it is the code of an answer to a step.
@@ -150,19 +134,19 @@ fn is_code(integer: i64) -> bool
 }
 
 /// The entry of the schedule that has ended, with the code of an answer.
-pub(crate) fn ended_in(value: &Value) -> Option<u64>
-    ensures { result ≡ rule.ended_in (view value.now) }
+pub(crate) fn ended_entry_in(value: &Value) -> Option<u64>
+    ensures { result ≡ rule.ended_entry_in (view value.now) }
 {
     let (entry, code) = pair_in(value)?;
     if !is_code(code) {
         return None;
     }
-    number_of(entry)
+    natural_in(entry)
 }
 
 /// The event that is named by these keys of an operation, which are `:event` alone.
-pub(crate) fn named_by(rest: &[(Value, Value)]) -> Option<u64>
-    ensures named { result ≡ form.named_by (view_pairs rest.now) }
+pub(crate) fn named_event(rest: &[(Value, Value)]) -> Option<u64>
+    ensures named { result ≡ form.named_event (view_pairs rest.now) }
     ensures small { IfSome result (λ number. number < 2 ^ 63) }
 {
     match rest {
@@ -180,5 +164,5 @@ pub(crate) fn event_by(rest: &[(Value, Value)]) -> Option<Option<u64>>
     if rest.is_empty() {
         return Some(None);
     }
-    Some(Some(named_by(rest)?))
+    Some(Some(named_event(rest)?))
 }

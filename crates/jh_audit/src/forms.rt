@@ -1,13 +1,15 @@
-//! What the operations of a run say. `specs/Forms.antt` has the rule; a new form is a variant here and a case there.
+//! What the operations of a run say. `specs/Forms.antt` has the rule; a new form is a variant here
+//! and a case there.
 
-ghost use Rattle.std.specs.Prelude.{◌≡◌, ◌<◌, ◌↔◌, ◌^◌, length, IsTrue, IfSome, MatchOption};
+ghost use Rattle.std.specs.Prelude.{◌≡◌, ◌<◌, ◌^◌, length, IfSome, MatchOption};
 ghost use Rattle.jh_edn.specs.View.{view};
 ghost use Rattle.jh_ops.specs.Operation.{operation, operations};
-ghost use Rattle.jh_audit.specs.Audit.{IsToldBy};
 ghost use Rattle.jh_audit.specs.DecodeInside as rule;
-ghost use Rattle.jh_audit.specs.Forms.{Says, SaysAt, event_in, named_at};
+ghost use Rattle.jh_audit.specs.Forms.{SaysAt, event_in, named_event_at};
 
-use crate::decode::{ended_in, entry_in, event_by, name_in, named_by, request_asked, request_told};
+use crate::decode::{
+    begun_entry, completed_request, ended_entry_in, event_by, name_in, named_event, request_asked,
+};
 use jh_edn::Value;
 use jh_ops::{Kind, Op, Process, Request};
 
@@ -39,7 +41,7 @@ fn client_form(
             Kind::Invoke => Some(Form::Asks(process, request_asked(name, value)?)),
             _ => None,
         },
-        Some(number) => Some(Form::Tells(process, request_told(kind, name, value)?, number)),
+        Some(number) => Some(Form::Tells(process, completed_request(kind, name, value)?, number)),
     }
 }
 
@@ -48,8 +50,8 @@ fn step_form(value: &Value, event: Option<u64>) -> Option<Form>
     ensures { result ≡ rule.step_form (view value.now) event }
 {
     match event {
-        None => Some(Form::Begins(entry_in(value)?)),
-        Some(number) => Some(Form::Ends(ended_in(value)?, number)),
+        None => Some(Form::Begins(begun_entry(value)?)),
+        Some(number) => Some(Form::Ends(ended_entry_in(value)?, number)),
     }
 }
 
@@ -79,8 +81,8 @@ fn form_by(
 }
 
 /// Whether an index says this place.
-fn is_place(place: usize, index: Option<i64>) -> bool
-    ensures { result ≡ rule.is_place place index }
+fn is_index_of(place: usize, index: Option<i64>) -> bool
+    ensures { result ≡ rule.is_index_of place index }
 {
     match index {
         Some(index) => 0 <= index && index as usize == place,
@@ -92,7 +94,7 @@ fn is_place(place: usize, index: Option<i64>) -> bool
 fn form_of(place: usize, op: &Op) -> Option<Form>
     ensures { result ≡ rule.form_of place (operation op.now) }
 {
-    if !is_place(place, op.index) {
+    if !is_index_of(place, op.index) {
         return None;
     }
     if op.time.is_some() {
@@ -114,12 +116,12 @@ pub(crate) fn form_at(history: &[Op], place: usize) -> Option<Form>
 }
 
 /// The number of the event that the operation at a place names.
-pub(crate) fn named_at(history: &[Op], place: usize) -> Option<u64>
+pub(crate) fn named_event_at(history: &[Op], place: usize) -> Option<u64>
     requires { place < length history.now }
-    ensures named { result ≡ named_at (operations history.now) place }
+    ensures named { result ≡ named_event_at (operations history.now) place }
     ensures small { IfSome result (λ number. number < 2 ^ 63) }
 {
-    named_by(history[place].rest.as_slice())
+    named_event(history[place].rest.as_slice())
 }
 
 impl Form {

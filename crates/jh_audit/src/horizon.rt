@@ -1,11 +1,12 @@
-//! How far the operations of a history are known to name low events only. A search for an event begins there, so that
-//! the audit of a long history looks at few operations again. `specs/HorizonInside.antt` has the fact.
+//! How far the operations of a history are known to name low events only. A search for an event
+//! begins there, so that the audit of a long history looks at few operations again.
+//! `specs/HorizonInside.antt` has the fact.
 
 ghost use Rattle.std.specs.Prelude.{◌≡◌, ◌+◌, ◌<◌, ◌≤◌, length};
 ghost use Rattle.jh_ops.specs.Operation.{operations};
 ghost use Rattle.jh_audit.specs.HorizonInside.{IsBehind, NamesBelow};
 
-use crate::forms::named_at;
+use crate::forms::named_event_at;
 use jh_ops::Op;
 
 /// How many operations a horizon stays behind at least, once there are twice as many.
@@ -44,7 +45,7 @@ impl Horizon {
         ensures behind { IsBehind (operations history.now) result }
         ensures place { result.place ≡ self.place + 1 }
     {
-        let bound = match named_at(history, self.place) {
+        let bound = match named_event_at(history, self.place) {
             Some(number) => self.bound.max(number + 1),
             None => self.bound,
         };
@@ -80,7 +81,9 @@ impl Horizon {
         ensures bound { result.bound ≡ number }
     {
         let mut place = self.place;
-        while place < history.len() && named_at(history, place).is_none_or(|other| other < number) {
+        while place < history.len()
+            && named_event_at(history, place).is_none_or(|other| other < number)
+        {
             place += 1;
         }
         Horizon {

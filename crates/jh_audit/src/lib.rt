@@ -1,4 +1,5 @@
-//! The audit of a run: whether its history and its journal tell the same, and whether they keep to its plan.
+//! The audit of a run: whether its history and its journal tell the same, and whether they keep to
+//! its plan.
 //!
 //! No call takes memory or waits.
 #![tactic(auto)]
@@ -8,7 +9,7 @@ mod decode;
 mod forms;
 mod horizon;
 mod planned;
-mod told;
+mod replies;
 
 pub use checks::{AuditFault, audit};
 pub use planned::follows_plan;

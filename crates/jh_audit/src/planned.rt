@@ -4,7 +4,7 @@ ghost use Rattle.std.specs.Prelude.{◌≡◌, ◌+◌, ◌<◌, ◌≤◌, ◌�
 ghost use Rattle.jh_ops.specs.Operation.{operation, operations};
 ghost use Rattle.std.specs.List.{count_by};
 ghost use Rattle.jh_nemesis.specs.declared.steps.StepAnswer.{StepAnswer};
-ghost use Rattle.jh_simnode.specs.Histories.{answered_by};
+ghost use Rattle.jh_simnode.specs.Histories.{placed_entry_completion};
 ghost use Rattle.jh_simnode.specs.declared.events.Event.TheVariants as Event;
 ghost use Rattle.jh_audit.specs.Forms.{Says};
 ghost use Rattle.jh_audit.specs.Plans as rule;
@@ -12,38 +12,32 @@ ghost use Rattle.jh_audit.specs.Plans.{AreInTurn, EndsEntryAt, FollowsPlan, IsIn
 ghost use Rattle.jh_audit.specs.declared.forms.Form.TheVariants.{Ends};
 
 use crate::forms::{Form, form_at};
-use crate::told::has_answer;
+use crate::replies::has_answer;
 use jh_edn::Value;
 use jh_nemesis::Step;
-use jh_ops::{Kind, Op, Process};
+use jh_ops::{Kind, Op};
 use jh_simnode::{Entry, Event, Plan};
-
-/// Whether it is the process of a client.
-fn is_client(process: Process) -> bool
-    ensures { result ≡ rule.is_client process }
-{
-    matches!(process, Process::Client(_))
-}
 
 /// Whether it is a client's completion.
 fn is_answered_call(op: &Op) -> bool
     ensures { result ≡ rule.is_answered_call (operation op.now) }
 {
-    is_client(op.process) && !matches!(op.kind, Kind::Invoke)
+    op.process.is_client() && !matches!(op.kind, Kind::Invoke)
 }
 
 /// Whether it is a completion of the nemesis.
 fn is_answered_step(op: &Op) -> bool
     ensures { result ≡ rule.is_answered_step (operation op.now) }
 {
-    !is_client(op.process) && matches!(op.value, Value::Vector(_))
+    !op.process.is_client() && matches!(op.value, Value::Vector(_))
 }
 
-/// Whether the event is of the step that was due, and the operation, which says that this entry has ended, its completion.
+/// Whether the event is of the step that was due, and the operation, which says that this entry has
+/// ended, its completion.
 fn ends_by(event: &Event, due: &Step, place: usize, op: &Op, entry: u64, number: u64) -> bool
     requires { Says place (operation op.now) (Ends entry number) }
     ensures { IsTrue result ↔ ((answer : StepAnswer) × (event.now ≡ Event.Step due.now answer)
-        × (operation op.now ≡ answered_by place number entry answer)) }
+        × (operation op.now ≡ placed_entry_completion place number entry answer)) }
 {
     match event {
         Event::Step { step, answer } => {
@@ -53,7 +47,8 @@ fn ends_by(event: &Event, due: &Step, place: usize, op: &Op, entry: u64, number:
     }
 }
 
-/// Whether the operation at a place tells that this entry of the schedule has ended, by an event of its step.
+/// Whether the operation at a place tells that this entry of the schedule has ended, by an event of
+/// its step.
 fn ends_entry(
     schedule: &[Entry],
     journal: &[Event],
@@ -62,7 +57,8 @@ fn ends_entry(
     entry: usize,
 ) -> bool
     requires { place < length history.now }
-    ensures { IsTrue result ↔ EndsEntryAt schedule.now journal.now (operations history.now) place entry }
+    ensures { IsTrue result
+        ↔ EndsEntryAt schedule.now journal.now (operations history.now) place entry }
 {
     if entry >= schedule.len() {
         return false;
@@ -96,7 +92,8 @@ fn answered_calls(history: &[Op]) -> usize
     answered
 }
 
-/// Whether a completion of the nemesis tells the entry whose number is that of the completions before it.
+/// Whether a completion of the nemesis tells the entry whose number is that of the completions
+/// before it.
 fn is_in_turn(
     schedule: &[Entry],
     journal: &[Event],
@@ -143,8 +140,9 @@ fn ended_in_turn(schedule: &[Entry], journal: &[Event], history: &[Op]) -> Optio
     Some(ended)
 }
 
-/// Whether the history of a run keeps to its plan: the nemesis's completions tell all entries of the schedule in order,
-/// each by an event of the journal that is of its step, and the clients completed no more calls than the plan has.
+/// Whether the history of a run keeps to its plan: the nemesis's completions tell all entries of
+/// the schedule in order, each by an event of the journal that is of its step, and the clients
+/// completed no more calls than the plan has.
 ///
 /// Takes no memory, and time linear in the history and in what the faults of the schedule name.
 pub fn follows_plan(plan: &Plan, journal: &[Event], history: &[Op]) -> bool

@@ -40,6 +40,8 @@ fn is_over(line: &Line<'_>) -> bool {
     line.event.is_some() && (line.is_nemesis() || line.kind != "info")
 }
 
+/// Whether a completion answers the line of its process just before it. An invocation needs a later
+/// line of its process, and just before it none, or one after which the process may ask again.
 fn is_paired(lines: &[Line<'_>], place: usize) -> Option<bool> {
     let line = lines.get(place)?;
     let earlier = before(lines, place).and_then(|place| lines.get(place));

@@ -1,4 +1,5 @@
-//! Changes of a history that look random: a line is left out, told again, exchanged with another, or says something else.
+//! Changes of a history that look random: a line is left out, told again, exchanged with another,
+//! or says something else.
 
 use crate::lines::Line;
 use jh_env_plain::Random;

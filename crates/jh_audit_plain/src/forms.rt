@@ -1,7 +1,9 @@
-//! Whether a line is one of a run: a client asks or is answered, an entry of the schedule begins or has ended.
+//! Whether a line is one of a run: a client asks or is answered, an entry of the schedule begins or
+//! has ended.
 
 use crate::lines::Line;
 
+/// Whether a text is a whole number that fits 64 bits.
 fn is_number(text: &str) -> bool {
     text.parse::<i64>().is_ok()
 }
@@ -16,6 +18,7 @@ pub(crate) fn pair_in(text: &str) -> Option<(&str, &str)> {
     inside(text)?.split_once(' ')
 }
 
+/// Whether a text is two numbers between brackets.
 fn is_pair(text: &str) -> bool {
     match pair_in(text) {
         Some((one, other)) => is_number(one) && is_number(other),
@@ -23,6 +26,7 @@ fn is_pair(text: &str) -> bool {
     }
 }
 
+/// Whether a text is numbers between brackets, or brackets alone.
 fn is_vector(text: &str) -> bool {
     match inside(text) {
         Some("") => true,
@@ -50,6 +54,7 @@ fn is_got(f: &str, value: &str) -> bool {
     }
 }
 
+/// Whether a line says that a client asks or is answered.
 fn is_of_client(line: &Line<'_>) -> bool {
     let is_named = line.event.is_some();
     match line.kind {
@@ -60,6 +65,7 @@ fn is_of_client(line: &Line<'_>) -> bool {
     }
 }
 
+/// Whether a text is a number that is not negative.
 fn is_natural(text: &str) -> bool {
     text.parse::<i64>().is_ok_and(|number| number >= 0)
 }
@@ -74,6 +80,7 @@ fn is_ended(value: &str) -> bool {
     }
 }
 
+/// Whether a line says that an entry of the schedule begins or has ended.
 fn is_of_nemesis(line: &Line<'_>) -> bool {
     let says = match line.event {
         Some(_) => is_ended(line.value),

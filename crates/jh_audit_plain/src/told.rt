@@ -43,7 +43,8 @@ fn got(alloc: Global, reply: &Reply) -> Option<Option<String>> {
     }
 }
 
-fn kind_of(reply: &Reply) -> &'static str {
+/// The type of a completion with this reply, as it is printed.
+fn completion_kind(reply: &Reply) -> &'static str {
     match reply {
         Reply::Ok(_) => "ok",
         Reply::Fail => "fail",
@@ -51,6 +52,7 @@ fn kind_of(reply: &Reply) -> &'static str {
     }
 }
 
+/// Whether a completion is that of a call of this process, with this request and reply.
 fn is_told_by_call(
     alloc: Global,
     process: u64,
@@ -60,10 +62,13 @@ fn is_told_by_call(
 ) -> Option<bool> {
     let (f, value) = asked(alloc, request)?;
     let value = got(alloc, reply)?.unwrap_or(value);
-    let is_same = line.f == f && line.value == value.as_str() && line.kind == kind_of(reply);
+    let is_same = line.f == f
+        && line.value == value.as_str()
+        && line.kind == completion_kind(reply);
     Some(is_same && line.process.parse::<u64>() == Ok(process))
 }
 
+/// The code by which an answer to a step is recorded, as it is printed.
 fn code_of(answer: StepAnswer) -> &'static str {
     match answer {
         StepAnswer::Ok => "0",

@@ -2,7 +2,7 @@
 
 use crate::rows::{Run, judged, plan_of};
 use jh_ops::{Op, Request};
-use jh_simnode::{Event, Got, Plan, Reply, completion, invocation, node_of, push_placed};
+use jh_simnode::{Event, Got, Reply, completion, invocation, node_of, push_placed};
 use std::alloc::Global;
 
 /// How many processes ask, all before any is answered.

@@ -1,7 +1,7 @@
 pub mod ListLemmas
-pub mod OnceLemmas
+pub mod DistinctLemmas
 pub mod SearchLemmas
-pub mod FinalLemmas
+pub mod FinalReadLemmas
 pub mod SumLemmas
 pub mod ErrorLemmas
-pub mod LineLemmas
+pub mod ElementLemmas

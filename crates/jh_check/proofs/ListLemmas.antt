@@ -7,9 +7,9 @@ use Rattle.std.proofs.lemmas.List.Sums.{sum_by-cons}
 use Rattle.std.proofs.lemmas.List.Elements.{filter-append}
 use Rattle.jh_edn.specs.Edn.{Edn}
 use Rattle.jh_edn.specs.Normal.{normal}
-use Rattle.jh_ops.specs.Operation.{Operation}
+use Rattle.jh_ops.specs.Operation.{Operation, is_asked}
 use Rattle.jh_ops.specs.declared.operation.Kind.{Kind}
-use Rattle.jh_check.specs.Asked.{is_asked, values_of}
+use Rattle.jh_check.specs.Asked.{values_of}
 
 pub values_of-append : (kind : Kind) (name : List ℕ) (xs ys : List Operation) → values_of kind name (xs ++ ys) ≡ values_of kind name xs ++ values_of kind name ys
 values_of-append kind name xs ys =

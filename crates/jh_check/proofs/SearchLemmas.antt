@@ -11,9 +11,9 @@ use Rattle.jh_edn.specs.Edn.{Edn}
 use Rattle.jh_edn.specs.Order.{edn_cmp, is_below, in_order, put_in_order}
 use Rattle.jh_edn.specs.View.{view, views}
 use Rattle.jh_edn.specs.declared.value.Value.{Value}
-use Rattle.jh_edn.proofs.Facts.{edn_total}
-use Rattle.jh_check.specs.Distinct.{is_same, is_among, is_wanted, count_of, Ascends}
-use Rattle.jh_check.proofs.OnceLemmas.{same_back, count_cons}
+use Rattle.jh_edn.proofs.CitedLemmas.{edn_total}
+use Rattle.jh_check.specs.Distinct.{is_same, has_same_value, is_wanted, count_of, Ascends}
+use Rattle.jh_check.proofs.DistinctLemmas.{same_back, count_cons}
 
 abbrev held_below : Value → Value → Bool
 held_below v w = is_below (view v) (view w)
@@ -27,7 +27,7 @@ neighbours (v ∷ w ∷ vs) a (suc k) d less = let e : suc k + 1 ≡ suc (k + 1)
 sorted_held : (vs : List Value) → Ascends (views vs) → IsSortedBy held_below vs
 sorted_held vs a = λ k d low less. neighbours vs a k d less
 
-is_there : (x : Edn) (vs : List Value) (i : ℕ) (d : Value) → i < length vs → is_same x (view (get_or vs i d)) ≡ true → is_among (views vs) x ≡ true
+is_there : (x : Edn) (vs : List Value) (i : ℕ) (d : Value) → i < length vs → is_same x (view (get_or vs i d)) ≡ true → has_same_value (views vs) x ≡ true
 is_there x [] i d less h = absurd (omega arith)
 is_there x (v ∷ vs) zero d less h = rw h refl
 is_there x (v ∷ vs) (suc i) d less h = rw (is_there x vs i d (omega arith) h) (either (is_same x (view v))) where
@@ -35,7 +35,7 @@ is_there x (v ∷ vs) (suc i) d less h = rw (is_there x vs i d (omega arith) h) 
   either true = refl
   either false = refl
 
-is_nowhere : (x : Edn) (vs : List Value) → ((i : ℕ) (d : Value) → i < length vs → is_same x (view (get_or vs i d)) ≡ false) → is_among (views vs) x ≡ false
+is_nowhere : (x : Edn) (vs : List Value) → ((i : ℕ) (d : Value) → i < length vs → is_same x (view (get_or vs i d)) ≡ false) → has_same_value (views vs) x ≡ false
 is_nowhere x [] h = refl
 is_nowhere x (v ∷ vs) h = rw (h 0 v (omega arith)) (is_nowhere x vs (λ i d less. h (suc i) d (omega arith)))
 
@@ -53,8 +53,8 @@ by_side i k low high = elim (split i k) [ inl h ↦ low h | inr h ↦ high h ] w
   split (suc i) (suc k) = elim (split i k) [ inl h ↦ inl (omega arith) | inr h ↦ inr (omega arith) ]
 
 -- what a binary search for x finds among values that ascend
-pub found_by_search : (x : Edn) (vs : List Value) → Ascends (views vs) → (r : Result ℕ ℕ) → IsSearchInRange r (length vs) → IsBinarySearchResult (λ v. edn_cmp (view v) x) vs r → is_ok r ≡ is_among (views vs) x
-found_by_search x vs a (Ok i) within at = sym (elim vs as (λ ws. i < length ws → ((d : Value) → edn_cmp (view (get_or ws i d)) x ≡ Equal) → is_among (views ws) x ≡ true) [
+pub found_by_search : (x : Edn) (vs : List Value) → Ascends (views vs) → (r : Result ℕ ℕ) → IsSearchInRange r (length vs) → IsBinarySearchResult (λ v. edn_cmp (view v) x) vs r → is_ok r ≡ has_same_value (views vs) x
+found_by_search x vs a (Ok i) within at = sym (elim vs as (λ ws. i < length ws → ((d : Value) → edn_cmp (view (get_or ws i d)) x ≡ Equal) → has_same_value (views ws) x ≡ true) [
   | [] ↦ λ less at. absurd (omega arith)
   | v ∷ ws ↦ λ less at. is_there x (v ∷ ws) i v less (equal_same x (view (get_or (v ∷ ws) i v)) (at v))
 ] within at)
@@ -66,11 +66,11 @@ found_by_search x vs a (Err i) within at =
 
 -- ---- in any order
 
-among_put : (x y : Edn) (ys : List Edn) → is_among (put_in_order is_below y ys) x ≡ is_among (y ∷ ys) x
+among_put : (x y : Edn) (ys : List Edn) → has_same_value (put_in_order is_below y ys) x ≡ has_same_value (y ∷ ys) x
 among_put x y [] = refl
 among_put x y (z ∷ zs) =
-    elim (is_below z y) as (λ b. is_among (cond b (z ∷ put_in_order is_below y zs) (y ∷ z ∷ zs)) x ≡ is_among (y ∷ z ∷ zs) x) [
-      | true ↦ ap (λ w. is_same x z || w) (among_put x y zs) ∙ swap (is_same x z) (is_same x y) (is_among zs x)
+    elim (is_below z y) as (λ b. has_same_value (cond b (z ∷ put_in_order is_below y zs) (y ∷ z ∷ zs)) x ≡ has_same_value (y ∷ z ∷ zs) x) [
+      | true ↦ ap (λ w. is_same x z || w) (among_put x y zs) ∙ swap (is_same x z) (is_same x y) (has_same_value zs x)
       | false ↦ refl
     ] where
       swap : (a b c : Bool) → (a || (b || c)) ≡ (b || (a || c))
@@ -78,7 +78,7 @@ among_put x y (z ∷ zs) =
       swap true false c = refl
       swap false b c = refl
 
-pub among_in_order : (x : Edn) (ys : List Edn) → is_among (in_order is_below ys) x ≡ is_among ys x
+pub among_in_order : (x : Edn) (ys : List Edn) → has_same_value (in_order is_below ys) x ≡ has_same_value ys x
 among_in_order x [] = refl
 among_in_order x (y ∷ ys) = among_put x y (in_order is_below ys) ∙ ap (λ w. is_same x y || w) (among_in_order x ys)
 
@@ -97,12 +97,12 @@ count_in_order x (y ∷ ys) = omega (arith, count_put x y (in_order is_below ys)
 -- ---- what is kept of values, as wanted, by whether it is among the others
 
 pub kept_by : (wanted : Bool) (kept : List Edn) (vs os : List Value) (values others : List Edn)
-    → kept ≡ filter (λ x. is_wanted wanted (is_among (views os) x)) (views vs) → views vs ≡ values → views os ≡ others
-    → kept ≡ filter (λ x. is_wanted wanted (is_among others x)) values
-kept_by wanted kept vs os values others h v o = h ∙ (λ i. filter (λ x. is_wanted wanted (is_among (o i) x)) (v i))
+    → kept ≡ filter (λ x. is_wanted wanted (has_same_value (views os) x)) (views vs) → views vs ≡ values → views os ≡ others
+    → kept ≡ filter (λ x. is_wanted wanted (has_same_value others x)) values
+kept_by wanted kept vs os values others h v o = h ∙ (λ i. filter (λ x. is_wanted wanted (has_same_value (o i) x)) (v i))
 
 pub kept_by_sorted : (wanted : Bool) (kept : List Edn) (vs os : List Value) (values others : List Edn)
-    → kept ≡ filter (λ x. is_wanted wanted (is_among (views os) x)) (views vs) → views vs ≡ values → views os ≡ in_order is_below others
-    → kept ≡ filter (λ x. is_wanted wanted (is_among others x)) values
+    → kept ≡ filter (λ x. is_wanted wanted (has_same_value (views os) x)) (views vs) → views vs ≡ values → views os ≡ in_order is_below others
+    → kept ≡ filter (λ x. is_wanted wanted (has_same_value others x)) values
 kept_by_sorted wanted kept vs os values others h v o =
     kept_by wanted kept vs os values (in_order is_below others) h v o ∙ (λ i. filter (λ x. is_wanted wanted (among_in_order x others i)) values)

@@ -8,7 +8,7 @@ use Rattle.std.proofs.lemmas.List.Elements.{filter-append}
 use Rattle.std.proofs.lemmas.List.Sums.{sum_by-cons, sum_by-append}
 use Rattle.jh_ops.specs.Operation.{Operation}
 use Rattle.jh_ops.specs.declared.pairs.Pair.{Pair}
-use Rattle.jh_check.specs.CounterResults.{end_of, amount, is_surely_added, may_be_added}
+use Rattle.jh_check.specs.CounterResults.{end_place, amount, is_surely_added, may_be_added}
 use Rattle.jh_check.specs.CounterInside.{increase_of, increase_before, bound_before}
 use Rattle.jh_check.specs.declared.totals.Bound.{Bound}
 use Rattle.jh_check.specs.declared.totals.Bound.TheVariants.{Lower, Upper}
@@ -56,9 +56,9 @@ sum_more f p q calls call =
 pub bound_more : (side : Bound) (history : List Operation) (calls : List Pair) (call : Pair) (place : ℕ)
     → bound_before side history (calls ++ call ∷ []) place ≡ bound_before side history calls place + increase_before place (increase_of side history call)
 bound_more Lower history calls call place =
-    sum_more (amount history) (is_surely_added history) (λ c. nat_lt (end_of c) place) calls call
+    sum_more (amount history) (is_surely_added history) (λ c. nat_lt (end_place c) place) calls call
     ∙ ap (λ n. bound_before Lower history calls place + n) (one (is_surely_added history call)) where
-      one : (b : Bool) → cond b (cond (nat_lt (end_of call) place) (amount history call) 0) 0 ≡ increase_before place (cond b (Some (record { place = end_of call; amount = amount history call })) None)
+      one : (b : Bool) → cond b (cond (nat_lt (end_place call) place) (amount history call) 0) 0 ≡ increase_before place (cond b (Some (record { place = end_place call; amount = amount history call })) None)
       one true = refl
       one false = refl
 bound_more Upper history calls call place =

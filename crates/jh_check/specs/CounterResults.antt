@@ -1,38 +1,44 @@
--- What the counter checker finds (jepsen.checker, `counter`): each read lies between the sum of what was surely
--- added before it began and the sum of what may have been added before it ended. The two sums are this project's
--- own reading of that page. Calls are the pairs of a history; places are those of the whole history.
-use Rattle.std.specs.Prelude.{◌≡◌, ℕ, ◌≤◌, ◌==◌, ◌&&◌, ◌⊎◌, Bool, false, not, nat_lt, int_le, ℤ, pos, negsuc, List, [], map, filter, length, slice_get, codes, sum_by, Contains, All, Option, Some, None, if◌then◌else◌, option_and_then, unwrap_or}
+-- What the counter checker finds (jepsen.checker, `counter`): each read lies between the sum of
+-- what was surely added before it began and the sum of what may have been added before it ended.
+-- The two sums are this project's own reading of that page. Calls are the pairs of a history;
+-- places are those of the whole history.
+use Rattle.std.specs.Prelude.{◌≡◌, ℕ, ◌≤◌, ◌==◌, ◌&&◌, ◌⊎◌, Bool, false, not, nat_lt, int_le, ℤ}
+use Rattle.std.specs.Prelude.{pos, negsuc, List, [], map, filter, length, slice_get, codes, sum_by}
+use Rattle.std.specs.Prelude.{Contains, All, Option, Some, None, if◌then◌else◌, option_and_then}
+use Rattle.std.specs.Prelude.{unwrap_or}
 use Rattle.std.specs.List.{filter_map}
 use Rattle.std.specs.Option.{option_map_or, option_map}
-use Rattle.jh_edn.specs.Edn.{Edn, int}
+use Rattle.jh_edn.specs.Edn.{Edn, int, is_keyword}
 use Rattle.jh_edn.specs.Order.{in_order}
-use Rattle.jh_ops.specs.Operation.{Operation}
-use Rattle.jh_ops.specs.OperationText.{is_keyword}
-use Rattle.jh_ops.specs.Pairing.{IsWellFormed, RefusesHistory, pairs_of}
+use Rattle.jh_ops.specs.Operation.{Operation, is_kind}
+use Rattle.jh_ops.specs.Pairing.{IsWellFormed, RefusesHistory, history_pairs}
 use Rattle.jh_ops.specs.declared.operation.Kind.{Kind}
 use Rattle.jh_ops.specs.declared.pairs.Pair.{Pair}
 use Rattle.jh_ops.specs.declared.pairs.PairError.{PairError}
 use Rattle.jh_ops.specs.declared.pairs.PairError.TheVariants as pair_errors
-use Rattle.jh_check.specs.Asked.{is_kind}
 use Rattle.jh_check.specs.Verdicts.{verdict_of}
 use Rattle.jh_check.specs.declared.counter.CounterResult.{CounterResult}
 use Rattle.jh_check.specs.declared.counter.ReadBounds.{ReadBounds}
 use Rattle.jh_check.specs.declared.error.CheckError.{CheckError}
-use Rattle.jh_check.specs.declared.error.CheckError.TheVariants.{Pair as Unpaired, BadValue, NegativeAdd, OutOfMemory}
+use Rattle.jh_check.specs.declared.error.CheckError.TheVariants.{Pair as Unpaired, BadValue}
+use Rattle.jh_check.specs.declared.error.CheckError.TheVariants.{NegativeAdd, OutOfMemory}
 
 -- ---- calls
 
 -- what the call asks for is the function of this name
 abbrev pub asks : List ℕ → List Operation → Pair → Bool
-asks name history call = option_map_or (λ op. is_keyword name op.f) (slice_get history call.invoke) false
+asks name history call =
+    option_map_or (λ op. is_keyword name op.f) (slice_get history call.invoke) false
 
 -- the call has an outcome, of this kind
 abbrev pub has_ended : Kind → List Operation → Pair → Bool
-has_ended kind history call = option_map_or (λ op. is_kind kind op.kind) (option_and_then (slice_get history) call.outcome) false
+has_ended kind history call =
+    option_map_or (λ op. is_kind kind op.kind)
+    (option_and_then (slice_get history) call.outcome) false
 
 -- the place of the call's outcome, or where there is none that of its invocation
-abbrev pub end_of : Pair → ℕ
-end_of call = unwrap_or call.outcome call.invoke
+abbrev pub end_place : Pair → ℕ
+end_place call = unwrap_or call.outcome call.invoke
 
 abbrev pub value_at : List Operation → ℕ → Option Edn
 value_at history place = option_map (λ op. op.value) (slice_get history place)
@@ -59,17 +65,21 @@ is_surely_added history call = asks (codes "add") history call && has_ended Kind
 
 -- an add that is not known not to have happened
 abbrev pub may_be_added : List Operation → Pair → Bool
-may_be_added history call = asks (codes "add") history call && not (has_ended Kind.Fail history call)
+may_be_added history call =
+    asks (codes "add") history call && not (has_ended Kind.Fail history call)
 
 -- the sum of the amounts of the adds that had completed ok before a place
-abbrev pub surely_added_before : List Operation → List Pair → ℕ → ℕ
-surely_added_before history calls place =
-    sum_by (amount history) (filter (λ call. is_surely_added history call && nat_lt (end_of call) place) calls)
+abbrev pub sure_sum_before : List Operation → List Pair → ℕ → ℕ
+sure_sum_before history calls place =
+    sum_by (amount history)
+    (filter (λ call. is_surely_added history call && nat_lt (end_place call) place) calls)
 
--- the sum of the amounts of the adds that were invoked before a place and do not fail, there or later
-abbrev pub maybe_added_before : List Operation → List Pair → ℕ → ℕ
-maybe_added_before history calls place =
-    sum_by (amount history) (filter (λ call. may_be_added history call && nat_lt call.invoke place) calls)
+-- the sum of the amounts of the adds that were invoked before a place and do not fail, there or
+-- later
+abbrev pub possible_sum_before : List Operation → List Pair → ℕ → ℕ
+possible_sum_before history calls place =
+    sum_by (amount history)
+    (filter (λ call. may_be_added history call && nat_lt call.invoke place) calls)
 
 -- ---- reads
 
@@ -77,29 +87,30 @@ maybe_added_before history calls place =
 abbrev pub is_ok_read : List Operation → Pair → Bool
 is_ok_read history call = asks (codes "read") history call && has_ended Kind.Ok history call
 
--- a read with its bounds: what was surely added before it was invoked, what may have been added before it completed
+-- a read with its bounds: what was surely added before it was invoked, what may have been added
+-- before it completed
 abbrev pub bounds_of : List Operation → List Pair → Pair → ReadBounds
 bounds_of history calls read =
     record {
-      lower = pos (surely_added_before history calls read.invoke);
-      value = integer (value_at history (end_of read));
-      upper = pos (maybe_added_before history calls (end_of read));
+      lower = pos (sure_sum_before history calls read.invoke);
+      value = integer (value_at history (end_place read));
+      upper = pos (possible_sum_before history calls (end_place read));
     }
 
 abbrev pub ends_before : Pair → Pair → Bool
-ends_before a b = nat_lt (end_of a) (end_of b)
+ends_before a b = nat_lt (end_place a) (end_place b)
 
 -- the reads that happened, in the order of their completions
 abbrev pub reads_in : List Operation → List Pair → List Pair
 reads_in history calls = in_order ends_before (filter (is_ok_read history) calls)
 
 -- the value lies between the bounds, both included
-abbrev pub is_within : ReadBounds → Bool
-is_within read = int_le read.lower read.value && int_le read.value read.upper
+abbrev pub is_in_bounds : ReadBounds → Bool
+is_in_bounds read = int_le read.lower read.value && int_le read.value read.upper
 
 abbrev pub result_from : List ReadBounds → CounterResult
 result_from reads =
-    let errors = filter (λ read. not (is_within read)) reads in
+    let errors = filter (λ read. not (is_in_bounds read)) reads in
     record { verdict = verdict_of (length errors == 0); reads = reads; errors = errors }
 
 abbrev pub result_of : List Operation → List Pair → CounterResult
@@ -107,7 +118,7 @@ result_of history calls = result_from (map (bounds_of history calls) (reads_in h
 
 -- the result of a history
 abbrev pub counter_result : List Operation → CounterResult
-counter_result history = result_of history (pairs_of history)
+counter_result history = result_of history (history_pairs history)
 
 -- ---- refusals
 
@@ -122,40 +133,47 @@ abbrev pub read_error : ℕ → Option Edn → Option CheckError
 read_error place (Some (int z)) = None
 read_error place _ = Some (BadValue place)
 
--- what is wrong with the values of a call: of an add at its invocation, whatever its outcome, of a read that
--- happened at its completion
+-- what is wrong with the values of a call: of an add at its invocation, whatever its outcome, of a
+-- read that happened at its completion
 abbrev pub call_error : List Operation → Pair → Option CheckError
 call_error history call =
     if asks (codes "add") history call then add_error call.invoke (value_at history call.invoke)
-    else if is_ok_read history call then read_error (end_of call) (value_at history (end_of call))
+    else if is_ok_read history call
+    then read_error (end_place call) (value_at history (end_place call))
     else None
 
 abbrev pub errors_in : List Operation → List Pair → List CheckError
 errors_in history calls = filter_map (call_error history) calls
 
-abbrev pub place_of : CheckError → ℕ
-place_of (Unpaired error) = 0
-place_of (BadValue place) = place
-place_of (NegativeAdd place) = place
-place_of OutOfMemory = 0
+abbrev pub place_of_error : CheckError → ℕ
+place_of_error (Unpaired error) = 0
+place_of_error (BadValue place) = place
+place_of_error (NegativeAdd place) = place
+place_of_error OutOfMemory = 0
 
 -- one of the errors, and none is at an earlier place
-abbrev pub IsFirst : CheckError → List CheckError → Type 0
-IsFirst error errors = Contains errors error × All (λ other. place_of error ≤ place_of other) errors
+abbrev pub IsEarliest : CheckError → List CheckError → Type 0
+IsEarliest error errors =
+    Contains errors error × All (λ other. place_of_error error ≤ place_of_error other) errors
 
--- its calls can be told and have the values that they need
+-- its calls can be parsed and have the values that they need
 abbrev pub IsCountable : List Operation → Type 0
-IsCountable history = IsWellFormed history × (errors_in history (pairs_of history) ≡ [])
+IsCountable history = IsWellFormed history × (errors_in history (history_pairs history) ≡ [])
 
 -- the error that a checker gives for one of pairing
-abbrev pub refusal_of : PairError → CheckError
-refusal_of pair_errors.OutOfMemory = OutOfMemory
-refusal_of error = Unpaired error
+abbrev pub error_of_pairing : PairError → CheckError
+error_of_pairing pair_errors.OutOfMemory = OutOfMemory
+error_of_pairing error = Unpaired error
 
--- Why there is no result: first for its pairs, then for the first bad value. Memory is wanted where neither is at
--- error, or for the pairs.
+-- Why there is no result: first for its pairs, then for the first bad value. Memory is wanted where
+-- neither is at error, or for the pairs.
 abbrev pub RefusesCounter : List Operation → CheckError → Type 0
-RefusesCounter history (Unpaired error) = (refusal_of error ≡ Unpaired error) × RefusesHistory history error
-RefusesCounter history (BadValue place) = IsWellFormed history × IsFirst (BadValue place) (errors_in history (pairs_of history))
-RefusesCounter history (NegativeAdd place) = IsWellFormed history × IsFirst (NegativeAdd place) (errors_in history (pairs_of history))
-RefusesCounter history OutOfMemory = RefusesHistory history pair_errors.OutOfMemory ⊎ IsCountable history
+RefusesCounter history (Unpaired error) =
+    (error_of_pairing error ≡ Unpaired error) × RefusesHistory history error
+RefusesCounter history (BadValue place) =
+    IsWellFormed history × IsEarliest (BadValue place) (errors_in history (history_pairs history))
+RefusesCounter history (NegativeAdd place) =
+    IsWellFormed history
+    × IsEarliest (NegativeAdd place) (errors_in history (history_pairs history))
+RefusesCounter history OutOfMemory =
+    RefusesHistory history pair_errors.OutOfMemory ⊎ IsCountable history

@@ -1,6 +1,7 @@
--- Sets of values, written in normal order with each value once. All values are in normal form, where two are equal
--- (EDN's format description, "Equality") as they are one.
-use Rattle.std.specs.Prelude.{◌≡◌, ℕ, Bool, false, not, if◌then◌else◌, List, [], ◌∷◌, filter, count_by}
+-- Sets of values, written in normal order with each value once. All values are in normal form,
+-- where two are equal (EDN's format description, "Equality") as they are one.
+use Rattle.std.specs.Prelude.{◌≡◌, ℕ, Bool, false, not, if◌then◌else◌, List, [], ◌∷◌, filter}
+use Rattle.std.specs.Prelude.{count_by}
 use Rattle.std.specs.List.{list_any}
 use Rattle.std.specs.Ordering.{is_eq}
 use Rattle.jh_edn.specs.Edn.{Edn}
@@ -9,21 +10,21 @@ use Rattle.jh_edn.specs.Order.{edn_cmp, in_order, is_below}
 abbrev pub is_same : Edn → Edn → Bool
 is_same x y = is_eq (edn_cmp x y)
 
-abbrev pub is_among : List Edn → Edn → Bool
-is_among values x = list_any (is_same x) values
+abbrev pub has_same_value : List Edn → Edn → Bool
+has_same_value values x = list_any (is_same x) values
 
 -- how many of the values it is
 abbrev pub count_of : List Edn → Edn → ℕ
 count_of values x = count_by (is_same x) values
 
 -- each value once, where it first stands
-abbrev pub once : List Edn → List Edn
-once [] = []
-once (x ∷ xs) = x ∷ filter (λ y. not (is_same x y)) (once xs)
+abbrev pub distinct_values : List Edn → List Edn
+distinct_values [] = []
+distinct_values (x ∷ xs) = x ∷ filter (λ y. not (is_same x y)) (distinct_values xs)
 
 -- the set of the values
 abbrev pub set_of : List Edn → List Edn
-set_of values = once (in_order is_below values)
+set_of values = distinct_values (in_order is_below values)
 
 -- none of the values is below this one
 abbrev pub IsLeast : Edn → List Edn → Type 0

@@ -1,6 +1,8 @@
--- The value of each result, a map, whose printed text is its one line (this project's own; the keys are those of
--- jepsen.checker). Its numbers stand in full, also where no integer of 64 bits has them.
-use Rattle.std.specs.Prelude.{ℕ, pos, true, false, List, [], ◌∷◌, ◌++◌, map, codes, Option, Some, None}
+-- The value of each result, a map, whose printed text is its one line (this project's own; the keys
+-- are those of jepsen.checker). Its numbers stand in full, also where no integer of 64 bits has
+-- them.
+use Rattle.std.specs.Prelude.{ℕ, pos, true, false, List, [], ◌∷◌, ◌++◌, map, codes, Option, Some}
+use Rattle.std.specs.Prelude.{None}
 use Rattle.jh_edn.specs.Edn.{Edn, boolean, int, keyword, str, vector, mapping, items_of, members_of}
 use Rattle.jh_edn.specs.Print.{print}
 use Rattle.jh_check.specs.declared.counter.CounterResult.{CounterResult}
@@ -23,15 +25,17 @@ abbrev pub map_of : List (Edn × Edn) → Edn
 map_of pairs = mapping (members_of pairs)
 
 -- the text of a pair behind others
-abbrev pub part_text : List ℕ → Edn → List ℕ
-part_text name value = codes ", " ++ (print (keyword name) ++ (codes " " ++ print value))
+abbrev pub behind_pair_text : List ℕ → Edn → List ℕ
+behind_pair_text name value = codes ", " ++ (print (keyword name) ++ (codes " " ++ print value))
 
 abbrev pub set_pairs : Verdict → Option SetFound → List (Edn × Edn)
 set_pairs verdict None =
-    (keyword (codes "valid?"), verdict_value verdict) ∷ (keyword (codes "error"), str (codes "Set was never read")) ∷ []
+    (keyword (codes "valid?"), verdict_value verdict)
+    ∷ (keyword (codes "error"), str (codes "Set was never read")) ∷ []
 set_pairs verdict (Some found) =
     (keyword (codes "valid?"), verdict_value verdict) ∷ (keyword (codes "ok"), vector_of found.ok)
-    ∷ (keyword (codes "lost"), vector_of found.lost) ∷ (keyword (codes "unexpected"), vector_of found.unexpected)
+    ∷ (keyword (codes "lost"), vector_of found.lost)
+    ∷ (keyword (codes "unexpected"), vector_of found.unexpected)
     ∷ (keyword (codes "recovered"), vector_of found.recovered) ∷ []
 
 abbrev pub set_value : SetResult → Edn
@@ -46,7 +50,8 @@ reads_value reads = vector_of (map read_value reads)
 
 abbrev pub counter_value : CounterResult → Edn
 counter_value result =
-    map_of ((keyword (codes "valid?"), verdict_value result.verdict) ∷ (keyword (codes "reads"), reads_value result.reads)
+    map_of ((keyword (codes "valid?"), verdict_value result.verdict)
+    ∷ (keyword (codes "reads"), reads_value result.reads)
     ∷ (keyword (codes "errors"), reads_value result.errors) ∷ [])
 
 -- an id with how often it was given
@@ -55,6 +60,7 @@ duplicate_value id = vector_of (id.0 ∷ int (pos id.1) ∷ [])
 
 abbrev pub ids_value : IdsResult → Edn
 ids_value result =
-    map_of ((keyword (codes "valid?"), verdict_value result.verdict) ∷ (keyword (codes "attempted"), int (pos result.attempted))
+    map_of ((keyword (codes "valid?"), verdict_value result.verdict)
+    ∷ (keyword (codes "attempted"), int (pos result.attempted))
     ∷ (keyword (codes "acknowledged"), int (pos result.acknowledged))
     ∷ (keyword (codes "duplicated"), vector_of (map duplicate_value result.duplicated)) ∷ [])

@@ -1,16 +1,18 @@
--- What the set checker finds (jepsen.checker, `set`): of the elements that clients tried to add, those that the
--- last read shows. Operations are not paired here.
-use Rattle.std.specs.Prelude.{◌≡◌, ℕ, ◌-◌, ◌==◌, ◌&&◌, Bool, not, List, map, filter, length, slice_get, codes, Option, Some, None, option_and_then, IsSome, IfSome}
+-- What the set checker finds (jepsen.checker, `set`): of the elements that clients tried to add,
+-- those that the last read shows. Operations are not paired here.
+use Rattle.std.specs.Prelude.{◌≡◌, ℕ, ◌-◌, ◌==◌, ◌&&◌, Bool, not, List, map, filter, length}
+use Rattle.std.specs.Prelude.{slice_get, codes, Option, Some, None, option_and_then, IsSome, IfSome}
 use Rattle.std.specs.List.{enumerate_from}
 use Rattle.jh_edn.specs.Edn.{Edn, set, list_of, elements_of}
 use Rattle.jh_edn.specs.Normal.{normal}
-use Rattle.jh_ops.specs.Operation.{Operation}
+use Rattle.jh_ops.specs.Operation.{Operation, is_asked}
 use Rattle.jh_ops.specs.declared.operation.Kind.{Kind}
-use Rattle.jh_check.specs.Asked.{is_asked, values_of}
-use Rattle.jh_check.specs.Distinct.{is_among, set_of}
+use Rattle.jh_check.specs.Asked.{values_of}
+use Rattle.jh_check.specs.Distinct.{has_same_value, set_of}
 use Rattle.jh_check.specs.Verdicts.{verdict_of}
 use Rattle.jh_check.specs.declared.error.CheckError.{CheckError}
-use Rattle.jh_check.specs.declared.error.CheckError.TheVariants.{Pair, BadValue, NegativeAdd, OutOfMemory}
+use Rattle.jh_check.specs.declared.error.CheckError.TheVariants.{Pair, BadValue, NegativeAdd}
+use Rattle.jh_check.specs.declared.error.CheckError.TheVariants.{OutOfMemory}
 use Rattle.jh_check.specs.declared.set.SetFound.{SetFound}
 use Rattle.jh_check.specs.declared.set.SetResult.{SetResult}
 use Rattle.jh_check.specs.declared.verdict.Verdict.TheVariants.{Unknown}
@@ -20,12 +22,13 @@ abbrev pub attempts : List Operation → List Edn
 attempts history = values_of Kind.Invoke (codes "add") history
 
 -- the values of the adds that are known to have happened
-abbrev pub acknowledged : List Operation → List Edn
-acknowledged history = values_of Kind.Ok (codes "add") history
+abbrev pub acknowledged_values : List Operation → List Edn
+acknowledged_values history = values_of Kind.Ok (codes "add") history
 
 -- the reads that happened, with their places
 abbrev pub ok_reads : List Operation → List (ℕ × Operation)
-ok_reads history = filter (λ read. is_asked Kind.Ok (codes "read") read.1) (enumerate_from 0 history)
+ok_reads history =
+    filter (λ read. is_asked Kind.Ok (codes "read") read.1) (enumerate_from 0 history)
 
 -- the last of them
 abbrev pub final_read : List Operation → Option (ℕ × Operation)
@@ -43,29 +46,30 @@ elements_read history = option_and_then (λ read. elements_shown read.1.value) (
 -- What is found where the last read shows this set:
 -- ok: what was read and attempted. unexpected: what was read and never attempted.
 -- lost: what was acknowledged and not read. recovered: what is ok and was not acknowledged.
-abbrev pub found_with : List Operation → List Edn → SetFound
-found_with history read =
-    let ok = filter (is_among (attempts history)) read in
+abbrev pub set_finding : List Operation → List Edn → SetFound
+set_finding history read =
+    let ok = filter (has_same_value (attempts history)) read in
     record {
       ok = ok;
-      lost = filter (λ x. not (is_among read x)) (set_of (acknowledged history));
-      unexpected = filter (λ x. not (is_among (attempts history) x)) read;
-      recovered = filter (λ x. not (is_among (acknowledged history) x)) ok;
+      lost = filter (λ x. not (has_same_value read x)) (set_of (acknowledged_values history));
+      unexpected = filter (λ x. not (has_same_value (attempts history) x)) read;
+      recovered = filter (λ x. not (has_same_value (acknowledged_values history) x)) ok;
     }
 
 -- nothing was lost, and nothing is there that was not attempted
-abbrev pub is_whole : SetFound → Bool
-is_whole found = (length found.lost == 0) && (length found.unexpected == 0)
+abbrev pub is_whole_set : SetFound → Bool
+is_whole_set found = (length found.lost == 0) && (length found.unexpected == 0)
 
-abbrev pub judged : SetFound → SetResult
-judged found = record { verdict = verdict_of (is_whole found); found = Some found }
+abbrev pub result_of_found : SetFound → SetResult
+result_of_found found = record { verdict = verdict_of (is_whole_set found); found = Some found }
 
-abbrev pub never_read : SetResult
-never_read = record { verdict = Unknown; found = None }
+abbrev pub never_read_result : SetResult
+never_read_result = record { verdict = Unknown; found = None }
 
 abbrev pub result_with : List Operation → Option (List Edn) → SetResult
-result_with history None = never_read
-result_with history (Some elements) = judged (found_with history (set_of (map normal elements)))
+result_with history None = never_read_result
+result_with history (Some elements) =
+    result_of_found (set_finding history (set_of (map normal elements)))
 
 -- the result of a history
 abbrev pub set_result : List Operation → SetResult
@@ -75,9 +79,11 @@ set_result history = result_with history (elements_read history)
 abbrev pub IsJudgeable : List Operation → Type 0
 IsJudgeable history = IfSome (final_read history) (λ read. IsSome (elements_shown read.1.value))
 
--- Why there is no result: the last read shows no elements. Memory is wanted only where it shows some.
+-- Why there is no result: the last read shows no elements. Memory is wanted only where it shows
+-- some.
 abbrev pub RefusesSet : List Operation → CheckError → Type 0
 RefusesSet history (Pair error) = ⊥
-RefusesSet history (BadValue place) = (op : Operation) × (final_read history ≡ Some (place, op)) × (elements_shown op.value ≡ None)
+RefusesSet history (BadValue place) =
+    (op : Operation) × (final_read history ≡ Some (place, op)) × (elements_shown op.value ≡ None)
 RefusesSet history (NegativeAdd place) = ⊥
 RefusesSet history OutOfMemory = IsSome (elements_read history)

@@ -1,5 +1,5 @@
--- Verdicts, and several of them taken together (jepsen.checker, `merge-valid`: a false one wins, then an unknown
--- one).
+-- Verdicts, and several of them taken together (jepsen.checker, `merge-valid`: a false one wins,
+-- then an unknown one).
 use Rattle.std.specs.Prelude.{Bool, true, false, List, if◌then◌else◌}
 use Rattle.std.specs.List.{list_any}
 use Rattle.jh_check.specs.declared.verdict.Verdict.{Verdict}
@@ -14,8 +14,10 @@ is_unknown Unknown = true
 is_unknown _ = false
 
 -- false over unknown over true, and of none true
-abbrev pub merged : List Verdict → Verdict
-merged verdicts = if list_any is_false verdicts then False else if list_any is_unknown verdicts then Unknown else True
+abbrev pub merged_verdict : List Verdict → Verdict
+merged_verdict verdicts =
+    if list_any is_false verdicts then False else if list_any is_unknown verdicts then Unknown
+    else True
 
 -- the verdict of a checker that always has an answer
 abbrev pub verdict_of : Bool → Verdict

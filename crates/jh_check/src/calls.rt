@@ -1,4 +1,5 @@
-//! The calls of a counter's history, by the pairs of their operations. `specs/CounterResults.antt` has the rule.
+//! The calls of a counter's history, by the pairs of their operations. `specs/CounterResults.antt`
+//! has the rule.
 
 ghost use Rattle.std.specs.Prelude.{◌≡◌, ◌^◌, ◌<◌, IfSome, option_map, slice_get};
 ghost use Rattle.jh_edn.specs.View.{view};
@@ -8,28 +9,29 @@ ghost use Rattle.jh_check.specs.CounterInside.{IsFirstOf, IsValueError};
 ghost use Rattle.jh_check.specs.CounterResults as rule;
 ghost use Rattle.jh_check.specs.CounterResults.{errors_in};
 
-use crate::asked::{is_keyword, is_kind};
 use crate::error::CheckError;
 use jh_edn::Value;
 use jh_ops::{Kind, Op, Pair};
 
+/// The operation at a place, if there is one.
 fn op_at(history: &[Op], place: usize) -> Option<&Op>
-    ensures { option_map (λ op. operation op.now) result ≡ slice_get (operations history.now) place }
+    ensures { option_map (λ op. operation op.now) result
+        ≡ slice_get (operations history.now) place }
 {
     history.get(place)
 }
 
-// Whether what the call asks for is the function of this name.
+/// Whether what the call asks for is the function of this name.
 fn asks(name: &str, history: &[Op], call: Pair) -> bool
     ensures { result ≡ rule.asks name.now (operations history.now) call }
 {
     match op_at(history, call.invoke) {
-        Some(op) => is_keyword(name, &op.f),
+        Some(op) => op.f.is_keyword(name),
         None => false,
     }
 }
 
-// Whether the call has an outcome of this kind.
+/// Whether the call has an outcome of this kind.
 fn has_ended(kind: Kind, history: &[Op], call: Pair) -> bool
     ensures { result ≡ rule.has_ended kind (operations history.now) call }
 {
@@ -37,12 +39,12 @@ fn has_ended(kind: Kind, history: &[Op], call: Pair) -> bool
         return false;
     };
     match op_at(history, place) {
-        Some(op) => is_kind(kind, op.kind),
+        Some(op) => kind.is(op.kind),
         None => false,
     }
 }
 
-// The value at a place.
+/// The value at a place.
 fn value_at(history: &[Op], place: usize) -> Option<&Value>
     ensures { option_map (λ value. view value.now) result
         ≡ rule.value_at (operations history.now) place }
@@ -50,13 +52,14 @@ fn value_at(history: &[Op], place: usize) -> Option<&Value>
     Some(&op_at(history, place)?.value)
 }
 
-// The place of the call's outcome, or where there is none that of its invocation.
+/// The place of the call's outcome, or where there is none that of its invocation.
 pub(crate) fn end_of(call: Pair) -> usize
-    ensures { result ≡ rule.end_of call }
+    ensures { result ≡ rule.end_place call }
 {
     call.outcome.unwrap_or(call.invoke)
 }
 
+/// The integer from 0 on that a value is, and 0 for any other.
 fn natural(value: Option<&Value>) -> u64
     ensures value { result ≡ rule.natural (option_map (λ v. view v.now) value.entry) }
     ensures bound { result < 2 ^ 63 }
@@ -67,6 +70,7 @@ fn natural(value: Option<&Value>) -> u64
     }
 }
 
+/// The integer that a value is, and 0 for any other.
 fn integer(value: Option<&Value>) -> i64
     ensures { result ≡ rule.integer (option_map (λ v. view v.now) value.entry) }
 {
@@ -76,7 +80,7 @@ fn integer(value: Option<&Value>) -> i64
     }
 }
 
-// The amount of an add.
+/// The amount of an add.
 pub(crate) fn amount(history: &[Op], call: Pair) -> u64
     ensures value { result ≡ rule.amount (operations history.now) call }
     ensures bound { result < 2 ^ 63 }
@@ -84,32 +88,35 @@ pub(crate) fn amount(history: &[Op], call: Pair) -> u64
     natural(value_at(history, call.invoke))
 }
 
-// What a read gave.
+/// What a read gave.
 pub(crate) fn value_read(history: &[Op], call: Pair) -> i64
-    ensures { result ≡ rule.integer (rule.value_at (operations history.now) (rule.end_of call)) }
+    ensures { result ≡ rule.integer (rule.value_at (operations history.now) (rule.end_place call)) }
 {
     integer(value_at(history, end_of(call)))
 }
 
+/// Whether the call is an add that is known to have happened.
 pub(crate) fn is_surely_added(history: &[Op], call: Pair) -> bool
     ensures { result ≡ rule.is_surely_added (operations history.now) call }
 {
     asks("add", history, call) && has_ended(Kind::Ok, history, call)
 }
 
+/// Whether the call is an add that may have happened.
 pub(crate) fn may_be_added(history: &[Op], call: Pair) -> bool
     ensures { result ≡ rule.may_be_added (operations history.now) call }
 {
     asks("add", history, call) && !has_ended(Kind::Fail, history, call)
 }
 
+/// Whether the call is a read that happened.
 pub(crate) fn is_ok_read(history: &[Op], call: Pair) -> bool
     ensures { result ≡ rule.is_ok_read (operations history.now) call }
 {
     asks("read", history, call) && has_ended(Kind::Ok, history, call)
 }
 
-// What is wrong with the amount of an add at a place.
+/// What is wrong with the amount of an add at a place.
 fn add_error(place: usize, value: Option<&Value>) -> Option<CheckError>
     ensures error { result ≡ rule.add_error place (option_map (λ v. view v.now) value.entry) }
     ensures kind { IfSome result IsValueError }
@@ -121,7 +128,7 @@ fn add_error(place: usize, value: Option<&Value>) -> Option<CheckError>
     }
 }
 
-// What is wrong with what a read gave at a place.
+/// What is wrong with what a read gave at a place.
 fn read_error(place: usize, value: Option<&Value>) -> Option<CheckError>
     ensures error { result ≡ rule.read_error place (option_map (λ v. view v.now) value.entry) }
     ensures kind { IfSome result IsValueError }
@@ -132,7 +139,7 @@ fn read_error(place: usize, value: Option<&Value>) -> Option<CheckError>
     }
 }
 
-// What is wrong with the values of a call.
+/// What is wrong with the values of a call.
 fn call_error(history: &[Op], call: Pair) -> Option<CheckError>
     ensures error { result ≡ rule.call_error (operations history.now) call }
     ensures kind { IfSome result IsValueError }
@@ -146,8 +153,9 @@ fn call_error(history: &[Op], call: Pair) -> Option<CheckError>
     }
 }
 
+/// The place of an error of a value, and 0 for any other error.
 fn place_of(error: CheckError) -> usize
-    ensures { result ≡ rule.place_of error }
+    ensures { result ≡ rule.place_of_error error }
 {
     match error {
         CheckError::BadValue(place) => place,
@@ -156,9 +164,9 @@ fn place_of(error: CheckError) -> usize
     }
 }
 
-// The one of two errors that is at the earlier place, where there is one.
+/// The one of two errors that is at the earlier place, where there is one.
 fn earlier(first: Option<CheckError>, next: Option<CheckError>) -> Option<CheckError>
-    ensures { result ≡ inside.earlier first next }
+    ensures { result ≡ inside.earlier_error first next }
 {
     match (first, next) {
         (None, next) => next,
@@ -173,7 +181,7 @@ fn earlier(first: Option<CheckError>, next: Option<CheckError>) -> Option<CheckE
     }
 }
 
-// The first error of the values of calls.
+/// The first error of the values of calls.
 pub(crate) fn first_error(history: &[Op], calls: &[Pair]) -> Option<CheckError>
     ensures { IsFirstOf result (errors_in (operations history.now) calls.now) }
 {

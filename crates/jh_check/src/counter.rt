@@ -1,12 +1,14 @@
 //! The counter checker. `specs/CounterResults.antt` has the rule.
 
-ghost use Rattle.std.specs.Prelude.{◌≡◌, ℕ, ◌^◌, ◌<◌, length, slice_index, not, filter, map, All, IfOk, MatchResult};
+ghost use Rattle.std.specs.Prelude.{◌≡◌, ℕ, ◌^◌, ◌<◌, length, slice_index, not, filter, map, All};
+ghost use Rattle.std.specs.Prelude.{IfOk, MatchResult};
 ghost use Rattle.std.specs.Ordering.{is_lt};
 ghost use Rattle.jh_ops.specs.Operation.{operations};
-ghost use Rattle.jh_ops.specs.Pairing.{IsWithin};
+ghost use Rattle.jh_ops.specs.Pairing.{IsPairWithin};
 ghost use Rattle.jh_check.specs.CounterInside.{bounds_at};
 ghost use Rattle.jh_check.specs.CounterResults as rule;
-ghost use Rattle.jh_check.specs.CounterResults.{IsCountable, RefusesCounter, counter_result, ends_before, reads_in};
+ghost use Rattle.jh_check.specs.CounterResults.{IsCountable, RefusesCounter, counter_result};
+ghost use Rattle.jh_check.specs.CounterResults.{ends_before, reads_in};
 ghost use Rattle.jh_check.specs.CounterResults.{result_of};
 
 use crate::calls::{end_of, first_error, is_ok_read, value_read};
@@ -52,6 +54,7 @@ impl Reads {
         Reads { items }
     }
 
+    /// The reads in order.
     pub fn as_slice(&self) -> &[ReadBounds]
         ensures { result.now ≡ self.now }
     {
@@ -78,17 +81,19 @@ pub struct CounterResult {
     pub errors: Reads,
 }
 
+/// How two calls compare by the places of their ends.
 fn compare_ends(a: &Pair, b: &Pair) -> Ordering
     ensures { is_lt result ≡ ends_before a.now b.now }
 {
     end_of(*a).cmp(&end_of(*b))
 }
 
-// The reads that happened, in the order of their completions.
+/// The reads that happened, in the order of their completions.
 fn sorted_reads(alloc: Global, history: &[Op], calls: &[Pair]) -> Result<Vec<Pair>, AllocError>
-    requires { All (IsWithin (length history.now)) calls.now }
-    ensures reads { IfOk result (λ reads. reads.items ≡ reads_in (operations history.now) calls.now) }
-    ensures within { IfOk result (λ reads. All (IsWithin (length history.now)) reads.items) }
+    requires { All (IsPairWithin (length history.now)) calls.now }
+    ensures reads { IfOk result
+        (λ reads. reads.items ≡ reads_in (operations history.now) calls.now) }
+    ensures within { IfOk result (λ reads. All (IsPairWithin (length history.now)) reads.items) }
 {
     let mut reads = Vec::new(alloc);
     for call in calls {
@@ -100,10 +105,10 @@ fn sorted_reads(alloc: Global, history: &[Op], calls: &[Pair]) -> Result<Vec<Pai
     Ok(reads)
 }
 
-// A read with its bounds, by what these are at each place.
+/// A read with its bounds, by what these are at each place.
 fn bounds_of(history: &[Op], read: Pair, lower: &[u128], upper: &[u128]) -> ReadBounds
     requires invoke { read.invoke < length lower.now }
-    requires end { rule.end_of read < length lower.now }
+    requires end { rule.end_place read < length lower.now }
     requires alike { length upper.now ≡ length lower.now }
     requires lower_fits { (place : ℕ) → slice_index lower.now place < 2 ^ 127 }
     requires upper_fits { (place : ℕ) → slice_index upper.now place < 2 ^ 127 }
@@ -116,15 +121,16 @@ fn bounds_of(history: &[Op], read: Pair, lower: &[u128], upper: &[u128]) -> Read
     }
 }
 
-// The reads that happened with their bounds, in the order of their completions.
+/// The reads that happened with their bounds, in the order of their completions.
 fn bounded_reads(
     alloc: Global,
     history: &[Op],
     calls: &[Pair],
 ) -> Result<Vec<ReadBounds>, AllocError>
-    requires { All (IsWithin (length history.now)) calls.now }
+    requires { All (IsPairWithin (length history.now)) calls.now }
     ensures { IfOk result (λ bounded. bounded.items
-        ≡ map (rule.bounds_of (operations history.now) calls.now) (reads_in (operations history.now) calls.now)) }
+        ≡ map (rule.bounds_of (operations history.now) calls.now)
+        (reads_in (operations history.now) calls.now)) }
 {
     let lower = bounds(alloc, Bound::Lower, history, calls)?;
     let upper = bounds(alloc, Bound::Upper, history, calls)?;
@@ -136,16 +142,18 @@ fn bounded_reads(
     Ok(bounded)
 }
 
+/// Whether a read gave a value within its bounds.
 fn is_within(read: ReadBounds) -> bool
-    ensures { result ≡ rule.is_within read }
+    ensures { result ≡ rule.is_in_bounds read }
 {
     let value = i128::from(read.value);
     read.lower <= value && value <= read.upper
 }
 
-// The reads that lie outside their bounds.
+/// The reads that lie outside their bounds.
 fn errors_of(alloc: Global, reads: &[ReadBounds]) -> Result<Vec<ReadBounds>, AllocError>
-    ensures { IfOk result (λ errors. errors.items ≡ filter (λ read. not (rule.is_within read)) reads.now) }
+    ensures { IfOk result
+        (λ errors. errors.items ≡ filter (λ read. not (rule.is_in_bounds read)) reads.now) }
 {
     let mut errors = Vec::new(alloc);
     for read in reads {
@@ -156,8 +164,9 @@ fn errors_of(alloc: Global, reads: &[ReadBounds]) -> Result<Vec<ReadBounds>, All
     Ok(errors)
 }
 
+/// What the counter checker says of a history with these calls.
 fn judged(alloc: Global, history: &[Op], calls: &[Pair]) -> Result<CounterResult, AllocError>
-    requires { All (IsWithin (length history.now)) calls.now }
+    requires { All (IsPairWithin (length history.now)) calls.now }
     ensures { IfOk result (λ found. found ≡ result_of (operations history.now) calls.now) }
 {
     let reads = bounded_reads(alloc, history, calls)?;
@@ -169,22 +178,23 @@ fn judged(alloc: Global, history: &[Op], calls: &[Pair]) -> Result<CounterResult
     })
 }
 
-/// Judges the history of a counter from zero, whose clients `:add` amounts and `:read` it (Jepsen's checker
-/// `counter`).
+/// Judges the history of a counter from zero, whose clients `:add` amounts and `:read` it (Jepsen's
+/// checker `counter`).
 ///
-/// Operations of the nemesis are left out. A read that is `:ok` lies between two sums, both included: of the
-/// amounts of the adds that were `:ok` before it was invoked, and of those of the adds that were invoked before
-/// it completed and do not fail, also where they fail later. An add's amount is the value of its invocation,
-/// from 0 on.
+/// Operations of the nemesis are left out. A read that is `:ok` lies between two sums, both
+/// included: of the amounts of the adds that were `:ok` before it was invoked, and of those of the
+/// adds that were invoked before it completed and do not fail, also where they fail later. An add's
+/// amount is the value of its invocation, from 0 on.
 ///
-/// Errors: `Pair` where the operations do not pair; then, at the least place, `BadValue` for the invocation of
-/// an add or the completion of an `:ok` read whose value is not an integer, and `NegativeAdd` for the
-/// invocation of an add below zero; then `OutOfMemory`.
+/// Errors: `Pair` where the operations do not pair; then, at the least place, `BadValue` for the
+/// invocation of an add or the completion of an `:ok` read whose value is not an integer, and
+/// `NegativeAdd` for the invocation of an add below zero; then `OutOfMemory`.
 ///
 /// Takes O(n log n) for n operations, whatever the number of adds and reads.
 pub fn check_counter(alloc: Global, history: &[Op]) -> Result<CounterResult, CheckError>
     ensures { MatchResult result
-        (λ found. IsCountable (operations history.now) × (found ≡ counter_result (operations history.now)))
+        (λ found. IsCountable (operations history.now)
+        × (found ≡ counter_result (operations history.now)))
         (RefusesCounter (operations history.now)) }
 {
     let calls = pair(alloc, history)?;

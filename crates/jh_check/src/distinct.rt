@@ -3,32 +3,33 @@
 ghost use Rattle.std.specs.Prelude.{◌≡◌, [], ◌∷◌, ◌++◌, IfOk, OnOk, filter};
 ghost use Rattle.jh_edn.specs.View.{view, views};
 ghost use Rattle.jh_check.specs.Distinct as rule;
-ghost use Rattle.jh_check.specs.Distinct.{once, Ascends, is_wanted};
+ghost use Rattle.jh_check.specs.Distinct.{distinct_values, Ascends, is_wanted};
 
 use jh_edn::Value;
 use std::alloc::{AllocError, Global};
 use std::cmp::Ordering;
 
+/// Whether two values in normal form are equal.
 pub(crate) fn is_same(a: &Value, b: &Value) -> bool
     ensures { result ≡ rule.is_same (view a.now) (view b.now) }
 {
     matches!(a.compare(b), Ordering::Equal)
 }
 
-// Whether the value is one of these, which ascend.
+/// Whether the value is one of these, which ascend.
 pub(crate) fn is_among(values: &[Value], value: &Value) -> bool
     requires { Ascends (views values.now) }
-    ensures { result ≡ rule.is_among (views values.now) (view value.now) }
+    ensures { result ≡ rule.has_same_value (views values.now) (view value.now) }
 {
     values
         .binary_search_by(|other| other.compare(value))
         .is_ok()
 }
 
-// The values, each once, where they ascend.
+/// The values, each once, where they ascend.
 pub(crate) fn distinct(values: Vec<Value>) -> Vec<Value>
     requires { Ascends (views values.items) }
-    ensures values { views result.items ≡ once (views values.items) }
+    ensures values { views result.items ≡ distinct_values (views values.items) }
     ensures ascends { Ascends (views result.items) }
 {
     let mut values = values;
@@ -36,7 +37,7 @@ pub(crate) fn distinct(values: Vec<Value>) -> Vec<Value>
     values
 }
 
-// Puts a copy of the value last, where it is among the others, or is not, as wanted.
+/// Puts a copy of the value last, where it is among the others, or is not, as wanted.
 fn push_wanted(
     alloc: Global,
     value: &Value,
@@ -46,7 +47,8 @@ fn push_wanted(
 ) -> Result<(), AllocError>
     requires { Ascends (views others.now) }
     ensures { OnOk result (views kept.new.items ≡ views kept.old.items
-        ++ filter (λ x. is_wanted wanted (rule.is_among (views others.now) x)) (view value.now ∷ [])) }
+        ++ filter (λ x. is_wanted wanted (rule.has_same_value (views others.now) x))
+        (view value.now ∷ [])) }
 {
     if is_among(others, value) == wanted {
         kept.push(value.copy(alloc)?)?;
@@ -54,7 +56,7 @@ fn push_wanted(
     Ok(())
 }
 
-// Copies of those that are among the others, or of those that are not.
+/// Copies of those that are among the others, or of those that are not.
 pub(crate) fn selected(
     alloc: Global,
     values: &[Value],
@@ -63,7 +65,8 @@ pub(crate) fn selected(
 ) -> Result<Vec<Value>, AllocError>
     requires { Ascends (views others.now) }
     ensures { IfOk result (λ kept. views kept.items
-        ≡ filter (λ x. is_wanted wanted (rule.is_among (views others.now) x)) (views values.now)) }
+        ≡ filter (λ x. is_wanted wanted (rule.has_same_value (views others.now) x))
+        (views values.now)) }
 {
     let mut kept = Vec::new(alloc);
     for value in values {

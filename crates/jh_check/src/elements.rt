@@ -4,9 +4,9 @@ ghost use Rattle.std.specs.Prelude.{◌≡◌, ◌++◌, IfErr, OnOk, codes, map
 ghost use Rattle.std.specs.Fmt.{signed_decimal};
 ghost use Rattle.std.specs.Io.KnownBytes.{Appends};
 ghost use Rattle.jh_edn.specs.Edn.{Edn, int};
-ghost use Rattle.jh_edn.specs.Print.{joined, print, unless_first};
+ghost use Rattle.jh_edn.specs.Print.{joined_text, print, separator_before};
 ghost use Rattle.jh_edn.specs.View.{view};
-ghost use Rattle.jh_check.specs.Lines.{part_text, vector_of};
+ghost use Rattle.jh_check.specs.Lines.{behind_pair_text, vector_of};
 
 use crate::counter::ReadBounds;
 use crate::ids::Duplicate;
@@ -26,7 +26,8 @@ pub fn put<W: Write>(text: &[u8], writer: &mut W) -> Result<(), EdnError>
 
 /// Writes an integer.
 fn write_integer<W: Write>(n: i128, writer: &mut W) -> Result<(), EdnError>
-    ensures bytes { OnOk result (Appends (W.contents writer.old) (W.contents writer.new) (signed_decimal n)) }
+    ensures bytes { OnOk result
+        (Appends (W.contents writer.old) (W.contents writer.new) (signed_decimal n)) }
     ensures error { IfErr result (λ e. e ≡ EdnError.Write) }
 {
     put(Buffer::new().format(n).as_bytes(), writer)
@@ -34,7 +35,8 @@ fn write_integer<W: Write>(n: i128, writer: &mut W) -> Result<(), EdnError>
 
 /// Writes an integer behind a text.
 fn write_behind<W: Write>(text: &[u8], n: i128, writer: &mut W) -> Result<(), EdnError>
-    ensures bytes { OnOk result (Appends (W.contents writer.old) (W.contents writer.new) (text.now ++ signed_decimal n)) }
+    ensures bytes { OnOk result
+        (Appends (W.contents writer.old) (W.contents writer.new) (text.now ++ signed_decimal n)) }
     ensures error { IfErr result (λ e. e ≡ EdnError.Write) }
 {
     put(text, writer)?;
@@ -100,7 +102,8 @@ impl Element for Duplicate {
 /// The separator, unless this is the first.
 fn separate<W: Write>(first: bool, writer: &mut W) -> Result<(), EdnError>
     ensures bytes { OnOk result
-        (Appends (W.contents writer.old) (W.contents writer.new) (unless_first first (codes " "))) }
+        (Appends (W.contents writer.old) (W.contents writer.new)
+        (separator_before first (codes " "))) }
     ensures error { IfErr result (λ e. e ≡ EdnError.Write) }
 {
     if first { Ok(()) } else { put(b" ", writer) }
@@ -109,7 +112,7 @@ fn separate<W: Write>(first: bool, writer: &mut W) -> Result<(), EdnError>
 /// Writes elements with one space between.
 fn write_elements<T: Element, W: Write>(items: &[T], writer: &mut W) -> Result<(), EdnError>
     ensures bytes { OnOk result (Appends (W.contents writer.old) (W.contents writer.new)
-        (joined (codes " ") (map (λ x. print (T.value x)) items.now))) }
+        (joined_text (codes " ") (map (λ x. print (T.value x)) items.now))) }
     ensures error { IfErr result (λ e. e ≡ EdnError.Write) }
 {
     for (place, item) in items.iter().enumerate() {
@@ -142,7 +145,7 @@ pub fn write_part<T: Element, W: Write>(
     writer: &mut W,
 ) -> Result<(), EdnError>
     ensures bytes { OnOk result (Appends (W.contents writer.old) (W.contents writer.new)
-        (part_text name.now (vector_of (map T.value items.now)))) }
+        (behind_pair_text name.now (vector_of (map T.value items.now)))) }
     ensures error { IfErr result (λ e. e ≡ EdnError.Write) }
 {
     put(b", :", writer)?;

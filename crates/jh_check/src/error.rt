@@ -10,7 +10,8 @@ use thiserror::Error;
 /// Why a history is not judged, with the place of the operation in error, from 0.
 #[derive(Clone, Copy, Debug, PartialEq, Eq, Error)]
 pub enum CheckError {
-    /// Its invocations and completions do not pair. Never `PairError::OutOfMemory`, which is `OutOfMemory` here.
+    /// Its invocations and completions do not pair. Never `PairError::OutOfMemory`, which is
+    /// `OutOfMemory` here.
     #[error("{0}")]
     Pair(PairError),
     /// The value of this operation is none that it can have.
@@ -24,9 +25,9 @@ pub enum CheckError {
 }
 
 impl From<PairError> for CheckError {
-    ghost use Rattle.jh_check.specs.CounterResults.{refusal_of};
+    ghost use Rattle.jh_check.specs.CounterResults.{error_of_pairing};
 
-    ghost from_gives = { λ error e. e ≡ refusal_of error };
+    ghost from_gives = { λ error e. e ≡ error_of_pairing error };
 
     fn from(error: PairError) -> CheckError {
         match error {

@@ -1,16 +1,16 @@
 //! The checker of unique ids. `specs/IdsResults.antt` has the rule.
 
-ghost use Rattle.std.specs.Prelude.{◌≡◌, ◌∷◌, [], ◌++◌, IfOk, IsOkUnless, OnOk, codes, count_by, filter, map};
+ghost use Rattle.std.specs.Prelude.{◌≡◌, ◌∷◌, [], ◌++◌, IfOk, IsOkUnless, OnOk, codes, count_by};
+ghost use Rattle.std.specs.Prelude.{filter, map};
 ghost use Rattle.jh_edn.specs.View.{view, views};
-ghost use Rattle.jh_ops.specs.Operation.{operation, operations};
+ghost use Rattle.jh_ops.specs.Operation.{is_asked, operation, operations};
 ghost use Rattle.jh_ops.specs.declared.operation.Kind.TheVariants.{Invoke};
-ghost use Rattle.jh_check.specs.Asked as rule;
-ghost use Rattle.jh_check.specs.Distinct.{Ascends, count_of, once};
+ghost use Rattle.jh_check.specs.Distinct.{Ascends, count_of, distinct_values};
 ghost use Rattle.jh_check.specs.IdsResults.{ids_result, is_duplicate};
 ghost use Rattle.jh_check.specs.IdsView.{view_duplicates};
 ghost use Rattle.jh_check.specs.declared.error.CheckError.TheVariants.{OutOfMemory};
 
-use crate::asked::{is_asked, sorted_values};
+use crate::asked::sorted_values;
 use crate::distinct::is_same;
 use crate::error::CheckError;
 use crate::verdict::{Verdict, verdict_of};
@@ -56,6 +56,7 @@ impl Duplicates {
         Duplicates { items }
     }
 
+    /// The duplicates in order.
     pub fn as_slice(&self) -> &[Duplicate]
         ensures { view_duplicates result.now ≡ self.now }
     {
@@ -84,20 +85,21 @@ pub struct IdsResult {
     pub duplicated: Duplicates,
 }
 
+/// How many ids clients asked for.
 fn attempts(history: &[Op]) -> usize
     ensures { result
-        ≡ count_by (λ op. rule.is_asked Invoke (codes "generate") (operation op)) history.now }
+        ≡ count_by (λ op. is_asked Invoke (codes "generate") (operation op)) history.now }
 {
     let mut count = 0;
     for op in history {
-        if is_asked(Kind::Invoke, "generate", op) {
+        if op.is_asked(Kind::Invoke, "generate") {
             count += 1;
         }
     }
     count
 }
 
-// Puts a copy of the id last, where it was given more than once.
+/// Puts a copy of the id last, where it was given more than once.
 fn record_id(
     alloc: Global,
     found: &mut Vec<Duplicate>,
@@ -114,11 +116,12 @@ fn record_id(
     Ok(())
 }
 
-// The ids that are there more than once, where they ascend.
+/// The ids that are there more than once, where they ascend.
 fn repeated(alloc: Global, ids: &[Value]) -> Result<Vec<Duplicate>, AllocError>
     requires { Ascends (views ids.now) }
     ensures { IfOk result (λ found. view_duplicates found.items
-        ≡ filter is_duplicate (map (λ id. (id, count_of (views ids.now) id)) (once (views ids.now)))) }
+        ≡ filter is_duplicate
+        (map (λ id. (id, count_of (views ids.now) id)) (distinct_values (views ids.now)))) }
 {
     let mut found = Vec::new(alloc);
     let Some((first, others)) = ids.split_first() else {
@@ -142,8 +145,9 @@ fn repeated(alloc: Global, ids: &[Value]) -> Result<Vec<Duplicate>, AllocError>
 /// Judges the history of a source of ids, whose clients each time `:generate` one (Jepsen's checker
 /// `unique-ids`).
 ///
-/// Operations of the nemesis are left out. `attempted` counts what was invoked, `acknowledged` what is `:ok`;
-/// an id is the value of an `:ok` operation, and ids are equal as EDN says. Operations are not paired.
+/// Operations of the nemesis are left out. `attempted` counts what was invoked, `acknowledged` what
+/// is `:ok`; an id is the value of an `:ok` operation, and ids are equal as EDN says. Operations
+/// are not paired.
 ///
 /// Errors: `OutOfMemory`, and no other.
 ///

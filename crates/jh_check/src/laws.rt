@@ -10,8 +10,8 @@ ghost use Rattle.jh_check.specs.Distinct.{is_same};
 
 use jh_edn::{equality_laws, normal_laws, order_laws};
 
-/// Values that a checker takes for one, by their normal forms, are equal as EDN says; and those that are equal and can be
-/// printed, as all values that were read, are taken for one.
+/// Values that a checker takes for one, by their normal forms, are equal as EDN says; and those
+/// that are equal and can be printed, as all values that were read, are taken for one.
 pub fn same_values_are_equal()
     ensures equal { (x y : Edn) → IsTrue (is_same (normal x) (normal y)) → Equals x y }
     ensures same { (x y : Edn) → IsPrintable depth_limit x → IsPrintable depth_limit y → Equals x y

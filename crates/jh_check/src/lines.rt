@@ -4,7 +4,8 @@ ghost use Rattle.std.specs.Prelude.{◌≡◌, ◌++◌, IfErr, OnOk, Some, code
 ghost use Rattle.std.specs.Io.KnownBytes.{Appends};
 ghost use Rattle.jh_edn.specs.Edn.{int};
 ghost use Rattle.jh_edn.specs.Print.{print};
-ghost use Rattle.jh_check.specs.Lines.{counter_value, ids_value, map_of, part_text, set_pairs, set_value};
+ghost use Rattle.jh_check.specs.Lines.{counter_value, ids_value, map_of, behind_pair_text};
+ghost use Rattle.jh_check.specs.Lines.{set_pairs, set_value};
 ghost use Rattle.jh_check.specs.Lines.{verdict_value};
 
 use crate::counter::CounterResult;
@@ -30,7 +31,7 @@ pub fn write_verdict<W: Write>(verdict: Verdict, writer: &mut W) -> Result<(), E
     }
 }
 
-// The line of a set that was read.
+/// The line of a set that was read.
 fn write_found<W: Write>(verdict: Verdict, found: &SetFound, writer: &mut W) -> Result<(), EdnError>
     ensures bytes { OnOk result (Appends (W.contents writer.old) (W.contents writer.new)
         (print (map_of (set_pairs verdict (Some found.now))))) }
@@ -44,63 +45,69 @@ fn write_found<W: Write>(verdict: Verdict, found: &SetFound, writer: &mut W) -> 
     put(b"}", writer)
 }
 
-/// Writes the one line of a set's result, without a line feed: `{:valid? V, :ok [..], :lost [..], :unexpected [..],
-/// :recovered [..]}`, or where the set was never read `{:valid? :unknown, :error "Set was never read"}`.
+/// Writes the one line of a set's result, without a line feed:
+/// `{:valid? V, :ok [..], :lost [..], :unexpected [..], :recovered [..]}`, or where the set was
+/// never read `{:valid? :unknown, :error "Set was never read"}`.
 ///
 /// Takes no memory. The writer may have taken a part of the line where it failed.
 ///
 /// Errors: `Write` where the writer failed, and no other.
-pub fn write_set<W: Write>(told: &SetResult, writer: &mut W) -> Result<(), EdnError>
-    ensures bytes { OnOk result (Appends (W.contents writer.old) (W.contents writer.new) (print (set_value told.now))) }
+pub fn write_set<W: Write>(judged: &SetResult, writer: &mut W) -> Result<(), EdnError>
+    ensures bytes { OnOk result
+        (Appends (W.contents writer.old) (W.contents writer.new) (print (set_value judged.now))) }
     ensures error { IfErr result (λ e. e ≡ EdnError.Write) }
 {
-    match &told.found {
-        Some(found) => write_found(told.verdict, found, writer),
+    match &judged.found {
+        Some(found) => write_found(judged.verdict, found, writer),
         None => {
-            write_verdict(told.verdict, writer)?;
+            write_verdict(judged.verdict, writer)?;
             put(b", :error \"Set was never read\"}", writer)
         }
     }
 }
 
-/// Writes the one line of a counter's result, without a line feed: `{:valid? V, :reads [[lower value upper] ..],
-/// :errors [..]}`. Numbers are written in full, also where they go beyond 64 bits.
+/// Writes the one line of a counter's result, without a line feed:
+/// `{:valid? V, :reads [[lower value upper] ..], :errors [..]}`. Numbers are written in full, also
+/// where they go beyond 64 bits.
 ///
 /// Takes no memory. The writer may have taken a part of the line where it failed.
 ///
 /// Errors: `Write` where the writer failed, and no other.
-pub fn write_counter<W: Write>(told: &CounterResult, writer: &mut W) -> Result<(), EdnError>
-    ensures bytes { OnOk result (Appends (W.contents writer.old) (W.contents writer.new) (print (counter_value told.now))) }
+pub fn write_counter<W: Write>(judged: &CounterResult, writer: &mut W) -> Result<(), EdnError>
+    ensures bytes { OnOk result
+        (Appends (W.contents writer.old) (W.contents writer.new) (print (counter_value judged.now))) }
     ensures error { IfErr result (λ e. e ≡ EdnError.Write) }
 {
-    write_verdict(told.verdict, writer)?;
-    write_part("reads", told.reads.as_slice(), writer)?;
-    write_part("errors", told.errors.as_slice(), writer)?;
+    write_verdict(judged.verdict, writer)?;
+    write_part("reads", judged.reads.as_slice(), writer)?;
+    write_part("errors", judged.errors.as_slice(), writer)?;
     put(b"}", writer)
 }
 
-// Writes a pair with a number, behind others.
+/// Writes a pair with a number, behind others.
 fn write_count<W: Write>(name: &str, count: usize, writer: &mut W) -> Result<(), EdnError>
     ensures bytes { OnOk result
-        (Appends (W.contents writer.old) (W.contents writer.new) (part_text name.now (int (pos count)))) }
+        (Appends (W.contents writer.old) (W.contents writer.new)
+        (behind_pair_text name.now (int (pos count)))) }
     ensures error { IfErr result (λ e. e ≡ EdnError.Write) }
 {
     write!(writer, ", :{name} {count}").map_err(|_| EdnError::Write)
 }
 
-/// Writes the one line of the result for unique ids, without a line feed: `{:valid? V, :attempted N, :acknowledged N,
-/// :duplicated [[id times] ..]}`.
+/// Writes the one line of the result for unique ids, without a line feed:
+/// `{:valid? V, :attempted N, :acknowledged N, :duplicated [[id times] ..]}`.
 ///
 /// Takes no memory. The writer may have taken a part of the line where it failed.
 ///
 /// Errors: `Write` where the writer failed, and no other.
-pub fn write_ids<W: Write>(told: &IdsResult, writer: &mut W) -> Result<(), EdnError>
-    ensures bytes { OnOk result (Appends (W.contents writer.old) (W.contents writer.new) (print (ids_value told.now))) }
+pub fn write_ids<W: Write>(judged: &IdsResult, writer: &mut W) -> Result<(), EdnError>
+    ensures bytes { OnOk result
+        (Appends (W.contents writer.old) (W.contents writer.new) (print (ids_value judged.now))) }
     ensures error { IfErr result (λ e. e ≡ EdnError.Write) }
 {
-    write_verdict(told.verdict, writer)?;
-    write_count("attempted", told.attempted, writer)?;
-    write_count("acknowledged", told.acknowledged, writer)?;
-    write_part("duplicated", told.duplicated.as_slice(), writer)?;
+    write_verdict(judged.verdict, writer)?;
+    write_count("attempted", judged.attempted, writer)?;
+    write_count("acknowledged", judged.acknowledged, writer)?;
+    write_part("duplicated", judged.duplicated.as_slice(), writer)?;
     put(b"}", writer)
 }

@@ -6,9 +6,9 @@ ghost use Rattle.jh_edn.specs.View.{view, views};
 ghost use Rattle.jh_ops.specs.Operation.{operation, operations};
 ghost use Rattle.jh_check.specs.Distinct.{set_of};
 ghost use Rattle.jh_check.specs.SetResults as rule;
-ghost use Rattle.jh_check.specs.SetResults.{IsJudgeable, RefusesSet, found_with, set_result};
+ghost use Rattle.jh_check.specs.SetResults.{IsJudgeable, RefusesSet, set_finding, set_result};
 
-use crate::asked::{is_asked, sorted_normal, sorted_values};
+use crate::asked::{sorted_normal, sorted_values};
 use crate::distinct::{distinct, selected};
 use crate::error::CheckError;
 use crate::verdict::{Verdict, verdict_of};
@@ -38,21 +38,21 @@ pub struct SetResult {
     pub found: Option<SetFound>,
 }
 
-// The last read that happened, with its place.
+/// The last read that happened, with its place.
 fn final_read(history: &[Op]) -> Option<(usize, &Op)>
     ensures { option_map (λ read. (read.0, operation read.1.now)) result
         ≡ rule.final_read (operations history.now) }
 {
     let mut found = None;
     for (place, op) in history.iter().enumerate() {
-        if is_asked(Kind::Ok, "read", op) {
+        if op.is_asked(Kind::Ok, "read") {
             found = Some((place, op));
         }
     }
     found
 }
 
-// The elements that a read shows.
+/// The elements that a read shows.
 fn elements_shown(value: &Value) -> Option<&[Value]>
     ensures { option_map (λ items. views items.now) result ≡ rule.elements_shown (view value.now) }
 {
@@ -62,10 +62,10 @@ fn elements_shown(value: &Value) -> Option<&[Value]>
     }
 }
 
-// What is found where the last read shows these elements.
+/// What is found where the last read shows these elements.
 fn found_in(alloc: Global, history: &[Op], elements: &[Value]) -> Result<SetFound, AllocError>
     ensures { IfOk result (λ found. found
-        ≡ found_with (operations history.now) (set_of (map normal (views elements.now)))) }
+        ≡ set_finding (operations history.now) (set_of (map normal (views elements.now)))) }
 {
     let read = distinct(sorted_normal(alloc, elements)?);
     let attempted = sorted_values(alloc, Kind::Invoke, "add", history)?;
@@ -82,19 +82,20 @@ fn found_in(alloc: Global, history: &[Op], elements: &[Value]) -> Result<SetFoun
     })
 }
 
+/// Whether nothing is lost or unexpected.
 fn is_whole(found: &SetFound) -> bool
-    ensures { result ≡ rule.is_whole found.now }
+    ensures { result ≡ rule.is_whole_set found.now }
 {
     found.lost.is_empty() && found.unexpected.is_empty()
 }
 
-/// Judges the history of a set, whose clients `:add` an element each and at last `:read` all elements (Jepsen's
-/// checker `set`).
+/// Judges the history of a set, whose clients `:add` an element each and at last `:read` all
+/// elements (Jepsen's checker `set`).
 ///
-/// Operations of the nemesis are left out. What clients tried to add are the values of invoked adds, what they
-/// know to be added those of adds that are `:ok`. Where no read is `:ok` the verdict is `Unknown`; else the
-/// last such read, a list, a vector or a set, decides, where an element that it shows twice counts once.
-/// Operations are not paired.
+/// Operations of the nemesis are left out. What clients tried to add are the values of invoked
+/// adds, what they know to be added those of adds that are `:ok`. Where no read is `:ok` the
+/// verdict is `Unknown`; else the last such read, a list, a vector or a set, decides, where an
+/// element that it shows twice counts once. Operations are not paired.
 ///
 /// Errors: `BadValue` with the place of the last such read, where it is none of these three; then
 /// `OutOfMemory`, never where there is no such read.
@@ -102,7 +103,8 @@ fn is_whole(found: &SetFound) -> bool
 /// Takes O(n log n) comparisons for n operations and elements read.
 pub fn check_set(alloc: Global, history: &[Op]) -> Result<SetResult, CheckError>
     ensures { MatchResult result
-        (λ found. IsJudgeable (operations history.now) × (found ≡ set_result (operations history.now)))
+        (λ found. IsJudgeable (operations history.now)
+        × (found ≡ set_result (operations history.now)))
         (RefusesSet (operations history.now)) }
 {
     let Some((place, read)) = final_read(history) else {

@@ -1,12 +1,13 @@
 //! Sums of a counter's adds up to each place of a history, in one pass each.
 //!
-//! `specs/CounterResults.antt` says which sums a read is bound by; `specs/CounterInside.antt` what is kept here
-//! of them.
+//! `specs/CounterResults.antt` says which sums a read is bound by; `specs/CounterInside.antt` what
+//! is kept here of them.
 
-ghost use Rattle.std.specs.Prelude.{◌≡◌, ℕ, ◌+◌, ◌^◌, ◌<◌, ◌≤◌, length, slice_index, sum, take, vec_len};
+ghost use Rattle.std.specs.Prelude.{◌≡◌, ℕ, ◌+◌, ◌^◌, ◌<◌, ◌≤◌, length, slice_index, sum, take};
+ghost use Rattle.std.specs.Prelude.{vec_len};
 ghost use Rattle.std.specs.Prelude.{All, IfOk, IfSome};
 ghost use Rattle.jh_ops.specs.Operation.{operations};
-ghost use Rattle.jh_ops.specs.Pairing.{IsWithin};
+ghost use Rattle.jh_ops.specs.Pairing.{IsPairWithin};
 ghost use Rattle.jh_check.specs.CounterInside as inside;
 ghost use Rattle.jh_check.specs.CounterInside.{AreBounds, bound_before, increase_before};
 ghost use Rattle.std.specs.Option.{ForSome};
@@ -31,9 +32,9 @@ pub(crate) struct Increase {
     pub(crate) amount: u64,
 }
 
-// What a call adds to a bound, and from which place on.
+/// What a call adds to a bound, and from which place on.
 fn increase_of(side: Bound, history: &[Op], call: Pair) -> Option<Increase>
-    requires { IsWithin (length history.now) call }
+    requires { IsPairWithin (length history.now) call }
     ensures increase { result ≡ inside.increase_of side (operations history.now) call }
     ensures bound { IfSome result (λ increase. increase.amount < 2 ^ 63) }
     ensures there { IfSome result (λ increase. increase.place < length history.now) }
@@ -51,7 +52,7 @@ fn increase_of(side: Bound, history: &[Op], call: Pair) -> Option<Increase>
     }
 }
 
-// Puts the amount, where there is one, to that of its place.
+/// Puts the amount, where there is one, to that of its place.
 fn add_at(amounts: &mut Vec<u128>, increase: Option<Increase>)
     requires there { ForSome increase (λ x. x.place < vec_len amounts.old) }
     requires amount { ForSome increase (λ x. x.amount < 2 ^ 63) }
@@ -66,16 +67,18 @@ fn add_at(amounts: &mut Vec<u128>, increase: Option<Increase>)
     }
 }
 
-// What calls add to a bound at each place.
+/// What calls add to a bound at each place.
 fn amounts_of(
     alloc: Global,
     side: Bound,
     history: &[Op],
     calls: &[Pair],
 ) -> Result<Vec<u128>, AllocError>
-    requires { All (IsWithin (length history.now)) calls.now }
+    requires { All (IsPairWithin (length history.now)) calls.now }
     ensures long { IfOk result (λ amounts. vec_len amounts ≡ length history.now) }
-    ensures sums { IfOk result (λ amounts. (place : ℕ) → place ≤ length history.now → sum (take place amounts.items)
+    ensures sums { IfOk result
+        (λ amounts. (place : ℕ) → place ≤ length history.now
+        → sum (take place amounts.items)
         ≡ bound_before side (operations history.now) calls.now place) }
     ensures fits { IfOk result (λ amounts. sum amounts.items < 2 ^ 127) }
 {
@@ -86,7 +89,7 @@ fn amounts_of(
     Ok(amounts)
 }
 
-// The sum of the amounts before each place, and of all of them.
+/// The sum of the amounts before each place, and of all of them.
 fn sums_before(alloc: Global, amounts: &[u128]) -> Result<Vec<u128>, AllocError>
     requires { sum amounts.now < 2 ^ 127 }
     ensures long { IfOk result (λ sums. vec_len sums ≡ length amounts.now + 1) }
@@ -103,15 +106,16 @@ fn sums_before(alloc: Global, amounts: &[u128]) -> Result<Vec<u128>, AllocError>
     Ok(sums)
 }
 
-// A bound at each place of the history and behind it.
+/// A bound at each place of the history and behind it.
 pub(crate) fn bounds(
     alloc: Global,
     side: Bound,
     history: &[Op],
     calls: &[Pair],
 ) -> Result<Vec<u128>, AllocError>
-    requires { All (IsWithin (length history.now)) calls.now }
-    ensures { IfOk result (λ totals. AreBounds side (operations history.now) calls.now totals.items) }
+    requires { All (IsPairWithin (length history.now)) calls.now }
+    ensures { IfOk result
+        (λ totals. AreBounds side (operations history.now) calls.now totals.items) }
 {
     let amounts = amounts_of(alloc, side, history, calls)?;
     sums_before(alloc, &amounts)

@@ -3,7 +3,7 @@
 ghost use Rattle.std.specs.Prelude.{◌≡◌};
 ghost use Rattle.std.specs.List.{list_any};
 ghost use Rattle.jh_check.specs.Verdicts as rule;
-ghost use Rattle.jh_check.specs.Verdicts.{is_false, is_unknown, merged};
+ghost use Rattle.jh_check.specs.Verdicts.{is_false, is_unknown, merged_verdict};
 
 /// What a checker says of a history (`:valid?`).
 #[derive(Clone, Copy, Debug, PartialEq, Eq)]
@@ -16,14 +16,14 @@ pub enum Verdict {
     False,
 }
 
-// Whether nothing speaks against it, for a checker that always has an answer.
+/// Whether nothing speaks against it, for a checker that always has an answer.
 pub(crate) fn verdict_of(valid: bool) -> Verdict
     ensures { result ≡ rule.verdict_of valid }
 {
     if valid { Verdict::True } else { Verdict::False }
 }
 
-// Whether one of them is `False`.
+/// Whether one of them is `False`.
 fn has_false(verdicts: &[Verdict]) -> bool
     ensures { result ≡ list_any is_false verdicts.now }
 {
@@ -32,7 +32,7 @@ fn has_false(verdicts: &[Verdict]) -> bool
         .any(|verdict| matches!(verdict, Verdict::False))
 }
 
-// Whether one of them is `Unknown`.
+/// Whether one of them is `Unknown`.
 fn has_unknown(verdicts: &[Verdict]) -> bool
     ensures { result ≡ list_any is_unknown verdicts.now }
 {
@@ -41,12 +41,12 @@ fn has_unknown(verdicts: &[Verdict]) -> bool
         .any(|verdict| matches!(verdict, Verdict::Unknown))
 }
 
-/// The verdict on several together, as Jepsen merges them: `False` where there is one, else `Unknown` where there is
-/// one, else `True`, also where there are none.
+/// The verdict on several together, as Jepsen merges them: `False` where there is one, else
+/// `Unknown` where there is one, else `True`, also where there are none.
 ///
 /// Takes no memory, and one pass or two, O(n).
 pub fn merge(verdicts: &[Verdict]) -> Verdict
-    ensures { result ≡ merged verdicts.now }
+    ensures { result ≡ merged_verdict verdicts.now }
 {
     if has_false(verdicts) {
         Verdict::False

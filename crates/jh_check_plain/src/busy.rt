@@ -13,10 +13,12 @@ struct Client {
     end: Option<&'static str>,
 }
 
+/// A random one of the five values.
 fn random_value(dice: &mut Dice) -> i64 {
     i64::try_from(dice.below(5)).unwrap_or(0)
 }
 
+/// A random call: a read, a write, or a compare and set.
 fn random_call(dice: &mut Dice) -> RegCall {
     let old = random_value(dice);
     let new = random_value(dice);
@@ -70,8 +72,8 @@ fn words(alloc: Global, call: RegCall) -> Result<String, AllocError> {
     }
 }
 
-/// A history of so many calls on a register that starts with 0: sixteen clients, with reads, writes and
-/// compare-and-sets in thirds, over five values.
+/// A history of so many calls on a register that starts with 0: sixteen clients, with reads, writes
+/// and compare-and-sets in thirds, over five values.
 pub fn busy_history(alloc: Global, count: usize) -> Result<String, AllocError> {
     let mut dice = Dice::new(11);
     let mut text = String::new(alloc);

@@ -1,4 +1,5 @@
-//! The definitions of the checkers as plain, slow programs, and random histories with their answers.
+//! The definitions of the checkers as plain, slow programs, and random histories with their
+//! answers.
 
 use crate::dice::Dice;
 use crate::events::{Event, add_item, any_events, listed, paired_events, text_of};
@@ -24,6 +25,7 @@ fn last_read(events: &[Event]) -> Option<u64> {
     Some(last.value.unwrap_or(0).unsigned_abs())
 }
 
+/// The line of the set checker.
 fn set_answer(alloc: Global, events: &[Event]) -> Result<String, AllocError> {
     let Some(read) = last_read(events) else {
         return "{:valid? :unknown, :error \"Set was never read\"}".to_string(alloc);
@@ -64,8 +66,8 @@ fn asked(events: &[Event], place: usize) -> Option<(usize, &'static str)> {
     found
 }
 
-/// The sum of the adds that had completed ok before a read began, and of those that were invoked before it ended and do
-/// not fail.
+/// The sum of the adds that had completed ok before a read began, and of those that were invoked
+/// before it ended and do not fail.
 fn bounds(events: &[Event], began: usize, ended: usize) -> (i64, i64) {
     let (mut lower, mut upper) = (0i64, 0i64);
     for (add, event) in events.iter().enumerate() {
@@ -121,6 +123,7 @@ fn reads_of(alloc: Global, events: &[Event]) -> Result<(String, String), AllocEr
     Ok((reads, errors))
 }
 
+/// The line of the counter checker, or the message of the first error.
 fn counter_answer(alloc: Global, events: &[Event]) -> Result<String, AllocError> {
     for place in 0..events.len() {
         if let Some(error) = error_at(events, place) {
@@ -143,6 +146,7 @@ fn count(events: &[Event], kind: &str, value: Option<i64>) -> usize {
     count
 }
 
+/// The line of the checker of unique ids.
 fn ids_answer(alloc: Global, events: &[Event]) -> Result<String, AllocError> {
     let mut duplicated = String::new(alloc);
     for id in -1..9i64 {

@@ -1,5 +1,5 @@
-//! The operations that the plain checkers judge, and random ones. A value is a small number; where a set is read, it is
-//! a row of bits, one for each element from 0 to 4.
+//! The operations that the plain checkers judge, and random ones. A value is a small number; where
+//! a set is read, it is a row of bits, one for each element from 0 to 4.
 
 use crate::dice::Dice;
 use jh_ops::Workload;
@@ -19,6 +19,7 @@ pub(crate) struct Event {
 }
 
 impl Event {
+    /// Whether it is a client's operation.
     pub(crate) fn is_by_client(self) -> bool {
         self.process != NEMESIS
     }
@@ -82,6 +83,7 @@ pub(crate) fn text_of(
     Ok(text)
 }
 
+/// A random kind, `:ok` twice as often as any other.
 fn random_kind(dice: &mut Dice) -> &'static str {
     match dice.below(5) {
         0 => ":fail",

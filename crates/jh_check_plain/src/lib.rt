@@ -1,5 +1,6 @@
-//! Plain slow checkers, a search for an order of a register that tries every one, and histories that look random. They
-//! serve tests alone: `jh_check_tests` compares `jh_check` and `jh_linear` with them.
+//! Plain slow checkers, a search for an order of a register that tries every one, and histories
+//! that look random. They serve tests alone: `jh_check_tests` compares `jh_check` and `jh_linear`
+//! with them.
 //!
 //! A history is a text: each operation is `PROCESS TYPE F VALUE` in the words of a history,
 //! with `; ` behind it.

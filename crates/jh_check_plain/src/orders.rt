@@ -1,4 +1,5 @@
-//! What an order of a register is, as a plain slow program, straight from its definition: every order is tried.
+//! What an order of a register is, as a plain slow program, straight from its definition: every
+//! order is tried.
 
 use jh_linear::{OrderFault, Outcome, RegCall, RegOp};
 use std::alloc::{AllocError, Global};
@@ -18,6 +19,7 @@ fn after(call: RegCall, value: Option<i64>) -> Option<Option<i64>> {
     }
 }
 
+/// Whether no place stands there twice.
 fn are_apart(order: &[usize]) -> bool {
     for (index, place) in order.iter().enumerate() {
         for (other, again) in order.iter().enumerate() {
@@ -29,6 +31,7 @@ fn are_apart(order: &[usize]) -> bool {
     true
 }
 
+/// Whether each place is that of an operation that did not fail.
 fn none_failed(ops: &[RegOp], order: &[usize]) -> bool {
     order.iter().all(|place| match ops.get(*place) {
         Some(op) => op.outcome != Outcome::Failed,
@@ -36,6 +39,7 @@ fn none_failed(ops: &[RegOp], order: &[usize]) -> bool {
     })
 }
 
+/// Whether all that happened is among the places.
 fn all_done(ops: &[RegOp], order: &[usize]) -> bool {
     for (place, op) in ops.iter().enumerate() {
         if op.outcome == Outcome::Done && !order.contains(&place) {

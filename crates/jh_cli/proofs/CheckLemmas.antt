@@ -14,7 +14,7 @@ use Rattle.jh_keys.specs.declared.finding.Judging.{Judging}
 use Rattle.jh_ops.specs.Operation.{Operation}
 use Rattle.jh_ops.specs.declared.history.HistoryError.TheVariants as history_errors
 use Rattle.jh_cli.specs.CheckRefusals.{RefusesBy, RefusesCheck, RefusesJudging}
-use Rattle.jh_cli.specs.CheckText.{judging_of}
+use Rattle.jh_cli.specs.CheckText.{check_judging}
 use Rattle.jh_cli.specs.Status.{check_error, edn_error, keys_error, reading_error}
 use Rattle.jh_cli.specs.declared.check_command.Question.{Question}
 use Rattle.jh_cli.specs.declared.error.CliError.{CliError}
@@ -68,18 +68,18 @@ by_judging true judging history e refused = subst IsJudging (sym refused.2) (by_
 by_judging false judging history e refused = subst IsJudging (sym refused.2) (by_checker refused.0)
 
 pub judging_refused : (question : Question) (input : List ℕ) (history : List Operation) (e : CliError) → IsHistoryOf input history → RefusesJudging question history e → RefusesCheck question input e
-judging_refused question input history (Input error) told refused = absurd (by_judging question.independent (judging_of question) history (Input error) refused)
-judging_refused question input history EnvironmentMissing told refused = absurd (by_judging question.independent (judging_of question) history EnvironmentMissing refused)
-judging_refused question input history (Environment error) told refused = absurd (by_judging question.independent (judging_of question) history (Environment error) refused)
-judging_refused question input history (Element place error) told refused = absurd (by_judging question.independent (judging_of question) history (Element place error) refused)
-judging_refused question input history (History error) told refused = absurd (by_judging question.independent (judging_of question) history (History error) refused)
-judging_refused question input history (Check error) told refused = (told.0, told.1, (history, told.2, refused))
-judging_refused question input history (Settings error) told refused = absurd (by_judging question.independent (judging_of question) history (Settings error) refused)
-judging_refused question input history (Run error) told refused = absurd (by_judging question.independent (judging_of question) history (Run error) refused)
-judging_refused question input history HistoryFull told refused = absurd (by_judging question.independent (judging_of question) history HistoryFull refused)
-judging_refused question input history Mismatch told refused = absurd (by_judging question.independent (judging_of question) history Mismatch refused)
-judging_refused question input history Thread told refused = (told.0, told.1, (history, told.2, refused))
-judging_refused question input history OnlyForRegister told refused = absurd (by_judging question.independent (judging_of question) history OnlyForRegister refused)
-judging_refused question input history Read told refused = absurd (by_judging question.independent (judging_of question) history Read refused)
-judging_refused question input history Write told refused = absurd (by_judging question.independent (judging_of question) history Write refused)
-judging_refused question input history OutOfMemory told refused = tt
+judging_refused question input history (Input error) parsed refused = absurd (by_judging question.independent (check_judging question) history (Input error) refused)
+judging_refused question input history EnvironmentMissing parsed refused = absurd (by_judging question.independent (check_judging question) history EnvironmentMissing refused)
+judging_refused question input history (Environment error) parsed refused = absurd (by_judging question.independent (check_judging question) history (Environment error) refused)
+judging_refused question input history (Element place error) parsed refused = absurd (by_judging question.independent (check_judging question) history (Element place error) refused)
+judging_refused question input history (History error) parsed refused = absurd (by_judging question.independent (check_judging question) history (History error) refused)
+judging_refused question input history (Check error) parsed refused = (parsed.0, parsed.1, (history, parsed.2, refused))
+judging_refused question input history (Settings error) parsed refused = absurd (by_judging question.independent (check_judging question) history (Settings error) refused)
+judging_refused question input history (Run error) parsed refused = absurd (by_judging question.independent (check_judging question) history (Run error) refused)
+judging_refused question input history HistoryFull parsed refused = absurd (by_judging question.independent (check_judging question) history HistoryFull refused)
+judging_refused question input history Mismatch parsed refused = absurd (by_judging question.independent (check_judging question) history Mismatch refused)
+judging_refused question input history Thread parsed refused = (parsed.0, parsed.1, (history, parsed.2, refused))
+judging_refused question input history OnlyForRegister parsed refused = absurd (by_judging question.independent (check_judging question) history OnlyForRegister refused)
+judging_refused question input history Read parsed refused = absurd (by_judging question.independent (check_judging question) history Read refused)
+judging_refused question input history Write parsed refused = absurd (by_judging question.independent (check_judging question) history Write refused)
+judging_refused question input history OutOfMemory parsed refused = tt

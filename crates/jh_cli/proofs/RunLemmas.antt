@@ -4,9 +4,9 @@ use Rattle.jh_check.specs.declared.error.CheckError.{CheckError}
 use Rattle.jh_check.specs.declared.error.CheckError.TheVariants as CheckErrors
 use Rattle.jh_edn.specs.declared.error.EdnError.TheVariants as EdnError
 use Rattle.jh_ops.specs.declared.call.Workload.{Workload}
-use Rattle.jh_settings.specs.declared.words.Mode.{Mode}
+use Rattle.jh_settings.specs.declared.choices.Mode.{Mode}
 use Rattle.jh_run_laws.specs.OwnHistory.{OwnHistoryIsJudged}
-use Rattle.jh_simnode.specs.Runs.{Serial, Stops}
+use Rattle.jh_simnode.specs.Runs.{IsSerialRun, Stops}
 use Rattle.jh_simnode.specs.declared.serial.RunError.TheVariants as RunError
 use Rattle.jh_simnode.specs.declared.events.Event.{Event}
 use Rattle.jh_simnode.specs.declared.events.WorldError.TheVariants as WorldError
@@ -18,13 +18,13 @@ use Rattle.jh_settings.specs.Settings.{AreSettingsOf}
 use Rattle.jh_settings.specs.declared.error.SettingsError.TheVariants as SettingsError
 use Rattle.jh_cli.specs.CheckRefusals.{RefusesLine, RefusesWhole}
 use Rattle.jh_cli.specs.RunInside.{own_error}
-use Rattle.jh_cli.specs.RunRefusals.{RefusesBytes, RefusesOwn, RefusesRun, RefusesSerial, RefusesSettings, RefusesThreads}
+use Rattle.jh_cli.specs.RunRefusals.{RefusesRunBytes, RefusesOwn, RefusesRun, RefusesSerial, RefusesRunIn, RefusesThreads}
 use Rattle.jh_cli.specs.Status.{check_error, run_error, settings_error, threads_error, world_error}
 use Rattle.jh_cli.specs.declared.error.CliError.{CliError}
 use Rattle.jh_cli.specs.declared.error.CliError.TheVariants.{Input, EnvironmentMissing, Environment, Element, History, Check, Settings, Run, HistoryFull, Mismatch, Thread, OnlyForRegister, Read, Write, OutOfMemory}
 
 -- bytes that tell no settings
-pub settings_refused : (input : List ℕ) (error : SettingsError.the_data) → settings.RefusesSettings input error → RefusesBytes input (settings_error error)
+pub settings_refused : (input : List ℕ) (error : SettingsError.the_data) → settings.RefusesSettings input error → RefusesRunBytes input (settings_error error)
 settings_refused input SettingsError.NotToml h = (refl, h)
 settings_refused input (SettingsError.Unknown key) h = (refl, h)
 settings_refused input (SettingsError.Missing key) h = (refl, h)
@@ -33,35 +33,35 @@ settings_refused input SettingsError.OutOfMemory h = tt
 
 -- the run of a plan that they tell
 pub run_refused : (input : List ℕ) (p : PlanValue) (mode : Mode) (budget : ℕ) (e : CliError) → AreSettingsOf input p mode budget
-    → RefusesSettings p mode e → RefusesBytes input e
-run_refused input p mode budget (Input error) told h = (p, mode, budget, told, h)
-run_refused input p mode budget EnvironmentMissing told h = (p, mode, budget, told, h)
-run_refused input p mode budget (Environment error) told h = (p, mode, budget, told, h)
-run_refused input p mode budget (Element place error) told h = (p, mode, budget, told, h)
-run_refused input p mode budget (History error) told h = (p, mode, budget, told, h)
-run_refused input p mode budget (Check error) told h = (p, mode, budget, told, h)
-run_refused input p Mode.Serial budget (Settings error) told h = absurd h
-run_refused input p Mode.Threads budget (Settings error) told h = absurd h
-run_refused input p mode budget (Run error) told h = (p, mode, budget, told, h)
-run_refused input p mode budget HistoryFull told h = (p, mode, budget, told, h)
-run_refused input p mode budget Mismatch told h = (p, mode, budget, told, h)
-run_refused input p mode budget Thread told h = (p, mode, budget, told, h)
-run_refused input p mode budget OnlyForRegister told h = (p, mode, budget, told, h)
-run_refused input p mode budget Read told h = (p, mode, budget, told, h)
-run_refused input p mode budget Write told h = (p, mode, budget, told, h)
-run_refused input p mode budget OutOfMemory told h = tt
+    → RefusesRunIn p mode e → RefusesRunBytes input e
+run_refused input p mode budget (Input error) parsed h = (p, mode, budget, parsed, h)
+run_refused input p mode budget EnvironmentMissing parsed h = (p, mode, budget, parsed, h)
+run_refused input p mode budget (Environment error) parsed h = (p, mode, budget, parsed, h)
+run_refused input p mode budget (Element place error) parsed h = (p, mode, budget, parsed, h)
+run_refused input p mode budget (History error) parsed h = (p, mode, budget, parsed, h)
+run_refused input p mode budget (Check error) parsed h = (p, mode, budget, parsed, h)
+run_refused input p Mode.Serial budget (Settings error) parsed h = absurd h
+run_refused input p Mode.Threads budget (Settings error) parsed h = absurd h
+run_refused input p mode budget (Run error) parsed h = (p, mode, budget, parsed, h)
+run_refused input p mode budget HistoryFull parsed h = (p, mode, budget, parsed, h)
+run_refused input p mode budget Mismatch parsed h = (p, mode, budget, parsed, h)
+run_refused input p mode budget Thread parsed h = (p, mode, budget, parsed, h)
+run_refused input p mode budget OnlyForRegister parsed h = (p, mode, budget, parsed, h)
+run_refused input p mode budget Read parsed h = (p, mode, budget, parsed, h)
+run_refused input p mode budget Write parsed h = (p, mode, budget, parsed, h)
+run_refused input p mode budget OutOfMemory parsed h = tt
 
 -- a run is refused neither for its text nor for a failed write
-no_input : (p : PlanValue) (mode : Mode) (error : EdnError.the_data) → RefusesSettings p mode (Input error) → ⊥
+no_input : (p : PlanValue) (mode : Mode) (error : EdnError.the_data) → RefusesRunIn p mode (Input error) → ⊥
 no_input p Mode.Serial error h = h
 no_input p Mode.Threads error h = h
 
-no_write : (p : PlanValue) (mode : Mode) → RefusesSettings p mode Write → ⊥
+no_write : (p : PlanValue) (mode : Mode) → RefusesRunIn p mode Write → ⊥
 no_write p Mode.Serial h = h
 no_write p Mode.Threads h = h
 
 -- and of an input of these bytes
-pub bytes_refused : (input : List ℕ) (e : CliError) → RefusesBytes input e → RefusesRun input e
+pub bytes_refused : (input : List ℕ) (e : CliError) → RefusesRunBytes input e → RefusesRun input e
 bytes_refused input (Input error) h = absurd (no_input h.0 h.1 error h.4)
 bytes_refused input EnvironmentMissing h = h
 bytes_refused input (Environment error) h = h
@@ -93,7 +93,7 @@ pub own_refused : (workload : Workload) (history : List Operation) (e : CliError
 own_refused workload history e h = subst (λ x. RefusesOwn workload history (own_error x)) (sym h.2) (own_of workload history h.0 h.1)
 
 -- the history of a serial run is refused for want of memory alone
-pub serial_refused : (p : PlanValue) (journal : List Event) (history : List Operation) (e : CliError) → OwnHistoryIsJudged → IsFit p → Serial p journal history
+pub serial_refused : (p : PlanValue) (journal : List Event) (history : List Operation) (e : CliError) → OwnHistoryIsJudged → IsFit p → IsSerialRun p journal history
     → RefusesOwn p.settings.workload history e → RefusesSerial p e
 serial_refused p journal history Mismatch judged fit run h = absurd (h.1 (judged p journal history fit run h.0 h.2))
 serial_refused p journal history OutOfMemory judged fit run h = tt

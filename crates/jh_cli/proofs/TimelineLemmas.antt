@@ -4,17 +4,17 @@ use Rattle.jh_edn.specs.declared.error.EdnError.TheVariants as edn
 use Rattle.jh_histories.specs.declared.error.ReadHistoryError.{ReadHistoryError}
 use Rattle.jh_histories.specs.declared.error.ReadHistoryError.TheVariants as reading
 use Rattle.jh_check.specs.declared.error.CheckError.TheVariants as CheckErrors
-use Rattle.jh_keys.specs.Histories.{RefusesSplit}
-use Rattle.jh_keys.specs.Refusals.{RefusesKeys, asked_by}
+use Rattle.jh_keys.specs.Histories.{RefusesKeySplit}
+use Rattle.jh_keys.specs.Refusals.{RefusesKeys, keys_question}
 use Rattle.jh_keys.specs.declared.error.KeysError.{KeysError}
 use Rattle.jh_keys.specs.declared.error.KeysError.TheVariants as KeysErrors
 use Rattle.jh_ops.specs.Operation.{Operation}
 use Rattle.jh_ops.specs.declared.history.HistoryError.TheVariants as history_errors
-use Rattle.jh_sections.specs.Parts.{ArePartsOf, RefusesParts}
+use Rattle.jh_sections.specs.HistoryAndRest.{AreHistoryAndRest, RefusesHistoryAndRest}
 use Rattle.jh_cli.proofs.CheckLemmas.{IsJudging, by_checker, by_keys}
 use Rattle.jh_cli.specs.Status.{keys_error, reading_error}
 use Rattle.jh_cli.specs.TimelineRefusals.{RefusesFinding, RefusesPage, RefusesShowing, RefusesTimeline}
-use Rattle.jh_cli.specs.TimelineText.{judging_of}
+use Rattle.jh_cli.specs.TimelineText.{timeline_judging}
 use Rattle.jh_cli.specs.declared.error.CliError.{CliError}
 use Rattle.jh_cli.specs.declared.error.CliError.TheVariants.{Input, EnvironmentMissing, Environment, Element, History, Check, Settings, Run, HistoryFull, Mismatch, Thread, OnlyForRegister, Read, Write, OutOfMemory}
 use Rattle.jh_cli.specs.declared.timeline_command.TimelineJudging.{TimelineJudging}
@@ -23,7 +23,7 @@ use Rattle.jh_cli.specs.declared.timeline_command.TimelineQuestion.{TimelineQues
 -- ---- no parts are read
 
 -- reading writes nothing
-nothing_written : (input : List ℕ) → RefusesParts input (reading.Text edn.Write) → ⊥
+nothing_written : (input : List ℕ) → RefusesHistoryAndRest input (reading.Text edn.Write) → ⊥
 nothing_written input refused =
     elim refused [
       | inl bytes ↦ bytes.0
@@ -33,7 +33,7 @@ nothing_written input refused =
       ]
     ]
 
-pub parts_refused : (question : TimelineQuestion) (input : List ℕ) (error : ReadHistoryError) → RefusesParts input error → RefusesTimeline question input (reading_error error)
+pub parts_refused : (question : TimelineQuestion) (input : List ℕ) (error : ReadHistoryError) → RefusesHistoryAndRest input error → RefusesTimeline question input (reading_error error)
 parts_refused question input (reading.Text (edn.UnexpectedEnd line)) refused = (refl, refused)
 parts_refused question input (reading.Text (edn.BadToken line)) refused = (refl, refused)
 parts_refused question input (reading.Text (edn.FloatUnsupported line)) refused = (refl, refused)
@@ -58,7 +58,7 @@ by_finding true (Some by) history e refused = subst IsJudging (sym refused.3) (b
 by_finding false None history e refused = absurd refused
 by_finding false (Some by) history e refused = subst IsJudging (sym refused.2) (by_checker refused.0)
 
-pub page_refused : (question : TimelineQuestion) (input : List ℕ) (history : List Operation) (below : List ℕ) (e : CliError) → ArePartsOf input history below → RefusesPage question history e
+pub page_refused : (question : TimelineQuestion) (input : List ℕ) (history : List Operation) (below : List ℕ) (e : CliError) → AreHistoryAndRest input history below → RefusesPage question history e
     → RefusesTimeline question input e
 page_refused question input history below (Input error) parts refused = absurd (by_finding question.independent question.judging history (Input error) refused)
 page_refused question input history below EnvironmentMissing parts refused = (history, below, parts, refused)
@@ -78,7 +78,7 @@ page_refused question input history below OutOfMemory parts refused = tt
 
 -- ---- keys are not judged, or not split
 
-pub keys_refused : (by : TimelineJudging) (history : List Operation) (error : KeysError) → RefusesKeys (asked_by (judging_of by) history) error → (error ≡ KeysErrors.Thread → ⊥)
+pub keys_refused : (by : TimelineJudging) (history : List Operation) (error : KeysError) → RefusesKeys (keys_question (timeline_judging by) history) error → (error ≡ KeysErrors.Thread → ⊥)
     → RefusesShowing true (Some by) history (keys_error error)
 keys_refused by history (KeysErrors.BadValue place) refused other = (KeysErrors.BadValue place, refused, other, refl)
 keys_refused by history (KeysErrors.Key (CheckErrors.Pair error)) refused other = (KeysErrors.Key (CheckErrors.Pair error), refused, other, refl)
@@ -88,13 +88,13 @@ keys_refused by history (KeysErrors.Key CheckErrors.OutOfMemory) refused other =
 keys_refused by history KeysErrors.Thread refused other = absurd (other refl)
 keys_refused by history KeysErrors.OutOfMemory refused other = tt
 
-pub split_judged : (by : TimelineJudging) (history : List Operation) (error : KeysError) → RefusesSplit history error → RefusesShowing true (Some by) history (keys_error error)
+pub split_judged : (by : TimelineJudging) (history : List Operation) (error : KeysError) → RefusesKeySplit history error → RefusesShowing true (Some by) history (keys_error error)
 split_judged by history (KeysErrors.BadValue place) refused = (KeysErrors.BadValue place, refused, (λ e. cc), refl)
 split_judged by history (KeysErrors.Key error) refused = absurd refused
 split_judged by history KeysErrors.Thread refused = absurd refused
 split_judged by history KeysErrors.OutOfMemory refused = tt
 
-pub split_unjudged : (history : List Operation) (error : KeysError) → RefusesSplit history error → RefusesShowing true None history (keys_error error)
+pub split_unjudged : (history : List Operation) (error : KeysError) → RefusesKeySplit history error → RefusesShowing true None history (keys_error error)
 split_unjudged history (KeysErrors.BadValue place) refused = (KeysErrors.BadValue place, refused, refl)
 split_unjudged history (KeysErrors.Key error) refused = absurd refused
 split_unjudged history KeysErrors.Thread refused = absurd refused

@@ -1,5 +1,6 @@
--- Why `jeprun check` refuses an input (this project's own): what is no text of values, no history, or a history that the
--- checker of the workload cannot judge. Each is looked at only where all before it is right.
+-- Why `jeprun check` refuses an input (this project's own): what is no text of values, no history,
+-- or a history that the checker of the workload cannot judge. Each is looked at only where all
+-- before it is right.
 use Rattle.std.specs.Prelude.{◌≡◌, ℕ, Bool, true, false, List}
 use Rattle.jh_edn.specs.Edn.{Edn}
 use Rattle.jh_edn.specs.Spelling.{SpellsAll}
@@ -9,28 +10,31 @@ use Rattle.jh_ops.specs.HistoryText as histories
 use Rattle.jh_ops.specs.declared.call.Workload.{Workload}
 use Rattle.jh_check.specs.declared.error.CheckError.{CheckError}
 use Rattle.jh_check.specs.declared.error.CheckError.TheVariants as CheckErrors
-use Rattle.jh_keys.specs.Findings.{RefusesHistory}
-use Rattle.jh_keys.specs.Refusals.{RefusesKeys, asked_by}
+use Rattle.jh_keys.specs.Findings.{RefusesChecking}
+use Rattle.jh_keys.specs.Refusals.{RefusesKeys, keys_question}
 use Rattle.jh_keys.specs.declared.error.KeysError.{KeysError}
 use Rattle.jh_keys.specs.declared.finding.Judging.{Judging}
-use Rattle.jh_cli.specs.CheckText.{TakesInitial, IsCheckTextOf, judging_of}
+use Rattle.jh_cli.specs.CheckText.{TakesInitial, IsCheckTextOf, check_judging}
 use Rattle.jh_cli.specs.Status.{check_error, keys_error, IsInputError, IsHistoryError}
 use Rattle.jh_cli.specs.declared.check_command.Question.{Question}
 use Rattle.jh_cli.specs.declared.error.CliError.{CliError}
-use Rattle.jh_cli.specs.declared.error.CliError.TheVariants.{Input, History, OnlyForRegister, Read, Write, OutOfMemory}
+use Rattle.jh_cli.specs.declared.error.CliError.TheVariants.{Input, History, OnlyForRegister, Read}
+use Rattle.jh_cli.specs.declared.error.CliError.TheVariants.{Write, OutOfMemory}
 
 -- why no line is made of a history, judged as one: its checker refuses it, or memory runs out
 abbrev pub RefusesLine : Workload → List Operation → CheckError → Type 0
 RefusesLine workload history CheckErrors.OutOfMemory = Unit {0}
-RefusesLine workload history error = RefusesHistory workload history error
+RefusesLine workload history error = RefusesChecking workload history error
 
 abbrev pub RefusesWhole : Workload → List Operation → CliError → Type 0
-RefusesWhole workload history e = (error : CheckError) × RefusesLine workload history error × (e ≡ check_error error)
+RefusesWhole workload history e =
+    (error : CheckError) × RefusesLine workload history error × (e ≡ check_error error)
 
--- Why a history is refused, judged by keys: which of several errors of threads and memory it is depends on the threads.
+-- Why a history is refused, judged by keys: which of several errors of threads and memory it is
+-- depends on the threads.
 abbrev pub RefusesByKeys : Judging → List Operation → CliError → Type 0
 RefusesByKeys judging history e =
-    (error : KeysError) × RefusesKeys (asked_by judging history) error × (e ≡ keys_error error)
+    (error : KeysError) × RefusesKeys (keys_question judging history) error × (e ≡ keys_error error)
 
 abbrev pub RefusesBy : Bool → Judging → List Operation → CliError → Type 0
 RefusesBy true judging history e = RefusesByKeys judging history e
@@ -39,18 +43,20 @@ RefusesBy false judging history e = RefusesWhole judging.workload history e
 -- why a history is not judged; memory may run out in any
 abbrev pub RefusesJudging : Question → List Operation → CliError → Type 0
 RefusesJudging question history OutOfMemory = Unit {0}
-RefusesJudging question history e = RefusesBy question.independent (judging_of question) history e
+RefusesJudging question history e =
+    RefusesBy question.independent (check_judging question) history e
 
 -- why values are refused
-abbrev pub RefusesValues : Question → List Edn → CliError → Type 0
-RefusesValues question values (History error) =
+abbrev pub RefusesCheckValues : Question → List Edn → CliError → Type 0
+RefusesCheckValues question values (History error) =
     IsHistoryError error × histories.RefusesValues values error
-RefusesValues question values OutOfMemory = Unit {0}
-RefusesValues question values e =
-    (history : List Operation) × histories.AreParsed values history × RefusesBy question.independent (judging_of question) history e
+RefusesCheckValues question values OutOfMemory = Unit {0}
+RefusesCheckValues question values e =
+    (history : List Operation) × histories.AreParsed values history
+    × RefusesBy question.independent (check_judging question) history e
 
--- Why an input is refused, where for its text then for its first error. A failed read and out of memory may come with any
--- input; a failed write comes only where there is something to write.
+-- Why an input is refused, where for its text then for its first error. A failed read and out of
+-- memory may come with any input; a failed write comes only where there is something to write.
 abbrev pub RefusesCheck : Question → List ℕ → CliError → Type 0
 RefusesCheck question input OnlyForRegister = TakesInitial question.workload question.initial → ⊥
 RefusesCheck question input (Input error) =
@@ -60,4 +66,4 @@ RefusesCheck question input Write =
     (status : ℕ) × (output : List ℕ) × IsCheckTextOf question input status output
 RefusesCheck question input OutOfMemory = Unit {0}
 RefusesCheck question input e =
-    (values : List Edn) × SpellsAll values input × RefusesValues question values e
+    (values : List Edn) × SpellsAll values input × RefusesCheckValues question values e

@@ -1,5 +1,5 @@
--- What `jeprun env` writes (this project's own): a line with the answer to each step, a line with the ids of the active
--- faults, and a line with the environment.
+-- What `jeprun env` writes (this project's own): a line with the answer to each step, a line with
+-- the ids of the active faults, and a line with the environment.
 use Rattle.std.specs.Prelude.{◌≡◌, ℕ, pos, List, [], ◌∷◌, ◌++◌, map, codes, Ok}
 use Rattle.std.specs.List.{flat_map}
 use Rattle.jh_edn.specs.Edn.{Edn, int, vector, items_of}
@@ -17,19 +17,19 @@ use Rattle.jh_nemesis.specs.declared.steps.StepAnswer.{StepAnswer}
 abbrev pub line : List ℕ → List ℕ
 line text = text ++ codes "\n"
 
-abbrev pub answer_word : StepAnswer → List ℕ
-answer_word StepAnswer.Ok = codes ":ok"
-answer_word StepAnswer.IdTaken = codes ":id-taken"
-answer_word StepAnswer.TooManyActive = codes ":too-many-active"
-answer_word StepAnswer.TooManySteps = codes ":too-many-steps"
-answer_word StepAnswer.NotActive = codes ":not-active"
-answer_word StepAnswer.NothingActive = codes ":nothing-active"
-answer_word StepAnswer.NothingToUndo = codes ":nothing-to-undo"
-answer_word StepAnswer.NothingToRedo = codes ":nothing-to-redo"
+abbrev pub answer_keyword : StepAnswer → List ℕ
+answer_keyword StepAnswer.Ok = codes ":ok"
+answer_keyword StepAnswer.IdTaken = codes ":id-taken"
+answer_keyword StepAnswer.TooManyActive = codes ":too-many-active"
+answer_keyword StepAnswer.TooManySteps = codes ":too-many-steps"
+answer_keyword StepAnswer.NotActive = codes ":not-active"
+answer_keyword StepAnswer.NothingActive = codes ":nothing-active"
+answer_keyword StepAnswer.NothingToUndo = codes ":nothing-to-undo"
+answer_keyword StepAnswer.NothingToRedo = codes ":nothing-to-redo"
 
 -- a line for each answer
 abbrev pub answer_lines : List StepAnswer → List ℕ
-answer_lines answers = flat_map (λ answer. line (answer_word answer)) answers
+answer_lines answers = flat_map (λ answer. line (answer_keyword answer)) answers
 
 -- the ids of the active faults, in order, as a vector
 abbrev pub ids_of : Active → Edn
@@ -42,7 +42,7 @@ abbrev pub environment_line : EnvValue → List ℕ
 environment_line env = line (print (text_of env))
 
 -- these values tell an environment at its start, and then these steps over its nodes
-pub record Tells (values : List Edn) (env : EnvValue) (steps : List Step) : Type 0 where
+pub record IsEnvWithSteps (values : List Edn) (env : EnvValue) (steps : List Step) : Type 0 where
   pub first : Edn
   pub others : List Edn
   pub parts : values ≡ first ∷ others
@@ -61,11 +61,14 @@ abbrev pub IsReport : State → List Step → List ℕ → Type 0
 IsReport first steps output =
     let last = state_after_all first steps in
     (env : EnvValue) × IsEnvOf last env
-    × (output ≡ answer_lines (answers_of first steps) ++ (active_line last.active ++ environment_line env))
+    × (output ≡ answer_lines (answers_of first steps)
+    ++ (active_line last.active ++ environment_line env))
 
 -- what is written for these values
 abbrev pub IsEnvText : List Edn → List ℕ → Type 0
-IsEnvText values output = (env : EnvValue) × (steps : List Step) × Tells values env steps × IsReport (first_state env) steps output
+IsEnvText values output =
+    (env : EnvValue) × (steps : List Step) × IsEnvWithSteps values env steps
+    × IsReport (first_state env) steps output
 
 -- what is written for an input: its values are those that it spells
 abbrev pub IsEnvTextOf : List ℕ → List ℕ → Type 0

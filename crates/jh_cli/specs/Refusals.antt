@@ -1,5 +1,6 @@
--- Why `jeprun env` refuses an input (this project's own): what is no text of values, no environment, or an element that
--- is no step, the first one. Each is looked at only where all before it is right.
+-- Why `jeprun env` refuses an input (this project's own): what is no text of values, no
+-- environment, or an element that is no step, the first one. Each is looked at only where all
+-- before it is right.
 use Rattle.std.specs.Prelude.{◌≡◌, ℕ, ◌+◌, List, [], ◌∷◌, ◌++◌, length, map, Ok, Err}
 use Rattle.jh_edn.specs.Edn.{Edn}
 use Rattle.jh_edn.specs.Spelling.{SpellsAll}
@@ -13,14 +14,19 @@ use Rattle.jh_nemesis.specs.declared.texts.StepTextError.{StepTextError}
 use Rattle.jh_cli.specs.EnvText.{IsEnvTextOf}
 use Rattle.jh_cli.specs.Status.{IsInputError, IsEnvironmentError}
 use Rattle.jh_cli.specs.declared.error.CliError.{CliError}
-use Rattle.jh_cli.specs.declared.error.CliError.TheVariants.{Input, EnvironmentMissing, Environment, Element, History, Check, Settings, Run, HistoryFull, Mismatch, Thread, OnlyForRegister, Read, Write, OutOfMemory}
+use Rattle.jh_cli.specs.declared.error.CliError.TheVariants.{Input, EnvironmentMissing, Environment}
+use Rattle.jh_cli.specs.declared.error.CliError.TheVariants.{Element, History, Check, Settings, Run}
+use Rattle.jh_cli.specs.declared.error.CliError.TheVariants.{HistoryFull, Mismatch, Thread}
+use Rattle.jh_cli.specs.declared.error.CliError.TheVariants.{OnlyForRegister, Read, Write}
+use Rattle.jh_cli.specs.declared.error.CliError.TheVariants.{OutOfMemory}
 
 -- the place of the first step among the elements, which count from 1
 abbrev pub first_step : ℕ
 first_step = 2
 
 -- The value at this place among steps is the first that tells none, and this is its error.
-pub record HasStepError (names : List (List ℕ)) (values : List Edn) (place : ℕ) (error : StepTextError) : Type 0 where
+pub record HasStepError (names : List (List ℕ)) (values : List Edn) (place : ℕ)
+    (error : StepTextError) : Type 0 where
   pub before : List Edn
   pub value : Edn
   pub after : List Edn
@@ -37,34 +43,41 @@ RefusesSteps names values OutOfMemory = Unit {0}
 RefusesSteps names values _ = ⊥
 
 -- Why values are refused. Want of memory has a name of its own, wherever it came.
-abbrev pub RefusesValues : List Edn → CliError → Type 0
-RefusesValues values (Input error) = ⊥
-RefusesValues values EnvironmentMissing = values ≡ []
-RefusesValues values (Environment error) =
+abbrev pub RefusesEnvValues : List Edn → CliError → Type 0
+RefusesEnvValues values (Input error) = ⊥
+RefusesEnvValues values EnvironmentMissing = values ≡ []
+RefusesEnvValues values (Environment error) =
     IsEnvironmentError error
-    × ((first : Edn) × (others : List Edn) × (values ≡ first ∷ others) × env.RefusesText first error)
-RefusesValues values (Element place error) =
-    (first : Edn) × (others : List Edn) × (names : List (List ℕ)) × (start : Table) × (values ≡ first ∷ others)
+    × ((first : Edn) × (others : List Edn) × (values ≡ first ∷ others)
+    × env.RefusesEnvText first error)
+RefusesEnvValues values (Element place error) =
+    (first : Edn) × (others : List Edn) × (names : List (List ℕ)) × (start : Table)
+    × (values ≡ first ∷ others)
     × IsTextOf first names start × HasStepError names others place error
-RefusesValues values (History error) = ⊥
-RefusesValues values (Check error) = ⊥
-RefusesValues values (Settings error) = ⊥
-RefusesValues values (Run error) = ⊥
-RefusesValues values HistoryFull = ⊥
-RefusesValues values Mismatch = ⊥
-RefusesValues values Thread = ⊥
-RefusesValues values OnlyForRegister = ⊥
-RefusesValues values Read = ⊥
-RefusesValues values Write = ⊥
-RefusesValues values OutOfMemory = Unit {0}
+RefusesEnvValues values (History error) = ⊥
+RefusesEnvValues values (Check error) = ⊥
+RefusesEnvValues values (Settings error) = ⊥
+RefusesEnvValues values (Run error) = ⊥
+RefusesEnvValues values HistoryFull = ⊥
+RefusesEnvValues values Mismatch = ⊥
+RefusesEnvValues values Thread = ⊥
+RefusesEnvValues values OnlyForRegister = ⊥
+RefusesEnvValues values Read = ⊥
+RefusesEnvValues values Write = ⊥
+RefusesEnvValues values OutOfMemory = Unit {0}
 
--- Why an input is refused: for the first error of its text, or for the values that it spells. A failed read and want of memory have names of
--- their own and may come with any input; a failed write comes only where there is something to write.
+-- Why an input is refused: for the first error of its text, or for the values that it spells. A
+-- failed read and want of memory have names of their own and may come with any input; a failed
+-- write comes only where there is something to write.
 abbrev pub RefusesInput : List ℕ → CliError → Type 0
-RefusesInput input (Input error) = IsInputError error × edn.RefusesText input error × edn.IsFirstError input error
-RefusesInput input EnvironmentMissing = (values : List Edn) × SpellsAll values input × RefusesValues values EnvironmentMissing
-RefusesInput input (Environment error) = (values : List Edn) × SpellsAll values input × RefusesValues values (Environment error)
-RefusesInput input (Element place error) = (values : List Edn) × SpellsAll values input × RefusesValues values (Element place error)
+RefusesInput input (Input error) =
+    IsInputError error × edn.RefusesText input error × edn.IsFirstError input error
+RefusesInput input EnvironmentMissing =
+    (values : List Edn) × SpellsAll values input × RefusesEnvValues values EnvironmentMissing
+RefusesInput input (Environment error) =
+    (values : List Edn) × SpellsAll values input × RefusesEnvValues values (Environment error)
+RefusesInput input (Element place error) =
+    (values : List Edn) × SpellsAll values input × RefusesEnvValues values (Element place error)
 RefusesInput input (History error) = ⊥
 RefusesInput input (Check error) = ⊥
 RefusesInput input (Settings error) = ⊥

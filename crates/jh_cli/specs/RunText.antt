@@ -1,5 +1,6 @@
--- What `jeprun run` writes (this project's own): a line for each operation of the run's history, as Jepsen writes histories, a
--- line with the ids of the active faults, one with the environment, and the line of the checker of the workload.
+-- What `jeprun run` writes (this project's own): a line for each operation of the run's history, as
+-- Jepsen writes histories, a line with the ids of the active faults, one with the environment, and
+-- the line of the checker of the workload.
 use Rattle.std.specs.Prelude.{◌≡◌, ℕ, false, List, ◌++◌}
 use Rattle.std.specs.List.{flat_map}
 use Rattle.jh_edn.specs.Print.{print}
@@ -12,48 +13,61 @@ use Rattle.jh_keys.specs.declared.finding.Judging.{Judging}
 use Rattle.jh_simnode.specs.declared.events.Event.{Event}
 use Rattle.jh_simnode.specs.Laws.{state_at}
 use Rattle.jh_simnode.specs.Plans.{PlanValue}
-use Rattle.jh_simnode.specs.Runs.{Serial, setup_of}
+use Rattle.jh_simnode.specs.Runs.{IsSerialRun, setup_of}
 use Rattle.jh_audit.specs.Audit.{IsAudited}
 use Rattle.jh_audit.specs.Plans.{FollowsPlan}
 use Rattle.jh_workers.specs.Shown.{IsJournal}
 use Rattle.jh_settings.specs.Settings.{AreSettingsOf}
-use Rattle.jh_settings.specs.declared.words.Mode.{Mode}
-use Rattle.jh_cli.specs.CheckText.{IsJudgement, status_of}
+use Rattle.jh_settings.specs.declared.choices.Mode.{Mode}
+use Rattle.jh_cli.specs.CheckText.{IsJudgement, verdict_status}
 use Rattle.jh_cli.specs.EnvText.{IsEnvOf, active_line, environment_line, line}
 
 -- a line for each operation
-abbrev pub history_lines : List Operation → List ℕ
-history_lines history = flat_map (λ op. line (print (value_written op))) history
+abbrev pub output_lines : List Operation → List ℕ
+output_lines history = flat_map (λ op. line (print (value_written op))) history
 
 -- the lines of a history, of what the faults of a state make, and of a judgement
-abbrev pub IsTold : State → List Operation → List ℕ → List ℕ → Type 0
-IsTold last history judged output =
-    (env : EnvValue) × IsEnvOf last env × (output ≡ history_lines history ++ (active_line last.active ++ (environment_line env ++ line judged)))
+abbrev pub IsRunOutput : State → List Operation → List ℕ → List ℕ → Type 0
+IsRunOutput last history judged output =
+    (env : EnvValue) × IsEnvOf last env
+    × (output ≡ output_lines history
+    ++ (active_line last.active ++ (environment_line env ++ line judged)))
 
 -- what the history of a run is judged by; its no is not explained
 abbrev pub own_judging : PlanValue → ℕ → Judging
-own_judging p budget = record { workload = p.settings.workload; initial = p.settings.initial; budget = budget; explain = false }
+own_judging p budget =
+    record {
+      workload = p.settings.workload;
+      initial = p.settings.initial;
+      budget = budget;
+      explain
+          = false;
+    }
 
 -- for a plan that is run serially, with the verdict on its history
 abbrev pub IsSerialText : PlanValue → ℕ → Verdict → List ℕ → Type 0
 IsSerialText p budget verdict output =
-    (journal : List Event) × (history : List Operation) × (judged : List ℕ) × Serial p journal history
+    (journal : List Event) × (history : List Operation) × (judged : List ℕ)
+    × IsSerialRun p journal history
     × IsJudgement (own_judging p budget) history verdict judged
-    × IsTold (state_at (setup_of p) journal) history judged output
+    × IsRunOutput (state_at (setup_of p) journal) history judged output
 
--- what a run of a plan on threads gives: a legal journal and a history that tell the same and keep to the plan
-pub record IsOutcome (p : PlanValue) (journal : List Event) (history : List Operation) : Type 0 where
+-- what a run of a plan on threads gives: a legal journal and a history that tell the same and keep
+-- to the plan
+pub record IsOutcome (p : PlanValue) (journal : List Event)
+    (history : List Operation) : Type 0 where
   pub legal : IsJournal journal
   pub audited : IsAudited journal history
   pub planned : FollowsPlan p journal history
 
--- For a plan that is run on threads, with the verdict on its history. The faults are those that the journal's steps lead to
--- from the start of the plan on.
+-- For a plan that is run on threads, with the verdict on its history. The faults are those that the
+-- journal's steps lead to from the start of the plan on.
 abbrev pub IsThreadsText : PlanValue → ℕ → Verdict → List ℕ → Type 0
 IsThreadsText p budget verdict output =
-    (journal : List Event) × (history : List Operation) × (judged : List ℕ) × IsOutcome p journal history
+    (journal : List Event) × (history : List Operation) × (judged : List ℕ)
+    × IsOutcome p journal history
     × IsJudgement (own_judging p budget) history verdict judged
-    × IsTold (state_at (setup_of p) journal) history judged output
+    × IsRunOutput (state_at (setup_of p) journal) history judged output
 
 -- for a plan that is run in this mode
 abbrev pub IsRunText : PlanValue → Mode → ℕ → Verdict → List ℕ → Type 0
@@ -61,10 +75,12 @@ IsRunText p Mode.Serial budget verdict output = IsSerialText p budget verdict ou
 IsRunText p Mode.Threads budget verdict output = IsThreadsText p budget verdict output
 
 -- for bytes: the plan, the mode and the budget are those that they tell
-abbrev pub IsFound : List ℕ → Verdict → List ℕ → Type 0
-IsFound input verdict output =
-    (p : PlanValue) × (mode : Mode) × (budget : ℕ) × AreSettingsOf input p mode budget × IsRunText p mode budget verdict output
+abbrev pub IsBytesText : List ℕ → Verdict → List ℕ → Type 0
+IsBytesText input verdict output =
+    (p : PlanValue) × (mode : Mode) × (budget : ℕ) × AreSettingsOf input p mode budget
+    × IsRunText p mode budget verdict output
 
 -- for an input, with the exit status
 abbrev pub IsRunTextOf : List ℕ → ℕ → List ℕ → Type 0
-IsRunTextOf input status output = (verdict : Verdict) × IsFound input verdict output × (status ≡ status_of verdict)
+IsRunTextOf input status output =
+    (verdict : Verdict) × IsBytesText input verdict output × (status ≡ verdict_status verdict)

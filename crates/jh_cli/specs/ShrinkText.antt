@@ -1,6 +1,7 @@
--- What `jeprun shrink` writes (this project's own): a word that says what is left of the schedule of a run, and a line for each
--- entry that is left, as the settings of a run have it.
-use Rattle.std.specs.Prelude.{◌≡◌, ℕ, pos, Bool, true, false, List, [], ◌∷◌, ◌++◌, codes, Option, IfSome}
+-- What `jeprun shrink` writes (this project's own): a word that says what is left of the schedule
+-- of a run, and a line for each entry that is left, as the settings of a run have it.
+use Rattle.std.specs.Prelude.{◌≡◌, ℕ, pos, Bool, true, false, List, [], ◌∷◌, ◌++◌, codes, Option}
+use Rattle.std.specs.Prelude.{IfSome}
 use Rattle.std.specs.List.{flat_map}
 use Rattle.jh_edn.specs.Edn.{Edn, int, vector, items_of}
 use Rattle.jh_edn.specs.Print.{print}
@@ -9,13 +10,13 @@ use Rattle.jh_ops.specs.Operation.{Operation}
 use Rattle.jh_check.specs.declared.verdict.Verdict.{Verdict}
 use Rattle.jh_simnode.specs.declared.events.Event.{Event}
 use Rattle.jh_simnode.specs.declared.schedule.Entry.{Entry}
-use Rattle.jh_simnode.specs.Plans.{PlanValue, with_schedule}
-use Rattle.jh_simnode.specs.Runs.{Serial}
+use Rattle.jh_simnode.specs.Plans.{PlanValue, plan_with_schedule}
+use Rattle.jh_simnode.specs.Runs.{IsSerialRun}
 use Rattle.jh_shrink.specs.Shrunk.{IsShrunk}
 use Rattle.jh_shrink.specs.declared.shrinking.Shrunk.{Shrunk}
 use Rattle.jh_shrink.specs.declared.shrinking.Shrunk.TheVariants.{Minimal, Budget, NotFailing}
 use Rattle.jh_settings.specs.Settings.{AreSettingsOf}
-use Rattle.jh_settings.specs.declared.words.Mode.{Mode}
+use Rattle.jh_settings.specs.declared.choices.Mode.{Mode}
 use Rattle.jh_cli.specs.CheckText.{IsJudgement}
 use Rattle.jh_cli.specs.EnvText.{line}
 use Rattle.jh_cli.specs.RunText.{own_judging}
@@ -28,27 +29,30 @@ is_failure Verdict.False = true
 is_failure _ = false
 
 -- whether the serial run of a plan fails, by a judge of this budget
-abbrev pub IsOutcomeOf : PlanValue → ℕ → Bool → Type 0
-IsOutcomeOf p budget fails =
-    (journal : List Event) × (history : List Operation) × (verdict : Verdict) × (judged : List ℕ) × Serial p journal history
+abbrev pub IsRunFailure : PlanValue → ℕ → Bool → Type 0
+IsRunFailure p budget fails =
+    (journal : List Event) × (history : List Operation) × (verdict : Verdict) × (judged : List ℕ)
+    × IsSerialRun p journal history
     × IsJudgement (own_judging p budget) history verdict judged × (fails ≡ is_failure verdict)
 
--- What is answered of a schedule: whether the run of the plan with it fails. There is no answer where that run was refused.
+-- What is answered of a schedule: whether the run of the plan with it fails. There is no answer
+-- where that run was refused.
 abbrev pub RunAnswers : PlanValue → ℕ → List Entry → Option Bool → Type 0
-RunAnswers p budget schedule answer = IfSome answer (IsOutcomeOf (with_schedule p schedule) budget)
+RunAnswers p budget schedule answer =
+    IfSome answer (IsRunFailure (plan_with_schedule p schedule) budget)
 
 -- ---- what is written
 
-abbrev pub word_of : Shrunk → List ℕ
-word_of (Minimal schedule) = codes ":minimal"
-word_of (Budget schedule) = codes ":budget"
-word_of (NotFailing schedule) = codes ":not-failing"
+abbrev pub shrunk_name : Shrunk → List ℕ
+shrunk_name (Minimal schedule) = codes ":minimal"
+shrunk_name (Budget schedule) = codes ":budget"
+shrunk_name (NotFailing schedule) = codes ":not-failing"
 
 -- the exit status: 1 where something is found, 2 where the work was not finished
-abbrev pub status_of : Shrunk → ℕ
-status_of (Minimal schedule) = 1
-status_of (Budget schedule) = 2
-status_of (NotFailing schedule) = 0
+abbrev pub shrunk_status : Shrunk → ℕ
+shrunk_status (Minimal schedule) = 1
+shrunk_status (Budget schedule) = 2
+shrunk_status (NotFailing schedule) = 0
 
 abbrev pub schedule_of : Shrunk → List Entry
 schedule_of (Minimal schedule) = schedule
@@ -57,21 +61,24 @@ schedule_of (NotFailing schedule) = schedule
 
 -- after how many answers, and the step, over nodes of these names
 abbrev pub text_of_entry : List (List ℕ) → Entry → Edn
-text_of_entry names entry = vector (items_of (int (pos entry.at) ∷ text_of_step names entry.step ∷ []))
+text_of_entry names entry =
+    vector (items_of (int (pos entry.at) ∷ text_of_step names entry.step ∷ []))
 
 abbrev pub entry_lines : List (List ℕ) → List Entry → List ℕ
 entry_lines names schedule = flat_map (λ entry. line (print (text_of_entry names entry))) schedule
 
 abbrev pub shrunk_lines : List (List ℕ) → Shrunk → List ℕ
-shrunk_lines names shrunk = line (word_of shrunk) ++ entry_lines names (schedule_of shrunk)
+shrunk_lines names shrunk = line (shrunk_name shrunk) ++ entry_lines names (schedule_of shrunk)
 
 -- for settings
 abbrev pub IsShrinkText : PlanValue → ℕ → Shrunk → List ℕ → Type 0
 IsShrinkText p budget shrunk output =
     IsShrunk (RunAnswers p budget) p.schedule shrunk × (output ≡ shrunk_lines p.env.names shrunk)
 
--- for an input, with the exit status: the plan and the budget are those that it tells, and its mode means nothing
+-- for an input, with the exit status: the plan and the budget are those that it tells, and its mode
+-- means nothing
 abbrev pub IsShrinkTextOf : List ℕ → ℕ → List ℕ → Type 0
 IsShrinkTextOf input status output =
-    (p : PlanValue) × (mode : Mode) × (budget : ℕ) × (shrunk : Shrunk) × AreSettingsOf input p mode budget
-    × IsShrinkText p budget shrunk output × (status ≡ status_of shrunk)
+    (p : PlanValue) × (mode : Mode) × (budget : ℕ) × (shrunk : Shrunk)
+    × AreSettingsOf input p mode budget
+    × IsShrinkText p budget shrunk output × (status ≡ shrunk_status shrunk)

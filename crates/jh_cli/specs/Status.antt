@@ -1,5 +1,5 @@
--- How a command ends early (this project's own): refusals of the arguments and of the input have status 3, errors of the machine and
--- runs that were not completed 4.
+-- How a command ends early (this project's own): refusals of the arguments and of the input have
+-- status 3, errors of the machine and runs that were not completed 4.
 use Rattle.std.specs.Prelude.{◌≡◌, ℕ, List, Option, Some, None, codes}
 use Rattle.jh_edn.specs.declared.error.EdnError.TheVariants as EdnError
 use Rattle.jh_env.specs.declared.texts.EnvTextError.TheVariants as EnvTextError
@@ -13,26 +13,31 @@ use Rattle.jh_simnode.specs.declared.events.WorldError.TheVariants as WorldError
 use Rattle.jh_simnode.specs.declared.serial.RunError.TheVariants as RunError
 use Rattle.jh_workers.specs.declared.desk.RunError.TheVariants as ThreadsError
 use Rattle.jh_cli.specs.declared.error.CliError.{CliError}
-use Rattle.jh_cli.specs.declared.error.CliError.TheVariants.{Input, EnvironmentMissing, Environment, Element, History, Check, Settings, Run, HistoryFull, Mismatch, Thread, OnlyForRegister, Read, Write, OutOfMemory}
+use Rattle.jh_cli.specs.declared.error.CliError.TheVariants.{Input, EnvironmentMissing, Environment}
+use Rattle.jh_cli.specs.declared.error.CliError.TheVariants.{Element, History, Check, Settings, Run}
+use Rattle.jh_cli.specs.declared.error.CliError.TheVariants.{HistoryFull, Mismatch, Thread}
+use Rattle.jh_cli.specs.declared.error.CliError.TheVariants.{OnlyForRegister, Read, Write}
+use Rattle.jh_cli.specs.declared.error.CliError.TheVariants.{OutOfMemory}
 
-abbrev pub status_of : CliError → ℕ
-status_of (Input error) = 3
-status_of EnvironmentMissing = 3
-status_of (Environment error) = 3
-status_of (Element place error) = 3
-status_of (History error) = 3
-status_of (Check error) = 3
-status_of (Settings error) = 3
-status_of (Run error) = 4
-status_of HistoryFull = 4
-status_of Mismatch = 4
-status_of Thread = 4
-status_of OnlyForRegister = 3
-status_of Read = 4
-status_of Write = 4
-status_of OutOfMemory = 4
+abbrev pub error_status : CliError → ℕ
+error_status (Input error) = 3
+error_status EnvironmentMissing = 3
+error_status (Environment error) = 3
+error_status (Element place error) = 3
+error_status (History error) = 3
+error_status (Check error) = 3
+error_status (Settings error) = 3
+error_status (Run error) = 4
+error_status HistoryFull = 4
+error_status Mismatch = 4
+error_status Thread = 4
+error_status OnlyForRegister = 3
+error_status Read = 4
+error_status Write = 4
+error_status OutOfMemory = 4
 
--- The text of an error that is the commands' own. All others tell an error of a crate below, whose text no clause knows.
+-- The text of an error that is the commands' own. All others tell an error of a crate below, whose
+-- text no clause knows.
 abbrev pub own_text : CliError → Option (List ℕ)
 own_text EnvironmentMissing = Some (codes "environment missing")
 own_text HistoryFull = Some (codes "history full")
@@ -51,7 +56,8 @@ edn_error EdnError.Write = Write
 edn_error EdnError.OutOfMemory = OutOfMemory
 edn_error error = Input error
 
--- an error of the reader of EDN that is the input's own: no failed read or write, and not out of memory
+-- an error of the reader of EDN that is the input's own: no failed read or write, and not out of
+-- memory
 abbrev pub IsInputError : EdnError.the_data → Type 0
 IsInputError error = edn_error error ≡ Input error
 

@@ -1,36 +1,40 @@
--- Why `jeprun timeline` refuses an input (this project's own): what is no text of values, no history, or a history that the checker
--- of the workload cannot judge. Each is looked at only where all before it is right.
+-- Why `jeprun timeline` refuses an input (this project's own): what is no text of values, no
+-- history, or a history that the checker of the workload cannot judge. Each is looked at only where
+-- all before it is right.
 use Rattle.std.specs.Prelude.{◌≡◌, ◌≢◌, ℕ, Bool, true, false, List, Option, Some, None}
 use Rattle.jh_histories.specs.declared.error.ReadHistoryError.TheVariants as reading
-use Rattle.jh_keys.specs.Histories.{RefusesSplit}
-use Rattle.jh_keys.specs.Refusals.{RefusesKeys, asked_by}
+use Rattle.jh_keys.specs.Histories.{RefusesKeySplit}
+use Rattle.jh_keys.specs.Refusals.{RefusesKeys, keys_question}
 use Rattle.jh_keys.specs.declared.error.KeysError.{KeysError}
 use Rattle.jh_keys.specs.declared.error.KeysError.TheVariants as KeysErrors
 use Rattle.jh_keys.specs.declared.finding.Judging.{Judging}
 use Rattle.jh_ops.specs.Operation.{Operation}
-use Rattle.jh_sections.specs.Parts.{ArePartsOf, RefusesParts}
+use Rattle.jh_sections.specs.HistoryAndRest.{AreHistoryAndRest, RefusesHistoryAndRest}
 use Rattle.jh_cli.specs.CheckRefusals.{RefusesWhole}
 use Rattle.jh_cli.specs.Status.{IsInputError, IsHistoryError, keys_error}
-use Rattle.jh_cli.specs.TimelineText.{IsTimelineTextOf, TakesInitialBy, judging_of}
+use Rattle.jh_cli.specs.TimelineText.{IsTimelineTextOf, TakesInitialBy, timeline_judging}
 use Rattle.jh_cli.specs.declared.error.CliError.{CliError}
-use Rattle.jh_cli.specs.declared.error.CliError.TheVariants.{Input, History, OnlyForRegister, Read, Write, OutOfMemory}
+use Rattle.jh_cli.specs.declared.error.CliError.TheVariants.{Input, History, OnlyForRegister, Read}
+use Rattle.jh_cli.specs.declared.error.CliError.TheVariants.{Write, OutOfMemory}
 use Rattle.jh_cli.specs.declared.timeline_command.TimelineJudging.{TimelineJudging}
 use Rattle.jh_cli.specs.declared.timeline_command.TimelineQuestion.{TimelineQuestion}
 
 -- why the keys of a history are not judged; they are judged on one thread, which does not fail
 abbrev pub RefusesKeysBy : Judging → List Operation → CliError → Type 0
 RefusesKeysBy judging history e =
-    (error : KeysError) × RefusesKeys (asked_by judging history) error × (error ≢ KeysErrors.Thread) × (e ≡ keys_error error)
+    (error : KeysError) × RefusesKeys (keys_question judging history) error
+    × (error ≢ KeysErrors.Thread) × (e ≡ keys_error error)
 
 -- why a history is not split by key
 abbrev pub RefusesSplitting : List Operation → CliError → Type 0
-RefusesSplitting history e = (error : KeysError) × RefusesSplit history error × (e ≡ keys_error error)
+RefusesSplitting history e =
+    (error : KeysError) × RefusesKeySplit history error × (e ≡ keys_error error)
 
--- Why a history is refused, if it is shown by keys: that it is not split, or not judged. One that is shown as one is refused only
--- where it is judged.
+-- Why a history is refused, if it is shown by keys: that it is not split, or not judged. One that
+-- is shown as one is refused only where it is judged.
 abbrev pub RefusesFinding : Bool → Option TimelineJudging → List Operation → CliError → Type 0
 RefusesFinding true None history e = RefusesSplitting history e
-RefusesFinding true (Some by) history e = RefusesKeysBy (judging_of by) history e
+RefusesFinding true (Some by) history e = RefusesKeysBy (timeline_judging by) history e
 RefusesFinding false None history e = ⊥
 RefusesFinding false (Some by) history e = RefusesWhole by.workload history e
 
@@ -43,14 +47,18 @@ RefusesShowing independent judging history e = RefusesFinding independent judgin
 abbrev pub RefusesPage : TimelineQuestion → List Operation → CliError → Type 0
 RefusesPage question history e = RefusesShowing question.independent question.judging history e
 
--- Why an input is refused, where for its text then as its parts are. A failed read and out of memory may come with any input; a
--- failed write comes only where there is something to write.
+-- Why an input is refused, where for its text then as its parts are. A failed read and out of
+-- memory may come with any input; a failed write comes only where there is something to write.
 abbrev pub RefusesTimeline : TimelineQuestion → List ℕ → CliError → Type 0
 RefusesTimeline question input OnlyForRegister = TakesInitialBy question.judging → ⊥
-RefusesTimeline question input (Input error) = IsInputError error × RefusesParts input (reading.Text error)
-RefusesTimeline question input (History error) = IsHistoryError error × RefusesParts input (reading.History error)
+RefusesTimeline question input (Input error) =
+    IsInputError error × RefusesHistoryAndRest input (reading.Text error)
+RefusesTimeline question input (History error) =
+    IsHistoryError error × RefusesHistoryAndRest input (reading.History error)
 RefusesTimeline question input Read = Unit {0}
-RefusesTimeline question input Write = (status : ℕ) × (output : List ℕ) × IsTimelineTextOf question input status output
+RefusesTimeline question input Write =
+    (status : ℕ) × (output : List ℕ) × IsTimelineTextOf question input status output
 RefusesTimeline question input OutOfMemory = Unit {0}
 RefusesTimeline question input e =
-    (history : List Operation) × (below : List ℕ) × ArePartsOf input history below × RefusesFinding question.independent question.judging history e
+    (history : List Operation) × (below : List ℕ) × AreHistoryAndRest input history below
+    × RefusesFinding question.independent question.judging history e

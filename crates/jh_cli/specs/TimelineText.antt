@@ -1,15 +1,17 @@
--- What `jeprun timeline` writes: a page that shows a history, with what its checker finds in it (this project's own).
-use Rattle.std.specs.Prelude.{◌≡◌, ℕ, Bool, true, false, List, [], ◌∷◌, codes, IsSomeAnd, Option, Some, None}
-use Rattle.jh_keys.specs.Findings.{Found, IsFinding, verdict_of}
+-- What `jeprun timeline` writes: a page that shows a history, with what its checker finds in it
+-- (this project's own).
+use Rattle.std.specs.Prelude.{◌≡◌, ℕ, Bool, true, false, List, [], ◌∷◌, codes, IsSomeAnd, Option}
+use Rattle.std.specs.Prelude.{Some, None}
+use Rattle.jh_keys.specs.Findings.{Found, IsFinding, verdict_of_finding}
 use Rattle.jh_keys.specs.Lines.{finding_line, keys_line, verdict_of_all}
-use Rattle.jh_keys.specs.Refusals.{AreFindings, asked_by}
+use Rattle.jh_keys.specs.Refusals.{AreFindings, keys_question}
 use Rattle.jh_keys.specs.declared.finding.Judging.{Judging}
 use Rattle.jh_keys.specs.declared.serial.KeyFinding.{KeyFinding}
 use Rattle.jh_ops.specs.Operation.{Operation}
 use Rattle.jh_pages.specs.Page.{page_text}
 use Rattle.jh_pages.specs.declared.section.Section.{Section}
 use Rattle.jh_sections.specs.KeySections.{AreSectionsOf}
-use Rattle.jh_sections.specs.Parts.{ArePartsOf}
+use Rattle.jh_sections.specs.HistoryAndRest.{AreHistoryAndRest}
 use Rattle.jh_sections.specs.Sections.{IsSectionOf}
 use Rattle.jh_sections.specs.declared.window.Choice.{Choice}
 use Rattle.jh_cli.specs.CheckText as check
@@ -23,42 +25,46 @@ TakesInitialBy None = Unit {0}
 TakesInitialBy (Some by) = TakesInitial by.workload by.initial
 
 -- what a history is judged by; the no of a register is explained
-abbrev pub judging_of : TimelineJudging → Judging
-judging_of by = record { workload = by.workload; initial = by.initial; budget = by.budget; explain = true }
+abbrev pub timeline_judging : TimelineJudging → Judging
+timeline_judging by =
+    record { workload = by.workload; initial = by.initial; budget = by.budget; explain = true }
 
--- What is found in a history, if it is judged. More than one may be right on a register: any valid order may be told.
+-- What is found in a history, if it is judged. More than one may be right on a register: any valid
+-- order may be given.
 abbrev pub IsFoundBy : Option TimelineJudging → List Operation → Option Found → Type 0
 IsFoundBy None history found = found ≡ None
-IsFoundBy (Some by) history found = IsSomeAnd found (IsFinding (judging_of by) history)
+IsFoundBy (Some by) history found = IsSomeAnd found (IsFinding (timeline_judging by) history)
 
 -- the line on top: that of what is found, or that here is a history
-abbrev pub line_of : Option Found → List ℕ
-line_of None = codes "A history"
-line_of (Some found) = finding_line found
+abbrev pub found_line : Option Found → List ℕ
+found_line None = codes "A history"
+found_line (Some found) = finding_line found
 
 -- the exit status: that of the verdict, if there is one
-abbrev pub status_of : Option Found → ℕ
-status_of None = 0
-status_of (Some found) = check.status_of (verdict_of found.finding)
+abbrev pub found_status : Option Found → ℕ
+found_status None = 0
+found_status (Some found) = check.verdict_status (verdict_of_finding found.finding)
 
 -- what a page shows of a history as one: a line on top, and one section, which has no heading
 pub record ShowsWhole
-    (judging : Option TimelineJudging) (choice : Choice) (history : List Operation) (status : ℕ) (line : List ℕ)
+    (judging : Option TimelineJudging) (choice : Choice) (history : List Operation) (status : ℕ)
+    (line : List ℕ)
     (sections : List Section) : Type 0 where
   pub found : Option Found
   pub judged : IsFoundBy judging history found
   pub section : Section
   pub shown : IsSectionOf [] history found choice section
   pub alone : sections ≡ section ∷ []
-  pub top : line ≡ line_of found
-  pub ended : status ≡ status_of found
+  pub top : line ≡ found_line found
+  pub ended : status ≡ found_status found
 
 -- ---- independent keys
 
 -- what is found of each key of a history, if they are judged
 abbrev pub AreFoundBy : Option TimelineJudging → List Operation → Option (List KeyFinding) → Type 0
 AreFoundBy None history findings = findings ≡ None
-AreFoundBy (Some by) history findings = IsSomeAnd findings (AreFindings (asked_by (judging_of by) history))
+AreFoundBy (Some by) history findings =
+    IsSomeAnd findings (AreFindings (keys_question (timeline_judging by) history))
 
 -- the line on top: that of what is found of all keys, or that here is a history
 abbrev pub keys_line_of : Option (List KeyFinding) → List ℕ
@@ -68,11 +74,12 @@ keys_line_of (Some findings) = keys_line findings
 -- the exit status: that of the verdict on all keys, if there is one
 abbrev pub keys_status_of : Option (List KeyFinding) → ℕ
 keys_status_of None = 0
-keys_status_of (Some findings) = check.status_of (verdict_of_all findings)
+keys_status_of (Some findings) = check.verdict_status (verdict_of_all findings)
 
 -- what a page shows of a history of independent keys: a line on top, and a section for each key
 pub record ShowsKeys
-    (judging : Option TimelineJudging) (choice : Choice) (history : List Operation) (status : ℕ) (line : List ℕ)
+    (judging : Option TimelineJudging) (choice : Choice) (history : List Operation) (status : ℕ)
+    (line : List ℕ)
     (sections : List Section) : Type 0 where
   pub findings : Option (List KeyFinding)
   pub judged : AreFoundBy judging history findings
@@ -84,11 +91,14 @@ pub record ShowsKeys
 
 -- by keys, if they are independent, or as one
 abbrev pub ShowsBy : Bool → TimelineQuestion → List Operation → ℕ → List ℕ → List Section → Type 0
-ShowsBy true question history status line sections = ShowsKeys question.judging question.choice history status line sections
-ShowsBy false question history status line sections = ShowsWhole question.judging question.choice history status line sections
+ShowsBy true question history status line sections =
+    ShowsKeys question.judging question.choice history status line sections
+ShowsBy false question history status line sections =
+    ShowsWhole question.judging question.choice history status line sections
 
 abbrev pub Shows : TimelineQuestion → List Operation → ℕ → List ℕ → List Section → Type 0
-Shows question history status line sections = ShowsBy question.independent question history status line sections
+Shows question history status line sections =
+    ShowsBy question.independent question history status line sections
 
 -- the page of a history, with a text below
 abbrev pub IsPage : TimelineQuestion → List Operation → List ℕ → ℕ → List ℕ → Type 0
@@ -99,4 +109,5 @@ IsPage question history below status output =
 -- for an input, with the exit status: the page of the history in it, with what else it has below
 abbrev pub IsTimelineTextOf : TimelineQuestion → List ℕ → ℕ → List ℕ → Type 0
 IsTimelineTextOf question input status output =
-    (history : List Operation) × (below : List ℕ) × ArePartsOf input history below × IsPage question history below status output
+    (history : List Operation) × (below : List ℕ) × AreHistoryAndRest input history below
+    × IsPage question history below status output

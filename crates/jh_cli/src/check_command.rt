@@ -1,15 +1,19 @@
-//! The command `check`: reads a history, and writes the one line that the checker of its workload finds, in the history or in
-//! that of each of its keys. What is written stands in `specs/CheckText.antt`, why a history is refused in
-//! `specs/CheckRefusals.antt`; a new workload is a case of `jh_keys::Finding`.
+//! The command `check`: reads a history, and writes the one line that the checker of its workload
+//! finds, in the history or in that of each of its keys. What is written stands in
+//! `specs/CheckText.antt`, why a history is refused in `specs/CheckRefusals.antt`; a new workload
+//! is a case of `jh_keys::Finding`.
 
-ghost use Rattle.std.specs.Prelude.{◌≡◌, ◌≢◌, ◌↔◌, ◌≤◌, ℕ, List, IfOk, IfErr, IfSome, IsErrOf, MatchResult};
+ghost use Rattle.std.specs.Prelude.{◌≡◌, ◌≢◌, ◌↔◌, ◌≤◌, ℕ, List, IfOk, IfErr, IfSome, IsErrOf};
+ghost use Rattle.std.specs.Prelude.{MatchResult};
 ghost use Rattle.std.specs.Io.KnownBytes.{Appends};
 ghost use Rattle.jh_ops.specs.Operation.{operations};
 ghost use Rattle.jh_keys.specs.Lines as lines;
 ghost use Rattle.jh_keys.specs.Lines.{finding_line, keys_line};
-ghost use Rattle.jh_cli.specs.CheckRefusals.{RefusesByKeys, RefusesCheck, RefusesJudging, RefusesWhole};
+ghost use Rattle.jh_cli.specs.CheckRefusals.{RefusesByKeys, RefusesCheck, RefusesJudging};
+ghost use Rattle.jh_cli.specs.CheckRefusals.{RefusesWhole};
 ghost use Rattle.jh_cli.specs.CheckText as text;
-ghost use Rattle.jh_cli.specs.CheckText.{IsCheckTextOf, IsHistoryText, IsJudgement, IsKeysJudgement, TakesInitial};
+ghost use Rattle.jh_cli.specs.CheckText.{IsCheckTextOf, IsHistoryText, IsJudgement};
+ghost use Rattle.jh_cli.specs.CheckText.{IsKeysJudgement, TakesInitial};
 
 use crate::env_command::MAX_READS;
 use crate::error::CliError;
@@ -49,17 +53,19 @@ pub struct Question {
     pub threads: u32,
 }
 
-/// Reads a history as `jh_histories::read_history` does, one operation after another, judges it by the checker of the workload, and writes one line with what
-/// is found. The answer is the exit status: 0 where the history is valid, 1 where it is not, 2 where that is not known.
-/// The initial value and the budget mean nothing to other workloads than the register, nor does it mean anything there that a no
-/// is explained. All is read and judged before the first byte is written.
+/// Reads a history as `jh_histories::read_history` does, one operation after another, judges it by
+/// the checker of the workload, and writes one line with what is found. The answer is the exit
+/// status: 0 where the history is valid, 1 where it is not, 2 where that is not known. The initial
+/// value and the budget mean nothing to other workloads than the register, nor does it mean
+/// anything there that a no is explained. All is read and judged before the first byte is written.
 ///
-/// Where its keys are independent, each is judged by itself with the whole budget, on so many threads, as
-/// `jh_keys::check_keys` does. Then the call may wait, and promises only if it returns. Otherwise the threads mean nothing.
+/// Where its keys are independent, each is judged by itself with the whole budget, on so many
+/// threads, as `jh_keys::check_keys` does. Then the call may wait, and promises only if it returns.
+/// Otherwise the threads mean nothing.
 ///
-/// Errors: `OnlyForRegister` where there is an initial value and no register, before anything is read; an error of
-/// reading, then of the text (`Input`), `History`, `Check`; `Thread`; `OutOfMemory`; `Write`. Nothing is written before any
-/// of them but `Write`.
+/// Errors: `OnlyForRegister` where there is an initial value and no register, before anything is
+/// read; an error of reading, then of the text (`Input`), `History`, `Check`; `Thread`;
+/// `OutOfMemory`; `Write`. Nothing is written before any of them but `Write`.
 pub fn check_run<T: Threads + Wait + Sync, R: Read, W: Write>(
     rt: &T,
     alloc: Global,
@@ -71,9 +77,11 @@ pub fn check_run<T: Threads + Wait + Sync, R: Read, W: Write>(
     ensures written { IfOk result (λ status. IfSome (R.remaining reader.old) (λ input.
         (output : List ℕ) × IsCheckTextOf question input status output
         × Appends (W.contents writer.old) (W.contents writer.new) output)) }
-    ensures asked { IsErrOf result CliError.OnlyForRegister ↔ (TakesInitial question.workload question.initial → ⊥) }
+    ensures asked { IsErrOf result CliError.OnlyForRegister
+        ↔ (TakesInitial question.workload question.initial → ⊥) }
     ensures unread { IsErrOf result CliError.OnlyForRegister → reader.new ≡ reader.old }
-    ensures refused { IfErr result (λ e. IfSome (R.remaining reader.old) (λ input. RefusesCheck question input e)) }
+    ensures refused { IfErr result
+        (λ e. IfSome (R.remaining reader.old) (λ input. RefusesCheck question input e)) }
     ensures unwritten { IfErr result (λ e. e ≢ CliError.Write → writer.new ≡ writer.old) }
 {
     if question.initial.is_some() && !is_register(question.workload) {
@@ -87,14 +95,16 @@ pub fn check_run<T: Threads + Wait + Sync, R: Read, W: Write>(
     }
 }
 
+/// Whether it is the workload of a register.
 pub(crate) fn is_register(workload: Workload) -> bool
     ensures { result ≡ text.is_register workload }
 {
     matches!(workload, Workload::Register)
 }
 
+/// The exit status of a verdict.
 pub(crate) fn status_of(verdict: Verdict) -> u8
-    ensures { result ≡ text.status_of verdict }
+    ensures { result ≡ text.verdict_status verdict }
 {
     match verdict {
         Verdict::True => 0,
@@ -105,7 +115,7 @@ pub(crate) fn status_of(verdict: Verdict) -> u8
 
 /// What a history is judged by.
 fn judging_of(question: Question) -> Judging
-    ensures { result ≡ text.judging_of question }
+    ensures { result ≡ text.check_judging question }
 {
     Judging {
         workload: question.workload,

@@ -1,6 +1,8 @@
-//! The command `env`: reads a starting environment and steps, and writes the answers and the environment that is left.
+//! The command `env`: reads a starting environment and steps, and writes the answers and the
+//! environment that is left.
 
-ghost use Rattle.std.specs.Prelude.{◌≡◌, ◌≢◌, ◌++◌, ℕ, List, length, map, pos, Ok, OnOk, IfOk, IfErr, IfSome, MatchResult};
+ghost use Rattle.std.specs.Prelude.{◌≡◌, ◌≢◌, ◌++◌, ℕ, List, length, map, pos, Ok, OnOk, IfOk};
+ghost use Rattle.std.specs.Prelude.{IfErr, IfSome, MatchResult};
 ghost use Rattle.std.specs.List.{All};
 ghost use Rattle.std.specs.Io.KnownBytes.{Appends};
 ghost use Rattle.jh_edn.specs.Edn.{int};
@@ -10,7 +12,7 @@ ghost use Rattle.jh_nemesis.specs.StepText.{parsed_step};
 ghost use Rattle.jh_nemesis.specs.Steps.{FitsNodes, StepFits, answers_of, state_after_all};
 ghost use Rattle.jh_cli.specs.EnvText as text;
 ghost use Rattle.jh_cli.specs.EnvText.{IsEnvText, IsEnvTextOf, IsReport, answer_lines, line};
-ghost use Rattle.jh_cli.specs.Refusals.{RefusesInput, RefusesSteps, RefusesValues};
+ghost use Rattle.jh_cli.specs.Refusals.{RefusesInput, RefusesSteps, RefusesEnvValues};
 ghost use Rattle.jh_cli.specs.Status.{step_error};
 
 use crate::error::CliError;
@@ -29,12 +31,13 @@ const DONE: u8 = 0;
 /// The place of the first step among the elements of the input, which count from 1.
 const FIRST_STEP: u64 = 2;
 
-/// Reads a starting environment and steps, and writes one line with the answer to each step, one with the ids of the
-/// active faults in order, and one with the environment. The answer is the exit status, 0. All is read and judged
-/// before the first byte is written.
+/// Reads a starting environment and steps, and writes one line with the answer to each step, one
+/// with the ids of the active faults in order, and one with the environment. The answer is the exit
+/// status, 0. All is read and judged before the first byte is written.
 ///
-/// Errors: an error of reading, then of the text (`Input`), `EnvironmentMissing`, `Environment`, `Element` for the
-/// first step that is none; `OutOfMemory`; `Write`. Nothing is written before any of them but `Write`.
+/// Errors: an error of reading, then of the text (`Input`), `EnvironmentMissing`, `Environment`,
+/// `Element` for the first step that is none; `OutOfMemory`; `Write`. Nothing is written before any
+/// of them but `Write`.
 pub fn env_run<R: Read, W: Write>(
     alloc: Global,
     reader: &mut R,
@@ -44,7 +47,8 @@ pub fn env_run<R: Read, W: Write>(
     ensures written { OnOk result (IfSome (R.remaining reader.old) (λ input.
         (output : List ℕ) × IsEnvTextOf input output
         × Appends (W.contents writer.old) (W.contents writer.new) output)) }
-    ensures refused { IfErr result (λ e. IfSome (R.remaining reader.old) (λ input. RefusesInput input e)) }
+    ensures refused { IfErr result
+        (λ e. IfSome (R.remaining reader.old) (λ input. RefusesInput input e)) }
     ensures unwritten { IfErr result (λ e. e ≢ CliError.Write → writer.new ≡ writer.old) }
 {
     let values = read_all(alloc, reader, MAX_READS)?;
@@ -59,7 +63,7 @@ pub fn env_run<R: Read, W: Write>(
 fn env_text(alloc: Global, values: &[Value]) -> Result<Vec<u8>, CliError>
     ensures { MatchResult result
         (λ output. IsEnvText (views values.now) output.items)
-        (RefusesValues (views values.now)) }
+        (RefusesEnvValues (views values.now)) }
 {
     let [first, others @ ..] = values else {
         return Err(CliError::EnvironmentMissing);
@@ -70,7 +74,7 @@ fn env_text(alloc: Global, values: &[Value]) -> Result<Vec<u8>, CliError>
     Ok(report(alloc, nemesis, steps)?)
 }
 
-/// The steps that these values tell.
+/// The steps that these values mean.
 fn steps_of(alloc: Global, nodes: &Nodes, values: &[Value]) -> Result<Vec<Step>, CliError>
     ensures parsed { MatchResult result
         (λ steps. map (parsed_step nodes.now) (views values.now) ≡ map Ok steps.items)
@@ -117,7 +121,8 @@ fn answer_steps(
     output: &mut Vec<u8>,
 ) -> Result<(), AllocError>
     requires { All (StepFits nemesis.old.state) steps.items }
-    ensures state { OnOk result (nemesis.new.state ≡ state_after_all nemesis.old.state steps.items) }
+    ensures state { OnOk result
+        (nemesis.new.state ≡ state_after_all nemesis.old.state steps.items) }
     ensures lines { OnOk result (output.new.items
         ≡ output.old.items ++ answer_lines (answers_of nemesis.old.state steps.items)) }
 {
@@ -127,6 +132,7 @@ fn answer_steps(
     }
 }
 
+/// Writes a line for each answer.
 fn write_answers(answers: &[StepAnswer], output: &mut Vec<u8>) -> Result<(), AllocError>
     ensures { OnOk result (output.new.items ≡ output.old.items ++ answer_lines answers.now) }
 {
@@ -136,14 +142,17 @@ fn write_answers(answers: &[StepAnswer], output: &mut Vec<u8>) -> Result<(), All
     Ok(())
 }
 
+/// Writes the line of an answer.
 fn write_answer(answer: StepAnswer, output: &mut Vec<u8>) -> Result<(), AllocError>
-    ensures { OnOk result (output.new.items ≡ output.old.items ++ line (text.answer_word answer)) }
+    ensures { OnOk result
+        (output.new.items ≡ output.old.items ++ line (text.answer_keyword answer)) }
 {
     output.extend_from_slice(answer_line(answer).as_bytes())
 }
 
+/// The line that is written of an answer to a step.
 fn answer_line(answer: StepAnswer) -> &'static str
-    ensures { result.now ≡ line (text.answer_word answer) }
+    ensures { result.now ≡ line (text.answer_keyword answer) }
 {
     match answer {
         StepAnswer::Ok => ":ok\n",
@@ -163,13 +172,15 @@ pub(crate) fn write_active(
     nemesis: &Nemesis,
     output: &mut Vec<u8>,
 ) -> Result<(), AllocError>
-    ensures { OnOk result (output.new.items ≡ output.old.items ++ text.active_line nemesis.now.state.active) }
+    ensures { OnOk result
+        (output.new.items ≡ output.old.items ++ text.active_line nemesis.now.state.active) }
 {
     let ids = active_ids(alloc, nemesis)?;
     output.extend_from_slice(b":active ")?;
     write_line(&ids, output)
 }
 
+/// The id of a fault, as a value.
 fn id_value(id: u32) -> Value
     ensures { view result ≡ int (pos id) }
 {
@@ -189,6 +200,7 @@ fn active_ids(alloc: Global, nemesis: &Nemesis) -> Result<Value, AllocError>
     Ok(Value::Vector(Values::of(ids)))
 }
 
+/// Writes a line with an environment.
 pub(crate) fn write_environment(
     alloc: Global,
     env: &Env,

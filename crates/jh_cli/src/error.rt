@@ -1,9 +1,9 @@
-//! Why a command ended before its work was done. `specs/Status.antt` has the exit status of each, and the text of those that are
-//! the commands' own; docs/formats.md lists all texts.
+//! Why a command ended before its work was done. `specs/Status.antt` has the exit status of each,
+//! and the text of those that are the commands' own; docs/formats.md lists all texts.
 
 ghost use Rattle.std.specs.Prelude.{◌≡◌, IfSome, OnOk};
 ghost use Rattle.std.specs.Io.KnownBytes.{Appends};
-ghost use Rattle.jh_cli.specs.Status.{own_text, status_of};
+ghost use Rattle.jh_cli.specs.Status.{own_text, error_status};
 
 use jh_check::CheckError;
 use jh_edn::EdnError;
@@ -19,8 +19,9 @@ use std::error::Error;
 use std::fmt::{self, Display, Formatter};
 use std::io::{self, Write};
 
-/// Why a command ended early. `Read`, `Write`, `Thread` and `OutOfMemory` are errors of the machine, `Run`, `HistoryFull` and
-/// `Mismatch` say that a run was not completed, `OnlyForRegister` refuses the arguments, and all others what was read.
+/// Why a command ended early. `Read`, `Write`, `Thread` and `OutOfMemory` are errors of the
+/// machine, `Run`, `HistoryFull` and `Mismatch` say that a run was not completed, `OnlyForRegister`
+/// refuses the arguments, and all others what was read.
 #[derive(Debug, Drop)]
 pub enum CliError {
     /// The input is no text of EDN values.
@@ -41,7 +42,8 @@ pub enum CliError {
     Run(RunError),
     /// The log of a run on threads has too few rows for its records.
     HistoryFull,
-    /// What a run did does not agree: its threads, its world and its plan, or its own history can't be judged.
+    /// What a run did does not agree: its threads, its world and its plan, or its own history can't
+    /// be judged.
     Mismatch,
     /// A thread could not be had.
     Thread,
@@ -55,9 +57,10 @@ pub enum CliError {
 }
 
 impl CliError {
-    /// The exit status: 3 where the input or the arguments are refused, 4 where the machine failed or a run was not completed.
+    /// The exit status: 3 where the input or the arguments are refused, 4 where the machine failed
+    /// or a run was not completed.
     pub fn status(&self) -> u8
-        ensures { result ≡ status_of self.now }
+        ensures { result ≡ error_status self.now }
     {
         match self {
             CliError::Input(_)
@@ -80,7 +83,8 @@ impl CliError {
 
     /// Writes the text of the error, without `jeprun: ` before it or a line feed behind it.
     pub fn text<W: Write>(&self, writer: &mut W) -> io::Result<()>
-        ensures { OnOk result (IfSome (own_text self.now) (Appends (W.contents writer.old) (W.contents writer.new))) }
+        ensures { OnOk result
+            (IfSome (own_text self.now) (Appends (W.contents writer.old) (W.contents writer.new))) }
     {
         write!(writer, "{self}")
     }

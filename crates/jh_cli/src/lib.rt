@@ -1,7 +1,8 @@
-//! All that the program `jeprun` does, over any reader and any writer: one function for each command.
-//! `specs/EnvText.antt`, `specs/CheckText.antt`, `specs/RunText.antt`, `specs/ShrinkText.antt` and `specs/TimelineText.antt` say what
-//! is written, `specs/Refusals.antt`, `specs/CheckRefusals.antt`, `specs/RunRefusals.antt`, `specs/ShrinkRefusals.antt` and
-//! `specs/TimelineRefusals.antt` why an input is refused.
+//! All that the program `jeprun` does, over any reader and any writer: one function for each
+//! command. `specs/EnvText.antt`, `specs/CheckText.antt`, `specs/RunText.antt`,
+//! `specs/ShrinkText.antt` and `specs/TimelineText.antt` say what is written,
+//! `specs/Refusals.antt`, `specs/CheckRefusals.antt`, `specs/RunRefusals.antt`,
+//! `specs/ShrinkRefusals.antt` and `specs/TimelineRefusals.antt` why an input is refused.
 #![tactic(auto)]
 
 mod check_command;

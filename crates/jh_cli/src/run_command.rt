@@ -1,8 +1,10 @@
-//! The command `run`: reads the settings of a run, makes it, and writes its history, what is left of the faults, and what the
-//! checker of its workload finds. What is written stands in `specs/RunText.antt`, why an input is refused or a run not
-//! completed in `specs/RunRefusals.antt`.
+//! The command `run`: reads the settings of a run, makes it, and writes its history, what is left
+//! of the faults, and what the checker of its workload finds. What is written stands in
+//! `specs/RunText.antt`, why an input is refused or a run not completed in
+//! `specs/RunRefusals.antt`.
 
-ghost use Rattle.std.specs.Prelude.{◌≡◌, ◌≢◌, ◌++◌, ℕ, [], List, OnOk, IfOk, IfErr, IfSome, MatchResult};
+ghost use Rattle.std.specs.Prelude.{◌≡◌, ◌≢◌, ◌++◌, ℕ, [], List, OnOk, IfOk, IfErr, IfSome};
+ghost use Rattle.std.specs.Prelude.{MatchResult};
 ghost use Rattle.std.specs.Io.KnownBytes.{Appends};
 ghost use Rattle.jh_edn.specs.Print.{print};
 ghost use Rattle.jh_ops.specs.Operation.{operation, operations};
@@ -10,9 +12,11 @@ ghost use Rattle.jh_ops.specs.OperationWritten.{value_written};
 ghost use Rattle.jh_cli.specs.CheckText.{IsJudgement};
 ghost use Rattle.jh_cli.specs.EnvText.{line};
 ghost use Rattle.jh_cli.specs.RunInside.{own_error};
-ghost use Rattle.jh_cli.specs.RunRefusals.{RefusesBytes, RefusesOwn, RefusesRun, RefusesSerial, RefusesSettings, RefusesThreads};
+ghost use Rattle.jh_cli.specs.RunRefusals.{RefusesRunBytes, RefusesOwn, RefusesRun, RefusesSerial};
+ghost use Rattle.jh_cli.specs.RunRefusals.{RefusesRunIn, RefusesThreads};
 ghost use Rattle.jh_cli.specs.RunText as text;
-ghost use Rattle.jh_cli.specs.RunText.{IsFound, IsOutcome, IsRunText, IsRunTextOf, IsSerialText, IsThreadsText, IsTold};
+ghost use Rattle.jh_cli.specs.RunText.{IsBytesText, IsOutcome, IsRunText, IsRunTextOf};
+ghost use Rattle.jh_cli.specs.RunText.{IsSerialText, IsThreadsText, IsRunOutput};
 
 use crate::check_command::{Judgement, judge, status_of};
 use crate::env_command::{MAX_READS, write_active, write_environment};
@@ -35,19 +39,22 @@ use std::thread::Threads;
 /// The parts of the ledger of a run's world, from which each of its threads has a share.
 const WORLD_PARTS: u64 = 32;
 
-/// Reads settings in TOML as `jh_settings::settings_of` does, makes the run in the mode that they say, and writes a line for
-/// each operation of its history, one with the ids of the active faults, one with the environment, and the line of the
-/// workload's checker. The answer is the exit status: 0 where the history is valid, 1 where it is not, 2 where that is not
-/// known. All is read, run and judged before the first byte is written.
+/// Reads settings in TOML as `jh_settings::settings_of` does, makes the run in the mode that they
+/// say, and writes a line for each operation of its history, one with the ids of the active faults,
+/// one with the environment, and the line of the workload's checker. The answer is the exit status:
+/// 0 where the history is valid, 1 where it is not, 2 where that is not known. All is read, run and
+/// judged before the first byte is written.
 ///
-/// A serial run gives the same history for the same input each time (`jh_run_laws::same_settings_same_run`), and the same
-/// order of a register, as tests show. A run on threads may wait, and promises only if it returns; it may give another
-/// history each time, which comes from an outcome of `jh_workers::run`, and its two lines of faults are what the steps of
-/// the outcome's journal make of the settings' start.
+/// A serial run gives the same history for the same input each time
+/// (`jh_run_laws::same_settings_same_run`), and the same order of a register, as tests show. A run
+/// on threads may wait, and promises only if it returns; it may give another history each time,
+/// which comes from an outcome of `jh_workers::run`, and its two lines of faults are what the steps
+/// of the outcome's journal make of the settings' start.
 ///
-/// Errors: an error of reading (`Input`, `Read`); `Settings`; of a serial run `Run` where in a whole round no thread got a call;
-/// of one on threads `HistoryFull`, `Thread`, `Mismatch` or `Run` where it was not completed, and `Mismatch` where its history
-/// can't be judged; `OutOfMemory`; `Write`. Nothing is written before any of them but `Write`.
+/// Errors: an error of reading (`Input`, `Read`); `Settings`; of a serial run `Run` where in a
+/// whole round no thread got a call; of one on threads `HistoryFull`, `Thread`, `Mismatch` or `Run`
+/// where it was not completed, and `Mismatch` where its history can't be judged; `OutOfMemory`;
+/// `Write`. Nothing is written before any of them but `Write`.
 pub fn run_run<T: Threads + Wait + Sync, R: Read, W: Write>(
     rt: &T,
     alloc: Global,
@@ -57,7 +64,8 @@ pub fn run_run<T: Threads + Wait + Sync, R: Read, W: Write>(
     ensures written { IfOk result (λ status. IfSome (R.remaining reader.old) (λ input.
         (output : List ℕ) × IsRunTextOf input status output
         × Appends (W.contents writer.old) (W.contents writer.new) output)) }
-    ensures refused { IfErr result (λ e. IfSome (R.remaining reader.old) (λ input. RefusesRun input e)) }
+    ensures refused { IfErr result
+        (λ e. IfSome (R.remaining reader.old) (λ input. RefusesRun input e)) }
     ensures unwritten { IfErr result (λ e. e ≢ CliError.Write → writer.new ≡ writer.old) }
 {
     let input = read_bytes(alloc, reader, MAX_READS)?;
@@ -75,8 +83,8 @@ fn run_bytes<T: Threads + Wait + Sync>(
     input: &[u8],
 ) -> Result<Judgement, CliError>
     ensures { MatchResult result
-        (λ found. IsFound input.now found.verdict found.text.items)
-        (RefusesBytes input.now) }
+        (λ found. IsBytesText input.now found.verdict found.text.items)
+        (RefusesRunBytes input.now) }
 {
     let settings = settings_of(alloc, input)?;
     match run_text(rt, alloc, &settings) {
@@ -92,8 +100,9 @@ fn run_text<T: Threads + Wait + Sync>(
     settings: &RunSettings,
 ) -> Result<Judgement, CliError>
     ensures { MatchResult result
-        (λ found. IsRunText settings.now.plan settings.now.mode settings.now.budget found.verdict found.text.items)
-        (RefusesSettings settings.now.plan settings.now.mode) }
+        (λ found. IsRunText settings.now.plan settings.now.mode settings.now.budget found.verdict
+        found.text.items)
+        (RefusesRunIn settings.now.plan settings.now.mode) }
 {
     match settings.mode {
         Mode::Serial => serial_text(alloc, &settings.plan, settings.budget),
@@ -215,7 +224,8 @@ pub(crate) fn own_judging(plan: &Plan, budget: u64) -> Judging
 /// The judgement of the history of a run of the plan.
 fn judge_own(alloc: Global, plan: &Plan, history: &[Op], budget: u64) -> Result<Judgement, CliError>
     ensures { MatchResult result
-        (λ found. IsJudgement (text.own_judging plan.now budget) (operations history.now) found.verdict found.text.items)
+        (λ found. IsJudgement (text.own_judging plan.now budget)
+        (operations history.now) found.verdict found.text.items)
         (RefusesOwn plan.now.settings.workload (operations history.now)) }
 {
     match judge(alloc, history, own_judging(plan, budget)) {
@@ -232,7 +242,7 @@ fn lines_of(
     judged: &[u8],
 ) -> Result<Vec<u8>, AllocError>
     ensures { IfOk result (λ output.
-        IsTold nemesis.now.state (operations history.now) judged.now output.items) }
+        IsRunOutput nemesis.now.state (operations history.now) judged.now output.items) }
 {
     let mut output = Vec::new(alloc);
     write_history(history, &mut output)?;
@@ -245,7 +255,8 @@ fn lines_of(
 
 /// Writes a line for each operation.
 fn write_history(history: &[Op], output: &mut Vec<u8>) -> Result<(), AllocError>
-    ensures { OnOk result (output.new.items ≡ output.old.items ++ text.history_lines (operations history.now)) }
+    ensures { OnOk result
+        (output.new.items ≡ output.old.items ++ text.output_lines (operations history.now)) }
 {
     for op in history {
         write_operation_line(op, output)?;
@@ -255,7 +266,8 @@ fn write_history(history: &[Op], output: &mut Vec<u8>) -> Result<(), AllocError>
 
 /// Writes the line of an operation.
 fn write_operation_line(op: &Op, output: &mut Vec<u8>) -> Result<(), AllocError>
-    ensures { OnOk result (output.new.items ≡ output.old.items ++ line (print (value_written (operation op.now)))) }
+    ensures { OnOk result
+        (output.new.items ≡ output.old.items ++ line (print (value_written (operation op.now)))) }
 {
     if write_operation(op, output).is_err() {
         return Err(AllocError);

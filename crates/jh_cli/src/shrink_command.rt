@@ -1,16 +1,18 @@
-//! The command `shrink`: reads the settings of a run, and takes out of their schedule what the run does not need to fail. What is
-//! written stands in `specs/ShrinkText.antt`, why an input is refused in `specs/ShrinkRefusals.antt`.
+//! The command `shrink`: reads the settings of a run, and takes out of their schedule what the run
+//! does not need to fail. What is written stands in `specs/ShrinkText.antt`, why an input is
+//! refused in `specs/ShrinkRefusals.antt`.
 
-ghost use Rattle.std.specs.Prelude.{◌≡◌, ◌≢◌, ◌++◌, ℕ, List, length, pos, IfOk, IfErr, IfSome, MatchResult, OnOk};
+ghost use Rattle.std.specs.Prelude.{◌≡◌, ◌≢◌, ◌++◌, ℕ, List, length, IfOk, IfErr, IfSome};
+ghost use Rattle.std.specs.Prelude.{MatchResult, OnOk};
 ghost use Rattle.std.specs.List.{All};
 ghost use Rattle.std.specs.Io.KnownBytes.{Appends};
 ghost use Rattle.jh_edn.specs.View.{view};
 ghost use Rattle.jh_nemesis.specs.Steps.{FitsNodes};
 ghost use Rattle.jh_shrink.specs.Shrunk.{IsShrunk};
 ghost use Rattle.jh_cli.specs.EnvText.{line};
-ghost use Rattle.jh_cli.specs.ShrinkRefusals.{RefusesBytes, RefusesShrinking};
+ghost use Rattle.jh_cli.specs.ShrinkRefusals.{RefusesShrinkBytes, RefusesShrinking};
 ghost use Rattle.jh_cli.specs.ShrinkText as text;
-ghost use Rattle.jh_cli.specs.ShrinkText.{IsOutcomeOf, IsShrinkTextOf, RunAnswers};
+ghost use Rattle.jh_cli.specs.ShrinkText.{IsRunFailure, IsShrinkTextOf, RunAnswers};
 
 use crate::check_command::judge;
 use crate::env_command::{MAX_READS, write_line};
@@ -33,10 +35,11 @@ struct Written {
     text: Vec<u8>,
 }
 
-/// Reads settings in TOML as `jh_settings::settings_of` does, and takes entries out of their schedule as long as their serial
-/// run fails still: the line of its checker is `{:valid? false ..}`. It writes a line that says what is left, and a line for
-/// each entry that is left, as settings have it; a fault that was named by a grudge is written as its cut. The answer is the
-/// exit status:
+/// Reads settings in TOML as `jh_settings::settings_of` does, and takes entries out of their
+/// schedule as long as their serial run fails still: the line of its checker is
+/// `{:valid? false ..}`. It writes a line that says what is left, and a line for each entry that is
+/// left, as settings have it; a fault that was named by a grudge is written as its cut. The answer
+/// is the exit status:
 ///
 /// | line | what is left | status |
 /// |---|---|---|
@@ -45,11 +48,12 @@ struct Written {
 /// | `:not-failing` | the given ones: the run does not fail, or that is not known | 0 |
 ///
 /// The mode that the settings say means nothing. The same input gives the same runs each time
-/// (`jh_run_laws::same_settings_same_run`), and the same bytes, as tests show. All is read and done before the first byte is
-/// written.
+/// (`jh_run_laws::same_settings_same_run`), and the same bytes, as tests show. All is read and done
+/// before the first byte is written.
 ///
-/// Errors: an error of reading (`Input`, `Read`); `Settings`; `OutOfMemory`, also where a run is refused or its history can't be
-/// judged; `Write`. Nothing is written before any of them but `Write`.
+/// Errors: an error of reading (`Input`, `Read`); `Settings`; `OutOfMemory`, also where a run is
+/// refused or its history can't be judged; `Write`. Nothing is written before any of them but
+/// `Write`.
 pub fn shrink_run<R: Read, W: Write>(
     alloc: Global,
     reader: &mut R,
@@ -59,13 +63,15 @@ pub fn shrink_run<R: Read, W: Write>(
     ensures written { IfOk result (λ status. IfSome (R.remaining reader.old) (λ input.
         (output : List ℕ) × IsShrinkTextOf input status output
         × Appends (W.contents writer.old) (W.contents writer.new) output)) }
-    ensures refused { IfErr result (λ e. IfSome (R.remaining reader.old) (λ input. RefusesShrinking input e)) }
+    ensures refused { IfErr result
+        (λ e. IfSome (R.remaining reader.old) (λ input. RefusesShrinking input e)) }
     ensures unwritten { IfErr result (λ e. e ≢ CliError.Write → writer.new ≡ writer.old) }
 {
     shrink_run_observed(alloc, reader, writer, budget, &mut Nobody)
 }
 
-/// [`shrink_run`], which tells an observer before each run how many entries are left and which run it is.
+/// [`shrink_run`], which tells an observer before each run how many entries are left and which run
+/// it is.
 ///
 /// Errors: those of `shrink_run`.
 pub fn shrink_run_observed<R: Read, W: Write, O: Observer>(
@@ -78,7 +84,8 @@ pub fn shrink_run_observed<R: Read, W: Write, O: Observer>(
     ensures written { IfOk result (λ status. IfSome (R.remaining reader.old) (λ input.
         (output : List ℕ) × IsShrinkTextOf input status output
         × Appends (W.contents writer.old) (W.contents writer.new) output)) }
-    ensures refused { IfErr result (λ e. IfSome (R.remaining reader.old) (λ input. RefusesShrinking input e)) }
+    ensures refused { IfErr result
+        (λ e. IfSome (R.remaining reader.old) (λ input. RefusesShrinking input e)) }
     ensures unwritten { IfErr result (λ e. e ≢ CliError.Write → writer.new ≡ writer.old) }
 {
     let input = read_bytes(alloc, reader, MAX_READS)?;
@@ -98,7 +105,7 @@ fn shrink_bytes<O: Observer>(
 ) -> Result<Written, CliError>
     ensures { MatchResult result
         (λ written. IsShrinkTextOf input.now written.status written.text.items)
-        (RefusesBytes input.now) }
+        (RefusesShrinkBytes input.now) }
 {
     let settings = settings_of(alloc, input)?;
     let plan = &settings.plan;
@@ -111,7 +118,8 @@ fn shrink_bytes<O: Observer>(
     })
 }
 
-/// What is left of the schedule of a plan, whose histories are judged by a judge of the first budget.
+/// What is left of the schedule of a plan, whose histories are judged by a judge of the first
+/// budget.
 fn shrink_plan<O: Observer>(
     alloc: Global,
     plan: &Plan,
@@ -148,7 +156,7 @@ fn answer_of(alloc: Global, plan: &Plan, judging: u64, schedule: &Schedule) -> O
 
 /// Whether the run of a plan fails, and nothing where it is refused.
 fn fails(alloc: Global, plan: &Plan, judging: u64) -> Option<bool>
-    ensures { IfSome result (IsOutcomeOf plan.now judging) }
+    ensures { IfSome result (IsRunFailure plan.now judging) }
 {
     let Ok((_world, history)) = run_serial(alloc, plan) else {
         return None;
@@ -159,6 +167,7 @@ fn fails(alloc: Global, plan: &Plan, judging: u64) -> Option<bool>
     }
 }
 
+/// Whether a run fails whose history has this verdict: only where the history is not valid.
 fn is_failure(verdict: Verdict) -> bool
     ensures { result ≡ text.is_failure verdict }
 {
@@ -168,8 +177,9 @@ fn is_failure(verdict: Verdict) -> bool
     }
 }
 
+/// The exit status of what is left.
 fn status_of(shrunk: &Shrunk) -> u8
-    ensures { result ≡ text.status_of shrunk.now }
+    ensures { result ≡ text.shrunk_status shrunk.now }
 {
     match shrunk {
         Shrunk::Minimal(_) => 1,
@@ -178,6 +188,7 @@ fn status_of(shrunk: &Shrunk) -> u8
     }
 }
 
+/// The schedule that is left.
 fn schedule_of(shrunk: &Shrunk) -> &Schedule
     ensures { result.now ≡ text.schedule_of shrunk.now }
 {
@@ -188,8 +199,9 @@ fn schedule_of(shrunk: &Shrunk) -> &Schedule
     }
 }
 
+/// The line that says what is left.
 fn first_line(shrunk: &Shrunk) -> &'static str
-    ensures { result.now ≡ line (text.word_of shrunk.now) }
+    ensures { result.now ≡ line (text.shrunk_name shrunk.now) }
 {
     match shrunk {
         Shrunk::Minimal(_) => ":minimal\n",
@@ -200,7 +212,8 @@ fn first_line(shrunk: &Shrunk) -> &'static str
 
 /// All that is written of what is left.
 fn lines_of(alloc: Global, nodes: &Nodes, shrunk: &Shrunk) -> Result<Vec<u8>, AllocError>
-    requires { All (λ entry. FitsNodes (length nodes.now) entry.step) (text.schedule_of shrunk.now) }
+    requires { All (λ entry. FitsNodes (length nodes.now) entry.step)
+        (text.schedule_of shrunk.now) }
     ensures { IfOk result (λ output. output.items ≡ text.shrunk_lines nodes.now shrunk.now) }
 {
     let mut output = Vec::new(alloc);
@@ -217,7 +230,8 @@ fn write_entries(
     output: &mut Vec<u8>,
 ) -> Result<(), AllocError>
     requires { All (λ entry. FitsNodes (length nodes.now) entry.step) entries.now }
-    ensures { OnOk result (output.new.items ≡ output.old.items ++ text.entry_lines nodes.now entries.now) }
+    ensures { OnOk result
+        (output.new.items ≡ output.old.items ++ text.entry_lines nodes.now entries.now) }
 {
     for entry in entries {
         write_line(&value_of_entry(alloc, nodes, entry)?, output)?;
@@ -225,6 +239,7 @@ fn write_entries(
     Ok(())
 }
 
+/// The value of an entry, as settings have it.
 fn value_of_entry(alloc: Global, nodes: &Nodes, entry: &Entry) -> Result<Value, AllocError>
     requires { FitsNodes (length nodes.now) entry.now.step }
     ensures { IfOk result (λ value. view value ≡ text.text_of_entry nodes.now entry.now) }

@@ -23,7 +23,7 @@ use crate::error::CliError;
 use jh_keys::{Found, Judging, check_history, check_keys_serial, verdict_of_all};
 use jh_ops::{Op, Workload};
 use jh_pages::{Section, write_page};
-use jh_sections::{Choice, Parts, read_parts, section_of, sections_of_keys};
+use jh_sections::{Choice, HistoryAndRest, read_history_and_rest, section_of, sections_of_keys};
 use std::alloc::{AllocError, Global};
 use std::io::{Read, Write};
 
@@ -64,14 +64,14 @@ struct Page {
     text: Vec<u8>,
 }
 
-/// Reads a history as `jh_sections::read_parts` does, or all that `run` printed, judges it by the
-/// checker of the workload, if there is one, and writes a page in HTML that shows the history: the
-/// line of the checker on top, the history as `jh_sections::section_of` shows it, and below it what
-/// `run` printed behind the history. Where its keys are independent, each is judged by itself, one
-/// after another, the line is that on all keys, and each has the section that
-/// `jh_sections::sections_of_keys` makes. The answer is the exit status: 0 where the history is valid or
-/// not judged, 1 where it is not valid, 2 where that is not known. All is read and judged, and the
-/// page made, before the first byte is written.
+/// Reads a history as `jh_sections::read_history_and_rest` does, or all that `run` printed, judges
+/// it by the checker of the workload, if there is one, and writes a page in HTML that shows the
+/// history: the line of the checker on top, the history as `jh_sections::section_of` shows it, and
+/// below it what `run` printed behind the history. Where its keys are independent, each is judged
+/// by itself, one after another, the line is that on all keys, and each has the section that
+/// `jh_sections::sections_of_keys` makes. The answer is the exit status: 0 where the history is
+/// valid or not judged, 1 where it is not valid, 2 where that is not known. All is read and judged,
+/// and the page made, before the first byte is written.
 ///
 /// Takes what the checker takes, O(n log n) for n records beside it, and memory for the text, the
 /// history and the page.
@@ -98,7 +98,7 @@ pub fn timeline_run<R: Read, W: Write>(
     if !takes_initial(question.judging) {
         return Err(CliError::OnlyForRegister);
     }
-    let parts = read_parts(alloc, reader, MAX_READS)?;
+    let parts = read_history_and_rest(alloc, reader, MAX_READS)?;
     let page = page_of(alloc, parts, question)?;
     match writer.write_all(&page.text) {
         Ok(()) => Ok(page.status),
@@ -118,7 +118,7 @@ fn takes_initial(judging: Option<TimelineJudging>) -> bool
 
 /// What a history is judged by.
 fn judging_of(by: TimelineJudging) -> Judging
-    ensures { result ≡ text.judging_of by }
+    ensures { result ≡ text.timeline_judging by }
 {
     Judging {
         workload: by.workload,
@@ -146,7 +146,7 @@ fn found_in(
 
 /// The line on top.
 fn line_of(alloc: Global, found: Option<&Found>) -> Result<Vec<u8>, AllocError>
-    ensures { IfOk result (λ line. line.items ≡ text.line_of (option_copied found.entry)) }
+    ensures { IfOk result (λ line. line.items ≡ text.found_line (option_copied found.entry)) }
 {
     match found {
         Some(found) => check_command::line_of(alloc, found),
@@ -156,7 +156,7 @@ fn line_of(alloc: Global, found: Option<&Found>) -> Result<Vec<u8>, AllocError>
 
 /// The exit status.
 fn status_of(found: Option<&Found>) -> u8
-    ensures { result ≡ text.status_of (option_copied found.entry) }
+    ensures { result ≡ text.found_status (option_copied found.entry) }
 {
     match found {
         Some(found) => check_command::status_of(found.finding.verdict()),
@@ -301,14 +301,18 @@ fn page_text(
 }
 
 /// The page of what was read.
-fn page_of(alloc: Global, parts: Parts, question: TimelineQuestion) -> Result<Page, CliError>
+fn page_of(
+    alloc: Global,
+    parts: HistoryAndRest,
+    question: TimelineQuestion,
+) -> Result<Page, CliError>
     requires { All (λ op. IsWritable op.process) parts.history.items }
     ensures { MatchResult result
         (λ page. IsPage question (operations parts.history.items) parts.below.items
         page.status page.text.items)
         (RefusesPage question (operations parts.history.items)) }
 {
-    let Parts { history, below } = parts;
+    let HistoryAndRest { history, below } = parts;
     let shown = shown_of(alloc, history, question)?;
     Ok(Page {
         status: shown.status,

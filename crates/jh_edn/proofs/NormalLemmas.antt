@@ -1,5 +1,5 @@
 -- The normal form of a value is equal to it, and is in normal form; what is in normal form can be printed.
-use Rattle.std.proofs.Common.{◌≡◌, ℕ, ◌-◌, ◌<◌, inl, inr, Bool, true, false, cond, ◌&&◌, List, [], ◌∷◌, ◌++◌, refl, sym, ap, ◌∙◌, arith}
+use Rattle.std.proofs.Common.{◌≡◌, ℕ, ◌-◌, ◌<◌, Bool, true, false, cond, ◌&&◌, List, [], ◌∷◌, ◌++◌, refl, sym, ap, ◌∙◌, arith}
 use Rattle.std.specs.Prelude.{nat_lt, ◌^◌, ℤ, pos, negsuc, FitsSigned}
 use Rattle.std.specs.Int.{w64}
 use Rattle.std.specs.declared.cmp.Ordering.{Ordering}
@@ -11,18 +11,19 @@ use Rattle.std.proofs.lemmas.Map.Lookups.{exact_unsigned, exact_signed, exact_by
 use Rattle.std.proofs.lemmas.Grind.{common_steps}
 use Rattle.jh_edn.specs.declared.key.Mark.TheVariants as mark
 use Rattle.jh_edn.specs.Edn.{Edn, nil, boolean, int, char, str, keyword, symbol, list, vector, mapping, set, tagged, Items, no_items, item, items_of, Members, no_members, member, members_of}
-use Rattle.jh_edn.specs.Equality.{Equals, EqualItems, EqualElements, EqualMembers, IsNew, Differ, keys_of, KeysDiffer}
+use Rattle.jh_edn.specs.Equality.{Equals, IsNew, Differ, keys_of, KeysDiffer}
 use Rattle.jh_edn.specs.Order.{put_in_order, in_order, text_cmp, edn_cmp, items_cmp, members_cmp, is_below, has_key_below}
-use Rattle.jh_edn.specs.Key.{bare, texted, key_cmp, is_key_below, marked_keys, key_of, item_keys, pair_keys}
-use Rattle.jh_edn.specs.Normal.{normal, normal_list, normal_pairs, ascends, is_normal_within, are_normal_within, pairs_normal_within}
-use Rattle.jh_edn.specs.Printable.{IsPrintable, ArePrintable, PairsPrintable}
+use Rattle.jh_edn.specs.Key.{bare_part, text_part, key_cmp, is_key_below, marked_keys, key_of, item_keys, pair_keys}
+use Rattle.jh_edn.specs.Normal.{normal, normal_list, normal_pairs, ascends, is_normal_within, are_normal_within, are_normal_pairs_within}
+use Rattle.jh_edn.specs.Printable.{IsPrintable, ArePrintable, ArePrintablePairs}
 use Rattle.jh_edn.specs.Spelling.{is_tag}
 use Rattle.jh_edn.specs.Reading.{magnitude}
-use Rattle.jh_edn.proofs.Numbers.{fits_from}
-use Rattle.jh_edn.proofs.Sorting as sorting
-use Rattle.jh_edn.proofs.Sorting.{both, no_both}
-use Rattle.jh_edn.proofs.KeyOrder.{key_order, key_total, then_equal, tie_equal}
-use Rattle.jh_edn.proofs.Keys.{Key, count, sorted, same_order, same_key, equal_from_key}
+use Rattle.jh_edn.proofs.TiedLemmas.{tied_equal}
+use Rattle.jh_edn.proofs.NumberLemmas.{fits_from}
+use Rattle.jh_edn.proofs.SortLemmas as sorting
+use Rattle.jh_edn.proofs.SortLemmas.{both}
+use Rattle.jh_edn.proofs.KeyOrderLemmas.{key_order, key_total, then_equal, tie_equal}
+use Rattle.jh_edn.proofs.KeyLemmas.{Key, count, sorted, same_order, same_key, equal_from_key}
 use Rattle.jh_edn.proofs.OrderLemmas.{parts, item_parts, pair_parts, parts_first, by_parts, edn_total, below_order, key_below_order}
 
 -- ---- the normal form has the key of its value
@@ -60,17 +61,17 @@ mutual
   normal_key (str s) = refl
   normal_key (keyword s) = refl
   normal_key (symbol s) = refl
-  normal_key (list xs) = ap (λ w. bare mark.Sequence ∷ marked_keys w) (list_keys xs)
-  normal_key (vector xs) = ap (λ w. bare mark.Sequence ∷ marked_keys w) (list_keys xs)
+  normal_key (list xs) = ap (λ w. bare_part mark.Sequence ∷ marked_keys w) (list_keys xs)
+  normal_key (vector xs) = ap (λ w. bare_part mark.Sequence ∷ marked_keys w) (list_keys xs)
   normal_key (mapping ms) =
-      ap (λ w. bare mark.Map ∷ marked_keys w)
+      ap (λ w. bare_part mark.Map ∷ marked_keys w)
       (same_order (pair_keys (members_of (in_order has_key_below (normal_pairs ms)))) (pair_keys ms)
       (λ z. pairs_count z (normal_pairs ms) ∙ ap (count z) (pairs_keys ms)))
   normal_key (set xs) =
-      ap (λ w. bare mark.Set ∷ marked_keys w)
+      ap (λ w. bare_part mark.Set ∷ marked_keys w)
       (same_order (item_keys (items_of (in_order is_below (normal_list xs)))) (item_keys xs)
       (λ z. items_count z (normal_list xs) ∙ ap (count z) (list_keys xs)))
-  normal_key (tagged tag x) = ap (λ w. texted mark.Tagged tag ∷ w) (normal_key x)
+  normal_key (tagged tag x) = ap (λ w. text_part mark.Tagged tag ∷ w) (normal_key x)
 
   list_keys : (xs : Items) → item_keys (items_of (normal_list xs)) ≡ item_keys xs
   list_keys no_items = refl
@@ -84,58 +85,13 @@ mutual
 pub keeps : (x : Edn) → Equals x (normal x)
 keeps x = equal_from_key x (normal x) (sym (normal_key x))
 
--- ---- values that compare as equal are equal
+-- ---- Booleans that compare as equal are equal
 
 bool_exact : (b c : Bool) → bool_cmp b c ≡ Equal → b ≡ c
 bool_exact true true h = refl
 bool_exact true false h = absurd cc
 bool_exact false true h = absurd cc
 bool_exact false false h = refl
-
-mutual
-  compare_equal : (x y : Edn) → edn_cmp x y ≡ Equal → Equals x y
-  compare_equal nil nil h = refl
-  compare_equal (boolean b) (boolean c) h = ap boolean (sym (bool_exact b c h))
-  compare_equal (int z) (int w) h = ap int (sym (exact_signed z w h))
-  compare_equal (char c) (char d) h = ap char (sym (exact_unsigned c d h))
-  compare_equal (str s) (str t) h = ap str (sym (exact_bytes s t h))
-  compare_equal (keyword s) (keyword t) h = ap keyword (sym (exact_bytes s t h))
-  compare_equal (symbol s) (symbol t) h = ap symbol (sym (exact_bytes s t h))
-  compare_equal (list xs) (list ys) h = (ys, inl refl, items_equal xs ys h)
-  compare_equal (list xs) (vector ys) h = (ys, inr refl, items_equal xs ys h)
-  compare_equal (vector xs) (list ys) h = (ys, inl refl, items_equal xs ys h)
-  compare_equal (vector xs) (vector ys) h = (ys, inr refl, items_equal xs ys h)
-  compare_equal (mapping ms) (mapping ns) h = (ns, refl, members_equal ms ns h)
-  compare_equal (set xs) (set ys) h = (ys, refl, elements_equal xs ys h)
-  compare_equal (tagged s x) (tagged t y) h =
-      let p = then_equal (text_cmp s t) (edn_cmp x y) h in
-      (y, ap (λ w. tagged w y) (sym (exact_bytes s t p.0)), compare_equal x y p.1)
-  compare_equal x y h = absurd cc
-
-  items_equal : (xs ys : Items) → items_cmp xs ys ≡ Equal → EqualItems xs ys
-  items_equal no_items no_items h = refl
-  items_equal no_items (item y ys) h = absurd cc
-  items_equal (item x xs) no_items h = absurd cc
-  items_equal (item x xs) (item y ys) h =
-      let p = then_equal (edn_cmp x y) (items_cmp xs ys) h in
-      (y, ys, refl, compare_equal x y p.0, items_equal xs ys p.1)
-
-  elements_equal : (xs ys : Items) → items_cmp xs ys ≡ Equal → EqualElements xs ys
-  elements_equal no_items no_items h = refl
-  elements_equal no_items (item y ys) h = absurd cc
-  elements_equal (item x xs) no_items h = absurd cc
-  elements_equal (item x xs) (item y ys) h =
-      let p = then_equal (edn_cmp x y) (items_cmp xs ys) h in
-      (y, ys, inl (refl, refl), compare_equal x y p.0, elements_equal xs ys p.1)
-
-  members_equal : (ms ns : Members) → members_cmp ms ns ≡ Equal → EqualMembers ms ns
-  members_equal no_members no_members h = refl
-  members_equal no_members (member l w ns) h = absurd cc
-  members_equal (member k v ms) no_members h = absurd cc
-  members_equal (member k v ms) (member l w ns) h =
-      let p = then_equal (edn_cmp k l) (ordering_then (edn_cmp v w) (members_cmp ms ns)) h in
-      let q = then_equal (edn_cmp v w) (members_cmp ms ns) p.1 in
-      (l, w, ns, inl (refl, refl, refl), compare_equal k l p.0, compare_equal v w q.0, members_equal ms ns q.1)
 
 -- ---- the normal form is in normal form
 
@@ -145,7 +101,7 @@ apart x y h =
     elim (ties is_below (normal x) (normal y)) as (λ b. ties is_below (normal x) (normal y) ≡ b → b ≡ false) [
       | true ↦ λ e.
           absurd
-          (let alike = compare_equal (normal x) (normal y) (tie_equal (edn_cmp (normal x) (normal y)) (edn_cmp (normal y) (normal x)) (edn_total.antisymm (normal x) (normal y)) e) in
+          (let alike = tied_equal (normal x) (normal y) (tie_equal (edn_cmp (normal x) (normal y)) (edn_cmp (normal y) (normal x)) (edn_total.antisymm (normal x) (normal y)) e) in
           h (equal_from_key x y (sym (normal_key x) ∙ same_key (normal x) (normal y) alike ∙ normal_key y)))
       | false ↦ λ e. refl
     ] refl
@@ -182,7 +138,7 @@ are_each : (depth : ℕ) (xs : List Edn) → sorting.Each is_below below_order (
 are_each depth [] h = refl
 are_each depth (x ∷ xs) h = rw h.0 (are_each depth xs h.1)
 
-pairs_each : (depth : ℕ) (ms : List (Edn × Edn)) → sorting.Each has_key_below key_below_order (λ m. (is_normal_within depth m.0 ≡ true) × (is_normal_within depth m.1 ≡ true)) ms → pairs_normal_within depth (members_of ms) ≡ true
+pairs_each : (depth : ℕ) (ms : List (Edn × Edn)) → sorting.Each has_key_below key_below_order (λ m. (is_normal_within depth m.0 ≡ true) × (is_normal_within depth m.1 ≡ true)) ms → are_normal_pairs_within depth (members_of ms) ≡ true
 pairs_each depth [] h = refl
 pairs_each depth (m ∷ ms) h = rw (h.0.0, h.0.1) (pairs_each depth ms h.1)
 
@@ -220,7 +176,7 @@ mutual
   each_normal depth no_items h = tt
   each_normal depth (item x xs) h = (made_normal depth x h.0, each_normal depth xs h.1)
 
-  each_pair_normal : (depth : ℕ) (ms : Members) → PairsPrintable depth ms → sorting.Each has_key_below key_below_order (λ m. (is_normal_within depth m.0 ≡ true) × (is_normal_within depth m.1 ≡ true)) (normal_pairs ms)
+  each_pair_normal : (depth : ℕ) (ms : Members) → ArePrintablePairs depth ms → sorting.Each has_key_below key_below_order (λ m. (is_normal_within depth m.0 ≡ true) × (is_normal_within depth m.1 ≡ true)) (normal_pairs ms)
   each_pair_normal depth no_members h = tt
   each_pair_normal depth (member k v ms) h = ((made_normal depth k h.0, made_normal depth v h.1), each_pair_normal depth ms h.2)
 
@@ -282,18 +238,18 @@ mutual
   normal_parts depth (keyword s) h = refl
   normal_parts depth (symbol s) h = refl
   normal_parts depth (list xs) h = absurd cc
-  normal_parts depth (vector xs) h = ap (λ w. bare mark.Sequence ∷ marked_keys w) (items_parts (depth - 1) xs (both (nat_lt 0 depth) (are_normal_within (depth - 1) xs) h).1)
+  normal_parts depth (vector xs) h = ap (λ w. bare_part mark.Sequence ∷ marked_keys w) (items_parts (depth - 1) xs (both (nat_lt 0 depth) (are_normal_within (depth - 1) xs) h).1)
   normal_parts depth (mapping ms) h =
-      let p = both (nat_lt 0 depth) (pairs_normal_within (depth - 1) ms && ascends (keys_of ms)) h in
-      let q = both (pairs_normal_within (depth - 1) ms) (ascends (keys_of ms)) p.1 in
-      ap (λ w. bare mark.Map ∷ marked_keys w) (ap sorted (pairs_parts (depth - 1) ms q.0) ∙ sorting.in_order_is is_key_below key_order (pair_parts ms) (pairs_ascend ms q.1))
+      let p = both (nat_lt 0 depth) (are_normal_pairs_within (depth - 1) ms && ascends (keys_of ms)) h in
+      let q = both (are_normal_pairs_within (depth - 1) ms) (ascends (keys_of ms)) p.1 in
+      ap (λ w. bare_part mark.Map ∷ marked_keys w) (ap sorted (pairs_parts (depth - 1) ms q.0) ∙ sorting.in_order_is is_key_below key_order (pair_parts ms) (pairs_ascend ms q.1))
   normal_parts depth (set xs) h =
       let p = both (nat_lt 0 depth) (are_normal_within (depth - 1) xs && ascends xs) h in
       let q = both (are_normal_within (depth - 1) xs) (ascends xs) p.1 in
-      ap (λ w. bare mark.Set ∷ marked_keys w) (ap sorted (items_parts (depth - 1) xs q.0) ∙ sorting.in_order_is is_key_below key_order (item_parts xs) (items_ascend xs q.1))
+      ap (λ w. bare_part mark.Set ∷ marked_keys w) (ap sorted (items_parts (depth - 1) xs q.0) ∙ sorting.in_order_is is_key_below key_order (item_parts xs) (items_ascend xs q.1))
   normal_parts depth (tagged tag x) h =
       let p = both (nat_lt 0 depth) (is_tag tag && is_normal_within (depth - 1) x) h in
-      ap (λ w. texted mark.Tagged tag ∷ w) (normal_parts (depth - 1) x (both (is_tag tag) (is_normal_within (depth - 1) x) p.1).1)
+      ap (λ w. text_part mark.Tagged tag ∷ w) (normal_parts (depth - 1) x (both (is_tag tag) (is_normal_within (depth - 1) x) p.1).1)
 
   items_parts : (depth : ℕ) (xs : Items) → are_normal_within depth xs ≡ true → item_keys xs ≡ item_parts xs
   items_parts depth no_items h = refl
@@ -301,11 +257,11 @@ mutual
       let p = both (is_normal_within depth x) (are_normal_within depth xs) h in
       λ i. normal_parts depth x p.0 i ∷ items_parts depth xs p.1 i
 
-  pairs_parts : (depth : ℕ) (ms : Members) → pairs_normal_within depth ms ≡ true → pair_keys ms ≡ pair_parts ms
+  pairs_parts : (depth : ℕ) (ms : Members) → are_normal_pairs_within depth ms ≡ true → pair_keys ms ≡ pair_parts ms
   pairs_parts depth no_members h = refl
   pairs_parts depth (member k v ms) h =
-      let p = both (is_normal_within depth k) (is_normal_within depth v && pairs_normal_within depth ms) h in
-      let q = both (is_normal_within depth v) (pairs_normal_within depth ms) p.1 in
+      let p = both (is_normal_within depth k) (is_normal_within depth v && are_normal_pairs_within depth ms) h in
+      let q = both (is_normal_within depth v) (are_normal_pairs_within depth ms) p.1 in
       λ i. (normal_parts depth k p.0 i ++ normal_parts depth v q.0 i) ∷ pairs_parts depth ms q.1 i
 
 -- of two in normal form, one below the other is not equal to it
@@ -331,9 +287,9 @@ mutual
   exact depth (vector xs) (vector ys) h k e =
       ap vector (exact_items (depth - 1) xs ys (both (nat_lt 0 depth) (are_normal_within (depth - 1) xs) h).1 (both (nat_lt 0 depth) (are_normal_within (depth - 1) ys) k).1 e)
   exact depth (mapping ms) (mapping ns) h k e =
-      let p = both (nat_lt 0 depth) (pairs_normal_within (depth - 1) ms && ascends (keys_of ms)) h in
-      let q = both (nat_lt 0 depth) (pairs_normal_within (depth - 1) ns && ascends (keys_of ns)) k in
-      ap mapping (exact_members (depth - 1) ms ns (both (pairs_normal_within (depth - 1) ms) (ascends (keys_of ms)) p.1).0 (both (pairs_normal_within (depth - 1) ns) (ascends (keys_of ns)) q.1).0 e)
+      let p = both (nat_lt 0 depth) (are_normal_pairs_within (depth - 1) ms && ascends (keys_of ms)) h in
+      let q = both (nat_lt 0 depth) (are_normal_pairs_within (depth - 1) ns && ascends (keys_of ns)) k in
+      ap mapping (exact_members (depth - 1) ms ns (both (are_normal_pairs_within (depth - 1) ms) (ascends (keys_of ms)) p.1).0 (both (are_normal_pairs_within (depth - 1) ns) (ascends (keys_of ns)) q.1).0 e)
   exact depth (set xs) (set ys) h k e =
       let p = both (nat_lt 0 depth) (are_normal_within (depth - 1) xs && ascends xs) h in
       let q = both (nat_lt 0 depth) (are_normal_within (depth - 1) ys && ascends ys) k in
@@ -360,15 +316,15 @@ mutual
       let others : xs ≡ ys = exact_items depth xs ys p.1 q.1 equal.1 in
       λ i. item (first i) (others i)
 
-  exact_members : (depth : ℕ) (ms ns : Members) → pairs_normal_within depth ms ≡ true → pairs_normal_within depth ns ≡ true → members_cmp ms ns ≡ Equal → ms ≡ ns
+  exact_members : (depth : ℕ) (ms ns : Members) → are_normal_pairs_within depth ms ≡ true → are_normal_pairs_within depth ns ≡ true → members_cmp ms ns ≡ Equal → ms ≡ ns
   exact_members depth no_members no_members h k e = refl
   exact_members depth no_members (member l w ns) h k e = absurd cc
   exact_members depth (member x v ms) no_members h k e = absurd cc
   exact_members depth (member x v ms) (member y w ns) h k e =
-      let p = both (is_normal_within depth x) (is_normal_within depth v && pairs_normal_within depth ms) h in
-      let q = both (is_normal_within depth y) (is_normal_within depth w && pairs_normal_within depth ns) k in
-      let pv = both (is_normal_within depth v) (pairs_normal_within depth ms) p.1 in
-      let qw = both (is_normal_within depth w) (pairs_normal_within depth ns) q.1 in
+      let p = both (is_normal_within depth x) (is_normal_within depth v && are_normal_pairs_within depth ms) h in
+      let q = both (is_normal_within depth y) (is_normal_within depth w && are_normal_pairs_within depth ns) k in
+      let pv = both (is_normal_within depth v) (are_normal_pairs_within depth ms) p.1 in
+      let qw = both (is_normal_within depth w) (are_normal_pairs_within depth ns) q.1 in
       let equal = then_equal (edn_cmp x y) (ordering_then (edn_cmp v w) (members_cmp ms ns)) e in
       let behind = then_equal (edn_cmp v w) (members_cmp ms ns) equal.1 in
       let key : x ≡ y = exact depth x y p.0 q.0 equal.0 in
@@ -388,11 +344,11 @@ differ depth (item x xs) h a =
     let p = both (is_normal_within depth x) (are_normal_within depth xs) h in
     (new_above depth x xs p.0 p.1 (all_above x xs a), differ depth xs p.1 (ascends_tail x xs a))
 
-keys_normal : (depth : ℕ) (ms : Members) → pairs_normal_within depth ms ≡ true → are_normal_within depth (keys_of ms) ≡ true
+keys_normal : (depth : ℕ) (ms : Members) → are_normal_pairs_within depth ms ≡ true → are_normal_within depth (keys_of ms) ≡ true
 keys_normal depth no_members h = refl
 keys_normal depth (member k v ms) h =
-    let p = both (is_normal_within depth k) (is_normal_within depth v && pairs_normal_within depth ms) h in
-    rw p.0 (keys_normal depth ms (both (is_normal_within depth v) (pairs_normal_within depth ms) p.1).1)
+    let p = both (is_normal_within depth k) (is_normal_within depth v && are_normal_pairs_within depth ms) h in
+    rw p.0 (keys_normal depth ms (both (is_normal_within depth v) (are_normal_pairs_within depth ms) p.1).1)
 
 opened : (depth : ℕ) → nat_lt 0 depth ≡ true → 0 < depth
 opened depth h = grind (arith, common_steps)
@@ -411,8 +367,8 @@ mutual
       let p = both (nat_lt 0 depth) (are_normal_within (depth - 1) xs) h in
       (opened depth p.0, can_print_each (depth - 1) xs p.1)
   can_print depth (mapping ms) h =
-      let p = both (nat_lt 0 depth) (pairs_normal_within (depth - 1) ms && ascends (keys_of ms)) h in
-      let q = both (pairs_normal_within (depth - 1) ms) (ascends (keys_of ms)) p.1 in
+      let p = both (nat_lt 0 depth) (are_normal_pairs_within (depth - 1) ms && ascends (keys_of ms)) h in
+      let q = both (are_normal_pairs_within (depth - 1) ms) (ascends (keys_of ms)) p.1 in
       (opened depth p.0, can_print_pairs (depth - 1) ms q.0, differ (depth - 1) (keys_of ms) (keys_normal (depth - 1) ms q.0) q.1)
   can_print depth (set xs) h =
       let p = both (nat_lt 0 depth) (are_normal_within (depth - 1) xs && ascends xs) h in
@@ -429,11 +385,11 @@ mutual
       let p = both (is_normal_within depth x) (are_normal_within depth xs) h in
       (can_print depth x p.0, can_print_each depth xs p.1)
 
-  can_print_pairs : (depth : ℕ) (ms : Members) → pairs_normal_within depth ms ≡ true → PairsPrintable depth ms
+  can_print_pairs : (depth : ℕ) (ms : Members) → are_normal_pairs_within depth ms ≡ true → ArePrintablePairs depth ms
   can_print_pairs depth no_members h = tt
   can_print_pairs depth (member k v ms) h =
-      let p = both (is_normal_within depth k) (is_normal_within depth v && pairs_normal_within depth ms) h in
-      let q = both (is_normal_within depth v) (pairs_normal_within depth ms) p.1 in
+      let p = both (is_normal_within depth k) (is_normal_within depth v && are_normal_pairs_within depth ms) h in
+      let q = both (is_normal_within depth v) (are_normal_pairs_within depth ms) p.1 in
       (can_print depth k p.0, can_print depth v q.0, can_print_pairs depth ms q.1)
 
 -- equal values that can be printed have one normal form

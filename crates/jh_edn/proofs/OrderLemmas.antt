@@ -11,24 +11,24 @@ use Rattle.std.proofs.lemmas.Grind.{common_steps}
 use Rattle.jh_edn.specs.declared.key.Mark.TheVariants as mark
 use Rattle.jh_edn.specs.Edn.{Edn, nil, boolean, int, char, str, keyword, symbol, list, vector, mapping, set, tagged, Items, no_items, item, Members, no_members, member}
 use Rattle.jh_edn.specs.Order.{text_cmp, edn_cmp, items_cmp, members_cmp, is_below, has_key_below}
-use Rattle.jh_edn.specs.Key.{KeyPart, bare, numbered, texted, key_cmp, marked_keys}
-use Rattle.jh_edn.proofs.KeyOrder.{key_total}
+use Rattle.jh_edn.specs.Key.{KeyPart, bare_part, numbered_part, text_part, key_cmp, marked_keys}
+use Rattle.jh_edn.proofs.KeyOrderLemmas.{key_total}
 
 -- a value's parts, in the order in which it holds them
 abbrev mutual
   pub parts : Edn → List KeyPart
-  parts nil = bare mark.Nil ∷ []
-  parts (boolean b) = numbered mark.Bool (pos (cond b 1 0)) ∷ []
-  parts (int z) = numbered mark.Int z ∷ []
-  parts (char c) = numbered mark.Char (pos c) ∷ []
-  parts (str s) = texted mark.Str s ∷ []
-  parts (keyword s) = texted mark.Keyword s ∷ []
-  parts (symbol s) = texted mark.Symbol s ∷ []
-  parts (list xs) = bare mark.Sequence ∷ marked_keys (item_parts xs)
-  parts (vector xs) = bare mark.Sequence ∷ marked_keys (item_parts xs)
-  parts (mapping ms) = bare mark.Map ∷ marked_keys (pair_parts ms)
-  parts (set xs) = bare mark.Set ∷ marked_keys (item_parts xs)
-  parts (tagged tag x) = texted mark.Tagged tag ∷ parts x
+  parts nil = bare_part mark.Nil ∷ []
+  parts (boolean b) = numbered_part mark.Bool (pos (cond b 1 0)) ∷ []
+  parts (int z) = numbered_part mark.Int z ∷ []
+  parts (char c) = numbered_part mark.Char (pos c) ∷ []
+  parts (str s) = text_part mark.Str s ∷ []
+  parts (keyword s) = text_part mark.Keyword s ∷ []
+  parts (symbol s) = text_part mark.Symbol s ∷ []
+  parts (list xs) = bare_part mark.Sequence ∷ marked_keys (item_parts xs)
+  parts (vector xs) = bare_part mark.Sequence ∷ marked_keys (item_parts xs)
+  parts (mapping ms) = bare_part mark.Map ∷ marked_keys (pair_parts ms)
+  parts (set xs) = bare_part mark.Set ∷ marked_keys (item_parts xs)
+  parts (tagged tag x) = text_part mark.Tagged tag ∷ parts x
 
   pub item_parts : Items → List (List KeyPart)
   item_parts no_items = []

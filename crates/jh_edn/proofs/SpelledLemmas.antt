@@ -10,11 +10,11 @@ use Rattle.std.proofs.lemmas.Grind.{common_steps}
 use Rattle.std.proofs.lemmas.List.Elements.{All-nil, All-cons}
 use Rattle.jh_edn.specs.Bytes.{backspace, carriage_return, form_feed, is_hex, line_feed, space, tab}
 use Rattle.jh_edn.specs.Edn.{Edn, nil, boolean, int, char, str, keyword, symbol, list, vector, mapping, set, tagged, Items, no_items, item, items_of, Members, no_members, member}
-use Rattle.jh_edn.specs.Printable.{IsPrintable, ArePrintable, PairsPrintable}
-use Rattle.jh_edn.specs.Spelling.{IsCharacter, IsInteger, Elements, Form, SpellsAll, around, char_named, char_numbered, depth_limit, inside, is_surrogate, items_of_members, nowhere}
-use Rattle.jh_edn.proofs.Characters.{hex_below}
-use Rattle.jh_edn.proofs.Sorting.{both}
-use Rattle.jh_edn.proofs.Sound.{chosen}
+use Rattle.jh_edn.specs.Printable.{IsPrintable, ArePrintable, ArePrintablePairs}
+use Rattle.jh_edn.specs.Spelling.{IsCharacter, IsInteger, SpellsElements, SpellsFront, SpellsAll, grammar_around, char_named, char_numbered, depth_limit, inside, is_surrogate, items_of_members, no_grammar}
+use Rattle.jh_edn.proofs.CharacterLemmas.{hex_below}
+use Rattle.jh_edn.proofs.SortLemmas.{both}
+use Rattle.jh_edn.proofs.ReadTokenLemmas.{chosen}
 
 -- ---- characters
 
@@ -81,14 +81,14 @@ one_less : (depth : ℕ) → depth ≡ suc depth - 1
 one_less depth = omega arith
 
 -- where nothing may stand no elements are, not even none
-no_elements : (xs : Items) (text rest : List ℕ) → Elements nowhere xs text rest → ⊥
+no_elements : (xs : Items) (text rest : List ℕ) → SpellsElements no_grammar xs text rest → ⊥
 no_elements no_items text rest e = e
 no_elements (item x xs) text rest e = e.1
 
 mutual
   unfolding inside
 
-  form : (depth : ℕ) (x : Edn) (text rest : List ℕ) → Form (inside depth) x text rest → IsPrintable depth x
+  form : (depth : ℕ) (x : Edn) (text rest : List ℕ) → SpellsFront (inside depth) x text rest → IsPrintable depth x
   form depth nil text rest f = tt
   form depth (boolean b) text rest f = tt
   form depth (int z) text rest f = integer f.0 z f.1
@@ -103,15 +103,15 @@ mutual
   form zero (tagged tag x) text rest f = absurd f.4
   form (suc depth) (list xs) text rest f = (omega arith, subst (λ n. ArePrintable n xs) (one_less depth) (items depth xs f.0 _ f.2))
   form (suc depth) (vector xs) text rest f = (omega arith, subst (λ n. ArePrintable n xs) (one_less depth) (items depth xs f.0 _ f.2))
-  form (suc depth) (mapping ms) text rest f = (omega arith, subst (λ n. PairsPrintable n ms) (one_less depth) (pairs depth ms f.0 _ f.2), f.3)
+  form (suc depth) (mapping ms) text rest f = (omega arith, subst (λ n. ArePrintablePairs n ms) (one_less depth) (pairs depth ms f.0 _ f.2), f.3)
   form (suc depth) (set xs) text rest f = (omega arith, subst (λ n. ArePrintable n xs) (one_less depth) (items depth xs f.0 _ f.2), f.3)
   form (suc depth) (tagged tag x) text rest f = (omega arith, f.1, subst (λ n. IsPrintable n x) (one_less depth) (form depth x f.4.0 rest f.4.2))
 
-  items : (depth : ℕ) (xs : Items) (text rest : List ℕ) → Elements (around (inside depth)) xs text rest → ArePrintable depth xs
+  items : (depth : ℕ) (xs : Items) (text rest : List ℕ) → SpellsElements (grammar_around (inside depth)) xs text rest → ArePrintable depth xs
   items depth no_items text rest e = tt
   items depth (item x xs) text rest e = (form depth x e.1.0 e.0 e.1.2, items depth xs e.0 rest e.2)
 
-  pairs : (depth : ℕ) (ms : Members) (text rest : List ℕ) → Elements (around (inside depth)) (items_of_members ms) text rest → PairsPrintable depth ms
+  pairs : (depth : ℕ) (ms : Members) (text rest : List ℕ) → SpellsElements (grammar_around (inside depth)) (items_of_members ms) text rest → ArePrintablePairs depth ms
   pairs depth no_members text rest e = tt
   pairs depth (member k v ms) text rest e =
       (form depth k e.1.0 e.0 e.1.2, form depth v e.2.1.0 e.2.0 e.2.1.2, pairs depth ms e.2.0 rest e.2.2)

@@ -4,9 +4,9 @@ use Rattle.std.specs.Ordering.{bool_cmp}
 use Rattle.std.specs.declared.cmp.Ordering.TheVariants.{Equal}
 use Rattle.std.proofs.lemmas.Map.Lookups.{exact_unsigned, exact_signed, exact_bytes}
 use Rattle.jh_edn.specs.Edn.{Edn, nil, boolean, int, char, str, keyword, symbol, list, vector, mapping, set, tagged, Items, no_items, item, Members, no_members, member}
-use Rattle.jh_edn.specs.Equality.{Equals, EqualItems, EqualElements, EqualMembers}
+use Rattle.jh_edn.specs.Equality.{Equals, AreEqualItems, AreEqualElements, AreEqualMembers}
 use Rattle.jh_edn.specs.Order.{edn_cmp, items_cmp, members_cmp, text_cmp}
-use Rattle.jh_edn.proofs.KeyOrder.{then_equal}
+use Rattle.jh_edn.proofs.KeyOrderLemmas.{then_equal}
 
 bools : (b c : Bool) → bool_cmp b c ≡ Equal → c ≡ b
 bools true true h = refl
@@ -34,7 +34,7 @@ mutual
       (y, ap (λ w. tagged w y) (sym (exact_bytes s t p.0)), tied_equal x y p.1)
   tied_equal x y h = absurd cc
 
-  items_equal : (xs ys : Items) → items_cmp xs ys ≡ Equal → EqualItems xs ys
+  items_equal : (xs ys : Items) → items_cmp xs ys ≡ Equal → AreEqualItems xs ys
   items_equal no_items no_items h = refl
   items_equal no_items (item y ys) h = absurd cc
   items_equal (item x xs) no_items h = absurd cc
@@ -42,7 +42,7 @@ mutual
       let p = then_equal (edn_cmp x y) (items_cmp xs ys) h in
       (y, ys, refl, tied_equal x y p.0, items_equal xs ys p.1)
 
-  elements_equal : (xs ys : Items) → items_cmp xs ys ≡ Equal → EqualElements xs ys
+  elements_equal : (xs ys : Items) → items_cmp xs ys ≡ Equal → AreEqualElements xs ys
   elements_equal no_items no_items h = refl
   elements_equal no_items (item y ys) h = absurd cc
   elements_equal (item x xs) no_items h = absurd cc
@@ -50,7 +50,7 @@ mutual
       let p = then_equal (edn_cmp x y) (items_cmp xs ys) h in
       (y, ys, inl (refl, refl), tied_equal x y p.0, elements_equal xs ys p.1)
 
-  members_equal : (ms ns : Members) → members_cmp ms ns ≡ Equal → EqualMembers ms ns
+  members_equal : (ms ns : Members) → members_cmp ms ns ≡ Equal → AreEqualMembers ms ns
   members_equal no_members no_members h = refl
   members_equal no_members (member l w ns) h = absurd cc
   members_equal (member k v ms) no_members h = absurd cc

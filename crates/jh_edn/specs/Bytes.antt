@@ -1,7 +1,8 @@
--- The bytes of EDN texts (EDN's format description, "General considerations", "Strings", "Symbols", "Keywords",
--- "Characters", "Comments", "Discard").
--- A text is the list of its UTF-8 bytes. Every byte that means something by itself is ASCII.
-use Rattle.std.specs.Prelude.{ℕ, suc, ◌<◌, Bool, not, ◌&&◌, ◌||◌, ◌==◌, nat_le, nat_lt, List, [], ◌∷◌, slice_index, Option, Some, None, if◌then◌else◌, codes}
+-- The bytes of EDN texts (EDN's format description, "General considerations", "Strings", "Symbols",
+-- "Keywords", "Characters", "Comments", "Discard"). A text is the list of its UTF-8 bytes. Every
+-- byte that means something by itself is ASCII.
+use Rattle.std.specs.Prelude.{ℕ, suc, ◌<◌, Bool, not, ◌&&◌, ◌||◌, ◌==◌, nat_le, nat_lt, List, []}
+use Rattle.std.specs.Prelude.{◌∷◌, slice_index, Option, Some, None, if◌then◌else◌, codes}
 use Rattle.std.specs.List.{list_any}
 use Rattle.std.specs.Char.{digit_value}
 use Rattle.std.specs.Str.{byte}
@@ -97,13 +98,13 @@ is_between low high c = nat_le low c && nat_le c high
 unfoldable pub is_space : ℕ → Bool
 is_space c = c == space || c == comma || is_between tab carriage_return c
 
--- what ends a run besides white space
+-- what ends a token besides white space
 unfoldable pub is_delimiter : ℕ → Bool
 is_delimiter c = is_among (codes "()[]{}\";\\") c
 
--- what a run is made of
-unfoldable pub is_run : ℕ → Bool
-is_run c = not (is_space c) && not (is_delimiter c)
+-- what a token is made of
+unfoldable pub is_token_byte : ℕ → Bool
+is_token_byte c = not (is_space c) && not (is_delimiter c)
 
 -- what stands for itself in a string
 unfoldable pub is_plain : ℕ → Bool
@@ -114,8 +115,8 @@ unfoldable pub is_digit : ℕ → Bool
 is_digit c = is_between digit_zero digit_nine c
 
 -- what a byte after a backslash in a string stands for: t, r, n, \, ", b, f
-unfoldable pub escaped : ℕ → Option ℕ
-escaped c =
+unfoldable pub escaped_byte : ℕ → Option ℕ
+escaped_byte c =
     if c == byte "t" then Some tab
     else if c == byte "r" then Some carriage_return
     else if c == byte "n" then Some line_feed
@@ -127,7 +128,9 @@ escaped c =
 
 -- the characters of symbols: ASCII letters, digits and these
 unfoldable pub is_symbol : ℕ → Bool
-is_symbol c = is_digit c || is_between (byte "A") (byte "Z") c || is_between (byte "a") (byte "z") c || is_among (codes ".*+!-_?$%&=<>:#'/") c
+is_symbol c =
+    is_digit c || is_between (byte "A") (byte "Z") c || is_between (byte "a") (byte "z") c
+    || is_among (codes ".*+!-_?$%&=<>:#'/") c
 
 -- an ASCII letter
 unfoldable pub is_letter : ℕ → Bool
@@ -146,9 +149,9 @@ unfoldable pub is_first : ℕ → Bool
 is_first c = is_symbol c && not (is_among (codes ":#'/") c)
 
 -- how many of the first bytes are such
-abbrev pub leading : (ℕ → Bool) → List ℕ → ℕ
-leading p [] = 0
-leading p (c ∷ s) = if p c then suc (leading p s) else 0
+abbrev pub leading_len : (ℕ → Bool) → List ℕ → ℕ
+leading_len p [] = 0
+leading_len p (c ∷ s) = if p c then suc (leading_len p s) else 0
 
 -- a discard stands first: #_
 unfoldable pub begins_discard : List ℕ → Bool

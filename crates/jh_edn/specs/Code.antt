@@ -1,9 +1,11 @@
--- A code for values: a tree of numbers for each, and no two values with one tree. Rattle wants it of a
--- type that a contract sees; nothing else reads it.
+-- A code for values: a tree of numbers for each, and no two values with one tree. Rattle wants it
+-- of a type that a contract sees; nothing else reads it.
 use Rattle.std.specs.Prelude.{◌≡◌, refl}
 use Rattle.std.proofs.Common.{ap}
 use Rattle.std.specs.Coded.{Coded, coded_ℕ, coded_ℤ, coded_bool, coded_list}
-use Rattle.jh_edn.specs.Edn.{Edn, nil, boolean, int, char, str, keyword, symbol, list, vector, mapping, set, tagged, Items, no_items, item, Members, no_members, member}
+use Rattle.jh_edn.specs.Edn.{Edn, nil, boolean, int, char, str, keyword, symbol, list, vector}
+use Rattle.jh_edn.specs.Edn.{mapping, set, tagged, Items, no_items, item, Members, no_members}
+use Rattle.jh_edn.specs.Edn.{member}
 use base.Stored.{Gv, gnil, gnum, gcons}
 
 abbrev pub head : Gv → Gv
@@ -53,18 +55,21 @@ mutual
   inj_edn (list b) (list c) p = ap list (inj_items b c (ap tail p))
   inj_edn (set b) (set c) p = ap set (inj_items b c (ap tail p))
   inj_edn (tagged s x) (tagged t y) p =
-      λ i. tagged ((coded_list coded_ℕ).inj s t (ap (λ g. head (tail g)) p) i) (inj_edn x y (ap (λ g. tail (tail g)) p) i)
+      λ i. tagged ((coded_list coded_ℕ).inj s t (ap (λ g. head (tail g)) p) i)
+      (inj_edn x y (ap (λ g. tail (tail g)) p) i)
   inj_edn _ _ p = absurd cc
 
   inj_items : (x y : Items) → code_items x ≡ code_items y → x ≡ y
   inj_items no_items no_items p = refl
-  inj_items (item x xs) (item y ys) p = λ i. item (inj_edn x y (ap head p) i) (inj_items xs ys (ap tail p) i)
+  inj_items (item x xs) (item y ys) p =
+      λ i. item (inj_edn x y (ap head p) i) (inj_items xs ys (ap tail p) i)
   inj_items _ _ p = absurd cc
 
   inj_members : (x y : Members) → code_members x ≡ code_members y → x ≡ y
   inj_members no_members no_members p = refl
   inj_members (member k v ms) (member l w ns) p =
-      λ i. member (inj_edn k l (ap head p) i) (inj_edn v w (ap (λ g. head (tail g)) p) i) (inj_members ms ns (ap (λ g. tail (tail g)) p) i)
+      λ i. member (inj_edn k l (ap head p) i) (inj_edn v w (ap (λ g. head (tail g)) p) i)
+      (inj_members ms ns (ap (λ g. tail (tail g)) p) i)
   inj_members _ _ p = absurd cc
 
 abbrev pub edn_coded : Coded Edn

@@ -1,6 +1,8 @@
 -- EDN values, as contracts see them (EDN's format description, "Built-in elements").
 -- A text is the list of its UTF-8 bytes, a character its code point.
-use Rattle.std.specs.Prelude.{ℕ, suc, ◌+◌, Bool, ℤ, List, [], ◌∷◌, Option, Some, None}
+use Rattle.std.specs.Prelude.{ℕ, suc, ◌+◌, Bool, true, false, ℤ, List, [], ◌∷◌, find, Option, Some}
+use Rattle.std.specs.Prelude.{None, option_map}
+use Rattle.std.specs.Str.{bytes_eq}
 
 mutual
   pub data Edn : Type 0 where
@@ -35,7 +37,8 @@ abbrev pub members_of : List (Edn × Edn) → Members
 members_of [] = no_members
 members_of (m ∷ ms) = member m.0 m.1 (members_of ms)
 
--- how large a value is, by which a proof goes down it: one for each collection, each tag and each thing in one
+-- how large a value is, by which a proof goes down it: one for each collection, each tag and each
+-- thing in one
 abbrev mutual
   pub size_of : Edn → ℕ
   size_of nil = 0
@@ -75,3 +78,31 @@ abbrev pub elements_of : Edn → Option (List Edn)
 elements_of (list xs) = Some (list_of xs)
 elements_of (vector xs) = Some (list_of xs)
 elements_of _ = None
+
+-- the keyword of this name, without its colon
+abbrev pub is_keyword : List ℕ → Edn → Bool
+is_keyword name (keyword text) = bytes_eq text name
+is_keyword name _ = false
+
+abbrev pub is_integer : Edn → Bool
+is_integer (int z) = true
+is_integer _ = false
+
+-- the integer that a value is
+abbrev pub integer_of : Edn → Option ℤ
+integer_of (int z) = Some z
+integer_of _ = None
+
+-- the pairs of a map, as a list
+abbrev pub pairs_in : Members → List (Edn × Edn)
+pairs_in no_members = []
+pairs_in (member key value ms) = (key, value) ∷ pairs_in ms
+
+-- the value under a keyword: that of the first pair with it
+abbrev pub value_under : List ℕ → List (Edn × Edn) → Option Edn
+value_under name pairs = option_map (λ pair. pair.1) (find (λ pair. is_keyword name pair.0) pairs)
+
+-- nothing is in the list
+abbrev pub is_empty : {A : Type 0} → List A → Bool
+is_empty [] = true
+is_empty (x ∷ xs) = false

@@ -5,7 +5,9 @@ use denote.Param.Weighed.{most}
 use Rattle.jh_edn.specs.Edn.{size_of, size_list, size_pairs}
 use Rattle.jh_edn.specs.View.{view, views, view_pairs}
 use Rattle.jh_edn.specs.declared.value.Value.{Value}
-use Rattle.jh_edn.specs.declared.value.Value.TheVariants.{Nil, Bool, Int, Char, Str, Keyword, Symbol, List as Listed, Vector, Map, Set, Tagged}
+use Rattle.jh_edn.specs.declared.value.Value.TheVariants.{Nil, Bool, Int, Char, Str, Keyword}
+use Rattle.jh_edn.specs.declared.value.Value.TheVariants.{Symbol, List as Listed, Vector, Map, Set}
+use Rattle.jh_edn.specs.declared.value.Value.TheVariants.{Tagged}
 use Rattle.jh_edn.specs.declared.value.Pairs.TheDeep.{deep-Value, deep-Pairs}
 use Rattle.jh_edn.specs.declared.value.Pairs.TheInside.{Inside}
 use Rattle.jh_edn.specs.declared.value.Pairs.TheShapes.{weighed-Pairs-items-at-2}
@@ -29,7 +31,9 @@ pub values_fall : (xs : List Value) → most (λ x. deep-Value x) xs ≤ size_li
 values_fall [] = omega arith
 values_fall (x ∷ xs) = omega (arith, deep x, values_fall xs)
 
-pairs_most : (xs : List (Value × Value)) → most (λ x. weighed-Pairs-items-at-2.weight the_data deep-Value x) xs ≤ size_pairs (view_pairs xs)
+pairs_most : (xs : List (Value × Value))
+    → most (λ x. weighed-Pairs-items-at-2.weight the_data deep-Value x) xs
+    ≤ size_pairs (view_pairs xs)
 pairs_most [] = omega arith
 pairs_most (x ∷ xs) = omega (arith, deep x.0, deep x.1, pairs_most xs)
 

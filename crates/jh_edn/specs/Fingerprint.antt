@@ -1,15 +1,18 @@
 -- A number below 2^64 for each value, one number for equal values (this project's own).
 -- That values which differ mostly differ in it saves time, and nothing else rests on it.
-use Rattle.std.specs.Prelude.{ℕ, ◌+◌, ◌*◌, ◌/◌, ◌%◌, ◌^◌, ◌==◌, ◌≤◌, List, map, if◌then◌else◌, bit_xor}
+use Rattle.std.specs.Prelude.{ℕ, ◌+◌, ◌*◌, ◌/◌, ◌%◌, ◌^◌, ◌==◌, ◌≤◌, List, map, if◌then◌else◌}
+use Rattle.std.specs.Prelude.{bit_xor}
 use Rattle.std.specs.Int.{w64, cast_unsigned}
 use Rattle.std.specs.List.{fold, count_by}
-use Rattle.jh_edn.specs.Edn.{Edn, nil, boolean, int, char, str, keyword, symbol, list, vector, mapping, set, tagged, Items, no_items, item, Members, no_members, member}
+use Rattle.jh_edn.specs.Edn.{Edn, nil, boolean, int, char, str, keyword, symbol, list, vector}
+use Rattle.jh_edn.specs.Edn.{mapping, set, tagged, Items, no_items, item, Members, no_members}
+use Rattle.jh_edn.specs.Edn.{member}
 use Rattle.jh_edn.specs.Order.{kind_of}
 
 -- two numbers made one: their bits are spread by products, and folded down
 unfoldable pub mix : ℕ → ℕ → ℕ
-mix seed word =
-    let spread = (seed + word * 0x9e3779b97f4a7c15 % 2 ^ 64) % 2 ^ 64 in
+mix seed added =
+    let spread = (seed + added * 0x9e3779b97f4a7c15 % 2 ^ 64) % 2 ^ 64 in
     let folded = bit_xor spread (spread / 2 ^ 32) * 0xd6e8feb86659fd93 % 2 ^ 64 in
     bit_xor folded (folded / 2 ^ 29)
 
@@ -31,16 +34,16 @@ abbrev mutual
   content (str s) = text_number s
   content (keyword s) = text_number s
   content (symbol s) = text_number s
-  content (list xs) = in_turn 0 xs
-  content (vector xs) = in_turn 0 xs
+  content (list xs) = items_number 0 xs
+  content (vector xs) = items_number 0 xs
   content (mapping ms) = sum_of_members ms % 2 ^ 64
   content (set xs) = sum_of_items xs % 2 ^ 64
   content (tagged tag x) = mix (text_number tag) (mix (kind_of x) (content x))
 
   -- the elements of a sequence, the first one first
-  pub in_turn : ℕ → Items → ℕ
-  in_turn number no_items = number
-  in_turn number (item x xs) = in_turn (mix number (mix (kind_of x) (content x))) xs
+  pub items_number : ℕ → Items → ℕ
+  items_number number no_items = number
+  items_number number (item x xs) = items_number (mix number (mix (kind_of x) (content x))) xs
 
   -- the sum over the elements of a set
   pub sum_of_items : Items → ℕ
@@ -50,7 +53,8 @@ abbrev mutual
   -- the sum over the pairs of a map
   pub sum_of_members : Members → ℕ
   sum_of_members no_members = 0
-  sum_of_members (member k v ms) = mix (mix (kind_of k) (content k)) (mix (kind_of v) (content v)) + sum_of_members ms
+  sum_of_members (member k v ms) =
+      mix (mix (kind_of k) (content k)) (mix (kind_of v) (content v)) + sum_of_members ms
 
 abbrev pub fingerprint : Edn → ℕ
 fingerprint x = mix (kind_of x) (content x)
@@ -59,5 +63,5 @@ abbrev pub fingerprints : List Edn → List ℕ
 fingerprints xs = map fingerprint xs
 
 -- no number stands twice
-abbrev pub EachOnce : List ℕ → Type 0
-EachOnce ns = (z : ℕ) → count_by (λ n. n == z) ns ≤ 1
+abbrev pub StandOnce : List ℕ → Type 0
+StandOnce ns = (z : ℕ) → count_by (λ n. n == z) ns ≤ 1

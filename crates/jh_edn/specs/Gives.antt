@@ -8,7 +8,7 @@ use Rattle.jh_edn.specs.declared.syntax_error.ReadError.TheVariants as errors
 use Rattle.jh_edn.specs.declared.string.Stop.{Stop}
 use Rattle.jh_edn.specs.declared.string.Stop.TheVariants.{End, Close, Escape, BadEscape}
 use Rattle.jh_edn.specs.Bytes.{IsAscii}
-use Rattle.jh_edn.specs.Reading.{body, syntax_error, with_front}
+use Rattle.jh_edn.specs.Reading.{body, syntax_error, read_with_front}
 
 -- reading gives this error, unless memory ran out
 abbrev pub Fails : {Y : Type 0} → ReadError → Result Y SyntaxError → Type 0
@@ -21,11 +21,11 @@ Gives view (Ok x) read = read ≡ Ok (view x)
 Gives view (Err e) read = Fails e read
 
 -- what a string's rest gives where its plain bytes stop
-abbrev pub at_stop : Stop → List ℕ → Result (List ℕ × List ℕ) SyntaxError
-at_stop End s = syntax_error kinds.UnexpectedEnd []
-at_stop (Close after) s = Ok ([], after.now)
-at_stop (Escape c after) s = with_front (c ∷ []) (body after.now)
-at_stop BadEscape s = syntax_error kinds.BadEscape s
+abbrev pub rest_at_stop : Stop → List ℕ → Result (List ℕ × List ℕ) SyntaxError
+rest_at_stop End s = syntax_error kinds.UnexpectedEnd []
+rest_at_stop (Close after) s = Ok ([], after.now)
+rest_at_stop (Escape c after) s = read_with_front (c ∷ []) (body after.now)
+rest_at_stop BadEscape s = syntax_error kinds.BadEscape s
 
 -- what is left after a stop is text, and shorter where the string goes on
 abbrev pub IsShorter : Stop → List ℕ → Type 0

@@ -1,5 +1,7 @@
--- A list of parts for each value, the same list exactly where the values are equal (this project's own).
-use Rattle.std.specs.Prelude.{ℕ, Bool, false, ◌||◌, ℤ, pos, List, [], ◌∷◌, ◌++◌, map, if◌then◌else◌, Vec}
+-- A list of parts for each value, the same list exactly where the values are equal (this project's
+-- own).
+use Rattle.std.specs.Prelude.{ℕ, Bool, false, ◌||◌, ℤ, pos, List, [], ◌∷◌, ◌++◌, map, if◌then◌else◌}
+use Rattle.std.specs.Prelude.{Vec}
 use Rattle.std.specs.Global.{Global}
 use Rattle.std.specs.declared.cmp.Ordering.{Ordering}
 use Rattle.std.specs.Ordering.{nat_cmp, int_cmp, ordering_then, is_lt, is_eq}
@@ -7,7 +9,9 @@ use Rattle.std.specs.Cmp.Lexicographic.{slice_cmp}
 use Rattle.jh_edn.specs.declared.key.Part.{Part}
 use Rattle.jh_edn.specs.declared.key.Mark.{Mark}
 use Rattle.jh_edn.specs.declared.key.Mark.TheVariants as mark
-use Rattle.jh_edn.specs.Edn.{Edn, nil, boolean, int, char, str, keyword, symbol, list, vector, mapping, set, tagged, Items, no_items, item, Members, no_members, member}
+use Rattle.jh_edn.specs.Edn.{Edn, nil, boolean, int, char, str, keyword, symbol, list, vector}
+use Rattle.jh_edn.specs.Edn.{mapping, set, tagged, Items, no_items, item, Members, no_members}
+use Rattle.jh_edn.specs.Edn.{member}
 use Rattle.jh_edn.specs.Order.{in_order, text_cmp}
 
 -- a part of a key: what begins or ends there, and its number or text where it has one
@@ -17,24 +21,24 @@ pub record KeyPart : Type 0 where
   pub text : List ℕ
 
 -- what a contract sees of a part that a program holds
-abbrev pub seen : Part → KeyPart
-seen p = record { mark = p.mark; number = p.number; text = p.text.now }
+abbrev pub key_part : Part → KeyPart
+key_part p = record { mark = p.mark; number = p.number; text = p.text.now }
 
 -- the parts, and the keys, that a program holds
-abbrev pub parts_of : List Part → List KeyPart
-parts_of ps = map seen ps
+abbrev pub key_parts : List Part → List KeyPart
+key_parts ps = map key_part ps
 
 abbrev pub keys_in : List (Vec Part Global) → List (List KeyPart)
-keys_in vs = map (λ v. parts_of v.items) vs
+keys_in vs = map (λ v. key_parts v.items) vs
 
-abbrev pub bare : Mark → KeyPart
-bare m = record { mark = m; number = pos 0; text = [] }
+abbrev pub bare_part : Mark → KeyPart
+bare_part m = record { mark = m; number = pos 0; text = [] }
 
-abbrev pub numbered : Mark → ℤ → KeyPart
-numbered m z = record { mark = m; number = z; text = [] }
+abbrev pub numbered_part : Mark → ℤ → KeyPart
+numbered_part m z = record { mark = m; number = z; text = [] }
 
-abbrev pub texted : Mark → List ℕ → KeyPart
-texted m s = record { mark = m; number = pos 0; text = s }
+abbrev pub text_part : Mark → List ℕ → KeyPart
+text_part m s = record { mark = m; number = pos 0; text = s }
 
 -- where a mark stands among the marks
 abbrev pub mark_place : Mark → ℕ
@@ -53,7 +57,9 @@ mark_place mark.Set = 11
 mark_place mark.Tagged = 12
 
 abbrev pub part_cmp : KeyPart → KeyPart → Ordering
-part_cmp p q = ordering_then (nat_cmp (mark_place p.mark) (mark_place q.mark)) (ordering_then (int_cmp p.number q.number) (text_cmp p.text q.text))
+part_cmp p q =
+    ordering_then (nat_cmp (mark_place p.mark) (mark_place q.mark))
+    (ordering_then (int_cmp p.number q.number) (text_cmp p.text q.text))
 
 abbrev pub key_cmp : List KeyPart → List KeyPart → Ordering
 key_cmp = slice_cmp part_cmp
@@ -63,23 +69,23 @@ is_key_below k l = is_lt (key_cmp k l)
 
 -- these keys one after the other, each led by a mark, and an end
 abbrev pub marked_keys : List (List KeyPart) → List KeyPart
-marked_keys [] = bare mark.Last ∷ []
-marked_keys (k ∷ ks) = bare mark.More ∷ (k ++ marked_keys ks)
+marked_keys [] = bare_part mark.Last ∷ []
+marked_keys (k ∷ ks) = bare_part mark.More ∷ (k ++ marked_keys ks)
 
 abbrev mutual
   pub key_of : Edn → List KeyPart
-  key_of nil = bare mark.Nil ∷ []
-  key_of (boolean b) = numbered mark.Bool (pos (if b then 1 else 0)) ∷ []
-  key_of (int z) = numbered mark.Int z ∷ []
-  key_of (char c) = numbered mark.Char (pos c) ∷ []
-  key_of (str s) = texted mark.Str s ∷ []
-  key_of (keyword s) = texted mark.Keyword s ∷ []
-  key_of (symbol s) = texted mark.Symbol s ∷ []
-  key_of (list xs) = bare mark.Sequence ∷ marked_keys (item_keys xs)
-  key_of (vector xs) = bare mark.Sequence ∷ marked_keys (item_keys xs)
-  key_of (mapping ms) = bare mark.Map ∷ marked_keys (in_order is_key_below (pair_keys ms))
-  key_of (set xs) = bare mark.Set ∷ marked_keys (in_order is_key_below (item_keys xs))
-  key_of (tagged tag x) = texted mark.Tagged tag ∷ key_of x
+  key_of nil = bare_part mark.Nil ∷ []
+  key_of (boolean b) = numbered_part mark.Bool (pos (if b then 1 else 0)) ∷ []
+  key_of (int z) = numbered_part mark.Int z ∷ []
+  key_of (char c) = numbered_part mark.Char (pos c) ∷ []
+  key_of (str s) = text_part mark.Str s ∷ []
+  key_of (keyword s) = text_part mark.Keyword s ∷ []
+  key_of (symbol s) = text_part mark.Symbol s ∷ []
+  key_of (list xs) = bare_part mark.Sequence ∷ marked_keys (item_keys xs)
+  key_of (vector xs) = bare_part mark.Sequence ∷ marked_keys (item_keys xs)
+  key_of (mapping ms) = bare_part mark.Map ∷ marked_keys (in_order is_key_below (pair_keys ms))
+  key_of (set xs) = bare_part mark.Set ∷ marked_keys (in_order is_key_below (item_keys xs))
+  key_of (tagged tag x) = text_part mark.Tagged tag ∷ key_of x
 
   -- for each element its key
   pub item_keys : Items → List (List KeyPart)

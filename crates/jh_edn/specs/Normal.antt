@@ -1,8 +1,11 @@
--- The normal form of a value (this project's own): lists become vectors, the pairs of maps stand in the order of their
--- keys and the elements of sets in their own, all from the inside out.
-use Rattle.std.specs.Prelude.{ℕ, ◌-◌, ◌^◌, Bool, true, false, ◌&&◌, nat_lt, List, [], ◌∷◌, Option, Some, None}
+-- The normal form of a value (this project's own): lists become vectors, the pairs of maps stand in
+-- the order of their keys and the elements of sets in their own, all from the inside out.
+use Rattle.std.specs.Prelude.{ℕ, ◌-◌, ◌^◌, Bool, true, false, ◌&&◌, nat_lt, List, [], ◌∷◌, Option}
+use Rattle.std.specs.Prelude.{Some, None}
 use lib.Utf8.{scalar}
-use Rattle.jh_edn.specs.Edn.{Edn, nil, boolean, int, char, str, keyword, symbol, list, vector, mapping, set, tagged, Items, no_items, item, items_of, Members, no_members, member, members_of}
+use Rattle.jh_edn.specs.Edn.{Edn, nil, boolean, int, char, str, keyword, symbol, list, vector}
+use Rattle.jh_edn.specs.Edn.{mapping, set, tagged, Items, no_items, item, items_of, Members}
+use Rattle.jh_edn.specs.Edn.{no_members, member, members_of}
 use Rattle.jh_edn.specs.Equality.{keys_of}
 use Rattle.jh_edn.specs.Order.{in_order, is_below, has_key_below}
 use Rattle.jh_edn.specs.Spelling.{is_name, is_symbol_name, is_tag, depth_limit}
@@ -38,8 +41,9 @@ ascends no_items = true
 ascends (item x no_items) = true
 ascends (item x (item y ys)) = is_below x y && ascends (item y ys)
 
--- Whether a value is in normal form and can be read back, with collections and tags nested no deeper than that: no
--- list stands in it, its names are such, the keys of its maps and the elements of its sets ascend.
+-- Whether a value is in normal form and can be read back, with collections and tags nested no
+-- deeper than that: no list stands in it, its names are such, the keys of its maps and the elements
+-- of its sets ascend.
 abbrev mutual
   pub is_normal_within : ℕ → Edn → Bool
   is_normal_within depth nil = true
@@ -51,9 +55,12 @@ abbrev mutual
   is_normal_within depth (symbol name) = is_symbol_name name
   is_normal_within depth (list xs) = false
   is_normal_within depth (vector xs) = nat_lt 0 depth && are_normal_within (depth - 1) xs
-  is_normal_within depth (mapping ms) = nat_lt 0 depth && (pairs_normal_within (depth - 1) ms && ascends (keys_of ms))
-  is_normal_within depth (set xs) = nat_lt 0 depth && (are_normal_within (depth - 1) xs && ascends xs)
-  is_normal_within depth (tagged tag x) = nat_lt 0 depth && (is_tag tag && is_normal_within (depth - 1) x)
+  is_normal_within depth (mapping ms) =
+      nat_lt 0 depth && (are_normal_pairs_within (depth - 1) ms && ascends (keys_of ms))
+  is_normal_within depth (set xs) =
+      nat_lt 0 depth && (are_normal_within (depth - 1) xs && ascends xs)
+  is_normal_within depth (tagged tag x) =
+      nat_lt 0 depth && (is_tag tag && is_normal_within (depth - 1) x)
 
   -- each element is
   pub are_normal_within : ℕ → Items → Bool
@@ -61,9 +68,10 @@ abbrev mutual
   are_normal_within depth (item x xs) = is_normal_within depth x && are_normal_within depth xs
 
   -- each key and each value is
-  pub pairs_normal_within : ℕ → Members → Bool
-  pairs_normal_within depth no_members = true
-  pairs_normal_within depth (member k v ms) = is_normal_within depth k && (is_normal_within depth v && pairs_normal_within depth ms)
+  pub are_normal_pairs_within : ℕ → Members → Bool
+  are_normal_pairs_within depth no_members = true
+  are_normal_pairs_within depth (member k v ms) =
+      is_normal_within depth k && (is_normal_within depth v && are_normal_pairs_within depth ms)
 
 -- a value that is in normal form and can be read back
 abbrev pub is_normal : Edn → Bool

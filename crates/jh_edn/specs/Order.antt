@@ -1,11 +1,13 @@
--- The order of values (this project's own): by kind, nil first and tagged values last, and then by content. A list
--- stands where a vector with its elements stands.
+-- The order of values (this project's own): by kind, nil first and tagged values last, and then by
+-- content. A list stands where a vector with its elements stands.
 use Rattle.std.specs.Prelude.{ℕ, Bool, List, [], ◌∷◌, if◌then◌else◌}
 use Rattle.std.specs.declared.cmp.Ordering.{Ordering}
 use Rattle.std.specs.declared.cmp.Ordering.TheVariants.{Less, Equal, Greater}
 use Rattle.std.specs.Ordering.{bool_cmp, nat_cmp, int_cmp, ordering_then, is_lt}
 use Rattle.std.specs.Cmp.Lexicographic.{slice_cmp}
-use Rattle.jh_edn.specs.Edn.{Edn, nil, boolean, int, char, str, keyword, symbol, list, vector, mapping, set, tagged, Items, no_items, item, Members, no_members, member}
+use Rattle.jh_edn.specs.Edn.{Edn, nil, boolean, int, char, str, keyword, symbol, list, vector}
+use Rattle.jh_edn.specs.Edn.{mapping, set, tagged, Items, no_items, item, Members, no_members}
+use Rattle.jh_edn.specs.Edn.{member}
 
 -- put before the first that is not below it
 abbrev pub put_in_order : {X : Type 0} → (X → X → Bool) → X → List X → List X
@@ -65,7 +67,8 @@ abbrev mutual
   members_cmp no_members no_members = Equal
   members_cmp no_members (member l w ns) = Less
   members_cmp (member k v ms) no_members = Greater
-  members_cmp (member k v ms) (member l w ns) = ordering_then (edn_cmp k l) (ordering_then (edn_cmp v w) (members_cmp ms ns))
+  members_cmp (member k v ms) (member l w ns) =
+      ordering_then (edn_cmp k l) (ordering_then (edn_cmp v w) (members_cmp ms ns))
 
 -- the first is below the second
 abbrev pub is_below : Edn → Edn → Bool

@@ -2,17 +2,21 @@
 use Rattle.std.specs.Prelude.{ℕ, List}
 use Rattle.std.specs.Str.{IsUtf8}
 use Rattle.jh_edn.specs.declared.error.EdnError.{EdnError}
-use Rattle.jh_edn.specs.declared.error.EdnError.TheVariants.{UnexpectedEnd, BadToken, FloatUnsupported, IntegerRange, BadEscape, OddMap, DuplicateKey, TooDeep, Utf8, TooLong, Read, Write, OutOfMemory}
+use Rattle.jh_edn.specs.declared.error.EdnError.TheVariants.{UnexpectedEnd, BadToken}
+use Rattle.jh_edn.specs.declared.error.EdnError.TheVariants.{FloatUnsupported, IntegerRange}
+use Rattle.jh_edn.specs.declared.error.EdnError.TheVariants.{BadEscape, OddMap, DuplicateKey}
+use Rattle.jh_edn.specs.declared.error.EdnError.TheVariants.{TooDeep, Utf8, TooLong, Read, Write}
+use Rattle.jh_edn.specs.declared.error.EdnError.TheVariants.{OutOfMemory}
 use Rattle.jh_edn.specs.Edn.{Edn}
 use Rattle.jh_edn.specs.Spelling.{SpellsAll}
-use Rattle.jh_edn.specs.Reading.{ErrorBehind}
+use Rattle.jh_edn.specs.Reading.{IsErrorBehind}
 
 -- the bytes are UTF-8, and spell no list of values
 abbrev pub SpellsNothing : List ℕ → Type 0
 SpellsNothing bytes = IsUtf8 bytes × ((xs : List Edn) → SpellsAll xs bytes → ⊥)
 
--- These bytes are refused by this error: one with a line where they spell nothing, Utf8 where they are no UTF-8.
--- The others are about the reader and memory, and Write is about writers alone.
+-- These bytes are refused by this error: one with a line where they spell nothing, Utf8 where they
+-- are no UTF-8. The others are about the reader and memory, and Write is about writers alone.
 abbrev pub RefusesText : List ℕ → EdnError → Type 0
 RefusesText bytes (UnexpectedEnd line) = SpellsNothing bytes
 RefusesText bytes (BadToken line) = SpellsNothing bytes
@@ -35,7 +39,7 @@ IsFirstError bytes TooLong = Unit {0}
 IsFirstError bytes Read = Unit {0}
 IsFirstError bytes Write = Unit {0}
 IsFirstError bytes OutOfMemory = Unit {0}
-IsFirstError bytes error = ErrorBehind bytes error
+IsFirstError bytes error = IsErrorBehind bytes error
 
 -- what reading a reader's bytes can fail with
 abbrev pub IsReaderError : EdnError → Type 0

@@ -1,8 +1,11 @@
 -- What a contract sees of a value that a program holds.
 use Rattle.std.specs.Prelude.{List, map}
-use Rattle.jh_edn.specs.Edn.{Edn, nil, boolean, int, char, str, keyword, symbol, list, vector, mapping, set, tagged, items_of, members_of}
+use Rattle.jh_edn.specs.Edn.{Edn, nil, boolean, int, char, str, keyword, symbol, list, vector}
+use Rattle.jh_edn.specs.Edn.{mapping, set, tagged, items_of, members_of}
 use Rattle.jh_edn.specs.declared.value.Value.{Value}
-use Rattle.jh_edn.specs.declared.value.Value.TheVariants.{Nil, Bool, Int, Char, Str, Keyword, Symbol, List as Listed, Vector, Map, Set, Tagged}
+use Rattle.jh_edn.specs.declared.value.Value.TheVariants.{Nil, Bool, Int, Char, Str, Keyword}
+use Rattle.jh_edn.specs.declared.value.Value.TheVariants.{Symbol, List as Listed, Vector, Map, Set}
+use Rattle.jh_edn.specs.declared.value.Value.TheVariants.{Tagged}
 
 abbrev pub view : Value → Edn
 view Nil = nil

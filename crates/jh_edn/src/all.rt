@@ -35,7 +35,8 @@ fn values_of(alloc: Global, text: &str) -> Result<Vec<Value>, EdnError>
 pub fn read_all<R: Read>(alloc: Global, reader: &mut R, turns: u32) -> Result<Vec<Value>, EdnError>
     ensures values { IfOk result
         (λ v. IfSome (R.remaining reader.old) (λ bytes. SpellsAll (views v.items) bytes)) }
-    ensures refused { IfErr result (λ e. IfSome (R.remaining reader.old) (λ bytes. RefusesText bytes e)) }
+    ensures refused { IfErr result
+        (λ e. IfSome (R.remaining reader.old) (λ bytes. RefusesText bytes e)) }
     ensures first_error { IfErr result
         (λ e. IfSome (R.remaining reader.old) (λ bytes. IsFirstError bytes e)) }
     ensures error { IfErr result (λ e. e ≢ EdnError.Write) }

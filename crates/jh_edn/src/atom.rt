@@ -1,6 +1,7 @@
-//! Reading a run: a number, a keyword, a symbol, `nil`, `true` or `false`.
+//! Reading a token: a number, a keyword, a symbol, `nil`, `true` or `false`.
 //!
-//! `atom` of `specs/Reading.antt` says what a run is, and in which order its errors are looked for.
+//! `atom` of `specs/Reading.antt` says what a token is, and in which order its errors are looked
+//! for.
 
 ghost use Rattle.std.specs.Prelude.{◌≡◌, ◌≤◌, length, IfOk, true, option_map};
 ghost use Rattle.std.specs.Str.{IsUtf8};
@@ -10,7 +11,7 @@ ghost use Rattle.jh_edn.specs.Reading as reading;
 ghost use Rattle.jh_edn.specs.View.{view};
 
 use crate::name::{is_name, is_symbol_name};
-use crate::scan::{digits_len, is_digit, run_len};
+use crate::scan::{digits_len, is_digit, token_len};
 use crate::syntax_error::{Kind, ReadError, syntax_error_at};
 use crate::text::Text;
 use crate::value::Value;
@@ -18,21 +19,22 @@ use std::alloc::Global;
 
 /// How many bytes the sign takes: 1 or none.
 #[tactic(auto, unfolding(crate::specs::Reading::sign_len))]
-fn sign_len(run: &[u8]) -> usize
-    ensures len { result ≡ reading.sign_len run.now }
-    ensures within { result ≤ length run.now }
+fn sign_len(token: &[u8]) -> usize
+    ensures len { result ≡ reading.sign_len token.now }
+    ensures within { result ≤ length token.now }
 {
-    match run {
+    match token {
         [b'+' | b'-', ..] => 1,
         _ => 0,
     }
 }
 
+/// Whether a token begins as a number does: with a digit, or with a sign and a digit.
 #[tactic(auto, unfolding(crate::specs::Reading::sign_len, crate::specs::Bytes::is_digit))]
-fn begins_number(run: &[u8]) -> bool
-    ensures { result ≡ reading.begins_number run.now }
+fn begins_number(token: &[u8]) -> bool
+    ensures { result ≡ reading.begins_number token.now }
 {
-    match run {
+    match token {
         [] => false,
         [b'+' | b'-'] => false,
         [b'+' | b'-', second, ..] => is_digit(*second),
@@ -48,6 +50,7 @@ fn begins_fraction(rest: &[u8]) -> bool
     matches!(rest, [b'.' | b'e' | b'E' | b'M', ..])
 }
 
+/// Whether this may follow the digits of an integer: an `N`, or nothing.
 fn is_suffix(rest: &[u8]) -> bool
     ensures { result ≡ reading.is_suffix rest.now }
 {
@@ -55,10 +58,10 @@ fn is_suffix(rest: &[u8]) -> bool
 }
 
 /// The integer of a sign and digits.
-#[tactic(auto, using(crate::proofs::Numbers::too_large, crate::proofs::Numbers::unsigned_is), unfolding(crate::specs::Reading::integer_of))]
+#[tactic(auto, using(crate::proofs::NumberLemmas::too_large, crate::proofs::NumberLemmas::unsigned_is), unfolding(crate::specs::Reading::integer_spelled))]
 fn integer_of(core: &[u8]) -> Result<i64, Kind>
     requires { IsNumeral 10 (without_leading_sign core.now) }
-    ensures { result ≡ reading.integer_of core.now }
+    ensures { result ≡ reading.integer_spelled core.now }
 {
     let digits = &core[sign_len(core)..];
     if digits.len() > 1 && digits[0] == b'0' {
@@ -70,33 +73,34 @@ fn integer_of(core: &[u8]) -> Result<i64, Kind>
     }
 }
 
-#[tactic(auto, using(crate::proofs::Numbers::numeral_cut), unfolding(crate::specs::Reading::number_of))]
-fn number_of(run: &[u8]) -> Result<i64, Kind>
-    requires { reading.begins_number run.now ≡ true }
-    ensures { result ≡ reading.number_of run.now }
+/// The integer of a token that begins as a number does, or what is wrong with it.
+#[tactic(auto, using(crate::proofs::NumberLemmas::numeral_cut), unfolding(crate::specs::Reading::number_of))]
+fn number_of(token: &[u8]) -> Result<i64, Kind>
+    requires { reading.begins_number token.now ≡ true }
+    ensures { result ≡ reading.number_of token.now }
 {
-    let sign = sign_len(run);
-    let end = sign + digits_len(&run[sign..]);
-    let rest = &run[end..];
+    let sign = sign_len(token);
+    let end = sign + digits_len(&token[sign..]);
+    let rest = &token[end..];
     if begins_fraction(rest) {
         return Err(Kind::FloatUnsupported);
     }
     if !is_suffix(rest) {
         return Err(Kind::BadToken);
     }
-    integer_of(&run[..end])
+    integer_of(&token[..end])
 }
 
 /// `nil`, `true` or `false`.
-#[tactic(auto, unfolding(crate::specs::Reading::word_of))]
-fn word(run: &str) -> Option<Value>
-    ensures { option_map view result ≡ reading.word_of run.now }
+#[tactic(auto, unfolding(crate::specs::Reading::constant_of))]
+fn constant(token: &str) -> Option<Value>
+    ensures { option_map view result ≡ reading.constant_of token.now }
 {
-    if run == "nil" {
+    if token == "nil" {
         Some(Value::Nil)
-    } else if run == "true" {
+    } else if token == "true" {
         Some(Value::Bool(true))
-    } else if run == "false" {
+    } else if token == "false" {
         Some(Value::Bool(false))
     } else {
         None
@@ -109,23 +113,23 @@ pub(crate) fn atom(alloc: Global, rest: &str) -> Result<(Value, &str), ReadError
     ensures gives { Gives (λ x. (view x.0, x.1.now)) result (reading.atom rest.now) }
     ensures text { IfOk result (λ x. IsUtf8 x.1.now) }
 {
-    let len = run_len(rest);
-    let run = &rest[..len];
-    if begins_number(run.as_bytes()) {
-        return match number_of(run.as_bytes()) {
+    let len = token_len(rest);
+    let token = &rest[..len];
+    if begins_number(token.as_bytes()) {
+        return match number_of(token.as_bytes()) {
             Ok(n) => Ok((Value::Int(n), &rest[len..])),
             Err(kind) => Err(syntax_error_at(kind, rest)),
         };
     }
-    if run.starts_with(':') && is_name(&run.as_bytes()[1..]) {
-        let name = Text::of(alloc, &run[1..])?;
+    if token.starts_with(':') && is_name(&token.as_bytes()[1..]) {
+        let name = Text::of(alloc, &token[1..])?;
         return Ok((Value::Keyword(name), &rest[len..]));
     }
-    if let Some(value) = word(run) {
+    if let Some(value) = constant(token) {
         return Ok((value, &rest[len..]));
     }
-    if is_symbol_name(run.as_bytes()) {
-        let name = Text::of(alloc, run)?;
+    if is_symbol_name(token.as_bytes()) {
+        let name = Text::of(alloc, token)?;
         return Ok((Value::Symbol(name), &rest[len..]));
     }
     Err(syntax_error_at(Kind::BadToken, rest))

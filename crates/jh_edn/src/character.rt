@@ -1,7 +1,7 @@
 //! Reading a character.
 //!
-//! `character` of `specs/Reading.antt` says what stands behind a backslash, and `char_named` and `char_numbered` of
-//! `specs/Spelling.antt` which names and numbers there are.
+//! `character` of `specs/Reading.antt` says what stands behind a backslash, and `char_named` and
+//! `char_numbered` of `specs/Spelling.antt` which names and numbers there are.
 
 ghost use Rattle.std.specs.Prelude.{◌≡◌, Some, None, IfOk, slice_index, if◌then◌else◌};
 ghost use Rattle.std.specs.Char.{digit_value};
@@ -13,7 +13,7 @@ ghost use Rattle.jh_edn.specs.Reading as reading;
 ghost use Rattle.jh_edn.specs.Spelling as spelling;
 ghost use Rattle.jh_edn.specs.View.{view};
 
-use crate::scan::run_len;
+use crate::scan::token_len;
 use crate::syntax_error::{Kind, ReadError, syntax_error_at};
 use crate::value::Value;
 
@@ -25,6 +25,7 @@ fn is_blank(c: char) -> bool
     matches!(c, ' ' | '\t'..='\r')
 }
 
+/// The character that has this name, if one has.
 #[tactic(auto, unfolding(crate::specs::Spelling::char_named))]
 fn named(name: &str) -> Option<char>
     ensures { result ≡ spelling.char_named name.now }
@@ -40,6 +41,7 @@ fn named(name: &str) -> Option<char>
     }
 }
 
+/// The value of a hexadecimal digit, where the byte is one.
 #[tactic(auto, unfolding(crate::specs::Bytes::is_hex))]
 fn hex_value(digit: u8) -> Option<u32>
     ensures { result ≡ (if is_hex digit then Some (digit_value digit) else None) }
@@ -63,17 +65,17 @@ fn numbered(name: &[u8]) -> Option<char>
 }
 
 /// A character by itself.
-#[tactic(auto, unfolding(crate::specs::Reading::alone))]
+#[tactic(auto, unfolding(crate::specs::Reading::lone_char))]
 fn alone(c: char) -> Option<char>
-    ensures { result ≡ reading.alone c }
+    ensures { result ≡ reading.lone_char c }
 {
     if is_blank(c) { None } else { Some(c) }
 }
 
 /// A character by its name or its number.
-#[tactic(auto, unfolding(crate::specs::Reading::called))]
+#[tactic(auto, unfolding(crate::specs::Reading::char_spelled))]
 fn called(name: &str) -> Option<char>
-    ensures { result ≡ reading.called name.now }
+    ensures { result ≡ reading.char_spelled name.now }
 {
     match named(name) {
         Some(c) => Some(c),
@@ -94,7 +96,7 @@ pub(crate) fn character(rest: &str) -> Result<(Value, &str), ReadError>
         return Err(syntax_error_at(Kind::UnexpectedEnd, ""));
     };
     let after = chars.as_str();
-    let len = run_len(after);
+    let len = token_len(after);
     let found = if len == 0 {
         alone(first)
     } else {

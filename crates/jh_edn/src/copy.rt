@@ -21,8 +21,8 @@ impl Text {
 }
 
 impl Value {
-    /// The same value once more: lists stay lists, and members stay in their order. Costs as much as
-    /// the value is large.
+    /// The same value once more: lists stay lists, and members stay in their order. Costs as much
+    /// as the value is large.
     ///
     /// # Errors
     ///
@@ -48,6 +48,7 @@ impl Value {
     }
 }
 
+/// The same elements once more.
 #[cycle(copy)]
 fn copy_items(alloc: Global, items: &Values) -> Result<Values, AllocError>
     ensures { IfOk result (λ copies. copies ≡ items.now) }
@@ -59,6 +60,7 @@ fn copy_items(alloc: Global, items: &Values) -> Result<Values, AllocError>
     Ok(Values::of(copies))
 }
 
+/// The same pairs once more.
 #[cycle(copy)]
 fn copy_pairs(alloc: Global, pairs: &Pairs) -> Result<Pairs, AllocError>
     ensures { IfOk result (λ copies. copies ≡ pairs.now) }
@@ -70,6 +72,7 @@ fn copy_pairs(alloc: Global, pairs: &Pairs) -> Result<Pairs, AllocError>
     Ok(Pairs::of(copies))
 }
 
+/// The same tagged element once more.
 #[cycle(copy)]
 fn copy_tagged(alloc: Global, tagged: &Tagged) -> Result<Tagged, AllocError>
     ensures { IfOk result (λ copy. copy ≡ tagged.now) }

@@ -1,21 +1,24 @@
 //! Reading one element, and the elements up to a closing bracket.
 //!
-//! `read` and `items` of `specs/Reading.antt` say what is read. A new kind of element is a new arm of `element`.
+//! `read` and `items` of `specs/Reading.antt` say what is read. A new kind of element is a new arm
+//! of `element`.
 
-ghost use Rattle.std.specs.Prelude.{◌≡◌, ◌+◌, ◌<◌, ◌^◌, suc, slice_index, drop, length, option_map, IfOk};
+ghost use Rattle.std.specs.Prelude.{◌≡◌, ◌+◌, ◌<◌, ◌^◌, suc, slice_index, drop, length, option_map};
+ghost use Rattle.std.specs.Prelude.{IfOk};
 ghost use Rattle.std.specs.Str.{IsUtf8, IsCharBoundary};
 ghost use Rattle.jh_edn.specs.Bytes.{IsAscii, hash};
 ghost use Rattle.jh_edn.specs.Gives.{Gives};
 ghost use Rattle.jh_edn.specs.Reading as reading;
-ghost use Rattle.jh_edn.specs.Reading.{read, gap, deeper, items, paired, pairs_of, unique};
-ghost use Rattle.jh_edn.specs.Sequences.{item};
+ghost use Rattle.jh_edn.specs.Reading.{read, gap, deeper_reads, items, map_or_error, pairs_of};
+ghost use Rattle.jh_edn.specs.Reading.{set_or_error};
+ghost use Rattle.jh_edn.specs.Sequences.{item_or_end};
 ghost use Rattle.jh_edn.specs.View.{view, views};
 
 use crate::atom::atom;
 use crate::character::character;
 use crate::name::is_tag;
 use crate::pairs::{make_pairs, repeats_element, repeats_key};
-use crate::scan::{after_blank, begins_discard, begins_set, is_run, run_len};
+use crate::scan::{after_blank, begins_discard, begins_set, is_token_byte, token_len};
 use crate::string::string;
 use crate::syntax_error::{Kind, ReadError, SyntaxError, syntax_error_at};
 use crate::text::Text;
@@ -28,7 +31,8 @@ const SET_LEN: usize = 2;
 /// How many bytes the mark of a discard takes.
 const DISCARD_LEN: usize = 2;
 
-/// For how many keys and values of a map there is room at first: enough for an operation of a history.
+/// For how many keys and values of a map there is room at first: enough for an operation of a
+/// history.
 const MAP_ROOM: usize = 16;
 
 /// An error at the closing bracket just before the text.
@@ -54,7 +58,7 @@ fn fitted(mut items: Vec<Value>) -> Values
 fn close_map(alloc: Global, items: Vec<Value>, after: &str) -> Result<(Value, &str), ReadError>
     requires { length after.now < 2 ^ 63 }
     ensures gives { Gives (λ x. (view x.0, x.1.now)) result
-        (paired (pairs_of (views items.items)) after.now) }
+        (map_or_error (pairs_of (views items.items)) after.now) }
     ensures text { IfOk result (λ x. IsUtf8 x.1.now) }
 {
     let Some(pairs) = make_pairs(alloc, items)? else {
@@ -69,7 +73,7 @@ fn close_map(alloc: Global, items: Vec<Value>, after: &str) -> Result<(Value, &s
 /// The set of these elements, with what follows it.
 fn close_set(alloc: Global, items: Values, after: &str) -> Result<(Value, &str), ReadError>
     requires { length after.now < 2 ^ 63 }
-    ensures gives { Gives (λ x. (view x.0, x.1.now)) result (unique items after.now) }
+    ensures gives { Gives (λ x. (view x.0, x.1.now)) result (set_or_error items after.now) }
     ensures text { IfOk result (λ x. IsUtf8 x.1.now) }
 {
     if repeats_element(alloc, &items)? {
@@ -108,17 +112,18 @@ pub(crate) fn element(alloc: Global, rest: &str, depth: usize) -> Result<(Value,
         }
         b'\\' => character(rest),
         b'#' => hashed(alloc, rest, depth),
-        first if is_run(first) => atom(alloc, rest),
+        first if is_token_byte(first) => atom(alloc, rest),
         _ => Err(syntax_error_at(Kind::BadToken, rest)),
     }
 }
 
 /// A set or a tagged element, from its `#` on.
 #[cycle(read)]
-#[tactic(auto, unfolding(crate::specs::Reading::hashed))]
+#[tactic(auto, unfolding(crate::specs::Reading::hash_element))]
 fn hashed(alloc: Global, rest: &str, depth: usize) -> Result<(Value, &str), ReadError>
     requires { slice_index rest.now 0 ≡ hash }
-    ensures gives { Gives (λ x. (view x.0, x.1.now)) result (reading.hashed (deeper depth) rest.now) }
+    ensures gives { Gives (λ x. (view x.0, x.1.now)) result
+        (reading.hash_element (deeper_reads depth) rest.now) }
     ensures text { IfOk result (λ x. IsUtf8 x.1.now) }
 {
     if begins_set(rest.as_bytes()) {
@@ -126,7 +131,7 @@ fn hashed(alloc: Global, rest: &str, depth: usize) -> Result<(Value, &str), Read
         return close_set(alloc, fitted(items), after);
     }
     let behind = &rest[1..];
-    let len = run_len(behind);
+    let len = token_len(behind);
     let tag = &behind[..len];
     if !is_tag(tag.as_bytes()) {
         return Err(syntax_error_at(Kind::BadToken, rest));
@@ -136,7 +141,8 @@ fn hashed(alloc: Global, rest: &str, depth: usize) -> Result<(Value, &str), Read
     Ok((Value::Tagged(Tagged::of(alloc, tag, value)?), after))
 }
 
-/// The elements behind an opening bracket of `front` bytes, up to the closing one, in a vector with `room` at first.
+/// The elements behind an opening bracket of `front` bytes, up to the closing one, in a vector with
+/// `room` at first.
 #[cycle(read)]
 fn elements_inside(
     alloc: Global,
@@ -149,7 +155,7 @@ fn elements_inside(
     requires ascii { IsAscii close }
     requires boundary { IsCharBoundary rest.now front }
     ensures gives { Gives (λ x. (views x.0.items, x.1.now)) result
-        ((deeper depth).elements close rest.now (drop front rest.now)) }
+        ((deeper_reads depth).elements close rest.now (drop front rest.now)) }
     ensures text { IfOk result (λ x. IsUtf8 x.1.now) }
 {
     if depth == 0 {
@@ -168,7 +174,7 @@ fn one_inside(
 ) -> Result<(Value, &str), ReadError>
     requires boundary { IsCharBoundary rest.now front }
     ensures gives { Gives (λ x. (view x.0, x.1.now)) result
-        ((deeper depth).one rest.now (drop front rest.now)) }
+        ((deeper_reads depth).one rest.now (drop front rest.now)) }
     ensures text { IfOk result (λ x. IsUtf8 x.1.now) }
 {
     if depth == 0 {
@@ -204,7 +210,8 @@ pub(crate) fn next_item(
     depth: usize,
 ) -> Result<(Option<Value>, &str), ReadError>
     requires { IsAscii close }
-    ensures gives { Gives (λ x. (option_map view x.0, x.1.now)) result (item close depth rest.now) }
+    ensures gives { Gives (λ x. (option_map view x.0, x.1.now)) result
+        (item_or_end close depth rest.now) }
     ensures text { IfOk result (λ x. IsUtf8 x.1.now) }
 {
     let here = after_gap(alloc, rest, depth)?;

@@ -1,8 +1,8 @@
 //! Why a text was refused, or a reader or writer failed.
 //!
-//! The texts are those that users see. `specs/Reading.antt` says which error a text has and at which line, and
-//! `specs/Refused.antt` which error `read_all` answers. A kind of error is added here, in `src/syntax_error.rt` and
-//! there.
+//! The texts are those that users see. `specs/Reading.antt` says which error a text has and at
+//! which line, and `specs/Refused.antt` which error `read_all` answers. A kind of error is added
+//! here, in `src/syntax_error.rt` and there.
 
 ghost use Rattle.std.specs.Prelude.{◌≡◌};
 ghost use Rattle.jh_edn.specs.declared.error.EdnError.TheVariants.{OutOfMemory};
@@ -12,14 +12,15 @@ use crate::syntax_error::Kind;
 use std::alloc::{AllocError, AllocFailed};
 use thiserror::Error;
 
-/// Why a text was refused, with the line (from 1) of the character that decided against it, or what else failed.
+/// Why a text was refused, with the line (from 1) of the character that decided against it, or what
+/// else failed.
 #[derive(Clone, Copy, Debug, PartialEq, Eq, Error)]
 pub enum EdnError {
     /// The text ends inside a string, a collection, a tag or a discard, or behind a last backslash.
     #[error("line {0}: unexpected end")]
     UnexpectedEnd(u64),
-    /// A run that is no element, a character or a tag that there is not, or a delimiter that opens nothing and closes
-    /// nothing here.
+    /// A token that is no element, a character or a tag that there is not, or a delimiter that
+    /// opens nothing and closes nothing here.
     #[error("line {0}: bad token")]
     BadToken(u64),
     /// A number with a fraction, an exponent or an `M`.

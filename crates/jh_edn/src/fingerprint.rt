@@ -1,7 +1,8 @@
-//! A number for a value, the same for equal values, so that most values are told apart without their keys.
+//! A number for a value, the same for equal values, so that most values are told apart without
+//! their keys.
 //!
-//! `fingerprint` of `specs/Fingerprint.antt` is the number. Another way to mix numbers may take the place of `mix`,
-//! in both files: no proof looks into it.
+//! `fingerprint` of `specs/Fingerprint.antt` is the number. Another way to mix numbers may take the
+//! place of `mix`, in both files: no proof looks into it.
 
 ghost use Rattle.std.specs.Prelude.{◌≡◌, ◌%◌, ◌^◌};
 ghost use Rattle.jh_edn.specs.Edn.{items_of, members_of};
@@ -25,10 +26,10 @@ const FNV_PRIME: u64 = 0x0100_0000_01b3;
 
 /// Two numbers made one.
 #[tactic(auto, unfolding(crate::specs::Fingerprint::mix))]
-fn mix(seed: u64, word: u64) -> u64
-    ensures { result ≡ number.mix seed word }
+fn mix(seed: u64, added: u64) -> u64
+    ensures { result ≡ number.mix seed added }
 {
-    let spread = seed.wrapping_add(word.wrapping_mul(SPREAD));
+    let spread = seed.wrapping_add(added.wrapping_mul(SPREAD));
     let folded = (spread ^ (spread >> 32)).wrapping_mul(SPREAD_AGAIN);
     folded ^ (folded >> 29)
 }
@@ -46,8 +47,8 @@ fn text_number(text: &str) -> u64
 }
 
 impl Value {
-    /// A number of 64 bits, the same for equal values by `equality_laws`, for hash tables. Values that differ may
-    /// share one.
+    /// A number of 64 bits, the same for equal values by `equality_laws`, for hash tables. Values
+    /// that differ may share one.
     ///
     /// Takes no memory, and time in proportion to the value.
     pub fn fingerprint(&self) -> u64
@@ -89,7 +90,7 @@ fn content(value: &Value) -> u64
 /// The number of a sequence of these elements, the first one first.
 #[cycle(fingerprint)]
 fn in_turn(items: &Values) -> u64
-    ensures { result ≡ number.in_turn 0 (items_of items.now) }
+    ensures { result ≡ number.items_number 0 (items_of items.now) }
 {
     let mut number = 0;
     for item in &items.items {

@@ -16,9 +16,9 @@ use crate::value::{Pairs, Value, Values};
 use std::cmp::Ordering;
 
 impl Value {
-    /// Whether the value is in normal form and what `write` prints of it is read back: it has no list,
-    /// the keys of its maps and the elements of its sets ascend strictly, its names are names, and
-    /// collections and tags are nested at most 64 deep.
+    /// Whether the value is in normal form and what `write` prints of it is read back: it has no
+    /// list, the keys of its maps and the elements of its sets ascend strictly, its names are
+    /// names, and collections and tags are nested at most 64 deep.
     ///
     /// Takes no memory, and time linear in the value.
     pub fn is_normal(&self) -> bool
@@ -53,6 +53,7 @@ fn is_normal_within(value: &Value, depth: usize) -> bool
     }
 }
 
+/// Whether each element is in normal form, with collections and tags nested at most that deep.
 #[cycle(is_normal)]
 fn are_normal_within(items: &Values, depth: usize) -> bool
     ensures { result ≡ normal.are_normal_within depth (items_of items.now) }
@@ -65,9 +66,11 @@ fn are_normal_within(items: &Values, depth: usize) -> bool
     true
 }
 
+/// Whether each key and each value is in normal form, with collections and tags nested at most that
+/// deep.
 #[cycle(is_normal)]
 fn pairs_normal_within(pairs: &Pairs, depth: usize) -> bool
-    ensures { result ≡ normal.pairs_normal_within depth (members_of pairs.now) }
+    ensures { result ≡ normal.are_normal_pairs_within depth (members_of pairs.now) }
 {
     for pair in &pairs.items {
         if !is_normal_within(&pair.0, depth) || !is_normal_within(&pair.1, depth) {

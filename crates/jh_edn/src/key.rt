@@ -1,11 +1,12 @@
 //! A key for a value: a list of parts, the same exactly for equal values.
 //!
-//! `key_of` of `specs/Key.antt` is the list. A part refers to the text of its value, so no text is copied.
+//! `key_of` of `specs/Key.antt` is the list. A part refers to the text of its value, so no text is
+//! copied.
 
-ghost use Rattle.std.specs.Prelude.{◌≡◌, [], ◌∷◌, ◌++◌, IfOk, OnOk, map};
+ghost use Rattle.std.specs.Prelude.{◌≡◌, [], ◌∷◌, ◌++◌, IfOk, OnOk};
 ghost use Rattle.jh_edn.specs.Edn.{vector, items_of, members_of};
 ghost use Rattle.jh_edn.specs.Key as keys;
-ghost use Rattle.jh_edn.specs.Key.{is_key_below, parts_of, keys_in};
+ghost use Rattle.jh_edn.specs.Key.{is_key_below, key_parts, keys_in};
 ghost use Rattle.jh_edn.specs.Order.{in_order};
 ghost use Rattle.jh_edn.specs.View.{view};
 
@@ -42,8 +43,9 @@ pub(crate) struct Part<'a> {
 }
 
 impl<'a> Part<'a> {
+    /// A part that is a mark alone.
     fn bare(mark: Mark) -> Part<'a>
-        ensures { keys.seen result ≡ keys.bare mark }
+        ensures { keys.key_part result ≡ keys.bare_part mark }
     {
         Part {
             mark,
@@ -52,8 +54,9 @@ impl<'a> Part<'a> {
         }
     }
 
+    /// A part of a mark and a number.
     fn numbered(mark: Mark, number: i64) -> Part<'a>
-        ensures { keys.seen result ≡ keys.numbered mark number }
+        ensures { keys.key_part result ≡ keys.numbered_part mark number }
     {
         Part {
             mark,
@@ -62,8 +65,9 @@ impl<'a> Part<'a> {
         }
     }
 
+    /// A part of a mark and a text.
     fn texted(mark: Mark, text: &'a str) -> Part<'a>
-        ensures { keys.seen result ≡ keys.texted mark text.now }
+        ensures { keys.key_part result ≡ keys.text_part mark text.now }
     {
         Part {
             mark,
@@ -73,8 +77,10 @@ impl<'a> Part<'a> {
     }
 }
 
+/// Appends a part.
 fn push<'a>(part: Part<'a>, key: &mut Vec<Part<'a>>) -> Result<(), AllocError>
-    ensures { OnOk result (parts_of key.new.items ≡ parts_of key.old.items ++ keys.seen part.entry ∷ []) }
+    ensures { OnOk result
+        (key_parts key.new.items ≡ key_parts key.old.items ++ keys.key_part part.entry ∷ []) }
 {
     key.push(part)?;
     Ok(())
@@ -83,7 +89,7 @@ fn push<'a>(part: Part<'a>, key: &mut Vec<Part<'a>>) -> Result<(), AllocError>
 /// Appends the keys, each led by a mark, and an end.
 fn push_marked<'a>(codes: &[Vec<Part<'a>>], key: &mut Vec<Part<'a>>) -> Result<(), AllocError>
     ensures { OnOk result
-        (parts_of key.new.items ≡ parts_of key.old.items ++ keys.marked_keys (keys_in codes.now)) }
+        (key_parts key.new.items ≡ key_parts key.old.items ++ keys.marked_keys (keys_in codes.now)) }
 {
     for code in codes {
         push(Part::bare(Mark::More), key)?;
@@ -94,8 +100,9 @@ fn push_marked<'a>(codes: &[Vec<Part<'a>>], key: &mut Vec<Part<'a>>) -> Result<(
 
 /// Appends the keys in ascending order, each led by a mark, and an end.
 fn push_sorted<'a>(mut codes: Vec<Vec<Part<'a>>>, key: &mut Vec<Part<'a>>) -> Result<(), AllocError>
-    ensures { OnOk result (parts_of key.new.items
-        ≡ parts_of key.old.items ++ keys.marked_keys (in_order is_key_below (keys_in codes.entry.items))) }
+    ensures { OnOk result (key_parts key.new.items
+        ≡ key_parts key.old.items
+        ++ keys.marked_keys (in_order is_key_below (keys_in codes.entry.items))) }
 {
     codes.sort()?;
     push_marked(&codes, key)
@@ -108,7 +115,8 @@ pub(crate) fn push_key<'a>(
     value: &'a Value,
     key: &mut Vec<Part<'a>>,
 ) -> Result<(), AllocError>
-    ensures { OnOk result (parts_of key.new.items ≡ parts_of key.old.items ++ keys.key_of (view value.now)) }
+    ensures { OnOk result
+        (key_parts key.new.items ≡ key_parts key.old.items ++ keys.key_of (view value.now)) }
 {
     match value {
         Value::Nil => push(Part::bare(Mark::Nil), key),
@@ -142,8 +150,8 @@ fn push_items<'a>(
     items: &'a Values,
     key: &mut Vec<Part<'a>>,
 ) -> Result<(), AllocError>
-    ensures { OnOk result (parts_of key.new.items
-        ≡ parts_of key.old.items ++ keys.key_of (vector (items_of items.now))) }
+    ensures { OnOk result (key_parts key.new.items
+        ≡ key_parts key.old.items ++ keys.key_of (vector (items_of items.now))) }
 {
     push(Part::bare(Mark::Sequence), key)?;
     for item in &items.items {

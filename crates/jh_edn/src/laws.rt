@@ -25,27 +25,31 @@ pub fn equality_laws()
     ensures numbered { (x y : Edn) → Equals x y → fingerprint x ≡ fingerprint y }
 {}
 
-/// Every value has a normal form, equal ones that can be printed have one, and what is in normal form is printed so that it is
-/// read back.
+/// Every value has a normal form, equal ones that can be printed have one, and what is in normal
+/// form is printed so that it is read back.
 pub fn normal_laws()
     ensures keeps { (x : Edn) → Equals x (normal x) }
     ensures normal { (x : Edn) → IsPrintable depth_limit x → IsTrue (is_normal (normal x)) }
     ensures printable { (x : Edn) → IsTrue (is_normal x) → IsPrintable depth_limit x }
-    ensures one { (x y : Edn) → IsPrintable depth_limit x → IsPrintable depth_limit y → Equals x y → normal x ≡ normal y }
+    ensures one { (x y : Edn) → IsPrintable depth_limit x → IsPrintable depth_limit y → Equals x y
+        → normal x ≡ normal y }
 {}
 
-/// The order of values is total, values that rank equal are equal, and of values in normal form only one ranks equal to
-/// itself.
+/// The order of values is total, values that rank equal are equal, and of values in normal form
+/// only one ranks equal to itself.
 pub fn order_laws()
     ensures total { IsTotalOrder edn_cmp }
     ensures tied { (x y : Edn) → edn_cmp x y ≡ Equal → Equals x y }
-    ensures exact { (x y : Edn) → IsTrue (is_normal x) → IsTrue (is_normal y) → edn_cmp x y ≡ Equal → x ≡ y }
+    ensures exact { (x y : Edn) → IsTrue (is_normal x) → IsTrue (is_normal y) → edn_cmp x y ≡ Equal
+        → x ≡ y }
 {}
 
-/// What is printed of a value that can be printed spells that value and no other, and what a text spells can be printed.
+/// What is printed of a value that can be printed spells that value and no other, and what a text
+/// spells can be printed.
 pub fn print_laws()
     ensures spells { (x : Edn) → IsPrintable depth_limit x → SpellsAll (x ∷ []) (print x) }
     ensures alone { (x : Edn) (ys : List Edn) → IsPrintable depth_limit x → SpellsAll ys (print x)
         → ys ≡ x ∷ [] }
-    ensures spelled { (text : List ℕ) (xs : List Edn) → SpellsAll xs text → All (IsPrintable depth_limit) xs }
+    ensures spelled { (text : List ℕ) (xs : List Edn) → SpellsAll xs text
+        → All (IsPrintable depth_limit) xs }
 {}

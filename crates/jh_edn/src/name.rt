@@ -9,11 +9,13 @@ ghost use Rattle.jh_edn.specs.Spelling as spelling;
 
 use crate::scan::{is_digit, is_first, is_letter, is_symbol};
 
-/// How many slashes a name has whose characters are all those of symbols, or `None` where one is not.
+/// How many slashes a name has whose characters are all those of symbols, or `None` where one is
+/// not.
 fn count_slashes(name: &[u8]) -> Option<usize>
     ensures { MatchOption result
         (list_all bytes.is_symbol name.now ≡ false)
-        (λ n. (list_all bytes.is_symbol name.now ≡ true) × (n ≡ count_by (λ c. c == bytes.slash) name.now)) }
+        (λ n. (list_all bytes.is_symbol name.now ≡ true)
+        × (n ≡ count_by (λ c. c == bytes.slash) name.now)) }
 {
     let mut count = 0;
     for b in name {
@@ -41,9 +43,10 @@ pub(crate) fn is_name(name: &[u8]) -> bool
     is_first(*first) && slashes < 2 && name[name.len() - 1] != b'/'
 }
 
-#[tactic(auto, unfolding(crate::specs::Spelling::is_word))]
-fn is_word(name: &[u8]) -> bool
-    ensures { result ≡ spelling.is_word name.now }
+/// Whether the name is a value of its own: `nil`, `true` or `false`.
+#[tactic(auto, unfolding(crate::specs::Spelling::is_constant))]
+fn is_constant(name: &[u8]) -> bool
+    ensures { result ≡ spelling.is_constant name.now }
 {
     matches!(name, b"nil" | b"true" | b"false")
 }
@@ -60,13 +63,15 @@ fn looks_numeric(name: &[u8]) -> bool
     }
 }
 
+/// Whether a symbol may have this name.
 #[tactic(auto, unfolding(crate::specs::Spelling::is_symbol_name))]
 pub(crate) fn is_symbol_name(name: &[u8]) -> bool
     ensures { result ≡ spelling.is_symbol_name name.now }
 {
-    matches!(name, b"/") || (is_name(name) && !looks_numeric(name) && !is_word(name))
+    matches!(name, b"/") || (is_name(name) && !looks_numeric(name) && !is_constant(name))
 }
 
+/// Whether this may be a tag, without its `#`.
 #[tactic(auto, unfolding(crate::specs::Spelling::is_tag, crate::specs::Bytes::is_letter))]
 pub(crate) fn is_tag(name: &[u8]) -> bool
     ensures { result ≡ spelling.is_tag name.now }

@@ -20,9 +20,9 @@ fn compare_keys(a: &(Value, Value), b: &(Value, Value)) -> Ordering
 }
 
 impl Value {
-    /// The value in normal form: lists as vectors, the pairs of maps in the order of their keys and the
-    /// elements of sets in their own, all from the inside out. Pairs with equal keys, which only a value
-    /// made by hand can have, keep their order.
+    /// The value in normal form: lists as vectors, the pairs of maps in the order of their keys and
+    /// the elements of sets in their own, all from the inside out. Pairs with equal keys, which
+    /// only a value made by hand can have, keep their order.
     ///
     /// Takes n log n comparisons for a map of n pairs or a set of n elements.
     ///

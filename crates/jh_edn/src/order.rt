@@ -33,7 +33,8 @@ pub(crate) fn kind_of(value: &Value) -> u8
 
 impl Value {
     /// Which of two values comes first: nil, booleans, integers, characters, strings, keywords,
-    /// symbols, sequences, maps, sets, tagged values; within a kind by what they hold, as they hold it.
+    /// symbols, sequences, maps, sets, tagged values; within a kind by what they hold, as they hold
+    /// it.
     ///
     /// Takes no memory, and time linear in the smaller of the two. Of two values in normal form it
     /// says `Equal` only where they are one.

@@ -1,11 +1,12 @@
 //! A map's elements as pairs, and whether two keys are equal.
 //!
-//! Keys whose fingerprints differ are not equal. Only where two fingerprints agree are the keys compared.
+//! Keys whose fingerprints differ are not equal. Only where two fingerprints agree are the keys
+//! compared.
 
 ghost use Rattle.std.specs.Prelude.{◌≡◌, IfOk, map};
 ghost use Rattle.std.specs.Bool.{MatchBool};
 ghost use Rattle.std.specs.List.Sorted.{IsStrictlyIncreasing};
-ghost use Rattle.jh_edn.specs.Fingerprint.{EachOnce, fingerprint, fingerprints};
+ghost use Rattle.jh_edn.specs.Fingerprint.{StandOnce, fingerprint, fingerprints};
 ghost use Rattle.jh_edn.specs.Key as key;
 ghost use Rattle.jh_edn.specs.Key.{keys_in};
 ghost use Rattle.jh_edn.specs.Reading as reading;
@@ -52,7 +53,8 @@ fn has_twice(alloc: Global, keys: &[Vec<Part<'_>>]) -> Result<bool, AllocError>
 
 /// Whether each number is above the one before it.
 fn ascend(numbers: &[u64]) -> bool
-    ensures { MatchBool result (IsStrictlyIncreasing numbers.now) (IsStrictlyIncreasing numbers.now → ⊥) }
+    ensures { MatchBool result (IsStrictlyIncreasing numbers.now)
+        (IsStrictlyIncreasing numbers.now → ⊥) }
 {
     let mut at = 1;
     while at < numbers.len() {
@@ -66,7 +68,7 @@ fn ascend(numbers: &[u64]) -> bool
 
 /// Whether no number stands twice. Sorts the numbers.
 fn each_once(numbers: &mut [u64]) -> bool
-    ensures { MatchBool result (EachOnce numbers.old) (EachOnce numbers.old → ⊥) }
+    ensures { MatchBool result (StandOnce numbers.old) (StandOnce numbers.old → ⊥) }
 {
     numbers.sort_unstable();
     ascend(numbers)
@@ -107,8 +109,8 @@ fn map_keys(alloc: Global, pairs: &Pairs) -> Result<Vec<Vec<Part<'_>>>, AllocErr
     Ok(keys)
 }
 
-/// Whether two keys of the map are equal. Takes n log n comparisons in a map of n pairs: of numbers, and of keys only
-/// where two fingerprints agree.
+/// Whether two keys of the map are equal. Takes n log n comparisons in a map of n pairs: of
+/// numbers, and of keys only where two fingerprints agree.
 #[tactic(auto, unfolding(crate::specs::Reading::repeats_key))]
 pub(crate) fn repeats_key(alloc: Global, pairs: &Pairs) -> Result<bool, AllocError>
     ensures { IfOk result (λ b. b ≡ reading.repeats_key pairs.now) }
@@ -120,8 +122,8 @@ pub(crate) fn repeats_key(alloc: Global, pairs: &Pairs) -> Result<bool, AllocErr
     has_twice(alloc, &map_keys(alloc, pairs)?)
 }
 
-/// Whether two elements of the set are equal. Takes n log n comparisons in a set of n elements: of numbers, and of
-/// keys only where two fingerprints agree.
+/// Whether two elements of the set are equal. Takes n log n comparisons in a set of n elements: of
+/// numbers, and of keys only where two fingerprints agree.
 #[tactic(auto, unfolding(crate::specs::Reading::repeats_element))]
 pub(crate) fn repeats_element(alloc: Global, items: &Values) -> Result<bool, AllocError>
     ensures { IfOk result (λ b. b ≡ reading.repeats_element items.now) }

@@ -1,12 +1,12 @@
 //! Reading the next element of a text.
 //!
-//! `Reads` of `specs/Spelling.antt` says what an element is, `FirstError` of `specs/Reading.antt` which error
-//! a refused text has.
+//! `Reads` of `specs/Spelling.antt` says what an element is, `IsFirstErrorAt` of
+//! `specs/Reading.antt` which error a refused text has.
 
 ghost use Rattle.std.specs.Prelude.{◌≡◌, ◌⊎◌, ◌<◌, drop, IfOk, IfErr, IfSome, IfNone};
 ghost use Rattle.std.specs.Str.{IsCharBoundary};
 ghost use Rattle.jh_edn.specs.Reading as reading;
-ghost use Rattle.jh_edn.specs.Reading.{line_at, FirstError};
+ghost use Rattle.jh_edn.specs.Reading.{line_at, IsFirstErrorAt};
 ghost use Rattle.jh_edn.specs.Spelling.{IsGap, Reads, NothingReads};
 ghost use Rattle.jh_edn.specs.View.{view};
 
@@ -43,23 +43,24 @@ pub(crate) fn error_in(text: &str, error: ReadError) -> EdnError
     }
 }
 
-/// The element that begins behind the gap at `at`, and the place after it, both in bytes. `None` where only a gap
-/// is left.
+/// The element that begins behind the gap at `at`, and the place after it, both in bytes. `None`
+/// where only a gap is left.
 ///
-/// Takes time in proportion to the text read, but for keys of maps and elements of sets: n of them take n log n
-/// comparisons.
+/// Takes time in proportion to the text read, but for keys of maps and elements of sets: n of them
+/// take n log n comparisons.
 ///
 /// # Errors
 ///
-/// The error whose deciding character comes first, with its line in the whole text; `OutOfMemory` where memory for a
-/// value or its keys was refused before that.
+/// The error whose deciding character comes first, with its line in the whole text; `OutOfMemory`
+/// where memory for a value or its keys was refused before that.
 pub fn read_one(alloc: Global, text: &str, at: usize) -> Result<Option<(Value, usize)>, EdnError>
     requires { IsCharBoundary text.now at }
     ensures some { IfOk result (λ o. IfSome o (λ p. Reads text.now at (view p.0) p.1)) }
     ensures place { IfOk result (λ o. IfSome o (λ p. (at < p.1) × IsCharBoundary text.now p.1)) }
     ensures none { IfOk result (λ o. IfNone o (IsGap (drop at text.now))) }
     ensures refused { IfErr result (λ e. (e ≡ EdnError.OutOfMemory) ⊎ NothingReads text.now at) }
-    ensures first_error { IfErr result (λ e. (e ≡ EdnError.OutOfMemory) ⊎ FirstError text.now at e) }
+    ensures first_error { IfErr result
+        (λ e. (e ≡ EdnError.OutOfMemory) ⊎ IsFirstErrorAt text.now at e) }
 {
     let here = match after_gap(alloc, &text[at..], DEPTH_LIMIT) {
         Ok(here) => here,

@@ -5,9 +5,10 @@
 ghost use Rattle.std.specs.Prelude.{◌≡◌, ◌≤◌, ◌<◌, drop, length, slice_index, ◌==◌, IfSome};
 ghost use Rattle.std.specs.Str.{IsCharBoundary};
 ghost use Rattle.jh_edn.specs.Bytes as bytes;
-ghost use Rattle.jh_edn.specs.Bytes.{IsAscii, leading, escaped};
+ghost use Rattle.jh_edn.specs.Bytes.{IsAscii, leading_len, escaped_byte};
 ghost use Rattle.jh_edn.specs.Reading as reading;
 
+/// White space, with the comma.
 #[tactic(auto, unfolding(crate::specs::Bytes::is_space))]
 fn is_space(b: u8) -> bool
     ensures { result ≡ bytes.is_space b }
@@ -15,6 +16,7 @@ fn is_space(b: u8) -> bool
     matches!(b, b' ' | b',' | b'\t'..=b'\r')
 }
 
+/// A byte other than white space that ends a token.
 #[tactic(auto, unfolding(crate::specs::Bytes::is_delimiter))]
 fn is_delimiter(b: u8) -> bool
     ensures { result ≡ bytes.is_delimiter b }
@@ -25,14 +27,15 @@ fn is_delimiter(b: u8) -> bool
     )
 }
 
-/// A byte of a run. Most are letters and digits, for which the first test is enough.
-#[tactic(auto, using(crate::proofs::Lists::letter_run), unfolding(crate::specs::Bytes::is_run))]
-pub(crate) fn is_run(b: u8) -> bool
-    ensures { result ≡ bytes.is_run b }
+/// A byte of a token. Most are letters and digits, for which the first test is enough.
+#[tactic(auto, using(crate::proofs::TextFrontLemmas::letter_token), unfolding(crate::specs::Bytes::is_token_byte))]
+pub(crate) fn is_token_byte(b: u8) -> bool
+    ensures { result ≡ bytes.is_token_byte b }
 {
     matches!(b, b'a'..=b'z' | b'0'..=b'9') || (!is_space(b) && !is_delimiter(b))
 }
 
+/// A byte that stands for itself in a string.
 #[tactic(auto, unfolding(crate::specs::Bytes::is_plain))]
 fn is_plain(b: u8) -> bool
     ensures { result ≡ bytes.is_plain b }
@@ -40,6 +43,7 @@ fn is_plain(b: u8) -> bool
     b != b'"' && b != b'\\'
 }
 
+/// A decimal digit.
 #[tactic(auto, unfolding(crate::specs::Bytes::is_digit))]
 pub(crate) fn is_digit(b: u8) -> bool
     ensures { result ≡ bytes.is_digit b }
@@ -79,6 +83,7 @@ pub(crate) fn is_symbol(b: u8) -> bool
     )
 }
 
+/// An ASCII letter.
 #[tactic(auto, unfolding(crate::specs::Bytes::is_letter))]
 pub(crate) fn is_letter(b: u8) -> bool
     ensures { result ≡ bytes.is_letter b }
@@ -86,6 +91,7 @@ pub(crate) fn is_letter(b: u8) -> bool
     matches!(b, b'A'..=b'Z' | b'a'..=b'z')
 }
 
+/// A byte that a name may begin with.
 #[tactic(auto, unfolding(crate::specs::Bytes::is_first))]
 pub(crate) fn is_first(b: u8) -> bool
     ensures { result ≡ bytes.is_first b }
@@ -94,9 +100,9 @@ pub(crate) fn is_first(b: u8) -> bool
 }
 
 /// What the byte after a backslash stands for.
-#[tactic(auto, unfolding(crate::specs::Bytes::escaped))]
+#[tactic(auto, unfolding(crate::specs::Bytes::escaped_byte))]
 pub(crate) fn unescape(b: u8) -> Option<char>
-    ensures value { result ≡ escaped b }
+    ensures value { result ≡ escaped_byte b }
     ensures ascii { IfSome result (λ c. IsAscii c × IsAscii b) }
 {
     match b {
@@ -113,7 +119,7 @@ pub(crate) fn unescape(b: u8) -> Option<char>
 
 /// How many bytes of white space and comments the text begins with.
 fn blank_len(rest: &str) -> usize
-    ensures rest { drop result rest.now ≡ reading.after_blank rest.now }
+    ensures rest { drop result rest.now ≡ reading.text_after_blank rest.now }
     ensures boundary { IsCharBoundary rest.now result }
 {
     let mut in_comment = false;
@@ -131,15 +137,15 @@ fn blank_len(rest: &str) -> usize
     len
 }
 
-/// How many bytes of a run the text begins with.
-#[tactic(auto, using(crate::proofs::Lists::run_stops))]
-pub(crate) fn run_len(rest: &str) -> usize
-    ensures len { result ≡ leading bytes.is_run rest.now }
+/// How many bytes of a token the text begins with.
+#[tactic(auto, using(crate::proofs::TextFrontLemmas::token_stops))]
+pub(crate) fn token_len(rest: &str) -> usize
+    ensures len { result ≡ leading_len bytes.is_token_byte rest.now }
     ensures boundary { IsCharBoundary rest.now result }
 {
     let mut len = 0;
     for b in rest.as_bytes() {
-        if !is_run(*b) {
+        if !is_token_byte(*b) {
             return len;
         }
         len += 1;
@@ -148,9 +154,9 @@ pub(crate) fn run_len(rest: &str) -> usize
 }
 
 /// How many bytes the text begins with that stand for themselves in a string.
-#[tactic(auto, using(crate::proofs::Lists::plain_stops))]
+#[tactic(auto, using(crate::proofs::TextFrontLemmas::plain_stops))]
 pub(crate) fn plain_len(rest: &str) -> usize
-    ensures len { result ≡ leading bytes.is_plain rest.now }
+    ensures len { result ≡ leading_len bytes.is_plain rest.now }
     ensures boundary { IsCharBoundary rest.now result }
 {
     let mut len = 0;
@@ -164,12 +170,12 @@ pub(crate) fn plain_len(rest: &str) -> usize
 }
 
 /// How many digits the bytes begin with.
-pub(crate) fn digits_len(run: &[u8]) -> usize
-    ensures len { result ≡ leading bytes.is_digit run.now }
-    ensures within { result ≤ length run.now }
+pub(crate) fn digits_len(token: &[u8]) -> usize
+    ensures len { result ≡ leading_len bytes.is_digit token.now }
+    ensures within { result ≤ length token.now }
 {
     let mut len = 0;
-    for b in run {
+    for b in token {
         if !is_digit(*b) {
             return len;
         }
@@ -180,12 +186,13 @@ pub(crate) fn digits_len(run: &[u8]) -> usize
 
 /// The text after the white space and the comments that it begins with.
 pub(crate) fn after_blank(rest: &str) -> &str
-    ensures { result.now ≡ reading.after_blank rest.now }
+    ensures { result.now ≡ reading.text_after_blank rest.now }
 {
     let len = blank_len(rest);
     &rest[len..]
 }
 
+/// Whether the text begins with the `#_` of a discard.
 #[tactic(auto, unfolding(crate::specs::Bytes::begins_discard))]
 pub(crate) fn begins_discard(rest: &str) -> bool
     ensures { result ≡ bytes.begins_discard rest.now }
@@ -193,6 +200,7 @@ pub(crate) fn begins_discard(rest: &str) -> bool
     matches!(rest.as_bytes(), [b'#', b'_', ..])
 }
 
+/// Whether a set begins here, where a `#` stands first.
 pub(crate) fn begins_set(rest: &[u8]) -> bool
     ensures { result ≡ (slice_index rest.now 1 == bytes.open_brace) }
 {

@@ -1,13 +1,16 @@
-//! Reading a list or a vector element by element, so that its elements never stand beside one another.
+//! Reading a list or a vector element by element, so that its elements never stand beside one
+//! another.
 //!
-//! `Reads` of `specs/Spelling.antt` says what is read, and `specs/Sequences.antt` what is taken of it.
+//! `Reads` of `specs/Spelling.antt` says what is read, and `specs/Sequences.antt` what is taken of
+//! it.
 
-ghost use Rattle.std.specs.Prelude.{◌≡◌, ◌⊎◌, ◌∷◌, [], ◌<◌, List, Ok, IfOk, IfErr, IfSome, IfNone, OnOk};
+ghost use Rattle.std.specs.Prelude.{◌≡◌, ◌⊎◌, ◌∷◌, [], ◌<◌, List, Ok, IfOk, IfErr, IfSome, IfNone};
+ghost use Rattle.std.specs.Prelude.{OnOk};
 ghost use Rattle.std.specs.Str.{IsUtf8, IsCharBoundary};
 ghost use Rattle.jh_edn.specs.Bytes.{IsAscii};
 ghost use Rattle.jh_edn.specs.Edn.{Edn};
 ghost use Rattle.jh_edn.specs.Gives.{Fails};
-ghost use Rattle.jh_edn.specs.Reading.{FirstError};
+ghost use Rattle.jh_edn.specs.Reading.{IsFirstErrorAt};
 ghost use Rattle.jh_edn.specs.Sequences as sequences;
 ghost use Rattle.jh_edn.specs.Sequences.{elements_to, Takes, TakesSequence, ReadsNoSequence};
 ghost use Rattle.jh_edn.specs.Spelling.{NothingReads};
@@ -33,7 +36,7 @@ pub trait Sink {
 
 /// The bracket that closes the list or the vector that the text begins with.
 fn closing(rest: &str) -> Option<u8>
-    ensures { result ≡ sequences.closing rest.now }
+    ensures { result ≡ sequences.closing_bracket rest.now }
 {
     match rest.as_bytes() {
         [b'(', ..] => Some(b')'),
@@ -67,16 +70,18 @@ fn give_elements<'a, S: Sink>(
     }
 }
 
-/// Reads the list or the vector that begins behind the gap at `at`, and gives the sink each of its elements as soon as it
-/// is read. Answers the place after its closing bracket, in bytes. `None`, and the sink is left alone, where no list and
-/// no vector begins, but something else, also a tag before one, or where only a gap is left.
+/// Reads the list or the vector that begins behind the gap at `at`, and gives the sink each of its
+/// elements as soon as it is read. Answers the place after its closing bracket, in bytes. `None`,
+/// and the sink is left alone, where no list and no vector begins, but something else, also a tag
+/// before one, or where only a gap is left.
 ///
 /// Takes the time that `read_one` takes, and the memory of one element at a time.
 ///
 /// # Errors
 ///
-/// The error whose deciding character comes first, with its line in the whole text; `OutOfMemory` where memory for an
-/// element, or for the sink, was refused before that. The sink may have taken elements before.
+/// The error whose deciding character comes first, with its line in the whole text; `OutOfMemory`
+/// where memory for an element, or for the sink, was refused before that. The sink may have taken
+/// elements before.
 pub fn read_sequence<S: Sink>(
     alloc: Global,
     text: &str,
@@ -90,7 +95,8 @@ pub fn read_sequence<S: Sink>(
     ensures none { IfOk result (λ o. IfNone o (ReadsNoSequence text.now at)) }
     ensures unchanged { IfOk result (λ o. IfNone o (sink.new ≡ sink.old)) }
     ensures refused { IfErr result (λ e. (e ≡ EdnError.OutOfMemory) ⊎ NothingReads text.now at) }
-    ensures first_error { IfErr result (λ e. (e ≡ EdnError.OutOfMemory) ⊎ FirstError text.now at e) }
+    ensures first_error { IfErr result
+        (λ e. (e ≡ EdnError.OutOfMemory) ⊎ IsFirstErrorAt text.now at e) }
 {
     let here = match after_gap(alloc, &text[at..], DEPTH_LIMIT) {
         Ok(here) => here,

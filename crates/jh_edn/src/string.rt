@@ -4,8 +4,8 @@
 
 ghost use Rattle.std.specs.Prelude.{◌≡◌, IfOk};
 ghost use Rattle.std.specs.Str.{IsUtf8};
-ghost use Rattle.jh_edn.specs.Bytes.{leading, is_plain};
-ghost use Rattle.jh_edn.specs.Gives.{Gives, at_stop, IsShorter};
+ghost use Rattle.jh_edn.specs.Bytes.{leading_len, is_plain};
+ghost use Rattle.jh_edn.specs.Gives.{Gives, rest_at_stop, IsShorter};
 ghost use Rattle.jh_edn.specs.Reading.{body};
 
 use crate::scan::{plain_len, unescape};
@@ -22,10 +22,11 @@ enum Stop<'a> {
     BadEscape,
 }
 
-#[tactic(auto, using(crate::proofs::Bodies::escape_ascii), unfolding(crate::specs::Reading::body))]
+/// The stop that the text begins with.
+#[tactic(auto, using(crate::proofs::StringBodyLemmas::escape_ascii), unfolding(crate::specs::Reading::body))]
 fn stop_at(rest: &str) -> Stop<'_>
-    requires { leading is_plain rest.now ≡ 0 }
-    ensures gives { body rest.now ≡ at_stop result rest.now }
+    requires { leading_len is_plain rest.now ≡ 0 }
+    ensures gives { body rest.now ≡ rest_at_stop result rest.now }
     ensures shorter { IsShorter result rest.now }
 {
     let bytes = rest.as_bytes();
@@ -44,7 +45,8 @@ fn stop_at(rest: &str) -> Stop<'_>
     }
 }
 
-/// What follows a string's opening quote, up to its end. Most strings have no escape, and are taken as they stand.
+/// What follows a string's opening quote, up to its end. Most strings have no escape, and are taken
+/// as they stand.
 pub(crate) fn string(alloc: Global, rest: &str) -> Result<(Text, &str), ReadError>
     ensures gives { Gives (λ x. (x.0, x.1.now)) result (body rest.now) }
     ensures text { IfOk result (λ x. IsUtf8 x.1.now) }

@@ -1,7 +1,7 @@
 //! What can be wrong with a text, while it is read.
 //!
-//! An error says how many bytes were left, and not its line, so that lines are counted once, at the end, and only
-//! for a text that is refused. `specs/Reading.antt` says which error a text has.
+//! An error says how many bytes were left, and not its line, so that lines are counted once, at the
+//! end, and only for a text that is refused. `specs/Reading.antt` says which error a text has.
 
 ghost use Rattle.std.specs.Prelude.{◌≡◌, length};
 ghost use Rattle.jh_edn.specs.declared.syntax_error.ReadError.TheVariants.{Memory};

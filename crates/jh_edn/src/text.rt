@@ -1,4 +1,5 @@
-//! Texts that values hold: names, strings, tags. A short one lies in the value itself, and takes no memory.
+//! Texts that values hold: names, strings, tags. A short one lies in the value itself, and takes no
+//! memory.
 //!
 //! `kept_bytes` of `specs/TextInside.antt` is what a contract sees of a text.
 
@@ -10,8 +11,8 @@ use std::boxed::Box;
 use std::marker::Model;
 use std::{fmt, str};
 
-/// How many bytes a text may have that lies in the value itself. With one more for its length and eight for the kinds
-/// beside it, a value takes 32 bytes.
+/// How many bytes a text may have that lies in the value itself. With one more for its length and
+/// eight for the kinds beside it, a value takes 32 bytes.
 const MAX_SHORT: usize = 15;
 
 /// A text of few bytes. A contract sees its bytes.
@@ -46,6 +47,7 @@ impl Short {
         }
     }
 
+    /// The text as a string slice.
     fn as_str(&self) -> &str
         ensures { result.now ≡ self.now }
     {
@@ -108,6 +110,7 @@ impl Text {
         }
     }
 
+    /// A text of at most 15 bytes, which lies in the value itself.
     fn short(text: &str) -> Text
         requires { length text.now ≤ 15 }
         ensures { result ≡ text.now }
@@ -118,6 +121,7 @@ impl Text {
         }
     }
 
+    /// The text of a string, which stays where it is.
     fn long(alloc: Global, text: String) -> Result<Text, AllocError>
         ensures { IfOk result (λ kept. kept ≡ string_bytes text) }
     {
@@ -126,6 +130,7 @@ impl Text {
         })
     }
 
+    /// The text as a string slice.
     pub fn as_str(&self) -> &str
         ensures { result.now ≡ self.now }
     {

@@ -1,9 +1,10 @@
 //! EDN values, as programs hold them.
 //!
-//! `specs/Edn.antt` says what a contract sees of a value and `specs/View.antt` how it sees it. A kind
-//! of element is added here, there and in `specs/Code.antt`.
+//! `specs/Edn.antt` says what a contract sees of a value and `specs/View.antt` how it sees it. A
+//! kind of element is added here, there and in `specs/Code.antt`.
 
 ghost use Rattle.std.specs.Prelude.{◌≡◌, ◌↔◌, [], length, IsTrue, IfOk, option_map};
+ghost use Rattle.jh_edn.specs.Edn as edn;
 ghost use Rattle.jh_edn.specs.Edn.{elements_of};
 ghost use Rattle.jh_edn.specs.View.{view, views, view_pairs};
 
@@ -123,6 +124,45 @@ impl Model for Tagged {
 }
 
 impl Value {
+    /// The keyword of this name, without its colon. Whether the name is one that a text may have is
+    /// not looked at.
+    ///
+    /// # Errors
+    ///
+    /// Where there is no memory to hold the name.
+    pub fn keyword(alloc: Global, name: &str) -> Result<Value, AllocError>
+        ensures { IfOk result (λ value. view value ≡ edn.keyword name.now) }
+    {
+        Ok(Value::Keyword(Text::of(alloc, name)?))
+    }
+
+    /// Whether the value is the keyword of this name, without its colon.
+    pub fn is_keyword(&self, name: &str) -> bool
+        ensures { result ≡ edn.is_keyword name.now (view self.now) }
+    {
+        match self {
+            Value::Keyword(text) => text.as_str() == name,
+            _ => false,
+        }
+    }
+
+    /// Whether the value is an integer.
+    pub fn is_integer(&self) -> bool
+        ensures { result ≡ edn.is_integer (view self.now) }
+    {
+        matches!(self, Value::Int(_))
+    }
+
+    /// The integer, where the value is one.
+    pub fn as_integer(&self) -> Option<i64>
+        ensures { result ≡ edn.integer_of (view self.now) }
+    {
+        match self {
+            Value::Int(number) => Some(*number),
+            _ => None,
+        }
+    }
+
     /// The elements of a sequence, a list or a vector, where the value is one.
     pub fn elements(&self) -> Option<&[Value]>
         ensures { option_map (λ xs. views xs.now) result ≡ elements_of (view self.now) }
@@ -156,6 +196,7 @@ impl Tagged {
         self.inside.0.as_str()
     }
 
+    /// The element behind the tag.
     pub fn element(&self) -> &Value
         ensures { view result.now ≡ self.now.1 }
     {
@@ -180,18 +221,21 @@ impl Values {
         Values { items }
     }
 
+    /// How many values there are.
     pub fn len(&self) -> usize
         ensures { result ≡ length self.now }
     {
         self.items.len()
     }
 
+    /// Whether there is no value.
     pub fn is_empty(&self) -> bool
         ensures { IsTrue result ↔ (self.now ≡ []) }
     {
         self.items.is_empty()
     }
 
+    /// The values as a slice.
     pub fn as_slice(&self) -> &[Value]
         ensures { views result.now ≡ self.now }
     {
@@ -215,18 +259,21 @@ impl Pairs {
         Pairs { items }
     }
 
+    /// How many pairs there are.
     pub fn len(&self) -> usize
         ensures { result ≡ length self.now }
     {
         self.as_slice().len()
     }
 
+    /// Whether there is no pair.
     pub fn is_empty(&self) -> bool
         ensures { IsTrue result ↔ (self.now ≡ []) }
     {
         self.as_slice().is_empty()
     }
 
+    /// The pairs as a slice.
     pub fn as_slice(&self) -> &[(Value, Value)]
         ensures { view_pairs result.now ≡ self.now }
     {

@@ -2,14 +2,17 @@
 //!
 //! `print` of `specs/Print.antt` is the one printed text.
 
-ghost use Rattle.std.specs.Prelude.{◌≡◌, OnOk, IfErr, [], ◌∷◌, ◌++◌, ◌+◌, ◌<◌, ◌≤◌, drop, length, codes, encode_utf8};
+ghost use Rattle.std.specs.Prelude.{◌≡◌, OnOk, IfErr, [], ◌∷◌, ◌++◌, ◌+◌, ◌<◌, ◌≤◌, drop, length};
+ghost use Rattle.std.specs.Prelude.{codes, encode_utf8};
 ghost use Rattle.std.specs.Char.{digit_char};
 ghost use Rattle.std.specs.Fmt.{signed_decimal};
 ghost use Rattle.std.specs.Io.KnownBytes.{Appends};
 ghost use Rattle.std.specs.List.{flat_map};
-ghost use Rattle.jh_edn.specs.Bytes.{leading, quote};
+ghost use Rattle.jh_edn.specs.Bytes.{leading_len, quote};
 ghost use Rattle.jh_edn.specs.Edn.{items_of, members_of};
-ghost use Rattle.jh_edn.specs.Print.{print, joined, item_texts, member_texts, unless_first, escape, is_printed_bare, char_number, char_text};
+ghost use Rattle.jh_edn.specs.Print.{print, joined_text, item_texts, member_texts};
+ghost use Rattle.jh_edn.specs.Print.{separator_before, escape, is_printed_bare, char_number};
+ghost use Rattle.jh_edn.specs.Print.{char_text};
 ghost use Rattle.jh_edn.specs.View.{view};
 
 use crate::error::EdnError;
@@ -17,8 +20,10 @@ use crate::value::{Pairs, Value, Values};
 use itoa::Buffer;
 use std::io::Write;
 
+/// Writes bytes as they are.
 fn put<W: Write>(bytes: &[u8], writer: &mut W) -> Result<(), EdnError>
-    ensures bytes { OnOk result (Appends (W.contents writer.old) (W.contents writer.new) bytes.now) }
+    ensures bytes { OnOk result
+        (Appends (W.contents writer.old) (W.contents writer.new) bytes.now) }
     ensures error { IfErr result (λ e. e ≡ EdnError.Write) }
 {
     writer.write_all(bytes).map_err(|_| EdnError::Write)
@@ -27,7 +32,8 @@ fn put<W: Write>(bytes: &[u8], writer: &mut W) -> Result<(), EdnError>
 /// The separator, unless this is the first.
 fn separate<W: Write>(first: bool, separator: &[u8], writer: &mut W) -> Result<(), EdnError>
     ensures bytes { OnOk result
-        (Appends (W.contents writer.old) (W.contents writer.new) (unless_first first separator.now)) }
+        (Appends (W.contents writer.old) (W.contents writer.new)
+        (separator_before first separator.now)) }
     ensures error { IfErr result (λ e. e ≡ EdnError.Write) }
 {
     if first {
@@ -37,8 +43,10 @@ fn separate<W: Write>(first: bool, separator: &[u8], writer: &mut W) -> Result<(
     }
 }
 
+/// An integer, in decimal.
 fn write_int<W: Write>(n: i64, writer: &mut W) -> Result<(), EdnError>
-    ensures bytes { OnOk result (Appends (W.contents writer.old) (W.contents writer.new) (signed_decimal n)) }
+    ensures bytes { OnOk result
+        (Appends (W.contents writer.old) (W.contents writer.new) (signed_decimal n)) }
     ensures error { IfErr result (λ e. e ≡ EdnError.Write) }
 {
     put(Buffer::new().format(n).as_bytes(), writer)
@@ -46,7 +54,8 @@ fn write_int<W: Write>(n: i64, writer: &mut W) -> Result<(), EdnError>
 
 /// A byte of a string, as it stands between quotes.
 fn write_byte<W: Write>(b: u8, writer: &mut W) -> Result<(), EdnError>
-    ensures bytes { OnOk result (Appends (W.contents writer.old) (W.contents writer.new) (escape b)) }
+    ensures bytes { OnOk result
+        (Appends (W.contents writer.old) (W.contents writer.new) (escape b)) }
     ensures error { IfErr result (λ e. e ≡ EdnError.Write) }
 {
     match b {
@@ -71,7 +80,7 @@ fn is_bare(b: u8) -> bool
 
 /// How many bytes from that place on stand for themselves.
 fn bare_len(bytes: &[u8]) -> usize
-    ensures len { result ≡ leading is_printed_bare bytes.now }
+    ensures len { result ≡ leading_len is_printed_bare bytes.now }
     ensures within { result ≤ length bytes.now }
 {
     let mut len = 0;
@@ -126,7 +135,8 @@ fn hex_digit(value: u8) -> u8
 
 /// A character that would not show, by its number.
 fn write_number<W: Write>(b: u8, writer: &mut W) -> Result<(), EdnError>
-    ensures bytes { OnOk result (Appends (W.contents writer.old) (W.contents writer.new) (char_number b)) }
+    ensures bytes { OnOk result
+        (Appends (W.contents writer.old) (W.contents writer.new) (char_number b)) }
     ensures error { IfErr result (λ e. e ≡ EdnError.Write) }
 {
     put(
@@ -137,7 +147,8 @@ fn write_number<W: Write>(b: u8, writer: &mut W) -> Result<(), EdnError>
 
 /// A character by itself.
 fn write_itself<W: Write>(c: char, writer: &mut W) -> Result<(), EdnError>
-    ensures bytes { OnOk result (Appends (W.contents writer.old) (W.contents writer.new) (encode_utf8 c)) }
+    ensures bytes { OnOk result
+        (Appends (W.contents writer.old) (W.contents writer.new) (encode_utf8 c)) }
     ensures error { IfErr result (λ e. e ≡ EdnError.Write) }
 {
     let mut bytes = [0; 4];
@@ -147,7 +158,8 @@ fn write_itself<W: Write>(c: char, writer: &mut W) -> Result<(), EdnError>
 /// What stands behind the backslash of a character.
 #[tactic(auto, unfolding(crate::specs::Print::char_text))]
 fn write_char<W: Write>(c: char, writer: &mut W) -> Result<(), EdnError>
-    ensures bytes { OnOk result (Appends (W.contents writer.old) (W.contents writer.new) (char_text c)) }
+    ensures bytes { OnOk result
+        (Appends (W.contents writer.old) (W.contents writer.new) (char_text c)) }
     ensures error { IfErr result (λ e. e ≡ EdnError.Write) }
 {
     match c {
@@ -218,10 +230,11 @@ pub fn write<W: Write>(value: &Value, writer: &mut W) -> Result<(), EdnError>
     }
 }
 
+/// The elements, with one space between them.
 #[cycle(write)]
 fn write_items<W: Write>(items: &Values, writer: &mut W) -> Result<(), EdnError>
     ensures bytes { OnOk result (Appends (W.contents writer.old) (W.contents writer.new)
-        (joined (codes " ") (item_texts (items_of items.now)))) }
+        (joined_text (codes " ") (item_texts (items_of items.now)))) }
     ensures error { IfErr result (λ e. e ≡ EdnError.Write) }
 {
     for (place, item) in items.items.iter().enumerate() {
@@ -231,10 +244,11 @@ fn write_items<W: Write>(items: &Values, writer: &mut W) -> Result<(), EdnError>
     Ok(())
 }
 
+/// The pairs, each a key, a space and its value, with `, ` between pairs.
 #[cycle(write)]
 fn write_pairs<W: Write>(pairs: &Pairs, writer: &mut W) -> Result<(), EdnError>
     ensures bytes { OnOk result (Appends (W.contents writer.old) (W.contents writer.new)
-        (joined (codes ", ") (member_texts (members_of pairs.now)))) }
+        (joined_text (codes ", ") (member_texts (members_of pairs.now)))) }
     ensures error { IfErr result (λ e. e ≡ EdnError.Write) }
 {
     for (place, pair) in pairs.items.iter().enumerate() {

@@ -10,6 +10,7 @@ fn in_sequence(value: &PlainValue) -> Option<&[PlainValue]> {
     }
 }
 
+/// Whether two values are equal.
 #[cycle(equality)]
 fn is_equal(one: &PlainValue, other: &PlainValue) -> bool {
     match one {
@@ -54,6 +55,7 @@ fn are_equal(some: &[PlainValue], others: &[PlainValue]) -> bool {
     some.len() == others.len()
 }
 
+/// Whether one of the others is equal to it.
 #[cycle(equality)]
 fn is_among(one: &PlainValue, others: &[PlainValue]) -> bool {
     for other in others {

@@ -15,6 +15,7 @@ pub(crate) enum Bracket {
     Set,
 }
 
+/// What stands at a place of a text.
 #[derive(Drop)]
 pub(crate) enum Item {
     /// White space or a comment.

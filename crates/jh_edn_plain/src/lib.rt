@@ -1,5 +1,5 @@
-//! A plain slow reader of EDN, and texts that look random. They serve tests alone: `jh_edn_tests` compares the reader
-//! of `jh_edn` with it.
+//! A plain slow reader of EDN, and texts that look random. They serve tests alone: `jh_edn_tests`
+//! compares the reader of `jh_edn` with it.
 //!
 //! It goes from item to item; what is open at a place is a pile of brackets, tags and discards.
 #![tactic(auto)]

@@ -1,5 +1,5 @@
-//! Pieces of texts that look random, with a `|` between. A Greek letter in a piece stands for one of other pieces:
-//! `pieces_of` says of which.
+//! Pieces of texts that look random, with a `|` between. A Greek letter in a piece stands for one
+//! of other pieces: `pieces_of` says of which.
 
 /// Gaps, each of which ends an element.
 static GAPS: &str = " | |,|\n|\r\n|\t|\u{b}|\u{c}\r|;]\n| ;\"é\n\n| #_ 1 |\n#_#_[:a\n] b ";

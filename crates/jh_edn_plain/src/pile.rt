@@ -9,6 +9,7 @@ use std::boxed::Box;
 /// How many may be open at one place.
 const MAX_OPEN: usize = 64;
 
+/// What is open: a bracket, a tag or a discard.
 #[derive(Drop)]
 enum Open {
     /// A bracket, with what stands behind it.
@@ -24,6 +25,7 @@ pub(crate) struct Pile {
     values: Vec<PlainValue>,
 }
 
+/// Whether this character closes the bracket.
 fn is_closed_by(bracket: Bracket, closing: char) -> bool {
     match bracket {
         Bracket::List => closing == ')',
@@ -48,6 +50,7 @@ fn pairs_of(
     Ok(key.is_none().then_some(pairs))
 }
 
+/// The map of these keys and values, or what is wrong with it.
 fn map_of(alloc: Global, values: Vec<PlainValue>, place: usize) -> Result<PlainValue, PlainError> {
     let Some(pairs) = pairs_of(alloc, values)? else {
         return Err(PlainError::Refused(PlainKind::OddMap, place));
@@ -58,6 +61,7 @@ fn map_of(alloc: Global, values: Vec<PlainValue>, place: usize) -> Result<PlainV
     Ok(PlainValue::Map(pairs))
 }
 
+/// The set of these values, or what is wrong with it.
 fn set_of(values: Vec<PlainValue>, place: usize) -> Result<PlainValue, PlainError> {
     if are_two_equal(&values) {
         return Err(PlainError::Refused(PlainKind::DuplicateKey, place));
@@ -66,6 +70,7 @@ fn set_of(values: Vec<PlainValue>, place: usize) -> Result<PlainValue, PlainErro
 }
 
 impl Pile {
+    /// An empty pile.
     pub(crate) fn new(alloc: Global) -> Pile {
         Pile {
             open: Vec::new(alloc),
@@ -73,6 +78,7 @@ impl Pile {
         }
     }
 
+    /// Opens a bracket, a tag or a discard, unless too many are open.
     fn open(&mut self, open: Open, place: usize) -> Result<(), PlainError> {
         if self.open.len() >= MAX_OPEN {
             return Err(PlainError::Refused(PlainKind::TooDeep, place));
@@ -97,6 +103,7 @@ impl Pile {
         Ok(())
     }
 
+    /// Closes the innermost bracket, and gives its value on.
     fn close(&mut self, alloc: Global, closing: char, place: usize) -> Result<(), PlainError> {
         let (bracket, values) = match self.open.pop() {
             Some(Open::Bracket(bracket, values)) if is_closed_by(bracket, closing) => {

@@ -4,7 +4,8 @@ use crate::dice::Dice;
 use crate::pieces::{NESTS, ODDITIES, ROWS, SETS, SHAPES, SPOILS, pieces_of};
 use std::alloc::{AllocError, Global};
 
-/// Puts one of the pieces behind a text, with other pieces for its letters, at most so many inside one another.
+/// Puts one of the pieces behind a text, with other pieces for its letters, at most so many inside
+/// one another.
 fn put(
     text: &mut String,
     dice: &mut Dice,

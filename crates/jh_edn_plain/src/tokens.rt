@@ -18,10 +18,12 @@ pub(crate) fn is_of_token(c: char) -> bool {
     !is_white(c) && !"()[]{}\";\\".contains(c)
 }
 
+/// A decimal digit.
 fn is_digit(c: char) -> bool {
     c.is_ascii_digit()
 }
 
+/// What a name is made of.
 fn is_of_name(c: char) -> bool {
     c.is_ascii_alphanumeric() || ".*+!-_?$%&=<>:#'/".contains(c)
 }
@@ -55,6 +57,7 @@ fn is_like_number(name: &str) -> bool {
     }
 }
 
+/// Whether a symbol may have this name.
 fn is_symbol(name: &str) -> bool {
     name == "/" || is_name(name) && !is_like_number(name) && constant(name).is_none()
 }

@@ -8,7 +8,7 @@ use Rattle.std.proofs.lemmas.List.Sorted.{sum_by-IsPermutation}
 use Rattle.std.proofs.lemmas.List.Sums.{sum_by-append, sum_by-cons}
 use Rattle.std.proofs.Math.Seq.{get_or-append_seam, take-append_seam}
 use Rattle.jh_edn.specs.Order.{in_order}
-use Rattle.jh_env.specs.Faults.{AreApart, kept_by, kept_links, kept_nodes, same_link, same_node}
+use Rattle.jh_env.specs.Faults.{AreApart, kept_list, kept_links, kept_nodes, is_same_link, is_same_node}
 use Rattle.jh_env.specs.FaultWritten.{is_link_before, is_node_before}
 use Rattle.jh_env.proofs.FaultOrderLemmas.{in_order_moves}
 
@@ -27,10 +27,10 @@ module _ {X : Type 0} (same : X → X → Bool) (o : IsSame same) where
   Fresh kept [] = Unit {0}
   Fresh kept (x ∷ xs) = (list_any (λ k. same k x) kept ≡ false) × Fresh (kept ++ x ∷ []) xs
 
-  fresh_kept : (kept xs : List X) → Fresh kept xs → kept_by same kept xs ≡ kept ++ xs
+  fresh_kept : (kept xs : List X) → Fresh kept xs → kept_list same kept xs ≡ kept ++ xs
   fresh_kept kept [] fresh = sym (append-nil kept)
   fresh_kept kept (x ∷ xs) fresh =
-      ap (λ t. kept_by same (if t then kept else kept ++ x ∷ []) xs) fresh.0 ∙ fresh_kept (kept ++ x ∷ []) xs fresh.1 ∙ append_assoc kept (x ∷ []) xs
+      ap (λ t. kept_list same (if t then kept else kept ++ x ∷ []) xs) fresh.0 ∙ fresh_kept (kept ++ x ∷ []) xs fresh.1 ∙ append_assoc kept (x ∷ []) xs
 
   apart_fresh : (kept xs : List X) → AreApart same (kept ++ xs) → Fresh kept xs
   apart_fresh kept [] apart = tt
@@ -89,7 +89,7 @@ module _ {X : Type 0} (same : X → X → Bool) (o : IsSame same) where
       (unlike x kept zero, fresh_from (kept ++ x ∷ []) xs (λ z. subst (λ w. likes z w ≤ 1) (sym (append_assoc kept (x ∷ []) xs)) (most z)))
 
   -- of things that stand once, in any order, each is kept
-  all_kept : (lt : X → X → Bool) (xs : List X) → AreApart same xs → kept_by same [] (in_order lt xs) ≡ in_order lt xs
+  all_kept : (lt : X → X → Bool) (xs : List X) → AreApart same xs → kept_list same [] (in_order lt xs) ≡ in_order lt xs
   all_kept lt xs apart =
       let fresh = apart_fresh [] xs apart in
       let none : 0 ≤ 1 = omega arith in
@@ -97,13 +97,13 @@ module _ {X : Type 0} (same : X → X → Bool) (o : IsSame same) where
       (fresh_from [] (in_order lt xs)
       (λ z. subst (λ n. n ≤ 1) (sym (sum_by-IsPermutation (λ x. cond (same x z) 1 0) xs (in_order lt xs) (in_order_moves lt xs))) (fresh_most z [] xs fresh none)))
 
-node_same : IsSame same_node
+node_same : IsSame is_same_node
 node_same = record {
   itself = λ x. eq-eqb x x refl;
   joins = λ x y z e f. eq-eqb x y (eqb-true x z e ∙ sym (eqb-true y z f));
 }
 
-link_same : IsSame same_link
+link_same : IsSame is_same_link
 link_same = record {
   itself = λ x. and_from (x.0 == x.0) (x.1 == x.1) (eq-eqb x.0 x.0 refl) (eq-eqb x.1 x.1 refl);
   joins = λ x y z e f.
@@ -113,9 +113,9 @@ link_same = record {
 }
 
 -- links in order, each of which stands once, are kept as they are
-pub links_kept : (links : List (ℕ × ℕ)) → AreApart same_link links → kept_links (in_order is_link_before links) ≡ in_order is_link_before links
-links_kept links apart = all_kept same_link link_same is_link_before links apart
+pub links_kept : (links : List (ℕ × ℕ)) → AreApart is_same_link links → kept_links (in_order is_link_before links) ≡ in_order is_link_before links
+links_kept links apart = all_kept is_same_link link_same is_link_before links apart
 
 -- and so are nodes
-pub nodes_kept : (nodes : List ℕ) → AreApart same_node nodes → kept_nodes (in_order is_node_before nodes) ≡ in_order is_node_before nodes
-nodes_kept nodes apart = all_kept same_node node_same is_node_before nodes apart
+pub nodes_kept : (nodes : List ℕ) → AreApart is_same_node nodes → kept_nodes (in_order is_node_before nodes) ≡ in_order is_node_before nodes
+nodes_kept nodes apart = all_kept is_same_node node_same is_node_before nodes apart

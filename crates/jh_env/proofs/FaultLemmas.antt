@@ -1,3 +1,4 @@
+-- What is kept of links, nodes and bumps that are given more than once: each once, as it stood first.
 use Rattle.std.proofs.Common.{◌≡◌, ℕ, ◌+◌, ◌<◌, ◌≤◌, Bool, true, false, suc, List, [], ◌∷◌, ◌++◌, length, get_or, drop, take, ap, ◌∙◌, sym, refl, arith, add-one, drop-cons, length-append, inl, inr}
 use Rattle.std.specs.Prelude.{if◌then◌else◌, ◌||◌, ◌==◌, ◌↔◌, not, nat_le, IsTrue, ℤ}
 use Rattle.std.specs.Cmp.{IsEquivalence}
@@ -9,9 +10,9 @@ use Rattle.std.proofs.Math.Seq.{get_or-append_seam, take-append_seam}
 use Rattle.std.proofs.lemmas.List.Folds.{list_any_none}
 use Rattle.jh_tables.specs.declared.faults.LinkFault.{LinkFault}
 use Rattle.jh_tables.specs.declared.faults.NodeFault.{NodeFault}
-use Rattle.jh_tables.specs.Plain.{on_links, on_nodes}
+use Rattle.jh_tables.specs.Plain.{fault_on_links, fault_on_nodes}
 use Rattle.jh_env.specs.Effects.{IsLinkAmount}
-use Rattle.jh_env.specs.Faults.{kept_by, kept_links, kept_nodes, AreApart, same_link, same_node, same_bumped, FitsCount, is_unknown_link, is_unknown_node, is_unknown_bump, IsFault}
+use Rattle.jh_env.specs.Faults.{kept_list, kept_links, kept_nodes, AreApart, is_same_link, is_same_node, is_same_bumped, FitsCount, is_unknown_link, is_unknown_node, is_unknown_bump, IsFault}
 
 none_of : (x y : Bool) → (x || y) ≡ false → (x ≡ false) × (y ≡ false)
 none_of true y e = cc
@@ -19,11 +20,11 @@ none_of false y e = (refl, e)
 
 -- one more of those that are to be kept once
 kept_step : {A : Type 0} (same : A → A → Bool) (kept more xs : List A) (i : ℕ) (x : A) (all : List A) → i < length xs → x ≡ get_or xs i x
-    → more ≡ (if list_any (λ k. same k x) kept then kept else kept ++ x ∷ []) → kept_by same kept (drop i xs) ≡ all → kept_by same more (drop (i + 1) xs) ≡ all
+    → more ≡ (if list_any (λ k. same k x) kept then kept else kept ++ x ∷ []) → kept_list same kept (drop i xs) ≡ all → kept_list same more (drop (i + 1) xs) ≡ all
 kept_step same kept more xs i x all h is m before =
     rw m
     (let e : drop i xs ≡ x ∷ drop (i + 1) xs = rw (add-one, drop-cons xs i x h) (ap (λ y. y ∷ drop (suc i) xs) (sym is)) in
-    (sym (ap (kept_by same kept) e) ∙ before))
+    (sym (ap (kept_list same kept) e) ∙ before))
 
 -- whether one is there, asked in either order
 looked_up : {A : Type 0} {same : A → A → Bool} → IsEquivalence same → (x : A) (kept : List A) → list_any (same x) kept ≡ list_any (λ k. same k x) kept
@@ -37,7 +38,7 @@ exchanged false x y = refl
 -- one more of those that are to be kept once, where a set has the same keys as are kept
 pub seen_step : {A : Type 0} {same : A → A → Bool} → IsEquivalence same → (seen after kept more xs : List A) (i : ℕ) (x : A) (new : Bool) (all : List A) → i < length xs → x ≡ get_or xs i x
     → new ≡ not (list_any (same x) seen) → after ≡ (if list_any (same x) seen then seen else seen ++ x ∷ []) → more ≡ (if new then kept ++ x ∷ [] else kept)
-    → (seen ≡ kept) × (kept_by same kept (drop i xs) ≡ all) → (after ≡ more) × (kept_by same more (drop (i + 1) xs) ≡ all)
+    → (seen ≡ kept) × (kept_list same kept (drop i xs) ≡ all) → (after ≡ more) × (kept_list same more (drop (i + 1) xs) ≡ all)
 seen_step {A} {same} laws seen after kept more xs i x new all h is was a m before =
     let b = list_any (λ k. same k x) kept in
     let there : list_any (same x) seen ≡ b = ap (list_any (same x)) before.0 ∙ looked_up laws x kept in
@@ -52,10 +53,10 @@ push_apart same kept x new apart i d h =
     ]
 
 -- what is kept stands apart
-pub kept_apart : {A : Type 0} (same : A → A → Bool) (xs kept : List A) → AreApart same kept → AreApart same (kept_by same kept xs)
+pub kept_apart : {A : Type 0} (same : A → A → Bool) (xs kept : List A) → AreApart same kept → AreApart same (kept_list same kept xs)
 kept_apart same [] kept apart = apart
 kept_apart same (x ∷ xs) kept apart =
-    elim (list_any (λ k. same k x) kept) as (λ b. list_any (λ k. same k x) kept ≡ b → AreApart same (kept_by same (if b then kept else kept ++ x ∷ []) xs)) [
+    elim (list_any (λ k. same k x) kept) as (λ b. list_any (λ k. same k x) kept ≡ b → AreApart same (kept_list same (if b then kept else kept ++ x ∷ []) xs)) [
       | true ↦ λ e. kept_apart same xs kept apart
       | false ↦ λ e. kept_apart same xs (kept ++ x ∷ []) (push_apart same kept x e apart)
     ] refl
@@ -64,10 +65,10 @@ pub none_apart : {A : Type 0} (same : A → A → Bool) → AreApart same []
 none_apart same i d h = absurd (omega arith)
 
 -- what holds of each holds of each that is kept
-pub kept_all : {A : Type 0} (P : A → Type 0) (same : A → A → Bool) (xs kept : List A) → All P kept → All P xs → All P (kept_by same kept xs)
+pub kept_all : {A : Type 0} (P : A → Type 0) (same : A → A → Bool) (xs kept : List A) → All P kept → All P xs → All P (kept_list same kept xs)
 kept_all P same [] kept all more = all
 kept_all P same (x ∷ xs) kept all more =
-    elim (list_any (λ k. same k x) kept) as (λ b. All P (kept_by same (if b then kept else kept ++ x ∷ []) xs)) [
+    elim (list_any (λ k. same k x) kept) as (λ b. All P (kept_list same (if b then kept else kept ++ x ∷ []) xs)) [
       | true ↦ kept_all P same xs kept all (All-tail P x xs more)
       | false ↦ kept_all P same xs (kept ++ x ∷ []) (All-push P kept x all (All-head P x xs more)) (All-tail P x xs more)
     ]
@@ -95,11 +96,11 @@ bumps_known count (b ∷ bs) known =
 -- the links that are kept are known
 pub kept_links_known : (count : ℕ) (links : List (ℕ × ℕ)) → list_any (is_unknown_link count) links ≡ false → All (λ l. (l.0 < count) × (l.1 < count)) (kept_links links)
 kept_links_known count links known =
-    kept_all (λ (l : ℕ × ℕ). (l.0 < count) × (l.1 < count)) same_link links [] (All-nil (λ (l : ℕ × ℕ). (l.0 < count) × (l.1 < count))) (links_known count links known)
+    kept_all (λ (l : ℕ × ℕ). (l.0 < count) × (l.1 < count)) is_same_link links [] (All-nil (λ (l : ℕ × ℕ). (l.0 < count) × (l.1 < count))) (links_known count links known)
 
 pub kept_nodes_known : (count : ℕ) (nodes : List ℕ) → list_any (is_unknown_node count) nodes ≡ false → All (λ n. n < count) (kept_nodes nodes)
 kept_nodes_known count nodes known =
-    kept_all (λ (n : ℕ). n < count) same_node nodes [] (All-nil (λ (n : ℕ). n < count)) (nodes_known count nodes known)
+    kept_all (λ (n : ℕ). n < count) is_same_node nodes [] (All-nil (λ (n : ℕ). n < count)) (nodes_known count nodes known)
 
 -- where each is known, none is unknown
 pub known_links : (count : ℕ) (links : List (ℕ × ℕ)) → All (λ l. (l.0 < count) × (l.1 < count)) links → list_any (is_unknown_link count) links ≡ false
@@ -114,29 +115,29 @@ pub known_bumps : (count : ℕ) (bumps : List (ℕ × ℤ)) → All (λ b. b.0 <
 known_bumps count bumps known = list_any_none (is_unknown_bump count) bumps (λ k d h. lt-leb count (get_or bumps k d).0 (known k d h))
 
 -- a fault on links fits where they are known
-pub fits_links : (count : ℕ) (kind : LinkFault) (links : List (ℕ × ℕ)) → FitsCount count (on_links kind links) ≡ All (λ l. (l.0 < count) × (l.1 < count)) links
+pub fits_links : (count : ℕ) (kind : LinkFault) (links : List (ℕ × ℕ)) → FitsCount count (fault_on_links kind links) ≡ All (λ l. (l.0 < count) × (l.1 < count)) links
 fits_links count LinkFault.Cut links = refl
 fits_links count (LinkFault.Slow ms) links = refl
 fits_links count (LinkFault.Loss level) links = refl
 fits_links count (LinkFault.Fix ms) links = refl
 
-pub fits_nodes : (count : ℕ) (kind : NodeFault) (nodes : List ℕ) → FitsCount count (on_nodes kind nodes) ≡ All (λ n. n < count) nodes
+pub fits_nodes : (count : ℕ) (kind : NodeFault) (nodes : List ℕ) → FitsCount count (fault_on_nodes kind nodes) ≡ All (λ n. n < count) nodes
 fits_nodes count NodeFault.Pause nodes = refl
 fits_nodes count NodeFault.Kill nodes = refl
 
 -- a fault is right where its amount is and its links or nodes stand once
-pub right_links : (kind : LinkFault) (links : List (ℕ × ℕ)) → IsLinkAmount kind → AreApart same_link links → IsFault (on_links kind links)
+pub right_links : (kind : LinkFault) (links : List (ℕ × ℕ)) → IsLinkAmount kind → AreApart is_same_link links → IsFault (fault_on_links kind links)
 right_links LinkFault.Cut links amount apart = apart
 right_links (LinkFault.Slow ms) links amount apart = (amount, apart)
 right_links (LinkFault.Loss level) links amount apart = (amount, apart)
 right_links (LinkFault.Fix ms) links amount apart = (amount, apart)
 
-pub right_nodes : (kind : NodeFault) (nodes : List ℕ) → AreApart same_node nodes → IsFault (on_nodes kind nodes)
+pub right_nodes : (kind : NodeFault) (nodes : List ℕ) → AreApart is_same_node nodes → IsFault (fault_on_nodes kind nodes)
 right_nodes NodeFault.Pause nodes apart = apart
 right_nodes NodeFault.Kill nodes apart = apart
 
 -- the amount of a right fault is in its range
-pub right_amount : (kind : LinkFault) (links : List (ℕ × ℕ)) → IsFault (on_links kind links) → IsLinkAmount kind
+pub right_amount : (kind : LinkFault) (links : List (ℕ × ℕ)) → IsFault (fault_on_links kind links) → IsLinkAmount kind
 right_amount LinkFault.Cut links right = tt
 right_amount (LinkFault.Slow ms) links right = right.0
 right_amount (LinkFault.Loss level) links right = right.0
@@ -148,14 +149,14 @@ tells true fact to from = (λ h. absurd cc, λ h. let e = from h in absurd cc)
 tells false fact to from = (λ h. to refl, λ h. refl)
 
 -- where one is the same as one before it, they don't stand apart
-pub not_apart : (bumps : List (ℕ × ℤ)) (i : ℕ) (x : ℕ × ℤ) → i < length bumps → x ≡ get_or bumps i x → list_any (λ b. b.0 == x.0) (take i bumps) ≡ true → AreApart same_bumped bumps → ⊥
+pub not_apart : (bumps : List (ℕ × ℤ)) (i : ℕ) (x : ℕ × ℤ) → i < length bumps → x ≡ get_or bumps i x → list_any (λ b. b.0 == x.0) (take i bumps) ≡ true → AreApart is_same_bumped bumps → ⊥
 not_apart bumps i x h is again apart =
     let new : list_any (λ b. b.0 == x.0) (take i bumps) ≡ false = rw (← is) at (apart i x h) in
     false≢true (sym new ∙ again)
 
 pub more_apart : (bumps : List (ℕ × ℤ)) (i : ℕ) (x : ℕ × ℤ) → i < length bumps → x ≡ get_or bumps i x → list_any (λ b. b.0 == x.0) (take i bumps) ≡ false
-    → ((k : ℕ) (d : ℕ × ℤ) → k < i → list_any (λ y. same_bumped y (get_or bumps k d)) (take k bumps) ≡ false)
-    → (k : ℕ) (d : ℕ × ℤ) → k < i + 1 → list_any (λ y. same_bumped y (get_or bumps k d)) (take k bumps) ≡ false
+    → ((k : ℕ) (d : ℕ × ℤ) → k < i → list_any (λ y. is_same_bumped y (get_or bumps k d)) (take k bumps) ≡ false)
+    → (k : ℕ) (d : ℕ × ℤ) → k < i + 1 → list_any (λ y. is_same_bumped y (get_or bumps k d)) (take k bumps) ≡ false
 more_apart bumps i x h is new before k d within =
     elim (cases_lt k i) [
       | inl lt ↦ before k d lt

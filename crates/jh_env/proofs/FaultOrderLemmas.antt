@@ -10,11 +10,11 @@ use Rattle.jh_tables.specs.declared.cells.Life.TheVariants.{Running, Paused, Kil
 use Rattle.jh_tables.specs.declared.cells.Link.{Link}
 use Rattle.jh_tables.specs.declared.cells.NodeCell.{NodeCell}
 use Rattle.jh_env.specs.Cells.{link_at, node_at}
-use Rattle.jh_env.specs.Faults.{FaultValue, FitsCount, names_link, same_link}
+use Rattle.jh_env.specs.Faults.{FaultValue, FitsCount, names_link, is_same_link}
 use Rattle.jh_tables.specs.Faults.FaultValue.{Cut, Slow, Loss, Fix, Pause, Kill, Bump}
 use Rattle.jh_env.specs.FaultLaws.{DoesAs}
 use Rattle.jh_env.specs.FaultWritten.{fault_in_order, is_link_before, is_node_before, is_bump_before}
-use Rattle.jh_env.specs.Overlay.{link_over, node_over, cuts, fixed_by, delay_by, loss_by, pauses, kills, bump_by, is_paused, is_killed}
+use Rattle.jh_env.specs.Overlay.{link_over, node_over, cuts, delay_after_fault, delay_by, loss_by, pauses, kills, bump_by, is_paused, is_killed}
 
 -- ---- what stands in order
 
@@ -56,7 +56,7 @@ any_in_order lt p xs = sym (list_any-IsPermutation p xs (in_order lt xs) (in_ord
 -- ---- what a fault does
 
 named : (links : List (ℕ × ℕ)) (a b : ℕ) → names_link (in_order is_link_before links) a b ≡ names_link links a b
-named links a b = any_in_order is_link_before (λ l. same_link l (a, b)) links
+named links a b = any_in_order is_link_before (λ l. is_same_link l (a, b)) links
 
 cuts_same : (a b : ℕ) (fault : FaultValue) → cuts a b (fault_in_order fault) ≡ cuts a b fault
 cuts_same a b (Cut links) = named links a b
@@ -67,7 +67,7 @@ cuts_same a b (Pause nodes) = refl
 cuts_same a b (Kill nodes) = refl
 cuts_same a b (Bump bumps) = refl
 
-fixed_same : (a b delay : ℕ) (fault : FaultValue) → fixed_by a b delay (fault_in_order fault) ≡ fixed_by a b delay fault
+fixed_same : (a b delay : ℕ) (fault : FaultValue) → delay_after_fault a b delay (fault_in_order fault) ≡ delay_after_fault a b delay fault
 fixed_same a b delay (Cut links) = refl
 fixed_same a b delay (Slow ms links) = refl
 fixed_same a b delay (Loss level links) = refl
@@ -142,7 +142,7 @@ link_among : (fault : FaultValue) (before after : List FaultValue) (a b : ℕ) (
 link_among fault before after a b l =
     let other = fault_in_order fault in
     let cut = any_among (cuts a b) fault other (sym (cuts_same a b fault)) before after in
-    let fixed = fold_among (fixed_by a b) fault other (λ n. sym (fixed_same a b n fault)) l.delay before after in
+    let fixed = fold_among (delay_after_fault a b) fault other (λ n. sym (fixed_same a b n fault)) l.delay before after in
     let delay = fold_among (λ n f. n + delay_by a b f) fault other (λ n. ap (λ m. n + m) (sym (delay_same a b fault))) 0 before after in
     let loss = fold_among (λ m f. max m (loss_by a b f)) fault other (λ m. ap (max m) (sym (loss_same a b fault))) l.loss before after in
     λ i. record { cut = l.cut || cut i; delay = fixed i + delay i; loss = loss i }

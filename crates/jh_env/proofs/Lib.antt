@@ -1,6 +1,6 @@
 pub mod TextLemmas
 pub mod TextCellLemmas
-pub mod TextTellingLemmas
+pub mod TextSettingLemmas
 pub mod TextRefusalLemmas
 pub mod TextWritingLemmas
 pub mod TextFoldLemmas

@@ -1,3 +1,4 @@
+-- Where a name stands in the set of names, and that names stay apart when one more is added.
 use Rattle.std.proofs.Common.{◌≡◌, ℕ, ◌+◌, ◌<◌, ◌≤◌, Bool, false, cond, List, [], ◌∷◌, ◌++◌, length, map, take, drop, get_or, refl, ap, ◌∙◌, sym, arith, suc, inl, inr, append_assoc, length-append, drop-cons, String}
 use Rattle.std.proofs.Math.Seq.{get_or-append_seam, take-append_seam}
 use Rattle.std.specs.List.{list_any, prefix_len, position, AllZip}

@@ -14,8 +14,8 @@ use Rattle.jh_env.specs.declared.texts.EnvTextError.TheVariants.{SelfLink, BadAm
 use Rattle.jh_env.specs.declared.texts.entries.LinkChange.{LinkChange}
 use Rattle.jh_env.specs.declared.texts.entries.NodeChange.{NodeChange}
 use Rattle.jh_env.specs.declared.starting.StartError.{StartError}
-use Rattle.jh_env.specs.Cells.{Table, calm, link_at, node_at}
-use Rattle.jh_env.specs.Faults.{same_link}
+use Rattle.jh_env.specs.Cells.{Table, calm_link, link_at, node_at}
+use Rattle.jh_env.specs.Faults.{is_same_link}
 use Rattle.jh_env.specs.Starting.{StartValue, SetsLink, SetsNode, IsStartingLink, IsStartingNode, RefusesLink, RefusesNode}
 use Rattle.jh_env.specs.Text.{OfLink, OfNode}
 use Rattle.jh_env.specs.TextCells.{link_with, node_with}
@@ -64,8 +64,8 @@ pub sets_link : (old new : StartValue) (from to : List ℕ) (says : LinkChange) 
 sets_link old new from to says a b link from_at to_at was starting sets = record {
   names = sets.names;
   links = λ c d. rw (sets.links c d, from_at, to_at)
-      (elim (same_link (c, d) (a, b))
-      as (λ t. same_link (c, d) (a, b) ≡ t → (if t then Some (link_with says link) else link_at old.cells c d)
+      (elim (is_same_link (c, d) (a, b))
+      as (λ t. is_same_link (c, d) (a, b) ≡ t → (if t then Some (link_with says link) else link_at old.cells c d)
       ≡ option_map (λ l. if t then link_with says l else l) (link_at old.cells c d)) [
         | true ↦ λ is.
             let parts = and_parts (c == a) (d == b) is in
@@ -74,13 +74,13 @@ sets_link old new from to says a b link from_at to_at was starting sets = record
       ] refl);
   nodes = λ c. rw (sets.nodes c) (elim (node_at old.cells c) as (λ o. o ≡ option_map (λ l. l) o) [ Some l ↦ refl | None ↦ refl ]);
   starting = record {
-    links = λ c d l at. elim (same_link (c, d) (a, b))
+    links = λ c d l at. elim (is_same_link (c, d) (a, b))
         as (λ t. (if t then Some (link_with says link) else link_at old.cells c d) ≡ Some l → IsStartingLink l) [
           | true ↦ λ e. let same : link_with says link ≡ l = cc in subst IsStartingLink same sets.amounts
           | false ↦ λ e. starting.links c d l e
         ] (sym (sets.links c d) ∙ at);
     nodes = λ c n at. starting.nodes c n (sym (sets.nodes c) ∙ at);
-    no_link = λ c d p q none. elim (same_link (c, d) (a, b))
+    no_link = λ c d p q none. elim (is_same_link (c, d) (a, b))
         as (λ t. (if t then Some (link_with says link) else link_at old.cells c d) ≡ None → c ≡ d) [
           | true ↦ λ e. absurd cc
           | false ↦ λ e. starting.no_link c d (rw (← sets.names) p) (rw (← sets.names) q) e
@@ -150,7 +150,7 @@ passed_over false x is = refl
 pub link_apart : (cells : Table) (a b : ℕ) (link : Link) → link_at cells a b ≡ Some link → a ≡ b → ⊥
 link_apart cells a b link there same =
     let count = length cells.nodes in
-    let test = (chosen (nat_lt a count && (nat_lt b count && not (a == b))) (slice_index_or cells.links (a * count + b) calm) link there).0 in
+    let test = (chosen (nat_lt a count && (nat_lt b count && not (a == b))) (slice_index_or cells.links (a * count + b) calm_link) link there).0 in
     let differ = (and_parts (nat_lt b count) (not (a == b)) (and_parts (nat_lt a count) (nat_lt b count && not (a == b)) test).1).1 in
     let bad : not true ≡ true = rw (eq-eqb a b same) at differ in
     false≢true bad

@@ -4,16 +4,16 @@ use Rattle.std.specs.Prelude.{if◌then◌else◌, ◌&&◌, ◌==◌, not, nat_
 use Rattle.std.proofs.lemmas.Bool.{and_parts, ltb-true, lt-ltb}
 use Rattle.std.proofs.lemmas.Option.{slice_get_within}
 use Rattle.jh_edn.specs.Edn.{Edn}
-use Rattle.jh_env.specs.Cells.{Table, calm, running}
+use Rattle.jh_env.specs.Cells.{Table, calm_link, running_node}
 use Rattle.jh_env.specs.Overlay.{EnvValue, cells_of, link_of, node_of}
 use Rattle.jh_env.specs.declared.names.NodesError.{NodesError}
 use Rattle.jh_env.specs.declared.texts.EnvTextError.{EnvTextError}
 use Rattle.jh_env.specs.declared.texts.EnvTextError.TheVariants.{NotMap, UnknownKey, MissingNodes, BadEntry, NoNodes, TooManyNodes, BadName, DuplicateName, UnknownNode, SelfLink, BadAmount, RepeatedEntry, OutOfMemory}
 use Rattle.jh_env.specs.Names.{AreNodeNames, AreFew, RefusesNames}
-use Rattle.jh_env.specs.Text.{sections, Shape, shape_of, keys_of}
-use Rattle.jh_env.specs.TextErrors.{AreSound, HasEntryError, HasShape, RefusesEntry, RefusesNodes, RefusesText}
+use Rattle.jh_env.specs.Text.{sections, Shape, shape_of, text_keys}
+use Rattle.jh_env.specs.TextErrors.{AreSound, HasEntryError, HasShape, RefusesEntry, RefusesTextNames, RefusesEnvText}
 use Rattle.jh_env.specs.TextCells.{link_after, node_after, AreCellsOf, IsTextOf}
-use Rattle.jh_env.specs.TextLaws.{CanStart, SameCells}
+use Rattle.jh_env.specs.TextLaws.{CanStart, AreSameCells}
 use Rattle.jh_env.specs.TextWritten.{entries_written, text_of}
 use Rattle.jh_env.proofs.TextReadBackLemmas.{fold_written-link, fold_written-node}
 use Rattle.jh_env.proofs.TextShapeLemmas.{text_shape, shape_written}
@@ -24,15 +24,15 @@ use Rattle.jh_env.proofs.TextWritingLemmas.{at_each_place}
 is_pair : ℕ → ℕ → ℕ → Bool
 is_pair n a b = nat_lt a n && (nat_lt b n && not (a == b))
 
-told_link : (env : EnvValue) (a b : ℕ) → CanStart env
-    → link_of env a b ≡ (if is_pair (length (cells_of env).nodes) a b then Some (fold (link_after env.names a b) calm (flat_map (entries_written env) sections)) else None)
+parsed_link : (env : EnvValue) (a b : ℕ) → CanStart env
+    → link_of env a b ≡ (if is_pair (length (cells_of env).nodes) a b then Some (fold (link_after env.names a b) calm_link (flat_map (entries_written env) sections)) else None)
 unfolding is_pair
-told_link env a b starts =
+parsed_link env a b starts =
     let n = length (cells_of env).nodes in
-    let here = slice_index_or (cells_of env).links (a * n + b) calm in
+    let here = slice_index_or (cells_of env).links (a * n + b) calm_link in
     elim (nat_lt a n && (nat_lt b n && not (a == b)))
     as (λ t. (nat_lt a n && (nat_lt b n && not (a == b))) ≡ t
-    → (if t then Some here else None) ≡ (if t then Some (fold (link_after env.names a b) calm (flat_map (entries_written env) sections)) else None)) [
+    → (if t then Some here else None) ≡ (if t then Some (fold (link_after env.names a b) calm_link (flat_map (entries_written env) sections)) else None)) [
       | true ↦ λ is.
           let p = and_parts (nat_lt a n) (nat_lt b n && not (a == b)) is in
           let q = and_parts (nat_lt b n) (not (a == b)) p.1 in
@@ -43,19 +43,19 @@ told_link env a b starts =
       | false ↦ λ is. refl
     ] refl
 
-told_node : (env : EnvValue) (a : ℕ) → CanStart env
-    → node_of env a ≡ (if nat_lt a (length (cells_of env).nodes) then Some (fold (node_after env.names a) running (flat_map (entries_written env) sections)) else None)
-told_node env a starts =
+parsed_node : (env : EnvValue) (a : ℕ) → CanStart env
+    → node_of env a ≡ (if nat_lt a (length (cells_of env).nodes) then Some (fold (node_after env.names a) running_node (flat_map (entries_written env) sections)) else None)
+parsed_node env a starts =
     let n = length (cells_of env).nodes in
     elim (node_of env a)
-    as (λ o. node_of env a ≡ o → o ≡ (if nat_lt a n then Some (fold (node_after env.names a) running (flat_map (entries_written env) sections)) else None)) [
+    as (λ o. node_of env a ≡ o → o ≡ (if nat_lt a n then Some (fold (node_after env.names a) running_node (flat_map (entries_written env) sections)) else None)) [
       | Some cell ↦ λ there.
           let below : a < n = slice_get_within (cells_of env).nodes a cell there in
           let a_below : a < length env.names = omega (arith, starts.whole) in
           rw (lt-ltb a n below) (ap Some (sym (fold_written-node env a cell starts.named a_below there)))
       | None ↦ λ none.
           elim (nat_lt a n)
-          as (λ t. nat_lt a n ≡ t → None ≡ (if t then Some (fold (node_after env.names a) running (flat_map (entries_written env) sections)) else None)) [
+          as (λ t. nat_lt a n ≡ t → None ≡ (if t then Some (fold (node_after env.names a) running_node (flat_map (entries_written env) sections)) else None)) [
             | true ↦ λ is. absurd (at_each_place (cells_of env).nodes a (ltb-true a n is) none)
             | false ↦ λ is. refl
           ] refl
@@ -65,13 +65,13 @@ told_node env a starts =
 pub text_reads_back : (env : EnvValue) → CanStart env → IsTextOf (text_of env) env.names (cells_of env)
 unfolding is_pair
 text_reads_back env starts =
-    let told : AreCellsOf env.names (flat_map (entries_written env) sections) (cells_of env) = record {
-      links = λ a b. told_link env a b starts
-          ∙ ap (λ n. if nat_lt a n && (nat_lt b n && not (a == b)) then Some (fold (link_after env.names a b) calm (flat_map (entries_written env) sections)) else None) starts.whole;
-      nodes = λ a. told_node env a starts
-          ∙ ap (λ n. if nat_lt a n then Some (fold (node_after env.names a) running (flat_map (entries_written env) sections)) else None) starts.whole;
+    let parsed : AreCellsOf env.names (flat_map (entries_written env) sections) (cells_of env) = record {
+      links = λ a b. parsed_link env a b starts
+          ∙ ap (λ n. if nat_lt a n && (nat_lt b n && not (a == b)) then Some (fold (link_after env.names a b) calm_link (flat_map (entries_written env) sections)) else None) starts.whole;
+      nodes = λ a. parsed_node env a starts
+          ∙ ap (λ n. if nat_lt a n then Some (fold (node_after env.names a) running_node (flat_map (entries_written env) sections)) else None) starts.whole;
     } in
-    (shape_written env, text_shape env, refl, starts.few, starts.named, written_sound env starts, told)
+    (shape_written env, text_shape env, refl, starts.few, starts.named, written_sound env starts, parsed)
 
 same_shape : (value : Edn) (s t : Shape) → HasShape value s → HasShape value t → s ≡ t
 same_shape value s t first second =
@@ -80,7 +80,7 @@ same_shape value s t first second =
     let shapes : Some s ≡ Some t = sym first.2 ∙ ap shape_of same ∙ second.2 in
     cc
 
-no_keys : (value : Edn) (shape : Shape) (e : EnvTextError) → HasShape value shape → keys_of value ≡ Err e → ⊥
+no_keys : (value : Edn) (shape : Shape) (e : EnvTextError) → HasShape value shape → text_keys value ≡ Err e → ⊥
 no_keys value shape e has refused = let both : Ok has.0 ≡ Err e = sym has.1 ∙ refused in cc
 
 no_error : (value : Edn) (shape : Shape) (e : EnvTextError) → HasShape value shape → AreSound shape.names shape.entries → RefusesEntry value e → ⊥
@@ -90,15 +90,15 @@ no_error value shape e has sound refused =
     let both : Some e ≡ None = sym wrong.1 ∙ sound wrong.0 in
     cc
 
-refused_names : (value : Edn) (shape : Shape) (e : NodesError) → HasShape value shape → RefusesNodes value e → RefusesNames shape.names e
+refused_names : (value : Edn) (shape : Shape) (e : NodesError) → HasShape value shape → RefusesTextNames value e → RefusesNames shape.names e
 refused_names value shape e has refused = subst (λ s. RefusesNames s.names e) (same_shape value refused.0 shape refused.1 has) refused.2
 
 -- a text of an environment is refused for want of memory alone
-pub text_accepted : (value : Edn) (names : List (List ℕ)) (cells : Table) (e : EnvTextError) → IsTextOf value names cells → RefusesText value e → e ≡ OutOfMemory
+pub text_accepted : (value : Edn) (names : List (List ℕ)) (cells : Table) (e : EnvTextError) → IsTextOf value names cells → RefusesEnvText value e → e ≡ OutOfMemory
 text_accepted value names cells e text refused =
     by_error e (subst AreFew (sym text.2) text.3) (subst AreNodeNames (sym text.2) text.4) (subst (λ ns. AreSound ns text.0.entries) (sym text.2) text.5) refused
   where
-    by_error : (f : EnvTextError) → AreFew text.0.names → AreNodeNames text.0.names → AreSound text.0.names text.0.entries → RefusesText value f → f ≡ OutOfMemory
+    by_error : (f : EnvTextError) → AreFew text.0.names → AreNodeNames text.0.names → AreSound text.0.names text.0.entries → RefusesEnvText value f → f ≡ OutOfMemory
     by_error NotMap few named sound r = absurd (no_keys value text.0 NotMap text.1 r)
     by_error UnknownKey few named sound r = absurd (no_keys value text.0 UnknownKey text.1 r)
     by_error MissingNodes few named sound r = absurd (no_keys value text.0 MissingNodes text.1 r)
@@ -127,15 +127,15 @@ text_accepted value names cells e text refused =
 
 -- a text tells the cells of one environment
 pub text_tells_one : (value : Edn) (names others : List (List ℕ)) (cells more : Table) → IsTextOf value names cells → IsTextOf value others more
-    → (others ≡ names) × SameCells cells more
+    → (others ≡ names) × AreSameCells cells more
 text_tells_one value names others cells more first second =
     let same = same_shape value first.0 second.0 first.1 second.1 in
     let named : others ≡ names = sym second.2 ∙ sym (ap (λ s. s.names) same) ∙ first.2 in
-    let told : AreCellsOf names first.0.entries more =
+    let parsed : AreCellsOf names first.0.entries more =
     subst (λ ns. AreCellsOf ns first.0.entries more) named (subst (λ es. AreCellsOf others es more) (sym (ap (λ s. s.entries) same)) second.6) in (
       named,
       record {
-        links = λ a b. first.6.links a b ∙ sym (told.links a b);
-        nodes = λ a. first.6.nodes a ∙ sym (told.nodes a);
+        links = λ a b. first.6.links a b ∙ sym (parsed.links a b);
+        nodes = λ a. first.6.nodes a ∙ sym (parsed.nodes a);
       },
     )

@@ -11,14 +11,14 @@ use Rattle.jh_tables.specs.declared.cells.Life.TheVariants.{Running, Paused, Kil
 use Rattle.jh_env.specs.declared.texts.entries.Section.{Section}
 use Rattle.jh_env.specs.declared.texts.entries.LinkChange.{LinkChange}
 use Rattle.jh_env.specs.declared.texts.entries.NodeChange.{NodeChange}
-use Rattle.jh_env.specs.Cells.{calm, running}
+use Rattle.jh_env.specs.Cells.{calm_link, running_node}
 use Rattle.jh_env.specs.Names.{AreNodeNames}
 use Rattle.jh_env.specs.Starting.{IsStartingLink}
 use Rattle.jh_env.specs.Overlay.{EnvValue, link_of, node_of}
 use Rattle.jh_env.specs.Text.{◌>>=◌, OfLink, OfNode, sections}
 use Rattle.jh_env.specs.TextCells.{link_after, node_after, link_with, node_with}
 use Rattle.jh_env.specs.TextErrors.{place_of}
-use Rattle.jh_env.specs.TextWritten.{places, link_entry, node_entry, link_part, node_part, life_part, is_zero, entries_written}
+use Rattle.jh_env.specs.TextWritten.{places, link_entry, node_entry, link_change, node_change, life_change, is_zero, entries_written}
 use Rattle.jh_env.proofs.TextPlaceLemmas.{place_of-at}
 use Rattle.jh_env.proofs.TextFoldLemmas.{fold-filter_map, fold-flat_map, fold-same, fold-idle, fold-once}
 use Rattle.jh_env.proofs.TextWritingLemmas.{at_each_place}
@@ -29,7 +29,7 @@ if-same false x = refl
 
 -- what is written of the link from x to y under a key makes this of a link
 pub said_of_link : EnvValue → Section → ℕ → ℕ → Link → Link
-said_of_link env section x y l = option_map_or (λ says. link_with says l) (link_of env x y >>= link_part section) l
+said_of_link env section x y l = option_map_or (λ says. link_with says l) (link_of env x y >>= link_change section) l
 
 -- a node's place is not one where no name stands
 not_there : (names : List (List ℕ)) (a x : ℕ) → a < length names → slice_get names x ≡ None → (a == x) ≡ false
@@ -55,25 +55,25 @@ link_step env section a b x y l good a_below b_below =
     elim (slice_get env.names x)
     as (λ o. slice_get env.names x ≡ o
     → option_map_or (link_after env.names a b l)
-    (o >>= (λ from. slice_get env.names y >>= (λ to. link_of env x y >>= (λ k. link_part section k >>= (λ says. Some (OfLink from to says)))))) l
-    ≡ (if (a == x) && (b == y) then option_map_or (λ says. link_with says l) (link_of env x y >>= link_part section) l else l)) [
+    (o >>= (λ from. slice_get env.names y >>= (λ to. link_of env x y >>= (λ k. link_change section k >>= (λ says. Some (OfLink from to says)))))) l
+    ≡ (if (a == x) && (b == y) then option_map_or (λ says. link_with says l) (link_of env x y >>= link_change section) l else l)) [
       | None ↦ λ none. rw (not_there env.names a x a_below none) refl
       | Some from ↦ λ from_at.
           elim (slice_get env.names y)
           as (λ o. slice_get env.names y ≡ o
           → option_map_or (link_after env.names a b l)
-          (o >>= (λ to. link_of env x y >>= (λ k. link_part section k >>= (λ says. Some (OfLink from to says))))) l
-          ≡ (if (a == x) && (b == y) then option_map_or (λ says. link_with says l) (link_of env x y >>= link_part section) l else l)) [
+          (o >>= (λ to. link_of env x y >>= (λ k. link_change section k >>= (λ says. Some (OfLink from to says))))) l
+          ≡ (if (a == x) && (b == y) then option_map_or (λ says. link_with says l) (link_of env x y >>= link_change section) l else l)) [
             | None ↦ λ none. rw (not_there env.names b y b_below none)
-                (elim (a == x) as (λ t. l ≡ (if t && false then option_map_or (λ says. link_with says l) (link_of env x y >>= link_part section) l else l)) [ true ↦ refl | false ↦ refl ])
+                (elim (a == x) as (λ t. l ≡ (if t && false then option_map_or (λ says. link_with says l) (link_of env x y >>= link_change section) l else l)) [ true ↦ refl | false ↦ refl ])
             | Some to ↦ λ to_at.
                 let from_place = place_of-at env.names x from good from_at in
                 let to_place = place_of-at env.names y to good to_at in
                 elim (link_of env x y)
-                as (λ o. option_map_or (link_after env.names a b l) (o >>= (λ k. link_part section k >>= (λ says. Some (OfLink from to says)))) l
-                ≡ (if (a == x) && (b == y) then option_map_or (λ says. link_with says l) (o >>= link_part section) l else l)) [
+                as (λ o. option_map_or (link_after env.names a b l) (o >>= (λ k. link_change section k >>= (λ says. Some (OfLink from to says)))) l
+                ≡ (if (a == x) && (b == y) then option_map_or (λ says. link_with says l) (o >>= link_change section) l else l)) [
                   | None ↦ link_step_there env.names a b x y from to l None from_place to_place
-                  | Some k ↦ link_step_there env.names a b x y from to l (link_part section k) from_place to_place
+                  | Some k ↦ link_step_there env.names a b x y from to l (link_change section k) from_place to_place
                 ]
           ] refl
     ] refl
@@ -99,7 +99,7 @@ fold_links env section a b l good a_below b_below =
 
 -- what is written of a node under a key makes this of a node
 pub said_of_node : EnvValue → Section → ℕ → NodeCell → NodeCell
-said_of_node env section x c = option_map_or (λ says. node_with says c) (node_of env x >>= node_part section) c
+said_of_node env section x c = option_map_or (λ says. node_with says c) (node_of env x >>= node_change section) c
 
 node_step_there : (names : List (List ℕ)) (a x : ℕ) (name : List ℕ) (c : NodeCell) (said : Option NodeChange) → place_of names name ≡ Some x
     → option_map_or (node_after names a c) (said >>= (λ says. Some (OfNode name says))) c
@@ -114,16 +114,16 @@ unfolding said_of_node
 node_step env section a x c good a_below =
     elim (slice_get env.names x)
     as (λ o. slice_get env.names x ≡ o
-    → option_map_or (node_after env.names a c) (o >>= (λ name. node_of env x >>= (λ k. node_part section k >>= (λ says. Some (OfNode name says))))) c
-    ≡ (if a == x then option_map_or (λ says. node_with says c) (node_of env x >>= node_part section) c else c)) [
+    → option_map_or (node_after env.names a c) (o >>= (λ name. node_of env x >>= (λ k. node_change section k >>= (λ says. Some (OfNode name says))))) c
+    ≡ (if a == x then option_map_or (λ says. node_with says c) (node_of env x >>= node_change section) c else c)) [
       | None ↦ λ none. rw (not_there env.names a x a_below none) refl
       | Some name ↦ λ name_at.
           let place = place_of-at env.names x name good name_at in
           elim (node_of env x)
-          as (λ o. option_map_or (node_after env.names a c) (o >>= (λ k. node_part section k >>= (λ says. Some (OfNode name says)))) c
-          ≡ (if a == x then option_map_or (λ says. node_with says c) (o >>= node_part section) c else c)) [
+          as (λ o. option_map_or (node_after env.names a c) (o >>= (λ k. node_change section k >>= (λ says. Some (OfNode name says)))) c
+          ≡ (if a == x then option_map_or (λ says. node_with says c) (o >>= node_change section) c else c)) [
             | None ↦ node_step_there env.names a x name c None place
-            | Some k ↦ node_step_there env.names a x name c (node_part section k) place
+            | Some k ↦ node_step_there env.names a x name c (node_change section k) place
           ]
     ] refl
 
@@ -146,12 +146,12 @@ fold_nodes-link env section a b l =
     idle : (k : Link) (x : ℕ) → option_map_or (link_after env.names a b k) (node_entry env section x) k ≡ k
     idle k x =
         elim (slice_get env.names x)
-        as (λ o. option_map_or (link_after env.names a b k) (o >>= (λ name. node_of env x >>= (λ cell. node_part section cell >>= (λ says. Some (OfNode name says))))) k ≡ k) [
+        as (λ o. option_map_or (link_after env.names a b k) (o >>= (λ name. node_of env x >>= (λ cell. node_change section cell >>= (λ says. Some (OfNode name says))))) k ≡ k) [
           | None ↦ refl
           | Some name ↦ elim (node_of env x)
-              as (λ o. option_map_or (link_after env.names a b k) (o >>= (λ cell. node_part section cell >>= (λ says. Some (OfNode name says)))) k ≡ k) [
+              as (λ o. option_map_or (link_after env.names a b k) (o >>= (λ cell. node_change section cell >>= (λ says. Some (OfNode name says)))) k ≡ k) [
                 | None ↦ refl
-                | Some cell ↦ elim (node_part section cell) as (λ o. option_map_or (link_after env.names a b k) (o >>= (λ says. Some (OfNode name says))) k ≡ k) [ None ↦ refl | Some says ↦ refl ]
+                | Some cell ↦ elim (node_change section cell) as (λ o. option_map_or (link_after env.names a b k) (o >>= (λ says. Some (OfNode name says))) k ≡ k) [ None ↦ refl | Some says ↦ refl ]
               ]
         ]
 
@@ -167,29 +167,29 @@ fold_links-node env section a c =
     idle : (m : NodeCell) (x y : ℕ) → option_map_or (node_after env.names a m) (link_entry env section x y) m ≡ m
     idle m x y =
         elim (slice_get env.names x)
-        as (λ o. option_map_or (node_after env.names a m) (o >>= (λ from. slice_get env.names y >>= (λ to. link_of env x y >>= (λ k. link_part section k >>= (λ says. Some (OfLink from to says)))))) m ≡ m) [
+        as (λ o. option_map_or (node_after env.names a m) (o >>= (λ from. slice_get env.names y >>= (λ to. link_of env x y >>= (λ k. link_change section k >>= (λ says. Some (OfLink from to says)))))) m ≡ m) [
           | None ↦ refl
           | Some from ↦ elim (slice_get env.names y)
-              as (λ o. option_map_or (node_after env.names a m) (o >>= (λ to. link_of env x y >>= (λ k. link_part section k >>= (λ says. Some (OfLink from to says))))) m ≡ m) [
+              as (λ o. option_map_or (node_after env.names a m) (o >>= (λ to. link_of env x y >>= (λ k. link_change section k >>= (λ says. Some (OfLink from to says))))) m ≡ m) [
                 | None ↦ refl
                 | Some to ↦ elim (link_of env x y)
-                    as (λ o. option_map_or (node_after env.names a m) (o >>= (λ k. link_part section k >>= (λ says. Some (OfLink from to says)))) m ≡ m) [
+                    as (λ o. option_map_or (node_after env.names a m) (o >>= (λ k. link_change section k >>= (λ says. Some (OfLink from to says)))) m ≡ m) [
                       | None ↦ refl
-                      | Some k ↦ elim (link_part section k) as (λ o. option_map_or (node_after env.names a m) (o >>= (λ says. Some (OfLink from to says))) m ≡ m) [ None ↦ refl | Some says ↦ refl ]
+                      | Some k ↦ elim (link_change section k) as (λ o. option_map_or (node_after env.names a m) (o >>= (λ says. Some (OfLink from to says))) m ≡ m) [ None ↦ refl | Some says ↦ refl ]
                     ]
               ]
         ]
 
-cut_said : (link : Link) → option_map_or (λ says. link_with says calm) (link_part Section.Cut link) calm ≡ record { cut = link.cut; delay = 0; loss = 0 }
+cut_said : (link : Link) → option_map_or (λ says. link_with says calm_link) (link_change Section.Cut link) calm_link ≡ record { cut = link.cut; delay = 0; loss = 0 }
 cut_said link =
     elim link.cut
-    as (λ t. option_map_or (λ says. link_with says calm) (if t then Some LinkChange.Cut else None) calm ≡ record { cut = t; delay = 0; loss = 0 }) [ true ↦ refl | false ↦ refl ]
+    as (λ t. option_map_or (λ says. link_with says calm_link) (if t then Some LinkChange.Cut else None) calm_link ≡ record { cut = t; delay = 0; loss = 0 }) [ true ↦ refl | false ↦ refl ]
 
 no_less : (n : ℕ) → nat_lt 0 n ≡ false → 0 ≡ n
 no_less n is = grind (arith, nat_tests)
 
 delay_said : (link : Link) (cut : Bool)
-    → option_map_or (λ says. link_with says (record { cut = cut; delay = 0; loss = 0 })) (link_part Section.Slow link) (record { cut = cut; delay = 0; loss = 0 })
+    → option_map_or (λ says. link_with says (record { cut = cut; delay = 0; loss = 0 })) (link_change Section.Slow link) (record { cut = cut; delay = 0; loss = 0 })
     ≡ record { cut = cut; delay = link.delay; loss = 0 }
 delay_said link cut =
     elim (nat_lt 0 link.delay)
@@ -202,7 +202,7 @@ delay_said link cut =
     ] refl
 
 loss_said : (link : Link) (cut : Bool) (delay : ℕ)
-    → option_map_or (λ says. link_with says (record { cut = cut; delay = delay; loss = 0 })) (link_part Section.Loss link) (record { cut = cut; delay = delay; loss = 0 })
+    → option_map_or (λ says. link_with says (record { cut = cut; delay = delay; loss = 0 })) (link_change Section.Loss link) (record { cut = cut; delay = delay; loss = 0 })
     ≡ record { cut = cut; delay = delay; loss = link.loss }
 loss_said link cut delay =
     elim (nat_lt 0 link.loss)
@@ -216,19 +216,19 @@ loss_said link cut delay =
 
 -- all that is said of a link, under the three keys, is the link
 pub link_rebuilt : (env : EnvValue) (a b : ℕ) (link : Link) → link_of env a b ≡ Some link → IsStartingLink link
-    → said_of_link env Section.Loss a b (said_of_link env Section.Slow a b (said_of_link env Section.Cut a b calm)) ≡ link
+    → said_of_link env Section.Loss a b (said_of_link env Section.Slow a b (said_of_link env Section.Cut a b calm_link)) ≡ link
 unfolding said_of_link
 link_rebuilt env a b link there starts =
-    let said : Section → Link → Link = λ s l. option_map_or (λ says. link_with says l) (link_of env a b >>= link_part s) l in
-    let is : (s : Section) (l : Link) → said s l ≡ option_map_or (λ says. link_with says l) (link_part s link) l =
-    λ s l. ap (λ o. option_map_or (λ says. link_with says l) (o >>= link_part s) l) there in
-    ap (λ l. said Section.Loss (said Section.Slow l)) (is Section.Cut calm ∙ cut_said link)
+    let said : Section → Link → Link = λ s l. option_map_or (λ says. link_with says l) (link_of env a b >>= link_change s) l in
+    let is : (s : Section) (l : Link) → said s l ≡ option_map_or (λ says. link_with says l) (link_change s link) l =
+    λ s l. ap (λ o. option_map_or (λ says. link_with says l) (o >>= link_change s) l) there in
+    ap (λ l. said Section.Loss (said Section.Slow l)) (is Section.Cut calm_link ∙ cut_said link)
     ∙ ap (said Section.Loss) (is Section.Slow _ ∙ delay_said link link.cut)
     ∙ (is Section.Loss _ ∙ loss_said link link.cut link.delay)
 
-life_said : (cell : NodeCell) → option_map_or (λ says. node_with says running) (node_part Section.Down cell) running ≡ record { process = cell.process; clock = pos 0 }
+life_said : (cell : NodeCell) → option_map_or (λ says. node_with says running_node) (node_change Section.Down cell) running_node ≡ record { process = cell.process; clock = pos 0 }
 life_said cell =
-    elim cell.process as (λ p. option_map_or (λ says. node_with says running) (life_part p) running ≡ record { process = p; clock = pos 0 }) [
+    elim cell.process as (λ p. option_map_or (λ says. node_with says running_node) (life_change p) running_node ≡ record { process = p; clock = pos 0 }) [
       | Running ↦ refl
       | Paused ↦ refl
       | Killed ↦ refl
@@ -251,34 +251,34 @@ clock_said process (negsuc n) = refl
 
 -- all that is said of a node, under the two keys, is the node
 pub node_rebuilt : (env : EnvValue) (a : ℕ) (cell : NodeCell) → node_of env a ≡ Some cell
-    → said_of_node env Section.Clock a (said_of_node env Section.Down a running) ≡ cell
+    → said_of_node env Section.Clock a (said_of_node env Section.Down a running_node) ≡ cell
 unfolding said_of_node
 node_rebuilt env a cell there =
-    let said : Section → NodeCell → NodeCell = λ s c. option_map_or (λ says. node_with says c) (node_of env a >>= node_part s) c in
-    let is : (s : Section) (c : NodeCell) → said s c ≡ option_map_or (λ says. node_with says c) (node_part s cell) c =
-    λ s c. ap (λ o. option_map_or (λ says. node_with says c) (o >>= node_part s) c) there in
-    ap (said Section.Clock) (is Section.Down running ∙ life_said cell)
+    let said : Section → NodeCell → NodeCell = λ s c. option_map_or (λ says. node_with says c) (node_of env a >>= node_change s) c in
+    let is : (s : Section) (c : NodeCell) → said s c ≡ option_map_or (λ says. node_with says c) (node_change s cell) c =
+    λ s c. ap (λ o. option_map_or (λ says. node_with says c) (o >>= node_change s) c) there in
+    ap (said Section.Clock) (is Section.Down running_node ∙ life_said cell)
     ∙ (is Section.Clock _ ∙ clock_said cell.process cell.clock)
 
 -- the entries that are written, section by section
 pub fold_written-link : (env : EnvValue) (a b : ℕ) (link : Link) → AreNodeNames env.names → a < length env.names → b < length env.names
     → link_of env a b ≡ Some link → IsStartingLink link
-    → fold (link_after env.names a b) calm (flat_map (entries_written env) sections) ≡ link
+    → fold (link_after env.names a b) calm_link (flat_map (entries_written env) sections) ≡ link
 fold_written-link env a b link good a_below b_below there starts =
-    fold-flat_map (link_after env.names a b) (entries_written env) calm sections
+    fold-flat_map (link_after env.names a b) (entries_written env) calm_link sections
     ∙ fold_nodes-link env Section.Clock a b _
     ∙ fold_nodes-link env Section.Down a b _
     ∙ fold_links env Section.Loss a b _ good a_below b_below
     ∙ ap (said_of_link env Section.Loss a b) (fold_links env Section.Slow a b _ good a_below b_below)
-    ∙ ap (λ l. said_of_link env Section.Loss a b (said_of_link env Section.Slow a b l)) (fold_links env Section.Cut a b calm good a_below b_below)
+    ∙ ap (λ l. said_of_link env Section.Loss a b (said_of_link env Section.Slow a b l)) (fold_links env Section.Cut a b calm_link good a_below b_below)
     ∙ link_rebuilt env a b link there starts
 
 pub fold_written-node : (env : EnvValue) (a : ℕ) (cell : NodeCell) → AreNodeNames env.names → a < length env.names
     → node_of env a ≡ Some cell
-    → fold (node_after env.names a) running (flat_map (entries_written env) sections) ≡ cell
+    → fold (node_after env.names a) running_node (flat_map (entries_written env) sections) ≡ cell
 fold_written-node env a cell good a_below there =
-    fold-flat_map (node_after env.names a) (entries_written env) running sections
+    fold-flat_map (node_after env.names a) (entries_written env) running_node sections
     ∙ fold_nodes env Section.Clock a _ good a_below
     ∙ ap (said_of_node env Section.Clock a) (fold_nodes env Section.Down a _ good a_below
-    ∙ ap (said_of_node env Section.Down a) (fold_links-node env Section.Loss a _ ∙ fold_links-node env Section.Slow a _ ∙ fold_links-node env Section.Cut a running))
+    ∙ ap (said_of_node env Section.Down a) (fold_links-node env Section.Loss a _ ∙ fold_links-node env Section.Slow a _ ∙ fold_links-node env Section.Cut a running_node))
     ∙ node_rebuilt env a cell there

@@ -14,8 +14,8 @@ use Rattle.jh_env.specs.declared.texts.entries.NodeChange.{NodeChange}
 use Rattle.jh_env.specs.Overlay.{EnvValue}
 use Rattle.jh_env.specs.Text.{◌>>=◌, OfLink, OfNode, Keys, Shape, each_of, text_of_string, names_of, entry_in, entries_of, entries_under, all_entries, nodes_keyword, sections}
 use Rattle.jh_env.specs.TextErrors.{HasShape}
-use Rattle.jh_env.specs.TextWritten.{link_part, node_part, life_part, entries_written, edn_of_entry, section_pair, text_of}
-use Rattle.jh_edn.proofs.Facts.{list_of-items_of}
+use Rattle.jh_env.specs.TextWritten.{link_change, node_change, life_change, entries_written, edn_of_entry, section_pair, text_of}
+use Rattle.jh_edn.proofs.CitedLemmas.{list_of-items_of}
 use Rattle.jh_env.proofs.TextLemmas.{each_of-map}
 use Rattle.jh_env.proofs.TextSoundLemmas.{link_parts, node_parts, if_gives, unless_gives, all_written}
 
@@ -37,33 +37,33 @@ names_read : (names : List (List ℕ)) → names_of (vector (items_of (map str n
 names_read names =
     ap (each_of text_of_string) (list_of-items_of (map str names)) ∙ each_of-map text_of_string str names ∙ each_of-images (λ n. Some n) (λ n. n) (λ n. refl) names ∙ ap Some (map-id names)
 
-link_part-read : (section : Section) (link : Link) (from to : List ℕ) (says : LinkChange) → link_part section link ≡ Some says
+link_change-read : (section : Section) (link : Link) (from to : List ℕ) (says : LinkChange) → link_change section link ≡ Some says
     → entry_in section (edn_of_entry (OfLink from to says)) ≡ Some (OfLink from to says)
-link_part-read Section.Cut link from to says said = rw (if_gives link.cut LinkChange.Cut says said) refl
-link_part-read Section.Slow link from to says said = rw (if_gives _ _ says said) refl
-link_part-read Section.Loss link from to says said = rw (if_gives _ _ says said) refl
-link_part-read Section.Down link from to says said = absurd cc
-link_part-read Section.Clock link from to says said = absurd cc
+link_change-read Section.Cut link from to says said = rw (if_gives link.cut LinkChange.Cut says said) refl
+link_change-read Section.Slow link from to says said = rw (if_gives _ _ says said) refl
+link_change-read Section.Loss link from to says said = rw (if_gives _ _ says said) refl
+link_change-read Section.Down link from to says said = absurd cc
+link_change-read Section.Clock link from to says said = absurd cc
 
-life_part-read : (life : Life) (name : List ℕ) (says : NodeChange) → life_part life ≡ Some says → entry_in Section.Down (edn_of_entry (OfNode name says)) ≡ Some (OfNode name says)
-life_part-read Running name says said = absurd cc
-life_part-read Paused name says said = let e : says ≡ NodeChange.Pause = cc in rw e refl
-life_part-read Killed name says said = let e : says ≡ NodeChange.Kill = cc in rw e refl
+life_change-read : (life : Life) (name : List ℕ) (says : NodeChange) → life_change life ≡ Some says → entry_in Section.Down (edn_of_entry (OfNode name says)) ≡ Some (OfNode name says)
+life_change-read Running name says said = absurd cc
+life_change-read Paused name says said = let e : says ≡ NodeChange.Pause = cc in rw e refl
+life_change-read Killed name says said = let e : says ≡ NodeChange.Kill = cc in rw e refl
 
-node_part-read : (section : Section) (cell : NodeCell) (name : List ℕ) (says : NodeChange) → node_part section cell ≡ Some says
+node_change-read : (section : Section) (cell : NodeCell) (name : List ℕ) (says : NodeChange) → node_change section cell ≡ Some says
     → entry_in section (edn_of_entry (OfNode name says)) ≡ Some (OfNode name says)
-node_part-read Section.Down cell name says said = life_part-read cell.process name says said
-node_part-read Section.Clock cell name says said = rw (unless_gives _ _ says said) refl
-node_part-read Section.Cut cell name says said = absurd cc
-node_part-read Section.Slow cell name says said = absurd cc
-node_part-read Section.Loss cell name says said = absurd cc
+node_change-read Section.Down cell name says said = life_change-read cell.process name says said
+node_change-read Section.Clock cell name says said = rw (unless_gives _ _ says said) refl
+node_change-read Section.Cut cell name says said = absurd cc
+node_change-read Section.Slow cell name says said = absurd cc
+node_change-read Section.Loss cell name says said = absurd cc
 
 -- an entry that is written is read as it is
 entries_read : (env : EnvValue) (section : Section) → All (λ e. entry_in section (edn_of_entry e) ≡ Some e) (entries_written env section)
 entries_read env section =
     all_written env (λ e. entry_in section (edn_of_entry e) ≡ Some e) section
-    (λ a b e made. let p = link_parts env section a b e made in rw p.is (link_part-read section p.link p.from p.to p.says p.said))
-    (λ a e made. let p = node_parts env section a e made in rw p.is (node_part-read section p.cell p.name p.says p.said))
+    (λ a b e made. let p = link_parts env section a b e made in rw p.is (link_change-read section p.link p.from p.to p.says p.said))
+    (λ a e made. let p = node_parts env section a e made in rw p.is (node_change-read section p.cell p.name p.says p.said))
 
 section_read : (env : EnvValue) (section : Section) → entries_of section (vector (items_of (map edn_of_entry (entries_written env section)))) ≡ Some (entries_written env section)
 section_read env section =

@@ -17,9 +17,9 @@ use Rattle.jh_env.specs.declared.texts.entries.NodeChange.{NodeChange}
 use Rattle.jh_env.specs.Overlay.{EnvValue, cells_of, link_of, node_of}
 use Rattle.jh_env.specs.Starting.{IsStartingLink, IsStartingNode}
 use Rattle.jh_env.specs.Text.{◌>>=◌, Entry, OfLink, OfNode, sections}
-use Rattle.jh_env.specs.TextErrors.{place_of, entry_error, entry_error_after, repeats, same_link_key, same_node_key, is_link_amount, is_node_amount, AreSound}
+use Rattle.jh_env.specs.TextErrors.{place_of, entry_error, entry_error_after, repeats, is_same_link_key, is_same_node_key, is_link_amount, is_node_amount, AreSound}
 use Rattle.jh_env.specs.TextLaws.{CanStart}
-use Rattle.jh_env.specs.TextWritten.{places, link_entry, node_entry, link_part, node_part, life_part, is_zero, entries_written}
+use Rattle.jh_env.specs.TextWritten.{places, link_entry, node_entry, link_change, node_change, life_change, is_zero, entries_written}
 use Rattle.jh_env.proofs.TextCellLemmas.{within, entry_error-link, entry_error-node, other_name, link_apart}
 use Rattle.jh_env.proofs.TextPlaceLemmas.{place_of-at}
 
@@ -36,7 +36,7 @@ pub record LinkParts (env : EnvValue) (section : Section) (a b : ℕ) (entry : E
   pub from_at : slice_get env.names a ≡ Some from
   pub to_at : slice_get env.names b ≡ Some to
   pub there : link_of env a b ≡ Some link
-  pub said : link_part section link ≡ Some says
+  pub said : link_change section link ≡ Some says
   pub is : entry ≡ OfLink from to says
 
 pub link_parts : (env : EnvValue) (section : Section) (a b : ℕ) (entry : Entry) → link_entry env section a b ≡ Some entry → LinkParts env section a b entry
@@ -44,7 +44,7 @@ link_parts env section a b entry made =
     let p = bind_gives (slice_get env.names a) _ entry made in
     let q = bind_gives (slice_get env.names b) _ entry p.2 in
     let r = bind_gives (link_of env a b) _ entry q.2 in
-    let s = bind_gives (link_part section r.0) (λ says. Some (OfLink p.0 q.0 says)) entry r.2 in
+    let s = bind_gives (link_change section r.0) (λ says. Some (OfLink p.0 q.0 says)) entry r.2 in
     let e : entry ≡ OfLink p.0 q.0 s.0 = cc (s.2) in
     record { from = p.0; to = q.0; link = r.0; says = s.0; from_at = p.1; to_at = q.1; there = r.1; said = s.1; is = e }
 
@@ -55,14 +55,14 @@ pub record NodeParts (env : EnvValue) (section : Section) (a : ℕ) (entry : Ent
   pub says : NodeChange
   pub name_at : slice_get env.names a ≡ Some name
   pub there : node_of env a ≡ Some cell
-  pub said : node_part section cell ≡ Some says
+  pub said : node_change section cell ≡ Some says
   pub is : entry ≡ OfNode name says
 
 pub node_parts : (env : EnvValue) (section : Section) (a : ℕ) (entry : Entry) → node_entry env section a ≡ Some entry → NodeParts env section a entry
 node_parts env section a entry made =
     let p = bind_gives (slice_get env.names a) _ entry made in
     let r = bind_gives (node_of env a) _ entry p.2 in
-    let s = bind_gives (node_part section r.0) (λ says. Some (OfNode p.0 says)) entry r.2 in
+    let s = bind_gives (node_change section r.0) (λ says. Some (OfNode p.0 says)) entry r.2 in
     let e : entry ≡ OfNode p.0 s.0 = cc (s.2) in
     record { name = p.0; cell = r.0; says = s.0; name_at = p.1; there = r.1; said = s.1; is = e }
 
@@ -75,31 +75,31 @@ unless_gives true x y is = absurd cc
 unless_gives false x y is = cc
 
 -- what is written of a link that may start is in its range
-link_part-amount : (section : Section) (link : Link) (says : LinkChange) → IsStartingLink link → link_part section link ≡ Some says → is_link_amount says ≡ true
-link_part-amount Section.Cut link says starts said = rw (if_gives link.cut LinkChange.Cut says said) refl
-link_part-amount Section.Slow link says starts said =
+link_change-amount : (section : Section) (link : Link) (says : LinkChange) → IsStartingLink link → link_change section link ≡ Some says → is_link_amount says ≡ true
+link_change-amount Section.Cut link says starts said = rw (if_gives link.cut LinkChange.Cut says said) refl
+link_change-amount Section.Slow link says starts said =
     let above : pos 0 ≤ℤ pos link.delay = omega (arith, ints) in
     let below : pos link.delay ≤ℤ pos 60000 = omega (arith, ints, starts.0) in
     rw (if_gives (nat_lt 0 link.delay) _ says said) (within (pos 0) (pos 60000) (pos link.delay) above below)
-link_part-amount Section.Loss link says starts said =
+link_change-amount Section.Loss link says starts said =
     let above : pos 0 ≤ℤ pos link.loss = omega (arith, ints) in
     let below : pos link.loss ≤ℤ pos 20 = omega (arith, ints, starts.1) in
     rw (if_gives (nat_lt 0 link.loss) _ says said) (within (pos 0) (pos 20) (pos link.loss) above below)
-link_part-amount Section.Down link says starts said = absurd cc
-link_part-amount Section.Clock link says starts said = absurd cc
+link_change-amount Section.Down link says starts said = absurd cc
+link_change-amount Section.Clock link says starts said = absurd cc
 
-life_part-amount : (life : Life) (says : NodeChange) → life_part life ≡ Some says → is_node_amount says ≡ true
-life_part-amount Running says said = absurd cc
-life_part-amount Paused says said = let e : says ≡ NodeChange.Pause = cc in rw e refl
-life_part-amount Killed says said = let e : says ≡ NodeChange.Kill = cc in rw e refl
+life_change-amount : (life : Life) (says : NodeChange) → life_change life ≡ Some says → is_node_amount says ≡ true
+life_change-amount Running says said = absurd cc
+life_change-amount Paused says said = let e : says ≡ NodeChange.Pause = cc in rw e refl
+life_change-amount Killed says said = let e : says ≡ NodeChange.Kill = cc in rw e refl
 
 -- and so of a node
-node_part-amount : (section : Section) (cell : NodeCell) (says : NodeChange) → IsStartingNode cell → node_part section cell ≡ Some says → is_node_amount says ≡ true
-node_part-amount Section.Down cell says starts said = life_part-amount cell.process says said
-node_part-amount Section.Clock cell says starts said = rw (unless_gives (is_zero cell.clock) _ says said) (within (negsuc (10 ^ 12 - 1)) (pos (10 ^ 12)) cell.clock (omega (arith, ints, starts.0)) starts.1)
-node_part-amount Section.Cut cell says starts said = absurd cc
-node_part-amount Section.Slow cell says starts said = absurd cc
-node_part-amount Section.Loss cell says starts said = absurd cc
+node_change-amount : (section : Section) (cell : NodeCell) (says : NodeChange) → IsStartingNode cell → node_change section cell ≡ Some says → is_node_amount says ≡ true
+node_change-amount Section.Down cell says starts said = life_change-amount cell.process says said
+node_change-amount Section.Clock cell says starts said = rw (unless_gives (is_zero cell.clock) _ says said) (within (negsuc (10 ^ 12 - 1)) (pos (10 ^ 12)) cell.clock (omega (arith, ints, starts.0)) starts.1)
+node_change-amount Section.Cut cell says starts said = absurd cc
+node_change-amount Section.Slow cell says starts said = absurd cc
+node_change-amount Section.Loss cell says starts said = absurd cc
 
 -- the fault of an entry that is written: none
 link_entry-sound : (env : EnvValue) (section : Section) (a b : ℕ) (entry : Entry) → CanStart env → link_entry env section a b ≡ Some entry → entry_error env.names entry ≡ None
@@ -108,14 +108,14 @@ link_entry-sound env section a b entry starts made =
     let from_place = place_of-at env.names a p.from starts.named p.from_at in
     let to_place = place_of-at env.names b p.to starts.named p.to_at in
     let apart = other_name env.names p.from p.to a b from_place to_place (link_apart (cells_of env) a b p.link p.there) in
-    let good = link_part-amount section p.link p.says (starts.links a b p.link p.there) p.said in
+    let good = link_change-amount section p.link p.says (starts.links a b p.link p.there) p.said in
     ap (entry_error env.names) p.is ∙ rw (entry_error-link env.names p.from p.to p.says a b from_place to_place, apart, good) refl
 
 node_entry-sound : (env : EnvValue) (section : Section) (a : ℕ) (entry : Entry) → CanStart env → node_entry env section a ≡ Some entry → entry_error env.names entry ≡ None
 node_entry-sound env section a entry starts made =
     let p = node_parts env section a entry made in
     let place = place_of-at env.names a p.name starts.named p.name_at in
-    let good = node_part-amount section p.cell p.says (starts.nodes a p.cell p.there) p.said in
+    let good = node_change-amount section p.cell p.says (starts.nodes a p.cell p.there) p.said in
     ap (entry_error env.names) p.is ∙ rw (entry_error-node env.names p.name p.says a place, good) refl
 
 all-filter_map : {X E : Type 0} (P : E → Type 0) (h : X → Option E) (xs : List X) → ((x : X) (e : E) → h x ≡ Some e → P e) → All P (filter_map h xs)
@@ -173,14 +173,14 @@ Climbs : List (List ℕ) → ℕ → ℕ → List Entry → Type 0
 Climbs names low high [] = low ≤ high
 Climbs names low high (e ∷ es) = (low ≤ rank names e) × Climbs names (rank names e + 1) high es
 
-same_link_number : (x y : LinkChange) → same_link_key x y ≡ true → link_number x ≡ link_number y
+same_link_number : (x y : LinkChange) → is_same_link_key x y ≡ true → link_number x ≡ link_number y
 unfolding link_number
 same_link_number LinkChange.Cut LinkChange.Cut same = refl
 same_link_number (LinkChange.Delay x) (LinkChange.Delay y) same = refl
 same_link_number (LinkChange.Loss x) (LinkChange.Loss y) same = refl
 same_link_number _ _ same = absurd cc
 
-same_node_number : (x y : NodeChange) → same_node_key x y ≡ true → node_number x ≡ node_number y
+same_node_number : (x y : NodeChange) → is_same_node_key x y ≡ true → node_number x ≡ node_number y
 unfolding node_number
 same_node_number (NodeChange.Clock x) (NodeChange.Clock y) same = refl
 same_node_number (NodeChange.Clock x) NodeChange.Pause same = absurd cc
@@ -196,11 +196,11 @@ same_node_number NodeChange.Kill NodeChange.Kill same = refl
 same_rank : (names : List (List ℕ)) (e d : Entry) → repeats e d ≡ true → rank names e ≡ rank names d
 unfolding rank
 same_rank names (OfLink a b x) (OfLink c d y) same =
-    let p = and_parts (bytes_eq a c) (bytes_eq b d && same_link_key x y) same in
-    let q = and_parts (bytes_eq b d) (same_link_key x y) p.1 in
+    let p = and_parts (bytes_eq a c) (bytes_eq b d && is_same_link_key x y) same in
+    let q = and_parts (bytes_eq b d) (is_same_link_key x y) p.1 in
     rw ((bytes_eq-Decides a c).0 p.0, (bytes_eq-Decides b d).0 q.0, same_link_number x y q.1) refl
 same_rank names (OfNode a x) (OfNode b y) same =
-    let p = and_parts (bytes_eq a b) (same_node_key x y) same in
+    let p = and_parts (bytes_eq a b) (is_same_node_key x y) same in
     rw ((bytes_eq-Decides a b).0 p.0, same_node_number x y p.1) refl
 same_rank names (OfLink a b x) (OfNode c y) same = absurd cc
 same_rank names (OfNode a x) (OfLink c d y) same = absurd cc
@@ -257,7 +257,7 @@ climbs-filter_map names g h s (suc m) rises each =
           (there.0, climbs-wider names (g (s + 1)) (g (s + suc m)) (rank names x + 1) (g (s + suc m)) (filter_map h (range_with_len (s + 1) m)) (omega (arith, there.1)) (omega arith) rest)
     ] refl
 
-part_number : (section : Section) (link : Link) (says : LinkChange) → link_part section link ≡ Some says → link_number says ≡ number section
+part_number : (section : Section) (link : Link) (says : LinkChange) → link_change section link ≡ Some says → link_number says ≡ number section
 unfolding link_number number
 part_number Section.Cut link says said = rw (if_gives link.cut LinkChange.Cut says said) refl
 part_number Section.Slow link says said = rw (if_gives (nat_lt 0 link.delay) _ says said) refl
@@ -265,13 +265,13 @@ part_number Section.Loss link says said = rw (if_gives (nat_lt 0 link.loss) _ sa
 part_number Section.Down link says said = absurd cc
 part_number Section.Clock link says said = absurd cc
 
-life_number : (life : Life) (says : NodeChange) → life_part life ≡ Some says → node_number says ≡ 3
+life_number : (life : Life) (says : NodeChange) → life_change life ≡ Some says → node_number says ≡ 3
 unfolding node_number
 life_number Running says said = absurd cc
 life_number Paused says said = let e : says ≡ NodeChange.Pause = cc in rw e refl
 life_number Killed says said = let e : says ≡ NodeChange.Kill = cc in rw e refl
 
-node_part_number : (section : Section) (cell : NodeCell) (says : NodeChange) → node_part section cell ≡ Some says → node_number says ≡ number section
+node_part_number : (section : Section) (cell : NodeCell) (says : NodeChange) → node_change section cell ≡ Some says → node_number says ≡ number section
 unfolding node_number number
 node_part_number Section.Down cell says said = life_number cell.process says said
 node_part_number Section.Clock cell says said = rw (unless_gives (is_zero cell.clock) _ says said) refl

@@ -15,7 +15,7 @@ env_value a = record {
 }
 
 -- good names, and a cell for each of them, at the start and now
-pub record IsWhole (a : Inside) : Type 0 where
+pub record IsWholeEnv (a : Inside) : Type 0 where
   pub names : AreFew a.names × AreNodeNames a.names
   pub start : length a.tables.start.nodes ≡ length a.names
   pub cells : length a.tables.cells.nodes ≡ length a.names

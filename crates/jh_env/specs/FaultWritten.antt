@@ -1,7 +1,7 @@
 -- The text that is written of a fault (this project's own): `[:cut LINKS]`, `[:slow MS LINKS]`,
--- `[:loss LEVEL LINKS]`, `[:fix MS LINKS]`, `[:pause NODES]`, `[:kill NODES]` and `[:bump {"n1" 500, ..}]`, where LINKS are
--- `[["n2" "n1"] ..]` and NODES `["n1" ..]`: links by the place of their source and then of their destination, nodes
--- and bumps by place.
+-- `[:loss LEVEL LINKS]`, `[:fix MS LINKS]`, `[:pause NODES]`, `[:kill NODES]` and
+-- `[:bump {"n1" 500, ..}]`, where LINKS are `[["n2" "n1"] ..]` and NODES `["n1" ..]`: links by the
+-- place of their source and then of their destination, nodes and bumps by place.
 use Rattle.std.specs.Prelude.{ℕ, Bool, ℤ, pos, List, [], ◌∷◌, map, codes, slice_index_or}
 use Rattle.std.specs.Ordering.{nat_cmp, ordering_then, is_lt}
 use Rattle.jh_edn.specs.Edn.{Edn, int, str, keyword, vector, mapping, items_of, members_of}
@@ -51,15 +51,18 @@ abbrev pub bumps_text : List (List ℕ) → List (ℕ × ℤ) → Edn
 bumps_text names bumps = mapping (members_of (map (bump_text names) bumps))
 
 -- the values of the text, in the order in which the fault holds its links, nodes or bumps
-abbrev pub fault_parts : List (List ℕ) → FaultValue → List Edn
-fault_parts names (Cut links) = keyword (codes "cut") ∷ links_text names links ∷ []
-fault_parts names (Slow ms links) = keyword (codes "slow") ∷ int (pos ms) ∷ links_text names links ∷ []
-fault_parts names (Loss level links) = keyword (codes "loss") ∷ int (pos level) ∷ links_text names links ∷ []
-fault_parts names (Fix ms links) = keyword (codes "fix") ∷ int (pos ms) ∷ links_text names links ∷ []
-fault_parts names (Pause nodes) = keyword (codes "pause") ∷ nodes_text names nodes ∷ []
-fault_parts names (Kill nodes) = keyword (codes "kill") ∷ nodes_text names nodes ∷ []
-fault_parts names (Bump bumps) = keyword (codes "bump") ∷ bumps_text names bumps ∷ []
+abbrev pub fault_values : List (List ℕ) → FaultValue → List Edn
+fault_values names (Cut links) = keyword (codes "cut") ∷ links_text names links ∷ []
+fault_values names (Slow ms links) =
+    keyword (codes "slow") ∷ int (pos ms) ∷ links_text names links ∷ []
+fault_values names (Loss level links) =
+    keyword (codes "loss") ∷ int (pos level) ∷ links_text names links ∷ []
+fault_values names (Fix ms links) =
+    keyword (codes "fix") ∷ int (pos ms) ∷ links_text names links ∷ []
+fault_values names (Pause nodes) = keyword (codes "pause") ∷ nodes_text names nodes ∷ []
+fault_values names (Kill nodes) = keyword (codes "kill") ∷ nodes_text names nodes ∷ []
+fault_values names (Bump bumps) = keyword (codes "bump") ∷ bumps_text names bumps ∷ []
 
 -- the text of a fault on nodes of these names
 abbrev pub text_of_fault : List (List ℕ) → FaultValue → Edn
-text_of_fault names fault = vector (items_of (fault_parts names (fault_in_order fault)))
+text_of_fault names fault = vector (items_of (fault_values names (fault_in_order fault)))

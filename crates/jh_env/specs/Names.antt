@@ -1,10 +1,14 @@
--- Names of nodes (this project's own): 1 to 64 different names, each of 1 to 64 letters, digits, dots, dashes and underscores.
-use Rattle.std.specs.Prelude.{◌≡◌, ℕ, ◌==◌, ◌&&◌, ◌||◌, ◌<◌, ◌≤◌, Bool, true, false, List, [], ◌∷◌, ◌++◌, length, nat_le, not}
+-- Names of nodes (this project's own): 1 to 64 different names, each of 1 to 64 letters, digits,
+-- dots, dashes and underscores.
+use Rattle.std.specs.Prelude.{◌≡◌, ℕ, ◌==◌, ◌&&◌, ◌||◌, ◌<◌, ◌≤◌, Bool, true, false, List, [], ◌∷◌}
+use Rattle.jh_edn.specs.Bytes.{underscore}
+use Rattle.std.specs.Prelude.{◌++◌, length, nat_le, not}
 use Rattle.std.specs.Char.{is_ascii_alphanumeric}
 use Rattle.std.specs.List.{list_all, list_any}
 use Rattle.std.specs.Str.{byte, bytes_eq}
 use Rattle.jh_env.specs.declared.names.NodesError.{NodesError}
-use Rattle.jh_env.specs.declared.names.NodesError.TheVariants.{NoNodes, TooManyNodes, BadName, DuplicateName, OutOfMemory}
+use Rattle.jh_env.specs.declared.names.NodesError.TheVariants.{NoNodes, TooManyNodes, BadName}
+use Rattle.jh_env.specs.declared.names.NodesError.TheVariants.{DuplicateName, OutOfMemory}
 
 -- the byte of `.`
 abbrev pub dot : ℕ
@@ -14,38 +18,39 @@ dot = byte "."
 abbrev pub dash : ℕ
 dash = byte "-"
 
--- the byte of `_`
-abbrev pub underscore : ℕ
-underscore = byte "_"
-
 -- a byte of a name
 abbrev pub is_name_byte : ℕ → Bool
 is_name_byte b = (is_ascii_alphanumeric b || (b == dot)) || ((b == dash) || (b == underscore))
 
 -- a text that may name a node
 abbrev pub is_node_name : List ℕ → Bool
-is_node_name name = not (length name == 0) && (nat_le (length name) 64 && list_all is_name_byte name)
+is_node_name name =
+    not (length name == 0) && (nat_le (length name) 64 && list_all is_name_byte name)
 
 -- the name is one of these
-abbrev pub is_among : List (List ℕ) → List ℕ → Bool
-is_among names name = list_any (bytes_eq name) names
+abbrev pub is_name_among : List (List ℕ) → List ℕ → Bool
+is_name_among names name = list_any (bytes_eq name) names
 
 -- the name may stand after these: it may name a node and is none of them
 abbrev pub MayFollow : List (List ℕ) → List ℕ → Type 0
-MayFollow names name = (is_node_name name ≡ true) × (is_among names name ≡ false)
+MayFollow names name = (is_node_name name ≡ true) × (is_name_among names name ≡ false)
 
 -- each may name a node, and none stands twice
 abbrev pub AreNodeNames : List (List ℕ) → Type 0
-AreNodeNames names = (before after : List (List ℕ)) (name : List ℕ) → names ≡ before ++ (name ∷ after) → MayFollow before name
+AreNodeNames names =
+    (before after : List (List ℕ)) (name : List ℕ) → names ≡ before ++ (name ∷ after)
+    → MayFollow before name
 
 -- as many names as an environment may have
 abbrev pub AreFew : List (List ℕ) → Type 0
 AreFew names = (0 < length names) × (length names ≤ 64)
 
--- why a name is refused after these, in this order: it is bad, it stands there already, memory was refused
+-- why a name is refused after these, in this order: it is bad, it stands there already, memory was
+-- refused
 abbrev pub RefusesName : List (List ℕ) → List ℕ → NodesError → Type 0
 RefusesName names name BadName = is_node_name name ≡ false
-RefusesName names name DuplicateName = (is_node_name name ≡ true) × (is_among names name ≡ true)
+RefusesName names name DuplicateName =
+    (is_node_name name ≡ true) × (is_name_among names name ≡ true)
 RefusesName names name OutOfMemory = MayFollow names name
 RefusesName names name NoNodes = ⊥
 RefusesName names name TooManyNodes = ⊥
@@ -53,7 +58,8 @@ RefusesName names name TooManyNodes = ⊥
 -- the first name that is refused, and why
 abbrev pub RefusesSomeName : List (List ℕ) → NodesError → Type 0
 RefusesSomeName names error =
-    (before after : List (List ℕ)) × (name : List ℕ) × (names ≡ before ++ (name ∷ after)) × AreNodeNames before × RefusesName before name error
+    (before after : List (List ℕ)) × (name : List ℕ) × (names ≡ before ++ (name ∷ after))
+    × AreNodeNames before × RefusesName before name error
 
 -- why names are refused: their number, else the first name that is refused
 abbrev pub RefusesNames : List (List ℕ) → NodesError → Type 0

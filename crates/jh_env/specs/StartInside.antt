@@ -7,7 +7,8 @@ use Rattle.jh_env.specs.declared.starting.Start.TheInside.{Inside}
 
 -- the names and the cells
 abbrev pub start_value : Inside → StartValue
-start_value a = record { names = a.names; cells = record { links = a.links.items; nodes = a.cells.items } }
+start_value a =
+    record { names = a.names; cells = record { links = a.links.items; nodes = a.cells.items } }
 
 -- good names, a cell for each pair of nodes and each node, and amounts within their ranges
 pub record IsSetUp (a : Inside) : Type 0 where

@@ -1,11 +1,12 @@
 -- A starting environment while it is set up (this project's own).
-use Rattle.std.specs.Prelude.{◌≡◌, ℕ, ◌≤◌, ◌<◌, ◌==◌, ◌&&◌, List, length, if◌then◌else◌, not, nat_lt, Some, None}
+use Rattle.std.specs.Prelude.{◌≡◌, ℕ, ◌≤◌, ◌<◌, ◌==◌, ◌&&◌, List, length, if◌then◌else◌, not}
+use Rattle.std.specs.Prelude.{nat_lt, Some, None}
 use Rattle.jh_tables.specs.declared.cells.Link.{Link}
 use Rattle.jh_tables.specs.declared.cells.NodeCell.{NodeCell}
 use Rattle.jh_env.specs.declared.starting.StartError.{StartError}
 use Rattle.jh_env.specs.declared.starting.StartError.TheVariants.{UnknownNode, SelfLink, BadAmount}
-use Rattle.jh_env.specs.Cells.{Table, calm, running, link_at, node_at}
-use Rattle.jh_tables.specs.Faults.{same_link}
+use Rattle.jh_env.specs.Cells.{Table, calm_link, running_node, link_at, node_at}
+use Rattle.jh_tables.specs.Faults.{is_same_link}
 pub use Rattle.jh_tables.specs.Standing.{IsStartingLink, IsStartingNode}
 
 -- what callers see of it: the names and the cells set so far
@@ -15,14 +16,20 @@ pub record StartValue : Type 0 where
 
 -- nothing is set: each link is calm and each node runs
 pub record IsCalm (s : StartValue) : Type 0 where
-  pub links : (a b : ℕ) → link_at s.cells a b ≡ (if nat_lt a (length s.names) && (nat_lt b (length s.names) && not (a == b)) then Some calm else None)
-  pub nodes : (a : ℕ) → node_at s.cells a ≡ (if nat_lt a (length s.names) then Some running else None)
+  pub links : (a b : ℕ)
+      → link_at s.cells a b
+      ≡ (if nat_lt a (length s.names) && (nat_lt b (length s.names) && not (a == b))
+      then Some calm_link else None)
+  pub nodes : (a : ℕ)
+      → node_at s.cells a ≡ (if nat_lt a (length s.names) then Some running_node else None)
 
 -- the link from a to b is set, within the ranges, and nothing else changes
 pub record SetsLink (old : StartValue) (a b : ℕ) (l : Link) (new : StartValue) : Type 0 where
   pub names : new.names ≡ old.names
   pub amounts : IsStartingLink l
-  pub links : (c d : ℕ) → link_at new.cells c d ≡ (if same_link (c, d) (a, b) then Some l else link_at old.cells c d)
+  pub links : (c d : ℕ)
+      → link_at new.cells c d
+      ≡ (if is_same_link (c, d) (a, b) then Some l else link_at old.cells c d)
   pub nodes : (c : ℕ) → node_at new.cells c ≡ node_at old.cells c
 
 -- the node's cell is set, within the range, and nothing else changes
@@ -36,7 +43,8 @@ pub record SetsNode (old : StartValue) (a : ℕ) (n : NodeCell) (new : StartValu
 abbrev pub AreEnds : StartValue → ℕ → ℕ → Type 0
 AreEnds s a b = (a < length s.names) × (b < length s.names)
 
--- why a link is not set: an unknown node, a node linked with itself, an amount out of range, in this order
+-- why a link is not set: an unknown node, a node linked with itself, an amount out of range, in
+-- this order
 abbrev pub RefusesLink : StartValue → ℕ → ℕ → Link → StartError → Type 0
 RefusesLink s a b l UnknownNode = AreEnds s a b → ⊥
 RefusesLink s a b l SelfLink = AreEnds s a b × (a ≡ b)

@@ -1,9 +1,12 @@
--- The text of an environment, as an EDN value (this project's own; the kinds of element are those of EDN's format
--- description): a map of `:nodes`, the names, and of the entries under `:cut`, `:slow`, `:loss`, `:down` and `:clock`.
-use Rattle.std.specs.Prelude.{ℕ, Bool, false, List, [], ◌∷◌, map, if◌then◌else◌, codes, bytes_eq, find, Option, Some, None, option_map, option_and_then, ok_or, Result, Err}
+-- The text of an environment, as an EDN value (this project's own; the kinds of element are those
+-- of EDN's format description): a map of `:nodes`, the names, and of the entries under `:cut`,
+-- `:slow`, `:loss`, `:down` and `:clock`.
+use Rattle.std.specs.Prelude.{ℕ, Bool, List, [], ◌∷◌, map, if◌then◌else◌, codes, bytes_eq, Option}
+use Rattle.std.specs.Prelude.{Some, None, option_map, option_and_then, ok_or, Result, Err}
 use Rattle.std.specs.List.{list_all, list_any, flat_map}
 use Rattle.std.specs.Option.{option_map_or}
-use Rattle.jh_edn.specs.Edn.{Edn, int, str, keyword, mapping, Members, no_members, member, elements_of}
+use Rattle.jh_edn.specs.Edn.{Edn, int, str, keyword, mapping, elements_of, is_keyword, value_under}
+use Rattle.jh_edn.specs.Edn.{pairs_in}
 use Rattle.jh_env.specs.declared.texts.EnvTextError.{EnvTextError}
 use Rattle.jh_env.specs.declared.texts.EnvTextError.TheVariants.{NotMap, UnknownKey, MissingNodes}
 use Rattle.jh_env.specs.declared.texts.entries.Section.{Section}
@@ -20,11 +23,6 @@ pub data Entry : Type 0 where
   OfLink : List ℕ → List ℕ → LinkChange → Entry
   OfNode : List ℕ → NodeChange → Entry
 
--- the pairs of a map, as a list
-abbrev pub pairs_in : Members → List (Edn × Edn)
-pairs_in no_members = []
-pairs_in (member key value ms) = (key, value) ∷ pairs_in ms
-
 -- the text of a string
 abbrev pub text_of_string : Edn → Option (List ℕ)
 text_of_string (str text) = Some text
@@ -33,8 +31,10 @@ text_of_string _ = None
 -- the entry that these values spell under a key
 abbrev pub entry_of : Section → List Edn → Option Entry
 entry_of Section.Cut (str from ∷ str to ∷ []) = Some (OfLink from to LinkChange.Cut)
-entry_of Section.Slow (str from ∷ str to ∷ int ms ∷ []) = Some (OfLink from to (LinkChange.Delay ms))
-entry_of Section.Loss (str from ∷ str to ∷ int level ∷ []) = Some (OfLink from to (LinkChange.Loss level))
+entry_of Section.Slow (str from ∷ str to ∷ int ms ∷ []) =
+    Some (OfLink from to (LinkChange.Delay ms))
+entry_of Section.Loss (str from ∷ str to ∷ int level ∷ []) =
+    Some (OfLink from to (LinkChange.Loss level))
 entry_of Section.Down (str node ∷ keyword life ∷ []) =
     if bytes_eq life (codes "paused") then Some (OfNode node NodeChange.Pause)
     else if bytes_eq life (codes "killed") then Some (OfNode node NodeChange.Kill)
@@ -66,18 +66,10 @@ sections = Section.Cut ∷ Section.Slow ∷ Section.Loss ∷ Section.Down ∷ Se
 abbrev pub nodes_keyword : List ℕ
 nodes_keyword = codes "nodes"
 
--- the keyword of this name
-abbrev pub is_keyword : List ℕ → Edn → Bool
-is_keyword name (keyword text) = bytes_eq text name
-is_keyword name _ = false
-
 -- a pair whose key is one of the six
 abbrev pub has_known_key : (Edn × Edn) → Bool
-has_known_key pair = list_any (λ name. is_keyword name pair.0) (nodes_keyword ∷ map keyword_of sections)
-
--- the value under a keyword: that of the first pair with it
-abbrev pub value_under : List ℕ → List (Edn × Edn) → Option Edn
-value_under name pairs = option_map (λ pair. pair.1) (find (λ pair. is_keyword name pair.0) pairs)
+has_known_key pair =
+    list_any (λ name. is_keyword name pair.0) (nodes_keyword ∷ map keyword_of sections)
 
 -- the names: strings
 abbrev pub names_of : Edn → Option (List (List ℕ))
@@ -93,7 +85,8 @@ entries_of section value = elements_of value >>= each_of (entry_in section)
 
 -- the entries of a section: a missing key means none
 abbrev pub entries_under : List (Edn × Edn) → Section → Option (List Entry)
-entries_under pairs section = option_map_or (entries_of section) (value_under (keyword_of section) pairs) (Some [])
+entries_under pairs section =
+    option_map_or (entries_of section) (value_under (keyword_of section) pairs) (Some [])
 
 -- the names and entries of a text
 pub record Shape : Type 0 where
@@ -106,16 +99,18 @@ pub record Keys : Type 0 where
   pub pairs : List (Edn × Edn)
 
 -- the keys of a text: it is a map, each key is known, and the names are there
-abbrev pub keys_of : Edn → Result Keys EnvTextError
-keys_of (mapping ms) =
+abbrev pub text_keys : Edn → Result Keys EnvTextError
+text_keys (mapping ms) =
     if list_all has_known_key (pairs_in ms)
-    then ok_or (option_map (λ nodes. record { nodes = nodes; pairs = pairs_in ms }) (value_under nodes_keyword (pairs_in ms))) MissingNodes
+    then ok_or (option_map (λ nodes. record { nodes = nodes; pairs = pairs_in ms })
+    (value_under nodes_keyword (pairs_in ms))) MissingNodes
     else Err UnknownKey
-keys_of _ = Err NotMap
+text_keys _ = Err NotMap
 
 -- all entries, section by section
 abbrev pub all_entries : List (Edn × Edn) → Option (List Entry)
-all_entries pairs = option_map (flat_map (λ entries. entries)) (each_of (entries_under pairs) sections)
+all_entries pairs =
+    option_map (flat_map (λ entries. entries)) (each_of (entries_under pairs) sections)
 
 -- the names and entries, where each value is of its shape
 abbrev pub shape_of : Keys → Option Shape

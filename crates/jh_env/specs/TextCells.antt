@@ -1,12 +1,13 @@
 -- What the text of an environment says of each link and node (this project's own).
-use Rattle.std.specs.Prelude.{◌≡◌, ℕ, ◌==◌, ◌&&◌, Bool, true, false, not, nat_abs, List, length, if◌then◌else◌, nat_lt, fold, Option, Some, None}
+use Rattle.std.specs.Prelude.{◌≡◌, ℕ, ◌==◌, ◌&&◌, Bool, true, false, not, nat_abs, List, length}
+use Rattle.std.specs.Prelude.{if◌then◌else◌, nat_lt, fold, Option, Some, None}
 use Rattle.jh_edn.specs.Edn.{Edn}
 use Rattle.jh_tables.specs.declared.cells.Life.TheVariants.{Paused, Killed}
 use Rattle.jh_tables.specs.declared.cells.Link.{Link}
 use Rattle.jh_tables.specs.declared.cells.NodeCell.{NodeCell}
 use Rattle.jh_env.specs.declared.texts.entries.LinkChange.{LinkChange}
 use Rattle.jh_env.specs.declared.texts.entries.NodeChange.{NodeChange}
-use Rattle.jh_env.specs.Cells.{Table, calm, running, link_at, node_at}
+use Rattle.jh_env.specs.Cells.{Table, calm_link, running_node, link_at, node_at}
 use Rattle.jh_env.specs.Names.{AreNodeNames, AreFew}
 use Rattle.jh_env.specs.Text.{Entry, OfLink, OfNode, Shape}
 use Rattle.jh_env.specs.TextErrors.{place_of, AreSound, HasShape}
@@ -31,22 +32,30 @@ is_place (Some place) a = a == place
 -- what an entry makes of the link from the a-th node to the b-th
 abbrev pub link_after : List (List ℕ) → ℕ → ℕ → Link → Entry → Link
 link_after names a b link (OfLink from to says) =
-    if is_place (place_of names from) a && is_place (place_of names to) b then link_with says link else link
+    if is_place (place_of names from) a && is_place (place_of names to) b then link_with says link
+    else link
 link_after names a b link (OfNode node says) = link
 
 -- what an entry makes of the a-th node
 abbrev pub node_after : List (List ℕ) → ℕ → NodeCell → Entry → NodeCell
 node_after names a cell (OfLink from to says) = cell
-node_after names a cell (OfNode node says) = if is_place (place_of names node) a then node_with says cell else cell
+node_after names a cell (OfNode node says) =
+    if is_place (place_of names node) a then node_with says cell else cell
 
 -- the cells are those that the entries tell: what no entry mentions is calm, and runs
 pub record AreCellsOf (names : List (List ℕ)) (entries : List Entry) (cells : Table) : Type 0 where
   pub links : (a b : ℕ) → link_at cells a b
-      ≡ (if nat_lt a (length names) && (nat_lt b (length names) && not (a == b)) then Some (fold (link_after names a b) calm entries) else None)
-  pub nodes : (a : ℕ) → node_at cells a ≡ (if nat_lt a (length names) then Some (fold (node_after names a) running entries) else None)
+      ≡ (if nat_lt a (length names) && (nat_lt b (length names) && not (a == b))
+      then Some (fold (link_after names a b) calm_link entries) else None)
+  pub nodes : (a : ℕ)
+      → node_at cells a
+      ≡ (if nat_lt a (length names) then Some (fold (node_after names a) running_node entries)
+      else None)
 
--- the text is of a good shape, has good names and no entry in error, and these are its names and the cells that it tells
+-- the text is of a good shape, has good names and no entry in error, and these are its names and
+-- the cells that it tells
 abbrev pub IsTextOf : Edn → List (List ℕ) → Table → Type 0
 IsTextOf value names cells =
-    (shape : Shape) × HasShape value shape × (shape.names ≡ names) × AreFew names × AreNodeNames names
+    (shape : Shape) × HasShape value shape × (shape.names ≡ names) × AreFew names
+    × AreNodeNames names
     × AreSound names shape.entries × AreCellsOf names shape.entries cells

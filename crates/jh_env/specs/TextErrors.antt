@@ -1,16 +1,22 @@
--- Why the text of an environment is refused (this project's own): its keys, the shape of its values, its names,
--- then the first entry in error.
-use Rattle.std.specs.Prelude.{◌≡◌, ℕ, ◌-◌, ◌^◌, ◌<◌, ◌&&◌, Bool, true, false, not, ℤ, pos, negsuc, int_le, List, [], ◌∷◌, take, if◌then◌else◌, slice_get, position, bytes_eq, Option, Some, None, is_some, option_and_then, Ok, Err}
+-- Why the text of an environment is refused (this project's own): its keys, the shape of its
+-- values, its names, then the first entry in error.
+use Rattle.std.specs.Prelude.{◌≡◌, ℕ, ◌-◌, ◌^◌, ◌<◌, ◌&&◌, Bool, true, false, not, ℤ, pos, negsuc}
+use Rattle.std.specs.Prelude.{int_le, List, [], ◌∷◌, take, if◌then◌else◌, slice_get, position}
+use Rattle.std.specs.Prelude.{bytes_eq, Option, Some, None, is_some, option_and_then, Ok, Err}
 use Rattle.std.specs.List.{list_all, list_any}
 use Rattle.std.specs.Option.{option_or}
 use Rattle.jh_edn.specs.Edn.{Edn}
 use Rattle.jh_env.specs.declared.names.NodesError.{NodesError}
 use Rattle.jh_env.specs.declared.texts.EnvTextError.{EnvTextError}
-use Rattle.jh_env.specs.declared.texts.EnvTextError.TheVariants.{NotMap, UnknownKey, MissingNodes, BadEntry, NoNodes, TooManyNodes, BadName, DuplicateName, UnknownNode, SelfLink, BadAmount, RepeatedEntry, OutOfMemory}
+use Rattle.jh_env.specs.declared.texts.EnvTextError.TheVariants.{NotMap, UnknownKey, MissingNodes}
+use Rattle.jh_env.specs.declared.texts.EnvTextError.TheVariants.{BadEntry, NoNodes, TooManyNodes}
+use Rattle.jh_env.specs.declared.texts.EnvTextError.TheVariants.{BadName, DuplicateName}
+use Rattle.jh_env.specs.declared.texts.EnvTextError.TheVariants.{UnknownNode, SelfLink, BadAmount}
+use Rattle.jh_env.specs.declared.texts.EnvTextError.TheVariants.{RepeatedEntry, OutOfMemory}
 use Rattle.jh_env.specs.declared.texts.entries.LinkChange.{LinkChange}
 use Rattle.jh_env.specs.declared.texts.entries.NodeChange.{NodeChange}
 use Rattle.jh_env.specs.Names.{AreNodeNames, AreFew, RefusesNames}
-use Rattle.jh_env.specs.Text.{Entry, OfLink, OfNode, Keys, keys_of, Shape, shape_of}
+use Rattle.jh_env.specs.Text.{Entry, OfLink, OfNode, Keys, text_keys, Shape, shape_of}
 
 -- the place of a name among the names
 abbrev pub place_of : List (List ℕ) → List ℕ → Option ℕ
@@ -34,13 +40,15 @@ links_itself (OfNode node says) = false
 abbrev pub is_within : ℤ → ℤ → ℤ → Bool
 is_within least most z = int_le least z && int_le z most
 
--- what is said of a link is in its range: a delay of 0 to 60,000 milliseconds, a level of loss of 0 to 20
+-- what is said of a link is in its range: a delay of 0 to 60,000 milliseconds, a level of loss of 0
+-- to 20
 abbrev pub is_link_amount : LinkChange → Bool
 is_link_amount LinkChange.Cut = true
 is_link_amount (LinkChange.Delay ms) = is_within (pos 0) (pos 60000) ms
 is_link_amount (LinkChange.Loss level) = is_within (pos 0) (pos 20) level
 
--- what is said of a node is in its range: a clock that is off by at most 10^12 milliseconds either way
+-- what is said of a node is in its range: a clock that is off by at most 10^12 milliseconds either
+-- way
 abbrev pub is_node_amount : NodeChange → Bool
 is_node_amount (NodeChange.Clock ms) = is_within (negsuc (10 ^ 12 - 1)) (pos (10 ^ 12)) ms
 is_node_amount _ = true
@@ -59,28 +67,30 @@ entry_error names entry =
     else None
 
 -- both stand under one key
-abbrev pub same_link_key : LinkChange → LinkChange → Bool
-same_link_key LinkChange.Cut LinkChange.Cut = true
-same_link_key (LinkChange.Delay x) (LinkChange.Delay y) = true
-same_link_key (LinkChange.Loss x) (LinkChange.Loss y) = true
-same_link_key _ _ = false
+abbrev pub is_same_link_key : LinkChange → LinkChange → Bool
+is_same_link_key LinkChange.Cut LinkChange.Cut = true
+is_same_link_key (LinkChange.Delay x) (LinkChange.Delay y) = true
+is_same_link_key (LinkChange.Loss x) (LinkChange.Loss y) = true
+is_same_link_key _ _ = false
 
 -- both stand under one key: `:clock`, or `:down`
-abbrev pub same_node_key : NodeChange → NodeChange → Bool
-same_node_key (NodeChange.Clock x) (NodeChange.Clock y) = true
-same_node_key (NodeChange.Clock x) _ = false
-same_node_key _ (NodeChange.Clock y) = false
-same_node_key _ _ = true
+abbrev pub is_same_node_key : NodeChange → NodeChange → Bool
+is_same_node_key (NodeChange.Clock x) (NodeChange.Clock y) = true
+is_same_node_key (NodeChange.Clock x) _ = false
+is_same_node_key _ (NodeChange.Clock y) = false
+is_same_node_key _ _ = true
 
 -- both name the same link or the same node, under one key
 abbrev pub repeats : Entry → Entry → Bool
-repeats (OfLink a b x) (OfLink c d y) = bytes_eq a c && (bytes_eq b d && same_link_key x y)
-repeats (OfNode a x) (OfNode b y) = bytes_eq a b && same_node_key x y
+repeats (OfLink a b x) (OfLink c d y) = bytes_eq a c && (bytes_eq b d && is_same_link_key x y)
+repeats (OfNode a x) (OfNode b y) = bytes_eq a b && is_same_node_key x y
 repeats _ _ = false
 
 -- the error of an entry, judged against those before it
 abbrev pub entry_error_after : List (List ℕ) → List Entry → Entry → Option EnvTextError
-entry_error_after names before entry = option_or (entry_error names entry) (if list_any (repeats entry) before then Some RepeatedEntry else None)
+entry_error_after names before entry =
+    option_or (entry_error names entry)
+    (if list_any (repeats entry) before then Some RepeatedEntry else None)
 
 -- the error of the entry at a place
 abbrev pub entry_error_at : List (List ℕ) → List Entry → ℕ → Option EnvTextError
@@ -94,32 +104,36 @@ AreSound names entries = (place : ℕ) → entry_error_at names entries place �
 -- the first entry in error has this error
 abbrev pub HasEntryError : List (List ℕ) → List Entry → EnvTextError → Type 0
 HasEntryError names entries error =
-    (place : ℕ) × (entry_error_at names entries place ≡ Some error) × ((earlier : ℕ) → earlier < place → entry_error_at names entries earlier ≡ None)
+    (place : ℕ) × (entry_error_at names entries place ≡ Some error)
+    × ((earlier : ℕ) → earlier < place → entry_error_at names entries earlier ≡ None)
 
 -- these are the names and entries of the text
 abbrev pub HasShape : Edn → Shape → Type 0
-HasShape value shape = (keys : Keys) × (keys_of value ≡ Ok keys) × (shape_of keys ≡ Some shape)
+HasShape value shape = (keys : Keys) × (text_keys value ≡ Ok keys) × (shape_of keys ≡ Some shape)
 
 -- its names are refused
-abbrev pub RefusesNodes : Edn → NodesError → Type 0
-RefusesNodes value error = (shape : Shape) × HasShape value shape × RefusesNames shape.names error
+abbrev pub RefusesTextNames : Edn → NodesError → Type 0
+RefusesTextNames value error =
+    (shape : Shape) × HasShape value shape × RefusesNames shape.names error
 
 -- its first entry in error has this error
 abbrev pub RefusesEntry : Edn → EnvTextError → Type 0
-RefusesEntry value error = (shape : Shape) × HasShape value shape × AreFew shape.names × AreNodeNames shape.names × HasEntryError shape.names shape.entries error
+RefusesEntry value error =
+    (shape : Shape) × HasShape value shape × AreFew shape.names × AreNodeNames shape.names
+    × HasEntryError shape.names shape.entries error
 
 -- Why a text is refused. Memory is needed only once its keys are good.
-abbrev pub RefusesText : Edn → EnvTextError → Type 0
-RefusesText value NotMap = keys_of value ≡ Err NotMap
-RefusesText value UnknownKey = keys_of value ≡ Err UnknownKey
-RefusesText value MissingNodes = keys_of value ≡ Err MissingNodes
-RefusesText value BadEntry = (keys : Keys) × (keys_of value ≡ Ok keys) × (shape_of keys ≡ None)
-RefusesText value NoNodes = RefusesNodes value NodesError.NoNodes
-RefusesText value TooManyNodes = RefusesNodes value NodesError.TooManyNodes
-RefusesText value BadName = RefusesNodes value NodesError.BadName
-RefusesText value DuplicateName = RefusesNodes value NodesError.DuplicateName
-RefusesText value UnknownNode = RefusesEntry value UnknownNode
-RefusesText value SelfLink = RefusesEntry value SelfLink
-RefusesText value BadAmount = RefusesEntry value BadAmount
-RefusesText value RepeatedEntry = RefusesEntry value RepeatedEntry
-RefusesText value OutOfMemory = (keys : Keys) × (keys_of value ≡ Ok keys)
+abbrev pub RefusesEnvText : Edn → EnvTextError → Type 0
+RefusesEnvText value NotMap = text_keys value ≡ Err NotMap
+RefusesEnvText value UnknownKey = text_keys value ≡ Err UnknownKey
+RefusesEnvText value MissingNodes = text_keys value ≡ Err MissingNodes
+RefusesEnvText value BadEntry = (keys : Keys) × (text_keys value ≡ Ok keys) × (shape_of keys ≡ None)
+RefusesEnvText value NoNodes = RefusesTextNames value NodesError.NoNodes
+RefusesEnvText value TooManyNodes = RefusesTextNames value NodesError.TooManyNodes
+RefusesEnvText value BadName = RefusesTextNames value NodesError.BadName
+RefusesEnvText value DuplicateName = RefusesTextNames value NodesError.DuplicateName
+RefusesEnvText value UnknownNode = RefusesEntry value UnknownNode
+RefusesEnvText value SelfLink = RefusesEntry value SelfLink
+RefusesEnvText value BadAmount = RefusesEntry value BadAmount
+RefusesEnvText value RepeatedEntry = RefusesEntry value RepeatedEntry
+RefusesEnvText value OutOfMemory = (keys : Keys) × (text_keys value ≡ Ok keys)

@@ -1,12 +1,16 @@
 -- What a contract sees of what a program reads of a text.
-use Rattle.std.specs.Prelude.{◌≡◌, ◌<◌, ℕ, List, [], ◌∷◌, length, codes, ◌++◌, map, Option, Some, None, option_map, ⊤, Bool, true, pos, int_le}
+use Rattle.std.specs.Prelude.{◌≡◌, ◌<◌, ℕ, List, [], ◌∷◌, length, codes, ◌++◌, map, Option, Some}
+use Rattle.std.specs.Prelude.{None, option_map, ⊤, Bool, true, pos, int_le}
 use Rattle.jh_edn.specs.Edn.{Edn, int, keyword}
 use Rattle.jh_tables.specs.declared.cells.Link.{Link}
 use Rattle.jh_tables.specs.declared.cells.NodeCell.{NodeCell}
 use Rattle.jh_env.specs.declared.names.NodesError.{NodesError}
 use Rattle.jh_tables.specs.declared.faults.LinkFault.{LinkFault}
 use Rattle.jh_env.specs.declared.texts.EnvTextError.{EnvTextError}
-use Rattle.jh_env.specs.declared.texts.EnvTextError.TheVariants.{NoNodes, TooManyNodes, BadName, DuplicateName, BadEntry, UnknownNode, SelfLink, BadAmount, OutOfMemory}
+use Rattle.jh_env.specs.declared.texts.EnvTextError.TheVariants.{NoNodes, TooManyNodes, BadName}
+use Rattle.jh_env.specs.declared.texts.EnvTextError.TheVariants.{DuplicateName, BadEntry}
+use Rattle.jh_env.specs.declared.texts.EnvTextError.TheVariants.{UnknownNode, SelfLink, BadAmount}
+use Rattle.jh_env.specs.declared.texts.EnvTextError.TheVariants.{OutOfMemory}
 use Rattle.jh_env.specs.declared.texts.entries.Entry.{Entry}
 use Rattle.jh_env.specs.declared.starting.StartError.{StartError}
 use Rattle.jh_env.specs.Cells.{link_at, node_at}
@@ -25,16 +29,16 @@ entry_parsed (Entry.Node node says) = text.OfNode node.now says
 abbrev pub entries_parsed : List Entry → List text.Entry
 entries_parsed entries = map entry_parsed entries
 
--- what is told, after what was told before
-abbrev pub with_front : {A : Type 0} → List A → Option (List A) → Option (List A)
-with_front front told = option_map (λ more. front ++ more) told
+-- what is parsed, after what was parsed before
+abbrev pub list_with_front : {A : Type 0} → List A → Option (List A) → Option (List A)
+list_with_front front parsed = option_map (λ more. front ++ more) parsed
 
 -- the word of a fault of links and its amount, before the links of a fault's text
-abbrev pub effect_parts : LinkFault → List Edn
-effect_parts LinkFault.Cut = keyword (codes "cut") ∷ []
-effect_parts (LinkFault.Slow ms) = keyword (codes "slow") ∷ int (pos ms) ∷ []
-effect_parts (LinkFault.Loss level) = keyword (codes "loss") ∷ int (pos level) ∷ []
-effect_parts (LinkFault.Fix ms) = keyword (codes "fix") ∷ int (pos ms) ∷ []
+abbrev pub link_fault_values : LinkFault → List Edn
+link_fault_values LinkFault.Cut = keyword (codes "cut") ∷ []
+link_fault_values (LinkFault.Slow ms) = keyword (codes "slow") ∷ int (pos ms) ∷ []
+link_fault_values (LinkFault.Loss level) = keyword (codes "loss") ∷ int (pos level) ∷ []
+link_fault_values (LinkFault.Fix ms) = keyword (codes "fix") ∷ int (pos ms) ∷ []
 
 -- the error for names that are refused
 abbrev pub nodes_error : NodesError → EnvTextError
@@ -46,9 +50,9 @@ nodes_error NodesError.OutOfMemory = OutOfMemory
 
 -- why values are refused by their shape: there is nothing that they tell, or memory is refused
 abbrev pub RefusesShape : {A : Type 0} → Option A → EnvTextError → Type 0
-RefusesShape told BadEntry = told ≡ None
-RefusesShape told OutOfMemory = ⊤
-RefusesShape told _ = ⊥
+RefusesShape parsed BadEntry = parsed ≡ None
+RefusesShape parsed OutOfMemory = ⊤
+RefusesShape parsed _ = ⊥
 
 -- a link can hold what is said of it: a delay is a natural number, a level of loss a byte
 abbrev pub fits_link : LinkChange → Bool
@@ -62,16 +66,22 @@ cell_error StartError.UnknownNode = UnknownNode
 cell_error StartError.SelfLink = SelfLink
 cell_error StartError.BadAmount = BadAmount
 
--- each cell may be one at the start, and there is one for each node and for each link between two of them
+-- each cell may be one at the start, and there is one for each node and for each link between two
+-- of them
 pub record AreStarting (start : StartValue) : Type 0 where
   pub links : (a b : ℕ) (link : Link) → link_at start.cells a b ≡ Some link → IsStartingLink link
   pub nodes : (a : ℕ) (cell : NodeCell) → node_at start.cells a ≡ Some cell → IsStartingNode cell
-  pub no_link : (a b : ℕ) → a < length start.names → b < length start.names → link_at start.cells a b ≡ None → a ≡ b
+  pub no_link : (a b : ℕ) → a < length start.names → b < length start.names
+      → link_at start.cells a b ≡ None → a ≡ b
   pub no_node : (a : ℕ) → a < length start.names → node_at start.cells a ≡ None → ⊥
 
 -- each cell becomes what the entry makes of it
 pub record SetsEntry (old : StartValue) (entry : text.Entry) (new : StartValue) : Type 0 where
   pub names : new.names ≡ old.names
-  pub links : (a b : ℕ) → link_at new.cells a b ≡ option_map (λ link. link_after old.names a b link entry) (link_at old.cells a b)
-  pub nodes : (a : ℕ) → node_at new.cells a ≡ option_map (λ cell. node_after old.names a cell entry) (node_at old.cells a)
+  pub links : (a b : ℕ)
+      → link_at new.cells a b
+      ≡ option_map (λ link. link_after old.names a b link entry) (link_at old.cells a b)
+  pub nodes : (a : ℕ)
+      → node_at new.cells a
+      ≡ option_map (λ cell. node_after old.names a cell entry) (node_at old.cells a)
   pub starting : AreStarting new

@@ -1,6 +1,9 @@
--- The text that is written of an environment (this project's own): all six keys in order, and under them what is
--- not calm or not running, links by the place of their source and then of their destination, nodes by place.
-use Rattle.std.specs.Prelude.{ℕ, ◌==◌, Bool, false, ℤ, pos, nat_lt, List, [], ◌∷◌, map, length, filter_map, flat_map, if◌then◌else◌, codes, slice_get, Option, Some, None}
+-- The text that is written of an environment (this project's own): all six keys in order, and under
+-- them what is not calm or not running, links by the place of their source and then of their
+-- destination, nodes by place.
+use Rattle.std.specs.Prelude.{ℕ, ◌==◌, Bool, false, ℤ, pos, nat_lt, List, [], ◌∷◌, map, length}
+use Rattle.std.specs.Prelude.{filter_map, flat_map, if◌then◌else◌, codes, slice_get, Option, Some}
+use Rattle.std.specs.Prelude.{None}
 use Rattle.std.specs.List.{range_with_len}
 use Rattle.jh_edn.specs.Edn.{Edn, int, str, keyword, vector, mapping, items_of, members_of}
 use Rattle.jh_tables.specs.declared.cells.Life.{Life}
@@ -14,17 +17,19 @@ use Rattle.jh_env.specs.Overlay.{EnvValue, link_of, node_of}
 use Rattle.jh_env.specs.Text.{◌>>=◌, Entry, OfLink, OfNode, keyword_of, nodes_keyword, sections}
 
 -- what a link is said to be under a key, if anything
-abbrev pub link_part : Section → Link → Option LinkChange
-link_part Section.Cut link = if link.cut then Some LinkChange.Cut else None
-link_part Section.Slow link = if nat_lt 0 link.delay then Some (LinkChange.Delay (pos link.delay)) else None
-link_part Section.Loss link = if nat_lt 0 link.loss then Some (LinkChange.Loss (pos link.loss)) else None
-link_part _ link = None
+abbrev pub link_change : Section → Link → Option LinkChange
+link_change Section.Cut link = if link.cut then Some LinkChange.Cut else None
+link_change Section.Slow link =
+    if nat_lt 0 link.delay then Some (LinkChange.Delay (pos link.delay)) else None
+link_change Section.Loss link =
+    if nat_lt 0 link.loss then Some (LinkChange.Loss (pos link.loss)) else None
+link_change _ link = None
 
 -- what a process is said to be, if anything
-abbrev pub life_part : Life → Option NodeChange
-life_part Running = None
-life_part Paused = Some NodeChange.Pause
-life_part Killed = Some NodeChange.Kill
+abbrev pub life_change : Life → Option NodeChange
+life_change Running = None
+life_change Paused = Some NodeChange.Pause
+life_change Killed = Some NodeChange.Kill
 
 -- the integer 0
 abbrev pub is_zero : ℤ → Bool
@@ -32,10 +37,11 @@ is_zero (pos n) = n == 0
 is_zero _ = false
 
 -- what a node is said to be under a key, if anything
-abbrev pub node_part : Section → NodeCell → Option NodeChange
-node_part Section.Down node = life_part node.process
-node_part Section.Clock node = if is_zero node.clock then None else Some (NodeChange.Clock node.clock)
-node_part _ node = None
+abbrev pub node_change : Section → NodeCell → Option NodeChange
+node_change Section.Down node = life_change node.process
+node_change Section.Clock node =
+    if is_zero node.clock then None else Some (NodeChange.Clock node.clock)
+node_change _ node = None
 
 -- the entry of the link from a to b under a key, if there is one
 abbrev pub link_entry : EnvValue → Section → ℕ → ℕ → Option Entry
@@ -43,7 +49,7 @@ link_entry env section a b = do
   from ← slice_get env.names a
   to ← slice_get env.names b
   link ← link_of env a b
-  says ← link_part section link
+  says ← link_change section link
   Some (OfLink from to says)
 
 -- the entry of the node a under a key, if there is one
@@ -51,7 +57,7 @@ abbrev pub node_entry : EnvValue → Section → ℕ → Option Entry
 node_entry env section a = do
   name ← slice_get env.names a
   cell ← node_of env a
-  says ← node_part section cell
+  says ← node_change section cell
   Some (OfNode name says)
 
 -- the places of the nodes
@@ -62,7 +68,8 @@ places env = range_with_len 0 (length env.names)
 abbrev pub entries_written : EnvValue → Section → List Entry
 entries_written env Section.Down = filter_map (node_entry env Section.Down) (places env)
 entries_written env Section.Clock = filter_map (node_entry env Section.Clock) (places env)
-entries_written env section = flat_map (λ a. filter_map (link_entry env section a) (places env)) (places env)
+entries_written env section =
+    flat_map (λ a. filter_map (link_entry env section a) (places env)) (places env)
 
 -- the values that spell what is said of a link, after its ends
 abbrev pub link_amounts : LinkChange → List Edn
@@ -83,9 +90,15 @@ edn_of_entry (OfNode node says) = vector (items_of (str node ∷ node_amount say
 
 -- a key with its entries
 abbrev pub section_pair : EnvValue → Section → Edn × Edn
-section_pair env section = (keyword (keyword_of section), vector (items_of (map edn_of_entry (entries_written env section))))
+section_pair env section = (
+  keyword (keyword_of section),
+  vector
+      (items_of (map edn_of_entry (entries_written env section))),
+)
 
 -- the text of an environment as it is now
 abbrev pub text_of : EnvValue → Edn
 text_of env =
-    mapping (members_of ((keyword nodes_keyword, vector (items_of (map str env.names))) ∷ map (section_pair env) sections))
+    mapping (members_of
+    ((keyword nodes_keyword, vector (items_of (map str env.names)))
+    ∷ map (section_pair env) sections))

@@ -1,10 +1,13 @@
-//! An environment: names, and the tables of their cells. `specs/Overlay.antt` says which faults it stands for.
+//! An environment: names, and the tables of their cells. `specs/Overlay.antt` says which faults it
+//! stands for.
 
 ghost use Rattle.std.specs.Prelude.{◌≡◌, ◌<◌, ◌≤◌, ◌+◌, [], length, IfOk, IfSome};
-ghost use Rattle.jh_tables.specs.Standing.{IsLinkInRange, IsNodeInRange, IsPut, IsTaken, StandsAtSome, max_put};
+ghost use Rattle.jh_tables.specs.Standing.{IsLinkInRange, IsNodeInRange, IsPut, IsTaken};
+ghost use Rattle.jh_tables.specs.Standing.{StandsAtSome, max_put};
 ghost use Rattle.jh_env.specs.Names.{AreFew, AreNodeNames};
-ghost use Rattle.jh_env.specs.Overlay.{StandsFor, StandsWith, SamePlace, cells_of, link_of, node_of, tables_of, work_of};
-ghost use Rattle.jh_env.specs.Faults.{FitsCount, size_of};
+ghost use Rattle.jh_env.specs.Overlay.{StandsFor, StandsWith, KeepsStart, cells_of, link_of};
+ghost use Rattle.jh_env.specs.Overlay.{node_of, tables_of, work_of};
+ghost use Rattle.jh_env.specs.Faults.{FitsCount, fault_size};
 
 use crate::faults::Fault;
 use crate::names::Nodes;
@@ -16,14 +19,16 @@ use std::marker::Model;
 /// The most faults that can be put and not taken.
 pub const MAX_LAID: usize = jh_tables::MAX_LAID;
 
-/// The most milliseconds by which a message can be late: a minute at the start or by a fix, and one for each fault.
+/// The most milliseconds by which a message can be late: a minute at the start or by a fix, and one
+/// for each fault.
 pub const MAX_DELAY: u64 = 60_000 * 257;
 
-/// The most milliseconds by which a clock can be off, either way: 10^12 at the start and 10^9 for each fault.
+/// The most milliseconds by which a clock can be off, either way: 10^12 at the start and 10^9 for
+/// each fault.
 pub const MAX_OFFSET: u64 = 1_000_000_000_000 + 256 * 1_000_000_000;
 
-/// Cells of links and nodes, and what faults make of them. A contract sees the names, the starting cells, the cells
-/// now, what is kept of the faults, and how many are put.
+/// Cells of links and nodes, and what faults make of them. A contract sees the names, the starting
+/// cells, the cells now, what is kept of the faults, and how many are put.
 #[derive(Debug, Drop)]
 pub struct Env {
     names: Nodes,
@@ -35,11 +40,11 @@ impl Model for Env {
 
     ghost Value = { EnvValue };
 
-    ghost use Rattle.jh_env.specs.EnvInside.{env_value, IsWhole};
+    ghost use Rattle.jh_env.specs.EnvInside.{env_value, IsWholeEnv};
 
     ghost view = { env_value };
 
-    ghost invariant = { IsWhole };
+    ghost invariant = { IsWholeEnv };
 }
 
 impl Env {
@@ -58,8 +63,8 @@ impl Env {
         Ok(Env { names, tables })
     }
 
-    /// An environment with the same names, start and cells, in which the same faults stand, and as often written. Takes
-    /// time and memory for every cell.
+    /// An environment with the same names, start and cells, in which the same faults stand, and as
+    /// often written. Takes time and memory for every cell.
     pub fn copy(&self, alloc: Global) -> Result<Env, AllocError>
         ensures { IfOk result (λ copy. copy ≡ self.now) }
     {
@@ -78,8 +83,8 @@ impl Env {
         &self.names
     }
 
-    /// The link from one node to another, where both are nodes of the environment and differ. It goes through the fixes
-    /// that stand, at most 256.
+    /// The link from one node to another, where both are nodes of the environment and differ. It
+    /// goes through the fixes that stand, at most 256.
     pub fn link(&self, from: Node, to: Node) -> Option<Link>
         ensures link { result ≡ link_of self.now from to }
         ensures within { IfSome result IsLinkInRange }
@@ -109,24 +114,26 @@ impl Env {
         self.tables.work()
     }
 
-    /// Puts a fault on the cells, at the place of its stamp among those that stand; none of them has that stamp. It takes
-    /// no memory. At most one cell is written for each link or node that the fault names, and one entry for a fix.
+    /// Puts a fault on the cells, at the place of its stamp among those that stand; none of them
+    /// has that stamp. It takes no memory. At most one cell is written for each link or node that
+    /// the fault names, and one entry for a fix.
     pub fn put(&mut self, fault: &Fault, stamp: u32)
         requires fits { FitsCount (length self.old.names) fault.now }
         requires room { self.old.laid < max_put }
         ensures stands { IsPut (stamp, fault.now) (tables_of self.old) (tables_of self.new) }
-        ensures kept { SamePlace self.old self.new }
-        ensures work { work_of self.new ≤ work_of self.old + size_of fault.now }
+        ensures kept { KeepsStart self.old self.new }
+        ensures work { work_of self.new ≤ work_of self.old + fault_size fault.now }
     {
         self.tables.put(&fault.fault, stamp);
     }
 
-    /// Takes a fault off the cells, which was put with this stamp. It takes no memory, and writes as much as `put`.
+    /// Takes a fault off the cells, which was put with this stamp. It takes no memory, and writes
+    /// as much as `put`.
     pub fn take(&mut self, fault: &Fault, stamp: u32)
         requires { StandsAtSome (tables_of self.old) (stamp, fault.now) }
         ensures stands { IsTaken (stamp, fault.now) (tables_of self.old) (tables_of self.new) }
-        ensures kept { SamePlace self.old self.new }
-        ensures work { work_of self.new ≤ work_of self.old + size_of fault.now }
+        ensures kept { KeepsStart self.old self.new }
+        ensures work { work_of self.new ≤ work_of self.old + fault_size fault.now }
     {
         self.tables.take(&fault.fault, stamp);
     }

@@ -1,12 +1,14 @@
-//! Faults that name nodes of an environment, each link and node once, and why others are refused: `specs/Faults.antt` has
-//! the rules. What a fault is and does stands in jh_tables, where a new kind is added first.
+//! Faults that name nodes of an environment, each link and node once, and why others are refused:
+//! `specs/Faults.antt` has the rules. What a fault is and does stands in jh_tables, where a new
+//! kind is added first.
 
-ghost use Rattle.std.specs.Prelude.{◌≡◌, ◌≢◌, ◌↔◌, ◌==◌, length, false, IsTrue, [], MatchResult, IfOk, ⊤};
+ghost use Rattle.std.specs.Prelude.{◌≡◌, ◌≢◌, ◌↔◌, ◌==◌, length, false, IsTrue, [], MatchResult};
+ghost use Rattle.std.specs.Prelude.{IfOk, ⊤};
 ghost use Rattle.std.specs.List.{All, list_any};
-ghost use Rattle.jh_tables.specs.Plain.{on_links, on_nodes};
+ghost use Rattle.jh_tables.specs.Plain.{fault_on_links, fault_on_nodes};
 ghost use Rattle.jh_env.specs.Effects.{IsLinkAmount};
 ghost use Rattle.jh_env.specs.Faults.{
-  kept_by,
+  kept_list,
   kept_links,
   kept_nodes,
   FitsCount,
@@ -24,7 +26,7 @@ ghost use Rattle.jh_env.specs.Faults.{
   is_self_link,
   is_unknown_node,
   is_unknown_bump,
-  same_bumped,
+  is_same_bumped,
 };
 ghost use Rattle.jh_tables.specs.Faults.FaultValue.{Cut, Slow, Loss, Fix, Pause, Kill, Bump};
 
@@ -80,7 +82,7 @@ pub enum FaultError {
     OutOfMemory,
 }
 
-// Whether the amount of a fault of links is in its range.
+/// Whether the amount of a fault of links is in its range.
 fn is_right(kind: LinkFault) -> bool
     ensures { IsTrue result ↔ IsLinkAmount kind }
 {
@@ -92,54 +94,59 @@ fn is_right(kind: LinkFault) -> bool
     }
 }
 
+/// Whether the amount of a bump is in its range.
 fn is_bump_amount(ms: i64) -> bool
     ensures { IsTrue result ↔ IsBumpAmount ms }
 {
     ms != 0 && -MAX_BUMPED <= ms && ms <= MAX_BUMPED
 }
 
-// Whether a link has an end that is none of count nodes.
+/// Whether a link has an end that is none of count nodes.
 fn is_any_end_unknown(count: usize, links: &[(Node, Node)]) -> bool
     ensures { result ≡ list_any (is_unknown_link count) links.now }
 {
     links.iter().any(|link| link.0.place() as usize >= count || link.1.place() as usize >= count)
 }
 
+/// Whether a link goes from a node to itself.
 fn is_any_self_link(links: &[(Node, Node)]) -> bool
     ensures { result ≡ list_any is_self_link links.now }
 {
     links.iter().any(|link| link.0.place() == link.1.place())
 }
 
+/// Whether a node is none of count nodes.
 fn is_any_node_unknown(count: usize, nodes: &[Node]) -> bool
     ensures { result ≡ list_any (is_unknown_node count) nodes.now }
 {
     nodes.iter().any(|node| node.place() as usize >= count)
 }
 
+/// Whether a bump names a node that is none of count nodes.
 fn is_any_bump_unknown(count: usize, bumps: &[(Node, i64)]) -> bool
     ensures { result ≡ list_any (is_unknown_bump count) bumps.now }
 {
     bumps.iter().any(|bump| bump.0.place() as usize >= count)
 }
 
+/// Whether the amount of each bump is in its range.
 fn are_bump_amounts(bumps: &[(Node, i64)]) -> bool
     ensures { IsTrue result ↔ All (λ b. IsBumpAmount b.1) bumps.now }
 {
     bumps.iter().all(|bump| is_bump_amount(bump.1))
 }
 
-// Whether one of these bumps the node.
+/// Whether one of these bumps the node.
 fn is_bumped(bumps: &[(Node, i64)], node: Node) -> bool
     ensures { result ≡ list_any (λ b. b.0 == node) bumps.now }
 {
     bumps.iter().any(|bump| bump.0.place() == node.place())
 }
 
-// Whether no node is bumped twice. The first repeat ends the search, so each bump is compared with at most as
-// many as there are nodes.
+/// Whether no node is bumped twice. The first repeat ends the search, so each bump is compared with
+/// at most as many as there are nodes.
 fn are_apart(bumps: &[(Node, i64)]) -> bool
-    ensures { IsTrue result ↔ AreApart same_bumped bumps.now }
+    ensures { IsTrue result ↔ AreApart is_same_bumped bumps.now }
 {
     for place in 0..bumps.len() {
         if is_bumped(&bumps[..place], bumps[place].0) {
@@ -149,9 +156,11 @@ fn are_apart(bumps: &[(Node, i64)]) -> bool
     true
 }
 
-// Each of these once, in the order of their first mentions. Looks each up in a hashed set of those that are kept.
+/// Each of these once, in the order of their first mentions. Looks each up in a hashed set of those
+/// that are kept.
 fn each_once<T: Copy + Eq + Hash + Drop>(alloc: Global, items: &[T]) -> Result<Vec<T>, AllocError>
-    ensures { MatchResult result (λ kept. kept.items ≡ kept_by T.eq [] items.now) (λ _. items.now ≢ []) }
+    ensures { MatchResult result (λ kept. kept.items ≡ kept_list T.eq [] items.now)
+        (λ _. items.now ≢ []) }
 {
     let mut seen = IndexSet::new(alloc);
     let mut kept = Vec::new(alloc);
@@ -163,7 +172,7 @@ fn each_once<T: Copy + Eq + Hash + Drop>(alloc: Global, items: &[T]) -> Result<V
     Ok(kept)
 }
 
-// These, in a vector of their own.
+/// These, in a vector of their own.
 fn copied(alloc: Global, bumps: &[(Node, i64)]) -> Result<Vec<(Node, i64)>, AllocError>
     ensures { MatchResult result (λ copy. copy.items ≡ bumps.now) (λ _. bumps.now ≢ []) }
 {
@@ -174,6 +183,7 @@ fn copied(alloc: Global, bumps: &[(Node, i64)]) -> Result<Vec<(Node, i64)>, Allo
     Ok(copy)
 }
 
+/// The fault of this kind on these links, each kept once, or why it is refused.
 fn on_links_of(
     alloc: Global,
     nodes: &Nodes,
@@ -181,7 +191,8 @@ fn on_links_of(
     links: &[(Node, Node)],
 ) -> Result<Fault, FaultError>
     ensures made { MatchResult result
-        (λ fault. (fault ≡ on_links kind (kept_links links.now)) × AreLinksOf (length nodes.now) links.now × IsLinkAmount kind)
+        (λ fault. (fault ≡ fault_on_links kind (kept_links links.now))
+        × AreLinksOf (length nodes.now) links.now × IsLinkAmount kind)
         (RefusesLinks (length nodes.now) links.now (IsLinkAmount kind)) }
     ensures fits { IfOk result (FitsCount (length nodes.now)) }
 {
@@ -202,6 +213,7 @@ fn on_links_of(
     }
 }
 
+/// The fault of this kind on these nodes, each kept once, or why it is refused.
 fn on_nodes_of(
     alloc: Global,
     nodes: &Nodes,
@@ -209,7 +221,8 @@ fn on_nodes_of(
     named: &[Node],
 ) -> Result<Fault, FaultError>
     ensures made { MatchResult result
-        (λ fault. (fault ≡ on_nodes kind (kept_nodes named.now)) × (list_any (is_unknown_node (length nodes.now)) named.now ≡ false))
+        (λ fault. (fault ≡ fault_on_nodes kind (kept_nodes named.now))
+        × (list_any (is_unknown_node (length nodes.now)) named.now ≡ false))
         (RefusesNodes (length nodes.now) named.now) }
     ensures fits { IfOk result (FitsCount (length nodes.now)) }
 {
@@ -224,18 +237,21 @@ fn on_nodes_of(
     }
 }
 
+/// Whether these are the same links in the same order.
 fn are_same_links(links: &[(Node, Node)], others: &[(Node, Node)]) -> bool
     ensures { IsTrue result ↔ (links.now ≡ others.now) }
 {
     links == others
 }
 
+/// Whether these are the same nodes in the same order.
 fn are_same_nodes(nodes: &[Node], others: &[Node]) -> bool
     ensures { IsTrue result ↔ (nodes.now ≡ others.now) }
 {
     nodes == others
 }
 
+/// Whether these are the same bumps in the same order.
 fn are_same_bumps(bumps: &[(Node, i64)], others: &[(Node, i64)]) -> bool
     ensures { IsTrue result ↔ (bumps.now ≡ others.now) }
 {
@@ -243,21 +259,23 @@ fn are_same_bumps(bumps: &[(Node, i64)], others: &[(Node, i64)]) -> bool
 }
 
 impl Fault {
-    /// Cuts links, each from its first node to its second. A link that is named twice is kept once; a
-    /// fault that names no link is allowed. Takes time linear in the links given: each is looked up in a
-    /// hashed set of those kept so far, of which 64 nodes have at most 4,032.
+    /// Cuts links, each from its first node to its second. A link that is named twice is kept once;
+    /// a fault that names no link is allowed. Takes time linear in the links given: each is looked
+    /// up in a hashed set of those kept so far, of which 64 nodes have at most 4,032.
     ///
     /// Errors, over all links: `UnknownNode`, `SelfLink`, `OutOfMemory`.
     pub fn cut(alloc: Global, nodes: &Nodes, links: &[(Node, Node)]) -> Result<Fault, FaultError>
         ensures made { MatchResult result
-            (λ fault. (fault ≡ Cut (kept_links links.now)) × AreLinksOf (length nodes.now) links.now)
+            (λ fault. (fault ≡ Cut (kept_links links.now))
+            × AreLinksOf (length nodes.now) links.now)
             (RefusesLinks (length nodes.now) links.now ⊤) }
         ensures fits { IfOk result (FitsCount (length nodes.now)) }
     {
         on_links_of(alloc, nodes, LinkFault::Cut, links)
     }
 
-    /// Makes messages on links later, by 1 to 60,000 milliseconds. Links are kept as `cut` keeps them.
+    /// Makes messages on links later, by 1 to 60,000 milliseconds. Links are kept as `cut` keeps
+    /// them.
     ///
     /// Errors, over all links: `UnknownNode`, `SelfLink`, `BadAmount`, `OutOfMemory`.
     pub fn slow(
@@ -267,7 +285,8 @@ impl Fault {
         ms: u64,
     ) -> Result<Fault, FaultError>
         ensures made { MatchResult result
-            (λ fault. (fault ≡ Slow ms (kept_links links.now)) × AreLinksOf (length nodes.now) links.now × IsSlowAmount ms)
+            (λ fault. (fault ≡ Slow ms (kept_links links.now))
+            × AreLinksOf (length nodes.now) links.now × IsSlowAmount ms)
             (RefusesLinks (length nodes.now) links.now (IsSlowAmount ms)) }
         ensures fits { IfOk result (FitsCount (length nodes.now)) }
     {
@@ -284,15 +303,17 @@ impl Fault {
         level: u8,
     ) -> Result<Fault, FaultError>
         ensures made { MatchResult result
-            (λ fault. (fault ≡ Loss level (kept_links links.now)) × AreLinksOf (length nodes.now) links.now × IsLossAmount level)
+            (λ fault. (fault ≡ Loss level (kept_links links.now))
+            × AreLinksOf (length nodes.now) links.now × IsLossAmount level)
             (RefusesLinks (length nodes.now) links.now (IsLossAmount level)) }
         ensures fits { IfOk result (FitsCount (length nodes.now)) }
     {
         on_links_of(alloc, nodes, LinkFault::Loss(level), links)
     }
 
-    /// Fixes the delay of links, at 0 to 60,000 milliseconds, whatever it was before; slow delays come on top. Of several
-    /// fixes of a link the last one counts. Links are kept as `cut` keeps them.
+    /// Fixes the delay of links, at 0 to 60,000 milliseconds, whatever it was before; slow delays
+    /// come on top. Of several fixes of a link the last one counts. Links are kept as `cut` keeps
+    /// them.
     ///
     /// Errors, over all links: `UnknownNode`, `SelfLink`, `BadAmount`, `OutOfMemory`.
     pub fn fix(
@@ -302,20 +323,22 @@ impl Fault {
         ms: u64,
     ) -> Result<Fault, FaultError>
         ensures made { MatchResult result
-            (λ fault. (fault ≡ Fix ms (kept_links links.now)) × AreLinksOf (length nodes.now) links.now × IsFixAmount ms)
+            (λ fault. (fault ≡ Fix ms (kept_links links.now))
+            × AreLinksOf (length nodes.now) links.now × IsFixAmount ms)
             (RefusesLinks (length nodes.now) links.now (IsFixAmount ms)) }
         ensures fits { IfOk result (FitsCount (length nodes.now)) }
     {
         on_links_of(alloc, nodes, LinkFault::Fix(ms), links)
     }
 
-    /// Pauses the processes of nodes. A node that is named twice is kept once; a fault that names no node
-    /// is allowed.
+    /// Pauses the processes of nodes. A node that is named twice is kept once; a fault that names
+    /// no node is allowed.
     ///
     /// Errors, over all nodes: `UnknownNode`, `OutOfMemory`.
     pub fn pause(alloc: Global, nodes: &Nodes, paused: &[Node]) -> Result<Fault, FaultError>
         ensures made { MatchResult result
-            (λ fault. (fault ≡ Pause (kept_nodes paused.now)) × (list_any (is_unknown_node (length nodes.now)) paused.now ≡ false))
+            (λ fault. (fault ≡ Pause (kept_nodes paused.now))
+            × (list_any (is_unknown_node (length nodes.now)) paused.now ≡ false))
             (RefusesNodes (length nodes.now) paused.now) }
         ensures fits { IfOk result (FitsCount (length nodes.now)) }
     {
@@ -327,20 +350,24 @@ impl Fault {
     /// Errors, over all nodes: `UnknownNode`, `OutOfMemory`.
     pub fn kill(alloc: Global, nodes: &Nodes, killed: &[Node]) -> Result<Fault, FaultError>
         ensures made { MatchResult result
-            (λ fault. (fault ≡ Kill (kept_nodes killed.now)) × (list_any (is_unknown_node (length nodes.now)) killed.now ≡ false))
+            (λ fault. (fault ≡ Kill (kept_nodes killed.now))
+            × (list_any (is_unknown_node (length nodes.now)) killed.now ≡ false))
             (RefusesNodes (length nodes.now) killed.now) }
         ensures fits { IfOk result (FitsCount (length nodes.now)) }
     {
         on_nodes_of(alloc, nodes, NodeFault::Kill, killed)
     }
 
-    /// Moves the clocks of nodes, each by some milliseconds, at most 10^9 either way. A fault that names no
-    /// node is allowed.
+    /// Moves the clocks of nodes, each by some milliseconds, at most 10^9 either way. A fault that
+    /// names no node is allowed.
     ///
-    /// Errors, over all nodes: `UnknownNode`, `BadAmount` also where a node is named twice, `OutOfMemory`.
+    /// Errors, over all nodes: `UnknownNode`, `BadAmount` also where a node is named twice,
+    /// `OutOfMemory`.
     pub fn bump(alloc: Global, nodes: &Nodes, bumps: &[(Node, i64)]) -> Result<Fault, FaultError>
         ensures made { MatchResult result
-            (λ fault. (fault ≡ Bump bumps.now) × (list_any (is_unknown_bump (length nodes.now)) bumps.now ≡ false) × AreBumps bumps.now)
+            (λ fault. (fault ≡ Bump bumps.now)
+            × (list_any (is_unknown_bump (length nodes.now)) bumps.now ≡ false)
+            × AreBumps bumps.now)
             (RefusesBumps (length nodes.now) bumps.now) }
         ensures fits { IfOk result (FitsCount (length nodes.now)) }
     {
@@ -374,7 +401,8 @@ impl Fault {
         Ok(Fault { fault })
     }
 
-    /// Whether the other is the same fault: it does the same to the same links or nodes, which both name in one order.
+    /// Whether the other is the same fault: it does the same to the same links or nodes, which both
+    /// name in one order.
     pub fn is_same(&self, other: &Fault) -> bool
         ensures { IsTrue result ↔ (self.now ≡ other.now) }
     {

@@ -1,4 +1,5 @@
-//! The simulated environment of a test: names, faults that name them, and tables of what faults make of the cells.
+//! The simulated environment of a test: names, faults that name them, and tables of what faults
+//! make of the cells.
 #![tactic(auto)]
 
 mod environment;

@@ -1,11 +1,13 @@
 //! Nodes and their names. `specs/Names.antt` says which lists of names an environment may have.
 
-ghost use Rattle.std.specs.Prelude.{◌≡◌, ◌<◌, ◌≤◌, ◌++◌, ◌∷◌, [], map, length, slice_get, position, option_map, IfOk, MatchResult, MatchOption};
+ghost use Rattle.std.specs.Prelude.{◌≡◌, ◌<◌, ◌≤◌, ◌++◌, ◌∷◌, [], map, length, slice_get, position};
+ghost use Rattle.std.specs.Prelude.{option_map, IfOk, MatchResult, MatchOption};
 ghost use Rattle.std.specs.List.{list_all};
 ghost use Rattle.std.specs.Str.{bytes_eq};
 ghost use Rattle.std.specs.String.{string_bytes};
 ghost use Rattle.jh_env.specs.Names as rule;
-ghost use Rattle.jh_env.specs.Names.{AreNodeNames, AreFew, MayFollow, RefusesName, RefusesNames, is_name_byte};
+ghost use Rattle.jh_env.specs.Names.{AreNodeNames, AreFew, MayFollow, RefusesName, RefusesNames};
+ghost use Rattle.jh_env.specs.Names.{is_name_byte};
 
 use indexmap::IndexSet;
 use jh_tables::Node;
@@ -29,7 +31,8 @@ impl Model for Nodes {
 
     ghost view = { λ a. map string_bytes a.names.keys };
 
-    ghost invariant = { λ a. (0 < length a.names.keys) × (length a.names.keys ≤ 64) × AreNodeNames (map string_bytes a.names.keys) };
+    ghost invariant = { λ a. (0 < length a.names.keys) × (length a.names.keys ≤ 64)
+        × AreNodeNames (map string_bytes a.names.keys) };
 }
 
 /// Why names are refused.
@@ -58,23 +61,25 @@ fn is_node_name(name: &str) -> bool
     are_name_bytes(bytes)
 }
 
-// Whether each of these bytes may stand in a name.
+/// Whether each of these bytes may stand in a name.
 fn are_name_bytes(bytes: &[u8]) -> bool
     ensures { result ≡ list_all is_name_byte bytes.now }
 {
     bytes.iter().all(|byte| is_name_byte(*byte))
 }
 
+/// Whether the byte may stand in a name.
 fn is_name_byte(byte: u8) -> bool
     ensures { result ≡ rule.is_name_byte byte }
 {
     byte.is_ascii_alphanumeric() || byte == b'.' || byte == b'-' || byte == b'_'
 }
 
-// Adds a name, if it may stand after those that are there.
+/// Adds a name, if it may stand after those that are there.
 fn add_name(alloc: Global, set: &mut IndexSet<String>, name: &str) -> Result<(), NodesError>
     ensures { MatchResult result
-        (λ _. (map string_bytes set.new.keys ≡ map string_bytes set.old.keys ++ name.now ∷ []) × MayFollow (map string_bytes set.old.keys) name.now)
+        (λ _. (map string_bytes set.new.keys ≡ map string_bytes set.old.keys ++ name.now ∷ [])
+        × MayFollow (map string_bytes set.old.keys) name.now)
         (RefusesName (map string_bytes set.old.keys) name.now) }
 {
     if !is_node_name(name) {
@@ -92,10 +97,11 @@ fn add_name(alloc: Global, set: &mut IndexSet<String>, name: &str) -> Result<(),
     }
 }
 
-// The same names, in a set of their own.
+/// The same names, in a set of their own.
 #[tactic(auto, using(crate::proofs::NameLemmas::same_texts, crate::proofs::NameLemmas::as_many_texts))]
 fn copied(names: &IndexSet<String>) -> Result<IndexSet<String>, AllocError>
-    ensures names { IfOk result (λ copy. map string_bytes copy.keys ≡ map string_bytes names.now.keys) }
+    ensures names { IfOk result
+        (λ copy. map string_bytes copy.keys ≡ map string_bytes names.now.keys) }
     ensures count { IfOk result (λ copy. length copy.keys ≡ length names.now.keys) }
 {
     let copy = names.clone()?;
@@ -125,7 +131,7 @@ impl Nodes {
         Ok(Nodes { names: set })
     }
 
-    // The same names.
+    /// The same names.
     pub(crate) fn copy(&self) -> Result<Nodes, AllocError>
         ensures { IfOk result (λ copy. copy ≡ self.now) }
     {
@@ -153,7 +159,8 @@ impl Nodes {
 
     /// The node at this place, from 0.
     pub fn at(&self, place: u8) -> Option<Node>
-        ensures { MatchOption result (length self.now ≤ place) (λ node. (node ≡ place) × (node < length self.now)) }
+        ensures { MatchOption result (length self.now ≤ place)
+            (λ node. (node ≡ place) × (node < length self.now)) }
     {
         if (place as usize) < self.len() {
             Some(Node::at(place))

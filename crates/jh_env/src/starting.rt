@@ -1,7 +1,8 @@
-//! A starting environment while it is set up. `specs/Starting.antt` says what each call changes and refuses.
+//! A starting environment while it is set up. `specs/Starting.antt` says what each call changes and
+//! refuses.
 
-ghost use Rattle.std.specs.Prelude.{◌≡◌, ℕ, length, Some, IfOk, MatchResult};
-ghost use Rattle.jh_env.specs.Cells.{calm, running, link_at, node_at};
+ghost use Rattle.std.specs.Prelude.{◌≡◌, Some, IfOk, MatchResult};
+ghost use Rattle.jh_env.specs.Cells.{link_at, node_at};
 ghost use Rattle.jh_env.specs.Starting.{SetsLink, SetsNode, RefusesLink, RefusesNode, IsCalm};
 
 use crate::names::Nodes;
@@ -83,8 +84,8 @@ impl Start {
 
     /// Sets the link from one node to another.
     ///
-    /// Errors, which change nothing: `UnknownNode`; `SelfLink`; `BadAmount` where the delay is above 60,000
-    /// or the level of loss above 20.
+    /// Errors, which change nothing: `UnknownNode`; `SelfLink`; `BadAmount` where the delay is
+    /// above 60,000 or the level of loss above 20.
     pub fn set_link(&mut self, from: Node, to: Node, link: Link) -> Result<(), StartError>
         ensures { MatchResult result
             (λ _. SetsLink self.old from to link self.new)
@@ -107,8 +108,8 @@ impl Start {
 
     /// Sets a node's cell.
     ///
-    /// Errors, which change nothing: `UnknownNode`; `BadAmount` where the clock is off by more than 10^12
-    /// milliseconds either way.
+    /// Errors, which change nothing: `UnknownNode`; `BadAmount` where the clock is off by more than
+    /// 10^12 milliseconds either way.
     pub fn set_node(&mut self, node: Node, cell: NodeCell) -> Result<(), StartError>
         ensures { MatchResult result
             (λ _. SetsNode self.old node cell self.new)

@@ -1,14 +1,14 @@
 //! The text of an environment, as an EDN value: read and written.
 //!
-//! `specs/Text.antt` says which value spells which names and entries, `specs/TextErrors.antt` which are
-//! refused, `specs/TextCells.antt` what entries tell of the cells, and `specs/TextWritten.antt` what is
-//! written. A key is added there, and in `texts/entries.rt`.
+//! `specs/Text.antt` says which value spells which names and entries, `specs/TextErrors.antt` which
+//! are refused, `specs/TextCells.antt` what entries tell of the cells, and `specs/TextWritten.antt`
+//! what is written. A key is added there, and in `texts/entries.rt`.
 
 ghost use Rattle.std.specs.Prelude.{◌≡◌, [], MatchResult, IfOk};
 ghost use Rattle.jh_edn.specs.View.{view};
 ghost use Rattle.jh_env.specs.Overlay.{StandsFor};
 ghost use Rattle.jh_env.specs.TextCells.{IsTextOf};
-ghost use Rattle.jh_env.specs.TextErrors.{RefusesText};
+ghost use Rattle.jh_env.specs.TextErrors.{RefusesEnvText};
 ghost use Rattle.jh_env.specs.TextWritten.{text_of};
 
 mod entries;
@@ -110,18 +110,19 @@ impl From<StartError> for EnvTextError {
 
 /// The environment that a value is the text of, at its start.
 ///
-/// Errors, in this order: `NotMap`; `UnknownKey` for a key that is none of the six; `MissingNodes`; `BadEntry`
-/// where a value under a key has not its shape; `NoNodes`, `TooManyNodes`, `BadName`, `DuplicateName` as
-/// `Nodes::of` has them; then for the first entry in error, in the order of the keys, `UnknownNode`, `SelfLink`,
-/// `BadAmount` or `RepeatedEntry`. `OutOfMemory` where memory was refused before another error was found.
-/// Of a key that a map made by hand holds twice, the first counts.
+/// Errors, in this order: `NotMap`; `UnknownKey` for a key that is none of the six; `MissingNodes`;
+/// `BadEntry` where a value under a key has not its shape; `NoNodes`, `TooManyNodes`, `BadName`,
+/// `DuplicateName` as `Nodes::of` has them; then for the first entry in error, in the order of the
+/// keys, `UnknownNode`, `SelfLink`, `BadAmount` or `RepeatedEntry`. `OutOfMemory` where memory was
+/// refused before another error was found. Of a key that a map made by hand holds twice, the first
+/// counts.
 ///
-/// Takes time linear in the text: repeats are looked for among the accepted entries, of which 64 nodes have at
-/// most 12,224.
+/// Takes time linear in the text: repeats are looked for among the accepted entries, of which 64
+/// nodes have at most 12,224.
 pub fn env_of_value(alloc: Global, value: &Value) -> Result<Env, EnvTextError>
     ensures { MatchResult result
         (λ env. StandsFor env [] × IsTextOf (view value.now) env.names env.start)
-        (RefusesText (view value.now)) }
+        (RefusesEnvText (view value.now)) }
 {
     let (nodes, pairs) = reading::keys_of(value)?;
     let names = reading::names_of(alloc, nodes)?;
@@ -132,9 +133,9 @@ pub fn env_of_value(alloc: Global, value: &Value) -> Result<Env, EnvTextError>
     Ok(Env::start(alloc, start)?)
 }
 
-/// The text of an environment as it is now: all six keys in the order `:nodes :cut :slow :loss :down :clock`, and
-/// under them only what is not calm or not running, links by the place of their source and then of their
-/// destination, nodes by place.
+/// The text of an environment as it is now: all six keys in the order
+/// `:nodes :cut :slow :loss :down :clock`, and under them only what is not calm or not running,
+/// links by the place of their source and then of their destination, nodes by place.
 pub fn value_of_env(alloc: Global, env: &Env) -> Result<Value, AllocError>
     ensures { IfOk result (λ value. view value ≡ text_of env.now) }
 {

@@ -13,6 +13,7 @@ pub struct PlainCells {
     nodes: Vec<NodeCell>,
 }
 
+/// Appends the links from one node to all others.
 fn push_links(links: &mut Vec<(u8, u8)>, from: u8, count: u8) -> Option<()> {
     for to in 0..count {
         if from != to {
@@ -31,6 +32,7 @@ pub fn all_links(alloc: Global, count: u8) -> Option<Vec<(u8, u8)>> {
     Some(links)
 }
 
+/// The same rows once more.
 fn copy_rows(alloc: Global, rows: &[Vec<Link>]) -> Option<Vec<Vec<Link>>> {
     let mut copy = Vec::new(alloc);
     for row in rows {
@@ -39,6 +41,7 @@ fn copy_rows(alloc: Global, rows: &[Vec<Link>]) -> Option<Vec<Vec<Link>>> {
     Some(copy)
 }
 
+/// Lays a fault on one link.
 fn change_link(link: &mut Link, kind: LinkFault) {
     match kind {
         LinkFault::Cut => link.cut = true,
@@ -48,6 +51,7 @@ fn change_link(link: &mut Link, kind: LinkFault) {
     }
 }
 
+/// Lays a fault on one node.
 fn change_node(cell: &mut NodeCell, kind: NodeFault) {
     match (kind, cell.process) {
         (NodeFault::Kill, _) => cell.process = Life::Killed,
@@ -72,6 +76,7 @@ impl PlainCells {
         })
     }
 
+    /// The same cells once more.
     pub(crate) fn copy(&self, alloc: Global) -> Option<PlainCells> {
         Some(PlainCells {
             count: self.count,
@@ -90,16 +95,19 @@ impl PlainCells {
         self.nodes.get(place as usize).copied()
     }
 
+    /// Sets the link from one place to another.
     pub(crate) fn set_link(&mut self, from: u8, to: u8, link: Link) -> Option<()> {
         *self.links.get_mut(from as usize)?.get_mut(to as usize)? = link;
         Some(())
     }
 
+    /// Sets the cell of the node at a place.
     pub(crate) fn set_node(&mut self, place: u8, cell: NodeCell) -> Option<()> {
         *self.nodes.get_mut(place as usize)? = cell;
         Some(())
     }
 
+    /// Lays a fault on each of these links.
     fn lay_on_links(&mut self, kind: LinkFault, links: &[(u8, u8)]) -> Option<()> {
         for (from, to) in links {
             let mut link = self.link(*from, *to)?;
@@ -109,6 +117,7 @@ impl PlainCells {
         Some(())
     }
 
+    /// Lays a fault on each of the nodes at these places.
     fn lay_on_nodes(&mut self, kind: NodeFault, places: &[u8]) -> Option<()> {
         for place in places {
             let mut cell = self.node(*place)?;
@@ -118,6 +127,7 @@ impl PlainCells {
         Some(())
     }
 
+    /// Moves the clocks of nodes, each by some milliseconds.
     fn bump(&mut self, bumps: &[(u8, i64)]) -> Option<()> {
         for (place, ms) in bumps {
             let mut cell = self.node(*place)?;
@@ -136,6 +146,7 @@ impl PlainCells {
         }
     }
 
+    /// Gives a start the links of these cells.
     fn start_links(&self, alloc: Global, start: &mut Start) -> Option<()> {
         for (from, to) in all_links(alloc, self.count)? {
             let link = self.link(from, to)?;
@@ -144,8 +155,8 @@ impl PlainCells {
         Some(())
     }
 
-    /// The start of an environment of these nodes that has these cells. None: memory was refused, or a cell is none of
-    /// theirs.
+    /// The start of an environment of these nodes that has these cells. None: memory was refused,
+    /// or a cell is none of theirs.
     pub fn start(&self, alloc: Global, nodes: Nodes) -> Option<Start> {
         let mut start = Start::new(alloc, nodes).ok()?;
         self.start_links(alloc, &mut start)?;

@@ -15,10 +15,12 @@ fn random_place(random: &mut Random, count: u8) -> u8 {
     u8::try_from(random.below(u64::from(bound))).unwrap_or(0)
 }
 
+/// A level of loss, from the least on.
 fn level(random: &mut Random, least: u64) -> u8 {
     u8::try_from(random.amount(least, u64::from(MAX_LOSS))).unwrap_or(MAX_LOSS)
 }
 
+/// A link whose cut, delay and loss are drawn.
 fn random_link(random: &mut Random) -> Link {
     Link {
         cut: random.is_within(1),
@@ -27,6 +29,7 @@ fn random_link(random: &mut Random) -> Link {
     }
 }
 
+/// The cell of a node whose life and clock are drawn.
 fn random_node(random: &mut Random) -> NodeCell {
     let process = match random.below(3) {
         0 => Life::Running,
@@ -52,6 +55,7 @@ pub fn random_cells(alloc: Global, random: &mut Random, count: u8) -> Option<Pla
     Some(cells)
 }
 
+/// Gives some nodes cells that are drawn: none of them at a share of 0, all from a share of 4 on.
 fn set_nodes(random: &mut Random, count: u8, share: u64, cells: &mut PlainCells) -> Option<()> {
     for place in 0..count {
         if random.is_within(share) {
@@ -61,6 +65,7 @@ fn set_nodes(random: &mut Random, count: u8, share: u64, cells: &mut PlainCells)
     Some(())
 }
 
+/// Fewer than 12 links between so many nodes, each once.
 fn few_links(alloc: Global, random: &mut Random, count: u8) -> Option<Vec<(u8, u8)>> {
     let mut links = Vec::new(alloc);
     for _draw in 0..random.below(12) {
@@ -72,6 +77,7 @@ fn few_links(alloc: Global, random: &mut Random, count: u8) -> Option<Vec<(u8, u
     Some(links)
 }
 
+/// About half of these links.
 fn half_of(alloc: Global, random: &mut Random, links: &[(u8, u8)]) -> Option<Vec<(u8, u8)>> {
     let mut half = Vec::new(alloc);
     for link in links {
@@ -91,6 +97,7 @@ fn random_links(alloc: Global, random: &mut Random, count: u8) -> Option<Vec<(u8
     }
 }
 
+/// The places of none, some or all of so many nodes.
 fn random_nodes(alloc: Global, random: &mut Random, count: u8) -> Option<Vec<u8>> {
     let mut places = Vec::new(alloc);
     let share = random.below(5);
@@ -102,6 +109,7 @@ fn random_nodes(alloc: Global, random: &mut Random, count: u8) -> Option<Vec<u8>
     Some(places)
 }
 
+/// A bump of the node at each of these places.
 fn bumps(alloc: Global, random: &mut Random, places: &[u8]) -> Option<Vec<(u8, i64)>> {
     let mut bumps = Vec::new(alloc);
     for place in places {
@@ -111,7 +119,8 @@ fn bumps(alloc: Global, random: &mut Random, places: &[u8]) -> Option<Vec<(u8, i
     Some(bumps)
 }
 
-/// What a fault of links does. Fixes are drawn more often, for it matters which of them is the last.
+/// What a fault of links does. Fixes are drawn more often, for it matters which of them is the
+/// last.
 fn link_fault(random: &mut Random) -> LinkFault {
     match random.below(6) {
         0 => LinkFault::Cut,
@@ -121,6 +130,7 @@ fn link_fault(random: &mut Random) -> LinkFault {
     }
 }
 
+/// What a fault of nodes does.
 fn node_fault(random: &mut Random) -> NodeFault {
     match random.below(2) {
         0 => NodeFault::Pause,

@@ -31,6 +31,7 @@ pub enum PlainFault {
     Bump(Vec<(u8, i64)>),
 }
 
+/// The nodes at both ends of each link.
 fn ends(alloc: Global, links: &[(u8, u8)]) -> Option<Vec<(Node, Node)>> {
     let mut all = Vec::new(alloc);
     for (from, to) in links {
@@ -39,6 +40,7 @@ fn ends(alloc: Global, links: &[(u8, u8)]) -> Option<Vec<(Node, Node)>> {
     Some(all)
 }
 
+/// The nodes at these places.
 fn nodes_at(alloc: Global, places: &[u8]) -> Option<Vec<Node>> {
     let mut all = Vec::new(alloc);
     for place in places {
@@ -47,6 +49,7 @@ fn nodes_at(alloc: Global, places: &[u8]) -> Option<Vec<Node>> {
     Some(all)
 }
 
+/// The same bumps, by nodes instead of places.
 fn bumps_at(alloc: Global, bumps: &[(u8, i64)]) -> Option<Vec<(Node, i64)>> {
     let mut all = Vec::new(alloc);
     for (place, ms) in bumps {
@@ -55,6 +58,7 @@ fn bumps_at(alloc: Global, bumps: &[(u8, i64)]) -> Option<Vec<(Node, i64)>> {
     Some(all)
 }
 
+/// The fault of this kind on links, as a nemesis over these nodes takes it.
 fn on_links(
     alloc: Global,
     nodes: &Nodes,
@@ -69,6 +73,7 @@ fn on_links(
     }
 }
 
+/// The fault of this kind on nodes, as a nemesis over these nodes takes it.
 fn on_nodes(alloc: Global, nodes: &Nodes, kind: NodeFault, named: &[Node]) -> Option<Fault> {
     match kind {
         NodeFault::Pause => Fault::pause(alloc, nodes, named).ok(),
@@ -77,11 +82,13 @@ fn on_nodes(alloc: Global, nodes: &Nodes, kind: NodeFault, named: &[Node]) -> Op
 }
 
 impl PlainFault {
+    /// Whether the fault fixes delays.
     pub(crate) fn is_fix(&self) -> bool {
         matches!(self, PlainFault::OnLinks(LinkFault::Fix(_), _))
     }
 
-    /// The fault that a nemesis over these nodes takes. None: memory was refused, or it is no fault of theirs.
+    /// The fault that a nemesis over these nodes takes. None: memory was refused, or it is no fault
+    /// of theirs.
     pub fn fault(&self, alloc: Global, nodes: &Nodes) -> Option<Fault> {
         match self {
             PlainFault::OnLinks(kind, links) => {

@@ -1,5 +1,5 @@
-//! A plain slow nemesis, and starts, faults and steps that look random, which serve tests alone: `jh_nemesis_tests`
-//! compares the nemesis of `jh_nemesis` with it.
+//! A plain slow nemesis, and starts, faults and steps that look random, which serve tests alone:
+//! `jh_nemesis_tests` compares the nemesis of `jh_nemesis` with it.
 #![tactic(auto)]
 
 mod cells;

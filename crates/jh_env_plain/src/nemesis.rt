@@ -1,5 +1,5 @@
-//! A nemesis that keeps the list of active faults as it is now, as it was before each step, and as it was before each step
-//! back; and lays the whole list anew after each step.
+//! A nemesis that keeps the list of active faults as it is now, as it was before each step, and as
+//! it was before each step back; and lays the whole list anew after each step.
 
 use crate::cells::PlainCells;
 use crate::faults::PlainFault;
@@ -67,6 +67,7 @@ impl PlainNemesis {
         Some(*id)
     }
 
+    /// Whether a fault of this id is active.
     fn is_active(&self, id: u32) -> bool {
         self.active.iter().any(|(other, _)| *other == id)
     }
@@ -82,8 +83,8 @@ impl PlainNemesis {
         Some(())
     }
 
-    /// Lays all active faults anew. Fixes come first: a slow delay is added to the last fix, also to one that was begun
-    /// after it.
+    /// Lays all active faults anew. Fixes come first: a slow delay is added to the last fix, also
+    /// to one that was begun after it.
     fn lay_anew(&mut self) -> Option<()> {
         let mut cells = self.start.copy(self.alloc)?;
         self.lay_active(&mut cells, true)?;
@@ -92,6 +93,7 @@ impl PlainNemesis {
         Some(())
     }
 
+    /// Whether so many steps lie in the past that none can follow.
     fn is_full(&self) -> bool {
         self.past.len() >= 4096
     }
@@ -105,6 +107,7 @@ impl PlainNemesis {
         Some(StepAnswer::Ok)
     }
 
+    /// Begins a fault under an id, and answers the step.
     fn begin(&mut self, id: u32, fault: PlainFault) -> Option<StepAnswer> {
         if self.is_active(id) {
             return Some(StepAnswer::IdTaken);
@@ -121,6 +124,7 @@ impl PlainNemesis {
         self.go_on(next)
     }
 
+    /// Withdraws the active fault of an id, and answers the step.
     fn withdraw(&mut self, id: u32) -> Option<StepAnswer> {
         if !self.is_active(id) {
             return Some(StepAnswer::NotActive);
@@ -133,6 +137,7 @@ impl PlainNemesis {
         self.go_on(next)
     }
 
+    /// Withdraws all active faults, and answers the step.
     fn withdraw_all(&mut self) -> Option<StepAnswer> {
         if self.active.is_empty() {
             return Some(StepAnswer::NothingActive);
@@ -143,6 +148,7 @@ impl PlainNemesis {
         self.go_on(Vec::new(self.alloc))
     }
 
+    /// Goes back to the list before the last step, and answers the step.
     fn undo(&mut self) -> Option<StepAnswer> {
         let Some(before) = self.past.pop() else {
             return Some(StepAnswer::NothingToUndo);
@@ -153,6 +159,7 @@ impl PlainNemesis {
         Some(StepAnswer::Ok)
     }
 
+    /// Goes forth again, and answers the step.
     fn redo(&mut self) -> Option<StepAnswer> {
         let Some(after) = self.future.pop() else {
             return Some(StepAnswer::NothingToRedo);

@@ -14,6 +14,7 @@ pub enum Habit {
     Growing,
 }
 
+/// A kind of step.
 enum Kind {
     Begin,
     Withdraw,
@@ -22,6 +23,7 @@ enum Kind {
     Redo,
 }
 
+/// A kind of step, drawn as often as the habit has it.
 fn random_kind(random: &mut Random, habit: Habit) -> Kind {
     match (habit, random.below(32)) {
         (Habit::Mixed, 0..=13) | (Habit::Growing, 0..=15) => Kind::Begin,

@@ -1,7 +1,7 @@
-pub mod Tallies
-pub mod Done
-pub mod Takes
-pub mod Turning
-pub mod Building
-pub mod Driving
+pub mod TallyLemmas
+pub mod ExhaustedLemmas
+pub mod TakingLemmas
+pub mod RowLemmas
+pub mod BuildLemmas
+pub mod DriverLemmas
 pub mod TextLemmas

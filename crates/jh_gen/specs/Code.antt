@@ -1,23 +1,16 @@
 -- A code of a generator, by which a proof tells generators apart.
 use Rattle.std.specs.Prelude.{◌≡◌, refl}
+use Rattle.jh_edn.specs.Code.{head, tail}
 use Rattle.std.proofs.Common.{ap}
 use Rattle.std.specs.Coded.{Coded, coded_ℕ, coded_ℤ}
-use Rattle.jh_gen.specs.Generator.{Generator, nothing, once, rising, forever, seq, limit, mix, phases, reserve, each_thread, clients, nemesis_only, Generators, no_generators, generator, Shared, no_shares, share}
+use Rattle.jh_gen.specs.Generator.{Generator, nothing, once, rising, forever, seq, limit, mix}
+use Rattle.jh_gen.specs.Generator.{phases, reserve, each_thread, clients, nemesis_only, Generators}
+use Rattle.jh_gen.specs.Generator.{no_generators, generator, ShareList, no_shares, share}
 use Rattle.jh_ops.specs.declared.call.Call.{Call}
 use Rattle.jh_ops.specs.declared.call.Call.TheVariants.{Client, Step}
 use Rattle.jh_ops.specs.declared.call.Request.{Request}
 use Rattle.jh_ops.specs.declared.call.Request.TheVariants.{Read, Write, Cas, Add, Generate}
 use base.Stored.{Gv, gnil, gnum, gcons}
-
-abbrev pub head : Gv → Gv
-head gnil = gnil
-head (gnum n) = gnil
-head (gcons a b) = a
-
-abbrev pub tail : Gv → Gv
-tail gnil = gnil
-tail (gnum n) = gnil
-tail (gcons a b) = b
 
 abbrev pub code_request : Request → Gv
 code_request Read = gnil
@@ -30,7 +23,8 @@ pub inj_request : (x y : Request) → code_request x ≡ code_request y → x �
 inj_request Read Read p = refl
 inj_request (Write m) (Write n) p = ap Write (coded_ℤ.inj m n (ap tail p))
 inj_request (Cas m n) (Cas k l) p =
-    λ i. Cas (coded_ℤ.inj m k (ap (λ g. head (tail g)) p) i) (coded_ℤ.inj n l (ap (λ g. tail (tail g)) p) i)
+    λ i. Cas (coded_ℤ.inj m k (ap (λ g. head (tail g)) p) i)
+    (coded_ℤ.inj n l (ap (λ g. tail (tail g)) p) i)
 inj_request (Add m) (Add n) p = ap Add (coded_ℤ.inj m n (ap tail p))
 inj_request Generate Generate p = refl
 inj_request _ _ p = absurd cc
@@ -43,9 +37,6 @@ pub inj_call : (x y : Call) → code_call x ≡ code_call y → x ≡ y
 inj_call (Client r) (Client s) p = ap Client (inj_request r s (ap tail p))
 inj_call (Step m) (Step n) p = ap Step (coded_ℕ.inj m n (ap tail p))
 inj_call _ _ p = absurd cc
-
-abbrev pub call_coded : Coded Call
-call_coded = record { code = code_call; inj = inj_call }
 
 abbrev mutual
   pub code_generator : Generator → Gv
@@ -66,7 +57,7 @@ abbrev mutual
   code_generators no_generators = gnil
   code_generators (generator g gs) = gcons (code_generator g) (code_generators gs)
 
-  pub code_shared : Shared → Gv
+  pub code_shared : ShareList → Gv
   code_shared no_shares = gnil
   code_shared (share n g ms) = gcons (gnum n) (gcons (code_generator g) (code_shared ms))
 
@@ -78,25 +69,30 @@ mutual
   inj_generator (forever b) (forever c) p = ap forever (inj_call b c (ap tail p))
   inj_generator (seq b) (seq c) p = ap seq (inj_generators b c (ap tail p))
   inj_generator (limit m b) (limit n c) p =
-      λ i. limit (coded_ℕ.inj m n (ap (λ g. head (tail g)) p) i) (inj_generator b c (ap (λ g. tail (tail g)) p) i)
+      λ i. limit (coded_ℕ.inj m n (ap (λ g. head (tail g)) p) i)
+      (inj_generator b c (ap (λ g. tail (tail g)) p) i)
   inj_generator (mix b) (mix c) p = ap mix (inj_generators b c (ap tail p))
   inj_generator (phases b) (phases c) p = ap phases (inj_generators b c (ap tail p))
   inj_generator (reserve m b) (reserve n c) p =
-      λ i. reserve (inj_shared m n (ap (λ g. head (tail g)) p) i) (inj_generator b c (ap (λ g. tail (tail g)) p) i)
+      λ i. reserve (inj_shared m n (ap (λ g. head (tail g)) p) i)
+      (inj_generator b c (ap (λ g. tail (tail g)) p) i)
   inj_generator (each_thread b) (each_thread c) p = ap each_thread (inj_generator b c (ap tail p))
   inj_generator (clients b) (clients c) p = ap clients (inj_generator b c (ap tail p))
-  inj_generator (nemesis_only b) (nemesis_only c) p = ap nemesis_only (inj_generator b c (ap tail p))
+  inj_generator (nemesis_only b) (nemesis_only c) p =
+      ap nemesis_only (inj_generator b c (ap tail p))
   inj_generator _ _ p = absurd cc
 
   pub inj_generators : (x y : Generators) → code_generators x ≡ code_generators y → x ≡ y
   inj_generators no_generators no_generators p = refl
-  inj_generators (generator x xs) (generator y ys) p = λ i. generator (inj_generator x y (ap head p) i) (inj_generators xs ys (ap tail p) i)
+  inj_generators (generator x xs) (generator y ys) p =
+      λ i. generator (inj_generator x y (ap head p) i) (inj_generators xs ys (ap tail p) i)
   inj_generators _ _ p = absurd cc
 
-  pub inj_shared : (x y : Shared) → code_shared x ≡ code_shared y → x ≡ y
+  pub inj_shared : (x y : ShareList) → code_shared x ≡ code_shared y → x ≡ y
   inj_shared no_shares no_shares p = refl
   inj_shared (share m x xs) (share n y ys) p =
-      λ i. share (coded_ℕ.inj m n (ap head p) i) (inj_generator x y (ap (λ g. head (tail g)) p) i) (inj_shared xs ys (ap (λ g. tail (tail g)) p) i)
+      λ i. share (coded_ℕ.inj m n (ap head p) i) (inj_generator x y (ap (λ g. head (tail g)) p) i)
+      (inj_shared xs ys (ap (λ g. tail (tail g)) p) i)
   inj_shared _ _ p = absurd cc
 
 abbrev pub generator_coded : Coded Generator

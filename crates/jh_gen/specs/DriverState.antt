@@ -1,15 +1,17 @@
--- What contracts see of a driver, and what its calls answer. A driver is its generator, the tally of the calls that
--- it gave, the busy threads and the processes (jepsen.generator: a process does one operation at a time; when one
--- ends as `:info`, the process has crashed, and its thread goes on as a new one, whose number is greater by the
--- number of client threads).
-use Rattle.std.specs.Prelude.{◌≡◌, refl, ℕ, zero, suc, ◌+◌, ◌*◌, ◌<◌, ◌≤◌, Bool, true, false, if◌then◌else◌, List, [], ◌∷◌, length, set, slice_index, slice_index_or, None, Some, replicate}
+-- What contracts see of a driver, and what its calls answer. A driver is its generator, the tally
+-- of the calls that it gave, the busy threads and the processes (jepsen.generator: a process does
+-- one operation at a time; when one ends as `:info`, the process has crashed, and its thread goes
+-- on as a new one, whose number is greater by the number of client threads).
+use Rattle.std.specs.Prelude.{◌≡◌, refl, ℕ, zero, suc, ◌+◌, ◌*◌, ◌<◌, ◌≤◌, Bool, true, false}
+use Rattle.std.specs.Prelude.{if◌then◌else◌, List, [], ◌∷◌, length, set, slice_index}
+use Rattle.std.specs.Prelude.{slice_index_or, None, Some, replicate}
 use Rattle.std.specs.Coded.{Coded, code_by, coded×, coded_ℕ, coded_bool, coded_list}
 use Rattle.jh_gen.specs.Generator.{Generator}
 use Rattle.jh_gen.specs.Tally.{Path, Tally}
 use Rattle.jh_gen.specs.Scope.{Scope, Question}
-use Rattle.jh_gen.specs.Offers.{spent, offer}
+use Rattle.jh_gen.specs.Offers.{is_exhausted, offer}
 use Rattle.jh_gen.specs.Fits.{fits}
-use Rattle.jh_gen.specs.State.{State, left_of}
+use Rattle.jh_gen.specs.State.{GeneratorState, state_left}
 use Rattle.jh_gen.specs.StateCode.{state_coded}
 use Rattle.jh_gen.specs.declared.answers.Thread.{Thread}
 use Rattle.jh_gen.specs.declared.answers.Thread.TheVariants as thread
@@ -20,9 +22,11 @@ use Rattle.jh_gen.specs.declared.answers.Ended.TheVariants as ended
 use Rattle.jh_gen.specs.declared.answers.GenAnswer.{GenAnswer}
 use Rattle.jh_gen.specs.declared.answers.GenAnswer.TheVariants.{Call, Pending, Done}
 use Rattle.jh_gen.specs.declared.answers.DriverError.{DriverError}
-use Rattle.jh_gen.specs.declared.answers.DriverError.TheVariants.{BadClients, BadReserve, OutOfMemory}
+use Rattle.jh_gen.specs.declared.answers.DriverError.TheVariants.{BadClients, BadReserve}
+use Rattle.jh_gen.specs.declared.answers.DriverError.TheVariants.{OutOfMemory}
 use Rattle.jh_gen.specs.declared.answers.GenError.{GenError}
-use Rattle.jh_gen.specs.declared.answers.GenError.TheVariants.{NoSuchThread, BusyThread, TooManyOps, NothingOpen}
+use Rattle.jh_gen.specs.declared.answers.GenError.TheVariants.{NoSuchThread, BusyThread, TooManyOps}
+use Rattle.jh_gen.specs.declared.answers.GenError.TheVariants.{NothingOpen}
 
 -- How many client threads a driver has at most, and how many calls it gives at most.
 abbrev pub max_clients : ℕ
@@ -31,21 +35,24 @@ max_clients = 16
 abbrev pub max_calls : ℕ
 max_calls = 1000000
 
--- The number of client threads, what is left of the generator, how many calls were given; and by seat, whether its
--- thread has an operation outstanding, and its process number (that at the nemesis's seat means nothing).
+-- The number of client threads, what is left of the generator, how many calls were given; and by
+-- seat, whether its thread has an operation outstanding, and its process number (that at the
+-- nemesis's seat means nothing).
 pub record DriverState : Type 0 where
   pub clients : ℕ
-  pub state : State
+  pub state : GeneratorState
   pub given : ℕ
   pub busy : List Bool
   pub processes : List ℕ
 
 abbrev pub driver_coded : Coded DriverState
 driver_coded =
-    code_by (ℕ × (State × (ℕ × (List Bool × List ℕ))))
-    (coded× coded_ℕ (coded× state_coded (coded× coded_ℕ (coded× (coded_list coded_bool) (coded_list coded_ℕ)))))
+    code_by (ℕ × (GeneratorState × (ℕ × (List Bool × List ℕ))))
+    (coded× coded_ℕ
+    (coded× state_coded (coded× coded_ℕ (coded× (coded_list coded_bool) (coded_list coded_ℕ)))))
     (λ d. (d.clients, (d.state, (d.given, (d.busy, d.processes)))))
-    (λ p. record { clients = p.0; state = p.1.0; given = p.1.1.0; busy = p.1.1.1.0; processes = p.1.1.1.1 })
+    (λ p. record
+    { clients = p.0; state = p.1.0; given = p.1.1.0; busy = p.1.1.1.0; processes = p.1.1.1.1 })
     (λ _. refl)
 
 abbrev pub seat_of : Thread → ℕ
@@ -61,10 +68,10 @@ seats_from first (suc n) = first ∷ seats_from (first + 1) n
 abbrev pub all_seats : ℕ → Scope
 all_seats clients = seats_from 0 (suc clients)
 
--- The driver is that of this generator after this tally: what is left in it is what the tally leaves, and it gave as
--- many calls as the tally has.
+-- The driver is that of this generator after this tally: what is left in it is what the tally
+-- leaves, and it gave as many calls as the tally has.
 pub record IsDriverOf (d : DriverState) (g : Generator) (t : Tally) : Type 0 where
-  pub left : d.state ≡ left_of g t (all_seats d.clients)
+  pub left : d.state ≡ state_left g t (all_seats d.clients)
   pub count : d.given ≡ length t
 
 -- the thread is one of the driver's
@@ -75,16 +82,16 @@ abbrev pub IsUnknown : DriverState → Thread → Type 0
 IsUnknown d x = d.clients < seat_of x
 
 -- the thread has an operation outstanding
-abbrev pub is_busy : DriverState → Thread → Bool
-is_busy d x = slice_index_or d.busy (seat_of x) false
+abbrev pub is_thread_busy : DriverState → Thread → Bool
+is_thread_busy d x = slice_index_or d.busy (seat_of x) false
 
-abbrev pub process_in : List ℕ → Thread → Process
-process_in processes (thread.Client n) = process.Client (slice_index processes (n + 1))
-process_in processes thread.Nemesis = process.Nemesis
+abbrev pub process_of_thread : List ℕ → Thread → Process
+process_of_thread processes (thread.Client n) = process.Client (slice_index processes (n + 1))
+process_of_thread processes thread.Nemesis = process.Nemesis
 
 -- whose operation a thread's next one is
 abbrev pub next_process : DriverState → Thread → Process
-next_process d x = process_in d.processes x
+next_process d x = process_of_thread d.processes x
 
 -- Making a driver.
 
@@ -95,10 +102,12 @@ CanDrive clients g = (1 ≤ clients) × (clients ≤ max_clients) × (fits clien
 -- why no driver is made
 abbrev pub RefusesDriver : ℕ → Generator → DriverError → Type 0
 RefusesDriver clients g BadClients = (1 ≤ clients → clients ≤ max_clients → ⊥)
-RefusesDriver clients g BadReserve = (1 ≤ clients) × (clients ≤ max_clients) × (fits clients g ≡ false)
+RefusesDriver clients g BadReserve =
+    (1 ≤ clients) × (clients ≤ max_clients) × (fits clients g ≡ false)
 RefusesDriver clients g OutOfMemory = CanDrive clients g
 
--- a driver of so many client threads before its first call: nobody is busy, and the process of client n is n
+-- a driver of so many client threads before its first call: nobody is busy, and the process of
+-- client n is n
 pub record IsFresh (d : DriverState) (clients : ℕ) : Type 0 where
   pub clients_is : d.clients ≡ clients
   pub idle : d.busy ≡ replicate (clients + 1) false
@@ -109,60 +118,67 @@ pub record IsFresh (d : DriverState) (clients : ℕ) : Type 0 where
 
 -- the thread is the driver's, has no operation outstanding, and calls are left to give
 abbrev pub MayAsk : DriverState → Thread → Type 0
-MayAsk d x = IsKnown d x × (is_busy d x ≡ false) × (d.given < max_calls)
+MayAsk d x = IsKnown d x × (is_thread_busy d x ≡ false) × (d.given < max_calls)
 
 -- why a thread is given no answer
 abbrev pub RefusesAsking : DriverState → Thread → GenError → Type 0
 RefusesAsking d x NoSuchThread = IsUnknown d x
-RefusesAsking d x BusyThread = IsKnown d x × (is_busy d x ≡ true)
-RefusesAsking d x TooManyOps = IsKnown d x × (is_busy d x ≡ false) × (max_calls ≤ d.given)
+RefusesAsking d x BusyThread = IsKnown d x × (is_thread_busy d x ≡ true)
+RefusesAsking d x TooManyOps = IsKnown d x × (is_thread_busy d x ≡ false) × (max_calls ≤ d.given)
 RefusesAsking d x NothingOpen = ⊥
 
 abbrev pub question_by : DriverState → Thread → ℕ → Question
-question_by d x word = record { seat = seat_of x; word = word; busy = d.busy }
+question_by d x random_number =
+    record { seat = seat_of x; random_number = random_number; busy = d.busy }
 
--- The driver d becomes e by giving thread x a call: its generator has given one more call, by this path, the thread
--- is busy, and nothing else changes.
-pub record Gives (d e : DriverState) (x : Thread) (g : Generator) (t : Tally) (path : Path) : Type 0 where
+-- The driver d becomes e by giving thread x a call: its generator has given one more call, by this
+-- path, the thread is busy, and nothing else changes.
+pub record GivesCall (d e : DriverState) (x : Thread) (g : Generator) (t : Tally)
+    (path : Path) : Type 0 where
   pub stands : IsDriverOf e g (path ∷ t)
   pub clients : e.clients ≡ d.clients
   pub busy : e.busy ≡ set d.busy (seat_of x) true
   pub processes : e.processes ≡ d.processes
 
--- What a thread is answered, after this tally: `Done` exactly where the generator is spent, else what it offers, or
--- `Pending` where it offers nothing.
+-- What a thread is answered, after this tally: `Done` exactly where the generator is spent, else
+-- what it offers, or `Pending` where it offers nothing.
 abbrev pub Answers : Generator → Tally → DriverState → Thread → ℕ → GenAnswer → DriverState → Type 0
-Answers g t d x word Done e = (spent g t (all_seats d.clients) ≡ true) × (e ≡ d)
-Answers g t d x word Pending e =
-    (spent g t (all_seats d.clients) ≡ false)
-    × (offer g t (all_seats d.clients) (question_by d x word) ≡ None) × (e ≡ d)
-Answers g t d x word (Call p c) e =
-    (spent g t (all_seats d.clients) ≡ false) × (p ≡ next_process d x)
-    × (path : Path) × (offer g t (all_seats d.clients) (question_by d x word) ≡ Some (path, c)) × Gives d e x g t path
+Answers g t d x random_number Done e = (is_exhausted g t (all_seats d.clients) ≡ true) × (e ≡ d)
+Answers g t d x random_number Pending e =
+    (is_exhausted g t (all_seats d.clients) ≡ false)
+    × (offer g t (all_seats d.clients) (question_by d x random_number) ≡ None) × (e ≡ d)
+Answers g t d x random_number (Call p c) e =
+    (is_exhausted g t (all_seats d.clients) ≡ false) × (p ≡ next_process d x)
+    × (path : Path)
+    × (offer g t (all_seats d.clients) (question_by d x random_number) ≡ Some (path, c))
+    × GivesCall d e x g t path
 
 -- Ending an operation.
 
 -- the thread is the driver's, and has an operation outstanding
 abbrev pub MayEnd : DriverState → Thread → Type 0
-MayEnd d x = IsKnown d x × (is_busy d x ≡ true)
+MayEnd d x = IsKnown d x × (is_thread_busy d x ≡ true)
 
 -- why an operation is not ended
 abbrev pub RefusesEnding : DriverState → Thread → GenError → Type 0
 RefusesEnding d x NoSuchThread = IsUnknown d x
-RefusesEnding d x NothingOpen = IsKnown d x × (is_busy d x ≡ false)
+RefusesEnding d x NothingOpen = IsKnown d x × (is_thread_busy d x ≡ false)
 RefusesEnding d x _ = ⊥
 
--- The process numbers after an operation's end: where a client's ended as `:info`, its thread takes the next process.
+-- The process numbers after an operation's end: where a client's ended as `:info`, its thread takes
+-- the next process.
 abbrev pub processes_after : DriverState → Thread → Ended → List ℕ
-processes_after d (thread.Client n) ended.Info = set d.processes (n + 1) (slice_index d.processes (n + 1) + d.clients)
+processes_after d (thread.Client n) ended.Info =
+    set d.processes (n + 1) (slice_index d.processes (n + 1) + d.clients)
 processes_after d _ _ = d.processes
 
 -- the driver after an operation's end: its generator and its tally stay
-abbrev pub after_end : DriverState → Thread → Ended → DriverState
-after_end d x end = record d { busy = set d.busy (seat_of x) false; processes = processes_after d x end }
+abbrev pub driver_after_end : DriverState → Thread → Ended → DriverState
+driver_after_end d x end =
+    record d { busy = set d.busy (seat_of x) false; processes = processes_after d x end }
 
--- What each driver keeps: its lists are as long as it has seats, and no process number can outgrow its bound, since
--- an operation that is outstanding was given.
+-- What each driver keeps: its lists are as long as it has seats, and no process number can outgrow
+-- its bound, since an operation that is outstanding was given.
 pub record IsKept (d : DriverState) : Type 0 where
   pub clients : d.clients ≤ max_clients
   pub given : d.given ≤ max_calls
@@ -170,4 +186,5 @@ pub record IsKept (d : DriverState) : Type 0 where
   pub processes : length d.processes ≡ d.clients + 1
   pub small :
       (k : ℕ) → k < d.clients + 1
-      → slice_index d.processes k + (if slice_index_or d.busy k false then 16 else 0) ≤ 16 + 16 * d.given
+      → slice_index d.processes k + (if slice_index_or d.busy k false then 16 else 0)
+      ≤ 16 + 16 * d.given

@@ -1,9 +1,12 @@
--- Which generators a driver takes: no reserve names more client threads than there are (this project's own).
+-- Which generators a driver takes: no reserve names more client threads than there are (this
+-- project's own).
 use Rattle.std.specs.Prelude.{ℕ, ◌+◌, nat_le, Bool, true, ◌&&◌}
-use Rattle.jh_gen.specs.Generator.{Generator, nothing, once, rising, forever, seq, limit, mix, phases, reserve, each_thread, clients, nemesis_only, Generators, no_generators, generator, Shared, no_shares, share}
+use Rattle.jh_gen.specs.Generator.{Generator, nothing, once, rising, forever, seq, limit, mix}
+use Rattle.jh_gen.specs.Generator.{phases, reserve, each_thread, clients, nemesis_only, Generators}
+use Rattle.jh_gen.specs.Generator.{no_generators, generator, ShareList, no_shares, share}
 
 -- how many client threads have a share
-abbrev pub shares_sum : Shared → ℕ
+abbrev pub shares_sum : ShareList → ℕ
 shares_sum no_shares = 0
 shares_sum (share n g rest) = n + shares_sum rest
 
@@ -27,6 +30,6 @@ abbrev mutual
   all_fit n no_generators = true
   all_fit n (generator g gs) = fits n g && all_fit n gs
 
-  pub shares_fit : ℕ → Shared → Bool
+  pub shares_fit : ℕ → ShareList → Bool
   shares_fit n no_shares = true
   shares_fit n (share k g ms) = fits n g && shares_fit n ms

@@ -12,7 +12,7 @@ mutual
     limit : ℕ → Generator → Generator
     mix : Generators → Generator
     phases : Generators → Generator
-    reserve : Shared → Generator → Generator
+    reserve : ShareList → Generator → Generator
     each_thread : Generator → Generator
     clients : Generator → Generator
     nemesis_only : Generator → Generator
@@ -21,43 +21,43 @@ mutual
     no_generators : Generators
     generator : Generator → Generators → Generators
 
-  pub data Shared : Type 0 where
-    no_shares : Shared
-    share : ℕ → Generator → Shared → Shared
+  pub data ShareList : Type 0 where
+    no_shares : ShareList
+    share : ℕ → Generator → ShareList → ShareList
 
 abbrev pub row_of : List Generator → Generators
 row_of [] = no_generators
 row_of (g ∷ gs) = generator g (row_of gs)
 
-abbrev pub shared_of : List (ℕ × Generator) → Shared
-shared_of [] = no_shares
-shared_of (m ∷ ms) = share m.0 m.1 (shared_of ms)
+abbrev pub share_list : List (ℕ × Generator) → ShareList
+share_list [] = no_shares
+share_list (m ∷ ms) = share m.0 m.1 (share_list ms)
 
 abbrev mutual
-  pub size_of : Generator → ℕ
-  size_of nothing = 0
-  size_of (once c) = 0
-  size_of (rising n) = 0
-  size_of (forever c) = 0
-  size_of (seq gs) = suc (size_generators gs)
-  size_of (limit n g) = suc (size_of g)
-  size_of (mix gs) = suc (size_generators gs)
-  size_of (phases gs) = suc (size_generators gs)
-  size_of (reserve ms g) = suc (size_shared ms + size_of g)
-  size_of (each_thread g) = suc (size_of g)
-  size_of (clients g) = suc (size_of g)
-  size_of (nemesis_only g) = suc (size_of g)
+  pub generator_size : Generator → ℕ
+  generator_size nothing = 0
+  generator_size (once c) = 0
+  generator_size (rising n) = 0
+  generator_size (forever c) = 0
+  generator_size (seq gs) = suc (size_generators gs)
+  generator_size (limit n g) = suc (generator_size g)
+  generator_size (mix gs) = suc (size_generators gs)
+  generator_size (phases gs) = suc (size_generators gs)
+  generator_size (reserve ms g) = suc (share_list_size ms + generator_size g)
+  generator_size (each_thread g) = suc (generator_size g)
+  generator_size (clients g) = suc (generator_size g)
+  generator_size (nemesis_only g) = suc (generator_size g)
 
   pub size_generators : Generators → ℕ
   size_generators no_generators = 0
-  size_generators (generator g gs) = suc (size_of g + size_generators gs)
+  size_generators (generator g gs) = suc (generator_size g + size_generators gs)
 
-  pub size_shared : Shared → ℕ
-  size_shared no_shares = 0
-  size_shared (share n g gs) = suc (size_of g + size_shared gs)
+  pub share_list_size : ShareList → ℕ
+  share_list_size no_shares = 0
+  share_list_size (share n g gs) = suc (generator_size g + share_list_size gs)
 
-abbrev pub size_list : List Generator → ℕ
-size_list gs = size_generators (row_of gs)
+abbrev pub generator_list_size : List Generator → ℕ
+generator_list_size gs = size_generators (row_of gs)
 
 abbrev pub size_shares : List (ℕ × Generator) → ℕ
-size_shares ms = size_shared (shared_of ms)
+size_shares ms = share_list_size (share_list ms)

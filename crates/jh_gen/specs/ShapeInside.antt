@@ -2,25 +2,28 @@
 use Rattle.std.specs.Prelude.{◌≡◌, ℕ, List, Option, Some, None, option_map}
 use Rattle.jh_edn.specs.Edn.{Edn, items_of, size_of, size_list}
 use Rattle.jh_edn.specs.View.{view, views}
-use Rattle.jh_gen.specs.Generator.{Generator, nothing, once, rising, forever, seq, limit, mix, phases, reserve, each_thread, clients, nemesis_only, Generators, no_generators, generator, Shared, no_shares, share}
-use Rattle.jh_gen.specs.GeneratorText.{Part, members, reserved, parts_of, parsed_generator}
+use Rattle.jh_gen.specs.Generator.{Generator, nothing, once, rising, forever, seq, limit, mix}
+use Rattle.jh_gen.specs.Generator.{phases, reserve, each_thread, clients, nemesis_only, Generators}
+use Rattle.jh_gen.specs.Generator.{no_generators, generator, ShareList, no_shares, share}
+use Rattle.jh_gen.specs.GeneratorText.{Operand, members, reserve_operands, operands_of}
+use Rattle.jh_gen.specs.GeneratorText.{parsed_generator}
 use Rattle.jh_gen.specs.declared.text.GenTextError.{GenTextError}
 use Rattle.jh_gen.specs.declared.text.GenTextError.TheVariants.{BadGenerator, OutOfMemory}
 use Rattle.jh_gen.specs.declared.text.Shape.{Shape}
 
 -- the part that a value is
-abbrev pub part_of : Edn → Part
-part_of value = record { value = value; told = parsed_generator value }
+abbrev pub operand_of : Edn → Operand
+operand_of value = record { value = value; parsed = parsed_generator value }
 
 -- the parts that these values are
-abbrev pub parts_in : List Edn → List Part
-parts_in xs = parts_of (items_of xs)
+abbrev pub operands_in : List Edn → List Operand
+operands_in xs = operands_of (items_of xs)
 
 abbrev pub parsed_members : List Edn → Option Generators
-parsed_members xs = members (parts_in xs)
+parsed_members xs = members (operands_in xs)
 
-abbrev pub parsed_reserved : List Edn → Option (Shared × Generator)
-parsed_reserved xs = reserved (parts_in xs)
+abbrev pub parsed_reserve : List Edn → Option (ShareList × Generator)
+parsed_reserve xs = reserve_operands (operands_in xs)
 
 -- the generator of a form whose inner values are still to be read
 abbrev pub parsed_shape : Shape → Option Generator
@@ -29,10 +32,12 @@ parsed_shape (Shape.Once call) = Some (once call)
 parsed_shape (Shape.Rising first) = Some (rising first)
 parsed_shape (Shape.Forever call) = Some (forever call)
 parsed_shape (Shape.Seq parts) = option_map seq (parsed_members (views parts.now))
-parsed_shape (Shape.Limit number inner) = option_map (limit number) (parsed_generator (view inner.now))
+parsed_shape (Shape.Limit number inner) =
+    option_map (limit number) (parsed_generator (view inner.now))
 parsed_shape (Shape.Mix parts) = option_map mix (parsed_members (views parts.now))
 parsed_shape (Shape.Phases parts) = option_map phases (parsed_members (views parts.now))
-parsed_shape (Shape.Reserve parts) = option_map (λ r. reserve r.0 r.1) (parsed_reserved (views parts.now))
+parsed_shape (Shape.Reserve parts) =
+    option_map (λ r. reserve r.0 r.1) (parsed_reserve (views parts.now))
 parsed_shape (Shape.EachThread inner) = option_map each_thread (parsed_generator (view inner.now))
 parsed_shape (Shape.Clients inner) = option_map clients (parsed_generator (view inner.now))
 parsed_shape (Shape.NemesisOnly inner) = option_map nemesis_only (parsed_generator (view inner.now))
@@ -56,25 +61,27 @@ shape_size (Shape.EachThread inner) = size_of (view inner.now)
 shape_size (Shape.Clients inner) = size_of (view inner.now)
 shape_size (Shape.NemesisOnly inner) = size_of (view inner.now)
 
--- Why a reading ends early: there is nothing to be told, unless memory was refused.
+-- Why a reading ends early: there is nothing to be parsed, unless memory was refused.
 abbrev pub EndsReading : {A : Type 0} → Option A → GenTextError → Type 0
-EndsReading told BadGenerator = told ≡ None
-EndsReading told OutOfMemory = Unit {0}
+EndsReading parsed BadGenerator = parsed ≡ None
+EndsReading parsed OutOfMemory = Unit {0}
 
 -- generators before others
-abbrev pub before_members : Generators → Generators → Generators
-before_members no_generators gs = gs
-before_members (generator g rest) gs = generator g (before_members rest gs)
+abbrev pub joined_members : Generators → Generators → Generators
+joined_members no_generators gs = gs
+joined_members (generator g rest) gs = generator g (joined_members rest gs)
 
 -- shares before others
-abbrev pub before_shares : Shared → Shared → Shared
-before_shares no_shares ms = ms
-before_shares (share n g rest) ms = share n g (before_shares rest ms)
+abbrev pub joined_shares : ShareList → ShareList → ShareList
+joined_shares no_shares ms = ms
+joined_shares (share n g rest) ms = share n g (joined_shares rest ms)
 
 -- The generators so far, with those that the rest tells, are those that all tell.
-abbrev pub MembersSoFar : Generators → List Edn → List Edn → Type 0
-MembersSoFar made rest all = parsed_members all ≡ option_map (before_members made) (parsed_members rest)
+abbrev pub AreMembersSoFar : Generators → List Edn → List Edn → Type 0
+AreMembersSoFar made rest all =
+    parsed_members all ≡ option_map (joined_members made) (parsed_members rest)
 
 -- The shares so far, with what the rest tells, are what all tell.
-abbrev pub SharesSoFar : Shared → List Edn → List Edn → Type 0
-SharesSoFar made rest all = parsed_reserved all ≡ option_map (λ r. (before_shares made r.0, r.1)) (parsed_reserved rest)
+abbrev pub AreSharesSoFar : ShareList → List Edn → List Edn → Type 0
+AreSharesSoFar made rest all =
+    parsed_reserve all ≡ option_map (λ r. (joined_shares made r.0, r.1)) (parsed_reserve rest)

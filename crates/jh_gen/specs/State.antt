@@ -1,153 +1,170 @@
--- What is left of a generator, as plain data, and how a call is taken from it. The code keeps this and no tally:
--- counts, next numbers and which members have begun. `left_of` says what a tally leaves of a generator.
-use Rattle.std.specs.Prelude.{ℕ, suc, ◌+◌, ◌-◌, ◌==◌, ℤ, pos, ◌+ℤ◌, Bool, true, false, not, ◌&&◌, ◌||◌, cond, List, [], ◌∷◌, map, length, filter, Option, None, Some, option_map, int_lt}
-use Rattle.jh_gen.specs.Generator.{Generator, nothing, once, rising, forever, seq, limit, mix, phases, reserve, each_thread, clients, nemesis_only, Generators, no_generators, generator, Shared, no_shares, share}
-use Rattle.jh_gen.specs.Tally.{Tally, under}
-use Rattle.jh_gen.specs.Scope.{Scope, is_client, is_nemesis, is_among, is_beyond, is_in, is_empty, Question, any_busy}
-use Rattle.jh_gen.specs.Offers.{greatest, shares_len, spent, head_of, picked}
+-- What is left of a generator, as plain data, and how a call is taken from it. The code keeps this
+-- and no tally: counts, next numbers and which members have begun. `state_left` says what a tally
+-- leaves of a generator.
+use Rattle.std.specs.Prelude.{ℕ, suc, ◌+◌, ◌-◌, ◌==◌, ℤ, pos, ◌+ℤ◌, Bool, true, false, not, ◌&&◌}
+use Rattle.jh_edn.specs.Edn.{is_empty}
+use Rattle.std.specs.Prelude.{◌||◌, cond, List, [], ◌∷◌, map, length, filter, Option, None, Some}
+use Rattle.std.specs.Prelude.{option_map, int_lt}
+use Rattle.jh_gen.specs.Generator.{Generator, nothing, once, rising, forever, seq, limit, mix}
+use Rattle.jh_gen.specs.Generator.{phases, reserve, each_thread, clients, nemesis_only, Generators}
+use Rattle.jh_gen.specs.Generator.{no_generators, generator, ShareList, no_shares, share}
+use Rattle.jh_gen.specs.Tally.{Tally, tally_under}
+use Rattle.jh_gen.specs.Scope.{Scope, is_client_thread, is_nemesis_thread, is_share_seat, is_beyond}
+use Rattle.jh_gen.specs.Scope.{is_in_scope, Question, has_busy_thread}
+use Rattle.jh_gen.specs.Offers.{max_number, shares_len, is_exhausted, head_of, picked_value}
 use Rattle.jh_gen.specs.Fits.{shares_sum}
 use Rattle.jh_ops.specs.declared.call.Call.{Call}
 use Rattle.jh_ops.specs.declared.call.Call.TheVariants.{Client}
 use Rattle.jh_ops.specs.declared.call.Request.TheVariants.{Add}
 
 mutual
-  pub data State : Type 0 where
+  pub data GeneratorState : Type 0 where
     -- nothing
-    gone : State
+    gone : GeneratorState
     -- one call
-    one : Call → State
+    one : Call → GeneratorState
     -- adds, the next one of this number
-    counting : ℤ → State
+    counting : ℤ → GeneratorState
     -- a call again and again
-    endless : Call → State
+    endless : Call → GeneratorState
     -- members in their turn, which begin when none of these seats is busy
-    in_turn : List ℕ → States → State
+    in_turn : List ℕ → GeneratorStates → GeneratorState
     -- so many calls of another
-    limited : ℕ → State → State
+    limited : ℕ → GeneratorState → GeneratorState
     -- members in a mixture
-    mixed : States → State
+    mixed : GeneratorStates → GeneratorState
     -- others, each for some seats
-    split : Lots → State
+    split : Lots → GeneratorState
 
   -- states of members, each with whether it has given a call
-  pub data States : Type 0 where
-    no_states : States
-    state : Bool → State → States → States
+  pub data GeneratorStates : Type 0 where
+    no_states : GeneratorStates
+    state : Bool → GeneratorState → GeneratorStates → GeneratorStates
 
   -- states, each for the seats that use it
   pub data Lots : Type 0 where
     no_lots : Lots
-    lot : List ℕ → State → Lots → Lots
+    lot : List ℕ → GeneratorState → Lots → Lots
 
 -- whether nothing is left
 abbrev mutual
-  pub is_done : State → Bool
+  pub is_done : GeneratorState → Bool
   is_done gone = true
   is_done (one c) = false
   is_done (counting n) = false
   is_done (endless c) = false
-  is_done (in_turn awaited ss) = all_done ss
+  is_done (in_turn awaited ss) = are_all_done ss
   is_done (limited n s) = (n == 0) || is_done s
-  is_done (mixed ss) = all_done ss
-  is_done (split ls) = lots_done ls
+  is_done (mixed ss) = are_all_done ss
+  is_done (split ls) = are_lots_done ls
 
-  pub all_done : States → Bool
-  all_done no_states = true
-  all_done (state b s ss) = is_done s && all_done ss
+  pub are_all_done : GeneratorStates → Bool
+  are_all_done no_states = true
+  are_all_done (state b s ss) = is_done s && are_all_done ss
 
-  pub lots_done : Lots → Bool
-  lots_done no_lots = true
-  lots_done (lot seats s ls) = is_done s && lots_done ls
+  pub are_lots_done : Lots → Bool
+  are_lots_done no_lots = true
+  are_lots_done (lot seats s ls) = is_done s && are_lots_done ls
 
 -- a call, and what is left after it
-abbrev pub Taken : Type 0 → Type 0
-Taken X = Option (Call × X)
+abbrev pub Taking : Type 0 → Type 0
+Taking X = Option (Call × X)
 
-abbrev pub within : {X Y : Type 0} → (X → Y) → Taken X → Taken Y
-within f o = option_map (λ r. (r.0, f r.1)) o
+abbrev pub taking_within : {X Y : Type 0} → (X → Y) → Taking X → Taking Y
+taking_within f o = option_map (λ r. (r.0, f r.1)) o
 
-abbrev pub after_counting : ℤ → State
-after_counting n = cond (int_lt n greatest) (counting (n +ℤ pos 1)) gone
+abbrev pub counting_after : ℤ → GeneratorState
+counting_after n = cond (int_lt n max_number) (counting (n +ℤ pos 1)) gone
 
 -- the call that a seat gets now, if any
 abbrev mutual
-  pub taken : State → Question → Taken State
-  taken gone q = None
-  taken (one c) q = Some (c, gone)
-  taken (counting n) q = Some (Client (Add n), after_counting n)
-  taken (endless c) q = Some (c, endless c)
-  taken (in_turn awaited ss) q = within (in_turn awaited) (head_of (open_taken awaited ss q))
-  taken (limited n s) q = cond (n == 0) None (within (limited (n - 1)) (taken s q))
-  taken (mixed ss) q = within mixed (picked q.word (open_taken [] ss q))
-  taken (split ls) q = within split (lot_taken ls q)
+  pub taking : GeneratorState → Question → Taking GeneratorState
+  taking gone q = None
+  taking (one c) q = Some (c, gone)
+  taking (counting n) q = Some (Client (Add n), counting_after n)
+  taking (endless c) q = Some (c, endless c)
+  taking (in_turn awaited ss) q =
+      taking_within (in_turn awaited) (head_of (open_takings awaited ss q))
+  taking (limited n s) q = cond (n == 0) None (taking_within (limited (n - 1)) (taking s q))
+  taking (mixed ss) q = taking_within mixed (picked_value q.random_number (open_takings [] ss q))
+  taking (split ls) q = taking_within split (lot_taking ls q)
 
   -- from each of the members that aren't done
-  pub open_taken : List ℕ → States → Question → List (Taken States)
-  open_taken awaited no_states q = []
-  open_taken awaited (state b s ss) q =
+  pub open_takings : List ℕ → GeneratorStates → Question → List (Taking GeneratorStates)
+  open_takings awaited no_states q = []
+  open_takings awaited (state b s ss) q =
       cond (is_done s)
-      (map (within (state b s)) (open_taken awaited ss q))
-      (cond (not b && any_busy q.busy awaited) None (within (λ r. state true r ss) (taken s q))
-      ∷ map (within (state b s)) (open_taken awaited ss q))
+      (map (taking_within (state b s)) (open_takings awaited ss q))
+      (cond (not b && has_busy_thread q.busy awaited) None
+      (taking_within (λ r. state true r ss) (taking s q))
+      ∷ map (taking_within (state b s)) (open_takings awaited ss q))
 
-  pub lot_taken : Lots → Question → Taken Lots
-  lot_taken no_lots q = None
-  lot_taken (lot seats s ls) q =
-      cond (is_in seats q.seat) (within (λ r. lot seats r ls) (taken s q)) (within (lot seats s) (lot_taken ls q))
+  pub lot_taking : Lots → Question → Taking Lots
+  lot_taking no_lots q = None
+  lot_taking (lot seats s ls) q =
+      cond (is_in_scope seats q.seat) (taking_within (λ r. lot seats r ls) (taking s q))
+      (taking_within (lot seats s) (lot_taking ls q))
 
-abbrev pub lots_and : Lots → Lots → Lots
-lots_and no_lots ls = ls
-lots_and (lot seats s rest) ls = lot seats s (lots_and rest ls)
+abbrev pub joined_lots : Lots → Lots → Lots
+joined_lots no_lots ls = ls
+joined_lots (lot seats s rest) ls = lot seats s (joined_lots rest ls)
 
 -- a lot for each seat
-abbrev pub lots_each : (ℕ → State) → List ℕ → Lots
+abbrev pub lots_each : (ℕ → GeneratorState) → List ℕ → Lots
 lots_each f [] = no_lots
 lots_each f (x ∷ xs) = lot (x ∷ []) (f x) (lots_each f xs)
 
 -- what is left of a generator after a tally
 abbrev mutual
-  pub left_of : Generator → Tally → Scope → State
-  left_of nothing t scope = gone
-  left_of (once c) t scope = cond (spent (once c) t scope) gone (one c)
-  left_of (rising n) t scope = cond (spent (rising n) t scope) gone (counting (n +ℤ pos (length t)))
-  left_of (forever c) t scope = cond (spent (forever c) t scope) gone (endless c)
-  left_of (seq gs) t scope = in_turn [] (lefts_of gs 0 t scope)
-  left_of (limit n g) t scope = limited (n - length t) (left_of g (under 0 t) scope)
-  left_of (mix gs) t scope = mixed (lefts_of gs 0 t scope)
-  left_of (phases gs) t scope = in_turn scope (lefts_of gs 0 t scope)
-  left_of (reserve ms g) t scope =
-      split (lots_and (lots_of ms 0 0 t scope)
+  pub state_left : Generator → Tally → Scope → GeneratorState
+  state_left nothing t scope = gone
+  state_left (once c) t scope = cond (is_exhausted (once c) t scope) gone (one c)
+  state_left (rising n) t scope =
+      cond (is_exhausted (rising n) t scope) gone (counting (n +ℤ pos (length t)))
+  state_left (forever c) t scope = cond (is_exhausted (forever c) t scope) gone (endless c)
+  state_left (seq gs) t scope = in_turn [] (states_left gs 0 t scope)
+  state_left (limit n g) t scope = limited (n - length t) (state_left g (tally_under 0 t) scope)
+  state_left (mix gs) t scope = mixed (states_left gs 0 t scope)
+  state_left (phases gs) t scope = in_turn scope (states_left gs 0 t scope)
+  state_left (reserve ms g) t scope =
+      split (joined_lots (lots_of ms 0 0 t scope)
       (lot (filter (is_beyond (shares_sum ms)) scope)
-      (left_of g (under (shares_len ms) t) (filter (is_beyond (shares_sum ms)) scope)) no_lots))
-  left_of (each_thread g) t scope = split (lots_each (λ x. left_of g (under x t) (x ∷ [])) scope)
-  left_of (clients g) t scope =
-      split (lot (filter is_client scope) (left_of g (under 0 t) (filter is_client scope)) no_lots)
-  left_of (nemesis_only g) t scope =
-      split (lot (filter is_nemesis scope) (left_of g (under 0 t) (filter is_nemesis scope)) no_lots)
+      (state_left g (tally_under (shares_len ms) t) (filter (is_beyond (shares_sum ms)) scope))
+      no_lots))
+  state_left (each_thread g) t scope =
+      split (lots_each (λ x. state_left g (tally_under x t) (x ∷ [])) scope)
+  state_left (clients g) t scope =
+      split (lot (filter is_client_thread scope)
+      (state_left g (tally_under 0 t) (filter is_client_thread scope)) no_lots)
+  state_left (nemesis_only g) t scope =
+      split (lot (filter is_nemesis_thread scope)
+      (state_left g (tally_under 0 t) (filter is_nemesis_thread scope)) no_lots)
 
-  pub lefts_of : Generators → ℕ → Tally → Scope → States
-  lefts_of no_generators i t scope = no_states
-  lefts_of (generator g gs) i t scope =
-      state (not (is_empty (under i t))) (left_of g (under i t) scope) (lefts_of gs (suc i) t scope)
+  pub states_left : Generators → ℕ → Tally → Scope → GeneratorStates
+  states_left no_generators i t scope = no_states
+  states_left (generator g gs) i t scope =
+      state (not (is_empty (tally_under i t))) (state_left g (tally_under i t) scope)
+      (states_left gs (suc i) t scope)
 
-  pub lots_of : Shared → ℕ → ℕ → Tally → Scope → Lots
+  pub lots_of : ShareList → ℕ → ℕ → Tally → Scope → Lots
   lots_of no_shares i first t scope = no_lots
   lots_of (share n g ms) i first t scope =
-      lot (filter (is_among first n) scope) (left_of g (under i t) (filter (is_among first n) scope))
+      lot (filter (is_share_seat first n) scope)
+      (state_left g (tally_under i t) (filter (is_share_seat first n) scope))
       (lots_of ms (suc i) (first + n) t scope)
 
 -- The lists that contracts see, as states.
 
-abbrev pub states_from : List (Bool × State) → States
+abbrev pub states_from : List (Bool × GeneratorState) → GeneratorStates
 states_from [] = no_states
 states_from (m ∷ ms) = state m.0 m.1 (states_from ms)
 
-abbrev pub lots_from : List (List ℕ × State) → Lots
+abbrev pub lots_from : List (List ℕ × GeneratorState) → Lots
 lots_from [] = no_lots
 lots_from (m ∷ ms) = lot m.0 m.1 (lots_from ms)
 
 abbrev mutual
-  pub state_size : State → ℕ
+  pub state_size : GeneratorState → ℕ
   state_size gone = 0
   state_size (one c) = 0
   state_size (counting n) = 0
@@ -157,7 +174,7 @@ abbrev mutual
   state_size (mixed ss) = suc (states_size ss)
   state_size (split ls) = suc (lots_size ls)
 
-  pub states_size : States → ℕ
+  pub states_size : GeneratorStates → ℕ
   states_size no_states = 0
   states_size (state b s ss) = suc (state_size s + states_size ss)
 
@@ -165,17 +182,17 @@ abbrev mutual
   lots_size no_lots = 0
   lots_size (lot seats s ls) = suc (state_size s + lots_size ls)
 
-abbrev pub row_size : List (Bool × State) → ℕ
+abbrev pub row_size : List (Bool × GeneratorState) → ℕ
 row_size ms = states_size (states_from ms)
 
-abbrev pub split_size : List (List ℕ × State) → ℕ
+abbrev pub split_size : List (List ℕ × GeneratorState) → ℕ
 split_size ms = lots_size (lots_from ms)
 
 -- the call that was taken, and what is left in any case
-abbrev pub call_of : {X : Type 0} → Taken X → Option Call
-call_of None = None
-call_of (Some r) = Some r.0
+abbrev pub taken_call : {X : Type 0} → Taking X → Option Call
+taken_call None = None
+taken_call (Some r) = Some r.0
 
-abbrev pub rest_of : {X : Type 0} → X → Taken X → X
+abbrev pub rest_of : {X : Type 0} → X → Taking X → X
 rest_of x None = x
 rest_of x (Some r) = r.1

@@ -1,5 +1,6 @@
--- Which generators suit a run of a workload with so many client threads, where a schedule and not the generator
--- begins and ends the faults (this project's own; the workloads are those of Jepsen's pages on checkers).
+-- Which generators suit a run of a workload with so many client threads, where a schedule and not
+-- the generator begins and ends the faults (this project's own; the workloads are those of Jepsen's
+-- pages on checkers).
 use Rattle.std.specs.Prelude.{ℕ, pos, int_lt, Bool, true, false, not, ◌&&◌}
 use Rattle.jh_ops.specs.declared.call.Call.{Call}
 use Rattle.jh_ops.specs.declared.call.Call.TheVariants.{Client, Step}
@@ -8,11 +9,13 @@ use Rattle.jh_ops.specs.declared.call.Request.TheVariants.{Add}
 use Rattle.jh_ops.specs.declared.call.Workload.{Workload}
 use Rattle.jh_ops.specs.declared.call.Workload.TheVariants.{Counter}
 use Rattle.jh_ops.specs.Requests.{is_request_of}
-use Rattle.jh_gen.specs.Generator.{Generator, nothing, once, rising, forever, seq, limit, mix, phases, reserve, each_thread, clients, nemesis_only, Generators, no_generators, generator, Shared, no_shares, share}
+use Rattle.jh_gen.specs.Generator.{Generator, nothing, once, rising, forever, seq, limit, mix}
+use Rattle.jh_gen.specs.Generator.{phases, reserve, each_thread, clients, nemesis_only, Generators}
+use Rattle.jh_gen.specs.Generator.{no_generators, generator, ShareList, no_shares, share}
 use Rattle.jh_gen.specs.Fits.{fits}
 
--- Each call of a generator passes a test, wherever the call stands, and no part is the nemesis's. A rising is judged
--- as the add of its first number, which is its least.
+-- Each call of a generator passes a test, wherever the call stands, and no part is the nemesis's. A
+-- rising is judged as the add of its first number, which is its least.
 abbrev mutual
   pub has_only : (Call → Bool) → Generator → Bool
   has_only passes nothing = true
@@ -32,7 +35,7 @@ abbrev mutual
   all_have_only passes no_generators = true
   all_have_only passes (generator g gs) = has_only passes g && all_have_only passes gs
 
-  pub shares_have_only : (Call → Bool) → Shared → Bool
+  pub shares_have_only : (Call → Bool) → ShareList → Bool
   shares_have_only passes no_shares = true
   shares_have_only passes (share n g ms) = has_only passes g && shares_have_only passes ms
 

@@ -1,65 +1,68 @@
 -- Calls taken from a row of members, by their places.
-use Rattle.std.specs.Prelude.{ℕ, zero, suc, ◌-◌, ◌%◌, Bool, true, not, ◌&&◌, cond, List, [], ◌∷◌, length, None}
+use Rattle.std.specs.Prelude.{ℕ, zero, suc, ◌-◌, ◌%◌, Bool, true, not, ◌&&◌, cond, List, [], ◌∷◌}
+use Rattle.std.specs.Prelude.{length, None}
 use Rattle.std.specs.Option.{option_or}
-use Rattle.jh_gen.specs.Scope.{Question, any_busy, is_in}
-use Rattle.jh_gen.specs.State.{State, is_done, Taken, within, taken}
+use Rattle.jh_gen.specs.Scope.{Question, has_busy_thread, is_in_scope}
+use Rattle.jh_gen.specs.State.{GeneratorState, is_done, Taking, taking_within, taking}
 use Rattle.jh_gen.specs.declared.node.Asked.{Asked}
 
 abbrev pub question : Asked → Question
-question a = record { seat = a.seat; word = a.word; busy = a.busy.now }
+question a = record { seat = a.seat; random_number = a.random_number; busy = a.busy.now }
 
-abbrev pub Members : Type 0
-Members = List (Bool × State)
+abbrev pub RowMembers : Type 0
+RowMembers = List (Bool × GeneratorState)
 
 -- the place of the first member that isn't done
-abbrev pub open_at : Members → ℕ
-open_at [] = 0
-open_at (m ∷ ms) = cond (is_done m.1) (suc (open_at ms)) 0
+abbrev pub first_open_place : RowMembers → ℕ
+first_open_place [] = 0
+first_open_place (m ∷ ms) = cond (is_done m.1) (suc (first_open_place ms)) 0
 
 -- from the member at a place
-abbrev pub turn_at : List ℕ → Members → ℕ → Question → Taken Members
+abbrev pub turn_at : List ℕ → RowMembers → ℕ → Question → Taking RowMembers
 turn_at awaited [] k q = None
 turn_at awaited (m ∷ ms) zero q =
-    cond (not m.0 && any_busy q.busy awaited) None (within (λ r. (true, r) ∷ ms) (taken m.1 q))
-turn_at awaited (m ∷ ms) (suc k) q = within (λ ns. m ∷ ns) (turn_at awaited ms k q)
+    cond (not m.0 && has_busy_thread q.busy awaited) None
+    (taking_within (λ r. (true, r) ∷ ms) (taking m.1 q))
+turn_at awaited (m ∷ ms) (suc k) q = taking_within (λ ns. m ∷ ns) (turn_at awaited ms k q)
 
 -- the place of the first lot for a seat
-abbrev pub lot_at : List (List ℕ × State) → ℕ → ℕ
+abbrev pub lot_at : List (List ℕ × GeneratorState) → ℕ → ℕ
 lot_at [] seat = 0
-lot_at (l ∷ ls) seat = cond (is_in l.0 seat) 0 (suc (lot_at ls seat))
+lot_at (l ∷ ls) seat = cond (is_in_scope l.0 seat) 0 (suc (lot_at ls seat))
 
-abbrev pub lot_turn : List (List ℕ × State) → ℕ → Question → Taken (List (List ℕ × State))
+abbrev pub lot_turn : List (List ℕ × GeneratorState) → ℕ → Question
+    → Taking (List (List ℕ × GeneratorState))
 lot_turn [] k q = None
-lot_turn (l ∷ ls) zero q = within (λ r. (l.0, r) ∷ ls) (taken l.1 q)
-lot_turn (l ∷ ls) (suc k) q = within (λ ns. l ∷ ns) (lot_turn ls k q)
+lot_turn (l ∷ ls) zero q = taking_within (λ r. (l.0, r) ∷ ls) (taking l.1 q)
+lot_turn (l ∷ ls) (suc k) q = taking_within (λ ns. l ∷ ns) (lot_turn ls k q)
 
 -- from the first member that isn't done
-abbrev pub first_turn : List ℕ → Members → Question → Taken Members
-first_turn awaited ms q = turn_at awaited ms (open_at ms) q
+abbrev pub first_turn : List ℕ → RowMembers → Question → Taking RowMembers
+first_turn awaited ms q = turn_at awaited ms (first_open_place ms) q
 
 -- how many members aren't done
-abbrev pub open_len : Members → ℕ
+abbrev pub open_len : RowMembers → ℕ
 open_len [] = 0
 open_len (m ∷ ms) = cond (is_done m.1) (open_len ms) (suc (open_len ms))
 
 -- the place of a member by its number among those that aren't done
-abbrev pub open_place : Members → ℕ → ℕ
+abbrev pub open_place : RowMembers → ℕ → ℕ
 open_place [] k = 0
 open_place (m ∷ ms) zero = cond (is_done m.1) (suc (open_place ms zero)) 0
 open_place (m ∷ ms) (suc k) = suc (open_place ms (cond (is_done m.1) (suc k) k))
 
-abbrev pub is_done_at : Members → ℕ → Bool
+abbrev pub is_done_at : RowMembers → ℕ → Bool
 is_done_at [] k = true
 is_done_at (m ∷ ms) zero = is_done m.1
 is_done_at (m ∷ ms) (suc k) = is_done_at ms k
 
 -- the first call that there is at so many places from one on
-abbrev pub turn_among : Members → Question → ℕ → ℕ → Taken Members
+abbrev pub turn_among : RowMembers → Question → ℕ → ℕ → Taking RowMembers
 turn_among ms q from zero = None
 turn_among ms q from (suc n) =
     option_or (cond (is_done_at ms from) None (turn_at [] ms from q)) (turn_among ms q (suc from) n)
 
-abbrev pub any_turn : Members → Question → Taken Members
+abbrev pub any_turn : RowMembers → Question → Taking RowMembers
 any_turn ms q =
-    let from = open_place ms (q.word % open_len ms) in
+    let from = open_place ms (q.random_number % open_len ms) in
     option_or (turn_among ms q from (length ms - from)) (turn_among ms q 0 from)

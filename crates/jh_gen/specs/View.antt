@@ -1,8 +1,12 @@
 -- What contracts see of a generator.
 use Rattle.std.specs.Prelude.{ℕ, List, map}
-use Rattle.jh_gen.specs.Generator.{Generator, nothing, once, rising, forever, seq, limit, mix, phases, reserve, each_thread, clients, nemesis_only, row_of, shared_of}
+use Rattle.jh_gen.specs.Generator.{Generator, nothing, once, rising, forever, seq, limit, mix}
+use Rattle.jh_gen.specs.Generator.{phases, reserve, each_thread, clients, nemesis_only, row_of}
+use Rattle.jh_gen.specs.Generator.{share_list}
 use Rattle.jh_gen.specs.declared.generator.Gen.{Gen}
-use Rattle.jh_gen.specs.declared.generator.Gen.TheVariants.{Nil, Once, Rising, Forever, Seq, Limit, Mix, Phases, Reserve, EachThread, Clients, NemesisOnly}
+use Rattle.jh_gen.specs.declared.generator.Gen.TheVariants.{Nil, Once, Rising, Forever, Seq, Limit}
+use Rattle.jh_gen.specs.declared.generator.Gen.TheVariants.{Mix, Phases, Reserve, EachThread}
+use Rattle.jh_gen.specs.declared.generator.Gen.TheVariants.{Clients, NemesisOnly}
 
 abbrev pub generator_of : Gen → Generator
 generator_of Nil = nothing
@@ -13,7 +17,7 @@ generator_of (Seq gs) = seq (row_of gs)
 generator_of (Limit n g) = limit n g
 generator_of (Mix gs) = mix (row_of gs)
 generator_of (Phases gs) = phases (row_of gs)
-generator_of (Reserve ms g) = reserve (shared_of ms) g
+generator_of (Reserve ms g) = reserve (share_list ms) g
 generator_of (EachThread g) = each_thread g
 generator_of (Clients g) = clients g
 generator_of (NemesisOnly g) = nemesis_only g

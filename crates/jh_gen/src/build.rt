@@ -1,14 +1,16 @@
-//! What is left of a generator before its first call: all copies and seats are made here, so that taking a call needs
-//! no memory. `specs/State.antt` has the rule, `specs/Fits.antt` which generators are taken.
+//! What is left of a generator before its first call: all copies and seats are made here, so that
+//! taking a call needs no memory. `specs/State.antt` has the rule, `specs/Fits.antt` which
+//! generators are taken.
 
-ghost use Rattle.std.specs.Prelude.{◌≡◌, ◌+◌, ◌≤◌, ◌<◌, ◌^◌, [], ◌∷◌, IfOk, filter, true, nat_le};
+ghost use Rattle.std.specs.Prelude.{◌≡◌, ◌+◌, ◌≤◌, ◌<◌, [], ◌∷◌, IfOk, filter, true, nat_le};
 ghost use Rattle.jh_gen.specs.Fits as rule;
-ghost use Rattle.jh_gen.specs.Generator.{row_of, shared_of};
+ghost use Rattle.jh_gen.specs.Generator.{row_of, share_list};
 ghost use Rattle.jh_gen.specs.View.{generator_of};
-ghost use Rattle.jh_gen.specs.Scope.{is_client, is_nemesis, is_among, is_beyond};
+ghost use Rattle.jh_gen.specs.Scope.{is_client_thread, is_nemesis_thread, is_share_seat, is_beyond};
 ghost use Rattle.jh_gen.specs.Fits.{shares_sum, fits, all_fit, shares_fit};
-ghost use Rattle.jh_gen.specs.State.{left_of, lefts_of, lots_of, lots_each, states_from, lots_from};
-ghost use Rattle.jh_gen.specs.NodeView.{state_of, lot_of, lots_view};
+ghost use Rattle.jh_gen.specs.State.{state_left, states_left, lots_of, lots_each, states_from};
+ghost use Rattle.jh_gen.specs.State.{lots_from};
+ghost use Rattle.jh_gen.specs.NodeView.{node_state, lot_of, lots_view};
 
 use crate::generator::{Gen, Gens, Inner, Shares};
 use crate::node::{Lot, Lots, Member, Node, Row, Within};
@@ -38,6 +40,7 @@ pub(crate) fn fits(source: &Gen, clients: u32) -> bool
 }
 
 impl Gens {
+    /// Whether each of the generators fits so many client threads.
     #[cycle(fits)]
     fn all_fit(&self, clients: u32) -> bool
         ensures { result ≡ rule.all_fit clients (row_of self.now) }
@@ -52,9 +55,10 @@ impl Gens {
 }
 
 impl Shares {
+    /// Whether the generator of each share fits so many client threads.
     #[cycle(fits)]
     fn all_fit(&self, clients: u32) -> bool
-        ensures { result ≡ rule.shares_fit clients (shared_of self.now) }
+        ensures { result ≡ rule.shares_fit clients (share_list self.now) }
     {
         for (_, member) in &self.items {
             if !fits(member, clients) {
@@ -64,8 +68,9 @@ impl Shares {
         true
     }
 
+    /// Whether the numbers of the shares sum to at most so many client threads.
     fn is_at_most(&self, clients: u32) -> bool
-        ensures { result ≡ nat_le (shares_sum (shared_of self.now)) clients }
+        ensures { result ≡ nat_le (shares_sum (share_list self.now)) clients }
     {
         let mut sum = 0;
         for (count, _) in &self.items {
@@ -82,7 +87,7 @@ impl Shares {
 #[cycle(build)]
 pub(crate) fn build(alloc: Global, source: &Gen, seats: &[usize]) -> Result<Node, AllocError>
     requires { fits 16 (generator_of source.now) ≡ true }
-    ensures { IfOk result (λ n. state_of n ≡ left_of (generator_of source.now) [] seats.now) }
+    ensures { IfOk result (λ n. node_state n ≡ state_left (generator_of source.now) [] seats.now) }
 {
     match source {
         Gen::Nil => Ok(Node::Gone),
@@ -134,10 +139,11 @@ pub(crate) fn build(alloc: Global, source: &Gen, seats: &[usize]) -> Result<Node
     }
 }
 
+/// What is left of an inner generator for some seats, before its first call.
 #[cycle(build)]
 fn build_within(alloc: Global, inner: &Inner, seats: &[usize]) -> Result<Within, AllocError>
     requires { fits 16 inner.now ≡ true }
-    ensures { IfOk result (λ w. w ≡ left_of inner.now [] seats.now) }
+    ensures { IfOk result (λ w. w ≡ state_left inner.now [] seats.now) }
 {
     let node = build(alloc, &inner.boxed, seats)?;
     Ok(Within {
@@ -145,10 +151,11 @@ fn build_within(alloc: Global, inner: &Inner, seats: &[usize]) -> Result<Within,
     })
 }
 
+/// What is left of each member for some seats, before its first call.
 #[cycle(build)]
 fn build_row(alloc: Global, members: &Gens, seats: &[usize]) -> Result<Row, AllocError>
     requires { all_fit 16 (row_of members.now) ≡ true }
-    ensures { IfOk result (λ r. states_from r ≡ lefts_of (row_of members.now) 0 [] seats.now) }
+    ensures { IfOk result (λ r. states_from r ≡ states_left (row_of members.now) 0 [] seats.now) }
 {
     let mut row = Vec::new(alloc);
     for member in &members.items {
@@ -165,16 +172,17 @@ fn build_row(alloc: Global, members: &Gens, seats: &[usize]) -> Result<Row, Allo
 #[cycle(build)]
 fn build_lot(alloc: Global, inner: &Inner, part: Vec<usize>) -> Result<Lot, AllocError>
     requires { fits 16 inner.now ≡ true }
-    ensures { IfOk result (λ l. lot_of l ≡ (part.items, left_of inner.now [] part.items)) }
+    ensures { IfOk result (λ l. lot_of l ≡ (part.items, state_left inner.now [] part.items)) }
 {
     let node = build(alloc, &inner.boxed, part.as_slice())?;
     Ok(Lot { seats: part, node })
 }
 
+/// The one lot of a generator that only a part of the seats reaches.
 #[cycle(build)]
 fn build_part(alloc: Global, inner: &Inner, part: Vec<usize>) -> Result<Lots, AllocError>
     requires { fits 16 inner.now ≡ true }
-    ensures { IfOk result (λ ls. ls ≡ (part.items, left_of inner.now [] part.items) ∷ []) }
+    ensures { IfOk result (λ ls. ls ≡ (part.items, state_left inner.now [] part.items) ∷ []) }
 {
     let mut items = Vec::new(alloc);
     items.push(build_lot(alloc, inner, part)?)?;
@@ -185,7 +193,8 @@ fn build_part(alloc: Global, inner: &Inner, part: Vec<usize>) -> Result<Lots, Al
 #[cycle(build)]
 fn build_copies(alloc: Global, inner: &Inner, seats: &[usize]) -> Result<Lots, AllocError>
     requires { fits 16 inner.now ≡ true }
-    ensures { IfOk result (λ ls. lots_from ls ≡ lots_each (λ x. left_of inner.now [] (x ∷ [])) seats.now) }
+    ensures { IfOk result
+        (λ ls. lots_from ls ≡ lots_each (λ x. state_left inner.now [] (x ∷ [])) seats.now) }
 {
     let mut items = Vec::new(alloc);
     for seat in seats {
@@ -199,9 +208,10 @@ fn build_copies(alloc: Global, inner: &Inner, seats: &[usize]) -> Result<Lots, A
 /// The shares in order.
 #[cycle(build)]
 fn build_shares(alloc: Global, shares: &Shares, seats: &[usize]) -> Result<Vec<Lot>, AllocError>
-    requires sum { shares_sum (shared_of shares.now) ≤ 16 }
-    requires fit { shares_fit 16 (shared_of shares.now) ≡ true }
-    ensures { IfOk result (λ v. lots_from (lots_view v.items) ≡ lots_of (shared_of shares.now) 0 0 [] seats.now) }
+    requires sum { shares_sum (share_list shares.now) ≤ 16 }
+    requires fit { shares_fit 16 (share_list shares.now) ≡ true }
+    ensures { IfOk result
+        (λ v. lots_from (lots_view v.items) ≡ lots_of (share_list shares.now) 0 0 [] seats.now) }
 {
     let mut items = Vec::new(alloc);
     let mut first = 0;
@@ -217,8 +227,8 @@ fn build_shares(alloc: Global, shares: &Shares, seats: &[usize]) -> Result<Vec<L
 impl Shares {
     /// How many client threads have a share.
     fn sum(&self) -> usize
-        requires { shares_sum (shared_of self.now) ≤ 16 }
-        ensures { result ≡ shares_sum (shared_of self.now) }
+        requires { shares_sum (share_list self.now) ≤ 16 }
+        ensures { result ≡ shares_sum (share_list self.now) }
     {
         let mut sum = 0;
         for (count, _) in &self.items {
@@ -228,18 +238,21 @@ impl Shares {
     }
 }
 
+/// The seats of client threads among these.
 fn client_seats(alloc: Global, seats: &[usize]) -> Result<Vec<usize>, AllocError>
-    ensures { IfOk result (λ v. v.items ≡ filter is_client seats.now) }
+    ensures { IfOk result (λ v. v.items ≡ filter is_client_thread seats.now) }
 {
     seats.iter().copied().filter(|x| *x != 0).collect(alloc)
 }
 
+/// The seat of the nemesis, where it is among these.
 fn nemesis_seats(alloc: Global, seats: &[usize]) -> Result<Vec<usize>, AllocError>
-    ensures { IfOk result (λ v. v.items ≡ filter is_nemesis seats.now) }
+    ensures { IfOk result (λ v. v.items ≡ filter is_nemesis_thread seats.now) }
 {
     seats.iter().copied().filter(|x| *x == 0).collect(alloc)
 }
 
+/// The seats, among these, of the `count` client threads from number `first` on.
 fn seats_among(
     alloc: Global,
     seats: &[usize],
@@ -247,7 +260,7 @@ fn seats_among(
     count: usize,
 ) -> Result<Vec<usize>, AllocError>
     requires { first + count ≤ 16 }
-    ensures { IfOk result (λ v. v.items ≡ filter (is_among first count) seats.now) }
+    ensures { IfOk result (λ v. v.items ≡ filter (is_share_seat first count) seats.now) }
 {
     let last = first + count;
     seats
@@ -257,6 +270,7 @@ fn seats_among(
         .collect(alloc)
 }
 
+/// The seats without those of the first `count` client threads.
 fn seats_beyond(alloc: Global, seats: &[usize], count: usize) -> Result<Vec<usize>, AllocError>
     ensures { IfOk result (λ v. v.items ≡ filter (is_beyond count) seats.now) }
 {

@@ -7,7 +7,8 @@ use crate::generator::{Gen, Gens, Inner, Shares};
 use std::alloc::{AllocError, Global};
 
 impl Gen {
-    /// The same generator once more, with all that it holds. Costs as much as the generator is large.
+    /// The same generator once more, with all that it holds. Costs as much as the generator is
+    /// large.
     ///
     /// Error: memory was refused.
     #[cycle(copy)]
@@ -34,6 +35,7 @@ impl Gen {
     }
 }
 
+/// A copy of an inner generator.
 #[cycle(copy)]
 fn copy_inner(alloc: Global, inner: &Inner) -> Result<Inner, AllocError>
     ensures { IfOk result (λ copy. copy ≡ inner.now) }
@@ -41,6 +43,7 @@ fn copy_inner(alloc: Global, inner: &Inner) -> Result<Inner, AllocError>
     Inner::of(alloc, inner.boxed.copy(alloc)?)
 }
 
+/// A copy of the members of a generator.
 #[cycle(copy)]
 fn copy_members(alloc: Global, members: &Gens) -> Result<Gens, AllocError>
     ensures { IfOk result (λ copies. copies ≡ members.now) }
@@ -52,6 +55,7 @@ fn copy_members(alloc: Global, members: &Gens) -> Result<Gens, AllocError>
     Ok(Gens::of(copies))
 }
 
+/// A copy of the shares of a reserve.
 #[cycle(copy)]
 fn copy_shares(alloc: Global, shares: &Shares) -> Result<Shares, AllocError>
     ensures { IfOk result (λ copies. copies ≡ shares.now) }

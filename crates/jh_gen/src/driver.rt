@@ -7,8 +7,10 @@ ghost use Rattle.jh_gen.specs.Generator.{Generator};
 ghost use Rattle.jh_gen.specs.View.{generator_of};
 ghost use Rattle.jh_gen.specs.Tally.{Tally};
 ghost use Rattle.jh_gen.specs.DriverState as rule;
-ghost use Rattle.jh_gen.specs.DriverState.{Answers, CanDrive, IsFresh, IsKnown, MayAsk, MayEnd, RefusesAsking};
-ghost use Rattle.jh_gen.specs.DriverState.{RefusesDriver, RefusesEnding, IsDriverOf, after_end, next_process, seat_of};
+ghost use Rattle.jh_gen.specs.DriverState.{Answers, CanDrive, IsFresh, IsKnown, MayAsk, MayEnd};
+ghost use Rattle.jh_gen.specs.DriverState.{RefusesAsking};
+ghost use Rattle.jh_gen.specs.DriverState.{RefusesDriver, RefusesEnding, IsDriverOf};
+ghost use Rattle.jh_gen.specs.DriverState.{driver_after_end, next_process, seat_of};
 
 use crate::answers::{DriverError, Ended, GenAnswer, GenError, Thread};
 use crate::build::{build, fits};
@@ -24,8 +26,8 @@ pub const MAX_CLIENTS: u32 = 16;
 /// How many calls a driver gives at most.
 pub const MAX_CALLS: u32 = 1_000_000;
 
-/// Gives a generator's calls to the threads of a test: some client threads, and the nemesis. It keeps what is left of
-/// the generator, who is busy, and whose operation a thread's next one is.
+/// Gives a generator's calls to the threads of a test: some client threads, and the nemesis. It
+/// keeps what is left of the generator, who is busy, and whose operation a thread's next one is.
 #[derive(Drop)]
 pub struct Driver {
     clients: usize,
@@ -42,13 +44,14 @@ impl Model for Driver {
 
     ghost coded = { driver_coded };
 
-    ghost use Rattle.jh_gen.specs.DriverInside.{driver_state, IsSound};
+    ghost use Rattle.jh_gen.specs.DriverInside.{driver_state, IsSoundDriver};
 
     ghost view = { driver_state };
 
-    ghost invariant = { IsSound };
+    ghost invariant = { IsSoundDriver };
 }
 
+/// The seats of the nemesis and of all client threads, in order.
 fn all_seats(alloc: Global, clients: usize) -> Result<Vec<usize>, AllocError>
     requires { clients ≤ 16 }
     ensures { IfOk result (λ v. v.items ≡ rule.all_seats clients) }
@@ -60,11 +63,12 @@ fn all_seats(alloc: Global, clients: usize) -> Result<Vec<usize>, AllocError>
     Ok(seats)
 }
 
-// The process of each seat. The nemesis's place is there so that places are seats.
+/// The process of each seat. The nemesis's place is there so that places are seats.
 fn first_processes(alloc: Global, clients: usize) -> Result<Vec<u64>, AllocError>
     requires { clients ≤ 16 }
     ensures long { IfOk result (λ v. length v.items ≡ clients + 1) }
-    ensures numbered { IfOk result (λ v. (k : ℕ) → k < clients + 1 → slice_index v.items k ≡ k - 1) }
+    ensures numbered { IfOk result
+        (λ v. (k : ℕ) → k < clients + 1 → slice_index v.items k ≡ k - 1) }
 {
     let mut processes = vec![in alloc; 0]?;
     for number in 0..clients {
@@ -73,6 +77,7 @@ fn first_processes(alloc: Global, clients: usize) -> Result<Vec<u64>, AllocError
     Ok(processes)
 }
 
+/// The seat of a thread.
 fn seat(thread: Thread) -> usize
     ensures { result ≡ seat_of thread }
 {
@@ -82,9 +87,10 @@ fn seat(thread: Thread) -> usize
     }
 }
 
+/// The process of a thread, by the numbers of the processes of all seats.
 fn process_in(processes: &[u64], thread: Thread) -> Process
     requires { seat_of thread < length processes.now }
-    ensures { result ≡ rule.process_in processes.now thread }
+    ensures { result ≡ rule.process_of_thread processes.now thread }
 {
     match thread {
         Thread::Client(number) => Process::Client(processes[number as usize + 1]),
@@ -93,11 +99,12 @@ fn process_in(processes: &[u64], thread: Thread) -> Process
 }
 
 impl Driver {
-    /// A driver that has given no call, for this number of client threads, from 1 to 16. It makes all copies of the
-    /// generator's parts that threads have for themselves; later calls take no memory.
+    /// A driver that has given no call, for this number of client threads, from 1 to 16. It makes
+    /// all copies of the generator's parts that threads have for themselves; later calls take no
+    /// memory.
     ///
-    /// Errors, in this order: `BadClients`; `BadReserve` where the numbers of one reserve sum to more than `clients`;
-    /// `OutOfMemory`.
+    /// Errors, in this order: `BadClients`; `BadReserve` where the numbers of one reserve sum to
+    /// more than `clients`; `OutOfMemory`.
     pub fn new(alloc: Global, source: Gen, clients: u32) -> Result<Driver, DriverError>
         ensures judged { MatchResult result
             (λ _. CanDrive clients (generator_of source))
@@ -122,8 +129,9 @@ impl Driver {
         })
     }
 
-    /// The process whose operation a thread's next one is; none for a thread that the driver does not have. A client
-    /// thread's is first its number, and each operation that ends as `Info` adds the number of client threads.
+    /// The process whose operation a thread's next one is; none for a thread that the driver does
+    /// not have. A client thread's is first its number, and each operation that ends as `Info` adds
+    /// the number of client threads.
     pub fn process(&self, thread: Thread) -> Option<Process>
         ensures { SomeIff result (IsKnown self.now thread) (next_process self.now thread) }
     {
@@ -133,19 +141,20 @@ impl Driver {
         Some(process_in(self.processes.as_slice(), thread))
     }
 
-    /// Asks for a thread's next call. The word is the number by which mixtures choose. After a call, the thread is
-    /// busy until `complete`. Takes no memory; the time grows with the size of the generator and its copies, and not
-    /// with the number of calls.
+    /// Asks for a thread's next call. The random number is that by which mixtures choose. After a
+    /// call, the thread is busy until `complete`. Takes no memory; the time grows with the size of
+    /// the generator and its copies, and not with the number of calls.
     ///
-    /// Errors, in this order: `NoSuchThread`; `BusyThread`; `TooManyOps` after 1,000,000 calls, also where the
-    /// generator is spent. The driver is then unchanged.
-    pub fn ask(&mut self, thread: Thread, word: u64) -> Result<GenAnswer, GenError>
-        ensures judged { MatchResult result (λ _. MayAsk self.old thread) (RefusesAsking self.old thread) }
+    /// Errors, in this order: `NoSuchThread`; `BusyThread`; `TooManyOps` after 1,000,000 calls,
+    /// also where the generator is spent. The driver is then unchanged.
+    pub fn ask(&mut self, thread: Thread, random_number: u64) -> Result<GenAnswer, GenError>
+        ensures judged { MatchResult result (λ _. MayAsk self.old thread)
+            (RefusesAsking self.old thread) }
         ensures unchanged { OnErr result (self.new ≡ self.old) }
 
         // Whatever generator and tally the driver stands for, the answer is theirs.
         ensures answered { (g : Generator) (t : Tally) → IsDriverOf self.old g t
-            → IfOk result (λ answer. Answers g t self.old thread word answer self.new) }
+            → IfOk result (λ answer. Answers g t self.old thread random_number answer self.new) }
     {
         let seat = seat(thread);
         if seat > self.clients {
@@ -162,7 +171,7 @@ impl Driver {
         }
         let asked = Asked {
             seat,
-            word,
+            random_number,
             busy: self.busy.as_slice(),
         };
         let Some(call) = self.root.take(asked) else {
@@ -176,12 +185,13 @@ impl Driver {
 
     /// Ends a thread's operation. Takes no memory.
     ///
-    /// Errors, in this order: `NoSuchThread`; `NothingOpen` where the thread has none outstanding. The driver is then
-    /// unchanged.
+    /// Errors, in this order: `NoSuchThread`; `NothingOpen` where the thread has none outstanding.
+    /// The driver is then unchanged.
     pub fn complete(&mut self, thread: Thread, ended: Ended) -> Result<(), GenError>
-        ensures judged { MatchResult result (λ _. MayEnd self.old thread) (RefusesEnding self.old thread) }
+        ensures judged { MatchResult result (λ _. MayEnd self.old thread)
+            (RefusesEnding self.old thread) }
         ensures unchanged { OnErr result (self.new ≡ self.old) }
-        ensures ended { OnOk result (self.new ≡ after_end self.old thread ended) }
+        ensures ended { OnOk result (self.new ≡ driver_after_end self.old thread ended) }
     {
         let seat = seat(thread);
         if seat > self.clients {

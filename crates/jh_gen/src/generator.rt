@@ -8,8 +8,9 @@ use std::alloc::{AllocError, Global};
 use std::boxed::Box;
 use std::marker::Model;
 
-/// A generator of calls, as jepsen.generator has them. What each kind offers, and when it is spent, is defined in
-/// `specs/Offers.antt`. A kind is added here, there, and in the other definitions over `Generator`.
+/// A generator of calls, as jepsen.generator has them. What each kind offers, and when it is spent,
+/// is defined in `specs/Offers.antt`. A kind is added here, there, and in the other definitions
+/// over `Generator`.
 #[cycle(generator)]
 #[derive(Debug, Drop)]
 pub enum Gen {
@@ -25,12 +26,12 @@ pub enum Gen {
     Seq(Gens),
     /// At most so many calls of a generator.
     Limit(u32, Inner),
-    /// A mixture of generators, among which the word of an asking chooses.
+    /// A mixture of generators, among which the random number of an asking chooses.
     Mix(Gens),
     /// Each generator in its turn; one begins only when no thread has an operation outstanding.
     Phases(Gens),
-    /// Some client threads for each of some generators, in order of their numbers; all other threads, the nemesis
-    /// too, for the last generator.
+    /// Some client threads for each of some generators, in order of their numbers; all other
+    /// threads, the nemesis too, for the last generator.
     Reserve(Shares, Inner),
     /// A copy of a generator for each thread.
     EachThread(Inner),
@@ -50,7 +51,7 @@ pub struct Gens {
 impl Model for Gens {
     ghost use Rattle.std.specs.Prelude.{List};
     ghost use Rattle.std.specs.Coded.{coded_list};
-    ghost use Rattle.jh_gen.specs.Generator.{Generator, size_list};
+    ghost use Rattle.jh_gen.specs.Generator.{Generator, generator_list_size};
     ghost use Rattle.jh_gen.specs.Code.{generator_coded};
 
     ghost Value = { List Generator };
@@ -61,7 +62,7 @@ impl Model for Gens {
 
     ghost view = { λ a. generators_of a.items.items };
 
-    ghost size = { size_list };
+    ghost size = { generator_list_size };
 
     ghost use Rattle.std.proofs.Common.{arith};
     ghost use Rattle.jh_gen.specs.Falls.{gens_fall};
@@ -69,7 +70,8 @@ impl Model for Gens {
     ghost size_decreases = { λ a h. Prim.omega (arith, gens_fall a.items.items) };
 }
 
-/// Generators in order, each with the number of client threads that are its own. A contract sees a list of pairs.
+/// Generators in order, each with the number of client threads that are its own. A contract sees a
+/// list of pairs.
 #[cycle(generator)]
 #[derive(Debug, Drop)]
 pub struct Shares {
@@ -105,7 +107,7 @@ pub struct Inner {
 }
 
 impl Model for Inner {
-    ghost use Rattle.jh_gen.specs.Generator.{Generator, size_of};
+    ghost use Rattle.jh_gen.specs.Generator.{Generator, generator_size};
     ghost use Rattle.jh_gen.specs.Code.{generator_coded};
 
     ghost Value = { Generator };
@@ -116,12 +118,12 @@ impl Model for Inner {
 
     ghost view = { λ a. generator_of a.boxed.value };
 
-    ghost size = { size_of };
+    ghost size = { generator_size };
 
     ghost use Rattle.std.proofs.Common.{arith};
-    ghost use Rattle.jh_gen.specs.Falls.{deep};
+    ghost use Rattle.jh_gen.specs.Falls.{gen_falls};
 
-    ghost size_decreases = { λ a h. Prim.omega (arith, deep a.boxed.value) };
+    ghost size_decreases = { λ a h. Prim.omega (arith, gen_falls a.boxed.value) };
 }
 
 impl Inner {
@@ -134,18 +136,11 @@ impl Inner {
         })
     }
 
+    /// The generator that is held.
     pub fn as_gen(&self) -> &Gen
         ensures { generator_of result.now ≡ self.now }
     {
         &self.boxed
-    }
-
-    /// The generator, given back without memory.
-    pub fn into_gen(self) -> Gen
-        ensures { generator_of result ≡ self }
-    {
-        let Inner { boxed } = self;
-        Box::into_inner(boxed)
     }
 }
 
@@ -157,6 +152,7 @@ impl Gens {
         Gens { items }
     }
 
+    /// The generators in order.
     pub fn as_slice(&self) -> &[Gen]
         ensures { generators_of result.now ≡ self.now }
     {
@@ -173,13 +169,15 @@ impl Gens {
 }
 
 impl Shares {
-    /// The shares of a vector, each a number of client threads and their generator. Takes no memory.
+    /// The shares of a vector, each a number of client threads and their generator. Takes no
+    /// memory.
     pub fn of(items: Vec<(u32, Gen)>) -> Shares
         ensures { result ≡ shares_of items.items }
     {
         Shares { items }
     }
 
+    /// The shares in order.
     pub fn as_slice(&self) -> &[(u32, Gen)]
         ensures { shares_of result.now ≡ self.now }
     {

@@ -1,23 +1,24 @@
-//! What is left of a generator, and how a call is taken from it. `specs/State.antt` has the rule, `specs/Turns.antt`
-//! the same for members by their places.
+//! What is left of a generator, and how a call is taken from it. `specs/State.antt` has the rule,
+//! `specs/Turns.antt` the same for members by their places.
 
 ghost use Rattle.std.specs.Prelude.{◌≡◌, ◌<◌, ◌≤◌, ◌-◌, length};
-ghost use Rattle.jh_gen.specs.NodeView.{state_of};
+ghost use Rattle.jh_gen.specs.NodeView.{node_state};
 ghost use Rattle.jh_gen.specs.State as left;
-ghost use Rattle.jh_gen.specs.State.{all_done, lots_done, states_from, lots_from, within, taken, call_of, rest_of};
-ghost use Rattle.jh_gen.specs.Offers.{head_of};
-ghost use Rattle.jh_gen.specs.Scope.{any_busy, is_in};
-ghost use Rattle.jh_gen.specs.Turns.{question, open_at, turn_at, first_turn, open_len, open_place, is_done_at};
+ghost use Rattle.jh_gen.specs.State.{are_all_done, are_lots_done, states_from, lots_from, taking};
+ghost use Rattle.jh_gen.specs.State.{taken_call, rest_of};
+ghost use Rattle.jh_gen.specs.Scope.{has_busy_thread, is_in_scope};
+ghost use Rattle.jh_gen.specs.Turns.{question, first_open_place, turn_at, first_turn, open_len};
+ghost use Rattle.jh_gen.specs.Turns.{open_place};
 ghost use Rattle.jh_gen.specs.Turns.{turn_among, any_turn, lot_at, lot_turn};
 
 use jh_ops::{Call, Request};
 use std::marker::Model;
 
-/// Who asks, with which word, and which seats have an operation outstanding.
+/// Who asks, with which random number, and which seats have an operation outstanding.
 #[derive(Clone, Copy)]
 pub(crate) struct Asked<'a> {
     pub(crate) seat: usize,
-    pub(crate) word: u64,
+    pub(crate) random_number: u64,
     pub(crate) busy: &'a [bool],
 }
 
@@ -53,16 +54,16 @@ pub(crate) struct Row {
 impl Model for Row {
     ghost use Rattle.std.specs.Prelude.{List, Bool};
     ghost use Rattle.std.specs.Coded.{coded_list, coded×, coded_bool};
-    ghost use Rattle.jh_gen.specs.State.{State, row_size};
+    ghost use Rattle.jh_gen.specs.State.{GeneratorState, row_size};
     ghost use Rattle.jh_gen.specs.StateCode.{state_coded};
 
-    ghost Value = { List (Bool × State) };
+    ghost Value = { List (Bool × GeneratorState) };
 
     ghost coded = { coded_list (coded× coded_bool state_coded) };
 
-    ghost use Rattle.jh_gen.specs.NodeView.{members_of};
+    ghost use Rattle.jh_gen.specs.NodeView.{row_view};
 
-    ghost view = { λ a. members_of a.members.items };
+    ghost view = { λ a. row_view a.members.items };
 
     ghost size = { row_size };
 
@@ -80,23 +81,23 @@ pub(crate) struct Within {
 }
 
 impl Model for Within {
-    ghost use Rattle.jh_gen.specs.State.{State, state_size};
+    ghost use Rattle.jh_gen.specs.State.{GeneratorState, state_size};
     ghost use Rattle.jh_gen.specs.StateCode.{state_coded};
 
-    ghost Value = { State };
+    ghost Value = { GeneratorState };
 
     ghost coded = { state_coded };
 
-    ghost use Rattle.jh_gen.specs.NodeView.{state_of};
+    ghost use Rattle.jh_gen.specs.NodeView.{node_state};
 
-    ghost view = { λ a. state_of a.boxed.value };
+    ghost view = { λ a. node_state a.boxed.value };
 
     ghost size = { state_size };
 
     ghost use Rattle.std.proofs.Common.{arith};
-    ghost use Rattle.jh_gen.specs.NodeFalls.{deep};
+    ghost use Rattle.jh_gen.specs.NodeFalls.{node_falls};
 
-    ghost size_decreases = { λ a h. Prim.omega (arith, deep a.boxed.value) };
+    ghost size_decreases = { λ a h. Prim.omega (arith, node_falls a.boxed.value) };
 }
 
 /// A node, and the seats that use it.
@@ -117,10 +118,10 @@ pub(crate) struct Lots {
 impl Model for Lots {
     ghost use Rattle.std.specs.Prelude.{List, ℕ};
     ghost use Rattle.std.specs.Coded.{coded_list, coded×, coded_ℕ};
-    ghost use Rattle.jh_gen.specs.State.{State, split_size};
+    ghost use Rattle.jh_gen.specs.State.{GeneratorState, split_size};
     ghost use Rattle.jh_gen.specs.StateCode.{state_coded};
 
-    ghost Value = { List (List ℕ × State) };
+    ghost Value = { List (List ℕ × GeneratorState) };
 
     ghost coded = { coded_list (coded× (coded_list coded_ℕ) state_coded) };
 
@@ -140,7 +141,7 @@ impl Node {
     /// Whether nothing is left.
     #[cycle(done)]
     pub(crate) fn is_done(&self) -> bool
-        ensures { result ≡ left.is_done (state_of self.now) }
+        ensures { result ≡ left.is_done (node_state self.now) }
     {
         match self {
             Node::Gone => true,
@@ -156,9 +157,10 @@ impl Node {
 }
 
 impl Row {
+    /// Whether nothing is left of any member.
     #[cycle(done)]
     fn is_done(&self) -> bool
-        ensures { result ≡ all_done (states_from self.now) }
+        ensures { result ≡ are_all_done (states_from self.now) }
     {
         for member in &self.members {
             if !member.node.is_done() {
@@ -170,9 +172,10 @@ impl Row {
 }
 
 impl Lots {
+    /// Whether nothing is left in any lot.
     #[cycle(done)]
     fn is_done(&self) -> bool
-        ensures { result ≡ lots_done (lots_from self.now) }
+        ensures { result ≡ are_lots_done (lots_from self.now) }
     {
         for lot in &self.items {
             if !lot.node.is_done() {
@@ -185,7 +188,7 @@ impl Lots {
 
 /// Whether one of the seats has an operation outstanding.
 fn is_any_busy(busy: &[bool], seats: &[usize]) -> bool
-    ensures { result ≡ any_busy busy.now seats.now }
+    ensures { result ≡ has_busy_thread busy.now seats.now }
 {
     for seat in seats {
         if *seat < busy.len() && busy[*seat] {
@@ -199,9 +202,9 @@ impl Node {
     /// The call that a seat gets now. It is gone from what is left.
     #[cycle(take)]
     pub(crate) fn take(&mut self, asked: Asked) -> Option<Call>
-        ensures call { result ≡ call_of (taken (state_of self.old) (question asked.entry)) }
-        ensures rest { state_of self.new
-            ≡ rest_of (state_of self.old) (taken (state_of self.old) (question asked.entry)) }
+        ensures call { result ≡ taken_call (taking (node_state self.old) (question asked.entry)) }
+        ensures rest { node_state self.new
+            ≡ rest_of (node_state self.old) (taking (node_state self.old) (question asked.entry)) }
     {
         match self {
             Node::Gone => None,
@@ -238,7 +241,7 @@ impl Node {
 impl Row {
     /// The place of the first member that isn't done.
     fn open_at(&self) -> usize
-        ensures { result ≡ open_at self.now }
+        ensures { result ≡ first_open_place self.now }
     {
         for (at, member) in self.members.iter().enumerate() {
             if !member.node.is_done() {
@@ -248,11 +251,15 @@ impl Row {
         self.members.len()
     }
 
+    /// The call that a seat gets from the member at a place. A member that has given none waits for
+    /// the awaited seats.
     #[cycle(take)]
     fn take_at(&mut self, at: usize, awaited: &[usize], asked: Asked) -> Option<Call>
         requires { at < length self.old }
-        ensures call { result ≡ call_of (turn_at awaited.now self.old at (question asked.entry)) }
-        ensures rest { self.new ≡ rest_of self.old (turn_at awaited.now self.old at (question asked.entry)) }
+        ensures call { result
+            ≡ taken_call (turn_at awaited.now self.old at (question asked.entry)) }
+        ensures rest { self.new
+            ≡ rest_of self.old (turn_at awaited.now self.old at (question asked.entry)) }
     {
         let member = &mut self.members[at];
         if !member.started && is_any_busy(asked.busy, awaited) {
@@ -263,10 +270,13 @@ impl Row {
         Some(call)
     }
 
+    /// The call that a seat gets from the first member that isn't done.
     #[cycle(take)]
     fn take_first(&mut self, awaited: &[usize], asked: Asked) -> Option<Call>
-        ensures call { result ≡ call_of (first_turn awaited.now self.old (question asked.entry)) }
-        ensures rest { self.new ≡ rest_of self.old (first_turn awaited.now self.old (question asked.entry)) }
+        ensures call { result
+            ≡ taken_call (first_turn awaited.now self.old (question asked.entry)) }
+        ensures rest { self.new
+            ≡ rest_of self.old (first_turn awaited.now self.old (question asked.entry)) }
     {
         let at = self.open_at();
         if at < self.members.len() {
@@ -311,8 +321,10 @@ impl Row {
     #[cycle(take)]
     fn take_among(&mut self, from: usize, to: usize, asked: Asked) -> Option<Call>
         requires { (from ≤ to) × (to ≤ length self.old) }
-        ensures call { result ≡ call_of (turn_among self.old (question asked.entry) from (to - from)) }
-        ensures rest { self.new ≡ rest_of self.old (turn_among self.old (question asked.entry) from (to - from)) }
+        ensures call { result
+            ≡ taken_call (turn_among self.old (question asked.entry) from (to - from)) }
+        ensures rest { self.new
+            ≡ rest_of self.old (turn_among self.old (question asked.entry) from (to - from)) }
     {
         for at in from..to {
             if !self.members[at].node.is_done() {
@@ -325,17 +337,18 @@ impl Row {
         None
     }
 
-    /// Members that aren't done are tried in turn, from one that the word chooses on and around.
+    /// Members that aren't done are tried in turn, from one that the random number chooses on and
+    /// around.
     #[cycle(take)]
     fn take_any(&mut self, asked: Asked) -> Option<Call>
-        ensures call { result ≡ call_of (any_turn self.old (question asked.entry)) }
+        ensures call { result ≡ taken_call (any_turn self.old (question asked.entry)) }
         ensures rest { self.new ≡ rest_of self.old (any_turn self.old (question asked.entry)) }
     {
         let open = self.open_len();
         if open == 0 {
             return None;
         }
-        let from = self.open_place((asked.word % open as u64) as usize);
+        let from = self.open_place((asked.random_number % open as u64) as usize);
         let len = self.members.len();
         let call = self.take_among(from, len, asked);
         if call.is_some() {
@@ -358,12 +371,15 @@ impl Lots {
         self.items.len()
     }
 
+    /// The call that a seat gets from the first lot for it.
     #[cycle(take)]
     fn take(&mut self, asked: Asked) -> Option<Call>
         ensures call { result
-            ≡ call_of (lot_turn self.old (lot_at self.old asked.entry.seat) (question asked.entry)) }
+            ≡ taken_call
+            (lot_turn self.old (lot_at self.old asked.entry.seat) (question asked.entry)) }
         ensures rest { self.new
-            ≡ rest_of self.old (lot_turn self.old (lot_at self.old asked.entry.seat) (question asked.entry)) }
+            ≡ rest_of self.old
+            (lot_turn self.old (lot_at self.old asked.entry.seat) (question asked.entry)) }
     {
         let at = self.lot_at(asked.seat);
         if at < self.items.len() {
@@ -374,8 +390,9 @@ impl Lots {
     }
 }
 
+/// Whether a seat is among these.
 fn is_seat_in(seats: &[usize], seat: usize) -> bool
-    ensures { result ≡ is_in seats.now seat }
+    ensures { result ≡ is_in_scope seats.now seat }
 {
     seats.iter().any(|x| *x == seat)
 }

@@ -1,12 +1,14 @@
 //! Generators as EDN values. `specs/GeneratorText.antt` has the rule, name by name.
 
-ghost use Rattle.std.specs.Prelude.{◌≡◌, ◌<◌, ◌≤◌, Some, IfOk, IfSome, MatchResult, option_map, is_some};
+ghost use Rattle.std.specs.Prelude.{◌≡◌, ◌<◌, ◌≤◌, Some, IfSome, MatchResult, option_map, is_some};
 ghost use Rattle.jh_edn.specs.Edn.{size_of, size_list};
 ghost use Rattle.jh_edn.specs.View.{view, views};
 ghost use Rattle.jh_gen.specs.Generator.{reserve, row_of};
 ghost use Rattle.jh_gen.specs.GeneratorText as rule;
-ghost use Rattle.jh_gen.specs.GeneratorText.{RefusesText, parsed_call, parsed_generator, generator_of_word, generator_of_parts};
-ghost use Rattle.jh_gen.specs.ShapeInside.{EndsReading, parsed_members, part_of, parts_in, parsed_reserved};
+ghost use Rattle.jh_gen.specs.GeneratorText.{RefusesGenerator, parsed_call, parsed_generator};
+ghost use Rattle.jh_gen.specs.GeneratorText.{generator_named, generator_of_operands};
+ghost use Rattle.jh_gen.specs.ShapeInside.{EndsReading, parsed_members, operand_of, operands_in};
+ghost use Rattle.jh_gen.specs.ShapeInside.{parsed_reserve};
 ghost use Rattle.jh_gen.specs.ShapeInside.{shape_size, generator_of_shape};
 ghost use Rattle.jh_gen.specs.View.{generator_of};
 ghost use Rattle.jh_gen.specs.declared.text.GenTextError.TheVariants.{OutOfMemory};
@@ -59,26 +61,29 @@ pub(crate) enum Shape<'a> {
     NemesisOnly(&'a Value),
 }
 
-fn word_call(word: &str) -> Option<Call>
-    ensures { result ≡ rule.word_call word.now }
+/// The call that a name alone means, if it means one.
+fn call_named(name: &str) -> Option<Call>
+    ensures { result ≡ rule.call_named name.now }
 {
-    match word {
+    match name {
         "read" => Some(Call::Client(Request::Read)),
         "generate" => Some(Call::Client(Request::Generate)),
         _ => None,
     }
 }
 
+/// An integer as a number from 0 to 4,294,967,295, if it is one.
 fn number_of(number: i64) -> Option<u32>
-    ensures { result ≡ rule.number_of number }
+    ensures { result ≡ rule.small_number_of number }
 {
     u32::try_from(number).ok()
 }
 
-fn number_call(word: &str, number: i64) -> Option<Call>
-    ensures { result ≡ rule.number_call word.now number }
+/// The call of this name with one number, if there is one.
+fn number_call(name: &str, number: i64) -> Option<Call>
+    ensures { result ≡ rule.number_call name.now number }
 {
-    match word {
+    match name {
         "write" => Some(Call::Client(Request::Write(number))),
         "add" => Some(Call::Client(Request::Add(number))),
         "step" => Some(Call::Step(number_of(number)?)),
@@ -86,32 +91,35 @@ fn number_call(word: &str, number: i64) -> Option<Call>
     }
 }
 
+/// The call of these parts, the first its name, if there is one.
 fn call_in(parts: &[Value]) -> Option<Call>
     ensures { result ≡ rule.call_in (views parts.now) }
 {
     match parts {
-        [Value::Keyword(word), Value::Int(number)] => number_call(word.as_str(), *number),
-        [Value::Keyword(word), Value::Int(old), Value::Int(new)] if word.as_str() == "cas" => {
+        [Value::Keyword(name), Value::Int(number)] => number_call(name.as_str(), *number),
+        [Value::Keyword(name), Value::Int(old), Value::Int(new)] if name.as_str() == "cas" => {
             Some(Call::Client(Request::Cas(*old, *new)))
         }
         _ => None,
     }
 }
 
-// The call that a value tells.
+/// The call that a value means.
 fn call_of(value: &Value) -> Option<Call>
     ensures { result ≡ parsed_call (view value.now) }
 {
     match value {
-        Value::Keyword(word) => word_call(word.as_str()),
+        Value::Keyword(name) => call_named(name.as_str()),
         _ => call_in(value.elements()?),
     }
 }
 
-// The only part.
+/// The only part.
 fn only(parts: &[Value]) -> Option<&Value>
-    ensures part { option_map (λ value. part_of (view value.now)) result ≡ rule.only (parts_in (views parts.now)) }
-    ensures smaller { IfSome result (λ value. size_of (view value.now) < size_list (views parts.now)) }
+    ensures part { option_map (λ value. operand_of (view value.now)) result
+        ≡ rule.only_operand (operands_in (views parts.now)) }
+    ensures smaller { IfSome result
+        (λ value. size_of (view value.now) < size_list (views parts.now)) }
 {
     match parts {
         [part] => Some(part),
@@ -119,14 +127,16 @@ fn only(parts: &[Value]) -> Option<&Value>
     }
 }
 
+/// The call that the only part means.
 fn one_call(parts: &[Value]) -> Option<Call>
-    ensures { result ≡ rule.one_call (parts_in (views parts.now)) }
+    ensures { result ≡ rule.one_call (operands_in (views parts.now)) }
 {
     call_of(only(parts)?)
 }
 
+/// The integer that is the only part.
 fn one_integer(parts: &[Value]) -> Option<i64>
-    ensures { result ≡ rule.one_integer (parts_in (views parts.now)) }
+    ensures { result ≡ rule.one_integer (operands_in (views parts.now)) }
 {
     match only(parts)? {
         Value::Int(number) => Some(*number),
@@ -134,8 +144,9 @@ fn one_integer(parts: &[Value]) -> Option<i64>
     }
 }
 
+/// The number from 0 to 4,294,967,295 that a value means, if it means one.
 fn number_in(value: &Value) -> Option<u32>
-    ensures { result ≡ rule.number_in (part_of (view value.now)) }
+    ensures { result ≡ rule.number_in (operand_of (view value.now)) }
 {
     match value {
         Value::Int(number) => number_of(*number),
@@ -143,8 +154,10 @@ fn number_in(value: &Value) -> Option<u32>
     }
 }
 
-fn no_part(parts: &[Value]) -> Option<Shape<'_>>
-    ensures told { generator_of_shape result ≡ rule.no_part (parts_in (views parts.now)) }
+/// The form of `nil`, which has no parts behind its name.
+fn shape_of_none(parts: &[Value]) -> Option<Shape<'_>>
+    ensures parsed { generator_of_shape result
+        ≡ rule.generator_of_none (operands_in (views parts.now)) }
     ensures smaller { IfSome result (λ shape. shape_size shape ≤ size_list (views parts.now)) }
 {
     match parts {
@@ -153,8 +166,10 @@ fn no_part(parts: &[Value]) -> Option<Shape<'_>>
     }
 }
 
+/// The form of a limit with these parts, a number and what is limited.
 fn limited(parts: &[Value]) -> Option<Shape<'_>>
-    ensures told { generator_of_shape result ≡ rule.limited (parts_in (views parts.now)) }
+    ensures parsed { generator_of_shape result
+        ≡ rule.limit_operands (operands_in (views parts.now)) }
     ensures smaller { IfSome result (λ shape. shape_size shape ≤ size_list (views parts.now)) }
 {
     match parts {
@@ -163,13 +178,14 @@ fn limited(parts: &[Value]) -> Option<Shape<'_>>
     }
 }
 
-// The form of this name with these parts.
-fn shape_by<'a>(word: &str, parts: &'a [Value]) -> Option<Shape<'a>>
-    ensures told { generator_of_shape result ≡ generator_of_word word.now (parts_in (views parts.now)) }
+/// The form of this name with these parts.
+fn shape_by<'a>(name: &str, parts: &'a [Value]) -> Option<Shape<'a>>
+    ensures parsed { generator_of_shape result
+        ≡ generator_named name.now (operands_in (views parts.now)) }
     ensures smaller { IfSome result (λ shape. shape_size shape ≤ size_list (views parts.now)) }
 {
-    match word {
-        "nil" => no_part(parts),
+    match name {
+        "nil" => shape_of_none(parts),
         "once" => Some(Shape::Once(one_call(parts)?)),
         "rising" => Some(Shape::Rising(one_integer(parts)?)),
         "forever" => Some(Shape::Forever(one_call(parts)?)),
@@ -185,35 +201,37 @@ fn shape_by<'a>(word: &str, parts: &'a [Value]) -> Option<Shape<'a>>
     }
 }
 
-fn word_of(value: &Value) -> Option<&str>
-    ensures { option_map (λ word. word.now) result ≡ rule.word_of (view value.now) }
+/// The name of a keyword, if the value is one.
+fn keyword_name(value: &Value) -> Option<&str>
+    ensures { option_map (λ name. name.now) result ≡ rule.keyword_name (view value.now) }
 {
     match value {
-        Value::Keyword(word) => Some(word.as_str()),
+        Value::Keyword(name) => Some(name.as_str()),
         _ => None,
     }
 }
 
-// The form of these parts, the first its name.
+/// The form of these parts, the first its name.
 fn shape_in(parts: &[Value]) -> Option<Shape<'_>>
-    ensures told { generator_of_shape result ≡ generator_of_parts (parts_in (views parts.now)) }
+    ensures parsed { generator_of_shape result
+        ≡ generator_of_operands (operands_in (views parts.now)) }
     ensures smaller { IfSome result (λ shape. shape_size shape ≤ size_list (views parts.now)) }
 {
     match parts {
         [] => None,
-        [name, rest @ ..] => shape_by(word_of(name)?, rest),
+        [name, rest @ ..] => shape_by(keyword_name(name)?, rest),
     }
 }
 
-// The form of a value, if it has one.
+/// The form of a value, if it has one.
 fn shape_of(value: &Value) -> Option<Shape<'_>>
-    ensures told { generator_of_shape result ≡ parsed_generator (view value.now) }
+    ensures parsed { generator_of_shape result ≡ parsed_generator (view value.now) }
     ensures smaller { IfSome result (λ shape. shape_size shape < size_of (view value.now)) }
 {
     shape_in(value.elements()?)
 }
 
-// Whether a value tells a generator.
+/// Whether a value means a generator.
 #[cycle(judge)]
 fn is_generator(value: &Value) -> bool
     ensures { result ≡ is_some (parsed_generator (view value.now)) }
@@ -237,6 +255,7 @@ fn is_generator(value: &Value) -> bool
     }
 }
 
+/// Whether each part means a generator.
 #[cycle(judge)]
 fn are_generators(parts: &[Value]) -> bool
     ensures { result ≡ is_some (parsed_members (views parts.now)) }
@@ -249,10 +268,10 @@ fn are_generators(parts: &[Value]) -> bool
     true
 }
 
-// Whether these are numbers, each with a generator, and a generator behind them.
+/// Whether these are numbers, each with a generator, and a generator behind them.
 #[cycle(judge)]
 fn are_reserved(parts: &[Value]) -> bool
-    ensures { result ≡ is_some (parsed_reserved (views parts.now)) }
+    ensures { result ≡ is_some (parsed_reserve (views parts.now)) }
 {
     let mut rest = parts;
     while let [number, part, later @ ..] = rest {
@@ -267,7 +286,7 @@ fn are_reserved(parts: &[Value]) -> bool
     }
 }
 
-// The generator that a value tells, or the first reason to end on the way.
+/// The generator that a value means, or the first reason to end on the way.
 #[cycle(read)]
 fn gen_in(alloc: Global, value: &Value) -> Result<Gen, GenTextError>
     ensures { MatchResult result
@@ -293,6 +312,7 @@ fn gen_in(alloc: Global, value: &Value) -> Result<Gen, GenTextError>
     }
 }
 
+/// The generator that a value means, to be held by another, or the first reason to end on the way.
 #[cycle(read)]
 fn inner_in(alloc: Global, value: &Value) -> Result<Inner, GenTextError>
     ensures { MatchResult result
@@ -302,6 +322,7 @@ fn inner_in(alloc: Global, value: &Value) -> Result<Inner, GenTextError>
     Ok(Inner::of(alloc, gen_in(alloc, value)?)?)
 }
 
+/// The generators that the parts mean, or the first reason to end on the way.
 #[cycle(read)]
 fn members_in(alloc: Global, parts: &[Value]) -> Result<Gens, GenTextError>
     ensures { MatchResult result
@@ -315,11 +336,13 @@ fn members_in(alloc: Global, parts: &[Value]) -> Result<Gens, GenTextError>
     Ok(Gens::of(members))
 }
 
+/// The reserve that the parts mean, or the first reason to end on the way.
 #[cycle(read)]
 fn reserve_in(alloc: Global, parts: &[Value]) -> Result<Gen, GenTextError>
     ensures { MatchResult result
-        (λ source. option_map (λ r. reserve r.0 r.1) (parsed_reserved (views parts.now)) ≡ Some (generator_of source))
-        (EndsReading (parsed_reserved (views parts.now))) }
+        (λ source. option_map (λ r. reserve r.0 r.1) (parsed_reserve (views parts.now))
+        ≡ Some (generator_of source))
+        (EndsReading (parsed_reserve (views parts.now))) }
 {
     let mut shares = Vec::new(alloc);
     let mut rest = parts;
@@ -336,11 +359,12 @@ fn reserve_in(alloc: Global, parts: &[Value]) -> Result<Gen, GenTextError>
     }
 }
 
-/// The generator that a value tells: a vector or a list of a name and what belongs to it, one of `[:nil]`, `[:once
-/// CALL]`, `[:rising N]`, `[:forever CALL]`, `[:seq G ..]`, `[:limit N G]`, `[:mix G ..]`, `[:phases G ..]`,
-/// `[:reserve N1 G1 .. D]`, `[:each-thread G]`, `[:clients G]` and `[:nemesis G]`. A call is `:read`, `[:write N]`,
-/// `[:cas OLD NEW]`, `[:add N]`, `:generate` or `[:step I]`. The numbers of a limit, a reserve and a step are from 0
-/// to 4,294,967,295, the others any of 64 bits.
+/// The generator that a value means: a vector or a list of a name and what belongs to it, one of
+/// `[:nil]`, `[:once CALL]`, `[:rising N]`, `[:forever CALL]`, `[:seq G ..]`, `[:limit N G]`,
+/// `[:mix G ..]`, `[:phases G ..]`, `[:reserve N1 G1 .. D]`, `[:each-thread G]`, `[:clients G]` and
+/// `[:nemesis G]`. A call is `:read`, `[:write N]`, `[:cas OLD NEW]`, `[:add N]`, `:generate` or
+/// `[:step I]`. The numbers of a limit, a reserve and a step are from 0 to 4,294,967,295, the
+/// others any of 64 bits.
 ///
 /// Takes time linear in the value.
 ///
@@ -348,7 +372,7 @@ fn reserve_in(alloc: Global, parts: &[Value]) -> Result<Gen, GenTextError>
 pub fn gen_of_value(alloc: Global, value: &Value) -> Result<Gen, GenTextError>
     ensures { MatchResult result
         (λ source. parsed_generator (view value.now) ≡ Some (generator_of source))
-        (RefusesText (view value.now)) }
+        (RefusesGenerator (view value.now)) }
 {
     match gen_in(alloc, value) {
         // What was not read yet may tell nothing, which is the first reason to refuse it.

@@ -1,4 +1,5 @@
-//! A driver by the definition: it knows of a run only the paths of its calls, who is busy, and who crashed how often.
+//! A driver by the definition: it knows of a run only the paths of its calls, who is busy, and who
+//! crashed how often.
 
 use crate::offers::{is_spent, offer_of};
 use crate::parts::{MAX_DEEP, Part, Question, Scope};
@@ -6,8 +7,8 @@ use jh_gen::{Gen, GenAnswer};
 use jh_ops::Process;
 use std::alloc::{AllocError, Global};
 
-/// Answers as a driver should, of a generator at most eight deep and 63 wide. Threads go by seat: the nemesis has seat
-/// 0, client n has seat n + 1.
+/// Answers as a driver should, of a generator at most eight deep and 63 wide. Threads go by seat:
+/// the nemesis has seat 0, client n has seat n + 1.
 #[derive(Drop)]
 pub struct PlainDriver {
     source: Gen,
@@ -18,6 +19,7 @@ pub struct PlainDriver {
 }
 
 impl PlainDriver {
+    /// A driver that has given no call, for this number of client threads.
     pub fn new(alloc: Global, source: Gen, clients: u32) -> Result<PlainDriver, AllocError> {
         let seats = clients as usize + 1;
         Ok(PlainDriver {
@@ -34,10 +36,12 @@ impl PlainDriver {
         self.calls.len()
     }
 
+    /// Whether the thread of a seat has an operation outstanding.
     pub fn is_busy(&self, seat: usize) -> bool {
         self.busy.get(seat).copied().unwrap_or(false)
     }
 
+    /// The process whose operation the next one of a seat is.
     fn process(&self, seat: usize) -> Process {
         if seat == 0 {
             return Process::Nemesis;
@@ -80,6 +84,7 @@ impl PlainDriver {
         }
     }
 
+    /// Sets whether the thread of a seat has an operation outstanding.
     fn set_busy(&mut self, seat: usize, is_busy: bool) {
         if let Some(busy) = self.busy.get_mut(seat) {
             *busy = is_busy;

@@ -1,5 +1,5 @@
-//! A plain slow driver of generators, and generators that look random, which serve tests alone: `jh_gen_tests` compares
-//! the driver of `jh_gen` with it.
+//! A plain slow driver of generators, and generators that look random, which serve tests alone:
+//! `jh_gen_tests` compares the driver of `jh_gen` with it.
 #![tactic(auto)]
 
 mod driver;

@@ -1,5 +1,5 @@
-//! What a generator offers to a thread, and when it is spent, as docs/generators.md has it, kind by kind. Each question
-//! counts the calls of the whole run anew.
+//! What a generator offers to a thread, and when it is spent, as docs/generators.md has it, kind by
+//! kind. Each question counts the calls of the whole run anew.
 //!
 //! `depth` is how many generators may still be inside one another; one that lies deeper is spent.
 
@@ -7,6 +7,7 @@ use crate::parts::{Part, Question, Scope};
 use jh_gen::{Gen, Shares};
 use jh_ops::{Call, Request};
 
+/// Whether a generator is spent, as this part of the whole.
 #[cycle(spent)]
 pub(crate) fn is_spent(source: &Gen, part: Part, depth: u32) -> bool {
     if depth == 0 {
@@ -34,6 +35,7 @@ pub(crate) fn is_spent(source: &Gen, part: Part, depth: u32) -> bool {
     }
 }
 
+/// Whether all members of a part are spent.
 #[cycle(spent)]
 fn are_spent(members: &[Gen], part: Part, depth: u32) -> bool {
     for (place, member) in members.iter().enumerate() {
@@ -44,6 +46,7 @@ fn are_spent(members: &[Gen], part: Part, depth: u32) -> bool {
     true
 }
 
+/// Whether the generators of all shares are spent.
 #[cycle(spent)]
 fn are_shares_spent(shares: &[(u32, Gen)], part: Part, depth: u32) -> bool {
     let mut first = 1usize;
@@ -58,6 +61,7 @@ fn are_shares_spent(shares: &[(u32, Gen)], part: Part, depth: u32) -> bool {
     true
 }
 
+/// Whether the copy of each thread is spent.
 #[cycle(spent)]
 fn is_each_spent(inner: &Gen, part: Part, depth: u32) -> bool {
     for seat in 0..MAX_SEATS {
@@ -82,14 +86,17 @@ fn open_count(members: &[Gen], part: Part, depth: u32) -> u64 {
 /// A driver's nemesis and its clients.
 const MAX_SEATS: usize = 17;
 
+/// The inner generator of one for clients, which only client threads ask.
 fn clients(part: Part) -> Part {
     part.member(0).asked_by(Scope::of(1, usize::MAX, false))
 }
 
+/// The inner generator of one for the nemesis, which only the nemesis asks.
 fn nemesis(part: Part) -> Part {
     part.member(0).asked_by(Scope::of(1, 1, true))
 }
 
+/// The copy of an inner generator that only the thread of a seat asks.
 fn copy_of(seat: usize, part: Part) -> Part {
     part.member(seat).asked_by(Scope::only(seat))
 }
@@ -108,6 +115,7 @@ fn others<'a>(shares: &Shares, part: Part<'a>) -> Part<'a> {
 /// A call, and the path by which it comes.
 pub(crate) type Offer = Option<(u64, Call)>;
 
+/// What a generator, as this part of the whole, offers to the thread that asks.
 #[cycle(offer)]
 pub(crate) fn offer_of(source: &Gen, part: Part, question: Question, depth: u32) -> Offer {
     if depth == 0 || !part.scope.contains(question.seat) || is_spent(source, part, depth) {
@@ -152,7 +160,8 @@ pub(crate) fn offer_of(source: &Gen, part: Part, question: Question, depth: u32)
     }
 }
 
-/// What the first member offers that is not spent; one that has given no call waits for the awaited threads.
+/// What the first member offers that is not spent; one that has given no call waits for the awaited
+/// threads.
 #[cycle(offer)]
 fn first_offer(
     members: &[Gen],
@@ -173,7 +182,8 @@ fn first_offer(
     None
 }
 
-/// What the members offer that are not spent, from the one that the word names and around: the first that there is.
+/// What the members offer that are not spent, from the one that the word names and around: the
+/// first that there is.
 #[cycle(offer)]
 fn mixed_offer(members: &[Gen], part: Part, question: Question, depth: u32) -> Offer {
     let from = question.word.checked_rem(open_count(members, part, depth))?;

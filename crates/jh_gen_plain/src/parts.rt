@@ -11,7 +11,8 @@ pub(crate) struct Scope {
 }
 
 impl Scope {
-    /// The clients from one seat to another, which is behind the last, and the nemesis, if it is wanted.
+    /// The clients from one seat to another, which is behind the last, and the nemesis, if it is
+    /// wanted.
     pub(crate) fn of(first: usize, behind: usize, has_nemesis: bool) -> Scope {
         Scope {
             first,
@@ -20,6 +21,7 @@ impl Scope {
         }
     }
 
+    /// The thread of one seat alone.
     pub(crate) fn only(seat: usize) -> Scope {
         match seat {
             0 => Scope::of(1, 1, true),
@@ -36,6 +38,7 @@ impl Scope {
         )
     }
 
+    /// Whether the thread of a seat is one of these.
     pub(crate) fn contains(self, seat: usize) -> bool {
         match seat {
             0 => self.has_nemesis,
@@ -43,6 +46,7 @@ impl Scope {
         }
     }
 
+    /// Whether there is no thread.
     pub(crate) fn is_empty(self) -> bool {
         self.first >= self.behind && !self.has_nemesis
     }
@@ -68,7 +72,8 @@ pub(crate) const MAX_DEEP: u32 = 8;
 
 /// A part of a generator: its path, the paths of all calls of the run, and who asks it.
 ///
-/// A path is a number. Each member on the way is one digit to the base 64, one more than its place, the last one lowest.
+/// A path is a number. Each member on the way is one digit to the base 64, one more than its place,
+/// the last one lowest.
 #[derive(Clone, Copy)]
 pub(crate) struct Part<'a> {
     pub(crate) path: u64,
@@ -77,6 +82,7 @@ pub(crate) struct Part<'a> {
 }
 
 impl<'a> Part<'a> {
+    /// The part that is the member of this one at a place.
     pub(crate) fn member(self, place: usize) -> Part<'a> {
         Part {
             path: self

@@ -31,6 +31,7 @@ impl Random {
     }
 }
 
+/// A random call.
 fn random_call(random: &mut Random) -> Call {
     match random.below(3) {
         0 => Call::Client(Request::Read),
@@ -65,6 +66,7 @@ pub fn random_source(alloc: Global, random: &mut Random, depth: u32) -> Result<G
     })
 }
 
+/// A random generator with no other inside.
 fn random_leaf(random: &mut Random) -> Gen {
     match random.below(6) {
         0 => Gen::Nil,
@@ -74,12 +76,14 @@ fn random_leaf(random: &mut Random) -> Gen {
     }
 }
 
+/// A random generator to be held by another, with at most so many others around its innermost.
 #[cycle(random)]
 fn random_inner(alloc: Global, random: &mut Random, depth: u32) -> Result<Inner, AllocError> {
     let source = random_source(alloc, random, depth)?;
     Inner::of(alloc, source)
 }
 
+/// Up to three random generators, each with at most so many others around its innermost.
 #[cycle(random)]
 fn random_members(alloc: Global, random: &mut Random, depth: u32) -> Result<Gens, AllocError> {
     let mut members = Vec::new(alloc);
@@ -90,6 +94,7 @@ fn random_members(alloc: Global, random: &mut Random, depth: u32) -> Result<Gens
     Ok(Gens::of(members))
 }
 
+/// Up to two random shares, each of at most two threads.
 #[cycle(random)]
 fn random_shares(alloc: Global, random: &mut Random, depth: u32) -> Result<Shares, AllocError> {
     let mut shares = Vec::new(alloc);

@@ -6,7 +6,7 @@ use Rattle.std.proofs.lemmas.Bool.{cases_eq, cases_lt}
 use Rattle.std.proofs.lemmas.List.{length-take, length-drop, length-append, get_or-take, get_or-drop, get_or_append_left, get_or-append_right}
 use Rattle.std.proofs.lemmas.Option.{slice_get_within, slice_get-get_or, get_or_from_slice_get, same_Some}
 use Rattle.jh_grudge.specs.Lists.{AreDistinct, first_half}
-use Rattle.jh_grudge.specs.Grudges.{RingDrops, beyond_bridge, majority}
+use Rattle.jh_grudge.specs.Grudges.{RingDrops, nodes_beyond_bridge, majority}
 use Rattle.jh_grudge.specs.Laws.{Sees, CompleteSeesItself, BridgeSeesItself, RingSeesItself, BridgeTalksToAll, RingSeesMajority, RingSightsDiffer}
 use Rattle.jh_grudge.proofs.ListLemmas.{contains_at, place_of, one_place}
 use Rattle.jh_grudge.proofs.AroundLemmas.{around, around_below, ahead, one_ahead}
@@ -30,7 +30,7 @@ not_first nodes node distinct at (k, below, is) =
     let short = length-take h nodes in
     distinct k h node (omega arith) (slice_get_within nodes h node at) (sym (get_or-take h nodes k node (omega arith)) ∙ is ∙ sym (get_or_from_slice_get nodes h node node at))
 
-not_beyond : (nodes : List ℕ) (node : ℕ) → AreDistinct nodes → slice_get nodes (length nodes / 2) ≡ Some node → ¬ Contains (beyond_bridge nodes) node
+not_beyond : (nodes : List ℕ) (node : ℕ) → AreDistinct nodes → slice_get nodes (length nodes / 2) ≡ Some node → ¬ Contains (nodes_beyond_bridge nodes) node
 not_beyond nodes node distinct at (k, below, is) =
     let h = length nodes / 2 in
     let rest = length-drop (h + 1) nodes in

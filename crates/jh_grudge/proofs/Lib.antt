@@ -1,5 +1,5 @@
 pub mod ListLemmas
-pub mod MarkLemmas
+pub mod MetNodeLemmas
 pub mod LinkLemmas
 pub mod AroundLemmas
 pub mod RankLemmas

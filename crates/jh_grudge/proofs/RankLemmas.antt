@@ -6,9 +6,9 @@ use Rattle.std.proofs.lemmas.Bool.{cases_eq, cases_lt, eqb-false, not-true, ne_e
 use Rattle.std.proofs.lemmas.List.{get_or-set_same, get_or-set_other, take_more, get_or_past, length-set, length-take, length-drop, get_or-take, get_or-drop}
 use Rattle.std.proofs.lemmas.List.Elements.{Contains-append_left, Contains-push, Contains-push_cases}
 use Rattle.std.proofs.lemmas.Option.{same_Some, none-some, slice_get_within}
-use Rattle.jh_grudge.specs.Grudges.{IsIn, CompleteDrops, BridgeDrops, RingDrops, beyond_bridge, majority}
+use Rattle.jh_grudge.specs.Grudges.{IsIn, CompleteDrops, BridgeDrops, RingDrops, nodes_beyond_bridge, majority}
 use Rattle.jh_grudge.specs.Lists.{AreDistinct, first_half}
-use Rattle.jh_grudge.specs.Ranks.{rank_of, both_by, drops_by, drops_in}
+use Rattle.jh_grudge.specs.Ranks.{rank_of, is_of_both, drops_by, drops_in}
 use Rattle.jh_grudge.specs.declared.ranks.Rule.{Rule}
 use Rattle.jh_grudge.specs.declared.ranks.Rule.TheVariants.{Apart, Ring}
 use Rattle.jh_grudge.proofs.ListLemmas.{contains_none, contains_cases, one_place}
@@ -60,7 +60,7 @@ ranked_below ranks node rank at =
 
 -- ---- tests of two ranks
 
-both_parts : (test : ℕ → ℕ → Bool) (a b : Option ℕ) → both_by test a b ≡ true → (i : ℕ) × (j : ℕ) × (a ≡ Some i) × (b ≡ Some j) × (test i j ≡ true)
+both_parts : (test : ℕ → ℕ → Bool) (a b : Option ℕ) → is_of_both test a b ≡ true → (i : ℕ) × (j : ℕ) × (a ≡ Some i) × (b ≡ Some j) × (test i j ≡ true)
 both_parts test (Some i) (Some j) passes = (i, j, refl, refl, passes)
 both_parts test (Some i) None passes = cc
 both_parts test None b passes = cc
@@ -72,7 +72,7 @@ ranks_told rule ranks dst src passes = both_parts (drops_by rule) (rank_of ranks
 
 pub drops_told : (rule : Rule) (ranks : List (Option ℕ)) (dst src i j : ℕ) → rank_of ranks dst ≡ Some i → rank_of ranks src ≡ Some j → drops_by rule i j ≡ true
     → drops_in rule ranks dst src ≡ true
-drops_told rule ranks dst src i j to from passes = ap (λ o. both_by (drops_by rule) o (rank_of ranks src)) to ∙ ap (λ o. both_by (drops_by rule) (Some i) o) from ∙ passes
+drops_told rule ranks dst src i j to from passes = ap (λ o. is_of_both (drops_by rule) o (rank_of ranks src)) to ∙ ap (λ o. is_of_both (drops_by rule) (Some i) o) from ∙ passes
 
 -- the nodes of a link have places in the table
 pub src_below : (rule : Rule) (ranks : List (Option ℕ)) (dst src : ℕ) → drops_in rule ranks dst src ≡ true → src < length ranks
@@ -137,7 +137,7 @@ complete_back components ranks ranking dst src (i, j, apart, to, from) =
 -- ---- a bridge
 
 -- a bridge is the complete grudge of its two sides
-pub bridge_there : (nodes : List ℕ) (dst src : ℕ) → CompleteDrops (first_half nodes ∷ beyond_bridge nodes ∷ []) dst src → BridgeDrops nodes dst src
+pub bridge_there : (nodes : List ℕ) (dst src : ℕ) → CompleteDrops (first_half nodes ∷ nodes_beyond_bridge nodes ∷ []) dst src → BridgeDrops nodes dst src
 bridge_there nodes dst src (zero, zero, apart, to, from) = absurd (apart refl)
 bridge_there nodes dst src (zero, suc zero, apart, to, from) = inl (to, from)
 bridge_there nodes dst src (zero, suc (suc j), apart, to, from) = absurd (contains_none src from)
@@ -146,12 +146,12 @@ bridge_there nodes dst src (suc zero, suc zero, apart, to, from) = absurd (apart
 bridge_there nodes dst src (suc zero, suc (suc j), apart, to, from) = absurd (contains_none src from)
 bridge_there nodes dst src (suc (suc i), j, apart, to, from) = absurd (contains_none dst to)
 
-pub bridge_back : (nodes : List ℕ) (dst src : ℕ) → BridgeDrops nodes dst src → CompleteDrops (first_half nodes ∷ beyond_bridge nodes ∷ []) dst src
+pub bridge_back : (nodes : List ℕ) (dst src : ℕ) → BridgeDrops nodes dst src → CompleteDrops (first_half nodes ∷ nodes_beyond_bridge nodes ∷ []) dst src
 bridge_back nodes dst src (inl (to, from)) = (0, 1, (λ same. omega arith), to, from)
 bridge_back nodes dst src (inr (to, from)) = (1, 0, (λ same. omega arith), to, from)
 
 -- no node is on both sides
-pub sides_apart : (nodes : List ℕ) (node : ℕ) → AreDistinct nodes → Contains (first_half nodes) node → Contains (beyond_bridge nodes) node → ⊥
+pub sides_apart : (nodes : List ℕ) (node : ℕ) → AreDistinct nodes → Contains (first_half nodes) node → Contains (nodes_beyond_bridge nodes) node → ⊥
 sides_apart nodes node distinct (k, low, here) (l, high, there) =
     let h = length nodes / 2 in
     let short = length-take h nodes in
@@ -159,7 +159,7 @@ sides_apart nodes node distinct (k, low, here) (l, high, there) =
     distinct k (h + 1 + l) node (omega arith) (omega arith)
     (sym (get_or-take h nodes k node (omega arith)) ∙ here ∙ sym there ∙ get_or-drop (h + 1) nodes l node)
 
-pub sides_alone : (nodes : List ℕ) → AreDistinct nodes → (i j node : ℕ) → IsIn (first_half nodes ∷ beyond_bridge nodes ∷ []) i node → IsIn (first_half nodes ∷ beyond_bridge nodes ∷ []) j node → i ≡ j
+pub sides_alone : (nodes : List ℕ) → AreDistinct nodes → (i j node : ℕ) → IsIn (first_half nodes ∷ nodes_beyond_bridge nodes ∷ []) i node → IsIn (first_half nodes ∷ nodes_beyond_bridge nodes ∷ []) j node → i ≡ j
 sides_alone nodes distinct zero zero node here there = refl
 sides_alone nodes distinct zero (suc zero) node here there = absurd (sides_apart nodes node distinct here there)
 sides_alone nodes distinct (suc zero) zero node here there = absurd (sides_apart nodes node distinct there here)
@@ -246,20 +246,20 @@ src_below_in rule ranks n long dst src hit = let low = src_below rule ranks dst 
 
 -- ---- the two sides of a bridge, ranked in turn
 
-pub sides_ranked : (nodes : List ℕ) (none first both : List (Option ℕ)) → AreDistinct nodes → IsRanking (IsBelow (first_half nodes ∷ beyond_bridge nodes ∷ []) 0) none
+pub sides_ranked : (nodes : List ℕ) (none first both : List (Option ℕ)) → AreDistinct nodes → IsRanking (IsBelow (first_half nodes ∷ nodes_beyond_bridge nodes ∷ []) 0) none
     → ((node : ℕ) → Contains (first_half nodes) node → rank_of first node ≡ Some 0) → ((node : ℕ) → ¬ Contains (first_half nodes) node → rank_of first node ≡ rank_of none node)
-    → ((node : ℕ) → Contains (beyond_bridge nodes) node → rank_of both node ≡ Some 1) → ((node : ℕ) → ¬ Contains (beyond_bridge nodes) node → rank_of both node ≡ rank_of first node)
-    → IsRanking (λ node rank. IsIn (first_half nodes ∷ beyond_bridge nodes ∷ []) rank node) both
+    → ((node : ℕ) → Contains (nodes_beyond_bridge nodes) node → rank_of both node ≡ Some 1) → ((node : ℕ) → ¬ Contains (nodes_beyond_bridge nodes) node → rank_of both node ≡ rank_of first node)
+    → IsRanking (λ node rank. IsIn (first_half nodes ∷ nodes_beyond_bridge nodes ∷ []) rank node) both
 sides_ranked nodes none first both distinct start at_first off_first at_beyond off_beyond =
-    let sides = first_half nodes ∷ beyond_bridge nodes ∷ [] in
+    let sides = first_half nodes ∷ nodes_beyond_bridge nodes ∷ [] in
     is_ranking_all sides 2 both (omega arith)
     (is_ranking_more sides 1 first both (sides_alone nodes distinct) at_beyond off_beyond (is_ranking_more sides 0 none first (sides_alone nodes distinct) at_first off_first start))
 
 -- what the rule of components tells of the two sides
-pub bridge_there_in : (nodes : List ℕ) (ranks : List (Option ℕ)) → IsRanking (λ node rank. IsIn (first_half nodes ∷ beyond_bridge nodes ∷ []) rank node) ranks
+pub bridge_there_in : (nodes : List ℕ) (ranks : List (Option ℕ)) → IsRanking (λ node rank. IsIn (first_half nodes ∷ nodes_beyond_bridge nodes ∷ []) rank node) ranks
     → (dst src : ℕ) → drops_in Apart ranks dst src ≡ true → BridgeDrops nodes dst src
-bridge_there_in nodes ranks ranking dst src hit = bridge_there nodes dst src (complete_there (first_half nodes ∷ beyond_bridge nodes ∷ []) ranks ranking dst src hit)
+bridge_there_in nodes ranks ranking dst src hit = bridge_there nodes dst src (complete_there (first_half nodes ∷ nodes_beyond_bridge nodes ∷ []) ranks ranking dst src hit)
 
-pub bridge_back_in : (nodes : List ℕ) (ranks : List (Option ℕ)) → IsRanking (λ node rank. IsIn (first_half nodes ∷ beyond_bridge nodes ∷ []) rank node) ranks
+pub bridge_back_in : (nodes : List ℕ) (ranks : List (Option ℕ)) → IsRanking (λ node rank. IsIn (first_half nodes ∷ nodes_beyond_bridge nodes ∷ []) rank node) ranks
     → (dst src : ℕ) → BridgeDrops nodes dst src → drops_in Apart ranks dst src ≡ true
-bridge_back_in nodes ranks ranking dst src drops = complete_back (first_half nodes ∷ beyond_bridge nodes ∷ []) ranks ranking dst src (bridge_back nodes dst src drops)
+bridge_back_in nodes ranks ranking dst src drops = complete_back (first_half nodes ∷ nodes_beyond_bridge nodes ∷ []) ranks ranking dst src (bridge_back nodes dst src drops)

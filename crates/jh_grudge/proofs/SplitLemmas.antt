@@ -6,7 +6,7 @@ use Rattle.std.specs.declared.alloc.Global.{Global}
 use Rattle.std.proofs.lemmas.Bool.{cases_Bool, both_ways, not-true, eq-eqb}
 use Rattle.std.proofs.lemmas.List.{append-nil, get_or_default}
 use Rattle.std.proofs.lemmas.List.Elements.{All-filter, All-contains, All-contains_itself, filter_passes}
-use Rattle.jh_grudge.specs.Lists.{AreDistinct, end_to_end, lists_of, split_of}
+use Rattle.jh_grudge.specs.Lists.{AreDistinct, nodes_end_to_end, lists_of, split_of}
 use Rattle.jh_grudge.proofs.ListLemmas.{distinct_none, distinct_tail}
 
 distinct_cons : (x : ℕ) (xs : List ℕ) → ¬ Contains xs x → AreDistinct xs → AreDistinct (x ∷ xs)
@@ -30,13 +30,13 @@ distinct-filter test (x ∷ xs) distinct =
       | inr miss ↦ subst (λ (b : Bool). AreDistinct (cond b (x ∷ filter test xs) (filter test xs))) (sym miss) others
     ]
 
-joined_lists : (components : List (Vec ℕ Global)) → end_to_end components ≡ flat_map (λ xs. xs) (lists_of components)
+joined_lists : (components : List (Vec ℕ Global)) → nodes_end_to_end components ≡ flat_map (λ xs. xs) (lists_of components)
 joined_lists [] = refl
 joined_lists (x ∷ xs) = ap (λ ys. x.items ++ ys) (joined_lists xs)
 
-pub split_distinct : (components : List (Vec ℕ Global)) (loner : ℕ) (nodes : List ℕ) → lists_of components ≡ split_of loner nodes → AreDistinct nodes → AreDistinct (end_to_end components)
+pub split_distinct : (components : List (Vec ℕ Global)) (loner : ℕ) (nodes : List ℕ) → lists_of components ≡ split_of loner nodes → AreDistinct nodes → AreDistinct (nodes_end_to_end components)
 split_distinct components loner nodes is distinct =
     let test = λ (node : ℕ). not (node == loner) in
-    let all : end_to_end components ≡ loner ∷ filter test nodes = joined_lists components ∙ ap (flat_map (λ xs. xs)) is ∙ ap (λ xs. loner ∷ xs) (append-nil (filter test nodes)) in
+    let all : nodes_end_to_end components ≡ loner ∷ filter test nodes = joined_lists components ∙ ap (flat_map (λ xs. xs)) is ∙ ap (λ xs. loner ∷ xs) (append-nil (filter test nodes)) in
     subst (λ (xs : List ℕ). AreDistinct xs) (sym all)
     (distinct_cons loner (filter test nodes) (λ has. both_ways _ (not-true _ (kept_passes test nodes loner has)) (eq-eqb loner loner refl)) (distinct-filter test nodes distinct))

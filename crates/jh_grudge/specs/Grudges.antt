@@ -1,11 +1,13 @@
--- Grudges (Jepsen's page on jepsen.nemesis: complete-grudge, bridge, majorities-ring; which node of a ring sees
--- which majority is this project's own). A grudge says which node drops the messages of which; a relation here takes
--- the node that drops first, then the node whose messages it drops.
-use Rattle.std.specs.Prelude.{◌≡◌, ◌≢◌, ◌↔◌, ◌⊎◌, ℕ, ◌+◌, ◌/◌, ◌%◌, ◌<◌, ◌≤◌, List, [], length, drop, slice_get, slice_index_or, Some}
+-- Grudges (Jepsen's page on jepsen.nemesis: complete-grudge, bridge, majorities-ring; which node of
+-- a ring sees which majority is this project's own). A grudge says which node drops the messages of
+-- which; a relation here takes the node that drops first, then the node whose messages it drops.
+use Rattle.std.specs.Prelude.{◌≡◌, ◌≢◌, ◌↔◌, ◌⊎◌, ℕ, ◌+◌, ◌/◌, ◌%◌, ◌<◌, ◌≤◌, List, [], length}
+use Rattle.std.specs.Prelude.{drop, slice_get, slice_index_or, Some}
 use Rattle.std.specs.List.{AllPairs, Contains}
 use Rattle.jh_grudge.specs.Lists.{first_half}
 
--- The links that a grudge cuts, each from the node whose messages are dropped to the node that drops them.
+-- The links that a grudge cuts, each from the node whose messages are dropped to the node that
+-- drops them.
 abbrev pub CutsExactly : (ℕ → ℕ → Type 0) → List (ℕ × ℕ) → Type 0
 CutsExactly Drops links = (dst src : ℕ) → Contains links (src, dst) ↔ Drops dst src
 
@@ -32,24 +34,25 @@ IsIn components number node = Contains (slice_index_or components number []) nod
 
 -- A complete grudge: nodes of different components drop each other.
 abbrev pub CompleteDrops : List (List ℕ) → ℕ → ℕ → Type 0
-CompleteDrops components dst src = (i : ℕ) × (j : ℕ) × (i ≢ j) × IsIn components i dst × IsIn components j src
+CompleteDrops components dst src =
+    (i : ℕ) × (j : ℕ) × (i ≢ j) × IsIn components i dst × IsIn components j src
 
 -- the second half without its first node, which is the bridge
-abbrev pub beyond_bridge : List ℕ → List ℕ
-beyond_bridge nodes = drop (length nodes / 2 + 1) nodes
+abbrev pub nodes_beyond_bridge : List ℕ → List ℕ
+nodes_beyond_bridge nodes = drop (length nodes / 2 + 1) nodes
 
 -- A bridge: the nodes on either side of it drop each other.
 abbrev pub BridgeDrops : List ℕ → ℕ → ℕ → Type 0
 BridgeDrops nodes dst src =
-    (Contains (first_half nodes) dst × Contains (beyond_bridge nodes) src)
-    ⊎ (Contains (beyond_bridge nodes) dst × Contains (first_half nodes) src)
+    (Contains (first_half nodes) dst × Contains (nodes_beyond_bridge nodes) src)
+    ⊎ (Contains (nodes_beyond_bridge nodes) dst × Contains (first_half nodes) src)
 
 -- the smallest whole number above half of n
 abbrev pub majority : ℕ → ℕ
 majority n = n / 2 + 1
 
--- A ring of majorities: of n nodes, the one at place i sees a majority from itself on, and drops the nodes behind
--- these, up to the one at place i + n - 1, around.
+-- A ring of majorities: of n nodes, the one at place i sees a majority from itself on, and drops
+-- the nodes behind these, up to the one at place i + n - 1, around.
 abbrev pub RingDrops : List ℕ → ℕ → ℕ → Type 0
 RingDrops nodes dst src =
     (let n = length nodes in

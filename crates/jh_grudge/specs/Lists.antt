@@ -1,5 +1,7 @@
--- Lists of nodes, a node being the number of its place (Jepsen's page on jepsen.nemesis: bisect, split-one).
-use Rattle.std.specs.Prelude.{◌≢◌, ℕ, ◌/◌, ◌==◌, not, List, [], ◌∷◌, map, filter, length, take, drop, Vec}
+-- Lists of nodes, a node being the number of its place (Jepsen's page on jepsen.nemesis: bisect,
+-- split-one).
+use Rattle.std.specs.Prelude.{◌≢◌, ℕ, ◌/◌, ◌==◌, not, List, [], ◌∷◌, map, filter, length, take}
+use Rattle.std.specs.Prelude.{drop, Vec}
 use Rattle.std.specs.List.{AllPairs, Contains, flat_map}
 use Rattle.std.specs.declared.alloc.Global.{Global}
 use Rattle.jh_grudge.specs.declared.lists.SplitError.{SplitError}
@@ -14,8 +16,8 @@ abbrev pub lists_of : List (Vec ℕ Global) → List (List ℕ)
 lists_of components = map (λ component. component.items) components
 
 -- the components end to end
-abbrev pub end_to_end : List (Vec ℕ Global) → List ℕ
-end_to_end components = flat_map (λ component. component.items) components
+abbrev pub nodes_end_to_end : List (Vec ℕ Global) → List ℕ
+nodes_end_to_end components = flat_map (λ component. component.items) components
 
 -- the first half of a list, which has one node fewer where the halves differ
 abbrev pub first_half : List ℕ → List ℕ

@@ -1,8 +1,9 @@
-//! The grudges that Jepsen's partitions are made of. `specs/Grudges.antt` says which links each cuts.
+//! The grudges that Jepsen's partitions are made of. `specs/Grudges.antt` says which links each
+//! cuts.
 
 ghost use Rattle.std.specs.Prelude.{◌≡◌, ◌↔◌, ℕ, List, IsTrue, MatchResult, IfOk, drop};
 ghost use Rattle.std.specs.List.{All, Contains};
-ghost use Rattle.jh_grudge.specs.Lists.{AreDistinct, end_to_end, lists_of};
+ghost use Rattle.jh_grudge.specs.Lists.{AreDistinct, nodes_end_to_end, lists_of};
 ghost use Rattle.jh_grudge.specs.Grudges.{
   BridgeDrops,
   CompleteDrops,
@@ -34,8 +35,8 @@ impl Model for Grudge {
 }
 
 impl Grudge {
-    /// Whether a node drops what another sends to it: false where one of them is no node of the grudge. A binary
-    /// search of the links.
+    /// Whether a node drops what another sends to it: false where one of them is no node of the
+    /// grudge. A binary search of the links.
     pub fn drops(&self, dst: u8, src: u8) -> bool
         ensures { IsTrue result ↔ Contains self.now (src, dst) }
     {
@@ -51,7 +52,7 @@ impl Grudge {
     }
 }
 
-// The grudge that a rule makes of ranks.
+/// The grudge that a rule makes of ranks.
 fn grudge_by(alloc: Global, ranks: &Ranks, rule: Rule) -> Result<Grudge, AllocError>
     ensures links { MatchResult result
         (CutsExactly (DropsIn rule ranks.now))
@@ -62,17 +63,18 @@ fn grudge_by(alloc: Global, ranks: &Ranks, rule: Rule) -> Result<Grudge, AllocEr
     Ok(Grudge { links })
 }
 
-/// A complete grudge: nodes of different components drop each other (Jepsen's `complete-grudge`). The
-/// components have each node once, as `distinct_components` tells.
+/// A complete grudge: nodes of different components drop each other (Jepsen's `complete-grudge`).
+/// The components have each node once, as `distinct_components` tells.
 ///
-/// Takes 256 steps for each node. Memory is wanted for the links alone, and for none if there is none.
+/// Takes 256 steps for each node. Memory is wanted for the links alone, and for none if there is
+/// none.
 pub fn complete_grudge(alloc: Global, components: &[Vec<u8>]) -> Result<Grudge, AllocError>
-    requires { AreDistinct (end_to_end components.now) }
+    requires { AreDistinct (nodes_end_to_end components.now) }
     ensures links { MatchResult result
         (CutsExactly (CompleteDrops (lists_of components.now)))
         (λ _. DropsSome (CompleteDrops (lists_of components.now))) }
     ensures ascending { IfOk result IsAscending }
-    ensures among { IfOk result (All (JoinsTwoOf (end_to_end components.now))) }
+    ensures among { IfOk result (All (JoinsTwoOf (nodes_end_to_end components.now))) }
 {
     let mut ranks = [None; 256];
     for (number, component) in components.iter().enumerate() {
@@ -81,7 +83,7 @@ pub fn complete_grudge(alloc: Global, components: &[Vec<u8>]) -> Result<Grudge, 
     grudge_by(alloc, &ranks, Rule::Apart)
 }
 
-// A list without its first node, if it has one.
+/// A list without its first node, if it has one.
 fn without_first(nodes: &[u8]) -> &[u8]
     ensures { result.now ≡ drop 1 nodes.now }
 {
@@ -91,10 +93,12 @@ fn without_first(nodes: &[u8]) -> &[u8]
     }
 }
 
-/// A bridge: the first half of the nodes and the second half without its first node drop each other, and that
-/// node, the bridge, talks to all (Jepsen's `bridge`). The list has each node once, as `distinct` tells.
+/// A bridge: the first half of the nodes and the second half without its first node drop each
+/// other, and that node, the bridge, talks to all (Jepsen's `bridge`). The list has each node once,
+/// as `distinct` tells.
 ///
-/// Takes 256 steps for each node. Memory is wanted for the links alone, and for none if there is none.
+/// Takes 256 steps for each node. Memory is wanted for the links alone, and for none if there is
+/// none.
 pub fn bridge(alloc: Global, nodes: &[u8]) -> Result<Grudge, AllocError>
     requires { AreDistinct nodes.now }
     ensures links { MatchResult result
@@ -110,11 +114,12 @@ pub fn bridge(alloc: Global, nodes: &[u8]) -> Result<Grudge, AllocError>
     grudge_by(alloc, &ranks, Rule::Apart)
 }
 
-/// A ring of majorities: each node sees the smallest majority that begins with itself in the order of the
-/// list, around, and drops all others (Jepsen's `majorities-ring`). The list has each node once, as `distinct`
-/// tells.
+/// A ring of majorities: each node sees the smallest majority that begins with itself in the order
+/// of the list, around, and drops all others (Jepsen's `majorities-ring`). The list has each node
+/// once, as `distinct` tells.
 ///
-/// Takes 256 steps for each node. Memory is wanted for the links alone, and for none if there is none.
+/// Takes 256 steps for each node. Memory is wanted for the links alone, and for none if there is
+/// none.
 pub fn majorities_ring(alloc: Global, nodes: &[u8]) -> Result<Grudge, AllocError>
     requires { AreDistinct nodes.now }
     ensures links { MatchResult result

@@ -1,4 +1,5 @@
-//! Laws of grudges, each a function that does nothing and whose contract is the law. `specs/Laws.antt` states them.
+//! Laws of grudges, each a function that does nothing and whose contract is the law.
+//! `specs/Laws.antt` states them.
 
 ghost use Rattle.jh_grudge.specs.Laws.{
   BridgeSeesItself,

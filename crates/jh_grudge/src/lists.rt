@@ -1,4 +1,5 @@
-//! Lists of nodes: whether they have each node once, and how they are split. `specs/Lists.antt` says it.
+//! Lists of nodes: whether they have each node once, and how they are split. `specs/Lists.antt`
+//! says it.
 
 ghost use Rattle.std.specs.Prelude.{◌≡◌, ◌↔◌, ◌++◌, List, ℕ, IfOk, IsTrue, MatchBool, MatchResult};
 ghost use Rattle.std.specs.List.{Contains};
@@ -6,12 +7,12 @@ ghost use Rattle.jh_grudge.specs.Lists.{
   AreDistinct,
   RefusesSplit,
   first_half,
-  end_to_end,
+  nodes_end_to_end,
   lists_of,
   second_half,
   split_of,
 };
-ghost use Rattle.jh_grudge.specs.Marks.{Marks};
+ghost use Rattle.jh_grudge.specs.Marks.{AreMetNodes};
 ghost use Rattle.jh_grudge.specs.declared.lists.SplitError.TheVariants.{OutOfMemory};
 
 use std::alloc::{AllocError, AllocFailed, Global};
@@ -43,10 +44,11 @@ impl<T: Drop> From<AllocFailed<T>> for SplitError {
     }
 }
 
-// Marks each of these nodes, up to the first that is marked already.
+/// Marks each of these nodes, up to the first that is marked already.
 fn mark_new(seen: &mut [bool; 256], nodes: &[u8]) -> bool
-    ensures { (before : List ℕ) → Marks seen.old before
-        → MatchBool result (Marks seen.new (before ++ nodes.now)) (¬ AreDistinct (before ++ nodes.now)) }
+    ensures { (before : List ℕ) → AreMetNodes seen.old before
+        → MatchBool result (AreMetNodes seen.new (before ++ nodes.now))
+        (¬ AreDistinct (before ++ nodes.now)) }
 {
     for node in nodes {
         let place = usize::from(*node);
@@ -68,7 +70,7 @@ pub fn distinct(nodes: &[u8]) -> bool
 
 /// Whether no node stands twice in the components, neither in one nor in two of them.
 pub fn distinct_components(components: &[Vec<u8>]) -> bool
-    ensures { IsTrue result ↔ AreDistinct (end_to_end components.now) }
+    ensures { IsTrue result ↔ AreDistinct (nodes_end_to_end components.now) }
 {
     let mut seen = [false; 256];
     for component in components {
@@ -79,7 +81,8 @@ pub fn distinct_components(components: &[Vec<u8>]) -> bool
     true
 }
 
-/// Cuts a list into two halves; of an odd number of nodes the second has one more (Jepsen's `bisect`).
+/// Cuts a list into two halves; of an odd number of nodes the second has one more (Jepsen's
+/// `bisect`).
 pub fn bisect(nodes: &[u8]) -> (&[u8], &[u8])
     ensures first { result.0.now ≡ first_half nodes.now }
     ensures second { result.1.now ≡ second_half nodes.now }
@@ -95,7 +98,8 @@ pub fn split_one(alloc: Global, nodes: &[u8], loner: u8) -> Result<Vec<Vec<u8>>,
     ensures parts { MatchResult result
         (λ parts. Contains nodes.now loner × (lists_of parts.items ≡ split_of loner nodes.now))
         (RefusesSplit nodes.now loner) }
-    ensures distinct { AreDistinct nodes.now → IfOk result (λ parts. AreDistinct (end_to_end parts.items)) }
+    ensures distinct { AreDistinct nodes.now
+        → IfOk result (λ parts. AreDistinct (nodes_end_to_end parts.items)) }
 {
     if !nodes.contains(&loner) {
         return Err(SplitError::UnknownNode);

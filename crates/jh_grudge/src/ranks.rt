@@ -20,6 +20,7 @@ pub(crate) enum Rule {
 }
 
 impl Rule {
+    /// Whether a destination of the first rank drops a source of the second.
     fn drops(self, dst: usize, src: usize) -> bool
         ensures { result ≡ drops_by self dst src }
     {
@@ -31,16 +32,18 @@ impl Rule {
     }
 }
 
-// Gives these nodes a rank.
+/// Gives these nodes a rank.
 pub(crate) fn rank_all(ranks: &mut Ranks, nodes: &[u8], rank: usize)
     ensures ranked { (node : ℕ) → Contains nodes.now node → rank_of ranks.new node ≡ Some rank }
-    ensures others { (node : ℕ) → ¬ Contains nodes.now node → rank_of ranks.new node ≡ rank_of ranks.old node }
+    ensures others { (node : ℕ) → ¬ Contains nodes.now node
+        → rank_of ranks.new node ≡ rank_of ranks.old node }
 {
     for node in nodes {
         ranks[usize::from(*node)] = Some(rank);
     }
 }
 
+/// Whether a destination drops a source, by their ranks.
 fn is_dropped(ranks: &Ranks, rule: Rule, dst: u8, src: u8) -> bool
     ensures { result ≡ drops_in rule ranks.now dst src }
 {
@@ -50,7 +53,7 @@ fn is_dropped(ranks: &Ranks, rule: Rule, dst: u8, src: u8) -> bool
     }
 }
 
-// Puts the links from a node behind those from all nodes before it.
+/// Puts the links from a node behind those from all nodes before it.
 fn push_links_from(
     links: &mut Vec<(u8, u8)>,
     ranks: &Ranks,

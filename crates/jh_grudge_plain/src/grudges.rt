@@ -16,6 +16,7 @@ fn drop_others(links: &mut Links, nodes: &[u8], dst: u8, seen: &[u8]) -> Result<
     Ok(())
 }
 
+/// The nodes of all components.
 fn all_of(alloc: Global, components: &[Vec<u8>]) -> Result<Vec<u8>, AllocError> {
     let mut nodes = Vec::new(alloc);
     for component in components {
@@ -37,8 +38,8 @@ pub fn complete_slowly(alloc: Global, components: &[Vec<u8>]) -> Result<Links, A
     Ok(links)
 }
 
-/// A bridge: the complete grudge of both halves, but that the first node of the second half drops nobody, and nobody
-/// drops it.
+/// A bridge: the complete grudge of both halves, but that the first node of the second half drops
+/// nobody, and nobody drops it.
 pub fn bridge_slowly(alloc: Global, nodes: &[u8]) -> Result<Links, AllocError> {
     let halves = halves_slowly(alloc, nodes)?;
     let bridge = halves.get(1).and_then(|second| second.first()).copied();
@@ -51,7 +52,8 @@ pub fn bridge_slowly(alloc: Global, nodes: &[u8]) -> Result<Links, AllocError> {
     Ok(links)
 }
 
-/// The nodes that the one at a place of a ring sees: the smallest majority that begins with itself, around.
+/// The nodes that the one at a place of a ring sees: the smallest majority that begins with itself,
+/// around.
 fn majority_from(alloc: Global, nodes: &[u8], place: usize) -> Result<Vec<u8>, AllocError> {
     let mut seen = Vec::new(alloc);
     for node in nodes.iter().skip(place).chain(nodes.iter().take(place)) {

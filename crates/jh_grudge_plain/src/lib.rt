@@ -1,5 +1,5 @@
-//! Splits and grudges made slowly, as Jepsen's page on its nemesis tells them. They serve tests alone: `jh_env_tests`
-//! compares `jh_grudge` with them.
+//! Splits and grudges made slowly, as Jepsen's page on its nemesis tells them. They serve tests
+//! alone: `jh_env_tests` compares `jh_grudge` with them.
 //!
 //! A grudge is a list of links, each its source and its destination, in ascending order.
 #![tactic(auto)]

@@ -1,2 +1,2 @@
 pub mod ParsingLemmas
-pub mod BegunLemmas
+pub mod FirstValuesLemmas

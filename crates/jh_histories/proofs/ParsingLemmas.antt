@@ -4,41 +4,41 @@ use Rattle.std.specs.Prelude.{Ok, Err, IsOk, OnOk, Result, MatchResult}
 use Rattle.std.proofs.lemmas.List.{append-nil, map-append}
 use Rattle.jh_edn.specs.Edn.{Edn, nil, boolean, int, char, str, keyword, symbol, list, vector, mapping, set, tagged, list_of, elements_of}
 use Rattle.jh_histories.specs.ParsingInside.{AreSeveral, Leave, RefusesOne}
-use Rattle.jh_ops.specs.HistoryText.{elements_in, AreParsed, RefusesValues, refusal_at}
+use Rattle.jh_ops.specs.HistoryText.{elements_in, AreParsed, RefusesValues, history_error_at}
 use Rattle.jh_ops.specs.Operation.{Operation}
 use Rattle.jh_ops.specs.OperationText.{parsed_op}
 use Rattle.jh_ops.specs.declared.history.HistoryError.{HistoryError}
 use Rattle.jh_ops.specs.declared.history.HistoryError.TheVariants.{Op, OutOfMemory}
 use Rattle.jh_ops.specs.declared.op_text.OpError.{OpError}
 use Rattle.jh_ops.specs.declared.op_text.OpError.TheVariants as refusals
-use Rattle.jh_ops.proofs.HistoryLemmas.{Told, many_elements, refused_told}
+use Rattle.jh_ops.proofs.HistoryLemmas.{Parsed, many_elements, refused_parsed}
 
 -- ---- one element more
 
 -- which is the first that tells none
 pub first_refused : (elements : List Edn) (ops : List Operation) (value : Edn) (refusal : OpError) → map parsed_op elements ≡ map Ok ops → parsed_op value ≡ Err refusal
-    → Leave (elements ++ value ∷ []) ops (Some (refusal_at (length ops) refusal))
-first_refused elements ops value refusal told is = λ values behind are.
-    let so_far : Told values ops (value ∷ behind) =
-    ap (map parsed_op) (are ∙ append_assoc elements (value ∷ []) behind) ∙ map-append parsed_op elements (value ∷ behind) ∙ ap (λ rs. rs ++ map parsed_op (value ∷ behind)) told in
-    refused_told values ops value behind refusal so_far (inl is)
+    → Leave (elements ++ value ∷ []) ops (Some (history_error_at (length ops) refusal))
+first_refused elements ops value refusal parsed is = λ values behind are.
+    let so_far : Parsed values ops (value ∷ behind) =
+    ap (map parsed_op) (are ∙ append_assoc elements (value ∷ []) behind) ∙ map-append parsed_op elements (value ∷ behind) ∙ ap (λ rs. rs ++ map parsed_op (value ∷ behind)) parsed in
+    refused_parsed values ops value behind refusal so_far (inl is)
 
 -- which is refused, and not for want of memory
 pub answer_refused : (elements : List Edn) (ops : List Operation) (value : Edn) (refusal : OpError) → map parsed_op elements ≡ map Ok ops → (refusal ≡ refusals.OutOfMemory → ⊥)
-    → (parsed_op value ≡ Err refusal) ⊎ ((refusal ≡ refusals.OutOfMemory) × IsOk (parsed_op value)) → Leave (elements ++ value ∷ []) ops (Some (refusal_at (length ops) refusal))
-answer_refused elements ops value refusal told other why =
+    → (parsed_op value ≡ Err refusal) ⊎ ((refusal ≡ refusals.OutOfMemory) × IsOk (parsed_op value)) → Leave (elements ++ value ∷ []) ops (Some (history_error_at (length ops) refusal))
+answer_refused elements ops value refusal parsed other why =
     elim why [
-      | inl is ↦ first_refused elements ops value refusal told is
+      | inl is ↦ first_refused elements ops value refusal parsed is
       | inr memory ↦ absurd (other memory.0)
     ]
 
 -- ---- all of them
 
--- all were told
-pub all_told : (values elements : List Edn) (ops : List Operation) → elements_in values ≡ elements → Leave elements ops None → AreParsed values ops
-all_told values elements ops are told = ap (map parsed_op) are ∙ told
+-- all were parsed
+pub all_parsed : (values elements : List Edn) (ops : List Operation) → elements_in values ≡ elements → Leave elements ops None → AreParsed values ops
+all_parsed values elements ops are parsed = ap (map parsed_op) are ∙ parsed
 
--- all were told but one
+-- all were parsed but one
 pub all_refused : (values elements : List Edn) (ops : List Operation) (refusal : HistoryError) → elements_in values ≡ elements → Leave elements ops (Some refusal) → RefusesValues values refusal
 all_refused values elements ops refusal are refused = refused values [] (are ∙ sym (append-nil elements))
 
@@ -46,19 +46,19 @@ pub several_elements : (values : List Edn) → AreSeveral values → elements_in
 several_elements values several = many_elements values (λ one. omega (arith, several, one))
 
 -- a list or a vector: alone it stands for its elements, and it tells no operation itself
-pub sequence_told : (value : Edn) (elements : List Edn) → elements_of value ≡ Some elements → (elements_in (value ∷ []) ≡ elements) × (parsed_op value ≡ Err refusals.NotMap)
-sequence_told (list xs) elements is = ((let same : list_of xs ≡ elements = cc in same), refl)
-sequence_told (vector xs) elements is = ((let same : list_of xs ≡ elements = cc in same), refl)
-sequence_told nil elements is = absurd cc
-sequence_told (boolean b) elements is = absurd cc
-sequence_told (int z) elements is = absurd cc
-sequence_told (char c) elements is = absurd cc
-sequence_told (str s) elements is = absurd cc
-sequence_told (keyword s) elements is = absurd cc
-sequence_told (symbol s) elements is = absurd cc
-sequence_told (mapping ms) elements is = absurd cc
-sequence_told (set xs) elements is = absurd cc
-sequence_told (tagged tag x) elements is = absurd cc
+pub sequence_parsed : (value : Edn) (elements : List Edn) → elements_of value ≡ Some elements → (elements_in (value ∷ []) ≡ elements) × (parsed_op value ≡ Err refusals.NotMap)
+sequence_parsed (list xs) elements is = ((let same : list_of xs ≡ elements = cc in same), refl)
+sequence_parsed (vector xs) elements is = ((let same : list_of xs ≡ elements = cc in same), refl)
+sequence_parsed nil elements is = absurd cc
+sequence_parsed (boolean b) elements is = absurd cc
+sequence_parsed (int z) elements is = absurd cc
+sequence_parsed (char c) elements is = absurd cc
+sequence_parsed (str s) elements is = absurd cc
+sequence_parsed (keyword s) elements is = absurd cc
+sequence_parsed (symbol s) elements is = absurd cc
+sequence_parsed (mapping ms) elements is = absurd cc
+sequence_parsed (set xs) elements is = absurd cc
+sequence_parsed (tagged tag x) elements is = absurd cc
 
 -- ---- a value that stands alone
 

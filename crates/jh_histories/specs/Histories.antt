@@ -1,5 +1,5 @@
--- The history that a text tells (Jepsen writes one operation after another to `history.edn`; the errors and their order are this
--- project's own).
+-- The history that a text means (Jepsen writes one operation after another to `history.edn`; the
+-- errors and their order are this project's own).
 use Rattle.std.specs.Prelude.{ℕ, List}
 use Rattle.jh_edn.specs.Edn.{Edn}
 use Rattle.jh_edn.specs.Spelling.{SpellsAll}
@@ -14,8 +14,8 @@ use Rattle.jh_ops.specs.declared.history.HistoryError.TheVariants.{Op, OutOfMemo
 abbrev pub IsHistoryOf : List ℕ → List Operation → Type 0
 IsHistoryOf text history = (values : List Edn) × SpellsAll values text × AreParsed values history
 
--- Why a text tells no history: its first error, wherever it stands; or else the first of its values that tells no operation. Memory
--- may run out in any text.
+-- Why a text means no history: its first error, wherever it stands; or else the first of its values
+-- that means no operation. Memory may run out in any text.
 abbrev pub RefusesHistoryOf : List ℕ → ReadHistoryError → Type 0
 RefusesHistoryOf text (Text error) = RefusesText text error × IsFirstError text error
 RefusesHistoryOf text (History OutOfMemory) = Unit {0}

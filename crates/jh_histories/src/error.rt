@@ -13,7 +13,7 @@ pub enum ReadHistoryError {
     /// The bytes can't be read, or are no text of EDN values.
     #[error("{0}")]
     Text(EdnError),
-    /// The values tell no history.
+    /// The values mean no history.
     #[error("{0}")]
     History(HistoryError),
 }

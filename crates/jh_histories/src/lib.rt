@@ -1,5 +1,6 @@
-//! The history that a text tells, read operation by operation: the values of a whole history never stand beside one
-//! another. `specs/Histories.antt` says which history a text tells, and why a text is refused.
+//! The history that a text means, read operation by operation: the values of a whole history never
+//! stand beside one another. `specs/Histories.antt` says which history a text tells, and why a text
+//! is refused.
 #![tactic(auto)]
 
 mod error;

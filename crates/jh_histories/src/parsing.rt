@@ -1,11 +1,11 @@
-//! What elements told so far: operations, or the refusal of the first that told none. `specs/ParsingInside.antt` says what each
-//! element adds. What is told here comes one by one; `jh_ops::history_of` tells a list of values.
+//! What elements told so far: operations, or the refusal of the first that told none.
+//! `specs/ParsingInside.antt` says what each element adds. What is parsed here comes one by one;
+//! `jh_ops::history_of` tells a list of values.
 
-ghost use Rattle.std.specs.Prelude.{◌≡◌, ◌≢◌, ◌∷◌, [], All, IfErr, OnOk, MatchResult, length};
+ghost use Rattle.std.specs.Prelude.{◌≡◌, ◌≢◌, ◌∷◌, [], OnOk, MatchResult, length};
 ghost use Rattle.jh_edn.specs.Edn.{Edn};
-ghost use Rattle.jh_histories.specs.ParsingInside.{HasParsed, IsSequence};
-ghost use Rattle.jh_ops.specs.HistoryText.{refusal_at};
-ghost use Rattle.jh_ops.specs.OperationWritten.{IsWritable};
+ghost use Rattle.jh_histories.specs.ParsingInside.{HasParsed, IsListOrVector};
+ghost use Rattle.jh_ops.specs.HistoryText.{history_error_at};
 
 use jh_edn::{Sink, Value};
 use jh_ops::{HistoryError, Op, OpError, op_of};
@@ -15,7 +15,7 @@ use std::alloc::{AllocError, Global};
 #[derive(Drop)]
 pub(crate) struct Parsing {
     pub(crate) ops: Vec<Op>,
-    /// Why the first element that told no operation was refused. Nothing is told behind it.
+    /// Why the first element that told no operation was refused. Nothing is parsed behind it.
     pub(crate) refusal: Option<HistoryError>,
 }
 
@@ -32,7 +32,7 @@ impl Parsing {
 
     /// What a list or a vector leaves that is the first of several values: it tells no operation.
     pub(crate) fn of_sequence(alloc: Global) -> Parsing
-        ensures { (value : Edn) → IsSequence value → HasParsed result (value ∷ []) }
+        ensures { (value : Edn) → IsListOrVector value → HasParsed result (value ∷ []) }
     {
         Parsing {
             ops: Vec::new(alloc),
@@ -40,10 +40,10 @@ impl Parsing {
         }
     }
 
-    // The element behind those told is refused, unless memory ran out.
+    /// The element behind those told is refused, unless memory ran out.
     fn refuse(&mut self, error: OpError) -> Result<(), AllocError>
         ensures refusal { OnOk result (self.new ≡
-            record self.old { refusal = Some (refusal_at (length self.old.ops.items) error) }) }
+            record self.old { refusal = Some (history_error_at (length self.old.ops.items) error) }) }
         ensures other { OnOk result (error ≢ OpError.OutOfMemory) }
     {
         match error {
@@ -57,7 +57,7 @@ impl Parsing {
 
     /// The operations, where each element told one.
     pub(crate) fn history(self) -> Result<Vec<Op>, HistoryError>
-        ensures told { MatchResult result
+        ensures parsed { MatchResult result
             (λ ops. (self.refusal ≡ None) × (ops ≡ self.ops))
             (λ e. self.refusal ≡ Some e) }
     {

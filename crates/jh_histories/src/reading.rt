@@ -1,5 +1,5 @@
-//! Reading a history. Each value, or each element of a single list or vector, is told as soon as it is read, and dropped.
-//! `specs/Histories.antt` says what is read.
+//! Reading a history. Each value, or each element of a single list or vector, is parsed as soon as
+//! it is read, and dropped. `specs/Histories.antt` says what is read.
 
 ghost use Rattle.std.specs.Prelude.{◌∷◌, [], All, IfOk, IfErr, IfSome, MatchResult};
 ghost use Rattle.std.specs.Str.{IsCharBoundary};
@@ -17,9 +17,9 @@ use jh_ops::{HistoryError, Op, history_of};
 use std::alloc::Global;
 use std::io::Read;
 
-// The history that the only value of a text tells.
+/// The history that the only value of a text tells.
 fn history_of_one(alloc: Global, value: Value) -> Result<Vec<Op>, HistoryError>
-    ensures told { MatchResult result
+    ensures parsed { MatchResult result
         (λ ops. AreParsed (view value ∷ []) (operations ops.items))
         (RefusesOne (view value)) }
     ensures writable { IfOk result (λ ops. All (λ op. IsWritable op.process) ops.items) }
@@ -29,7 +29,7 @@ fn history_of_one(alloc: Global, value: Value) -> Result<Vec<Op>, HistoryError>
     history_of(alloc, values)
 }
 
-// The history of several values, of which those up to `at` are told.
+/// The history of several values, of which those up to `at` are parsed.
 fn history_behind(
     alloc: Global,
     text: &str,
@@ -38,7 +38,7 @@ fn history_behind(
 ) -> Result<Vec<Op>, ReadHistoryError>
     requires boundary { IsCharBoundary text.now at }
     requires begun { IsBegun text.now at parsing }
-    ensures told { IfOk result (λ ops. IsHistoryOf text.now (operations ops.items)) }
+    ensures parsed { IfOk result (λ ops. IsHistoryOf text.now (operations ops.items)) }
     ensures writable { IfOk result (λ ops. All (λ op. IsWritable op.process) ops.items) }
     ensures refused { IfErr result (RefusesHistoryOf text.now) }
 {
@@ -51,9 +51,9 @@ fn history_behind(
     Ok(parsing.history()?)
 }
 
-// The history that a text tells, whose first value is read whole.
+/// The history that a text means, whose first value is read whole.
 fn history_of_values(alloc: Global, text: &str) -> Result<Vec<Op>, ReadHistoryError>
-    ensures told { IfOk result (λ ops. IsHistoryOf text.now (operations ops.items)) }
+    ensures parsed { IfOk result (λ ops. IsHistoryOf text.now (operations ops.items)) }
     ensures writable { IfOk result (λ ops. All (λ op. IsWritable op.process) ops.items) }
     ensures refused { IfErr result (RefusesHistoryOf text.now) }
 {
@@ -69,16 +69,17 @@ fn history_of_values(alloc: Global, text: &str) -> Result<Vec<Op>, ReadHistoryEr
     history_behind(alloc, text, end, parsing)
 }
 
-/// The history that a text tells: one operation for each of its values, or of a single list or vector, with or without tags
-/// around it, one for each element. Only one of several values stands in memory at a time, and only one element of a single list or
-/// vector without tags; with tags around it, it is read whole.
+/// The history that a text means: one operation for each of its values, or of a single list or
+/// vector, with or without tags around it, one for each element. Only one of several values stands
+/// in memory at a time, and only one element of a single list or vector without tags; with tags
+/// around it, it is read whole.
 ///
 /// Takes the time of reading the text once, and what stands before its first value once more.
 ///
-/// Errors: the text's first error with its line, wherever it stands (`Text`); then the first value that tells no operation, with its
-/// place from 0 (`History`); out of memory, as either.
+/// Errors: the text's first error with its line, wherever it stands (`Text`); then the first value
+/// that tells no operation, with its place from 0 (`History`); out of memory, as either.
 pub fn history_in(alloc: Global, text: &str) -> Result<Vec<Op>, ReadHistoryError>
-    ensures told { IfOk result (λ ops. IsHistoryOf text.now (operations ops.items)) }
+    ensures parsed { IfOk result (λ ops. IsHistoryOf text.now (operations ops.items)) }
     ensures writable { IfOk result (λ ops. All (λ op. IsWritable op.process) ops.items) }
     ensures refused { IfErr result (RefusesHistoryOf text.now) }
 {
@@ -94,8 +95,8 @@ pub fn history_in(alloc: Global, text: &str) -> Result<Vec<Op>, ReadHistoryError
     history_behind(alloc, text, at, parsing)
 }
 
-/// The history that the text of a reader tells, as `history_in` tells it, read in at most `turns` reads. The text is dropped before
-/// the history is given.
+/// The history that the text of a reader tells, as `history_in` tells it, read in at most `turns`
+/// reads. The text is dropped before the history is given.
 ///
 /// Errors: those of `jh_edn::read_bytes`, then `Utf8`, then those of `history_in`.
 pub fn read_history<R: Read>(
@@ -103,9 +104,11 @@ pub fn read_history<R: Read>(
     reader: &mut R,
     turns: u32,
 ) -> Result<Vec<Op>, ReadHistoryError>
-    ensures told { IfOk result (λ ops. IfSome (R.remaining reader.old) (λ bytes. IsHistoryOf bytes (operations ops.items))) }
+    ensures parsed { IfOk result
+        (λ ops. IfSome (R.remaining reader.old) (λ bytes. IsHistoryOf bytes (operations ops.items))) }
     ensures writable { IfOk result (λ ops. All (λ op. IsWritable op.process) ops.items) }
-    ensures refused { IfErr result (λ e. IfSome (R.remaining reader.old) (λ bytes. RefusesHistoryOf bytes e)) }
+    ensures refused { IfErr result
+        (λ e. IfSome (R.remaining reader.old) (λ bytes. RefusesHistoryOf bytes e)) }
 {
     let bytes = read_bytes(alloc, reader, turns)?;
     let Ok(text) = str::from_utf8(&bytes) else {

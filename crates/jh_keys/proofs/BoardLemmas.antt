@@ -4,8 +4,8 @@ use Rattle.std.proofs.lemmas.List.{length-set}
 use Rattle.std.specs.Prelude.{Option, Some, Result, slice_get}
 use Rattle.jh_keys.specs.BoardInside.{AreAnswers, IsAnswerAt}
 use Rattle.jh_keys.specs.Findings.{Found}
-use Rattle.jh_keys.specs.Keys.{keys_of}
-use Rattle.jh_keys.specs.Refusals.{Question}
+use Rattle.jh_keys.specs.Keys.{history_keys}
+use Rattle.jh_keys.specs.Refusals.{KeysQuestion}
 use Rattle.jh_keys.specs.declared.error.KeysError.{KeysError}
 
 -- what holds of each element that is there, and of one that is put, holds of each afterwards
@@ -18,9 +18,9 @@ holds_put P (x ∷ xs) zero a each new (suc p) b at = each (suc p) b at
 holds_put P (x ∷ xs) (suc n) a each new zero b at = each 0 b at
 holds_put P (x ∷ xs) (suc n) a each new (suc p) b at = holds_put (λ k. P (suc k)) xs n a (λ q. each (suc q)) new p b at
 
-pub answers_put : (asked : Question) (answers : List (Option (Result Found KeysError))) (place : ℕ) (answer : Result Found KeysError)
+pub answers_put : (asked : KeysQuestion) (answers : List (Option (Result Found KeysError))) (place : ℕ) (answer : Result Found KeysError)
     → AreAnswers asked answers → IsAnswerAt asked place answer → AreAnswers asked (slice_set answers place (Some answer))
 answers_put asked answers place answer are new = record {
-  size = subst (λ (n : ℕ). n ≡ length (keys_of asked.history)) (sym (length-set answers place (Some answer))) are.size;
+  size = subst (λ (n : ℕ). n ≡ length (history_keys asked.history)) (sym (length-set answers place (Some answer))) are.size;
   each = holds_put (IsAnswerAt asked) answers place answer are.each new;
 }

@@ -9,8 +9,8 @@ use Rattle.jh_edn.specs.View.{view}
 use Rattle.jh_ops.specs.Operation.{Operation}
 use Rattle.jh_keys.specs.BoardInside.{AreAnswers, IsAnswer, IsAnswerAt}
 use Rattle.jh_keys.specs.FoundInside.{AreCollected, IsFoundSoFar}
-use Rattle.jh_keys.specs.Keys.{AreTuples, keys_of, places_of}
-use Rattle.jh_keys.specs.Refusals.{Question, AreFindings, IsFindingOf, RefusesKey, RefusesKeys, asked_by}
+use Rattle.jh_keys.specs.Keys.{AreTuples, history_keys, places_of}
+use Rattle.jh_keys.specs.Refusals.{KeysQuestion, AreFindings, IsFindingOf, RefusesKey, RefusesKeys, keys_question}
 use Rattle.jh_keys.specs.SplitInside.{groups_of, view_groups}
 use Rattle.jh_keys.specs.declared.error.KeysError.{KeysError}
 use Rattle.jh_keys.specs.declared.error.KeysError.TheVariants.{BadValue, Key, Thread, OutOfMemory}
@@ -45,11 +45,11 @@ groups_are history (group ∷ groups) (key ∷ keys) h =
     let rest = groups_are history groups keys tail in
     ((λ i. first i ∷ rest.0 i), All-cons (HasPlaces history) group groups (places ∙ ap (λ k. places_of k history) (sym first)) rest.1)
 
-pub groups_keys : (history : List Operation) (groups : List KeyPlaces) → view_groups groups ≡ groups_of history → map (λ group. view group.key) groups ≡ keys_of history
-groups_keys history groups h = (groups_are history groups (keys_of history) h).0
+pub groups_keys : (history : List Operation) (groups : List KeyPlaces) → view_groups groups ≡ groups_of history → map (λ group. view group.key) groups ≡ history_keys history
+groups_keys history groups h = (groups_are history groups (history_keys history) h).0
 
 pub groups_places : (history : List Operation) (groups : List KeyPlaces) → view_groups groups ≡ groups_of history → All (HasPlaces history) groups
-groups_places history groups h = (groups_are history groups (keys_of history) h).1
+groups_places history groups h = (groups_are history groups (history_keys history) h).1
 
 pub place_of_all : (history : List Operation) (groups : List KeyPlaces) (place : ℕ) (group : KeyPlaces) → All (HasPlaces history) groups → slice_get groups place ≡ Some group → group.places.items ≡ places_of (view group.key) history
 place_of_all history groups place group all at =
@@ -57,17 +57,17 @@ place_of_all history groups place group all at =
 
 -- ---- what is found so far
 
-pub none_found : (asked : Question) (groups : List KeyPlaces) → view_groups groups ≡ groups_of asked.history → IsFoundSoFar asked [] groups
+pub none_found : (asked : KeysQuestion) (groups : List KeyPlaces) → view_groups groups ≡ groups_of asked.history → IsFoundSoFar asked [] groups
 none_found asked groups h = record {
   keys = groups_keys asked.history groups h;
   each = All-nil (λ one. IsFindingOf asked (view one.key) one.found);
   places = groups_places asked.history groups h;
 }
 
-pub first_places : (asked : Question) (found : List KeyFinding) (group : KeyPlaces) (rest : List KeyPlaces) → IsFoundSoFar asked found (group ∷ rest) → group.places.items ≡ places_of (view group.key) asked.history
+pub first_places : (asked : KeysQuestion) (found : List KeyFinding) (group : KeyPlaces) (rest : List KeyPlaces) → IsFoundSoFar asked found (group ∷ rest) → group.places.items ≡ places_of (view group.key) asked.history
 first_places asked found group rest h = All-head (HasPlaces asked.history) group rest h.places
 
-pub one_more : (asked : Question) (found : List KeyFinding) (group : KeyPlaces) (rest : List KeyPlaces) (one : KeyFinding) → IsFoundSoFar asked found (group ∷ rest)
+pub one_more : (asked : KeysQuestion) (found : List KeyFinding) (group : KeyPlaces) (rest : List KeyPlaces) (one : KeyFinding) → IsFoundSoFar asked found (group ∷ rest)
     → view one.key ≡ view group.key → IsFindingOf asked (view group.key) one.found → IsFoundSoFar asked (found ++ one ∷ []) rest
 one_more asked found group rest one h same judged =
     let others : List Edn = map (λ group. view group.key) rest in
@@ -78,7 +78,7 @@ one_more asked found group rest one h same judged =
       places = All-tail (HasPlaces asked.history) group rest h.places;
     }
 
-pub all_found : (asked : Question) (found : List KeyFinding) → AreTuples asked.history → IsFoundSoFar asked found [] → AreFindings asked found
+pub all_found : (asked : KeysQuestion) (found : List KeyFinding) → AreTuples asked.history → IsFoundSoFar asked found [] → AreFindings asked found
 all_found asked found tuples h = record { tuples = tuples; keys = sym (append-nil (map (λ one. view one.key) found)) ∙ h.keys; each = h.each }
 
 -- ---- refusals and answers
@@ -88,7 +88,7 @@ behind : (xs : List Edn) (y : Edn) (ys : List Edn) → slice_get (xs ++ y ∷ ys
 behind [] y ys = refl
 behind (x ∷ xs) y ys = behind xs y ys
 
-before : (asked : Question) (found : List KeyFinding) (rest : List Edn) → All (λ one. IsFindingOf asked (view one.key) one.found) found → (earlier : ℕ) (key : Edn)
+before : (asked : KeysQuestion) (found : List KeyFinding) (rest : List Edn) → All (λ one. IsFindingOf asked (view one.key) one.found) found → (earlier : ℕ) (key : Edn)
     → earlier < length (map (λ one. view one.key) found) → slice_get (map (λ one. view one.key) found ++ rest) earlier ≡ Some key → (found : Found) × IsFindingOf asked key found
 before asked [] rest each earlier key less at = absurd (omega arith)
 before asked (one ∷ found) rest each zero key less at =
@@ -97,7 +97,7 @@ before asked (one ∷ found) rest each zero key less at =
 before asked (one ∷ found) rest each (suc earlier) key less at =
     before asked found rest (All-tail (λ one. IsFindingOf asked (view one.key) one.found) one found each) earlier key (omega arith) at
 
-pub keys_refused : (asked : Question) (found : List KeyFinding) (group : KeyPlaces) (rest : List KeyPlaces) (error : KeysError) → AreTuples asked.history
+pub keys_refused : (asked : KeysQuestion) (found : List KeyFinding) (group : KeyPlaces) (rest : List KeyPlaces) (error : KeysError) → AreTuples asked.history
     → IsFoundSoFar asked found (group ∷ rest) → RefusesKey asked (view group.key) error → RefusesKeys asked error
 keys_refused asked found group rest (BadValue place) tuples h refused = absurd refused
 keys_refused asked found group rest (Key told) tuples h refused =
@@ -116,7 +116,7 @@ keys_refused asked found group rest Thread tuples h refused = tuples
 keys_refused asked found group rest OutOfMemory tuples h refused = tuples
 
 -- the key in front of those that are left
-front_key : (asked : Question) (found : List KeyFinding) (group : KeyPlaces) (rest : List KeyPlaces) → IsFoundSoFar asked found (group ∷ rest) → slice_get (keys_of asked.history) (length found) ≡ Some (view group.key)
+front_key : (asked : KeysQuestion) (found : List KeyFinding) (group : KeyPlaces) (rest : List KeyPlaces) → IsFoundSoFar asked found (group ∷ rest) → slice_get (history_keys asked.history) (length found) ≡ Some (view group.key)
 front_key asked found group rest h =
     let keys : List Edn = map (λ one. view one.key) found in
     let others : List Edn = map (λ group. view group.key) rest in
@@ -125,14 +125,14 @@ front_key asked found group rest h =
     ∙ behind keys (view group.key) others
 
 -- what was answered of it, where that was answered
-pub front_answer : (asked : Question) (found : List KeyFinding) (group : KeyPlaces) (rest : List KeyPlaces) (answer : Option (Result Found KeysError)) (answers : List (Option (Result Found KeysError)))
+pub front_answer : (asked : KeysQuestion) (found : List KeyFinding) (group : KeyPlaces) (rest : List KeyPlaces) (answer : Option (Result Found KeysError)) (answers : List (Option (Result Found KeysError)))
     → AreCollected asked found (group ∷ rest) (answer ∷ answers) → IsAnswer asked (view group.key) (unwrap_or answer (Err Thread))
 front_answer asked found group rest None answers h = tt
 front_answer asked found group rest (Some answer) answers h =
     let e : length found + 0 ≡ length found = omega arith in
-    h.answers 0 answer refl (view group.key) (ap (slice_get (keys_of asked.history)) e ∙ front_key asked found group rest h.keys)
+    h.answers 0 answer refl (view group.key) (ap (slice_get (history_keys asked.history)) e ∙ front_key asked found group rest h.keys)
 
-pub first_collected : (asked : Question) (groups : List KeyPlaces) (answers : List (Option (Result Found KeysError)))
+pub first_collected : (asked : KeysQuestion) (groups : List KeyPlaces) (answers : List (Option (Result Found KeysError)))
     → view_groups groups ≡ groups_of asked.history → AreAnswers asked answers → AreCollected asked [] groups answers
 first_collected asked groups answers h are = record {
   keys = none_found asked groups h;
@@ -140,7 +140,7 @@ first_collected asked groups answers h are = record {
   size = are.size ∙ ap length (sym (groups_keys asked.history groups h)) ∙ length-map groups (λ group. view group.key);
 }
 
-pub more_collected : (asked : Question) (found : List KeyFinding) (group : KeyPlaces) (rest : List KeyPlaces) (answer : Option (Result Found KeysError)) (answers : List (Option (Result Found KeysError))) (one : KeyFinding)
+pub more_collected : (asked : KeysQuestion) (found : List KeyFinding) (group : KeyPlaces) (rest : List KeyPlaces) (answer : Option (Result Found KeysError)) (answers : List (Option (Result Found KeysError))) (one : KeyFinding)
     → AreCollected asked found (group ∷ rest) (answer ∷ answers) → view one.key ≡ view group.key → IsFindingOf asked (view group.key) one.found → AreCollected asked (found ++ one ∷ []) rest answers
 more_collected asked found group rest answer answers one h same judged = record {
   keys = one_more asked found group rest one h.keys same judged;
@@ -150,20 +150,20 @@ more_collected asked found group rest answer answers one h same judged = record 
   size = (let e : length answers ≡ length rest = omega (arith, h.size) in e);
 }
 
-pub answered : (asked : Question) (key : Edn) (answer : Result Found KeysError) → MatchResult answer (IsFindingOf asked key) (RefusesKey asked key) → IsAnswer asked key answer
+pub answered : (asked : KeysQuestion) (key : Edn) (answer : Result Found KeysError) → MatchResult answer (IsFindingOf asked key) (RefusesKey asked key) → IsAnswer asked key answer
 answered asked key (Ok finding) h = h
 answered asked key (Err error) h = h
 
 -- a place for each key is filled with what was answered of that key
-pub answer_at : (asked : Question) (groups : List KeyPlaces) (place : ℕ) (group : KeyPlaces) (answer : Result Found KeysError)
+pub answer_at : (asked : KeysQuestion) (groups : List KeyPlaces) (place : ℕ) (group : KeyPlaces) (answer : Result Found KeysError)
     → view_groups groups ≡ groups_of asked.history → slice_get groups place ≡ Some group → IsAnswer asked (view group.key) answer → IsAnswerAt asked place answer
 answer_at asked groups place group answer h at judged = λ key key_at.
-    let here : slice_get (keys_of asked.history) place ≡ Some (view group.key) =
+    let here : slice_get (history_keys asked.history) place ≡ Some (view group.key) =
     ap (λ keys. slice_get keys place) (sym (groups_keys asked.history groups h)) ∙ slice_get-map (λ group. view group.key) groups place ∙ ap (option_map (λ group. view group.key)) at in
     let same : view group.key ≡ key = ap (λ o. unwrap_or o key) (sym here ∙ key_at) in
     subst (λ k. IsAnswer asked k answer) same judged
 
 -- the question that a history and a judge ask
-pub whole_question : (judging : Judging) (history : List Operation) (asked : Question) → history ≡ asked.history
-    → asked_by judging asked.history ≡ asked → asked_by judging history ≡ asked
-whole_question judging history asked is h = ap (asked_by judging) is ∙ h
+pub whole_question : (judging : Judging) (history : List Operation) (asked : KeysQuestion) → history ≡ asked.history
+    → keys_question judging asked.history ≡ asked → keys_question judging history ≡ asked
+whole_question judging history asked is h = ap (keys_question judging) is ∙ h

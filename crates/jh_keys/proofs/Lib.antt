@@ -1,6 +1,6 @@
-pub mod RunLemmas
+pub mod SameKeyLemmas
 pub mod SplitLemmas
-pub mod PartLemmas
+pub mod KeyHistoryLemmas
 pub mod FoundLemmas
 pub mod HistoryLemmas
 pub mod LawLemmas

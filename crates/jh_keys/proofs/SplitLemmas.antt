@@ -12,30 +12,30 @@ use Rattle.std.proofs.lemmas.List.MinMax.{ranks_by}
 use Rattle.jh_edn.specs.Edn.{Edn}
 use Rattle.jh_edn.specs.Order.{edn_cmp, in_order, is_below, put_in_order}
 use Rattle.jh_edn.specs.View.{view}
-use Rattle.jh_edn.proofs.Facts.{edn_total}
-use Rattle.jh_edn.proofs.Facts.{map_in_order, sorted_is}
+use Rattle.jh_edn.proofs.CitedLemmas.{edn_total}
+use Rattle.jh_edn.proofs.CitedLemmas.{map_in_order, sorted_is}
 use Rattle.jh_ops.specs.Operation.{Operation}
-use Rattle.jh_check.specs.Distinct.{Ascends, is_same, once}
-use Rattle.jh_check.proofs.OnceLemmas.{same_along, sorted_ascends}
-use Rattle.jh_keys.specs.Keys.{has_key, key_of, places_of}
-use Rattle.jh_keys.specs.SplitInside.{groups_in, groups_of, is_key_below, keyed_in, keys_in, places_in, view_keyed, view_key, with_key}
+use Rattle.jh_check.specs.Distinct.{Ascends, is_same, distinct_values}
+use Rattle.jh_check.proofs.DistinctLemmas.{same_along, sorted_ascends}
+use Rattle.jh_keys.specs.Keys.{has_key, client_key, places_of}
+use Rattle.jh_keys.specs.SplitInside.{groups_in, groups_of, is_keyed_below, keys_with_places, keys_of_keyed, places_in, view_keyed, view_key, key_with_place}
 use Rattle.jh_keys.specs.declared.split.Keyed.{Keyed}
 
 -- ---- a stable sort
 
 abbrev pub held_below : Keyed → Keyed → Bool
-held_below a b = is_key_below (view_key a) (view_key b)
+held_below a b = is_keyed_below (view_key a) (view_key b)
 
-pub sorted_keyed : (ks ls : List Keyed) → IsSortedBy held_below ls → IsStableBy held_below ks ls → view_keyed ls ≡ in_order is_key_below (view_keyed ks)
+pub sorted_keyed : (ks ls : List Keyed) → IsSortedBy held_below ls → IsStableBy held_below ks ls → view_keyed ls ≡ in_order is_keyed_below (view_keyed ks)
 sorted_keyed ks ls up still =
     ap view_keyed (sorted_is held_below (ranks_by edn_total (λ (k : Keyed). view k.key)) ks ls up still)
-    ∙ map_in_order view_key is_key_below ks
+    ∙ map_in_order view_key is_keyed_below ks
 
-pub keys_in_order : (xs : List (Edn × ℕ)) → keys_in (in_order is_key_below xs) ≡ in_order is_below (keys_in xs)
+pub keys_in_order : (xs : List (Edn × ℕ)) → keys_of_keyed (in_order is_keyed_below xs) ≡ in_order is_below (keys_of_keyed xs)
 keys_in_order xs = map_in_order (λ (one : Edn × ℕ). one.0) is_below xs
 
-pub keys_ascend : (xs : List (Edn × ℕ)) (ys : List (Edn × ℕ)) → ys ≡ in_order is_key_below xs → Ascends (keys_in ys)
-keys_ascend xs ys e = subst Ascends (sym (ap keys_in e ∙ keys_in_order xs)) (sorted_ascends (keys_in xs))
+pub keys_ascend : (xs : List (Edn × ℕ)) (ys : List (Edn × ℕ)) → ys ≡ in_order is_keyed_below xs → Ascends (keys_of_keyed ys)
+keys_ascend xs ys e = subst Ascends (sym (ap keys_of_keyed e ∙ keys_in_order xs)) (sorted_ascends (keys_of_keyed xs))
 
 -- ---- each key's own stay as they stood
 
@@ -50,30 +50,30 @@ other_below k x y same below = same_along k x y same ∙ ap is_eq (edn_total.ant
 abbrev of_key : Edn → Edn × ℕ → Bool
 of_key k one = is_same k one.0
 
-put_other : (k : Edn) (x : Edn × ℕ) (ys : List (Edn × ℕ)) → is_same k x.0 ≡ false → filter (of_key k) (put_in_order is_key_below x ys) ≡ filter (of_key k) ys
+put_other : (k : Edn) (x : Edn × ℕ) (ys : List (Edn × ℕ)) → is_same k x.0 ≡ false → filter (of_key k) (put_in_order is_keyed_below x ys) ≡ filter (of_key k) ys
 put_other k x [] h = rw h refl
 put_other k x (y ∷ ys) h =
-    elim (is_key_below y x) as (λ b. filter (of_key k) (cond b (y ∷ put_in_order is_key_below x ys) (x ∷ y ∷ ys)) ≡ filter (of_key k) (y ∷ ys)) [
+    elim (is_keyed_below y x) as (λ b. filter (of_key k) (cond b (y ∷ put_in_order is_keyed_below x ys) (x ∷ y ∷ ys)) ≡ filter (of_key k) (y ∷ ys)) [
       | true ↦ ap (λ w. cond (is_same k y.0) (y ∷ w) w) (put_other k x ys h)
       | false ↦ rw h refl
     ]
 
-put_same : (k : Edn) (x : Edn × ℕ) (ys : List (Edn × ℕ)) → is_same k x.0 ≡ true → filter (of_key k) (put_in_order is_key_below x ys) ≡ x ∷ filter (of_key k) ys
+put_same : (k : Edn) (x : Edn × ℕ) (ys : List (Edn × ℕ)) → is_same k x.0 ≡ true → filter (of_key k) (put_in_order is_keyed_below x ys) ≡ x ∷ filter (of_key k) ys
 put_same k x [] h = rw h refl
 put_same k x (y ∷ ys) h =
-    elim (is_key_below y x) as (λ b. is_key_below y x ≡ b → filter (of_key k) (cond b (y ∷ put_in_order is_key_below x ys) (x ∷ y ∷ ys)) ≡ x ∷ filter (of_key k) (y ∷ ys)) [
+    elim (is_keyed_below y x) as (λ b. is_keyed_below y x ≡ b → filter (of_key k) (cond b (y ∷ put_in_order is_keyed_below x ys) (x ∷ y ∷ ys)) ≡ x ∷ filter (of_key k) (y ∷ ys)) [
       | true ↦ λ e.
           let other : is_same k y.0 ≡ false = other_below k x.0 y.0 h e in
           rw other (put_same k x ys h)
       | false ↦ λ e. rw h refl
     ] refl
 
-same_in_order : (k : Edn) (xs : List (Edn × ℕ)) → filter (of_key k) (in_order is_key_below xs) ≡ filter (of_key k) xs
+same_in_order : (k : Edn) (xs : List (Edn × ℕ)) → filter (of_key k) (in_order is_keyed_below xs) ≡ filter (of_key k) xs
 same_in_order k [] = refl
 same_in_order k (x ∷ xs) =
-    elim (is_same k x.0) as (λ b. is_same k x.0 ≡ b → filter (of_key k) (put_in_order is_key_below x (in_order is_key_below xs)) ≡ cond b (x ∷ filter (of_key k) xs) (filter (of_key k) xs)) [
-      | true ↦ λ e. put_same k x (in_order is_key_below xs) e ∙ ap (λ w. x ∷ w) (same_in_order k xs)
-      | false ↦ λ e. put_other k x (in_order is_key_below xs) e ∙ same_in_order k xs
+    elim (is_same k x.0) as (λ b. is_same k x.0 ≡ b → filter (of_key k) (put_in_order is_keyed_below x (in_order is_keyed_below xs)) ≡ cond b (x ∷ filter (of_key k) xs) (filter (of_key k) xs)) [
+      | true ↦ λ e. put_same k x (in_order is_keyed_below xs) e ∙ ap (λ w. x ∷ w) (same_in_order k xs)
+      | false ↦ λ e. put_other k x (in_order is_keyed_below xs) e ∙ same_in_order k xs
     ] refl
 
 -- ---- those of a history
@@ -85,30 +85,30 @@ numbered n (y ∷ ys) x =
     ap (λ w. (n, y) ∷ w) (numbered (n + 1) ys x ∙ ap (λ m. enumerate_from (n + 1) ys ++ (m, x) ∷ []) e)
 
 -- an operation more
-pub keyed_more : (xs : List Operation) (x : Operation) → keyed_in (xs ++ x ∷ []) ≡ keyed_in xs ++ filter_map with_key ((length xs, x) ∷ [])
+pub keyed_more : (xs : List Operation) (x : Operation) → keys_with_places (xs ++ x ∷ []) ≡ keys_with_places xs ++ filter_map key_with_place ((length xs, x) ∷ [])
 keyed_more xs x =
     let n : 0 + length xs ≡ length xs = omega arith in
-    ap (filter_map with_key) (numbered 0 xs x ∙ ap (λ m. enumerate_from 0 xs ++ (m, x) ∷ []) n)
-    ∙ filter_map-append with_key (enumerate_from 0 xs) ((length xs, x) ∷ [])
+    ap (filter_map key_with_place) (numbered 0 xs x ∙ ap (λ m. enumerate_from 0 xs ++ (m, x) ∷ []) n)
+    ∙ filter_map-append key_with_place (enumerate_from 0 xs) ((length xs, x) ∷ [])
 
 abbrev cons_key : ℕ → Option Edn → List (Edn × ℕ) → List (Edn × ℕ)
 cons_key place k rest = cons_option (option_map (λ key. (key, place)) k) rest
 
-keys_told : (n : ℕ) (ops : List Operation) → keys_in (filter_map with_key (enumerate_from n ops)) ≡ filter_map key_of ops
+keys_told : (n : ℕ) (ops : List Operation) → keys_of_keyed (filter_map key_with_place (enumerate_from n ops)) ≡ filter_map client_key ops
 keys_told n [] = refl
 keys_told n (op ∷ ops) =
-    elim (key_of op) as (λ k. keys_in (cons_key n k (filter_map with_key (enumerate_from (n + 1) ops))) ≡ cons_option k (filter_map key_of ops)) [
+    elim (client_key op) as (λ k. keys_of_keyed (cons_key n k (filter_map key_with_place (enumerate_from (n + 1) ops))) ≡ cons_option k (filter_map client_key ops)) [
       | None ↦ keys_told (n + 1) ops
       | Some key ↦ ap (λ w. key ∷ w) (keys_told (n + 1) ops)
     ]
 
 places_told : (k : Edn) (n : ℕ) (ops : List Operation)
-    → places_in k (filter_map with_key (enumerate_from n ops)) ≡ map (λ (placed : ℕ × Operation). placed.0) (filter (λ (placed : ℕ × Operation). has_key k placed.1) (enumerate_from n ops))
+    → places_in k (filter_map key_with_place (enumerate_from n ops)) ≡ map (λ (placed : ℕ × Operation). placed.0) (filter (λ (placed : ℕ × Operation). has_key k placed.1) (enumerate_from n ops))
 places_told k n [] = refl
 places_told k n (op ∷ ops) =
-    let rest : List (Edn × ℕ) = filter_map with_key (enumerate_from (n + 1) ops) in
+    let rest : List (Edn × ℕ) = filter_map key_with_place (enumerate_from (n + 1) ops) in
     let those : List (ℕ × Operation) = filter (λ (placed : ℕ × Operation). has_key k placed.1) (enumerate_from (n + 1) ops) in
-    elim (key_of op) as (λ o. places_in k (cons_option (option_map (λ key. (key, n)) o) rest) ≡ map (λ (placed : ℕ × Operation). placed.0) (cond (option_map_or (is_same k) o false) ((n, op) ∷ those) those)) [
+    elim (client_key op) as (λ o. places_in k (cons_option (option_map (λ key. (key, n)) o) rest) ≡ map (λ (placed : ℕ × Operation). placed.0) (cond (option_map_or (is_same k) o false) ((n, op) ∷ those) those)) [
       | None ↦ places_told k (n + 1) ops
       | Some key ↦
           elim (is_same k key) as (λ b. map (λ (one : Edn × ℕ). one.1) (cond b ((key, n) ∷ filter (of_key k) rest) (filter (of_key k) rest)) ≡ map (λ (placed : ℕ × Operation). placed.0) (cond b ((n, op) ∷ those) those)) [
@@ -117,11 +117,11 @@ places_told k n (op ∷ ops) =
           ]
     ]
 
-places_sorted : (k : Edn) (ops : List Operation) → places_in k (in_order is_key_below (keyed_in ops)) ≡ places_of k ops
-places_sorted k ops = ap (map (λ (one : Edn × ℕ). one.1)) (same_in_order k (keyed_in ops)) ∙ places_told k 0 ops
+places_sorted : (k : Edn) (ops : List Operation) → places_in k (in_order is_keyed_below (keys_with_places ops)) ≡ places_of k ops
+places_sorted k ops = ap (map (λ (one : Edn × ℕ). one.1)) (same_in_order k (keys_with_places ops)) ∙ places_told k 0 ops
 
-pub groups_sorted : (ops : List Operation) (ys : List (Edn × ℕ)) → ys ≡ in_order is_key_below (keyed_in ops) → groups_in ys ≡ groups_of ops
+pub groups_sorted : (ops : List Operation) (ys : List (Edn × ℕ)) → ys ≡ in_order is_keyed_below (keys_with_places ops) → groups_in ys ≡ groups_of ops
 groups_sorted ops ys e =
     ap groups_in e
-    ∙ (λ i. map (λ key. (key, places_sorted key ops i)) (once (keys_in (in_order is_key_below (keyed_in ops)))))
-    ∙ ap (λ keys. map (λ key. (key, places_of key ops)) (once keys)) (keys_in_order (keyed_in ops) ∙ ap (in_order is_below) (keys_told 0 ops))
+    ∙ (λ i. map (λ key. (key, places_sorted key ops i)) (distinct_values (keys_of_keyed (in_order is_keyed_below (keys_with_places ops)))))
+    ∙ ap (λ keys. map (λ key. (key, places_of key ops)) (distinct_values keys)) (keys_in_order (keys_with_places ops) ∙ ap (in_order is_below) (keys_told 0 ops))

@@ -3,11 +3,11 @@ use Rattle.std.proofs.Common.{◌≡◌, ◌∙◌, ◌<◌, ◌^◌, ℕ, zero,
 use Rattle.std.specs.Prelude.{◌-◌, ℤ, Option, Some, None, option_and_then, option_map, slice_get, unwrap_or}
 use Rattle.std.proofs.lemmas.Option.{slice_get_within}
 use Rattle.jh_ops.specs.Operation.{Operation}
-use Rattle.jh_ops.specs.Pairing.{pairs_of}
+use Rattle.jh_ops.specs.Pairing.{history_pairs}
 use Rattle.jh_ops.specs.declared.pairs.Pair.{Pair}
-use Rattle.jh_linear.specs.Calls.{AreRegOps, outcome_of, reg_op_of, with_call}
+use Rattle.jh_linear.specs.Calls.{AreRegOps, outcome_of, reg_op_of, op_with_call}
 use Rattle.jh_linear.specs.Order.{IsDone, op_at}
-use Rattle.jh_linear.specs.Stuck.{IsStuck, end_of}
+use Rattle.jh_linear.specs.Stuck.{IsStuck, op_end}
 use Rattle.jh_linear.specs.declared.register.Outcome.TheVariants.{Done}
 use Rattle.jh_linear.specs.declared.register.RegOp.{RegOp}
 use Rattle.jh_linear.specs.declared.verdict.Stuck.{Stuck}
@@ -28,14 +28,14 @@ mapped_from : {A B : Type 0} (f : A → B) (found : Option A) (y : B) → option
 mapped_from f None y e = absurd cc
 mapped_from f (Some x) y e = (x, cc)
 
-done_within : (history : List Operation) (pair : Pair) (call : RegOp) → reg_op_of history pair ≡ Some call → call.outcome ≡ Done → end_of call < length history
+done_within : (history : List Operation) (pair : Pair) (call : RegOp) → reg_op_of history pair ≡ Some call → call.outcome ≡ Done → op_end call < length history
 done_within history pair call told done =
-    let from = mapped_from (with_call history pair) _ call told in
-    subst (λ (c : RegOp). end_of c < length history) from.1
+    let from = mapped_from (op_with_call history pair) _ call told in
+    subst (λ (c : RegOp). op_end c < length history) from.1
     (ends_within history pair.outcome (ap (λ (c : RegOp). c.outcome) from.1 ∙ done))
 
 one_within : (history : List Operation) (pairs : List Pair) (calls : List RegOp) (place : ℕ) → AreRegOps history pairs calls
-    → IsDone calls place → end_of (op_at calls place) < length history
+    → IsDone calls place → op_end (op_at calls place) < length history
 one_within history [] [] place are done = absurd cc
 one_within history [] (call ∷ calls) place are done = absurd cc
 one_within history (pair ∷ pairs) [] place are done = absurd cc
@@ -50,4 +50,4 @@ pub stuck_within : (history : List Operation) (calls : List RegOp) (initial : Op
     → IsStuck calls initial stuck → stuck.end < length history
 stuck_within history calls initial stuck are is =
     let completion = is.completion in
-    subst (λ (end : ℕ). end < length history) completion.2 (one_within history (pairs_of history) calls completion.0 are.1 completion.1)
+    subst (λ (end : ℕ). end < length history) completion.2 (one_within history (history_pairs history) calls completion.0 are.1 completion.1)

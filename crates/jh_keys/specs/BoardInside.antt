@@ -1,34 +1,45 @@
 -- What the threads share goes by: proofs rest on it, and no public clause names it.
-use Rattle.std.specs.Prelude.{◌≡◌, ℕ, false, List, [], length, slice_get, Option, Some, None, Result, Ok, Err}
+use Rattle.std.specs.Prelude.{◌≡◌, ℕ, false, List, [], length, slice_get, Option, Some, None}
+use Rattle.std.specs.Prelude.{Result, Ok, Err}
 use Rattle.jh_edn.specs.Edn.{Edn}
 use Rattle.jh_ops.specs.declared.call.Workload.{Workload}
 use Rattle.jh_ops.specs.Operation.{Operation}
-use Rattle.jh_keys.specs.Keys.{keys_of}
+use Rattle.jh_keys.specs.Keys.{history_keys}
 use Rattle.jh_keys.specs.SplitInside.{groups_of, view_groups}
 use Rattle.jh_keys.specs.declared.split.KeyPlaces.{KeyPlaces}
-use Rattle.jh_keys.specs.Refusals.{Question, IsFindingOf, RefusesKey}
+use Rattle.jh_keys.specs.Refusals.{KeysQuestion, IsFindingOf, RefusesKey}
 use Rattle.jh_keys.specs.declared.error.KeysError.{KeysError}
 use Rattle.jh_keys.specs.Findings.{Found}
 
 -- what no call asks
-abbrev pub no_question : Question
-no_question = record { history = []; judging = record { workload = Workload.Set; initial = None; budget = 0; explain = false } }
+abbrev pub no_question : KeysQuestion
+no_question =
+    record {
+      history = [];
+      judging =
+          record { workload = Workload.Set; initial = None; budget = 0; explain = false };
+    }
 
 -- a key was judged so
-abbrev pub IsAnswer : Question → Edn → Result Found KeysError → Type 0
+abbrev pub IsAnswer : KeysQuestion → Edn → Result Found KeysError → Type 0
 IsAnswer asked key (Ok found) = IsFindingOf asked key found
 IsAnswer asked key (Err error) = RefusesKey asked key error
 
 -- the key of this place, if there is one, was judged so
-abbrev pub IsAnswerAt : Question → ℕ → Result Found KeysError → Type 0
-IsAnswerAt asked place answer = (key : Edn) → slice_get (keys_of asked.history) place ≡ Some key → IsAnswer asked key answer
+abbrev pub IsAnswerAt : KeysQuestion → ℕ → Result Found KeysError → Type 0
+IsAnswerAt asked place answer =
+    (key : Edn) → slice_get (history_keys asked.history) place ≡ Some key
+    → IsAnswer asked key answer
 
 -- a place for the answer of each key, and what was answered so far
-pub record AreAnswers (asked : Question) (answers : List (Option (Result Found KeysError))) : Type 0 where
-  pub size : length answers ≡ length (keys_of asked.history)
-  pub each : (place : ℕ) (answer : Result Found KeysError) → slice_get answers place ≡ Some (Some answer) → IsAnswerAt asked place answer
+pub record AreAnswers (asked : KeysQuestion)
+    (answers : List (Option (Result Found KeysError))) : Type 0 where
+  pub size : length answers ≡ length (history_keys asked.history)
+  pub each : (place : ℕ) (answer : Result Found KeysError)
+      → slice_get answers place ≡ Some (Some answer) → IsAnswerAt asked place answer
 
 -- the places of the keys, in the history that is asked about
-pub record AreKeysAsked (asked : Question) (history : List Operation) (groups : List KeyPlaces) : Type 0 where
+pub record AreKeysAsked (asked : KeysQuestion) (history : List Operation)
+    (groups : List KeyPlaces) : Type 0 where
   pub history_is : history ≡ asked.history
   pub groups_are : view_groups groups ≡ groups_of history

@@ -8,8 +8,8 @@ use Rattle.jh_keys.specs.Findings.{Found}
 use Rattle.jh_keys.specs.declared.finding.Finding.{Finding}
 
 -- with no explanation
-abbrev pub alone : Finding → Found
-alone finding = record { finding = finding; explanation = None }
+abbrev pub unexplained_finding : Finding → Found
+unexplained_finding finding = record { finding = finding; explanation = None }
 
 -- the same error
 abbrev pub error_of : RegOpsError → CheckError

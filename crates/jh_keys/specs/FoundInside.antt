@@ -1,27 +1,32 @@
 -- What is found so far, of the keys in front: proofs rest on it, and no public clause names it.
-use Rattle.std.specs.Prelude.{◌≡◌, ℕ, ◌+◌, List, length, map, ◌++◌, All, slice_get, Option, Some, Result}
+use Rattle.std.specs.Prelude.{◌≡◌, ℕ, ◌+◌, List, length, map, ◌++◌, All, slice_get, Option, Some}
+use Rattle.std.specs.Prelude.{Result}
 use Rattle.jh_edn.specs.View.{view}
 use Rattle.jh_keys.specs.BoardInside.{IsAnswerAt}
-use Rattle.jh_keys.specs.Keys.{keys_of, places_of}
-use Rattle.jh_keys.specs.Refusals.{Question, IsFindingOf}
+use Rattle.jh_keys.specs.Keys.{history_keys, places_of}
+use Rattle.jh_keys.specs.Refusals.{KeysQuestion, IsFindingOf}
 use Rattle.jh_keys.specs.declared.error.KeysError.{KeysError}
 use Rattle.jh_keys.specs.Findings.{Found}
 use Rattle.jh_keys.specs.declared.serial.KeyFinding.{KeyFinding}
 use Rattle.jh_keys.specs.declared.split.KeyPlaces.{KeyPlaces}
 
 -- The keys that are left stand behind those that were judged, each with its places.
-pub record IsFoundSoFar (asked : Question) (found : List KeyFinding) (rest : List KeyPlaces) : Type 0 where
-  pub keys : map (λ one. view one.key) found ++ map (λ group. view group.key) rest ≡ keys_of asked.history
+pub record IsFoundSoFar (asked : KeysQuestion) (found : List KeyFinding)
+    (rest : List KeyPlaces) : Type 0 where
+  pub keys : map (λ one. view one.key) found
+      ++ map (λ group. view group.key) rest ≡ history_keys asked.history
   pub each : All (λ one. IsFindingOf asked (view one.key) one.found) found
   pub places : All (λ group. group.places.items ≡ places_of (view group.key) asked.history) rest
 
 -- the answers that are left, each at its place behind so many others
-abbrev pub AreAnswersFrom : Question → ℕ → List (Option (Result Found KeysError)) → Type 0
+abbrev pub AreAnswersFrom : KeysQuestion → ℕ → List (Option (Result Found KeysError)) → Type 0
 AreAnswersFrom asked front answers =
-    (place : ℕ) (answer : Result Found KeysError) → slice_get answers place ≡ Some (Some answer) → IsAnswerAt asked (front + place) answer
+    (place : ℕ) (answer : Result Found KeysError) → slice_get answers place ≡ Some (Some answer)
+    → IsAnswerAt asked (front + place) answer
 
 -- one answer is left for each key that is left
-pub record AreCollected (asked : Question) (found : List KeyFinding) (rest : List KeyPlaces) (left : List (Option (Result Found KeysError))) : Type 0 where
+pub record AreCollected (asked : KeysQuestion) (found : List KeyFinding) (rest : List KeyPlaces)
+    (left : List (Option (Result Found KeysError))) : Type 0 where
   pub keys : IsFoundSoFar asked found rest
   pub answers : AreAnswersFrom asked (length found) left
   pub size : length left ≡ length rest

@@ -1,5 +1,5 @@
--- The histories of all keys of a history, as they are given, and why they are not (jepsen.independent; the refusal is this
--- project's own).
+-- The histories of all keys of a history, as they are given, and why they are not
+-- (jepsen.independent; the refusal is this project's own).
 use Rattle.std.specs.Prelude.{List, map}
 use Rattle.jh_edn.specs.Edn.{Edn}
 use Rattle.jh_edn.specs.View.{view}
@@ -16,9 +16,10 @@ view_history part = (view part.key, operations part.history.items)
 abbrev pub view_histories : List KeyHistory → List (Edn × List Operation)
 view_histories parts = map view_history parts
 
--- Why a history is not split by key: for the first value that is no tuple, or because memory ran out.
-abbrev pub RefusesSplit : List Operation → KeysError → Type 0
-RefusesSplit history (BadValue place) = IsFirstBad history place
-RefusesSplit history (Key error) = ⊥
-RefusesSplit history Thread = ⊥
-RefusesSplit history OutOfMemory = AreTuples history
+-- Why a history is not split by key: for the first value that is no tuple, or because memory ran
+-- out.
+abbrev pub RefusesKeySplit : List Operation → KeysError → Type 0
+RefusesKeySplit history (BadValue place) = IsFirstBad history place
+RefusesKeySplit history (Key error) = ⊥
+RefusesKeySplit history Thread = ⊥
+RefusesKeySplit history OutOfMemory = AreTuples history

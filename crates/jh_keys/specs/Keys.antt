@@ -1,13 +1,15 @@
--- The keys of a history, and the history of each (jepsen.independent: a value is a tuple of a key and a value, and the
--- history of a key has the operations with that key, their values without it). That a list of two will do as well as a
--- vector, that the nemesis is left out, and the order of the keys are this project's own. Places count from 0.
-use Rattle.std.specs.Prelude.{◌≡◌, ℕ, ◌&&◌, Bool, true, false, not, List, [], ◌∷◌, map, filter, take, slice_get, if◌then◌else◌, Option, Some, None, is_some, option_map, option_and_then, All, filter_map}
+-- The keys of a history, and the history of each (jepsen.independent: a value is a tuple of a key
+-- and a value, and the history of a key has the operations with that key, their values without it).
+-- That a list of two will do as well as a vector, that the nemesis is left out, and the order of
+-- the keys are this project's own. Places count from 0.
+use Rattle.std.specs.Prelude.{◌≡◌, ℕ, ◌&&◌, Bool, true, false, not, List, [], ◌∷◌, map, filter}
+use Rattle.std.specs.Prelude.{take, slice_get, if◌then◌else◌, Option, Some, None, is_some}
+use Rattle.std.specs.Prelude.{option_map, option_and_then, All, filter_map}
 use Rattle.std.specs.List.{enumerate_from}
 use Rattle.std.specs.Option.{option_map_or}
 use Rattle.jh_edn.specs.Edn.{Edn, nil, elements_of}
 use Rattle.jh_edn.specs.Normal.{normal}
-use Rattle.jh_ops.specs.Operation.{Operation}
-use Rattle.jh_check.specs.Asked.{is_client}
+use Rattle.jh_ops.specs.Operation.{Operation, is_client}
 use Rattle.jh_check.specs.Distinct.{is_same, set_of}
 
 -- ---- tuples
@@ -32,29 +34,31 @@ AreTuples history = All (λ op. is_bad op ≡ false) history
 -- the least place of one that has none
 abbrev pub IsFirstBad : List Operation → ℕ → Type 0
 IsFirstBad history place =
-    (op : Operation) × (slice_get history place ≡ Some op) × (is_bad op ≡ true) × AreTuples (take place history)
+    (op : Operation) × (slice_get history place ≡ Some op) × (is_bad op ≡ true)
+    × AreTuples (take place history)
 
 -- ---- keys
 
 -- the key of what a client did, in normal form
-abbrev pub key_of : Operation → Option Edn
-key_of op = if is_client op.process then option_map (λ tuple. normal tuple.0) (tuple_of op.value) else None
+abbrev pub client_key : Operation → Option Edn
+client_key op =
+    if is_client op.process then option_map (λ tuple. normal tuple.0) (tuple_of op.value) else None
 
 -- the keys of a history, each once, in normal order
-abbrev pub keys_of : List Operation → List Edn
-keys_of history = set_of (filter_map key_of history)
+abbrev pub history_keys : List Operation → List Edn
+history_keys history = set_of (filter_map client_key history)
 
 -- a client did it with this key, which is in normal form
 abbrev pub has_key : Edn → Operation → Bool
-has_key key op = option_map_or (is_same key) (key_of op) false
+has_key key op = option_map_or (is_same key) (client_key op) false
 
 -- what was done with a key, and where
-abbrev pub placed_of : Edn → List Operation → List (ℕ × Operation)
-placed_of key history = filter (λ placed. has_key key placed.1) (enumerate_from 0 history)
+abbrev pub placed_operations : Edn → List Operation → List (ℕ × Operation)
+placed_operations key history = filter (λ placed. has_key key placed.1) (enumerate_from 0 history)
 
 -- the places of a key in the whole history
 abbrev pub places_of : Edn → List Operation → List ℕ
-places_of key history = map (λ placed. placed.0) (placed_of key history)
+places_of key history = map (λ placed. placed.0) (placed_operations key history)
 
 -- ---- the history of a key
 
@@ -63,20 +67,31 @@ abbrev pub value_of : Edn → Edn
 value_of value = option_map_or (λ tuple. tuple.1) (tuple_of value) nil
 
 -- the operation with another value
-abbrev pub with_value : Edn → Operation → Operation
-with_value value op = record { kind = op.kind; process = op.process; f = op.f; value = value; time = op.time; index = op.index; rest = op.rest }
+abbrev pub operation_with_value : Edn → Operation → Operation
+operation_with_value value op =
+    record {
+      kind = op.kind;
+      process = op.process;
+      f = op.f;
+      value = value;
+      time = op.time;
+      index =
+          op.index;
+      rest = op.rest;
+    }
 
 -- the operation without its key
-abbrev pub without_key : Operation → Operation
-without_key op = with_value (value_of op.value) op
+abbrev pub operation_without_key : Operation → Operation
+operation_without_key op = operation_with_value (value_of op.value) op
 
 abbrev pub history_of : Edn → List Operation → List Operation
-history_of key history = map (λ placed. without_key placed.1) (placed_of key history)
+history_of key history =
+    map (λ placed. operation_without_key placed.1) (placed_operations key history)
 
 -- a key with its history
-abbrev pub with_history : List Operation → Edn → Edn × List Operation
-with_history history key = (key, history_of key history)
+abbrev pub key_with_history : List Operation → Edn → Edn × List Operation
+key_with_history history key = (key, history_of key history)
 
 -- all keys with their histories, in the order of the keys
 abbrev pub histories_of : List Operation → List (Edn × List Operation)
-histories_of history = map (with_history history) (keys_of history)
+histories_of history = map (key_with_history history) (history_keys history)

@@ -11,15 +11,27 @@ use Rattle.jh_keys.specs.declared.error.KeysError.{KeysError}
 use Rattle.jh_keys.specs.declared.error.KeysError.TheVariants.{Key, OutOfMemory}
 
 -- what stands past the end of a history
-abbrev pub no_op : Operation
-no_op = record { kind = Kind.Info; process = Process.Nemesis; f = nil; value = nil; time = None; index = None; rest = [] }
+abbrev pub no_operation : Operation
+no_operation =
+    record {
+      kind = Kind.Info;
+      process = Process.Nemesis;
+      f = nil;
+      value = nil;
+      time = None;
+      index =
+          None;
+      rest = [];
+    }
 
-abbrev pub op_at : List Operation → ℕ → Operation
-op_at history place = slice_index_or history place no_op
+abbrev pub operation_at : List Operation → ℕ → Operation
+operation_at history place = slice_index_or history place no_operation
 
 -- what is told of an error of a key's checker
-abbrev pub told_of : List ℕ → CheckError → KeysError
-told_of places (check_errors.Pair error) = Key (check_errors.Pair (pairing_in places error))
-told_of places (check_errors.BadValue place) = Key (check_error_in places (check_errors.BadValue place))
-told_of places (check_errors.NegativeAdd place) = Key (check_error_in places (check_errors.NegativeAdd place))
-told_of places check_errors.OutOfMemory = OutOfMemory
+abbrev pub keys_error_of : List ℕ → CheckError → KeysError
+keys_error_of places (check_errors.Pair error) = Key (check_errors.Pair (pairing_in places error))
+keys_error_of places (check_errors.BadValue place) =
+    Key (check_error_in places (check_errors.BadValue place))
+keys_error_of places (check_errors.NegativeAdd place) =
+    Key (check_error_in places (check_errors.NegativeAdd place))
+keys_error_of places check_errors.OutOfMemory = OutOfMemory

@@ -1,13 +1,14 @@
 -- What splitting a history goes by: proofs rest on it, and no public clause names it.
-use Rattle.std.specs.Prelude.{◌≡◌, ℕ, Bool, List, ◌++◌, map, filter, filter_map, All, Option, option_map}
+use Rattle.std.specs.Prelude.{◌≡◌, ℕ, Bool, List, ◌++◌, map, filter, filter_map, All, Option}
+use Rattle.std.specs.Prelude.{option_map}
 use Rattle.std.specs.List.{enumerate_from}
 use Rattle.jh_edn.specs.Edn.{Edn}
 use Rattle.jh_edn.specs.Order.{is_below}
 use Rattle.jh_edn.specs.View.{view}
 use Rattle.jh_ops.specs.Operation.{Operation}
-use Rattle.jh_check.specs.Distinct.{is_same, once}
+use Rattle.jh_check.specs.Distinct.{is_same, distinct_values}
 use Rattle.jh_keys.specs.Histories.{view_histories}
-use Rattle.jh_keys.specs.Keys.{histories_of, key_of, keys_of, places_of, with_history}
+use Rattle.jh_keys.specs.Keys.{histories_of, client_key, history_keys, places_of, key_with_history}
 use Rattle.jh_keys.specs.declared.histories.KeyHistory.{KeyHistory}
 use Rattle.jh_keys.specs.declared.split.KeyPlaces.{KeyPlaces}
 use Rattle.jh_keys.specs.declared.split.Keyed.{Keyed}
@@ -21,17 +22,17 @@ abbrev pub view_keyed : List Keyed → List (Edn × ℕ)
 view_keyed keyed = map view_key keyed
 
 -- the key of an operation with its place, where it has one
-abbrev pub with_key : ℕ × Operation → Option (Edn × ℕ)
-with_key placed = option_map (λ key. (key, placed.0)) (key_of placed.1)
+abbrev pub key_with_place : ℕ × Operation → Option (Edn × ℕ)
+key_with_place placed = option_map (λ key. (key, placed.0)) (client_key placed.1)
 
-abbrev pub keyed_in : List Operation → List (Edn × ℕ)
-keyed_in history = filter_map with_key (enumerate_from 0 history)
+abbrev pub keys_with_places : List Operation → List (Edn × ℕ)
+keys_with_places history = filter_map key_with_place (enumerate_from 0 history)
 
-abbrev pub is_key_below : Edn × ℕ → Edn × ℕ → Bool
-is_key_below a b = is_below a.0 b.0
+abbrev pub is_keyed_below : Edn × ℕ → Edn × ℕ → Bool
+is_keyed_below a b = is_below a.0 b.0
 
-abbrev pub keys_in : List (Edn × ℕ) → List Edn
-keys_in keyed = map (λ one. one.0) keyed
+abbrev pub keys_of_keyed : List (Edn × ℕ) → List Edn
+keys_of_keyed keyed = map (λ one. one.0) keyed
 
 -- ---- groups: keys with all their places
 
@@ -46,15 +47,17 @@ abbrev pub places_in : Edn → List (Edn × ℕ) → List ℕ
 places_in key keyed = map (λ one. one.1) (filter (λ one. is_same key one.0) keyed)
 
 abbrev pub groups_in : List (Edn × ℕ) → List (Edn × List ℕ)
-groups_in keyed = map (λ key. (key, places_in key keyed)) (once (keys_in keyed))
+groups_in keyed = map (λ key. (key, places_in key keyed)) (distinct_values (keys_of_keyed keyed))
 
 -- those of a history
 abbrev pub groups_of : List Operation → List (Edn × List ℕ)
-groups_of history = map (λ key. (key, places_of key history)) (keys_of history)
+groups_of history = map (λ key. (key, places_of key history)) (history_keys history)
 
 -- ---- keys with their histories
 
 -- The groups that are left stand behind the keys that have their history, each with its places.
-pub record IsCutSoFar (history : List Operation) (parts : List KeyHistory) (rest : List KeyPlaces) : Type 0 where
-  pub keys : view_histories parts ++ map (with_history history) (map (λ group. view group.key) rest) ≡ histories_of history
+pub record IsSplitSoFar (history : List Operation) (parts : List KeyHistory)
+    (rest : List KeyPlaces) : Type 0 where
+  pub keys : view_histories parts
+      ++ map (key_with_history history) (map (λ group. view group.key) rest) ≡ histories_of history
   pub places : All (λ group. group.places.items ≡ places_of (view group.key) history) rest

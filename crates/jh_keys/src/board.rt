@@ -1,10 +1,10 @@
-//! What the threads of a call share: which key is next, and what was answered of each. `specs/BoardInside.antt` says what
-//! is true of it whenever its lock is free.
+//! What the threads of a call share: which key is next, and what was answered of each.
+//! `specs/BoardInside.antt` says what is true of it whenever its lock is free.
 
 ghost use Rattle.std.specs.Prelude.{◌≡◌, length};
 ghost use Rattle.jh_keys.specs.BoardInside.{AreAnswers, IsAnswerAt};
-ghost use Rattle.jh_keys.specs.Keys.{keys_of};
-ghost use Rattle.jh_keys.specs.Refusals.{Question};
+ghost use Rattle.jh_keys.specs.Keys.{history_keys};
+ghost use Rattle.jh_keys.specs.Refusals.{KeysQuestion};
 
 use crate::error::KeysError;
 use crate::finding::Found;
@@ -14,7 +14,7 @@ use std::marker::{Brand, Model, PhantomData};
 /// What a call asks. Each call picks its own.
 pub trait Asking {
     /// The history, and what it is judged by.
-    ghost asked: { Question };
+    ghost asked: { KeysQuestion };
 }
 
 impl Asking for Brand {
@@ -26,7 +26,8 @@ impl Asking for Brand {
 /// What one key's check gave.
 pub(crate) type Answer = Result<Found, KeysError>;
 
-/// The answers of the keys, each at the place of its key, and the place of the key that is judged next.
+/// The answers of the keys, each at the place of its key, and the place of the key that is judged
+/// next.
 #[derive(Drop)]
 pub(crate) struct Board<Q: Asking> {
     answers: Vec<Option<Answer>>,
@@ -46,7 +47,7 @@ impl<Q: Asking> Model for Board<Q> {
 impl<Q: Asking> Board<Q> {
     /// A board for so many keys, none of which is judged.
     pub(crate) fn new(alloc: Global, count: usize) -> Result<Board<Q>, AllocError>
-        requires { count ≡ length (keys_of Q.asked.history) }
+        requires { count ≡ length (history_keys Q.asked.history) }
     {
         let mut answers = Vec::with_capacity(alloc, count)?;
         for _ in 0..count {

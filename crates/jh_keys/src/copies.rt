@@ -22,7 +22,8 @@ fn copies_of(alloc: Global, pairs: &[(Value, Value)]) -> Result<Pairs, AllocErro
 
 /// The same operation once more, with another value.
 pub(crate) fn with_value(alloc: Global, op: &Op, value: Value) -> Result<Op, AllocError>
-    ensures { IfOk result (λ copy. operation copy ≡ rule.with_value (view value) (operation op.now)) }
+    ensures { IfOk result
+        (λ copy. operation copy ≡ rule.operation_with_value (view value) (operation op.now)) }
 {
     Ok(Op {
         kind: op.kind,

@@ -13,7 +13,8 @@ pub enum KeysError {
     /// The value of this operation is no vector or list of two.
     #[error("operation {0}: bad value")]
     BadValue(usize),
-    /// The checker refuses the history of a key. Never `CheckError::OutOfMemory`, which is `OutOfMemory` here.
+    /// The checker refuses the history of a key. Never `CheckError::OutOfMemory`, which is
+    /// `OutOfMemory` here.
     #[error("{0}")]
     Key(CheckError),
     /// A thread could not be had, or was not let in to its key.

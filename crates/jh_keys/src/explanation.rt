@@ -1,8 +1,9 @@
-//! Why a history of a register is not valid, beside the verdict. `specs/Explanations.antt` has the rule.
+//! Why a history of a register is not valid, beside the verdict. `specs/Explanations.antt` has the
+//! rule.
 
 ghost use Rattle.std.specs.Prelude.{◌≡◌, ◌<◌, IfOk, length};
 ghost use Rattle.jh_ops.specs.Operation.{operations};
-ghost use Rattle.jh_linear.specs.Stuck.{end_of};
+ghost use Rattle.jh_linear.specs.Stuck.{op_end};
 ghost use Rattle.jh_linear.specs.declared.verdict.LinVerdict.TheVariants.{Invalid};
 ghost use Rattle.jh_linear.specs.declared.verdict.Stuck.{Stuck};
 ghost use Rattle.jh_keys.specs.Explanations as rule;
@@ -13,19 +14,20 @@ use jh_linear::{LinVerdict, Outcome, RegOp};
 use jh_ops::Op;
 use std::alloc::{AllocError, Global};
 
-/// What stands beside the verdict on a history of a register that is not valid, where it is asked for.
+/// What stands beside the verdict on a history of a register that is not valid, where it is asked
+/// for.
 #[derive(Debug, Drop)]
 pub struct Explanation {
     /// The completion at which the history is stuck, as the history has it.
     pub completion: Op,
-    /// The numbers of the operations that are pending there: invoked before it, with no `:ok` and no `:fail` before it.
-    /// They ascend, and mean the places among the pairs, as in orders.
+    /// The numbers of the operations that are pending there: invoked before it, with no `:ok` and
+    /// no `:fail` before it. They ascend, and mean the places among the pairs, as in orders.
     pub pending: Vec<usize>,
 }
 
 /// Where an operation ended; one with no such place ends after all others.
 fn end_of(call: RegOp) -> usize
-    ensures { result ≡ end_of call }
+    ensures { result ≡ op_end call }
 {
     call.ended.unwrap_or(usize::MAX)
 }
@@ -49,7 +51,7 @@ fn is_pending(end: usize, call: RegOp) -> bool
 
 /// The numbers of the operations that are pending at this place of the history.
 fn pending_at(alloc: Global, calls: &[RegOp], end: usize) -> Result<Vec<usize>, AllocError>
-    ensures { IfOk result (λ pending. pending.items ≡ rule.pending_at calls.now end) }
+    ensures { IfOk result (λ pending. pending.items ≡ rule.numbers_pending calls.now end) }
 {
     calls
         .iter()

@@ -1,11 +1,12 @@
-//! One history judged by the checker of its workload. `specs/Findings.antt` has the rule; a new workload is a case of
-//! `Finding`, of the definitions there, and of `check_history`.
+//! One history judged by the checker of its workload. `specs/Findings.antt` has the rule; a new
+//! workload is a case of `Finding`, of the definitions there, and of `check_history`.
 
 ghost use Rattle.std.specs.Prelude.{◌≡◌, MatchResult};
 ghost use Rattle.jh_ops.specs.Operation.{operations};
 ghost use Rattle.jh_keys.specs.Findings as rule;
 ghost use Rattle.jh_keys.specs.FindingInside as inside;
-ghost use Rattle.jh_keys.specs.Findings.{IsFinding, IsRegisterFound, RefusesHistory, RefusesRegister};
+ghost use Rattle.jh_keys.specs.Findings.{IsFinding, IsRegisterFound, RefusesChecking};
+ghost use Rattle.jh_keys.specs.Findings.{RefusesRegister};
 
 use crate::explanation::{Explanation, explained};
 use jh_check::{
@@ -37,8 +38,8 @@ pub enum Finding {
     Register(LinVerdict),
 }
 
-/// What is found, and what explains it. Both are type parameters, so that each is shown by itself to be safe to send to a
-/// thread.
+/// What is found, and what explains it. Both are type parameters, so that each is shown by itself
+/// to be safe to send to a thread.
 #[derive(Debug, Drop)]
 pub struct Explained<F, E> {
     pub finding: F,
@@ -52,7 +53,7 @@ pub type Found = Explained<Finding, Explanation>;
 impl Finding {
     /// What the finding says of the history.
     pub fn verdict(&self) -> Verdict
-        ensures { result ≡ rule.verdict_of self.now }
+        ensures { result ≡ rule.verdict_of_finding self.now }
     {
         match self {
             Finding::Set(found) => found.verdict,
@@ -63,6 +64,7 @@ impl Finding {
     }
 }
 
+/// The verdict of what the judge of a register answered.
 pub(crate) fn verdict_of_register(judged: &LinVerdict) -> Verdict
     ensures { result ≡ rule.verdict_of_register judged.now }
 {
@@ -75,7 +77,7 @@ pub(crate) fn verdict_of_register(judged: &LinVerdict) -> Verdict
 
 /// A finding with no explanation.
 fn alone(finding: Finding) -> Found
-    ensures { result ≡ inside.alone finding }
+    ensures { result ≡ inside.unexplained_finding finding }
 {
     Explained {
         finding,
@@ -112,20 +114,22 @@ fn check_register(alloc: Global, history: &[Op], judging: Judging) -> Result<Fou
     })
 }
 
-/// Judges a history by the checker of its workload: `check_set`, `check_counter`, `check_unique`, or for a register the
-/// judge of `jh_linear` over its operations.
+/// Judges a history by the checker of its workload: `check_set`, `check_counter`, `check_unique`,
+/// or for a register the judge of `jh_linear` over its operations.
 ///
-/// The initial value, the budget and whether a no is explained mean nothing to the other workloads. A no of a register that is
-/// explained tells the completion with which no order is left, and what is pending there.
+/// The initial value, the budget and whether a no is explained mean nothing to the other workloads.
+/// A no of a register that is explained tells the completion with which no order is left, and what
+/// is pending there.
 ///
-/// Errors: those of the checker. For a register `Pair`, then `BadValue` at the least place of one; `OutOfMemory` may come
-/// before either.
+/// Errors: those of the checker. For a register `Pair`, then `BadValue` at the least place of one;
+/// `OutOfMemory` may come before either.
 ///
-/// Costs what the checker costs; an explanation takes time linear in the operations beside it, and copies one of them.
+/// Costs what the checker costs; an explanation takes time linear in the operations beside it, and
+/// copies one of them.
 pub fn check_history(alloc: Global, history: &[Op], judging: Judging) -> Result<Found, CheckError>
     ensures { MatchResult result
         (IsFinding judging (operations history.now))
-        (RefusesHistory judging.workload (operations history.now)) }
+        (RefusesChecking judging.workload (operations history.now)) }
 {
     match judging.workload {
         Workload::Set => Ok(alone(Finding::Set(check_set(alloc, history)?))),

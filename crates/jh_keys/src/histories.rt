@@ -1,8 +1,9 @@
-//! The histories of all keys. `specs/Keys.antt` says which keys there are, and what the history of each is.
+//! The histories of all keys. `specs/Keys.antt` says which keys there are, and what the history of
+//! each is.
 
 ghost use Rattle.std.specs.Prelude.{◌≡◌, MatchResult};
 ghost use Rattle.jh_ops.specs.Operation.{operations};
-ghost use Rattle.jh_keys.specs.Histories.{RefusesSplit, view_histories};
+ghost use Rattle.jh_keys.specs.Histories.{RefusesKeySplit, view_histories};
 ghost use Rattle.jh_keys.specs.Keys.{AreTuples, histories_of};
 
 use crate::error::KeysError;
@@ -21,17 +22,21 @@ pub struct KeyHistory {
     pub history: Vec<Op>,
 }
 
-/// Splits a history of independent keys: the history of each key, in the normal order of the keys (`jepsen.independent`).
+/// Splits a history of independent keys: the history of each key, in the normal order of the keys
+/// (`jepsen.independent`).
 ///
-/// What a key is, and what its history has, is told at `check_keys_serial`, which judges these histories.
+/// What a key is, and what its history has, is told at `check_keys_serial`, which judges these
+/// histories.
 ///
-/// Errors: `BadValue` at the least place of a client's operation that has no tuple, then `OutOfMemory`. Never another.
+/// Errors: `BadValue` at the least place of a client's operation that has no tuple, then
+/// `OutOfMemory`. Never another.
 ///
 /// Takes O(n log n) comparisons of keys for n operations, and copies each operation once.
 pub fn histories_by_key(alloc: Global, history: &[Op]) -> Result<Vec<KeyHistory>, KeysError>
     ensures { MatchResult result
-        (λ parts. AreTuples (operations history.now) × (view_histories parts.items ≡ histories_of (operations history.now)))
-        (RefusesSplit (operations history.now)) }
+        (λ parts. AreTuples (operations history.now)
+        × (view_histories parts.items ≡ histories_of (operations history.now)))
+        (RefusesKeySplit (operations history.now)) }
 {
     let groups = split(alloc, history)?;
     let mut parts = Vec::with_capacity(alloc, groups.len())?;

@@ -1,12 +1,14 @@
-//! The one line of what is found, of a history and of several keys. `specs/Lines.antt` has the rule.
+//! The one line of what is found, of a history and of several keys. `specs/Lines.antt` has the
+//! rule.
 
 ghost use Rattle.std.specs.Prelude.{◌≡◌, [], ◌∷◌, IfErr, IfOk, OnOk, codes};
 ghost use Rattle.std.specs.Io.KnownBytes.{Appends};
 ghost use Rattle.jh_edn.specs.Edn.{keyword};
 ghost use Rattle.jh_edn.specs.Print.{print};
-ghost use Rattle.jh_check.specs.Lines.{part_text};
+ghost use Rattle.jh_check.specs.Lines.{behind_pair_text};
 ghost use Rattle.jh_keys.specs.Lines as rule;
-ghost use Rattle.jh_keys.specs.Lines.{finding_line, keys_line, order_value, others_of, register_value, stuck_pairs, with_verdict};
+ghost use Rattle.jh_keys.specs.Lines.{finding_line, keys_line, order_value, others_of};
+ghost use Rattle.jh_keys.specs.Lines.{register_value, stuck_pairs, map_with_verdict};
 
 use crate::explanation::Explanation;
 use crate::finding::{Finding, Found};
@@ -23,7 +25,7 @@ use std::io::Write;
 /// Writes what a register holds, behind other pairs.
 fn write_held<W: Write>(held: Option<i64>, writer: &mut W) -> Result<(), EdnError>
     ensures bytes { OnOk result (Appends (W.contents writer.old) (W.contents writer.new)
-        (part_text (codes "value") (rule.held_value held))) }
+        (behind_pair_text (codes "value") (rule.held_value held))) }
     ensures error { IfErr result (λ e. e ≡ EdnError.Write) }
 {
     match held {
@@ -35,7 +37,8 @@ fn write_held<W: Write>(held: Option<i64>, writer: &mut W) -> Result<(), EdnErro
 /// Writes the line of a register that has an order.
 fn write_valid<W: Write>(order: &Order, writer: &mut W) -> Result<(), EdnError>
     ensures bytes { OnOk result (Appends (W.contents writer.old) (W.contents writer.new)
-        (print (with_verdict Verdict.True ((keyword (codes "order"), order_value order.now) ∷ [])))) }
+        (print (map_with_verdict Verdict.True
+        ((keyword (codes "order"), order_value order.now) ∷ [])))) }
     ensures error { IfErr result (λ e. e ≡ EdnError.Write) }
 {
     write_verdict(Verdict::True, writer)?;
@@ -50,7 +53,7 @@ fn write_stuck<W: Write>(
     writer: &mut W,
 ) -> Result<(), EdnError>
     ensures bytes { OnOk result (Appends (W.contents writer.old) (W.contents writer.new)
-        (print (with_verdict Verdict.False (stuck_pairs stuck.now explanation.now)))) }
+        (print (map_with_verdict Verdict.False (stuck_pairs stuck.now explanation.now)))) }
     ensures error { IfErr result (λ e. e ≡ EdnError.Write) }
 {
     write_verdict(Verdict::False, writer)?;
@@ -65,7 +68,8 @@ fn write_stuck<W: Write>(
 /// Writes a verdict alone.
 fn write_alone<W: Write>(verdict: Verdict, writer: &mut W) -> Result<(), EdnError>
     ensures bytes { OnOk result
-        (Appends (W.contents writer.old) (W.contents writer.new) (print (with_verdict verdict []))) }
+        (Appends (W.contents writer.old) (W.contents writer.new)
+        (print (map_with_verdict verdict []))) }
     ensures error { IfErr result (λ e. e ≡ EdnError.Write) }
 {
     write_verdict(verdict, writer)?;
@@ -79,7 +83,8 @@ fn write_invalid<W: Write>(
     writer: &mut W,
 ) -> Result<(), EdnError>
     ensures bytes { OnOk result (Appends (W.contents writer.old) (W.contents writer.new)
-        (print (with_verdict Verdict.False (others_of (LinVerdict.Invalid stuck.now) explanation.now)))) }
+        (print (map_with_verdict Verdict.False
+        (others_of (LinVerdict.Invalid stuck.now) explanation.now)))) }
     ensures error { IfErr result (λ e. e ≡ EdnError.Write) }
 {
     match explanation {
@@ -105,10 +110,12 @@ fn write_register<W: Write>(
     }
 }
 
-/// Writes the one line of a finding, without a line feed. That of a set, a counter and unique ids is `jh_check`'s; that of
-/// a register is `{:valid? true, :order [..]}`, `{:valid? :unknown}` or `{:valid? false}`, which goes on where it is explained:
-/// `{:valid? false, :stuck {..}, :order [..], :value V, :pending [..]}`, with the completion at which it is stuck, an order of
-/// what is before it, the value that this leads to, and what is pending there.
+/// Writes the one line of a finding, without a line feed. That of a set, a counter and unique ids
+/// is `jh_check`'s; that of a register is `{:valid? true, :order [..]}`, `{:valid? :unknown}` or
+/// `{:valid? false}`, which goes on where it is explained:
+/// `{:valid? false, :stuck {..}, :order [..], :value V, :pending [..]}`, with the completion at
+/// which it is stuck, an order of what is before it, the value that this leads to, and what is
+/// pending there.
 ///
 /// Takes no memory. The writer may have taken a part of the line where it failed.
 ///
@@ -151,8 +158,8 @@ pub fn verdict_of_all(alloc: Global, found: &[KeyFinding]) -> Result<Verdict, Al
     Ok(merge(&verdicts))
 }
 
-/// Writes the one line of all keys, without a line feed: `{:valid? V, :keys [[key RESULT] ..]}`. The verdict is that of
-/// `verdict_of_all`.
+/// Writes the one line of all keys, without a line feed: `{:valid? V, :keys [[key RESULT] ..]}`.
+/// The verdict is that of `verdict_of_all`.
 ///
 /// Takes no memory. The writer may have taken a part of the line where it failed.
 ///

@@ -1,11 +1,11 @@
-//! The text of an operation, as operations are printed: that of the value that is written of it. No value is made for it, so it
-//! takes no memory, and a client may have any number.
+//! The text of an operation, as operations are printed: that of the value that is written of it. No
+//! value is made for it, so it takes no memory, and a client may have any number.
 
 ghost use Rattle.std.specs.Prelude.{◌≡◌, ◌++◌, IfErr, OnOk, codes};
 ghost use Rattle.std.specs.Io.KnownBytes.{Appends};
 ghost use Rattle.jh_edn.specs.Print.{print};
 ghost use Rattle.jh_edn.specs.View.{view, view_pairs};
-ghost use Rattle.jh_check.specs.Lines.{part_text};
+ghost use Rattle.jh_check.specs.Lines.{behind_pair_text};
 ghost use Rattle.jh_ops.specs.Operation.{operation};
 ghost use Rattle.jh_ops.specs.OperationWritten as written;
 ghost use Rattle.jh_ops.specs.OperationWritten.{value_written};
@@ -34,7 +34,8 @@ fn write_front<W: Write>(name: &str, integer: Option<i64>, writer: &mut W) -> Re
 
 /// Writes the type, in front of the process.
 fn write_type<W: Write>(kind: Kind, writer: &mut W) -> Result<(), EdnError>
-    ensures bytes { OnOk result (Appends (W.contents writer.old) (W.contents writer.new) (type_text kind)) }
+    ensures bytes { OnOk result
+        (Appends (W.contents writer.old) (W.contents writer.new) (type_text kind)) }
     ensures error { IfErr result (λ e. e ≡ EdnError.Write) }
 {
     match kind {
@@ -48,7 +49,7 @@ fn write_type<W: Write>(kind: Kind, writer: &mut W) -> Result<(), EdnError>
 /// Writes the process, behind the type.
 fn write_process<W: Write>(process: Process, writer: &mut W) -> Result<(), EdnError>
     ensures bytes { OnOk result (Appends (W.contents writer.old) (W.contents writer.new)
-        (part_text (codes "process") (written.process_value process))) }
+        (behind_pair_text (codes "process") (written.process_value process))) }
     ensures error { IfErr result (λ e. e ≡ EdnError.Write) }
 {
     match process {
@@ -86,8 +87,9 @@ fn write_rest<W: Write>(rest: &[(Value, Value)], writer: &mut W) -> Result<(), E
 /// Writes the index, the time, the type and the process.
 fn write_head<W: Write>(op: &Op, writer: &mut W) -> Result<(), EdnError>
     ensures bytes { OnOk result (Appends (W.contents writer.old) (W.contents writer.new)
-        (((front_text (codes "index") op.now.index ++ front_text (codes "time") op.now.time) ++ type_text op.now.kind)
-        ++ part_text (codes "process") (written.process_value op.now.process))) }
+        (((front_text (codes "index") op.now.index ++ front_text (codes "time") op.now.time)
+        ++ type_text op.now.kind)
+        ++ behind_pair_text (codes "process") (written.process_value op.now.process))) }
     ensures error { IfErr result (λ e. e ≡ EdnError.Write) }
 {
     write_front("index", op.index, writer)?;
@@ -99,7 +101,8 @@ fn write_head<W: Write>(op: &Op, writer: &mut W) -> Result<(), EdnError>
 /// Writes the function, the value and all other keys.
 fn write_body<W: Write>(op: &Op, writer: &mut W) -> Result<(), EdnError>
     ensures bytes { OnOk result (Appends (W.contents writer.old) (W.contents writer.new)
-        ((part_text (codes "f") (view op.now.f) ++ part_text (codes "value") (view op.now.value)) ++ rest_text op.now.rest)) }
+        ((behind_pair_text (codes "f") (view op.now.f)
+        ++ behind_pair_text (codes "value") (view op.now.value)) ++ rest_text op.now.rest)) }
     ensures error { IfErr result (λ e. e ≡ EdnError.Write) }
 {
     put(b", :f ", writer)?;
@@ -116,7 +119,8 @@ fn write_body<W: Write>(op: &Op, writer: &mut W) -> Result<(), EdnError>
 /// Errors: `Write` where the writer failed, and no other.
 pub fn write_operation<W: Write>(op: &Op, writer: &mut W) -> Result<(), EdnError>
     ensures bytes { OnOk result
-        (Appends (W.contents writer.old) (W.contents writer.new) (print (value_written (operation op.now)))) }
+        (Appends (W.contents writer.old) (W.contents writer.new)
+        (print (value_written (operation op.now)))) }
     ensures error { IfErr result (λ e. e ≡ EdnError.Write) }
 {
     put(b"{", writer)?;

@@ -1,14 +1,15 @@
-//! The history of one key, and what its checker finds. `specs/Keys.antt` says what is left of an operation,
-//! `specs/Refusals.antt` how an error is told.
+//! The history of one key, and what its checker finds. `specs/Keys.antt` says what is left of an
+//! operation, `specs/Refusals.antt` how an error is told.
 
-ghost use Rattle.std.specs.Prelude.{◌≡◌, ◌<◌, All, IfOk, IsErrOf, MatchResult, length, map, slice_index_or};
+ghost use Rattle.std.specs.Prelude.{◌≡◌, ◌<◌, All, IfOk, IsErrOf, MatchResult, length, map};
+ghost use Rattle.std.specs.Prelude.{slice_index_or};
 ghost use Rattle.jh_edn.specs.View.{view};
 ghost use Rattle.jh_ops.specs.Operation.{operation, operations};
 ghost use Rattle.jh_keys.specs.Keys as rule;
 ghost use Rattle.jh_keys.specs.Keys.{places_of};
-ghost use Rattle.jh_keys.specs.PartsInside.{op_at, told_of};
+ghost use Rattle.jh_keys.specs.PartsInside.{operation_at, keys_error_of};
 ghost use Rattle.jh_keys.specs.Refusals as told;
-ghost use Rattle.jh_keys.specs.Refusals.{IsFindingOf, RefusesKey, asked_by};
+ghost use Rattle.jh_keys.specs.Refusals.{IsFindingOf, RefusesKey, keys_question};
 
 use crate::copies::with_value;
 use crate::error::KeysError;
@@ -29,8 +30,9 @@ fn value_of(alloc: Global, value: &Value) -> Result<Value, AllocError>
     }
 }
 
+/// A copy of an operation without its key.
 fn without_key(alloc: Global, op: &Op) -> Result<Op, AllocError>
-    ensures { IfOk result (λ copy. operation copy ≡ rule.without_key (operation op.now)) }
+    ensures { IfOk result (λ copy. operation copy ≡ rule.operation_without_key (operation op.now)) }
 {
     let value = value_of(alloc, &op.value)?;
     with_value(alloc, op, value)
@@ -40,7 +42,8 @@ fn without_key(alloc: Global, op: &Op) -> Result<Op, AllocError>
 fn part_of(alloc: Global, history: &[Op], places: &[usize]) -> Result<Vec<Op>, AllocError>
     requires { All (λ place. place < length history.now) places.now }
     ensures { IfOk result (λ part. operations part.items
-        ≡ map (λ place. rule.without_key (op_at (operations history.now) place)) places.now) }
+        ≡ map (λ place. rule.operation_without_key (operation_at (operations history.now) place))
+        places.now) }
 {
     let mut part = Vec::with_capacity(alloc, places.len())?;
     for place in places {
@@ -62,12 +65,14 @@ pub(crate) fn history_of(
     part_of(alloc, history, &group.places)
 }
 
+/// The place in the whole history of a place in that of a key; past the end, 0.
 fn place_in(places: &[usize], place: usize) -> usize
     ensures { result ≡ slice_index_or places.now place 0 }
 {
     places.get(place).copied().unwrap_or(0)
 }
 
+/// An error of the pairs of a key's history, at its place in the whole one.
 fn pairing_in(places: &[usize], error: PairError) -> PairError
     ensures { result ≡ told.pairing_in places.now error }
 {
@@ -81,7 +86,7 @@ fn pairing_in(places: &[usize], error: PairError) -> PairError
 
 /// An error of a key's history, told at its place in the whole one.
 fn error_in(places: &[usize], error: CheckError) -> KeysError
-    ensures { result ≡ told_of places.now error }
+    ensures { result ≡ keys_error_of places.now error }
 {
     match error {
         CheckError::Pair(pairing) => KeysError::Key(CheckError::Pair(pairing_in(places, pairing))),
@@ -104,8 +109,8 @@ pub(crate) fn check_key(
 ) -> Result<Found, KeysError>
     requires { group.now.places.items ≡ places_of (view group.now.key) (operations history.now) }
     ensures judged { MatchResult result
-        (IsFindingOf (asked_by judging (operations history.now)) (view group.now.key))
-        (RefusesKey (asked_by judging (operations history.now)) (view group.now.key)) }
+        (IsFindingOf (keys_question judging (operations history.now)) (view group.now.key))
+        (RefusesKey (keys_question judging (operations history.now)) (view group.now.key)) }
     ensures alone { IsErrOf result KeysError.Thread → ⊥ }
 {
     let part = history_of(alloc, history, group)?;

@@ -1,6 +1,8 @@
-//! What threads may share and send: the operations of a history, its keys, and what is found of each.
+//! What threads may share and send: the operations of a history, its keys, and what is found of
+//! each.
 //!
-//! Each type is shown after those that it is made of, since the prover looks no deeper than it must.
+//! Each type is shown after those that it is made of, since the prover looks no deeper than it
+//! must.
 
 ghost use Rattle.std.specs.Thread.{IsSend, IsSync};
 ghost use Rattle.jh_check.specs.contracts.ids.Duplicates as duplicates;
@@ -33,12 +35,14 @@ fn can_be_shared<T: Sync>()
     ensures { IsSync T.row }
 {}
 
+/// Texts can be sent.
 fn texts_can_be_sent()
     ensures { IsSend text.the_row }
 {
     can_be_sent::<Text>()
 }
 
+/// Values can be sent.
 fn values_can_be_sent()
     ensures { IsSend value.the_row }
 {
@@ -46,6 +50,7 @@ fn values_can_be_sent()
     can_be_sent::<Value>()
 }
 
+/// Lists of values can be sent.
 fn lists_can_be_sent()
     ensures { IsSend values.the_row }
 {
@@ -54,6 +59,7 @@ fn lists_can_be_sent()
     can_be_sent::<Values>()
 }
 
+/// Lists of pairs can be sent.
 fn pairs_can_be_sent()
     ensures { IsSend pairs.the_row }
 {
@@ -62,6 +68,7 @@ fn pairs_can_be_sent()
     can_be_sent::<Pairs>()
 }
 
+/// Operations can be sent.
 fn operations_can_be_sent()
     ensures { IsSend op.the_row }
 {
@@ -107,12 +114,14 @@ pub(crate) fn explanations_can_be_sent()
     can_be_sent::<Explanation>()
 }
 
+/// Texts can be shared.
 fn texts_can_be_shared()
     ensures { IsSync text.the_row }
 {
     can_be_shared::<Text>()
 }
 
+/// Values can be shared.
 fn values_can_be_shared()
     ensures { IsSync value.the_row }
 {
@@ -120,6 +129,7 @@ fn values_can_be_shared()
     can_be_shared::<Value>()
 }
 
+/// Lists of pairs can be shared.
 fn pairs_can_be_shared()
     ensures { IsSync pairs.the_row }
 {

@@ -1,20 +1,22 @@
 //! A history cut by key. `specs/Keys.antt` says which keys there are, and which places each has.
 
-ghost use Rattle.std.specs.Prelude.{◌≡◌, ◌++◌, [], ◌∷◌, IfOk, OnOk, MatchOption, MatchResult, option_map, filter_map};
+ghost use Rattle.std.specs.Prelude.{◌≡◌, ◌++◌, [], ◌∷◌, IfOk, OnOk, MatchOption, MatchResult};
+ghost use Rattle.std.specs.Prelude.{option_map, filter_map};
 ghost use Rattle.jh_edn.specs.Order.{edn_cmp, in_order};
 ghost use Rattle.jh_edn.specs.View.{view};
 ghost use Rattle.jh_ops.specs.Operation.{operation, operations};
-ghost use Rattle.jh_check.specs.Asked as asked;
 ghost use Rattle.jh_check.specs.Distinct as distinct;
 ghost use Rattle.jh_check.specs.Distinct.{Ascends};
-ghost use Rattle.jh_keys.specs.Histories.{RefusesSplit};
+ghost use Rattle.jh_keys.specs.Histories.{RefusesKeySplit};
 ghost use Rattle.jh_keys.specs.Keys as rule;
 ghost use Rattle.jh_keys.specs.Keys.{AreTuples, IsFirstBad};
-ghost use Rattle.jh_keys.specs.SplitInside.{groups_in, groups_of, is_key_below, keyed_in, keys_in, view_group, view_groups, view_keyed, with_key};
+ghost use Rattle.jh_keys.specs.SplitInside.{groups_in, groups_of, is_keyed_below, keys_with_places};
+ghost use Rattle.jh_keys.specs.SplitInside.{keys_of_keyed, view_group, view_groups, view_keyed};
+ghost use Rattle.jh_keys.specs.SplitInside.{key_with_place};
 
 use crate::error::KeysError;
 use jh_edn::Value;
-use jh_ops::{Op, Process};
+use jh_ops::Op;
 use std::alloc::{AllocError, Global};
 use std::cmp::Ordering;
 use std::mem::replace;
@@ -35,7 +37,8 @@ struct Keyed {
 
 /// The key and the value of a tuple.
 pub(crate) fn tuple_of(value: &Value) -> Option<(&Value, &Value)>
-    ensures { option_map (λ tuple. (view tuple.0.now, view tuple.1.now)) result ≡ rule.tuple_of (view value.now) }
+    ensures { option_map (λ tuple. (view tuple.0.now, view tuple.1.now)) result
+        ≡ rule.tuple_of (view value.now) }
 {
     match value.elements()? {
         [key, value] => Some((key, value)),
@@ -43,21 +46,17 @@ pub(crate) fn tuple_of(value: &Value) -> Option<(&Value, &Value)>
     }
 }
 
-fn is_client(process: Process) -> bool
-    ensures { result ≡ asked.is_client process }
-{
-    matches!(process, Process::Client(_))
-}
-
+/// Whether it is a client's operation whose value is no tuple.
 fn is_bad(op: &Op) -> bool
     ensures { result ≡ rule.is_bad (operation op.now) }
 {
-    is_client(op.process) && tuple_of(&op.value).is_none()
+    op.process.is_client() && tuple_of(&op.value).is_none()
 }
 
 /// The least place of a client's operation whose value is no tuple.
 fn first_bad(history: &[Op]) -> Option<usize>
-    ensures { MatchOption result (AreTuples (operations history.now)) (IsFirstBad (operations history.now)) }
+    ensures { MatchOption result (AreTuples (operations history.now))
+        (IsFirstBad (operations history.now)) }
 {
     for (place, op) in history.iter().enumerate() {
         if is_bad(op) {
@@ -70,9 +69,9 @@ fn first_bad(history: &[Op]) -> Option<usize>
 /// Puts the key of an operation last, where a client did it.
 fn push_key(alloc: Global, place: usize, op: &Op, keyed: &mut Vec<Keyed>) -> Result<(), AllocError>
     ensures { OnOk result (view_keyed keyed.new.items
-        ≡ view_keyed keyed.old.items ++ filter_map with_key ((place, operation op.now) ∷ [])) }
+        ≡ view_keyed keyed.old.items ++ filter_map key_with_place ((place, operation op.now) ∷ [])) }
 {
-    if !is_client(op.process) {
+    if !op.process.is_client() {
         return Ok(());
     }
     if let Some((key, _)) = tuple_of(&op.value) {
@@ -82,12 +81,14 @@ fn push_key(alloc: Global, place: usize, op: &Op, keyed: &mut Vec<Keyed>) -> Res
     Ok(())
 }
 
+/// Whether two keys in normal form are equal.
 fn is_same(a: &Value, b: &Value) -> bool
     ensures { result ≡ distinct.is_same (view a.now) (view b.now) }
 {
     matches!(a.compare(b), Ordering::Equal)
 }
 
+/// How two keys compare in normal order.
 fn compare_keys(a: &Keyed, b: &Keyed) -> Ordering
     ensures { result ≡ edn_cmp (view a.now.key) (view b.now.key) }
 {
@@ -96,8 +97,10 @@ fn compare_keys(a: &Keyed, b: &Keyed) -> Ordering
 
 /// What clients did, by key and then by place.
 fn sorted_by_key(alloc: Global, history: &[Op]) -> Result<Vec<Keyed>, AllocError>
-    ensures order { IfOk result (λ keyed. view_keyed keyed.items ≡ in_order is_key_below (keyed_in (operations history.now))) }
-    ensures ascends { IfOk result (λ keyed. Ascends (keys_in (view_keyed keyed.items))) }
+    ensures order { IfOk result
+        (λ keyed. view_keyed keyed.items
+        ≡ in_order is_keyed_below (keys_with_places (operations history.now))) }
+    ensures ascends { IfOk result (λ keyed. Ascends (keys_of_keyed (view_keyed keyed.items))) }
 {
     let mut keyed = Vec::new(alloc);
     for (place, op) in history.iter().enumerate() {
@@ -121,8 +124,9 @@ fn begun(alloc: Global, keyed: Keyed) -> Result<KeyPlaces, AllocError>
 
 /// What stands side by side with the same key, together.
 fn grouped(alloc: Global, keyed: Vec<Keyed>) -> Result<Vec<KeyPlaces>, AllocError>
-    requires { Ascends (keys_in (view_keyed keyed.items)) }
-    ensures { IfOk result (λ groups. view_groups groups.items ≡ groups_in (view_keyed keyed.items)) }
+    requires { Ascends (keys_of_keyed (view_keyed keyed.items)) }
+    ensures { IfOk result
+        (λ groups. view_groups groups.items ≡ groups_in (view_keyed keyed.items)) }
 {
     let mut groups = Vec::new(alloc);
     let mut others = keyed.into_iter();
@@ -144,13 +148,15 @@ fn grouped(alloc: Global, keyed: Vec<Keyed>) -> Result<Vec<KeyPlaces>, AllocErro
 
 /// The keys of a history in normal order, each with its places.
 ///
-/// Errors: `BadValue` with the least place of a client's operation whose value is no tuple, then `OutOfMemory`.
+/// Errors: `BadValue` with the least place of a client's operation whose value is no tuple, then
+/// `OutOfMemory`.
 ///
 /// Takes O(n log n) comparisons of keys for n operations, and copies each key once.
 pub(crate) fn split(alloc: Global, history: &[Op]) -> Result<Vec<KeyPlaces>, KeysError>
     ensures { MatchResult result
-        (λ groups. AreTuples (operations history.now) × (view_groups groups.items ≡ groups_of (operations history.now)))
-        (RefusesSplit (operations history.now)) }
+        (λ groups. AreTuples (operations history.now)
+        × (view_groups groups.items ≡ groups_of (operations history.now)))
+        (RefusesKeySplit (operations history.now)) }
 {
     if let Some(place) = first_bad(history) {
         return Err(KeysError::BadValue(place));

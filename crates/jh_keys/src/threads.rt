@@ -1,12 +1,12 @@
-//! The keys of a history judged on several threads. What is found is what `check_keys_serial` may find: `specs/Refusals.antt`
-//! has the rule of both.
+//! The keys of a history judged on several threads. What is found is what `check_keys_serial` may
+//! find: `specs/Refusals.antt` has the rule of both.
 
 ghost use Rattle.std.specs.Prelude.{◌≡◌, ◌≤◌, MatchResult};
 ghost use Rattle.std.specs.Thread.{IsSync};
 ghost use Rattle.jh_ops.specs.Operation.{operations};
 ghost use Rattle.jh_keys.specs.BoardInside.{AreAnswers, AreKeysAsked, IsAnswerAt};
 ghost use Rattle.jh_keys.specs.Keys.{AreTuples};
-ghost use Rattle.jh_keys.specs.Refusals.{AreFindings, RefusesKeys, asked_by};
+ghost use Rattle.jh_keys.specs.Refusals.{AreFindings, RefusesKeys, keys_question};
 ghost use Rattle.jh_keys.specs.SplitInside.{groups_of, view_groups};
 
 use crate::board::{Answer, Asking, Board};
@@ -27,8 +27,8 @@ use std::thread::Threads;
 
 /// Who lets threads in to keys.
 pub trait Gate {
-    /// Whether the key of this place, in normal order from 0, is judged. Asked by the thread that is to judge it, before it
-    /// does.
+    /// Whether the key of this place, in normal order from 0, is judged. Asked by the thread that
+    /// is to judge it, before it does.
     fn enter(&self, key: usize) -> bool;
 }
 
@@ -70,7 +70,7 @@ impl<Q: Asking> Model for Judge<Q> {
 
     ghost view = { λ j. tt };
 
-    ghost invariant = { λ j. asked_by j.judging Q.asked.history ≡ Q.asked };
+    ghost invariant = { λ j. keys_question j.judging Q.asked.history ≡ Q.asked };
 }
 
 impl<Q: Asking> Keys<'_, Q> {
@@ -105,8 +105,8 @@ fn judge_all<Q: Asking, G: Gate, R: Wait>(
     }
 }
 
-/// What several threads share, and what each does. Each part of it is a type parameter, so that each is shown by itself to
-/// be safe to share.
+/// What several threads share, and what each does. Each part of it is a type parameter, so that
+/// each is shown by itself to be safe to share.
 trait Work<J, G, B> {
     /// What each thread does.
     fn work_at<R: Wait>(&self, rt: &R, judge: &J, gate: &G, board: &B);
@@ -138,7 +138,8 @@ fn work_all<K: Work<J, G, B> + Sync, J: Sync, G: Sync, B: Sync, R: Threads + Wai
         thread::scope_env(),
         rt,
         |scope|
-            requires { IsSync R.row × (IsSync K.row × (IsSync J.row × (IsSync G.row × IsSync B.row))) }
+            requires { IsSync R.row
+                × (IsSync K.row × (IsSync J.row × (IsSync G.row × IsSync B.row))) }
         {
             for _ in 0..others {
                 if scope
@@ -170,7 +171,8 @@ fn shared<Q: Asking + Send + Sync, G: Gate + Sync, R: Threads + Wait + Sync>(
     work_all::<Keys<'_, Q>, Judge<Q>, G, Mutex<Board<Q>>, R>(rt, keys, judge, gate, board, others)
 }
 
-/// The findings in the order of the keys, or what ended them: the first answer that is none, or a key that no thread judged.
+/// The findings in the order of the keys, or what ended them: the first answer that is none, or a
+/// key that no thread judged.
 fn collected<Q: Asking>(
     alloc: Global,
     groups: Vec<KeyPlaces>,
@@ -202,12 +204,12 @@ fn judged<'a, Q: Asking + Send + Sync, G: Gate + Sync, R: Threads + Wait + Sync>
     threads: u32,
     gate: &'a G,
 ) -> Result<Vec<KeyFinding>, KeysError>
-    requires asks { asked_by judging (operations history.now) ≡ Q.asked }
+    requires asks { keys_question judging (operations history.now) ≡ Q.asked }
     requires tuples { AreTuples (operations history.now) }
     requires groups { view_groups groups.items ≡ groups_of (operations history.now) }
     ensures { MatchResult result
-        (λ found. AreFindings (asked_by judging (operations history.now)) found.items)
-        (RefusesKeys (asked_by judging (operations history.now))) }
+        (λ found. AreFindings (keys_question judging (operations history.now)) found.items)
+        (RefusesKeys (keys_question judging (operations history.now))) }
 {
     let board = Mutex::new(Board::<Q>::new(alloc, groups.len())?);
     let others = groups.len().min(threads as usize).saturating_sub(1);
@@ -226,16 +228,18 @@ fn judged<'a, Q: Asking + Send + Sync, G: Gate + Sync, R: Threads + Wait + Sync>
     collected::<Q>(alloc, groups, answers)
 }
 
-/// Judges a history of independent keys as `check_keys_serial` does, on so many threads, this one among them. Each next
-/// thread that is free takes the next key, and asks the gate before it judges it. All threads have ended when it returns.
+/// Judges a history of independent keys as `check_keys_serial` does, on so many threads, this one
+/// among them. Each next thread that is free takes the next key, and asks the gate before it judges
+/// it. All threads have ended when it returns.
 ///
-/// What is found is what `check_keys_serial` may find, whatever the number of threads: for a set, a counter and unique ids
-/// that is one list, for a register each verdict is what the judge promises.
+/// What is found is what `check_keys_serial` may find, whatever the number of threads: for a set, a
+/// counter and unique ids that is one list, for a register each verdict is what the judge promises.
 ///
-/// May wait, and promises only if it returns. Where there are fewer keys than threads, fewer threads are made.
+/// May wait, and promises only if it returns. Where there are fewer keys than threads, fewer
+/// threads are made.
 ///
-/// Errors: those of `check_keys_serial`, and at the first key that was not judged, `Thread`, where the gate did not let its
-/// thread in or a thread could not be had.
+/// Errors: those of `check_keys_serial`, and at the first key that was not judged, `Thread`, where
+/// the gate did not let its thread in or a thread could not be had.
 pub fn check_keys_at<G: Gate + Sync, R: Threads + Wait + Sync>(
     rt: &R,
     alloc: Global,
@@ -246,14 +250,15 @@ pub fn check_keys_at<G: Gate + Sync, R: Threads + Wait + Sync>(
 ) -> Result<Vec<KeyFinding>, KeysError>
     requires { (1 ≤ threads) × (threads ≤ 16) }
     ensures { MatchResult result
-        (λ found. AreFindings (asked_by judging (operations history.now)) found.items)
-        (RefusesKeys (asked_by judging (operations history.now))) }
+        (λ found. AreFindings (keys_question judging (operations history.now)) found.items)
+        (RefusesKeys (keys_question judging (operations history.now))) }
 {
     let groups = split(alloc, history)?;
     judged::<Brand, G, R>(rt, alloc, history, judging, groups, threads, gate)
 }
 
-/// Judges a history of independent keys on so many threads: `check_keys_at` with a gate that lets all in.
+/// Judges a history of independent keys on so many threads: `check_keys_at` with a gate that lets
+/// all in.
 ///
 /// Errors: those of `check_keys_at`.
 pub fn check_keys<R: Threads + Wait + Sync>(
@@ -265,8 +270,8 @@ pub fn check_keys<R: Threads + Wait + Sync>(
 ) -> Result<Vec<KeyFinding>, KeysError>
     requires { (1 ≤ threads) × (threads ≤ 16) }
     ensures { MatchResult result
-        (λ found. AreFindings (asked_by judging (operations history.now)) found.items)
-        (RefusesKeys (asked_by judging (operations history.now))) }
+        (λ found. AreFindings (keys_question judging (operations history.now)) found.items)
+        (RefusesKeys (keys_question judging (operations history.now))) }
 {
     check_keys_at(rt, alloc, history, judging, threads, &Open)
 }

@@ -1,4 +1,5 @@
-//! The answer to a history of keys, put together from the answers to each. None is answered where memory was refused.
+//! The answer to a history of keys, put together from the answers to each. None is answered where
+//! memory was refused.
 
 use crate::parts::Part;
 use std::alloc::Global;
@@ -52,8 +53,8 @@ fn verdict_of(list: &str) -> &'static str {
     }
 }
 
-/// The answer to all parts in one history: the first error in the order of the keys, or one line. `turns` has the number
-/// of the part whose operation stands at each place.
+/// The answer to all parts in one history: the first error in the order of the keys, or one line.
+/// `turns` has the number of the part whose operation stands at each place.
 pub(crate) fn answer_of(alloc: Global, parts: &[Part], turns: &[usize]) -> Option<String> {
     let mut list = String::new(alloc);
     for (number, part) in parts.iter().enumerate() {

@@ -1,8 +1,9 @@
-//! Random histories of independent keys, each with what is answered. The history of each key is one of `jh_check_plain`;
-//! they are mixed, and the answer is put together from the answers to each. They serve tests alone: `jh_keys_tests`
-//! compares `jh_keys` with them.
+//! Random histories of independent keys, each with what is answered. The history of each key is one
+//! of `jh_check_plain`; they are mixed, and the answer is put together from the answers to each.
+//! They serve tests alone: `jh_keys_tests` compares `jh_keys` with them.
 //!
-//! A history is a text: each operation is `PROCESS TYPE F VALUE` in the words of a history, with `; ` behind it.
+//! A history is a text: each operation is `PROCESS TYPE F VALUE` in the words of a history, with
+//! `; ` behind it.
 #![tactic(auto)]
 
 mod answers;

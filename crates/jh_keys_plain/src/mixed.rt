@@ -114,8 +114,8 @@ fn mix(
     Some(mixed)
 }
 
-/// A random history of up to forty keys, and what is answered. A register holds 0 at first, and is judged within this
-/// budget. One history in four may have values without a key.
+/// A random history of up to forty keys, and what is answered. A register holds 0 at first, and is
+/// judged within this budget. One history in four may have values without a key.
 pub fn random_keys(alloc: Global, workload: Workload, budget: u64, seed: u64) -> Option<Case> {
     let mut dice = Dice::new(seed);
     let parts = random_parts(alloc, &mut dice, workload, budget)?;

@@ -1,4 +1,5 @@
-//! What is done with each key, and what is answered of that alone. None is answered where memory was refused.
+//! What is done with each key, and what is answered of that alone. None is answered where memory
+//! was refused.
 
 use crate::text::ops_of;
 use jh_check::CheckError;
@@ -82,7 +83,8 @@ fn register_answer(alloc: Global, budget: u64, history: &str) -> Option<String> 
     }
 }
 
-/// A history of a register. Now and then its first operation is missing, so that it may be in error.
+/// A history of a register. Now and then its first operation is missing, so that it may be in
+/// error.
 fn random_register(alloc: Global, dice: &mut Dice, budget: u64) -> Option<Case> {
     let most = dice.below(6) + 1;
     let whole = random_history(alloc, dice, most).ok()?;
@@ -94,6 +96,7 @@ fn random_register(alloc: Global, dice: &mut Dice, budget: u64) -> Option<Case> 
     Some(Case { history, answer })
 }
 
+/// A random history of the workload with its answer, which may be an error.
 fn any_case(alloc: Global, dice: &mut Dice, workload: Workload, budget: u64) -> Option<Case> {
     match workload {
         Workload::Register => random_register(alloc, dice, budget),

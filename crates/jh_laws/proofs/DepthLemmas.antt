@@ -1,7 +1,7 @@
 -- What can be printed can be printed with more depth.
 use Rattle.std.proofs.Common.{ℕ, ◌-◌, ◌<◌, ◌≤◌, arith}
 use Rattle.jh_edn.specs.Edn.{Edn, nil, boolean, int, char, str, keyword, symbol, list, vector, mapping, set, tagged, Items, no_items, item, Members, no_members, member}
-use Rattle.jh_edn.specs.Printable.{IsPrintable, ArePrintable, PairsPrintable}
+use Rattle.jh_edn.specs.Printable.{IsPrintable, ArePrintable, ArePrintablePairs}
 
 less : (d e : ℕ) → d ≤ e → d - 1 ≤ e - 1
 less d e h = omega (arith, h)
@@ -28,6 +28,6 @@ mutual
   items_deeper no_items d e h p = tt
   items_deeper (item x xs) d e h p = (deeper x d e h p.0, items_deeper xs d e h p.1)
 
-  pub pairs_deeper : (ms : Members) (d e : ℕ) → d ≤ e → PairsPrintable d ms → PairsPrintable e ms
+  pub pairs_deeper : (ms : Members) (d e : ℕ) → d ≤ e → ArePrintablePairs d ms → ArePrintablePairs e ms
   pairs_deeper no_members d e h p = tt
   pairs_deeper (member k v ms) d e h p = (deeper k d e h p.0, deeper v d e h p.1, pairs_deeper ms d e h p.2)

@@ -16,7 +16,7 @@ use Rattle.jh_env.specs.Overlay.{EnvValue, link_of, node_of}
 use Rattle.jh_env.specs.Starting.{IsStartingLink, IsStartingNode}
 use Rattle.jh_env.specs.Text.{◌>>=◌, Entry, OfLink, OfNode, keyword_of, nodes_keyword, sections}
 use Rattle.jh_env.specs.TextLaws.{CanStart}
-use Rattle.jh_env.specs.TextWritten.{places, link_part, node_part, life_part, is_zero, link_entry, node_entry, entries_written, link_amounts, node_amount, edn_of_entry, text_of}
+use Rattle.jh_env.specs.TextWritten.{places, link_change, node_change, life_change, is_zero, link_entry, node_entry, entries_written, link_amounts, node_amount, edn_of_entry, text_of}
 use Rattle.jh_laws.proofs.KeyLemmas.{keywords_differ}
 
 -- ---- what each of a list is
@@ -53,7 +53,7 @@ clock_fits (negsuc n) low high = record { sfits = omega (arith, ints, low) }
 abbrev LinkPrints : LinkChange → Type 0
 LinkPrints says = ArePrintable 61 (items_of (link_amounts says))
 
-link_prints : (section : Section) (link : Link) → IsStartingLink link → IfSome (link_part section link) LinkPrints
+link_prints : (section : Section) (link : Link) → IsStartingLink link → IfSome (link_change section link) LinkPrints
 link_prints Section.Cut link starts = elim link.cut as (λ t. IfSome (if t then Some LinkChange.Cut else None) LinkPrints) [ true ↦ tt | false ↦ tt ]
 link_prints Section.Slow link starts =
     elim (nat_lt 0 link.delay) as (λ t. IfSome (if t then Some (LinkChange.Delay (pos link.delay)) else None) LinkPrints) [
@@ -79,12 +79,12 @@ killed_is = refl
 abbrev NodePrints : NodeChange → Type 0
 NodePrints says = IsPrintable 61 (node_amount says)
 
-life_prints : (life : Life) → IfSome (life_part life) NodePrints
+life_prints : (life : Life) → IfSome (life_change life) NodePrints
 life_prints Running = tt
 life_prints Paused = paused_is
 life_prints Killed = killed_is
 
-node_prints : (section : Section) (node : NodeCell) → IsStartingNode node → IfSome (node_part section node) NodePrints
+node_prints : (section : Section) (node : NodeCell) → IsStartingNode node → IfSome (node_change section node) NodePrints
 node_prints Section.Down node starts = life_prints node.process
 node_prints Section.Clock node starts =
     elim (is_zero node.clock) as (λ t. IfSome (if t then None else Some (NodeChange.Clock node.clock)) NodePrints) [
@@ -112,13 +112,13 @@ link_entry_prints env starts section a b =
     if_bound (slice_get env.names a) _ Prints (λ from at_a.
     if_bound (slice_get env.names b) _ Prints (λ to at_b.
     if_bound (link_of env a b) _ Prints (λ link there.
-    then_prints (link_part section link) (OfLink from to) LinkPrints (link_prints section link (starts.links a b link there)) (λ says h. (some_depth, (tt, (tt, h)))))))
+    then_prints (link_change section link) (OfLink from to) LinkPrints (link_prints section link (starts.links a b link there)) (λ says h. (some_depth, (tt, (tt, h)))))))
 
 node_entry_prints : (env : EnvValue) → CanStart env → (section : Section) (a : ℕ) → IfSome (node_entry env section a) Prints
 node_entry_prints env starts section a =
     if_bound (slice_get env.names a) _ Prints (λ name at_a.
     if_bound (node_of env a) _ Prints (λ node there.
-    then_prints (node_part section node) (OfNode name) NodePrints (node_prints section node (starts.nodes a node there)) (λ says h. (some_depth, (tt, (h, tt))))))
+    then_prints (node_change section node) (OfNode name) NodePrints (node_prints section node (starts.nodes a node there)) (λ says h. (some_depth, (tt, (h, tt))))))
 
 links_print : (env : EnvValue) → CanStart env → (section : Section) → AllByRecursion Prints (flat_map (λ a. filter_map (link_entry env section a) (places env)) (places env))
 links_print env starts section =

@@ -11,16 +11,16 @@ use Rattle.jh_edn.specs.Normal.{normal}
 use Rattle.jh_edn.specs.Order.{in_order, is_below}
 use Rattle.jh_edn.specs.Printable.{IsPrintable}
 use Rattle.jh_edn.specs.Spelling.{depth_limit}
-use Rattle.jh_ops.specs.Operation.{Operation}
+use Rattle.jh_ops.specs.Operation.{Operation, is_asked}
 use Rattle.jh_ops.specs.declared.operation.Kind.{Kind}
-use Rattle.jh_check.specs.Asked.{is_asked, values_of}
-use Rattle.jh_check.specs.Distinct.{is_same, is_among, count_of, set_of}
-use Rattle.jh_check.specs.IdsResults.{counted, duplicated, is_duplicate}
+use Rattle.jh_check.specs.Asked.{values_of}
+use Rattle.jh_check.specs.Distinct.{is_same, has_same_value, count_of, set_of}
+use Rattle.jh_check.specs.IdsResults.{counted_ids, duplicated_ids, is_duplicate}
 use Rattle.jh_check.specs.Verdicts.{verdict_of}
 use Rattle.jh_check.specs.declared.verdict.Verdict.TheVariants.{True}
 use Rattle.jh_check.proofs.ListLemmas.{count_by-map}
-use Rattle.jh_check.proofs.OnceLemmas.{same_itself, same_along, count_cons}
-use Rattle.jh_laws.specs.EqualResults.{CanPrintEach, IsOneOf, IsNormalOf, NoTwoEqual, IsGivenTimes, IsRepeated, values_held}
+use Rattle.jh_check.proofs.DistinctLemmas.{same_itself, same_along, count_cons}
+use Rattle.jh_laws.specs.EqualResults.{CanPrintEach, IsOneOf, IsNormalOf, AreUnequal, IsGivenTimes, IsRepeated, values_held}
 use Rattle.jh_laws.proofs.MemberLemmas.{Member, member_from, member_to, empty_none, none_empty, filter_from, filter_to, map_from, map_to, any_from, any_to, order_from, order_to, once_from, once_to}
 
 pub true_verdict : (b : Bool) → verdict_of b ≡ True → b ≡ true
@@ -114,15 +114,15 @@ normals_show ys = record { from = λ v h. map_from normal v ys h; to = λ y h. m
 -- what is kept of them is the normal forms of those that are kept
 pub kept_show : (zs xs : List Edn) → Shows zs xs → (p : Edn → Bool) (P : Edn → Type 0)
     → ((x : Edn) → Member x xs → ((p (normal x) ≡ true) ↔ P x)) → (v : Edn) → (Contains (filter p zs) v ↔ IsNormalOf xs P v)
-kept_show zs xs shows p P each v = (found, told) where
+kept_show zs xs shows p P each v = (found, parsed) where
   found : Contains (filter p zs) v → IsNormalOf xs P v
   found h =
       let kept = filter_from p v zs (member_from (filter p zs) v h) in
       let of = shows.from v kept.0 in
       (of.0, member_to xs of.0 of.1, (each of.0 of.1).0 (ap p of.2 ∙ kept.1), sym of.2)
 
-  told : IsNormalOf xs P v → Contains (filter p zs) v
-  told h =
+  parsed : IsNormalOf xs P v → Contains (filter p zs) v
+  parsed h =
       let here = member_from xs h.0 h.1 in
       let kept = filter_to p (normal h.0) zs (shows.to h.0 here) ((each h.0 here).1 h.2) in
       member_to (filter p zs) v (subst (λ w. Member w (filter p zs)) (sym h.3) kept)
@@ -147,41 +147,41 @@ module _ (equal : EqualLaw) (one : OneLaw) where
   -- ---- equal to one of the values
 
   module _ (zs ys : List Edn) (shows : Shows zs ys) (printable : CanPrintEach ys) (x : Edn) (p : IsPrintable depth_limit x) where
-    among_one : is_among zs (normal x) ≡ true → IsOneOf ys x
+    among_one : has_same_value zs (normal x) ≡ true → IsOneOf ys x
     among_one h =
         let there = any_from (is_same (normal x)) zs h in
         let of = shows.from there.0 there.1 in
         let at = member_to ys of.0 of.1 in
         (at.0, of.0, at.1, at.2, equal x of.0 (subst (λ w. is_same (normal x) w ≡ true) (sym of.2) there.2))
 
-    one_among : IsOneOf ys x → is_among zs (normal x) ≡ true
+    one_among : IsOneOf ys x → has_same_value zs (normal x) ≡ true
     one_among h =
         let y = h.1 in
         let there : Contains ys y = (h.0, h.2, h.3) in
         let alike = same x y p (All-contains (IsPrintable depth_limit) ys y printable there) h.4 in
         any_to (is_same (normal x)) (normal y) zs (shows.to y (member_from ys y there)) alike
 
-    pub among_is_one : (is_among zs (normal x) ≡ true) ↔ IsOneOf ys x
+    pub among_is_one : (has_same_value zs (normal x) ≡ true) ↔ IsOneOf ys x
     among_is_one = (among_one, one_among)
 
-    pub else_is_none : (not (is_among zs (normal x)) ≡ true) ↔ (IsOneOf ys x → ⊥)
+    pub else_is_none : (not (has_same_value zs (normal x)) ≡ true) ↔ (IsOneOf ys x → ⊥)
     else_is_none = (none, other) where
-      none : not (is_among zs (normal x)) ≡ true → IsOneOf ys x → ⊥
+      none : not (has_same_value zs (normal x)) ≡ true → IsOneOf ys x → ⊥
       none h one = true≢false (sym h ∙ ap not (one_among one))
 
-      other : (IsOneOf ys x → ⊥) → not (is_among zs (normal x)) ≡ true
+      other : (IsOneOf ys x → ⊥) → not (has_same_value zs (normal x)) ≡ true
       other h =
-          elim (cases_Bool (is_among zs (normal x))) [
+          elim (cases_Bool (has_same_value zs (normal x))) [
             | inl is ↦ absurd (h (among_one is))
-            | inr is ↦ not_from_false (is_among zs (normal x)) is
+            | inr is ↦ not_from_false (has_same_value zs (normal x)) is
           ]
 
     -- where it is not equal to none of them, it is equal to one
     pub one_unless : ((IsOneOf ys x → ⊥) → ⊥) → IsOneOf ys x
     one_unless h =
-        elim (cases_Bool (is_among zs (normal x))) [
+        elim (cases_Bool (has_same_value zs (normal x))) [
           | inl is ↦ among_one is
-          | inr is ↦ absurd (h (else_is_none.0 (not_from_false (is_among zs (normal x)) is)))
+          | inr is ↦ absurd (h (else_is_none.0 (not_from_false (has_same_value zs (normal x)) is)))
         ]
 
   -- ---- how often an id was given
@@ -212,12 +212,12 @@ module _ (equal : EqualLaw) (one : OneLaw) where
         | inr is ↦ (let more = count_no (is_same (normal x)) (normal y) (map normal ys) is in omega (arith, rest, more))
       ]
 
-  -- the ids that are told as duplicated
-  pub duplicates_told : (xs : List Edn) → CanPrintEach xs → (v : Edn) (n : ℕ) → (Contains (duplicated (map normal xs)) (v, n) ↔ IsRepeated xs v n)
-  duplicates_told xs printable v n = (found, told) where
-    found : Contains (duplicated (map normal xs)) (v, n) → IsRepeated xs v n
+  -- the ids that are reported as duplicated
+  pub duplicates_parsed : (xs : List Edn) → CanPrintEach xs → (v : Edn) (n : ℕ) → (Contains (duplicated_ids (map normal xs)) (v, n) ↔ IsRepeated xs v n)
+  duplicates_parsed xs printable v n = (found, parsed) where
+    found : Contains (duplicated_ids (map normal xs)) (v, n) → IsRepeated xs v n
     found h =
-        let kept = filter_from is_duplicate (v, n) (counted (map normal xs)) (member_from (duplicated (map normal xs)) (v, n) h) in
+        let kept = filter_from is_duplicate (v, n) (counted_ids (map normal xs)) (member_from (duplicated_ids (map normal xs)) (v, n) h) in
         let of = map_from (λ id. (id, count_of (map normal xs) id)) (v, n) (set_of (map normal xs)) kept.0 in
         let of_id : of.0 ≡ v = ap (λ (pair : Edn × ℕ). pair.0) of.2 in
         let of_count : count_of (map normal xs) of.0 ≡ n = ap (λ (pair : Edn × ℕ). pair.1) of.2 in
@@ -226,20 +226,20 @@ module _ (equal : EqualLaw) (one : OneLaw) where
         let times = given_times value.0 (All-contains (IsPrintable depth_limit) xs value.0 printable here) xs printable n (sym of_count ∙ ap (count_of (map normal xs)) (sym value.2)) in
         (ltb-true 1 n kept.1, (value.0, here, times, sym of_id ∙ sym value.2))
 
-    told : IsRepeated xs v n → Contains (duplicated (map normal xs)) (v, n)
-    told h =
+    parsed : IsRepeated xs v n → Contains (duplicated_ids (map normal xs)) (v, n)
+    parsed h =
         let x = h.1.0 in
         let times = times_given x (All-contains (IsPrintable depth_limit) xs x printable h.1.1) xs printable n h.1.2 in
         let pair : (normal x, count_of (map normal xs) (normal x)) ≡ (v, n) = λ i. (sym h.1.3 i, sym times i) in
         let there = map_to (λ id. (id, count_of (map normal xs) id)) (normal x) (set_of (map normal xs)) ((set_shows xs printable).to x (member_from xs x h.1.1)) in
-        let member = subst (λ w. Member w (counted (map normal xs))) pair there in
-        member_to (duplicated (map normal xs)) (v, n) (filter_to is_duplicate (v, n) (counted (map normal xs)) member (lt-ltb 1 n h.0))
+        let member = subst (λ w. Member w (counted_ids (map normal xs))) pair there in
+        member_to (duplicated_ids (map normal xs)) (v, n) (filter_to is_duplicate (v, n) (counted_ids (map normal xs)) member (lt-ltb 1 n h.0))
 
   counted_alike : (v : Edn) (xs : List Edn) → count_of (map normal xs) v ≡ count_by (λ x. is_same v (normal x)) xs
   counted_alike v xs = count_by-map (is_same v) normal xs
 
-  -- none is told where no two are equal, and only there
-  pub none_twice : (xs : List Edn) → CanPrintEach xs → (length (duplicated (map normal xs)) == 0) ≡ true → NoTwoEqual xs
+  -- none is reported where no two are equal, and only there
+  pub none_twice : (xs : List Edn) → CanPrintEach xs → (length (duplicated_ids (map normal xs)) == 0) ≡ true → AreUnequal xs
   none_twice xs printable none i j d before less alike =
       let p = printable i d (omega (arith, before, less)) in
       let q = printable j d less in
@@ -248,14 +248,14 @@ module _ (equal : EqualLaw) (one : OneLaw) where
       let n = count_of (map normal xs) (normal x) in
       let many : 1 < n = subst (λ m. 1 < m) (sym (counted_alike (normal x) xs)) more in
       let there : Contains xs x = Contains-get_or xs i d (omega (arith, before, less)) in
-      let told = (duplicates_told xs printable (normal x) n).1 (many, (x, there, given_times x p xs printable n refl, refl)) in
-      empty_none (duplicated (map normal xs)) none (normal x, n) (member_from (duplicated (map normal xs)) (normal x, n) told)
+      let parsed = (duplicates_parsed xs printable (normal x) n).1 (many, (x, there, given_times x p xs printable n refl, refl)) in
+      empty_none (duplicated_ids (map normal xs)) none (normal x, n) (member_from (duplicated_ids (map normal xs)) (normal x, n) parsed)
 
-  pub twice_none : (xs : List Edn) → NoTwoEqual xs → (length (duplicated (map normal xs)) == 0) ≡ true
-  twice_none xs apart = none_empty (duplicated (map normal xs)) none where
-    none : (pair : Edn × ℕ) → Member pair (duplicated (map normal xs)) → ⊥
+  pub twice_none : (xs : List Edn) → AreUnequal xs → (length (duplicated_ids (map normal xs)) == 0) ≡ true
+  twice_none xs apart = none_empty (duplicated_ids (map normal xs)) none where
+    none : (pair : Edn × ℕ) → Member pair (duplicated_ids (map normal xs)) → ⊥
     none (v, n) h =
-        let kept = filter_from is_duplicate (v, n) (counted (map normal xs)) h in
+        let kept = filter_from is_duplicate (v, n) (counted_ids (map normal xs)) h in
         let of = map_from (λ id. (id, count_of (map normal xs) id)) (v, n) (set_of (map normal xs)) kept.0 in
         let of_count : count_of (map normal xs) of.0 ≡ n = ap (λ (pair : Edn × ℕ). pair.1) of.2 in
         let many : 1 < count_by (λ x. is_same of.0 (normal x)) xs = subst (λ m. 1 < m) (sym of_count ∙ counted_alike of.0 xs) (ltb-true 1 n kept.1) in

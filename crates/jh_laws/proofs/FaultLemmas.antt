@@ -8,16 +8,16 @@ use Rattle.std.proofs.lemmas.Int.{ints}
 use Rattle.std.proofs.lemmas.List.Elements.{recursion_from_All}
 use Rattle.std.proofs.lemmas.List.Folds.{list_any-append}
 use Rattle.std.proofs.lemmas.Option.{slice_get-get_or}
-use Rattle.jh_edn.specs.Edn.{Edn, vector, items_of, members_of, elements_of}
+use Rattle.jh_edn.specs.Edn.{Edn, vector, items_of, members_of, elements_of, pairs_in}
 use Rattle.jh_edn.specs.Order.{in_order}
-use Rattle.jh_edn.proofs.Facts.{list_of-items_of}
-use Rattle.jh_env.specs.Faults.{FaultValue, AreApart, IsBumpAmount, kept_links, kept_nodes, is_self_link, same_link, same_node, same_bumped}
+use Rattle.jh_edn.proofs.CitedLemmas.{list_of-items_of}
+use Rattle.jh_env.specs.Faults.{FaultValue, AreApart, IsBumpAmount, kept_links, kept_nodes, is_self_link, is_same_link, is_same_node, is_same_bumped}
 use Rattle.jh_env.specs.Faults.{Cut, Slow, Loss, Fix, Pause, Kill, Bump}
 use Rattle.jh_env.specs.FaultWritten.{is_link_before, is_node_before, is_bump_before, fault_in_order, name_text, link_text, links_text, nodes_text, bump_text, bumps_text, text_of_fault}
 use Rattle.jh_env.specs.Names.{AreNodeNames}
-use Rattle.jh_env.specs.Text.{pairs_in}
 use Rattle.jh_env.proofs.TextPlaceLemmas.{place_of-at}
-use Rattle.jh_nemesis.specs.FaultText.{Links, Nodes, Bumps, link_names, node_name, bump_spelled, all_of, links_in, nodes_in, bumps_in, place_of, ends_of, node_of, bump_of, amount_within, is_bump_amount, are_apart_after, are_bumps, links_fault, nodes_fault, parsed_links, parsed_nodes, parsed_bumps}
+use Rattle.jh_env.specs.TextErrors.{place_of}
+use Rattle.jh_nemesis.specs.FaultText.{Links, Nodes, Bumps, link_names, node_name, bump_spelled, all_of, links_in, nodes_in, bumps_in, ends_of, named_node, bump_of, amount_within, is_bump_amount, are_apart_after, are_bumps, links_fault, nodes_fault, parsed_links, parsed_nodes, parsed_bumps}
 use Rattle.jh_nemesis.specs.declared.texts.shapes.OnLinks.{OnLinks}
 use Rattle.jh_nemesis.specs.declared.texts.shapes.OnNodes.{OnNodes}
 use Rattle.jh_laws.specs.StepLines.{IsFaultOn, IsTextOfFault}
@@ -58,7 +58,7 @@ place_again names named a below = place_of-at names a (slice_index_or names a []
 ends_again : (names : List (List ℕ)) → AreNodeNames names → (l : ℕ × ℕ) → (l.0 < length names) × (l.1 < length names) → ends_of names (link_text names l) ≡ Some l
 ends_again names named l below = rw (place_again names named l.0 below.0, place_again names named l.1 below.1) refl
 
-node_again : (names : List (List ℕ)) → AreNodeNames names → (a : ℕ) → a < length names → node_of names (name_text names a) ≡ Some a
+node_again : (names : List (List ℕ)) → AreNodeNames names → (a : ℕ) → a < length names → named_node names (name_text names a) ≡ Some a
 node_again names named a below = place_again names named a below
 
 bump_again : (names : List (List ℕ)) → AreNodeNames names → (b : ℕ × ℤ) → b.0 < length names → bump_of names (bump_text names b) ≡ Some b
@@ -94,8 +94,8 @@ within least most n low high = rw (le-leb least n low, le-leb n most high) refl
 nodes_again : (names : List (List ℕ)) → AreNodeNames names → (effect : OnNodes) (nodes : List ℕ) → AllByRecursion (λ n. n < length names) nodes
     → parsed_nodes names effect (map (name_text names) nodes) ≡ Ok (nodes_fault effect nodes)
 nodes_again names named effect nodes known =
-    let tell = all_known (name_text names) (node_of names) (λ n. n < length names) (node_again names named) nodes known in
-    let again = all_again (name_text names) (node_of names) (λ n. n < length names) (node_again names named) nodes known in
+    let tell = all_known (name_text names) (named_node names) (λ n. n < length names) (node_again names named) nodes known in
+    let again = all_again (name_text names) (named_node names) (λ n. n < length names) (node_again names named) nodes known in
     rw (tell, again) refl
 
 -- ---- bumps
@@ -113,26 +113,26 @@ amounts (b ∷ bs) all = and_from (is_bump_amount b.1) (list_all (λ x. is_bump_
 
 -- no bump before these is the same as one of them
 abbrev Unlike : List (ℕ × ℤ) → List (ℕ × ℤ) → Type 0
-Unlike before bumps = AllByRecursion (λ b. list_any (λ x. same_bumped x b) before ≡ false) bumps
+Unlike before bumps = AllByRecursion (λ b. list_any (λ x. is_same_bumped x b) before ≡ false) bumps
 
-one_more : (before : List (ℕ × ℤ)) (b : ℕ × ℤ) (bs : List (ℕ × ℤ)) → Unlike before bs → AllByRecursion (λ c. same_bumped b c ≡ false) bs → Unlike (before ++ b ∷ []) bs
+one_more : (before : List (ℕ × ℤ)) (b : ℕ × ℤ) (bs : List (ℕ × ℤ)) → Unlike before bs → AllByRecursion (λ c. is_same_bumped b c ≡ false) bs → Unlike (before ++ b ∷ []) bs
 one_more before b [] unlike apart = tt
 one_more before b (c ∷ cs) unlike apart =
-    let last = or_from (same_bumped b c) false apart.0 refl in
-    let all = list_any-append (λ x. same_bumped x c) before (b ∷ []) ∙ or_from (list_any (λ x. same_bumped x c) before) (list_any (λ x. same_bumped x c) (b ∷ [])) unlike.0 last in
+    let last = or_from (is_same_bumped b c) false apart.0 refl in
+    let all = list_any-append (λ x. is_same_bumped x c) before (b ∷ []) ∙ or_from (list_any (λ x. is_same_bumped x c) before) (list_any (λ x. is_same_bumped x c) (b ∷ [])) unlike.0 last in
     (all, one_more before b cs unlike.1 apart.1)
 
-apart_after : (before bumps : List (ℕ × ℤ)) → Unlike before bumps → Apart same_bumped bumps → are_apart_after before bumps ≡ true
+apart_after : (before bumps : List (ℕ × ℤ)) → Unlike before bumps → Apart is_same_bumped bumps → are_apart_after before bumps ≡ true
 apart_after before [] unlike apart = refl
 apart_after before (b ∷ bs) unlike apart =
-    and_from (not (list_any (λ x. same_bumped x b) before)) (are_apart_after (before ++ b ∷ []) bs) (not_from_false (list_any (λ x. same_bumped x b) before) unlike.0)
-    (apart_after (before ++ b ∷ []) bs (one_more before b bs unlike.1 (none_each (same_bumped b) bs apart.0)) apart.1)
+    and_from (not (list_any (λ x. is_same_bumped x b) before)) (are_apart_after (before ++ b ∷ []) bs) (not_from_false (list_any (λ x. is_same_bumped x b) before) unlike.0)
+    (apart_after (before ++ b ∷ []) bs (one_more before b bs unlike.1 (none_each (is_same_bumped b) bs apart.0)) apart.1)
 
 nothing_before : (bumps : List (ℕ × ℤ)) → Unlike [] bumps
 nothing_before [] = tt
 nothing_before (b ∷ bs) = (refl, nothing_before bs)
 
-are_bumps_again : (bumps : List (ℕ × ℤ)) → AllByRecursion (λ b. IsBumpAmount b.1) bumps → Apart same_bumped bumps → are_bumps bumps ≡ true
+are_bumps_again : (bumps : List (ℕ × ℤ)) → AllByRecursion (λ b. IsBumpAmount b.1) bumps → Apart is_same_bumped bumps → are_bumps bumps ≡ true
 are_bumps_again bumps right apart =
     and_from (list_all (λ b. is_bump_amount b.1) bumps) (are_apart_after [] bumps) (amounts bumps right) (apart_after [] bumps (nothing_before bumps) apart)
 
@@ -145,7 +145,7 @@ bumps_again names named bumps known right =
 
 -- ---- any fault
 
-turned : (x y : ℕ × ℤ) → same_bumped x y ≡ same_bumped y x
+turned : (x y : ℕ × ℤ) → is_same_bumped x y ≡ is_same_bumped y x
 turned x y =
     elim (x.0 == y.0) as (λ t. (x.0 == y.0) ≡ t → t ≡ (y.0 == x.0)) [
       | true ↦ λ is. sym (eq-eqb y.0 x.0 (sym (eqb-true x.0 y.0 is)))
@@ -159,14 +159,14 @@ known_bumps count bumps fits = all_in_order is_bump_before (λ b. b.0 < count) b
 pub right_bumps : (bumps : List (ℕ × ℤ)) → All (λ b. IsBumpAmount b.1) bumps → AllByRecursion (λ b. IsBumpAmount b.1) (in_order is_bump_before bumps)
 right_bumps bumps right = all_in_order is_bump_before (λ b. IsBumpAmount b.1) bumps (recursion_from_All (λ b. IsBumpAmount b.1) bumps right)
 
-pub apart_bumps : (bumps : List (ℕ × ℤ)) → AreApart same_bumped bumps → Apart same_bumped (in_order is_bump_before bumps)
-apart_bumps bumps apart = apart_in_order same_bumped turned is_bump_before bumps (apart_behind same_bumped bumps apart)
+pub apart_bumps : (bumps : List (ℕ × ℤ)) → AreApart is_same_bumped bumps → Apart is_same_bumped (in_order is_bump_before bumps)
+apart_bumps bumps apart = apart_in_order is_same_bumped turned is_bump_before bumps (apart_behind is_same_bumped bumps apart)
 
 abbrev pub LinksKept : Type 0
-LinksKept = (links : List (ℕ × ℕ)) → AreApart same_link links → kept_links (in_order is_link_before links) ≡ in_order is_link_before links
+LinksKept = (links : List (ℕ × ℕ)) → AreApart is_same_link links → kept_links (in_order is_link_before links) ≡ in_order is_link_before links
 
 abbrev pub NodesKept : Type 0
-NodesKept = (nodes : List ℕ) → AreApart same_node nodes → kept_nodes (in_order is_node_before nodes) ≡ in_order is_node_before nodes
+NodesKept = (nodes : List ℕ) → AreApart is_same_node nodes → kept_nodes (in_order is_node_before nodes) ≡ in_order is_node_before nodes
 
 module _ (links_kept : LinksKept) (nodes_kept : NodesKept) (names : List (List ℕ)) (named : AreNodeNames names) where
   links_tell : (effect : OnLinks) (links : List (ℕ × ℕ)) (fault : FaultValue) → All (λ l. (l.0 < length names) × (l.1 < length names)) links

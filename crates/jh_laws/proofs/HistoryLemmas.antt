@@ -8,8 +8,8 @@ use Rattle.jh_edn.specs.Printable.{IsPrintable, ArePrintable}
 use Rattle.jh_edn.specs.Spelling.{depth_limit}
 use Rattle.jh_ops.specs.HistoryText.{elements_in, AreParsed}
 use Rattle.jh_ops.specs.Operation.{Operation}
-use Rattle.jh_ops.specs.OperationText.{untagged, parsed_op, kind_of, process_of}
-use Rattle.jh_ops.specs.OperationWritten.{value_written, kind_name, process_value, ReadBack}
+use Rattle.jh_ops.specs.OperationText.{untagged_value, parsed_op, kind_of_value, process_of}
+use Rattle.jh_ops.specs.OperationWritten.{value_written, kind_name, process_value, OperationsReadBack}
 use Rattle.jh_ops.specs.declared.op_text.OpError.{OpError}
 use Rattle.jh_ops.specs.declared.operation.Kind.{Kind}
 use Rattle.jh_ops.specs.declared.operation.Process.{Process}
@@ -17,7 +17,7 @@ use Rattle.jh_laws.specs.HistoryLines.{CanPrint, history_lines}
 use Rattle.jh_laws.specs.Lines.{line_of, lines_of, ReadsBack}
 use Rattle.jh_laws.proofs.DepthLemmas.{deeper}
 use Rattle.jh_laws.proofs.OperationLemmas.{operation_printable, written}
-use Rattle.jh_laws.proofs.ParsedOperationLemmas.{untagged_printable, told_can_print}
+use Rattle.jh_laws.proofs.ParsedOperationLemmas.{untagged_printable, parsed_can_print}
 
 -- ---- the lines
 
@@ -47,21 +47,21 @@ sequence_printable value h = (h, tt)
 
 elements_printable : (values : List Edn) → AllByRecursion (IsPrintable depth_limit) values → AllByRecursion (IsPrintable depth_limit) (elements_in values)
 elements_printable [] h = tt
-elements_printable (value ∷ []) h = sequence_printable (untagged value) (untagged_printable depth_limit value h.0)
+elements_printable (value ∷ []) h = sequence_printable (untagged_value value) (untagged_printable depth_limit value h.0)
 elements_printable (value ∷ other ∷ values) h = h
 
 each_can_print : (values : List Edn) (history : List Operation) → AllByRecursion (IsPrintable depth_limit) values → map parsed_op values ≡ map Ok history → AllByRecursion CanPrint history
-each_can_print [] [] h told = tt
-each_can_print [] (op ∷ ops) h told = absurd cc
-each_can_print (value ∷ values) [] h told = absurd cc
-each_can_print (value ∷ values) (op ∷ ops) h told =
+each_can_print [] [] h parsed = tt
+each_can_print [] (op ∷ ops) h parsed = absurd cc
+each_can_print (value ∷ values) [] h parsed = absurd cc
+each_can_print (value ∷ values) (op ∷ ops) h parsed =
     let first : parsed_op value ≡ Ok op = cc in
     let others : map parsed_op values ≡ map Ok ops = cc in
-    (told_can_print value op h.0 first, each_can_print values ops h.1 others)
+    (parsed_can_print value op h.0 first, each_can_print values ops h.1 others)
 
-pub told_histories_print : (values : List Edn) (history : List Operation) → All (IsPrintable depth_limit) values → AreParsed values history → All CanPrint history
-told_histories_print values history h told =
-    All-from_recursion CanPrint history (each_can_print (elements_in values) history (elements_printable values (recursion_from_All (IsPrintable depth_limit) values h)) told)
+pub parsed_histories_print : (values : List Edn) (history : List Operation) → All (IsPrintable depth_limit) values → AreParsed values history → All CanPrint history
+parsed_histories_print values history h parsed =
+    All-from_recursion CanPrint history (each_can_print (elements_in values) history (elements_printable values (recursion_from_All (IsPrintable depth_limit) values h)) parsed)
 
 -- ---- what the values that are written tell
 
@@ -70,23 +70,23 @@ one_by_one [] = refl
 one_by_one (op ∷ []) = refl
 one_by_one (op ∷ other ∷ ops) = refl
 
-each_again : ReadBack → (values : List Edn) (history : List Operation) → map parsed_op values ≡ map Ok history → map parsed_op (map value_written history) ≡ map Ok history
-each_again law [] [] told = refl
-each_again law [] (op ∷ ops) told = absurd cc
-each_again law (value ∷ values) [] told = absurd cc
-each_again law (value ∷ values) (op ∷ ops) told =
+each_again : OperationsReadBack → (values : List Edn) (history : List Operation) → map parsed_op values ≡ map Ok history → map parsed_op (map value_written history) ≡ map Ok history
+each_again law [] [] parsed = refl
+each_again law [] (op ∷ ops) parsed = absurd cc
+each_again law (value ∷ values) [] parsed = absurd cc
+each_again law (value ∷ values) (op ∷ ops) parsed =
     let first : parsed_op value ≡ Ok op = cc in
     let others : map parsed_op values ≡ map Ok ops = cc in
     let here = law value op first in
     let behind = each_again law values ops others in
     λ i. here i ∷ behind i
 
-pub told_again : ReadBack → (values : List Edn) (history : List Operation) → AreParsed values history → AreParsed (map value_written history) history
-told_again law values history told = ap (map parsed_op) (one_by_one history) ∙ each_again law (elements_in values) history told
+pub parsed_again : OperationsReadBack → (values : List Edn) (history : List Operation) → AreParsed values history → AreParsed (map value_written history) history
+parsed_again law values history parsed = ap (map parsed_op) (one_by_one history) ∙ each_again law (elements_in values) history parsed
 
 -- ---- operations without other keys
 
-kind_again : (kind : Kind) → kind_of (keyword (kind_name kind)) ≡ Some kind
+kind_again : (kind : Kind) → kind_of_value (keyword (kind_name kind)) ≡ Some kind
 kind_again Kind.Invoke = refl
 kind_again Kind.Ok = refl
 kind_again Kind.Fail = refl
@@ -115,22 +115,22 @@ each_bare (op ∷ ops) all =
     let behind = each_bare ops all.1 in
     λ i. here i ∷ behind i
 
-pub bare_told : (history : List Operation) → All (λ op. op.rest ≡ []) history → AreParsed (map value_written history) history
-bare_told history all = ap (map parsed_op) (one_by_one history) ∙ each_bare history (recursion_from_All (λ op. op.rest ≡ []) history all)
+pub bare_parsed : (history : List Operation) → All (λ op. op.rest ≡ []) history → AreParsed (map value_written history) history
+bare_parsed history all = ap (map parsed_op) (one_by_one history) ∙ each_bare history (recursion_from_All (λ op. op.rest ≡ []) history all)
 
 -- ---- one history
 
 abbrev oks : List Operation → List (Result Operation OpError)
 oks history = map Ok history
 
-same_told : (history others : List Operation) → oks others ≡ oks history → others ≡ history
-same_told [] [] same = refl
-same_told [] (op ∷ ops) same = absurd cc
-same_told (op ∷ ops) [] same = absurd cc
-same_told (op ∷ ops) (other ∷ others) same =
+same_parsed : (history others : List Operation) → oks others ≡ oks history → others ≡ history
+same_parsed [] [] same = refl
+same_parsed [] (op ∷ ops) same = absurd cc
+same_parsed (op ∷ ops) [] same = absurd cc
+same_parsed (op ∷ ops) (other ∷ others) same =
     let first : other ≡ op = cc in
-    let behind : others ≡ ops = same_told ops others cc in
+    let behind : others ≡ ops = same_parsed ops others cc in
     λ i. first i ∷ behind i
 
 pub one_history : (values : List Edn) (history others : List Operation) → AreParsed values history → AreParsed values others → others ≡ history
-one_history values history others told more = same_told history others (sym more ∙ told)
+one_history values history others parsed more = same_parsed history others (sym more ∙ parsed)

@@ -12,4 +12,4 @@ pub mod ParsedStepLemmas
 pub mod MemberLemmas
 pub mod EqualLemmas
 pub mod FoundLemmas
-pub mod HeldLemmas
+pub mod ReadHistoryLemmas

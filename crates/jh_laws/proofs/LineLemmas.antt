@@ -1,24 +1,24 @@
 -- Printed values, each on a line, spell these values.
 use Rattle.std.proofs.Common.{◌≡◌, ℕ, true, false, List, [], ◌∷◌, ◌++◌, codes, refl, sym, ap, subst, append_assoc}
 use Rattle.std.specs.List.{AllByRecursion}
-use Rattle.jh_edn.specs.Bytes.{line_feed, is_space, is_delimiter, is_run}
+use Rattle.jh_edn.specs.Bytes.{line_feed, is_space, is_delimiter, is_token_byte}
 use Rattle.jh_edn.specs.Edn.{Edn, nil, Items, no_items, item, items_of}
 use Rattle.jh_edn.specs.Print.{print}
 use Rattle.jh_edn.specs.Printable.{IsPrintable}
-use Rattle.jh_edn.specs.Spelling.{nothing, white, Elements, depth_limit, whole, SpellsAll}
-use Rattle.jh_edn.proofs.PrintedBack.{form_printed}
+use Rattle.jh_edn.specs.Spelling.{nothing, white, SpellsElements, depth_limit, whole, SpellsAll}
+use Rattle.jh_edn.proofs.PrintedBackLemmas.{form_printed}
 use Rattle.jh_laws.specs.Lines.{lines_of}
 
 feed_is_space : is_space line_feed ≡ true
 unfolding is_space
 feed_is_space = refl
 
-feed_no_run : is_run line_feed ≡ false
-unfolding is_run is_space is_delimiter
+feed_no_run : is_token_byte line_feed ≡ false
+unfolding is_token_byte is_space is_delimiter
 feed_no_run = refl
 
 -- the same is spelled behind one more line feed
-behind_feed : (xs : Items) (text rest : List ℕ) → Elements whole xs text rest → Elements whole xs (line_feed ∷ text) rest
+behind_feed : (xs : Items) (text rest : List ℕ) → SpellsElements whole xs text rest → SpellsElements whole xs (line_feed ∷ text) rest
 behind_feed no_items text rest h = white line_feed text refl feed_is_space h
 behind_feed (item x xs) text rest h = (h.0, (h.1.0, white line_feed text refl feed_is_space h.1.1, h.1.2), h.2)
 

@@ -5,8 +5,8 @@ use Rattle.std.specs.List.{filter, list_any}
 use Rattle.std.proofs.lemmas.Bool.{or_cases, or_left, or_right, not_from_false, eqb-true}
 use Rattle.jh_edn.specs.Edn.{Edn}
 use Rattle.jh_edn.specs.Order.{in_order, put_in_order}
-use Rattle.jh_check.specs.Distinct.{is_same, once}
-use Rattle.jh_check.proofs.OnceLemmas.{same_itself, same_back, same_along}
+use Rattle.jh_check.specs.Distinct.{is_same, distinct_values}
+use Rattle.jh_check.proofs.DistinctLemmas.{same_itself, same_back, same_along}
 
 abbrev pub Member : {X : Type 0} → X → List X → Type 0
 Member x [] = ⊥
@@ -120,19 +120,19 @@ order_to lt x (y ∷ ys) (inr behind) = put_to lt x y (in_order lt ys) (inr (ord
 
 -- ---- each once
 
-pub once_from : (x : Edn) (xs : List Edn) → Member x (once xs) → Member x xs
+pub once_from : (x : Edn) (xs : List Edn) → Member x (distinct_values xs) → Member x xs
 once_from x [] h = h
 once_from x (y ∷ ys) (inl same) = inl same
-once_from x (y ∷ ys) (inr behind) = inr (once_from x ys (filter_from (λ z. not (is_same y z)) x (once ys) behind).0)
+once_from x (y ∷ ys) (inr behind) = inr (once_from x ys (filter_from (λ z. not (is_same y z)) x (distinct_values ys) behind).0)
 
-pub once_to : (x : Edn) (xs : List Edn) → Member x xs → (y : Edn) × Member y (once xs) × (is_same x y ≡ true)
+pub once_to : (x : Edn) (xs : List Edn) → Member x xs → (y : Edn) × Member y (distinct_values xs) × (is_same x y ≡ true)
 once_to x [] h = absurd h
 once_to x (y ∷ ys) (inl same) = (y, inl refl, subst (λ z. is_same z y ≡ true) same (same_itself y))
 once_to x (y ∷ ys) (inr behind) =
     let rest = once_to x ys behind in
-    elim (is_same x y) as (λ b. is_same x y ≡ b → (z : Edn) × Member z (once (y ∷ ys)) × (is_same x z ≡ true)) [
+    elim (is_same x y) as (λ b. is_same x y ≡ b → (z : Edn) × Member z (distinct_values (y ∷ ys)) × (is_same x z ≡ true)) [
       | true ↦ λ is. (y, inl refl, is)
       | false ↦ λ is.
           let other : is_same y rest.0 ≡ false = same_back y rest.0 ∙ sym (same_along x rest.0 y rest.2) ∙ is in
-          (rest.0, inr (filter_to (λ z. not (is_same y z)) rest.0 (once ys) rest.1 (not_from_false (is_same y rest.0) other)), rest.2)
+          (rest.0, inr (filter_to (λ z. not (is_same y z)) rest.0 (distinct_values ys) rest.1 (not_from_false (is_same y rest.0) other)), rest.2)
     ] refl

@@ -6,10 +6,10 @@ use Rattle.std.specs.List.{AllByRecursion}
 use Rattle.jh_edn.specs.Bytes.{is_first, is_symbol, is_digit}
 use Rattle.jh_edn.specs.Edn.{Edn, keyword, members_of}
 use Rattle.jh_edn.specs.Equality.{IsNew, keys_of, KeysDiffer}
-use Rattle.jh_edn.specs.Printable.{IsPrintable, PairsPrintable}
+use Rattle.jh_edn.specs.Printable.{IsPrintable, ArePrintablePairs}
 use Rattle.jh_edn.specs.Spelling.{depth_limit, is_name}
 use Rattle.jh_ops.specs.Operation.{Operation}
-use Rattle.jh_ops.specs.OperationWritten.{IsWritable, kind_name, process_value, integer_part, four_parts, pairs_written, value_written}
+use Rattle.jh_ops.specs.OperationWritten.{IsWritable, kind_name, process_value, integer_pairs, four_pairs, pairs_written, value_written}
 use Rattle.jh_ops.specs.declared.operation.Kind.{Kind}
 use Rattle.jh_ops.specs.declared.operation.Process.{Process}
 use Rattle.jh_laws.specs.HistoryLines.{CanPrint}
@@ -52,11 +52,11 @@ kind_is Kind.Ok = refl
 kind_is Kind.Fail = refl
 kind_is Kind.Info = refl
 
-pairs_joined : (d : ℕ) (xs ys : List (Edn × Edn)) → PairsPrintable d (members_of xs) → PairsPrintable d (members_of ys) → PairsPrintable d (members_of (xs ++ ys))
+pairs_joined : (d : ℕ) (xs ys : List (Edn × Edn)) → ArePrintablePairs d (members_of xs) → ArePrintablePairs d (members_of ys) → ArePrintablePairs d (members_of (xs ++ ys))
 pairs_joined d [] ys h k = k
 pairs_joined d (x ∷ xs) ys h k = (h.0, h.1, pairs_joined d xs ys h.2 k)
 
-integer_printable : (d : ℕ) (name : List ℕ) (o : Option ℤ) → is_name name ≡ true → IfSome o (FitsSigned w64) → PairsPrintable d (members_of (integer_part name o))
+integer_printable : (d : ℕ) (name : List ℕ) (o : Option ℤ) → is_name name ≡ true → IfSome o (FitsSigned w64) → ArePrintablePairs d (members_of (integer_pairs name o))
 integer_printable d name None named h = tt
 integer_printable d name (Some z) named h = (named, h, tt)
 
@@ -69,11 +69,11 @@ some_depth = omega arith
 
 pub operation_printable : (op : Operation) → CanPrint op → IsPrintable depth_limit (value_written op)
 operation_printable op h =
-    let four : PairsPrintable 63 (members_of (four_parts op)) =
+    let four : ArePrintablePairs 63 (members_of (four_pairs op)) =
     (type_is, kind_is op.kind, (process_is, process_printable 63 op.process h.process, (f_is, h.f, (value_is, h.value, tt)))) in
-    let last = pairs_joined 63 (four_parts op) op.rest four h.rest in
-    let timed = pairs_joined 63 (integer_part (codes "time") op.time) (four_parts op ++ op.rest) (integer_printable 63 (codes "time") op.time time_is h.time) last in
-    let all = pairs_joined 63 (integer_part (codes "index") op.index) (integer_part (codes "time") op.time ++ (four_parts op ++ op.rest)) (integer_printable 63 (codes "index") op.index index_is h.index) timed in
+    let last = pairs_joined 63 (four_pairs op) op.rest four h.rest in
+    let timed = pairs_joined 63 (integer_pairs (codes "time") op.time) (four_pairs op ++ op.rest) (integer_printable 63 (codes "time") op.time time_is h.time) last in
+    let all = pairs_joined 63 (integer_pairs (codes "index") op.index) (integer_pairs (codes "time") op.time ++ (four_pairs op ++ op.rest)) (integer_printable 63 (codes "index") op.index index_is h.index) timed in
     (some_depth, all, h.keys)
 
 -- ---- which keys differ

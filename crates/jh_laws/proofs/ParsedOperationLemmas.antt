@@ -5,12 +5,12 @@ use Rattle.std.specs.Int.{w64}
 use Rattle.std.specs.Str.{bytes_eq}
 use Rattle.std.proofs.lemmas.Bool.{and_parts, true≢false}
 use Rattle.std.proofs.lemmas.Slice.Eq.{bytes_eq-Decides}
-use Rattle.jh_edn.specs.Edn.{Edn, nil, boolean, int, char, str, keyword, symbol, list, vector, mapping, set, tagged, Members, no_members, member, members_of}
+use Rattle.jh_edn.specs.Edn.{Edn, nil, boolean, int, char, str, keyword, symbol, list, vector, mapping, set, tagged, Members, no_members, member, members_of, is_keyword, is_integer, integer_of, pairs_in, value_under}
 use Rattle.jh_edn.specs.Equality.{IsNew, keys_of, KeysDiffer}
-use Rattle.jh_edn.specs.Printable.{IsPrintable, PairsPrintable}
+use Rattle.jh_edn.specs.Printable.{IsPrintable, ArePrintablePairs}
 use Rattle.jh_edn.specs.Spelling.{depth_limit}
 use Rattle.jh_ops.specs.Operation.{Operation}
-use Rattle.jh_ops.specs.OperationText.{untagged, pairs_in, map_pairs, is_keyword, is_integer, integer_of, value_under, is_integer_under, integer_under, is_other, process_of, needed, kind_in, f_in, process_in, ◌>>=◌, op_of_parts, op_of_pairs, parsed_op}
+use Rattle.jh_ops.specs.OperationText.{untagged_value, map_pairs, is_integer_under, integer_under, is_other, process_of, result_of_needed, kind_in, f_in, process_in, ◌>>=◌, op_of_fields, op_of_pairs, parsed_op}
 use Rattle.jh_ops.specs.OperationWritten.{IsWritable}
 use Rattle.jh_ops.specs.declared.op_text.OpError.{OpError}
 use Rattle.jh_ops.specs.declared.op_text.OpError.TheVariants.{NotMap, MissingF, MissingProcess, BadProcess}
@@ -21,7 +21,7 @@ use Rattle.jh_laws.proofs.OperationLemmas.{four_names, NoneOf, keys_differ}
 
 -- ---- a value without its tags
 
-pub untagged_printable : (d : ℕ) (value : Edn) → IsPrintable d value → IsPrintable d (untagged value)
+pub untagged_printable : (d : ℕ) (value : Edn) → IsPrintable d value → IsPrintable d (untagged_value value)
 untagged_printable d nil h = h
 untagged_printable d (boolean b) h = h
 untagged_printable d (int z) h = h
@@ -33,11 +33,11 @@ untagged_printable d (list xs) h = h
 untagged_printable d (vector xs) h = h
 untagged_printable d (mapping ms) h = h
 untagged_printable d (set xs) h = h
-untagged_printable d (tagged tag x) h = deeper (untagged x) (d - 1) d (omega arith) (untagged_printable (d - 1) x h.2)
+untagged_printable d (tagged tag x) h = deeper (untagged_value x) (d - 1) d (omega arith) (untagged_printable (d - 1) x h.2)
 
 -- the pairs of a printable map
 record AreGood (pairs : List (Edn × Edn)) : Type 0 where
-  pub printable : PairsPrintable 63 (members_of pairs)
+  pub printable : ArePrintablePairs 63 (members_of pairs)
   pub differ : KeysDiffer (members_of pairs)
 
 same_members : (ms : Members) → ms ≡ members_of (pairs_in ms)
@@ -54,7 +54,7 @@ good_pairs (keyword s) h = tt
 good_pairs (symbol s) h = tt
 good_pairs (list xs) h = tt
 good_pairs (vector xs) h = tt
-good_pairs (mapping ms) h = record { printable = subst (PairsPrintable 63) (same_members ms) h.1; differ = subst KeysDiffer (same_members ms) h.2 }
+good_pairs (mapping ms) h = record { printable = subst (ArePrintablePairs 63) (same_members ms) h.1; differ = subst KeysDiffer (same_members ms) h.2 }
 good_pairs (set xs) h = tt
 good_pairs (tagged tag x) h = tt
 
@@ -63,11 +63,11 @@ good_pairs (tagged tag x) h = tt
 abbrev Prints : Edn → Type 0
 Prints = IsPrintable 63
 
-found_prints : (test : Edn × Edn → Bool) (pairs : List (Edn × Edn)) → PairsPrintable 63 (members_of pairs) → IfSome (find test pairs) (λ pair. Prints pair.1)
+found_prints : (test : Edn × Edn → Bool) (pairs : List (Edn × Edn)) → ArePrintablePairs 63 (members_of pairs) → IfSome (find test pairs) (λ pair. Prints pair.1)
 found_prints test [] h = tt
 found_prints test (p ∷ ps) h = elim (test p) as (λ t. IfSome (cond t (Some p) (find test ps)) (λ pair. Prints pair.1)) [ true ↦ h.1 | false ↦ found_prints test ps h.2 ]
 
-under_prints : (name : List ℕ) (pairs : List (Edn × Edn)) → PairsPrintable 63 (members_of pairs) → IfSome (value_under name pairs) Prints
+under_prints : (name : List ℕ) (pairs : List (Edn × Edn)) → ArePrintablePairs 63 (members_of pairs) → IfSome (value_under name pairs) Prints
 under_prints name pairs h =
     elim (find (λ pair. is_keyword name pair.0) pairs) as (λ o. IfSome o (λ pair. Prints pair.1) → IfSome (option_map (λ pair. pair.1) o) Prints) [
       | None ↦ λ found. tt
@@ -88,7 +88,7 @@ integer_fits (mapping ms) h = tt
 integer_fits (set xs) h = tt
 integer_fits (tagged tag x) h = tt
 
-integer_under_fits : (name : List ℕ) (pairs : List (Edn × Edn)) → PairsPrintable 63 (members_of pairs) → IfSome (integer_under name pairs) (FitsSigned w64)
+integer_under_fits : (name : List ℕ) (pairs : List (Edn × Edn)) → ArePrintablePairs 63 (members_of pairs) → IfSome (integer_under name pairs) (FitsSigned w64)
 integer_under_fits name pairs h =
     elim (find (is_integer_under name) pairs)
     as (λ o. IfSome o (λ pair. Prints pair.1) → IfSome (option_and_then (λ pair. integer_of pair.1) o) (FitsSigned w64)) [
@@ -113,10 +113,10 @@ process_writable (tagged tag x) h = tt
 
 -- ---- the others
 
-others_print : (keep : Edn × Edn → Bool) (pairs : List (Edn × Edn)) → PairsPrintable 63 (members_of pairs) → PairsPrintable 63 (members_of (filter keep pairs))
+others_print : (keep : Edn × Edn → Bool) (pairs : List (Edn × Edn)) → ArePrintablePairs 63 (members_of pairs) → ArePrintablePairs 63 (members_of (filter keep pairs))
 others_print keep [] h = tt
 others_print keep (p ∷ ps) h =
-    elim (keep p) as (λ t. PairsPrintable 63 (members_of (cond t (p ∷ filter keep ps) (filter keep ps)))) [
+    elim (keep p) as (λ t. ArePrintablePairs 63 (members_of (cond t (p ∷ filter keep ps) (filter keep ps)))) [
       | true ↦ (h.0, h.1, others_print keep ps h.2)
       | false ↦ others_print keep ps h.2
     ]
@@ -219,54 +219,54 @@ beside name taken pairs differ =
 
 -- ---- the operation
 
-bind_ok : {A B : Type 0} (r : Result A OpError) (told : A → Result B OpError) (y : B) → (r >>= told) ≡ Ok y → (x : A) × (r ≡ Ok x) × (told x ≡ Ok y)
-bind_ok (Ok x) told y e = (x, refl, e)
-bind_ok (Err refusal) told y e = absurd (let clash : Err refusal ≡ Ok y = e in cc)
+bind_ok : {A B : Type 0} (r : Result A OpError) (parsed : A → Result B OpError) (y : B) → (r >>= parsed) ≡ Ok y → (x : A) × (r ≡ Ok x) × (parsed x ≡ Ok y)
+bind_ok (Ok x) parsed y e = (x, refl, e)
+bind_ok (Err refusal) parsed y e = absurd (let clash : Err refusal ≡ Ok y = e in cc)
 
 found_ok : {A : Type 0} (o : Option A) (refusal : OpError) (x : A) → ok_or o refusal ≡ Ok x → o ≡ Some x
 found_ok None refusal x e = absurd (let clash : Err refusal ≡ Ok x = e in cc)
 found_ok (Some y) refusal x e = let same : Ok y ≡ Ok x = e in cc
 
-needed_ok : {A B : Type 0} (o : Option A) (refusal : OpError) (told : A → Result B OpError) (y : B) → needed o refusal told ≡ Ok y → (x : A) × (o ≡ Some x) × (told x ≡ Ok y)
-needed_ok None refusal told y e = absurd (let clash : Err refusal ≡ Ok y = e in cc)
-needed_ok (Some x) refusal told y e = (x, refl, e)
+needed_ok : {A B : Type 0} (o : Option A) (refusal : OpError) (parsed : A → Result B OpError) (y : B) → result_of_needed o refusal parsed ≡ Ok y → (x : A) × (o ≡ Some x) × (parsed x ≡ Ok y)
+needed_ok None refusal parsed y e = absurd (let clash : Err refusal ≡ Ok y = e in cc)
+needed_ok (Some x) refusal parsed y e = (x, refl, e)
 
 at_some : {A : Type 0} (o : Option A) (P : A → Type 0) (x : A) → o ≡ Some x → IfSome o P → P x
 at_some o P x is h = subst (λ w. IfSome w P) is h
 
-process_told : (pairs : List (Edn × Edn)) (process : Process) → PairsPrintable 63 (members_of pairs) → process_in pairs ≡ Ok process → IsWritable process
-process_told pairs process h told =
-    let under = needed_ok (value_under (codes "process") pairs) MissingProcess (λ value. ok_or (process_of value) BadProcess) process told in
+process_parsed : (pairs : List (Edn × Edn)) (process : Process) → ArePrintablePairs 63 (members_of pairs) → process_in pairs ≡ Ok process → IsWritable process
+process_parsed pairs process h parsed =
+    let under = needed_ok (value_under (codes "process") pairs) MissingProcess (λ value. ok_or (process_of value) BadProcess) process parsed in
     let prints = at_some (value_under (codes "process") pairs) Prints under.0 under.1 (under_prints (codes "process") pairs h) in
     at_some (process_of under.0) IsWritable process (found_ok (process_of under.0) BadProcess process under.2) (process_writable under.0 prints)
 
-value_told : (o : Option Edn) → IfSome o Prints → Prints (unwrap_or o nil)
-value_told None h = tt
-value_told (Some value) h = h
+value_is_parsed : (o : Option Edn) → IfSome o Prints → Prints (unwrap_or o nil)
+value_is_parsed None h = tt
+value_is_parsed (Some value) h = h
 
-told_prints : (pairs : List (Edn × Edn)) (op : Operation) → AreGood pairs → op_of_pairs pairs ≡ Ok op → CanPrint op
-told_prints pairs op good told =
-    let kind = bind_ok (kind_in pairs) (λ k. f_in pairs >>= (λ x. process_in pairs >>= (λ p. Ok (op_of_parts k x p pairs)))) op told in
-    let f = bind_ok (f_in pairs) (λ x. process_in pairs >>= (λ p. Ok (op_of_parts kind.0 x p pairs))) op kind.2 in
-    let process = bind_ok (process_in pairs) (λ p. Ok (op_of_parts kind.0 f.0 p pairs)) op f.2 in
-    let same : op_of_parts kind.0 f.0 process.0 pairs ≡ op = cc process.2 in
+parsed_prints : (pairs : List (Edn × Edn)) (op : Operation) → AreGood pairs → op_of_pairs pairs ≡ Ok op → CanPrint op
+parsed_prints pairs op good parsed =
+    let kind = bind_ok (kind_in pairs) (λ k. f_in pairs >>= (λ x. process_in pairs >>= (λ p. Ok (op_of_fields k x p pairs)))) op parsed in
+    let f = bind_ok (f_in pairs) (λ x. process_in pairs >>= (λ p. Ok (op_of_fields kind.0 x p pairs))) op kind.2 in
+    let process = bind_ok (process_in pairs) (λ p. Ok (op_of_fields kind.0 f.0 p pairs)) op f.2 in
+    let same : op_of_fields kind.0 f.0 process.0 pairs ≡ op = cc process.2 in
     let rest = filter is_other pairs in
     let four : NoneOf four_names rest = (
       never_kept (codes "type") (λ value. refl) pairs,
       (never_kept (codes "process") (λ value. refl) pairs, (never_kept (codes "f") (λ value. refl) pairs, (never_kept (codes "value") (λ value. refl) pairs, tt))),
     ) in
     subst CanPrint same (record {
-      process = process_told pairs process.0 good.printable process.1;
+      process = process_parsed pairs process.0 good.printable process.1;
       f = at_some (value_under (codes "f") pairs) Prints f.0 (found_ok (value_under (codes "f") pairs) MissingF f.0 f.1) (under_prints (codes "f") pairs good.printable);
-      value = value_told (value_under (codes "value") pairs) (under_prints (codes "value") pairs good.printable);
+      value = value_is_parsed (value_under (codes "value") pairs) (under_prints (codes "value") pairs good.printable);
       time = integer_under_fits (codes "time") pairs good.printable;
       index = integer_under_fits (codes "index") pairs good.printable;
       rest = others_print is_other pairs good.printable;
-      keys = keys_differ (op_of_parts kind.0 f.0 process.0 pairs) (still_differ is_other pairs good.differ) four (beside (codes "time") (λ value. refl) pairs good.differ)
+      keys = keys_differ (op_of_fields kind.0 f.0 process.0 pairs) (still_differ is_other pairs good.differ) four (beside (codes "time") (λ value. refl) pairs good.differ)
           (beside (codes "index") (λ value. refl) pairs good.differ);
     })
 
-pub told_can_print : (value : Edn) (op : Operation) → IsPrintable depth_limit value → parsed_op value ≡ Ok op → CanPrint op
-told_can_print value op h told =
-    let pairs = needed_ok (map_pairs (untagged value)) NotMap op_of_pairs op told in
-    told_prints pairs.0 op (at_some (map_pairs (untagged value)) AreGood pairs.0 pairs.1 (good_pairs (untagged value) (untagged_printable depth_limit value h))) pairs.2
+pub parsed_can_print : (value : Edn) (op : Operation) → IsPrintable depth_limit value → parsed_op value ≡ Ok op → CanPrint op
+parsed_can_print value op h parsed =
+    let pairs = needed_ok (map_pairs (untagged_value value)) NotMap op_of_pairs op parsed in
+    parsed_prints pairs.0 op (at_some (map_pairs (untagged_value value)) AreGood pairs.0 pairs.1 (good_pairs (untagged_value value) (untagged_printable depth_limit value h))) pairs.2

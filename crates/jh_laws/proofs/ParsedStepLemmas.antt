@@ -10,12 +10,13 @@ use Rattle.std.proofs.lemmas.List.Quantifiers.{position-Some}
 use Rattle.std.proofs.lemmas.Nat.{mod-mul-add}
 use Rattle.std.proofs.lemmas.Option.{slice_get_within, get_or_from_slice_get}
 use Rattle.jh_edn.specs.Edn.{Edn, int, keyword, list, vector, Items, no_items, item, list_of}
-use Rattle.jh_env.specs.Faults.{FaultValue, AreApart, kept_links, is_self_link, same_link, same_node}
+use Rattle.jh_env.specs.Faults.{FaultValue, AreApart, kept_links, is_self_link, is_same_link, is_same_node}
 use Rattle.jh_env.specs.Faults.{Slow, Loss, Fix, Bump}
 use Rattle.jh_env.proofs.FaultLemmas.{kept_apart, kept_all, none_apart}
-use Rattle.jh_nemesis.specs.FaultText.{Spelled, Links, Nodes, Bumps, SplitOne, Grudge, IsRingOverAll, needed, link_names, node_name, bump_spelled, place_of, both, ends_of, node_of, bump_of, amount_within, are_bumps, links_fault, nodes_fault, parsed_links, parsed_nodes, parsed_bumps, cut_of, parsed_split, parsed_named, parsed_fault, spelled}
-use Rattle.jh_nemesis.specs.NamedFaults.{AreLinksAmong, places, links_that, crosses, crosses_halves, crosses_bridge, touches, leaves_majority, is_at, option_is, ring_links, seeded_order}
-use Rattle.jh_nemesis.specs.StepText.{id_of, begun, parsed_begin, parsed_withdraw, parsed_word, step_of_elements, parsed_step, fault_of_begin}
+use Rattle.jh_env.specs.TextErrors.{place_of}
+use Rattle.jh_nemesis.specs.FaultText.{FaultSpelling, Links, Nodes, Bumps, SplitOne, Grudge, IsRingOverAll, result_or_refusal, link_names, node_name, bump_spelled, known_pair, ends_of, named_node, bump_of, amount_within, are_bumps, links_fault, nodes_fault, parsed_links, parsed_nodes, parsed_bumps, cut_of, parsed_split, parsed_named, parsed_fault, fault_spelling}
+use Rattle.jh_nemesis.specs.NamedFaults.{AreLinksAmong, node_places, links_that, crosses, crosses_halves, crosses_bridge, touches, leaves_majority, is_at, is_option_of, ring_links, seeded_order}
+use Rattle.jh_nemesis.specs.StepText.{id_of, begin_of_fault, parsed_begin, parsed_withdraw, parsed_keyword, step_of_elements, parsed_step, fault_of_begin}
 use Rattle.jh_nemesis.specs.declared.steps.Step.{Step}
 use Rattle.jh_nemesis.specs.declared.steps.Step.TheVariants.{Withdraw, WithdrawAll, Undo, Redo}
 use Rattle.jh_nemesis.specs.declared.texts.StepTextError.{StepTextError}
@@ -42,19 +43,19 @@ below_place names name =
 abbrev Joins : ℕ → ℕ × ℕ → Type 0
 Joins n l = (l.0 < n) × (l.1 < n)
 
-both_below : (n : ℕ) (a b : Option ℕ) → IfSome a (λ i. i < n) → IfSome b (λ i. i < n) → IfSome (both a b) (Joins n)
+both_below : (n : ℕ) (a b : Option ℕ) → IfSome a (λ i. i < n) → IfSome b (λ i. i < n) → IfSome (known_pair a b) (Joins n)
 both_below n (Some i) (Some j) h k = (h, k)
 both_below n (Some i) None h k = tt
 both_below n None b h k = tt
 
 ends_below : (names : List (List ℕ)) (value : Edn) → IfSome (ends_of names value) (Joins (length names))
 ends_below names value =
-    elim (link_names value) as (λ o. IfSome (option_and_then (λ l. both (place_of names l.0) (place_of names l.1)) o) (Joins (length names))) [
+    elim (link_names value) as (λ o. IfSome (option_and_then (λ l. known_pair (place_of names l.0) (place_of names l.1)) o) (Joins (length names))) [
       | None ↦ tt
       | Some l ↦ both_below (length names) (place_of names l.0) (place_of names l.1) (below_place names l.0) (below_place names l.1)
     ]
 
-node_below : (names : List (List ℕ)) (value : Edn) → IfSome (node_of names value) (λ n. n < length names)
+node_below : (names : List (List ℕ)) (value : Edn) → IfSome (named_node names value) (λ n. n < length names)
 node_below names value =
     elim (node_name value) as (λ o. IfSome (option_and_then (place_of names) o) (λ n. n < length names)) [
       | None ↦ tt
@@ -75,16 +76,16 @@ bump_below names value =
 -- ---- faults of links
 
 kept_known : (n : ℕ) (links : List (ℕ × ℕ)) → All (Joins n) links → All (Joins n) (kept_links links)
-kept_known n links known = kept_all (Joins n) same_link links [] (All-nil (Joins n)) known
+kept_known n links known = kept_all (Joins n) is_same_link links [] (All-nil (Joins n)) known
 
 kept_others : (links : List (ℕ × ℕ)) → list_any is_self_link links ≡ false → list_any is_self_link (kept_links links) ≡ false
 kept_others links others =
     list_any_none is_self_link (kept_links links)
-    (kept_all (λ l. is_self_link l ≡ false) same_link links [] (All-nil (λ l. is_self_link l ≡ false))
+    (kept_all (λ l. is_self_link l ≡ false) is_same_link links [] (All-nil (λ l. is_self_link l ≡ false))
     (All-from_recursion (λ l. is_self_link l ≡ false) links (none_each is_self_link links others)))
 
-kept_once : (links : List (ℕ × ℕ)) → AreApart same_link (kept_links links)
-kept_once links = kept_apart same_link links [] (none_apart same_link)
+kept_once : (links : List (ℕ × ℕ)) → AreApart is_same_link (kept_links links)
+kept_once links = kept_apart is_same_link links [] (none_apart is_same_link)
 
 amount_is : (least most : ℕ) (z : ℤ) → IfSome (amount_within least most z) (λ n. (least ≤ n) × (n ≤ most))
 amount_is least most (pos n) =
@@ -111,7 +112,7 @@ links_made n (OnLinks.Fix z) links known others =
     (λ ms h. record { fits = kept_known n links known; is_fault = (h.1, kept_once links); others = kept_others links others })
 
 if_needed : {A B : Type 0} (o : Option A) (refusal : StepTextError) (made : A → Result B StepTextError) (P : A → Type 0) (Q : B → Type 0) → IfSome o P
-    → ((x : A) → P x → IfOk (made x) Q) → IfOk (needed o refusal made) Q
+    → ((x : A) → P x → IfOk (made x) Q) → IfOk (result_or_refusal o refusal made) Q
 if_needed None refusal made P Q h each = tt
 if_needed (Some x) refusal made P Q h each = each x h
 
@@ -121,10 +122,10 @@ links_parsed names effect values =
     let ends = filter_map (ends_of names) values in
     let known = All-from_recursion (Joins n) ends (all_kept (ends_of names) (Joins n) (ends_below names) values) in
     elim (list_any (λ l. is_none (ends_of names l)) values)
-    as (λ t. IfOk (if t then Err UnknownNode else if list_any is_self_link ends then Err SelfLink else needed (links_fault effect ends) BadAmount (λ fault. Ok fault)) (IsFaultOn n)) [
+    as (λ t. IfOk (if t then Err UnknownNode else if list_any is_self_link ends then Err SelfLink else result_or_refusal (links_fault effect ends) BadAmount (λ fault. Ok fault)) (IsFaultOn n)) [
       | true ↦ tt
       | false ↦ elim (list_any is_self_link ends)
-          as (λ t. list_any is_self_link ends ≡ t → IfOk (if t then Err SelfLink else needed (links_fault effect ends) BadAmount (λ fault. Ok fault)) (IsFaultOn n)) [
+          as (λ t. list_any is_self_link ends ≡ t → IfOk (if t then Err SelfLink else result_or_refusal (links_fault effect ends) BadAmount (λ fault. Ok fault)) (IsFaultOn n)) [
             | true ↦ λ is. tt
             | false ↦ λ is. if_needed (links_fault effect ends) BadAmount (λ fault. Ok fault) (IsFaultOn n) (IsFaultOn n) (links_made n effect ends known is) (λ fault h. h)
           ] refl
@@ -134,16 +135,16 @@ links_parsed names effect values =
 
 nodes_made : (n : ℕ) (effect : OnNodes) (nodes : List ℕ) → All (λ a. a < n) nodes → IsFaultOn n (nodes_fault effect nodes)
 nodes_made n OnNodes.Pause nodes known =
-    record { fits = kept_all (λ a. a < n) same_node nodes [] (All-nil (λ a. a < n)) known; is_fault = kept_apart same_node nodes [] (none_apart same_node); others = refl }
+    record { fits = kept_all (λ a. a < n) is_same_node nodes [] (All-nil (λ a. a < n)) known; is_fault = kept_apart is_same_node nodes [] (none_apart is_same_node); others = refl }
 nodes_made n OnNodes.Kill nodes known =
-    record { fits = kept_all (λ a. a < n) same_node nodes [] (All-nil (λ a. a < n)) known; is_fault = kept_apart same_node nodes [] (none_apart same_node); others = refl }
+    record { fits = kept_all (λ a. a < n) is_same_node nodes [] (All-nil (λ a. a < n)) known; is_fault = kept_apart is_same_node nodes [] (none_apart is_same_node); others = refl }
 
 nodes_parsed : (names : List (List ℕ)) (effect : OnNodes) (values : List Edn) → IfOk (parsed_nodes names effect values) (IsFaultOn (length names))
 nodes_parsed names effect values =
     let n = length names in
-    let nodes = filter_map (node_of names) values in
-    let known = All-from_recursion (λ a. a < n) nodes (all_kept (node_of names) (λ a. a < n) (node_below names) values) in
-    elim (list_any (λ v. is_none (node_of names v)) values) as (λ t. IfOk (if t then Err UnknownNode else Ok (nodes_fault effect nodes)) (IsFaultOn n)) [
+    let nodes = filter_map (named_node names) values in
+    let known = All-from_recursion (λ a. a < n) nodes (all_kept (named_node names) (λ a. a < n) (node_below names) values) in
+    elim (list_any (λ v. is_none (named_node names v)) values) as (λ t. IfOk (if t then Err UnknownNode else Ok (nodes_fault effect nodes)) (IsFaultOn n)) [
       | true ↦ tt
       | false ↦ nodes_made n effect nodes known
     ]
@@ -188,7 +189,7 @@ bridging n k d within =
 
 at_place : (order : List ℕ) (place node : ℕ) → is_at order place node ≡ true → slice_get order place ≡ Some node
 at_place order place node hit = go (slice_get order place) hit where
-  go : (o : Option ℕ) → option_is node o ≡ true → o ≡ Some node
+  go : (o : Option ℕ) → is_option_of node o ≡ true → o ≡ Some node
   go None hit = absurd cc
   go (Some b) hit = ap Some (eqb-true b node hit)
 
@@ -237,7 +238,7 @@ ringing order n apart k d within =
 named_parsed : (n : ℕ) (named : Named) → IsRingOverAll n (Some (Grudge named)) → IfOk (parsed_named n named) (IsFaultOn n)
 named_parsed n Named.Halves ring = cut_made n (links_that (crosses_halves n) n) (crossing (λ a. nat_lt a (n / 2)) n)
 named_parsed n Named.Bridge ring = cut_made n (links_that (crosses_bridge n) n) (bridging n)
-named_parsed n Named.Ring ring = cut_made n (ring_links (places n) n) (ringing (places n) n (places_apart n))
+named_parsed n Named.Ring ring = cut_made n (ring_links (node_places n) n) (ringing (node_places n) n (places_apart n))
 named_parsed n (Named.ShuffledRing (pos seed)) ring = cut_made n (ring_links (seeded_order seed n) n) (ringing (seeded_order seed n) n (order_distinct n (seeded_order seed n) ring))
 named_parsed n (Named.ShuffledRing (negsuc z)) ring = tt
 
@@ -248,7 +249,7 @@ split_parsed names loner =
 
 -- ---- steps
 
-fault_parsed : (names : List (List ℕ)) (parts : Spelled) → IsRingOverAll (length names) (Some parts) → IfOk (parsed_fault names parts) (IsFaultOn (length names))
+fault_parsed : (names : List (List ℕ)) (parts : FaultSpelling) → IsRingOverAll (length names) (Some parts) → IfOk (parsed_fault names parts) (IsFaultOn (length names))
 fault_parsed names (Links effect links) ring = links_parsed names effect links
 fault_parsed names (Nodes effect nodes) ring = nodes_parsed names effect nodes
 fault_parsed names (Bumps bumps) ring = bumps_parsed names bumps
@@ -263,31 +264,31 @@ id_below (pos n) =
     ] refl
 id_below (negsuc n) = tt
 
-begun_is : (n id : ℕ) (answer : Result FaultValue StepTextError) → id < 2 ^ 32 → IfOk answer (IsFaultOn n) → IfOk (begun id answer) (IsStepOver n)
+begun_is : (n id : ℕ) (answer : Result FaultValue StepTextError) → id < 2 ^ 32 → IfOk answer (IsFaultOn n) → IfOk (begin_of_fault id answer) (IsStepOver n)
 begun_is n id (Ok fault) less h = (less, h)
 begun_is n id (Err refusal) less h = tt
 
-begin_parsed : (names : List (List ℕ)) (z : ℤ) (fault : Edn) → IsRingOverAll (length names) (spelled fault) → IfOk (parsed_begin names z fault) (IsStepOver (length names))
+begin_parsed : (names : List (List ℕ)) (z : ℤ) (fault : Edn) → IsRingOverAll (length names) (fault_spelling fault) → IfOk (parsed_begin names z fault) (IsStepOver (length names))
 begin_parsed names z fault ring =
-    elim (spelled fault)
-    as (λ o. IsRingOverAll (length names) o → IfOk (needed o BadStep (λ parts. needed (id_of z) BadId (λ id. begun id (parsed_fault names parts)))) (IsStepOver (length names))) [
+    elim (fault_spelling fault)
+    as (λ o. IsRingOverAll (length names) o → IfOk (result_or_refusal o BadStep (λ parts. result_or_refusal (id_of z) BadId (λ id. begin_of_fault id (parsed_fault names parts)))) (IsStepOver (length names))) [
       | None ↦ λ h. tt
       | Some parts ↦ λ h.
-          if_needed (id_of z) BadId (λ id. begun id (parsed_fault names parts)) (λ id. id < 2 ^ 32) (IsStepOver (length names)) (id_below z)
+          if_needed (id_of z) BadId (λ id. begin_of_fault id (parsed_fault names parts)) (λ id. id < 2 ^ 32) (IsStepOver (length names)) (id_below z)
           (λ id less. begun_is (length names) id (parsed_fault names parts) less (fault_parsed names parts h))
     ] ring
 
 withdraw_parsed : (n : ℕ) (z : ℤ) → IfOk (parsed_withdraw z) (IsStepOver n)
 withdraw_parsed n z = if_needed (id_of z) BadId (λ id. Ok (Withdraw id)) (λ id. id < 2 ^ 32) (IsStepOver n) (id_below z) (λ id less. less)
 
-word_parsed : (n : ℕ) (word : List ℕ) → IfOk (parsed_word word) (IsStepOver n)
-word_parsed n word =
-    elim (bytes_eq word (codes "withdraw-all"))
-    as (λ t. IfOk (if t then Ok WithdrawAll else if bytes_eq word (codes "undo") then Ok Undo else if bytes_eq word (codes "redo") then Ok Redo else Err BadStep) (IsStepOver n)) [
+keyword_parsed : (n : ℕ) (name : List ℕ) → IfOk (parsed_keyword name) (IsStepOver n)
+keyword_parsed n name =
+    elim (bytes_eq name (codes "withdraw-all"))
+    as (λ t. IfOk (if t then Ok WithdrawAll else if bytes_eq name (codes "undo") then Ok Undo else if bytes_eq name (codes "redo") then Ok Redo else Err BadStep) (IsStepOver n)) [
       | true ↦ tt
-      | false ↦ elim (bytes_eq word (codes "undo")) as (λ t. IfOk (if t then Ok Undo else if bytes_eq word (codes "redo") then Ok Redo else Err BadStep) (IsStepOver n)) [
+      | false ↦ elim (bytes_eq name (codes "undo")) as (λ t. IfOk (if t then Ok Undo else if bytes_eq name (codes "redo") then Ok Redo else Err BadStep) (IsStepOver n)) [
         | true ↦ tt
-        | false ↦ elim (bytes_eq word (codes "redo")) as (λ t. IfOk (if t then Ok Redo else Err BadStep) (IsStepOver n)) [ true ↦ tt | false ↦ tt ]
+        | false ↦ elim (bytes_eq name (codes "redo")) as (λ t. IfOk (if t then Ok Redo else Err BadStep) (IsStepOver n)) [ true ↦ tt | false ↦ tt ]
       ]
     ]
 
@@ -295,21 +296,21 @@ if_chosen : (t : Bool) (answer : Result Step StepTextError) (P : Step → Type 0
 if_chosen true answer P h = h
 if_chosen false answer P h = tt
 
-items_parsed : (names : List (List ℕ)) (xs : Items) → IsRingOverAll (length names) (option_and_then spelled (fault_of_begin (vector xs)))
+items_parsed : (names : List (List ℕ)) (xs : Items) → IsRingOverAll (length names) (option_and_then fault_spelling (fault_of_begin (vector xs)))
     → IfOk (step_of_elements names (list_of xs)) (IsStepOver (length names))
-items_parsed names (item (keyword word) no_items) ring = word_parsed (length names) word
-items_parsed names (item (keyword word) (item (int z) no_items)) ring =
-    if_chosen (bytes_eq word (codes "withdraw")) (parsed_withdraw z) (IsStepOver (length names)) (withdraw_parsed (length names) z)
-items_parsed names (item (keyword word) (item (int z) (item fault no_items))) ring =
-    if_chosen (bytes_eq word (codes "begin")) (parsed_begin names z fault) (IsStepOver (length names)) (begin_parsed names z fault ring)
+items_parsed names (item (keyword name) no_items) ring = keyword_parsed (length names) name
+items_parsed names (item (keyword name) (item (int z) no_items)) ring =
+    if_chosen (bytes_eq name (codes "withdraw")) (parsed_withdraw z) (IsStepOver (length names)) (withdraw_parsed (length names) z)
+items_parsed names (item (keyword name) (item (int z) (item fault no_items))) ring =
+    if_chosen (bytes_eq name (codes "begin")) (parsed_begin names z fault) (IsStepOver (length names)) (begin_parsed names z fault ring)
 items_parsed names xs ring = tt
 
-value_parsed : (names : List (List ℕ)) (value : Edn) → IsRingOverAll (length names) (option_and_then spelled (fault_of_begin value))
+value_parsed : (names : List (List ℕ)) (value : Edn) → IsRingOverAll (length names) (option_and_then fault_spelling (fault_of_begin value))
     → IfOk (parsed_step names value) (IsStepOver (length names))
 value_parsed names (list xs) ring = items_parsed names xs ring
 value_parsed names (vector xs) ring = items_parsed names xs ring
 value_parsed names value ring = tt
 
 pub step_parsed : (names : List (List ℕ)) (value : Edn) (step : Step) → parsed_step names value ≡ Ok step
-    → IsRingOverAll (length names) (option_and_then spelled (fault_of_begin value)) → IsStepOver (length names) step
+    → IsRingOverAll (length names) (option_and_then fault_spelling (fault_of_begin value)) → IsStepOver (length names) step
 step_parsed names value step parsed ring = subst (λ answer. IfOk answer (IsStepOver (length names))) parsed (value_parsed names value ring)

@@ -10,15 +10,15 @@ use Rattle.jh_edn.specs.Bytes.{is_first, is_symbol, is_digit}
 use Rattle.jh_edn.specs.Edn.{Edn, str, items_of, members_of}
 use Rattle.jh_edn.specs.Equality.{IsNew, KeysDiffer, keys_of}
 use Rattle.jh_edn.specs.Order.{in_order}
-use Rattle.jh_edn.specs.Printable.{IsPrintable, ArePrintable, PairsPrintable}
+use Rattle.jh_edn.specs.Printable.{IsPrintable, ArePrintable, ArePrintablePairs}
 use Rattle.jh_edn.specs.Spelling.{depth_limit, is_name}
-use Rattle.jh_env.specs.Faults.{FaultValue, IsBumpAmount, same_bumped}
+use Rattle.jh_env.specs.Faults.{FaultValue, IsBumpAmount, is_same_bumped}
 use Rattle.jh_env.specs.Faults.{Cut, Slow, Loss, Fix, Pause, Kill, Bump}
 use Rattle.jh_env.specs.FaultWritten.{is_link_before, is_node_before, is_bump_before, name_text, link_text, links_text, bump_text, text_of_fault}
 use Rattle.jh_env.specs.Names.{AreNodeNames}
+use Rattle.jh_env.specs.TextErrors.{place_of}
 use Rattle.jh_nemesis.specs.StepText.{parsed_step}
 use Rattle.jh_nemesis.specs.StepWritten.{text_of_step}
-use Rattle.jh_nemesis.specs.FaultText.{place_of}
 use Rattle.jh_nemesis.specs.declared.steps.Step.{Step}
 use Rattle.jh_nemesis.specs.declared.texts.StepTextError.{StepTextError}
 use Rattle.jh_nemesis.specs.declared.steps.Step.TheVariants.{Begin, Withdraw, WithdrawAll, Undo, Redo}
@@ -27,13 +27,13 @@ use Rattle.jh_laws.proofs.DepthLemmas.{deeper}
 use Rattle.jh_laws.proofs.OrderLemmas.{Apart}
 use Rattle.jh_laws.proofs.FaultLemmas.{LinksKept, NodesKept, fault_again, place_again, known_bumps, right_bumps, apart_bumps}
 
--- ---- what is told
+-- ---- what is parsed
 
 pub step_again : LinksKept → NodesKept → (names : List (List ℕ)) → AreNodeNames names → (step : Step) → IsStepOver (length names) step
     → parsed_step names (text_of_step names step) ≡ Ok (step_in_order step)
 step_again links_kept nodes_kept names named (Begin id fault) h =
-    let told = fault_again links_kept nodes_kept names named fault h.1 in
-    rw (told.1, lt-ltb id (2 ^ 32) h.0, told.2) refl
+    let parsed = fault_again links_kept nodes_kept names named fault h.1 in
+    rw (parsed.1, lt-ltb id (2 ^ 32) h.0, parsed.2) refl
 step_again links_kept nodes_kept names named (Withdraw id) h = rw (lt-ltb id (2 ^ 32) h) refl
 step_again links_kept nodes_kept names named WithdrawAll h = refl
 step_again links_kept nodes_kept names named Undo h = refl
@@ -66,7 +66,7 @@ bump_fits (pos n) h = record { sfits = omega (arith, ints, h.2) }
 bump_fits (negsuc n) h = record { sfits = omega (arith, ints, h.1) }
 
 bumps_printable : (names : List (List ℕ)) (bumps : List (ℕ × ℤ)) → AllByRecursion (λ b. IsBumpAmount b.1) bumps
-    → PairsPrintable 1 (members_of (map (bump_text names) bumps))
+    → ArePrintablePairs 1 (members_of (map (bump_text names) bumps))
 bumps_printable names [] right = tt
 bumps_printable names (b ∷ bs) right = (tt, bump_fits b.1 right.0, bumps_printable names bs right.1)
 
@@ -84,15 +84,15 @@ same_place names named a b a_below b_below same =
     ap number_in (sym (place_again names named a a_below) ∙ ap (λ v. place_of names (text_in v)) same ∙ place_again names named b b_below)
 
 bump_new : (names : List (List ℕ)) → AreNodeNames names → (b : ℕ × ℤ) (bumps : List (ℕ × ℤ)) → b.0 < length names → AllByRecursion (λ x. x.0 < length names) bumps
-    → list_any (same_bumped b) bumps ≡ false → IsNew (name_text names b.0) (keys_of (members_of (map (bump_text names) bumps)))
+    → list_any (is_same_bumped b) bumps ≡ false → IsNew (name_text names b.0) (keys_of (members_of (map (bump_text names) bumps)))
 bump_new names named b [] below known none = tt
 bump_new names named b (x ∷ xs) below known none =
-    let parts = or_parts (same_bumped b x) (list_any (same_bumped b) xs) none in (
+    let parts = or_parts (is_same_bumped b x) (list_any (is_same_bumped b) xs) none in (
       λ same. true≢false (sym (eq-eqb b.0 x.0 (same_place names named b.0 x.0 below known.0 (sym same))) ∙ parts.0),
       bump_new names named b xs below known.1 parts.1,
     )
 
-bumps_differ : (names : List (List ℕ)) → AreNodeNames names → (bumps : List (ℕ × ℤ)) → AllByRecursion (λ b. b.0 < length names) bumps → Apart same_bumped bumps
+bumps_differ : (names : List (List ℕ)) → AreNodeNames names → (bumps : List (ℕ × ℤ)) → AllByRecursion (λ b. b.0 < length names) bumps → Apart is_same_bumped bumps
     → KeysDiffer (members_of (map (bump_text names) bumps))
 bumps_differ names named [] known apart = tt
 bumps_differ names named (b ∷ bs) known apart = (bump_new names named b bs known.0 known.1 apart.0, bumps_differ names named bs known.1 apart.1)

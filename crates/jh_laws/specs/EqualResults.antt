@@ -1,20 +1,22 @@
--- What the checkers of unique ids and of sets find (jepsen.checker, `unique-ids` and `set`), told of the values as they
--- stand in a history, and of which of them are equal (EDN's format description, "Equality").
-use Rattle.std.specs.Prelude.{◌≡◌, ◌⊎◌, ◌↔◌, ℕ, suc, ◌<◌, List, [], ◌∷◌, map, filter, codes, Some, All, AllPairs, Any, Contains}
+-- What the checkers of unique ids and of sets find (jepsen.checker, `unique-ids` and `set`), told
+-- of the values as they stand in a history, and of which of them are equal (EDN's format
+-- description, "Equality").
+use Rattle.std.specs.Prelude.{◌≡◌, ◌⊎◌, ◌↔◌, ℕ, suc, ◌<◌, List, [], ◌∷◌, map, filter, codes, Some}
+use Rattle.std.specs.Prelude.{All, AllPairs, Any, Contains}
 use Rattle.jh_edn.specs.Edn.{Edn}
 use Rattle.jh_edn.specs.Equality.{Equals}
 use Rattle.jh_edn.specs.Normal.{normal}
 use Rattle.jh_edn.specs.Printable.{IsPrintable}
 use Rattle.jh_edn.specs.Spelling.{depth_limit}
-use Rattle.jh_ops.specs.Operation.{Operation}
+use Rattle.jh_ops.specs.Operation.{Operation, is_asked}
 use Rattle.jh_ops.specs.declared.operation.Kind.{Kind}
-use Rattle.jh_check.specs.Asked.{is_asked}
 use Rattle.jh_check.specs.SetResults.{elements_read}
 use Rattle.jh_check.specs.declared.set.SetFound.{SetFound}
 
 -- ---- values
 
--- the values of clients' operations of this kind, of the function of this name, in their order and as they stand
+-- the values of clients' operations of this kind, of the function of this name, in their order and
+-- as they stand
 abbrev pub values_held : Kind → List ℕ → List Operation → List Edn
 values_held kind name history = map (λ op. op.value) (filter (is_asked kind name) history)
 
@@ -37,8 +39,8 @@ abbrev pub ids_given : List Operation → List Edn
 ids_given history = values_held Kind.Ok (codes "generate") history
 
 -- no two of them are equal
-abbrev pub NoTwoEqual : List Edn → Type 0
-NoTwoEqual values = AllPairs (λ x y. Equals x y → ⊥) values
+abbrev pub AreUnequal : List Edn → Type 0
+AreUnequal values = AllPairs (λ x y. Equals x y → ⊥) values
 
 -- the id was given so many times: so many of these are equal to it
 abbrev pub IsGivenTimes : List Edn → Edn → ℕ → Type 0
@@ -68,20 +70,24 @@ pub record LastReadShows (history : List Operation) (read : List Edn) : Type 0 w
   pub attempted_printable : CanPrintEach (elements_attempted history)
   pub acknowledged_printable : CanPrintEach (elements_acknowledged history)
 
--- Each element that is known to have been added is equal to one that was read, and each that was read to one that was
--- attempted.
+-- Each element that is known to have been added is equal to one that was read, and each that was
+-- read to one that was attempted.
 abbrev pub IsWholeSet : List Operation → List Edn → Type 0
 IsWholeSet history read =
-    All (IsOneOf read) (elements_acknowledged history) × All (IsOneOf (elements_attempted history)) read
+    All (IsOneOf read) (elements_acknowledged history)
+    × All (IsOneOf (elements_attempted history)) read
 
--- What is found, in normal form.
--- ok: what was read and attempted. unexpected: what was read and never attempted.
--- lost: what is known to have been added and was not read. recovered: what is ok and was not known to have been added.
+-- What is found, in normal form. ok: what was read and attempted. unexpected: what was read and
+-- never attempted. lost: what is known to have been added and was not read. recovered: what is ok
+-- and was not known to have been added.
 pub record IsSetFound (history : List Operation) (read : List Edn) (found : SetFound) : Type 0 where
-  pub ok : (v : Edn) → (Contains found.ok v ↔ IsNormalOf read (IsOneOf (elements_attempted history)) v)
+  pub ok : (v : Edn)
+      → (Contains found.ok v ↔ IsNormalOf read (IsOneOf (elements_attempted history)) v)
   pub unexpected : (v : Edn) → (Contains found.unexpected v
       ↔ IsNormalOf read (λ x. IsOneOf (elements_attempted history) x → ⊥) v)
   pub lost : (v : Edn) → (Contains found.lost v
       ↔ IsNormalOf (elements_acknowledged history) (λ x. IsOneOf read x → ⊥) v)
   pub recovered : (v : Edn) → (Contains found.recovered v
-      ↔ IsNormalOf read (λ x. IsOneOf (elements_attempted history) x × (IsOneOf (elements_acknowledged history) x → ⊥)) v)
+      ↔ IsNormalOf read
+      (λ x. IsOneOf (elements_attempted history) x
+      × (IsOneOf (elements_acknowledged history) x → ⊥)) v)

@@ -15,4 +15,5 @@ lines_of values = flat_map line_of values
 
 -- the bytes spell these values, and whoever reads them as values has these
 abbrev pub ReadsBack : List Edn → List ℕ → Type 0
-ReadsBack values bytes = SpellsAll values bytes × ((others : List Edn) → SpellsAll others bytes → others ≡ values)
+ReadsBack values bytes =
+    SpellsAll values bytes × ((others : List Edn) → SpellsAll others bytes → others ≡ values)

@@ -1,5 +1,5 @@
--- Which faults and steps are written so that they are read back, as what, and what is read of bytes (this project's
--- own).
+-- Which faults and steps are written so that they are read back, as what, and what is read of bytes
+-- (this project's own).
 use Rattle.std.specs.Prelude.{◌≡◌, ℕ, ◌^◌, ◌<◌, false, List, [], ◌∷◌, map, Some, Ok}
 use Rattle.std.specs.List.{list_any}
 use Rattle.jh_edn.specs.Edn.{Edn}
@@ -9,10 +9,11 @@ use Rattle.jh_env.specs.Faults.{FaultValue, FitsCount, IsFault, is_self_link}
 use Rattle.jh_env.specs.Faults.{Cut, Slow, Loss, Fix, Pause, Kill, Bump}
 use Rattle.jh_env.specs.FaultWritten.{fault_in_order}
 use Rattle.jh_env.specs.TextCells.{IsTextOf}
-use Rattle.jh_nemesis.specs.FaultText.{Spelled, spelled, parsed_fault}
+use Rattle.jh_nemesis.specs.FaultText.{FaultSpelling, fault_spelling, parsed_fault}
 use Rattle.jh_nemesis.specs.StepText.{parsed_step}
 use Rattle.jh_nemesis.specs.declared.steps.Step.{Step}
-use Rattle.jh_nemesis.specs.declared.steps.Step.TheVariants.{Begin, Withdraw, WithdrawAll, Undo, Redo}
+use Rattle.jh_nemesis.specs.declared.steps.Step.TheVariants.{Begin, Withdraw, WithdrawAll, Undo}
+use Rattle.jh_nemesis.specs.declared.steps.Step.TheVariants.{Redo}
 
 -- the links of a fault of links
 abbrev pub links_of : FaultValue → List (ℕ × ℕ)
@@ -24,8 +25,8 @@ links_of (Pause nodes) = []
 links_of (Kill nodes) = []
 links_of (Bump bumps) = []
 
--- A fault on so many nodes: its nodes are among them, its amount is in its range, no link, node or bump stands twice,
--- and no link leads from a node to itself.
+-- A fault on so many nodes: its nodes are among them, its amount is in its range, no link, node or
+-- bump stands twice, and no link leads from a node to itself.
 pub record IsFaultOn (count : ℕ) (fault : FaultValue) : Type 0 where
   pub fits : FitsCount count fault
   pub is_fault : IsFault fault
@@ -47,11 +48,13 @@ step_in_order step = step
 -- the value's fault is this one, where these are the names of the nodes
 abbrev pub IsTextOfFault : Edn → List (List ℕ) → FaultValue → Type 0
 IsTextOfFault value names fault =
-    (parts : Spelled) × (spelled value ≡ Some parts) × (parsed_fault names parts ≡ Ok fault)
+    (parts : FaultSpelling) × (fault_spelling value ≡ Some parts)
+    × (parsed_fault names parts ≡ Ok fault)
 
--- The bytes spell a text of an environment of these names and cells, and then these steps over its nodes, as
--- `jeprun env` reads them.
-pub record AreBytesOf (names : List (List ℕ)) (cells : Table) (steps : List Step) (bytes : List ℕ) : Type 0 where
+-- The bytes spell a text of an environment of these names and cells, and then these steps over its
+-- nodes, as `jeprun env` reads them.
+pub record AreBytesOf (names : List (List ℕ)) (cells : Table) (steps : List Step)
+    (bytes : List ℕ) : Type 0 where
   pub first : Edn
   pub others : List Edn
   pub spelled : SpellsAll (first ∷ others) bytes

@@ -7,23 +7,25 @@ ghost use Rattle.jh_edn.specs.Printable.{IsPrintable};
 ghost use Rattle.jh_edn.specs.Spelling.{depth_limit, SpellsAll};
 ghost use Rattle.jh_env.specs.Overlay.{EnvValue, cells_of};
 ghost use Rattle.jh_env.specs.TextCells.{IsTextOf};
-ghost use Rattle.jh_env.specs.TextLaws.{CanStart, SameCells};
+ghost use Rattle.jh_env.specs.TextLaws.{CanStart, AreSameCells};
 ghost use Rattle.jh_env.specs.TextWritten.{text_of};
 ghost use Rattle.jh_laws.specs.Lines.{ReadsBack};
 
 use jh_edn::print_laws;
 use jh_env::environments_read_back;
 
-/// What is written of an environment that can start can be printed, what is printed of it spells it alone, and what
-/// whoever reads these bytes has is a text of that environment's names and cells. So two environments that are printed
-/// alike have the same names and cells.
+/// What is written of an environment that can start can be printed, what is printed of it spells it
+/// alone, and what whoever reads these bytes has is a text of that environment's names and cells.
+/// So two environments that are printed alike have the same names and cells.
 pub fn environment_lines_read_back()
     ensures printable { (env : EnvValue) → CanStart env → IsPrintable depth_limit (text_of env) }
-    ensures spells { (env : EnvValue) → CanStart env → ReadsBack (text_of env ∷ []) (print (text_of env)) }
-    ensures bytes { (env : EnvValue) (value : Edn) → CanStart env → SpellsAll (value ∷ []) (print (text_of env))
-        → IsTextOf value env.names (cells_of env) }
-    ensures one { (env other : EnvValue) → CanStart env → CanStart other → print (text_of env) ≡ print (text_of other)
-        → (other.names ≡ env.names) × SameCells (cells_of env) (cells_of other) }
+    ensures spells { (env : EnvValue) → CanStart env
+        → ReadsBack (text_of env ∷ []) (print (text_of env)) }
+    ensures bytes { (env : EnvValue) (value : Edn) → CanStart env
+        → SpellsAll (value ∷ []) (print (text_of env)) → IsTextOf value env.names (cells_of env) }
+    ensures one { (env other : EnvValue) → CanStart env → CanStart other
+        → print (text_of env) ≡ print (text_of other)
+        → (other.names ≡ env.names) × AreSameCells (cells_of env) (cells_of other) }
 {
     print_laws();
     environments_read_back()

@@ -15,23 +15,26 @@ use crate::lines::lines_read_back;
 use jh_edn::{print_laws, spelled_once};
 use jh_ops::operations_read_back;
 
-/// What is written of an operation that can be printed can be printed, and the lines of a history of such operations
-/// spell their values and nothing else. The operation of a value that can be printed, as any value that was read, can
-/// be printed. And one without other keys has no key twice, and is the operation of what is written of it.
+/// What is written of an operation that can be printed can be printed, and the lines of a history
+/// of such operations spell their values and nothing else. The operation of a value that can be
+/// printed, as any value that was read, can be printed. And one without other keys has no key
+/// twice, and is the operation of what is written of it.
 pub fn operation_lines_read_back()
-    ensures printable { (op : Operation) → CanPrint op → IsPrintable depth_limit (value_written op) }
+    ensures printable { (op : Operation) → CanPrint op
+        → IsPrintable depth_limit (value_written op) }
     ensures lines { (history : List Operation) → All CanPrint history
         → ReadsBack (map value_written history) (history_lines history) }
-    ensures parsed { (value : Edn) (op : Operation) → IsPrintable depth_limit value → parsed_op value ≡ Ok op
-        → CanPrint op }
+    ensures parsed { (value : Edn) (op : Operation) → IsPrintable depth_limit value
+        → parsed_op value ≡ Ok op → CanPrint op }
     ensures bare { (op : Operation) → op.rest ≡ []
         → KeysDiffer (members_of (pairs_written op)) × (parsed_op (value_written op) ≡ Ok op) }
 {
     lines_read_back()
 }
 
-/// A history that was read of bytes is read again of its lines. So is a history of operations that can be printed and
-/// have no other keys, as those that a program makes. And bytes are a text of one history at most.
+/// A history that was read of bytes is read again of its lines. So is a history of operations that
+/// can be printed and have no other keys, as those that a program makes. And bytes are a text of
+/// one history at most.
 pub fn histories_read_back()
     ensures again { (bytes : List ℕ) (history : List Operation) → IsTextOfHistory bytes history
         → IsTextOfHistory (history_lines history) history }

@@ -6,12 +6,12 @@ use Rattle.std.proofs.lemmas.Bool.{cases_lt}
 use Rattle.std.proofs.lemmas.List.{map-append}
 use Rattle.std.proofs.lemmas.List.Elements.{All-head, All-tail, All-push, Contains-append_left, Contains-push}
 use Rattle.jh_ops.specs.Operation.{Operation}
-use Rattle.jh_ops.specs.Pairing.{IsWithin}
+use Rattle.jh_ops.specs.Pairing.{IsPairWithin}
 use Rattle.jh_ops.specs.declared.pairs.Pair.{Pair}
 use Rattle.jh_linear.specs.declared.register.RegOp.{RegOp}
 use Rattle.jh_linear.specs.Order.{EndAfterInvoked}
-use Rattle.jh_linear.specs.Calls.{AreRegOps, IsLeastBad, bad_place, reg_op_of, with_call}
-use Rattle.jh_linear.specs.Checking.{lesser}
+use Rattle.jh_linear.specs.Calls.{AreRegOps, IsLeastBad, bad_place, reg_op_of, op_with_call}
+use Rattle.jh_linear.specs.Checking.{lesser_place}
 
 module _ (history : List Operation) (pairs : List Pair) (pair : Pair) where
   abbrev Above : ℕ → Pair → Type 0
@@ -38,7 +38,7 @@ module _ (history : List Operation) (pairs : List Pair) (pair : Pair) where
       (subst (λ p. Contains (map (bad_place history) pairs ++ bad_place history pair ∷ []) p) is (Contains-push (map (bad_place history) pairs) (bad_place history pair)))
 
   -- one more pair
-  pub least_more : (before bad : Option ℕ) → bad_place history pair ≡ bad → IsLeastBad history pairs before → IsLeastBad history (pairs ++ pair ∷ []) (lesser before bad)
+  pub least_more : (before bad : Option ℕ) → bad_place history pair ≡ bad → IsLeastBad history pairs before → IsLeastBad history (pairs ++ pair ∷ []) (lesser_place before bad)
   least_more None None is h = All-push (λ p. bad_place history p ≡ None) pairs pair h is
   least_more None (Some bad) is h =
       (this (Some bad) is, All-push (Above bad) pairs pair (λ k d lt. none_above bad (get_or pairs k d) (h k d lt)) (here_above bad bad is (omega arith)))
@@ -60,17 +60,17 @@ mapped f None y h = absurd (let bad = h in cc)
 mapped f (Some z) y h = let same : f z ≡ y = cc in (z, same)
 
 -- each operation ends after its invocation, as pairs do
-pub ends_if : (history : List Operation) (count : ℕ) (pairs : List Pair) (calls : List RegOp) → All (IsWithin count) pairs → AreRegOps history pairs calls → EndAfterInvoked calls
+pub ends_if : (history : List Operation) (count : ℕ) (pairs : List Pair) (calls : List RegOp) → All (IsPairWithin count) pairs → AreRegOps history pairs calls → EndAfterInvoked calls
 ends_if history count [] [] within are place end is = absurd (let bad = is in cc)
 ends_if history count [] (c ∷ cs) within are place end is = absurd (let bad = are in cc)
 ends_if history count (p ∷ ps) [] within are place end is = absurd (let bad = are in cc)
 ends_if history count (p ∷ ps) (c ∷ cs) within are zero end is =
     let here : reg_op_of history p ≡ Some c = cc in
-    let told = mapped (with_call history p) _ c here in
-    let inside = All-head (IsWithin count) p ps within in
-    let ended : p.outcome ≡ Some end = ap (λ o. o.ended) told.1 ∙ is in
+    let parsed = mapped (op_with_call history p) _ c here in
+    let inside = All-head (IsPairWithin count) p ps within in
+    let ended : p.outcome ≡ Some end = ap (λ o. o.ended) parsed.1 ∙ is in
     let both = subst (λ o. IfSome o (λ at. (p.invoke < at) × (at < count))) ended inside.outcome in
-    subst (λ n. n < end) (ap (λ o. o.invoked) told.1) both.0
+    subst (λ n. n < end) (ap (λ o. o.invoked) parsed.1) both.0
 ends_if history count (p ∷ ps) (c ∷ cs) within are (suc place) end is =
     let rest : AreRegOps history ps cs = cc in
-    ends_if history count ps cs (All-tail (IsWithin count) p ps within) rest place end is
+    ends_if history count ps cs (All-tail (IsPairWithin count) p ps within) rest place end is

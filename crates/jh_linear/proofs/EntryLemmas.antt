@@ -11,14 +11,14 @@ use Rattle.std.proofs.lemmas.List.Folds.{list_any_none}
 use Rattle.std.proofs.lemmas.List.Elements.{All-nil, All-push, All-map, Contains-append_left, Contains-push}
 use Rattle.std.proofs.lemmas.List.Sorted.{All-permutation, Contains-permutation, IsPermutation-map, IsNonDecreasingBy-from_all_adjacent}
 use Rattle.std.proofs.lemmas.Map.Keys.{IsDistinct-IsPermutation, IsDistinct-from_apart, IsDistinct-push}
-use Rattle.jh_linear.specs.Search.{AreEntries, DoNotFall}
-use Rattle.jh_linear.proofs.SetLemmas.{same_tests, eqb_self}
+use Rattle.jh_linear.specs.Search.{ArePlaceEntries, DoNotFall}
+use Rattle.jh_linear.proofs.PlaceSetLemmas.{same_tests, eqb_self}
 
 flips : (x y : ℕ) → eqb x y ≡ eqb y x
 flips x y = same_tests (eqb x y) (eqb y x) (λ e. subst (λ z. eqb z x ≡ true) (eqb-true x y e) (eqb_self x)) (λ e. subst (λ z. eqb z y ≡ true) (eqb-true y x e) (eqb_self y))
 
 module _ {X : Type 0} (Kept : ℕ → Type 0) (entry : ℕ → X) (place : X → ℕ) where
-  pub entries_none : AreEntries Kept entry place 0 []
+  pub entries_none : ArePlaceEntries Kept entry place 0 []
   entries_none = record {
     each = All-nil (λ x. (place x < 0) × Kept (place x) × (entry (place x) ≡ x));
     all = λ p lt k. absurd (omega arith);
@@ -28,7 +28,7 @@ module _ {X : Type 0} (Kept : ℕ → Type 0) (entry : ℕ → X) (place : X →
   wider : (n : ℕ) (xs : List X) → All (λ x. (place x < n) × Kept (place x) × (entry (place x) ≡ x)) xs → All (λ x. (place x < n + 1) × Kept (place x) × (entry (place x) ≡ x)) xs
   wider n xs h = λ k d lt. let r = h k d lt in (omega (arith, r.0), r.1, r.2)
 
-  pub entries_skip : (n : ℕ) (xs : List X) → (Kept n → ⊥) → AreEntries Kept entry place n xs → AreEntries Kept entry place (n + 1) xs
+  pub entries_skip : (n : ℕ) (xs : List X) → (Kept n → ⊥) → ArePlaceEntries Kept entry place n xs → ArePlaceEntries Kept entry place (n + 1) xs
   entries_skip n xs out e = record {
     each = wider n xs e.each;
     all = λ p lt k. elim (cases_lt p n) as (λ _. Contains xs (entry p)) [
@@ -38,7 +38,7 @@ module _ {X : Type 0} (Kept : ℕ → Type 0) (entry : ℕ → X) (place : X →
     distinct = e.distinct;
   }
 
-  pub entries_push : (n : ℕ) (xs : List X) (x : X) → place x ≡ n → entry n ≡ x → Kept n → AreEntries Kept entry place n xs → AreEntries Kept entry place (n + 1) (xs ++ x ∷ [])
+  pub entries_push : (n : ℕ) (xs : List X) (x : X) → place x ≡ n → entry n ≡ x → Kept n → ArePlaceEntries Kept entry place n xs → ArePlaceEntries Kept entry place (n + 1) (xs ++ x ∷ [])
   entries_push n xs x one is kept e = record {
     each = All-push (λ y. (place y < n + 1) × Kept (place y) × (entry (place y) ≡ y)) xs x (wider n xs e.each) (omega (arith, one), subst Kept (sym one) kept, ap entry one ∙ is);
     all = λ p lt k. elim (cases_lt p n) as (λ _. Contains (xs ++ x ∷ []) (entry p)) [
@@ -50,7 +50,7 @@ module _ {X : Type 0} (Kept : ℕ → Type 0) (entry : ℕ → X) (place : X →
         (list_any_none (eqb (place x)) (map place xs) (All-map (λ q. eqb (place x) q ≡ false) place xs (λ k d lt. ne_eqb _ _ (λ same. let low = e.each k d lt in absurd (omega (arith, low.0, same, one)))))));
   }
 
-  pub entries_moved : (n : ℕ) (xs ys : List X) → IsPermutation xs ys → AreEntries Kept entry place n xs → AreEntries Kept entry place n ys
+  pub entries_moved : (n : ℕ) (xs ys : List X) → IsPermutation xs ys → ArePlaceEntries Kept entry place n xs → ArePlaceEntries Kept entry place n ys
   entries_moved n xs ys moved e = record {
     each = All-permutation (λ x. (place x < n) × Kept (place x) × (entry (place x) ≡ x)) xs ys moved e.each;
     all = λ p lt k. Contains-permutation xs ys (entry p) moved (e.all p lt k);

@@ -4,10 +4,10 @@ use Rattle.std.specs.Prelude.{◌⊎◌, ◌||◌}
 use Rattle.std.proofs.lemmas.Bool.{false≢true, eqb-true}
 use Rattle.jh_linear.specs.declared.register.RegOp.{RegOp}
 use Rattle.jh_linear.specs.Order.{op_at, IsDone, has, Allows}
-use Rattle.jh_linear.specs.Search.{LeavesValue, MayFollow, Follows}
-use Rattle.jh_linear.proofs.SetLemmas.{eqb_self, has_self, has_append, has_kept, has_push_same, has_push_cases, or_left, or_right, or_cases, not_true, false_if, test_cases}
+use Rattle.jh_linear.specs.Search.{LeavesValue, MayComeNext, GoesOnWith}
+use Rattle.jh_linear.proofs.PlaceSetLemmas.{eqb_self, has_self, has_append, has_kept, has_push_same, has_push_cases, or_left, or_right, or_cases, not_true, false_if, test_cases}
 
-pub may_follow_same : (ops : List RegOp) (a b : List ℕ) (p : ℕ) → ((q : ℕ) → has a q ≡ has b q) → MayFollow ops a p → MayFollow ops b p
+pub may_follow_same : (ops : List RegOp) (a b : List ℕ) (p : ℕ) → ((q : ℕ) → has a q ≡ has b q) → MayComeNext ops a p → MayComeNext ops b p
 may_follow_same ops a b p same may = record {
   there = may.there;
   possible = may.possible;
@@ -15,7 +15,7 @@ may_follow_same ops a b p same may = record {
   ready = λ first before. sym (same first) ∙ may.ready first before;
 }
 
-pub follows_same : (ops : List RegOp) (a b order : List ℕ) (value last : Option ℤ) → ((q : ℕ) → has a q ≡ has b q) → Follows ops a value order last → Follows ops b value order last
+pub follows_same : (ops : List RegOp) (a b order : List ℕ) (value last : Option ℤ) → ((q : ℕ) → has a q ≡ has b q) → GoesOnWith ops a value order last → GoesOnWith ops b value order last
 follows_same ops a b [] value last same f = f
 follows_same ops a b (p ∷ order) value last same f =
     (may_follow_same ops a b p same f.0, (f.1.0, f.1.1, follows_same ops (a ++ p ∷ []) (b ++ p ∷ []) order f.1.0 last (has_push_same a b p same) f.1.2))
@@ -48,10 +48,10 @@ are_other front p q out is = not_true _ (subst (λ x. has (front ++ p ∷ []) x 
 module _ (ops : List RegOp) (p : ℕ) (leaves : LeavesValue (op_at ops p).call) where
   abbrev Taken : List ℕ → List ℕ → Option ℤ → Option ℤ → Type 0
   Taken front back value last =
-      (rest : List ℕ) × (suc (length rest) ≡ length back) × Follows ops (front ++ p ∷ []) value rest last
+      (rest : List ℕ) × (suc (length rest) ≡ length back) × GoesOnWith ops (front ++ p ∷ []) value rest last
       × ((q : ℕ) → has back q ≡ true → (p ≡ q) ⊎ (has rest q ≡ true))
 
-  pub taken_out : (front back : List ℕ) (value last : Option ℤ) → has front p ≡ false → has back p ≡ true → Follows ops front value back last → Taken front back value last
+  pub taken_out : (front back : List ℕ) (value last : Option ℤ) → has front p ≡ false → has back p ≡ true → GoesOnWith ops front value back last → Taken front back value last
   taken_out front [] value last fresh h f = absurd (false≢true h)
   taken_out front (x ∷ back) value last fresh h f = elim (test_cases (eqb x p)) as (λ _. Taken front (x ∷ back) value last) [
     | inl e ↦
@@ -59,7 +59,7 @@ module _ (ops : List RegOp) (p : ℕ) (leaves : LeavesValue (op_at ops p).call) 
         let kept : f.1.0 ≡ value = leaves value f.1.0 (subst (λ y. Allows (op_at ops y).call value f.1.0) is f.1.1) in (
           back,
           refl,
-          subst (λ y. Follows ops (front ++ y ∷ []) value back last) is (subst (λ w. Follows ops (front ++ x ∷ []) w back last) kept f.1.2),
+          subst (λ y. GoesOnWith ops (front ++ y ∷ []) value back last) is (subst (λ w. GoesOnWith ops (front ++ x ∷ []) w back last) kept f.1.2),
           λ q k. elim (or_cases (eqb x q) (has back q) k) as (λ _. (p ≡ q) ⊎ (has back q ≡ true)) [ inl s ↦ inl (sym is ∙ eqb-true x q s) | inr s ↦ inr s ],
         )
     | inr ne ↦
@@ -85,7 +85,7 @@ module _ (ops : List RegOp) (p : ℕ) (leaves : LeavesValue (op_at ops p).call) 
   ]
 
 -- an operation that is not among those behind may be placed before them
-pub follows_more : (ops : List RegOp) (p : ℕ) (front back : List ℕ) (value last : Option ℤ) → has back p ≡ false → Follows ops front value back last → Follows ops (front ++ p ∷ []) value back last
+pub follows_more : (ops : List RegOp) (p : ℕ) (front back : List ℕ) (value last : Option ℤ) → has back p ≡ false → GoesOnWith ops front value back last → GoesOnWith ops (front ++ p ∷ []) value back last
 follows_more ops p front [] value last out f = f
 follows_more ops p front (x ∷ back) value last out f =
     let other : p ≡ x → ⊥ = λ is. not_true _ (or_left (eqb x p) (has back p) (subst (λ y. eqb x y ≡ true) (sym is) (eqb_self x))) out in
@@ -101,7 +101,7 @@ follows_more ops p front (x ∷ back) value last out f =
 
 -- What is not known to have happened may be left out in front.
 module _ (ops : List RegOp) (x : ℕ) (not_done : IsDone ops x → ⊥) where
-  pub may_without : (front : List ℕ) (y : ℕ) → MayFollow ops (front ++ x ∷ []) y → MayFollow ops front y
+  pub may_without : (front : List ℕ) (y : ℕ) → MayComeNext ops (front ++ x ∷ []) y → MayComeNext ops front y
   may_without front y may = record {
     there = may.there;
     possible = may.possible;
@@ -112,7 +112,7 @@ module _ (ops : List RegOp) (x : ℕ) (not_done : IsDone ops x → ⊥) where
     ];
   }
 
-  pub follows_less : (front back : List ℕ) (value last : Option ℤ) → Follows ops (front ++ x ∷ []) value back last → Follows ops front value back last
+  pub follows_less : (front back : List ℕ) (value last : Option ℤ) → GoesOnWith ops (front ++ x ∷ []) value back last → GoesOnWith ops front value back last
   follows_less front [] value last f = f
   follows_less front (y ∷ back) value last f = (
     may_without front y f.0,
@@ -127,10 +127,10 @@ module _ (ops : List RegOp) (x : ℕ) (not_done : IsDone ops x → ⊥) where
   module _ (p : ℕ) (calls : (op_at ops x).call ≡ (op_at ops p).call) where
     abbrev Exchanged : List ℕ → List ℕ → Option ℤ → Option ℤ → Type 0
     Exchanged front rest value last =
-        (rest' : List ℕ) × (length rest' ≡ length rest) × Follows ops (front ++ p ∷ []) value rest' last
+        (rest' : List ℕ) × (length rest' ≡ length rest) × GoesOnWith ops (front ++ p ∷ []) value rest' last
         × ((q : ℕ) → IsDone ops q → has rest q ≡ true → has rest' q ≡ true)
 
-    exchanged : (IsDone ops p → ⊥) → (front rest : List ℕ) (value last : Option ℤ) → MayFollow ops front x → has front p ≡ false → has rest p ≡ true → Follows ops (front ++ x ∷ []) value rest last → Exchanged front rest value last
+    exchanged : (IsDone ops p → ⊥) → (front rest : List ℕ) (value last : Option ℤ) → MayComeNext ops front x → has front p ≡ false → has rest p ≡ true → GoesOnWith ops (front ++ x ∷ []) value rest last → Exchanged front rest value last
     exchanged not_p front [] value last may out h f = absurd (false≢true h)
     exchanged not_p front (y ∷ rest) value last may out h f =
         let apart : x ≡ y → ⊥ = are_other front x y f.0.fresh in
@@ -139,7 +139,7 @@ module _ (ops : List RegOp) (x : ℕ) (not_done : IsDone ops x → ⊥) where
               let is : y ≡ p = eqb-true y p e in
               let away : p ≡ x → ⊥ = λ same. apart (sym (is ∙ same)) in
               let allowed = subst (λ c. Allows c value f.1.0) (ap (λ z. (op_at ops z).call) is ∙ sym calls) f.1.1 in
-              let behind = subst (λ z. Follows ops ((front ++ x ∷ []) ++ z ∷ []) f.1.0 rest last) is f.1.2 in (
+              let behind = subst (λ z. GoesOnWith ops ((front ++ x ∷ []) ++ z ∷ []) f.1.0 rest last) is f.1.2 in (
                 x ∷ rest,
                 refl,
                 (
@@ -159,9 +159,9 @@ module _ (ops : List RegOp) (x : ℕ) (not_done : IsDone ops x → ⊥) where
           | inr ne ↦
               let later : has rest p ≡ true = elim (or_cases (eqb y p) (has rest p) h) as (λ _. has rest p ≡ true) [ inl e ↦ absurd (not_true _ e ne) | inr e ↦ e ] in
               let other : y ≡ p → ⊥ = λ is. not_true (eqb y p) (subst (λ z. eqb y z ≡ true) is (eqb_self y)) ne in
-              let on : Follows ops ((front ++ y ∷ []) ++ x ∷ []) f.1.0 rest last = follows_same ops ((front ++ x ∷ []) ++ y ∷ []) ((front ++ y ∷ []) ++ x ∷ []) rest f.1.0 last (has_swapped front x y) f.1.2 in
+              let on : GoesOnWith ops ((front ++ y ∷ []) ++ x ∷ []) f.1.0 rest last = follows_same ops ((front ++ x ∷ []) ++ y ∷ []) ((front ++ y ∷ []) ++ x ∷ []) rest f.1.0 last (has_swapped front x y) f.1.2 in
               let before = may_without front y f.0 in
-              let still : MayFollow ops (front ++ y ∷ []) x = record {
+              let still : MayComeNext ops (front ++ y ∷ []) x = record {
                 there = may.there;
                 possible = may.possible;
                 fresh = not_pushed front y x may.fresh (λ is. apart (sym is));
@@ -187,7 +187,7 @@ module _ (ops : List RegOp) (x : ℕ) (not_done : IsDone ops x → ⊥) where
         ]
 
     -- what comes after one of them may come after the other, with the first in its place where it stands there
-    pub after_twin : (IsDone ops p → ⊥) → (front rest : List ℕ) (value last : Option ℤ) → MayFollow ops front x → has front p ≡ false → Follows ops (front ++ x ∷ []) value rest last → Exchanged front rest value last
+    pub after_twin : (IsDone ops p → ⊥) → (front rest : List ℕ) (value last : Option ℤ) → MayComeNext ops front x → has front p ≡ false → GoesOnWith ops (front ++ x ∷ []) value rest last → Exchanged front rest value last
     after_twin not_p front rest value last may out f = elim (test_cases (has rest p)) as (λ _. Exchanged front rest value last) [
       | inl there ↦ exchanged not_p front rest value last may out there f
       | inr none ↦ (rest, refl, follows_more ops p front rest value last none (follows_less front rest value last f), λ q done k. k)

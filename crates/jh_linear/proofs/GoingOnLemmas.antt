@@ -19,7 +19,7 @@ use Rattle.jh_linear.specs.declared.judge.Progress.TheVariants.{More, Complete a
 use Rattle.jh_linear.specs.declared.walk.WalkEnd.TheVariants.{Several, Stuck, Complete}
 use Rattle.jh_linear.specs.Order.{Allows, has, op_at}
 use Rattle.jh_linear.specs.Reached.{order_at}
-use Rattle.jh_linear.specs.Search.{Adds, AreMoves, AreSame, AreTried, CanReach, EachIsMove, EndsAs, Entered, Grows, GrowsTo, HasGone, IsBegun, IsFurthest, IsGoneOn, IsMadeBy, IsMove, IsMoved, IsProblem, IsThere, IsWhole, LeadsOn, Notes, LeadsTo, Taken, Tried, WasReached, WereTried, call_of, class_at, end_at, invoked_at, next_at, place_of, stage_place, stages_in, unknown_at}
+use Rattle.jh_linear.specs.Search.{Adds, AreMoves, AreSame, AreTried, CanReach, EachIsMove, EndsAs, ComesOfEntering, Grows, GrowsTo, HasGone, IsSearchSoFar, IsFurthest, IsGoneOn, IsMadeBy, IsMove, IsMoved, IsProblem, CanBePlaced, IsWholeOrder, LeadsOn, Notes, LeadsTo, ComesOfTurn, ComesOfMove, WasReached, WereTried, source_call, class_at, end_at, invocation_at, next_at, source_place, stage_place, stages_in, unknown_place}
 use Rattle.jh_linear.proofs.GrowthLemmas.{below, grows_far, grows_none, grows_order, grows_push, grows_trans, known_leads, leads_more, new_leads, stands_copy}
 use Rattle.jh_linear.specs.TurnsInside.{IsWith, awaits, turns_left}
 use Rattle.jh_linear.proofs.LeadLemmas.{one_leads}
@@ -33,22 +33,22 @@ if_ok (Err e) f h = h
 
 -- ---- copies
 
-pub place_same : (problem : Problem) (a b : Config) → AreSame a b → (source : Source) → place_of problem a source ≡ place_of problem b source
+pub place_same : (problem : Problem) (a b : Config) → AreSame a b → (source : Source) → source_place problem a source ≡ source_place problem b source
 place_same problem a b same (Happened i) = ap (λ xs. get_or xs i 0) same.1
-place_same problem a b same (Unknown k) = ap (λ ns. unknown_at problem.history.unknown.items (next_at ns k)) same.2
+place_same problem a b same (Unknown k) = ap (λ ns. unknown_place problem.history.unknown.items (next_at ns k)) same.2
 
-there_same : (problem : Problem) (a b : Config) → AreSame a b → (source : Source) → IsThere problem a source → IsThere problem b source
+there_same : (problem : Problem) (a b : Config) → AreSame a b → (source : Source) → CanBePlaced problem a source → CanBePlaced problem b source
 there_same problem a b same (Happened i) h = subst (λ xs. i < length xs) same.1 h
 there_same problem a b same (Unknown k) h = (
   (h.0.0, subst (λ ns. next_at ns k < (class_at problem.history.classes.items k).upto) same.2 h.0.1),
-  subst (λ s. invoked_at problem.ops.now (place_of problem b (Unknown k)) ≤ end_at problem.ops.now (stage_place problem s)) same.0
-      (subst (λ p. invoked_at problem.ops.now p ≤ end_at problem.ops.now (stage_place problem a.stage)) (place_same problem a b same (Unknown k)) h.1),
+  subst (λ s. invocation_at problem.ops.now (source_place problem b (Unknown k)) ≤ end_at problem.ops.now (stage_place problem s)) same.0
+      (subst (λ p. invocation_at problem.ops.now p ≤ end_at problem.ops.now (stage_place problem a.stage)) (place_same problem a b same (Unknown k)) h.1),
 )
 
 pub move_same : (problem : Problem) (a b : Config) → AreSame a b → (move : Move) → IsMove problem a move → IsMove problem b move
 move_same problem a b same move h = (
   there_same problem a b same move.source h.0,
-  subst (λ v. Allows (call_of problem b move.source) v move.value) same.3
+  subst (λ v. Allows (source_call problem b move.source) v move.value) same.3
       (subst (λ p. Allows (op_at problem.ops.now p).call a.value move.value) (place_same problem a b same move.source) h.1),
 )
 
@@ -68,9 +68,9 @@ longer_with a b some = omega (arith, some, length-append a b)
 
 -- ---- entering a configuration
 
-module _ (problem : Problem) (stood : IsProblem problem) (old new : Search) (begun : IsBegun problem old) (at : ℕ) (low : at < length old.steps.items) (placed : List ℕ) (some : 0 < length placed)
+module _ (problem : Problem) (stood : IsProblem problem) (old new : Search) (begun : IsSearchSoFar problem old) (at : ℕ) (low : at < length old.steps.items) (placed : List ℕ) (some : 0 < length placed)
     (config : Config) (stands : LeadsTo problem (order_at old.steps.items at ++ placed) config) where
-  pub entered_known : Adds old new problem.budget at placed config Known → Entered problem old new at placed config More
+  pub entered_known : Adds old new problem.budget at placed config Known → ComesOfEntering problem old new at placed config More
   entered_known e =
       let cs = old.configs.keys in
       let ss = old.steps.items in
@@ -81,7 +81,7 @@ module _ (problem : Problem) (stood : IsProblem problem) (old new : Search) (beg
             (known_leads problem stood cs ss begun.known config e.4.1 e.4.0 (length order) n (order ++ placed) stands e.4.2 e.4.3 (longer_with order placed some) reach),
       )
 
-  pub entered_new : config.stage < stages_in problem → config.stage ≤ old.furthest.stage → Adds old new problem.budget at placed config New → Entered problem old new at placed config More
+  pub entered_new : config.stage < stages_in problem → config.stage ≤ old.furthest.stage → Adds old new problem.budget at placed config New → ComesOfEntering problem old new at placed config More
   entered_new open'' near e =
       let cs = old.configs.keys in
       let ss = old.steps.items in
@@ -96,7 +96,7 @@ module _ (problem : Problem) (stood : IsProblem problem) (old new : Search) (beg
 
 -- ---- noting how far a configuration came
 
-pub noted : (problem : Problem) (stood : IsProblem problem) (old new : Search) (at : ℕ) (placed : List ℕ) (config : Config) → IsBegun problem old → at < length old.steps.items → LeadsTo problem (order_at old.steps.items at ++ placed) config → config.stage < stages_in problem
+pub noted : (problem : Problem) (stood : IsProblem problem) (old new : Search) (at : ℕ) (placed : List ℕ) (config : Config) → IsSearchSoFar problem old → at < length old.steps.items → LeadsTo problem (order_at old.steps.items at ++ placed) config → config.stage < stages_in problem
     → Notes old new at placed config.stage → GrowsTo problem old new × (config.stage ≤ new.furthest.stage)
 noted problem stood old new at placed config begun low stands open'' notes =
     let cs = old.configs.keys in
@@ -123,7 +123,7 @@ noted problem stood old new at placed config begun low stands open'' notes =
 
 -- ---- one move, and a walk
 
-module _ (problem : Problem) (stood : IsProblem problem) (old : Search) (begun : IsBegun problem old) (at : ℕ) (config : Config) (was : WasReached old at config)
+module _ (problem : Problem) (stood : IsProblem problem) (old : Search) (begun : IsSearchSoFar problem old) (at : ℕ) (config : Config) (was : WasReached old at config)
     (copy : Config) (same : AreSame config copy) (step : Move) (made : Config) (first : List ℕ) (makes : IsMadeBy problem copy [] step made first) (next : Config) (placed : List ℕ) (gone : HasGone problem made first next placed) where
   abbrev order : List ℕ
   order = order_at old.steps.items at
@@ -134,7 +134,7 @@ module _ (problem : Problem) (stood : IsProblem problem) (old : Search) (begun :
   pub stands_here : LeadsTo problem order copy
   stands_here = stands_copy problem order config copy same (stands_copy problem order was.0 config was.2 (begun.known.stands at was.0 was.1))
 
-  place_is : place_of problem config step.source ≡ place_of problem copy step.source
+  place_is : source_place problem config step.source ≡ source_place problem copy step.source
   place_is = place_same problem config copy same step.source
 
   stands_made : LeadsTo problem (order ++ first) made
@@ -146,28 +146,28 @@ module _ (problem : Problem) (stood : IsProblem problem) (old : Search) (begun :
   pub some_placed : 0 < length placed
   some_placed = omega (arith, gone.longer, ap length makes.placed_is)
 
-  pub reach_next : (n : ℕ) → next.stage < n → n ≤ stages_in problem → CanReach problem n (order ++ place_of problem config step.source ∷ []) step.value → CanReach problem n (order ++ placed) next.value
+  pub reach_next : (n : ℕ) → next.stage < n → n ≤ stages_in problem → CanReach problem n (order ++ source_place problem config step.source ∷ []) step.value → CanReach problem n (order ++ placed) next.value
   reach_next n past few reach =
       let here : CanReach problem n (order ++ first) step.value = subst (λ o. CanReach problem n (order ++ o) step.value) (sym makes.placed_is) (subst (λ p. CanReach problem n (order ++ p ∷ []) step.value) place_is reach) in
       gone.carries order stands_made n past few (subst (λ v. CanReach problem n (order ++ first) v) (sym makes.after.value_is) here)
 
-  pub whole : EndsAs problem next placed Complete → IsWhole problem (order ++ placed)
+  pub whole : EndsAs problem next placed Complete → IsWholeOrder problem (order ++ placed)
   whole end = (
     (next.value, stands_next.follows),
     λ q done. let r = stood.history.each_done q done in subst (λ p. has (order ++ placed) p ≡ true) r.2 (stands_next.known.passed r.0 (omega (arith, r.1, end))),
   )
 
-  pub tried_stuck : (new : Search) → EndsAs problem next placed Stuck → Notes old new at placed next.stage → Tried problem old new at config step More
+  pub tried_stuck : (new : Search) → EndsAs problem next placed Stuck → Notes old new at placed next.stage → ComesOfMove problem old new at config step More
   tried_stuck new ends notes =
       let n = noted problem stood old new at placed next begun at_low stands_next ends.0 notes in
       (n.0, λ stages past few reach. absurd (ends.1 order stands_next stages (omega (arith, n.1, past)) few (reach_next stages (omega (arith, n.1, past)) few reach)))
 
-  pub begun_mid : (mid : Search) → EndsAs problem next placed Several → Notes old mid at placed next.stage → IsBegun problem mid × (next.stage ≤ mid.furthest.stage)
+  pub begun_mid : (mid : Search) → EndsAs problem next placed Several → Notes old mid at placed next.stage → IsSearchSoFar problem mid × (next.stage ≤ mid.furthest.stage)
   begun_mid mid ends notes =
       let n = noted problem stood old mid at placed next begun at_low stands_next ends notes in
       (record { known = n.0.known; far = n.0.far; few = n.0.few }, n.1)
 
-  pub tried_several : (mid new : Search) → EndsAs problem next placed Several → Notes old mid at placed next.stage → Entered problem mid new at placed next More → Tried problem old new at config step More
+  pub tried_several : (mid new : Search) → EndsAs problem next placed Several → Notes old mid at placed next.stage → ComesOfEntering problem mid new at placed next More → ComesOfMove problem old new at config step More
   tried_several mid new ends notes entered =
       let n = noted problem stood old mid at placed next begun at_low stands_next ends notes in (
         grows_trans problem stood old.configs.keys old.steps.items old.waiting old.furthest mid.configs.keys mid.steps.items mid.waiting mid.furthest new.configs.keys new.steps.items new.waiting new.furthest n.0 entered.0,
@@ -178,7 +178,7 @@ module _ (problem : Problem) (stood : IsProblem problem) (old : Search) (begun :
             (entered.2 stages (subst (λ (ss : List Step). CanReach problem stages (order_at ss at ++ placed) next.value) (sym notes.steps) there)),
       )
 
-  pub tried_entered : (mid new : Search) → EndsAs problem next placed Several → Notes old mid at placed next.stage → (progress : Progress) → Entered problem mid new at placed next progress → Tried problem old new at config step progress
+  pub tried_entered : (mid new : Search) → EndsAs problem next placed Several → Notes old mid at placed next.stage → (progress : Progress) → ComesOfEntering problem mid new at placed next progress → ComesOfMove problem old new at config step progress
   tried_entered mid new ends notes More entered = tried_several mid new ends notes entered
   tried_entered mid new ends notes (Whole places) entered = absurd entered
   tried_entered mid new ends notes NoRoom entered = entered
@@ -186,12 +186,12 @@ module _ (problem : Problem) (stood : IsProblem problem) (old : Search) (begun :
 -- ---- all moves
 
 -- what led on past the furthest stage still does
-moved_more : (problem : Problem) (stood : IsProblem problem) (old mid new : Search) (at : ℕ) (config : Config) (move : Move) → IsBegun problem mid → GrowsTo problem mid new → IsMoved problem old mid at config move → IsMoved problem old new at config move
+moved_more : (problem : Problem) (stood : IsProblem problem) (old mid new : Search) (at : ℕ) (config : Config) (move : Move) → IsSearchSoFar problem mid → GrowsTo problem mid new → IsMoved problem old mid at config move → IsMoved problem old new at config move
 moved_more problem stood old mid new at config move begun on moved stages past few reach =
     leads_more problem stood mid.configs.keys mid.steps.items mid.waiting mid.furthest new.configs.keys new.steps.items new.waiting new.furthest (length (order_at old.steps.items at)) stages begun.known on
     (moved stages (omega (arith, on.further, past)) few reach)
 
-pub tried_more : (problem : Problem) (stood : IsProblem problem) (old mid new : Search) (at : ℕ) (config : Config) (moves : List Move) (step index : ℕ) (d : Move) → at < length old.steps.items → index ≡ length moves - 1 - step → step < length moves → IsBegun problem mid → GrowsTo problem old mid → GrowsTo problem mid new
+pub tried_more : (problem : Problem) (stood : IsProblem problem) (old mid new : Search) (at : ℕ) (config : Config) (moves : List Move) (step index : ℕ) (d : Move) → at < length old.steps.items → index ≡ length moves - 1 - step → step < length moves → IsSearchSoFar problem mid → GrowsTo problem old mid → GrowsTo problem mid new
     → IsMoved problem mid new at config (get_or moves index d) → AreTried problem old mid at config moves step → AreTried problem old new at config moves (step + 1)
 tried_more problem stood old mid new at config moves step index d low is room begun before on one tried i move high there =
     elim (cases_lt i (length moves - step)) as (λ _. IsMoved problem old new at config move) [
@@ -199,13 +199,13 @@ tried_more problem stood old mid new at config moves step index d low is room be
           let here : i ≡ index = omega (arith, is, high, room, new') in
           let this : get_or moves index d ≡ move = ap (λ k. get_or moves k d) (sym here) ∙ get_or_from_slice_get moves i move d there in
           let moved : IsMoved problem mid new at config move = subst (IsMoved problem mid new at config) this one in
-          subst (λ (o : List ℕ). (stages : ℕ) → new.furthest.stage < stages → stages ≤ stages_in problem → CanReach problem stages (o ++ place_of problem config move.source ∷ []) move.value → LeadsOn problem new.configs.keys new.steps.items (length o) stages)
+          subst (λ (o : List ℕ). (stages : ℕ) → new.furthest.stage < stages → stages ≤ stages_in problem → CanReach problem stages (o ++ source_place problem config move.source ∷ []) move.value → LeadsOn problem new.configs.keys new.steps.items (length o) stages)
           (before.orders at low) moved
       | inr old' ↦ moved_more problem stood old mid new at config move begun on (tried i move (omega (arith, old')) there)
     ]
 
 -- a configuration is gone on from when each of its moves was tried
-pub gone_all : (problem : Problem) (stood : IsProblem problem) (old new : Search) (at : ℕ) (config : Config) (moves : List Move) → IsBegun problem old → WasReached old at config → GrowsTo problem old new → AreMoves problem config moves
+pub gone_all : (problem : Problem) (stood : IsProblem problem) (old new : Search) (at : ℕ) (config : Config) (moves : List Move) → IsSearchSoFar problem old → WasReached old at config → GrowsTo problem old new → AreMoves problem config moves
     → ((i : ℕ) (move : Move) → slice_get moves i ≡ Some move → IsMoved problem old new at config move)
     → (other : Config) → slice_get old.configs.keys at ≡ Some other → IsGoneOn problem new.configs.keys new.steps.items new.furthest.stage (order_at old.steps.items at) other.value
 gone_all problem stood old new at config moves begun was on are tried other is stages past few reach =
@@ -227,7 +227,7 @@ each_taken problem config count moves each i move there = each i move (get_taken
 
 module _ (problem : Problem) (stood : IsProblem problem) (old : Search) (turn : Turn) (config : Config) where
   -- all was tried
-  pub taken_all : (new : Search) (moves : List Move) → IsBegun problem old → WasReached old turn.at config → AreMoves problem config moves → (progress : Progress) → WereTried problem old new turn.at config moves progress → Taken problem old new turn progress
+  pub taken_all : (new : Search) (moves : List Move) → IsSearchSoFar problem old → WasReached old turn.at config → AreMoves problem config moves → (progress : Progress) → WereTried problem old new turn.at config moves progress → ComesOfTurn problem old new turn progress
   taken_all new moves begun was are More tried = record {
     again = [];
     fewer = some_turn turn;
@@ -240,7 +240,7 @@ module _ (problem : Problem) (stood : IsProblem problem) (old : Search) (turn : 
 
   -- some was tried, and the configuration waits for its second turn
   pub taken_first : (later : Turn) (mid new : Search) (moves : List Move) → turn.is_last ≡ false → later.at ≡ turn.at → later.is_last ≡ true → IsWith later old.waiting mid.waiting
-      → mid.configs ≡ old.configs → mid.steps ≡ old.steps → mid.furthest ≡ old.furthest → (progress : Progress) → WereTried problem mid new turn.at config moves progress → Taken problem old new turn progress
+      → mid.configs ≡ old.configs → mid.steps ≡ old.steps → mid.furthest ≡ old.furthest → (progress : Progress) → WereTried problem mid new turn.at config moves progress → ComesOfTurn problem old new turn progress
   taken_first later mid new moves first at last with' e f g More tried =
       let one : turns_left later ≡ 1 = ap (λ b. if b then 1 else 2) last in
       let two : turns_left turn ≡ 2 = ap (λ b. if b then 1 else 2) first in

@@ -13,10 +13,10 @@ use Rattle.jh_linear.specs.declared.queue.Turn.{Turn}
 use Rattle.jh_linear.specs.declared.verdict.Step.{Step}
 use Rattle.jh_linear.specs.Order.{has}
 use Rattle.jh_linear.specs.Reached.{order_at, root}
-use Rattle.jh_linear.specs.Search.{AreSame, CanReach, Follows, Grows, IsAt, IsFurthest, IsProblem, IsSearch, LeadsOn, LeadsTo, AreNext, arrived_by, furthest_order, stage_place, stages_in, without}
+use Rattle.jh_linear.specs.Search.{AreSame, CanReach, GoesOnWith, Grows, IsAt, IsFurthest, IsProblem, IsSearch, LeadsOn, LeadsTo, AreNext, arrivals_by, furthest_order, stage_place, stages_in, places_without}
 use Rattle.jh_linear.specs.TurnsInside.{IsWith, awaits, turns_in, turns_left}
 use Rattle.jh_linear.proofs.TurnLemmas.{awaits_cases, awaits_kept, awaits_own, turns_more}
-use Rattle.jh_linear.proofs.SetLemmas.{has_append, has_without, in_without, not_true, same_tests, true_if}
+use Rattle.jh_linear.proofs.PlaceSetLemmas.{has_append, has_without, in_without, not_true, same_tests, true_if}
 use Rattle.jh_linear.proofs.MoveLemmas.{get_cases, get_kept, get_last}
 use Rattle.jh_linear.proofs.NextLemmas.{same_next, same_unknown}
 use Rattle.jh_linear.proofs.OrderLemmas.{no_more}
@@ -30,7 +30,7 @@ same_flip a b h = (sym h.0, sym h.1, sym h.2, sym h.3)
 -- a copy of a configuration stands for the same orders
 pub stands_copy : (problem : Problem) (order : List ℕ) (a b : Config) → AreSame a b → LeadsTo problem order a → LeadsTo problem order b
 stands_copy problem order a b same stands = record {
-  follows = subst (λ v. Follows problem.ops.now [] problem.initial order v) same.3 stands.follows;
+  follows = subst (λ v. GoesOnWith problem.ops.now [] problem.initial order v) same.3 stands.follows;
   searched = stands.searched;
   known = subst (λ p. IsAt problem.history.arrivals.items problem.history.stages.items order b.stage p) same.1 (subst (λ s. IsAt problem.history.arrivals.items problem.history.stages.items order s a.pending.items) same.0 stands.known);
   used = subst (λ n. AreNext problem.history.unknown.items problem.history.classes.items order n) same.2 stands.used;
@@ -43,7 +43,7 @@ reach_same : (problem : Problem) (n : ℕ) (a b : List ℕ) (v w : Option ℤ) �
 reach_same problem n a b v w places value reach = (
   reach.0,
   reach.1,
-  follows_same problem.ops.now a b reach.0 w reach.1 places (subst (λ x. Follows problem.ops.now a x reach.0 reach.1) value reach.2),
+  follows_same problem.ops.now a b reach.0 w reach.1 places (subst (λ x. GoesOnWith problem.ops.now a x reach.0 reach.1) value reach.2),
   λ k lt. has_append b reach.0 (stage_place problem k) ∙ ap (λ t. t || has reach.0 (stage_place problem k)) (sym (places _)) ∙ sym (has_append a reach.0 (stage_place problem k)) ∙ reach.3 k lt,
 )
 
@@ -58,8 +58,8 @@ module _ (problem : Problem) (stood : IsProblem problem) where
   placed_too : (a b : List ℕ) (x y : Config) → LeadsTo problem a x → LeadsTo problem b y → AreSame x y → y.stage < stages_in problem → (q : ℕ) → has a q ≡ true → has b q ≡ true
   placed_too a b x y ax by same lt q h =
       let also : x.stage < stages_in problem = omega (arith, same.0, lt) in
-      let where' : arrived_by arrivals stages x.stage ≡ arrived_by arrivals stages y.stage = ap (λ k. arrived_by arrivals stages k) same.0 in
-      let pending : without a (arrived_by arrivals stages x.stage) ≡ without b (arrived_by arrivals stages y.stage) = sym (ax.known.pending_is also) ∙ same.1 ∙ by.known.pending_is lt in
+      let where' : arrivals_by arrivals stages x.stage ≡ arrivals_by arrivals stages y.stage = ap (λ k. arrivals_by arrivals stages k) same.0 in
+      let pending : places_without a (arrivals_by arrivals stages x.stage) ≡ places_without b (arrivals_by arrivals stages y.stage) = sym (ax.known.pending_is also) ∙ same.1 ∙ by.known.pending_is lt in
       elim (ax.searched q h) as (λ _. has b q ≡ true) [
         | inl done ↦ true_if _ (λ out.
             let here = subst (λ xs. has xs q ≡ true) where' (ax.known.arrived also q h (stood.history.all q done)) in
@@ -88,8 +88,8 @@ module _ (problem : Problem) (stood : IsProblem problem) where
       ] in (
         one,
         ax.known.pending_is xl
-            ∙ filter_agree (λ p. not (has a p)) (λ p. not (has b p)) (λ p. ap not (same p)) (arrived_by arrivals stages x.stage)
-            ∙ ap (λ k. without b (arrived_by arrivals stages k)) one
+            ∙ filter_agree (λ p. not (has a p)) (λ p. not (has b p)) (λ p. ap not (same p)) (arrivals_by arrivals stages x.stage)
+            ∙ ap (λ k. places_without b (arrivals_by arrivals stages k)) one
             ∙ sym (by.known.pending_is yl),
         same_next problem.ops.now problem.history.unknown.items problem.history.classes.items stood.classes a b x.next.items y.next.items ax.used by.used same,
         value,
@@ -166,7 +166,7 @@ module _ (problem : Problem) (stood : IsProblem problem) where
           named = omega (arith, far.named, length_push ss step);
           open' = far.open';
           value = far.value;
-          follows = subst (λ o. Follows problem.ops.now [] problem.initial o far.value) (sym same) far.follows;
+          follows = subst (λ o. GoesOnWith problem.ops.now [] problem.initial o far.value) (sym same) far.follows;
           passed = λ k lt. subst (λ o. has o (stage_place problem k) ≡ true) (sym same) (far.passed k lt);
           most = λ i c is. elim (get_cases cs config c i is) as (λ _. c.stage ≤ furthest.stage) [
             | inl old ↦ far.most i c old

@@ -7,9 +7,9 @@ use Rattle.jh_linear.specs.declared.register.RegCall.{RegCall}
 use Rattle.jh_linear.specs.declared.register.RegOp.{RegOp}
 use Rattle.jh_linear.specs.declared.history.Class.{Class}
 use Rattle.jh_linear.specs.declared.history.Stage.{Stage}
-use Rattle.jh_linear.specs.Order.{op_at, has, IsDone, IsBefore, EndsBefore}
-use Rattle.jh_linear.specs.Search.{AreClasses, AreEntries, AreRuns, AreStages, AreTwins, DoNotFall, GoTogether, IsHistory, IsIn, IsUnknown, arrival_entry, class_at, end_at, end_entry, invoked_at, no_call, no_class, no_entry, stage_at, unknown_at, unknown_entry}
-use Rattle.jh_linear.proofs.SetLemmas.{has_here, place_of}
+use Rattle.jh_linear.specs.Order.{op_at, has, IsDone, Precedes, EndsBefore}
+use Rattle.jh_linear.specs.Search.{AreClasses, ArePlaceEntries, AreClassesUpTo, AreStages, AreTwins, DoNotFall, GoTogether, IsHistory, IsOfClass, IsUnsureChange, arrival_entry, class_at, end_at, end_entry, invocation_at, no_call, no_class, no_entry, stage_at, unknown_place, unknown_entry}
+use Rattle.jh_linear.proofs.PlaceSetLemmas.{has_here, place_of}
 use Rattle.jh_linear.proofs.StageLemmas.{done_there, end_before, possible_there, unknown_possible}
 
 get_map : (xs : List (ℕ × ℕ)) (i : ℕ) → get_or (map (λ x. x.1) xs) i 0 ≡ (get_or xs i no_entry).1
@@ -31,7 +31,7 @@ has_taken_at xs n i low lt =
     let all = length-map xs (λ (x : ℕ × ℕ). x.1) in
     subst (λ q. has (take n (map (λ x. x.1) xs)) q ≡ true) (get_or-take n (map (λ x. x.1) xs) i 0 low ∙ get_map xs i) (has_here (take n (map (λ x. x.1) xs)) i (omega (arith, len, all, low, lt)))
 
-before_end : (ops : List RegOp) (a b : ℕ) → IsDone ops a → end_at ops a < 2 ^ 64 - 1 → end_at ops a < invoked_at ops b → IsBefore ops a b
+before_end : (ops : List RegOp) (a b : ℕ) → IsDone ops a → end_at ops a < 2 ^ 64 - 1 → end_at ops a < invocation_at ops b → Precedes ops a b
 before_end ops a b done small lt = (
   done,
   elim (op_at ops a).ended as (λ e. unwrap_or e (2 ^ 64 - 1) < 2 ^ 64 - 1 → unwrap_or e (2 ^ 64 - 1) < (op_at ops b).invoked → EndsBefore e (op_at ops b).invoked) [
@@ -41,14 +41,14 @@ before_end ops a b done small lt = (
 )
 
 -- the entry of a place that is kept, and the place of an entry
-module _ {X : Type 0} (Kept : ℕ → Type 0) (entry : ℕ → X) (place : X → ℕ) (d : X) (n : ℕ) (xs : List X) (e : AreEntries Kept entry place n xs) where
+module _ {X : Type 0} (Kept : ℕ → Type 0) (entry : ℕ → X) (place : X → ℕ) (d : X) (n : ℕ) (xs : List X) (e : ArePlaceEntries Kept entry place n xs) where
   entry_of : (p : ℕ) → p < n → Kept p → (i : ℕ) × (i < length xs) × (get_or xs i d ≡ entry p)
   entry_of p lt kept = let r = e.all p lt kept in (r.0, r.1, get_or_default xs r.0 d (entry p) r.1 ∙ r.2)
 
   entry_at : (i : ℕ) → i < length xs → entry (place (get_or xs i d)) ≡ get_or xs i d
   entry_at i lt = (e.each i d lt).2
 
-pub is_history : (ops : List RegOp) (inv ends : List (ℕ × ℕ)) (stages : List Stage) → AreEntries (IsDone ops) (arrival_entry ops) (λ x. x.1) (length ops) inv → DoNotFall inv → AreEntries (IsDone ops) (end_entry ops) (λ x. x.1) (length ops) ends → DoNotFall ends → AreStages inv ends stages
+pub is_history : (ops : List RegOp) (inv ends : List (ℕ × ℕ)) (stages : List Stage) → ArePlaceEntries (IsDone ops) (arrival_entry ops) (λ x. x.1) (length ops) inv → DoNotFall inv → ArePlaceEntries (IsDone ops) (end_entry ops) (λ x. x.1) (length ops) ends → DoNotFall ends → AreStages inv ends stages
     → IsHistory ops (map (λ x. x.1) inv) stages
 is_history ops inv ends stages ie ir ee er ss =
     let Done' = IsDone ops in
@@ -89,7 +89,7 @@ is_history ops inv ends stages ie ir ee er ss =
       in_time = λ k p lt h.
           let r = taken_place inv _ p h in
           let low = ss.below k r.0 lt r.1 in
-          let invoked : invoked_at ops p ≡ (get_or inv r.0 no_entry).0 = ap (invoked_at ops) (sym r.3) ∙ ap (λ x. x.0) (entry_at Done' (arrival_entry ops) (λ x. x.1) no_entry (length ops) inv ie r.0 r.2) in
+          let invoked : invocation_at ops p ≡ (get_or inv r.0 no_entry).0 = ap (invocation_at ops) (sym r.3) ∙ ap (λ x. x.0) (entry_at Done' (arrival_entry ops) (λ x. x.1) no_entry (length ops) inv ie r.0 r.2) in
           omega (arith, low, invoked, key k lt);
       enough = λ k p lt done late.
           let r = arrival p (done_there ops p done) done in
@@ -98,7 +98,7 @@ is_history ops inv ends stages ie ir ee er ss =
             | inr over ↦
                 let up = ss.above k lt (omega (arith, r.1)) in
                 let far = ir (stage_at stages k).arrived r.0 no_entry over r.1 in
-                let here : (get_or inv r.0 no_entry).0 ≡ invoked_at ops p = ap (λ x. x.0) r.2 in
+                let here : (get_or inv r.0 no_entry).0 ≡ invocation_at ops p = ap (λ x. x.0) r.2 in
                 let last = subst Done' (sym (ss.place k lt)) (ee.each k no_entry (omega (arith, ss.sizes))).1 in
                 absurd (late (before_end ops (stage_at stages k).place p last (omega (arith, key k lt, up.1)) (omega (arith, key k lt, up.0, far, here))))
           ];
@@ -106,19 +106,19 @@ is_history ops inv ends stages ie ir ee er ss =
 
 -- ---- classes
 
-get_places : (entries : List (RegCall × ℕ × ℕ)) (i : ℕ) → i < length entries → unknown_at (map (λ x. x.2) entries) i ≡ (get_or entries i no_call).2
+get_places : (entries : List (RegCall × ℕ × ℕ)) (i : ℕ) → i < length entries → unknown_place (map (λ x. x.2) entries) i ≡ (get_or entries i no_call).2
 get_places entries i lt = get_or-map (λ (x : RegCall × ℕ × ℕ). x.2) entries i no_call 0 lt
 
-pub are_classes : (ops : List RegOp) (entries : List (RegCall × ℕ × ℕ)) (classes : List Class) → AreEntries (IsUnknown ops) (unknown_entry ops) (λ x. x.2) (length ops) entries → AreRuns entries classes (length entries)
+pub are_classes : (ops : List RegOp) (entries : List (RegCall × ℕ × ℕ)) (classes : List Class) → ArePlaceEntries (IsUnsureChange ops) (unknown_entry ops) (λ x. x.2) (length ops) entries → AreClassesUpTo entries classes (length entries)
     → AreClasses ops (map (λ x. x.2) entries) classes
 are_classes ops entries classes e runs =
     let size : length (map (λ (x : RegCall × ℕ × ℕ). x.2) entries) ≡ length entries = length-map entries (λ (x : RegCall × ℕ × ℕ). x.2) in
-    let at : (i : ℕ) → i < length entries → unknown_entry ops (unknown_at (map (λ x. x.2) entries) i) ≡ get_or entries i no_call = λ i lt.
-    ap (unknown_entry ops) (get_places entries i lt) ∙ entry_at (IsUnknown ops) (unknown_entry ops) (λ x. x.2) no_call (length ops) entries e i lt in
+    let at : (i : ℕ) → i < length entries → unknown_entry ops (unknown_place (map (λ x. x.2) entries) i) ≡ get_or entries i no_call = λ i lt.
+    ap (unknown_entry ops) (get_places entries i lt) ∙ entry_at (IsUnsureChange ops) (unknown_entry ops) (λ x. x.2) no_call (length ops) entries e i lt in
     record {
       distinct = e.distinct;
-      each = All-map (IsUnknown ops) (λ x. x.2) entries (λ k d lt. (e.each k d lt).1);
-      all = λ p un. let r = entry_of (IsUnknown ops) (unknown_entry ops) (λ x. x.2) no_call (length ops) entries e p (possible_there ops p (unknown_possible ops p un)) un in
+      each = All-map (IsUnsureChange ops) (λ x. x.2) entries (λ k d lt. (e.each k d lt).1);
+      all = λ p un. let r = entry_of (IsUnsureChange ops) (unknown_entry ops) (λ x. x.2) no_call (length ops) entries e p (possible_there ops p (unknown_possible ops p un)) un in
           subst (λ q. has (map (λ x. x.2) entries) q ≡ true) (get_places entries r.0 r.1 ∙ ap (λ x. x.2) r.2) (has_here (map (λ x. x.2) entries) r.0 (omega (arith, r.1, size)));
       bounded = λ k lt. let b = runs.bounded k lt in (b.0, omega (arith, b.1, size));
       covered = λ j lt. runs.covered j (omega (arith, lt, size));
@@ -128,7 +128,7 @@ are_classes ops entries classes e runs =
           let low : i < length entries = omega (arith, in'.1, b.1) in
           let high : j < length entries = omega (arith, jn.1, b.1) in
           let together = runs.together k i j lt in' jn le in
-          let same : AreTwins ops (unknown_at (map (λ x. x.2) entries) i) (unknown_at (map (λ x. x.2) entries) j) = (
+          let same : AreTwins ops (unknown_place (map (λ x. x.2) entries) i) (unknown_place (map (λ x. x.2) entries) j) = (
             ap (λ (x : RegCall × ℕ × ℕ). x.0) (at i low) ∙ together.0 ∙ sym (ap (λ (x : RegCall × ℕ × ℕ). x.0) (at j high)),
             omega (arith, ap (λ (x : RegCall × ℕ × ℕ). x.1) (at i low), together.1, ap (λ (x : RegCall × ℕ × ℕ). x.1) (at j high)),
           ) in
@@ -155,7 +155,7 @@ together_more entries from upto some before next i j low le lt = elim (cases_lt 
 ]
 
 -- a class is closed
-pub runs_push : (entries : List (RegCall × ℕ × ℕ)) (classes : List Class) (from upto : ℕ) → from < upto → AreRuns entries classes from → AreTogether entries from upto → AreRuns entries (classes ++ record { from = from; upto = upto } ∷ []) upto
+pub runs_push : (entries : List (RegCall × ℕ × ℕ)) (classes : List Class) (from upto : ℕ) → from < upto → AreClassesUpTo entries classes from → AreTogether entries from upto → AreClassesUpTo entries (classes ++ record { from = from; upto = upto } ∷ []) upto
 runs_push entries classes from upto some runs together =
     let one : Class = record { from = from; upto = upto } in
     let old : (k : ℕ) → k < length classes → class_at (classes ++ one ∷ []) k ≡ class_at classes k = λ k lt. get_or_append_left classes (one ∷ []) no_class k lt in
@@ -167,7 +167,7 @@ runs_push entries classes from upto some runs together =
         | inl low ↦ subst Bounds (sym (old k low)) (let b = runs.bounded k low in (b.0, omega (arith, b.1, some)))
         | inr high ↦ subst Bounds (sym (new k (omega (arith, lt, high, size)))) (omega (arith, some), omega arith)
       ];
-      covered = λ j lt. elim (cases_lt j from) as (λ _. (k : ℕ) × (k < length (classes ++ one ∷ [])) × IsIn (classes ++ one ∷ []) k j) [
+      covered = λ j lt. elim (cases_lt j from) as (λ _. (k : ℕ) × (k < length (classes ++ one ∷ [])) × IsOfClass (classes ++ one ∷ []) k j) [
         | inl before ↦ let r = runs.covered j before in (r.0, omega (arith, r.1, size), subst (λ (c : Class). (c.from ≤ j) × (j < c.upto)) (sym (old r.0 r.1)) r.2)
         | inr here ↦ (length classes, omega (arith, size), subst (λ (c : Class). (c.from ≤ j) × (j < c.upto)) (sym (new (length classes) refl)) (here, lt))
       ];
@@ -190,8 +190,8 @@ runs_push entries classes from upto some runs together =
       ];
     }
 
-pub runs_none : (entries : List (RegCall × ℕ × ℕ)) (classes : List Class) → classes ≡ [] → AreRuns entries classes 0
-runs_none entries classes is = subst (λ cs. AreRuns entries cs 0) (sym is) (record {
+pub runs_none : (entries : List (RegCall × ℕ × ℕ)) (classes : List Class) → classes ≡ [] → AreClassesUpTo entries classes 0
+runs_none entries classes is = subst (λ cs. AreClassesUpTo entries cs 0) (sym is) (record {
   bounded = λ k lt. absurd (omega (arith, lt));
   covered = λ j lt. absurd (omega (arith, lt));
   rises = λ k l before lt. absurd (omega (arith, lt));

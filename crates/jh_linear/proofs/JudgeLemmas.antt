@@ -13,9 +13,9 @@ use Rattle.jh_linear.specs.declared.search.Search.{Search}
 use Rattle.jh_linear.specs.declared.verdict.Step.{Step}
 use Rattle.jh_linear.specs.Order.{has, IsDone, IsOrder}
 use Rattle.jh_linear.specs.Reached.{AreReached, order_at, root}
-use Rattle.jh_linear.specs.Search.{CanReach, IsExhausted, IsFull, IsFurthest, IsGoneOn, IsKept, IsProblem, IsSearch, IsTurnTaken, IsWhole, LeadsTo, stages_in}
+use Rattle.jh_linear.specs.Search.{CanReach, IsExhausted, IsFull, IsFurthest, IsGoneOn, IsSearchKept, IsProblem, IsSearch, IsTurnTaken, IsWholeOrder, LeadsTo, stages_in}
 use Rattle.jh_linear.specs.TurnsInside.{IsWith, awaits, turns_in}
-use Rattle.jh_linear.proofs.SetLemmas.{or_cases, or_left, or_right, place_of}
+use Rattle.jh_linear.proofs.PlaceSetLemmas.{or_cases, or_left, or_right, place_of}
 use Rattle.jh_linear.proofs.TurnLemmas.{awaits_both, awaits_cases, awaits_kept, awaits_own, turns_both, turns_more}
 use Rattle.jh_linear.proofs.MoveLemmas.{get_cases, nothing_there}
 use Rattle.jh_linear.proofs.PartialLemmas.{distinct, one_last, partial, places, runs}
@@ -69,7 +69,7 @@ module _ (problem : Problem) (stood : IsProblem problem) where
   }
 
   pub kept_start : (search : Search) (config : Config) (turn : Turn) → search.configs.keys ≡ config ∷ [] → search.steps.items ≡ root ∷ [] → turn.at ≡ 0 → IsWith turn [] search.waiting → search.furthest ≡ first_far → 0 < problem.budget → 0 < stages_in problem
-      → LeadsTo problem [] config → config.stage ≡ 0 → config.value ≡ problem.initial → IsKept problem search
+      → LeadsTo problem [] config → config.stage ≡ 0 → config.value ≡ problem.initial → IsSearchKept problem search
   kept_start search config turn e f at with' h room some stands stage value =
       let low : config.stage < stages_in problem = omega (arith, stage, some) in
       record {
@@ -91,7 +91,7 @@ module _ (problem : Problem) (stood : IsProblem problem) where
   waiting_for search turns = record { configs = search.configs; steps = search.steps; waiting = turns; furthest = search.furthest }
 
   -- a turn was taken from those that are to come
-  module _ (old new : Search) (turn : Turn) (rest : List Turn) (with' : IsWith turn rest old.waiting) (kept : IsKept problem old) (taken : IsTurnTaken problem (waiting_for old rest) new turn) where
+  module _ (old new : Search) (turn : Turn) (rest : List Turn) (with' : IsWith turn rest old.waiting) (kept : IsSearchKept problem old) (taken : IsTurnTaken problem (waiting_for old rest) new turn) where
     -- what was to have a turn has one, or has had it
     still_waits : (i : ℕ) → awaits rest i ≡ true → awaits new.waiting i ≡ true
     still_waits i h = taken.on.waits i (awaits_both taken.again rest i ∙ or_right (awaits taken.again i) (awaits rest i) h)
@@ -127,7 +127,7 @@ module _ (problem : Problem) (stood : IsProblem problem) where
               (went n (omega (arith, taken.on.further, past)) few reach)))
         ]
 
-    pub kept_on : IsKept problem new
+    pub kept_on : IsSearchKept problem new
     kept_on = record {
       begun = record { known = taken.on.known; far = taken.on.far; few = taken.on.few };
       first = (kept.first.0, taken.on.kept 0 kept.first.0 kept.first.1, kept.first.2);
@@ -140,7 +140,7 @@ module _ (problem : Problem) (stood : IsProblem problem) where
     fewer_turns = omega (arith, taken.on.balance, taken.on.few, taken.on.longer, taken.fewer, turns_both taken.again rest, turns_more turn rest old.waiting with')
 
   -- nothing waits, as before
-  pub kept_emptied : (old : Search) (left : List Turn) → old.waiting ≡ [] → left ≡ [] → IsKept problem old → IsExhausted problem (waiting_for old left)
+  pub kept_emptied : (old : Search) (left : List Turn) → old.waiting ≡ [] → left ≡ [] → IsSearchKept problem old → IsExhausted problem (waiting_for old left)
   kept_emptied old left none none' kept = (
     record {
       begun = record { known = kept.begun.known; far = kept.begun.far; few = kept.begun.few };
@@ -178,7 +178,7 @@ module _ (problem : Problem) (stood : IsProblem problem) where
             known.apart i j c.0 d.0 before c.1 d.1 (are_alike problem stood (order_at steps i) (order_at steps j) c.0 d.0 cs' ds' (known.open' i c.0 c.1) (known.open' j d.0 d.1) same (cv ∙ sym dv));
       }
 
-  pub is_order : (order : List ℕ) → IsWhole problem order → IsOrder problem.ops.now problem.initial order
+  pub is_order : (order : List ℕ) → IsWholeOrder problem order → IsOrder problem.ops.now problem.initial order
   is_order order whole = record { last = whole.0.0; partial = partial problem.ops.now problem.initial order whole.0.0 whole.0.1; whole = whole.1 }
 
   -- ---- where nothing waits

@@ -11,9 +11,9 @@ use Rattle.jh_linear.specs.declared.history.Problem.{Problem}
 use Rattle.jh_linear.specs.declared.config.Config.{Config}
 use Rattle.jh_linear.specs.declared.moves.Move.{Move}
 use Rattle.jh_linear.specs.declared.moves.Source.TheVariants.{Happened, Unknown}
-use Rattle.jh_linear.specs.Order.{op_at, IsDone, IsBefore, IsPossible, EndsBefore, has, Allows}
-use Rattle.jh_linear.specs.Search.{AreMoves, CanReach, Follows, HasHappened, HasUnknown, NoneSettled, IsProblem, IsReady, IsUnknown, IsWanted, LeavesValue, MayFollow, Needs, LeadsTo, call_of, class_at, is_unknown, next_at, place_of, stage_place, stages_in}
-use Rattle.jh_linear.proofs.SetLemmas.{has_append, has_here, has_kept, has_one, has_self, not_true, or_cases, or_left, or_right, place_of as index_of, test_cases}
+use Rattle.jh_linear.specs.Order.{op_at, IsDone, Precedes, IsPossible, EndsBefore, has, Allows}
+use Rattle.jh_linear.specs.Search.{AreMoves, CanReach, GoesOnWith, HasHappened, HasUnknown, IsNoneSettled, IsProblem, IsReady, IsUnsureChange, IsWanted, LeavesValue, MayComeNext, Needs, LeadsTo, source_call, class_at, is_unsure_change, next_at, source_place, stage_place, stages_in}
+use Rattle.jh_linear.proofs.PlaceSetLemmas.{has_append, has_here, has_kept, has_one, has_self, not_true, or_cases, or_left, or_right, place_of as index_of, test_cases}
 use Rattle.jh_linear.proofs.StageLemmas.{is_pending, of_pending, unknown_not_done}
 use Rattle.jh_linear.proofs.NextLemmas.{class_of, is_unknown_at}
 use Rattle.jh_linear.proofs.FollowLemmas.{after_twin, follows_less, follows_more, may_without, taken_out}
@@ -51,9 +51,9 @@ ends_sooner (Some end) a b le h = omega (arith, le, h)
 
 -- An operation that did not fail happened, is of unknown outcome, or is a read that is not known to have happened.
 abbrev IsOther : List RegOp → ℕ → Type 0
-IsOther ops p = IsUnknown ops p ⊎ ((IsDone ops p → ⊥) × ((seen : Option ℤ) × ((op_at ops p).call ≡ Read seen)))
+IsOther ops p = IsUnsureChange ops p ⊎ ((IsDone ops p → ⊥) × ((seen : Option ℤ) × ((op_at ops p).call ≡ Read seen)))
 
-unsure_kind : (call : RegCall) → (is_unknown Unsure call ≡ true) ⊎ ((seen : Option ℤ) × (call ≡ Read seen))
+unsure_kind : (call : RegCall) → (is_unsure_change Unsure call ≡ true) ⊎ ((seen : Option ℤ) × (call ≡ Read seen))
 unsure_kind (Read seen) = inr (seen, refl)
 unsure_kind (Write new) = inl refl
 unsure_kind (Cas old new) = inl refl
@@ -63,7 +63,7 @@ kind_of ops p possible = elim (op_at ops p).outcome as (λ o. (op_at ops p).outc
   | Done ↦ λ is. inl is
   | Failed ↦ λ is. absurd (possible is)
   | Unsure ↦ λ is. inr (elim (unsure_kind (op_at ops p).call) as (λ _. IsOther ops p) [
-    | inl un ↦ inl (subst (λ o. is_unknown o (op_at ops p).call ≡ true) (sym is) un)
+    | inl un ↦ inl (subst (λ o. is_unsure_change o (op_at ops p).call ≡ true) (sym is) un)
     | inr read ↦ inr (λ done. let both = sym done ∙ is in cc, read)
   ])
 ] refl
@@ -71,12 +71,12 @@ kind_of ops p possible = elim (op_at ops p).outcome as (λ o. (op_at ops p).outc
 not_done_of : (ops : List RegOp) (p : ℕ) → IsOther ops p → IsDone ops p → ⊥
 not_done_of ops p other = elim other as (λ _. IsDone ops p → ⊥) [ inl un ↦ unknown_not_done ops p un | inr read ↦ read.0 ]
 
-no_unknown_read : (outcome : Outcome) (call : RegCall) → call ≡ Read None → is_unknown outcome call ≡ true → ⊥
-no_unknown_read outcome call is h = elim outcome as (λ o. is_unknown o (Read None) ≡ true → ⊥) [
+no_unknown_read : (outcome : Outcome) (call : RegCall) → call ≡ Read None → is_unsure_change outcome call ≡ true → ⊥
+no_unknown_read outcome call is h = elim outcome as (λ o. is_unsure_change o (Read None) ≡ true → ⊥) [
   | Done ↦ λ e. false≢true e
   | Failed ↦ λ e. false≢true e
   | Unsure ↦ λ e. false≢true e
-] (subst (λ c. is_unknown outcome c ≡ true) is h)
+] (subst (λ c. is_unsure_change outcome c ≡ true) is h)
 
 module _ (problem : Problem) (stood : IsProblem problem) (n : ℕ) (few : n ≤ stages_in problem) where
   abbrev ops : List RegOp
@@ -117,7 +117,7 @@ module _ (problem : Problem) (stood : IsProblem problem) (n : ℕ) (few : n ≤ 
       ]
 
   -- the operation that comes first is placed
-  first_leads : (order : List ℕ) (x : ℕ) (rest : List ℕ) (next last : Option ℤ) → Follows ops (order ++ x ∷ []) next rest last → Covers (order ++ x ∷ rest) → CanReach problem n (order ++ x ∷ []) next
+  first_leads : (order : List ℕ) (x : ℕ) (rest : List ℕ) (next last : Option ℤ) → GoesOnWith ops (order ++ x ∷ []) next rest last → Covers (order ++ x ∷ rest) → CanReach problem n (order ++ x ∷ []) next
   first_leads order x rest next last follows covers = (
     rest,
     last,
@@ -165,10 +165,10 @@ module _ (problem : Problem) (stood : IsProblem problem) (n : ℕ) (few : n ≤ 
     -- the class of an operation of unknown outcome that is not placed, and may come before the end of the stage
     abbrev Class : ℕ → Type 0
     Class z =
-        (k : ℕ) × IsReady problem config k × (call_of problem config (Unknown k) ≡ (op_at ops z).call)
-        × (has order (place_of problem config (Unknown k)) ≡ false) × IsUnknown ops (place_of problem config (Unknown k))
+        (k : ℕ) × IsReady problem config k × (source_call problem config (Unknown k) ≡ (op_at ops z).call)
+        × (has order (source_place problem config (Unknown k)) ≡ false) × IsUnsureChange ops (source_place problem config (Unknown k))
 
-    ready_class : (z : ℕ) → IsUnknown ops z → has order z ≡ false → (IsBefore ops Last z → ⊥) → Class z
+    ready_class : (z : ℕ) → IsUnsureChange ops z → has order z ≡ false → (Precedes ops Last z → ⊥) → Class z
     ready_class z un fresh early =
         let classes = stood.classes in
         let r = class_of ops problem.history.unknown.items problem.history.classes.items classes z un in
@@ -182,7 +182,7 @@ module _ (problem : Problem) (stood : IsProblem problem) (n : ℕ) (few : n ≤ 
         ] in
         let left : m < (class_at problem.history.classes.items k).upto = omega (arith, later, r.3.1) in
         let twins = classes.twins k m j r.2 (bounds.0, left) r.3 later in
-        let p : ℕ = place_of problem config (Unknown k) in
+        let p : ℕ = source_place problem config (Unknown k) in
         let call : (op_at ops p).call ≡ (op_at ops z).call = twins.0 ∙ ap (λ q. (op_at ops q).call) r.4 in
         let sooner : (op_at ops p).invoked ≤ (op_at ops z).invoked = subst (λ q. (op_at ops p).invoked ≤ (op_at ops q).invoked) r.4 twins.1 in (
           k,
@@ -194,18 +194,18 @@ module _ (problem : Problem) (stood : IsProblem problem) (n : ℕ) (few : n ≤ 
 
     -- a move that leads on
     abbrev Led : List Move → Type 0
-    Led moves = (i : ℕ) × (move : Move) × (slice_get moves i ≡ Some move) × CanReach problem n (order ++ place_of problem config move.source ∷ []) move.value
+    Led moves = (i : ℕ) × (move : Move) × (slice_get moves i ≡ Some move) × CanReach problem n (order ++ source_place problem config move.source ∷ []) move.value
 
-    led_by : (moves : List Move) (i : ℕ) (move : Move) (p : ℕ) (next : Option ℤ) → slice_get moves i ≡ Some move → place_of problem config move.source ≡ p → move.value ≡ next → CanReach problem n (order ++ p ∷ []) next → Led moves
+    led_by : (moves : List Move) (i : ℕ) (move : Move) (p : ℕ) (next : Option ℤ) → slice_get moves i ≡ Some move → source_place problem config move.source ≡ p → move.value ≡ next → CanReach problem n (order ++ p ∷ []) next → Led moves
     led_by moves i move p next is place value reach =
         (i, move, is, subst (λ q. CanReach problem n (order ++ q ∷ []) move.value) (sym place) (subst (λ v. CanReach problem n (order ++ p ∷ []) v) (sym value) reach))
 
-    pending_at : (x : ℕ) → IsDone ops x → MayFollow ops order x → (i : ℕ) × (i < length config.pending.items) × (place_of problem config (Happened i) ≡ x)
+    pending_at : (x : ℕ) → IsDone ops x → MayComeNext ops order x → (i : ℕ) × (i < length config.pending.items) × (source_place problem config (Happened i) ≡ x)
     pending_at x is may =
         index_of config.pending.items x (is_pending ops problem.history.arrivals.items problem.history.stages.items stood.history order config.stage config.pending.items x stands.known room (stands.waits room) is may)
 
     -- what needs the value and may come behind an unknown operation is wanted
-    wanted_by : (x y : ℕ) (next : Option ℤ) → (IsDone ops x → ⊥) → MayFollow ops (order ++ x ∷ []) y → Needs (op_at ops y).call next → IsDone ops y ⊎ IsUnknown ops y → IsWanted problem config next
+    wanted_by : (x y : ℕ) (next : Option ℤ) → (IsDone ops x → ⊥) → MayComeNext ops (order ++ x ∷ []) y → Needs (op_at ops y).call next → IsDone ops y ⊎ IsUnsureChange ops y → IsWanted problem config next
     wanted_by x y next not_done may needs how = elim how as (λ _. IsWanted problem config next) [
       | inl is ↦
           let r = pending_at y is (may_without ops x not_done order y may) in
@@ -218,17 +218,17 @@ module _ (problem : Problem) (stood : IsProblem problem) (n : ℕ) (few : n ≤ 
 
     module _ (moves : List Move) (are : AreMoves problem config moves) where
       -- the first one left of the class is tried, and stands for the one that comes first
-      class_leads : (x : ℕ) (rest : List ℕ) (next last : Option ℤ) → IsUnknown ops x → MayFollow ops order x → Allows (op_at ops x).call config.value next → IsWanted problem config next
-          → ((k : ℕ) → IsReady problem config k → Allows (call_of problem config (Unknown k)) config.value next → (i : ℕ) × (move : Move) × (slice_get moves i ≡ Some move) × (move.source ≡ Unknown k) × (move.value ≡ next))
-          → Follows ops (order ++ x ∷ []) next rest last → Covers (order ++ x ∷ rest) → Led moves
+      class_leads : (x : ℕ) (rest : List ℕ) (next last : Option ℤ) → IsUnsureChange ops x → MayComeNext ops order x → Allows (op_at ops x).call config.value next → IsWanted problem config next
+          → ((k : ℕ) → IsReady problem config k → Allows (source_call problem config (Unknown k)) config.value next → (i : ℕ) × (move : Move) × (slice_get moves i ≡ Some move) × (move.source ≡ Unknown k) × (move.value ≡ next))
+          → GoesOnWith ops (order ++ x ∷ []) next rest last → Covers (order ++ x ∷ rest) → Led moves
       class_leads x rest next last un may allowed wanted tried follows covers =
           let c = ready_class x un may.fresh (λ late. not_true _ (may.ready Last late) (stands.waits room)) in
-          let p : ℕ = place_of problem config (Unknown c.0) in
+          let p : ℕ = source_place problem config (Unknown c.0) in
           let m = tried c.0 c.1 (subst (λ (call : RegCall). Allows call config.value next) (sym c.2) allowed) in
           let not_x : IsDone ops x → ⊥ = unknown_not_done ops x un in
           let not_p : IsDone ops p → ⊥ = unknown_not_done ops p c.4 in
           let t = after_twin ops x not_x p (sym c.2) not_p order rest next last may c.3 follows in
-          let place : place_of problem config m.1.source ≡ p = ap (place_of problem config) m.3 in
+          let place : source_place problem config m.1.source ≡ p = ap (source_place problem config) m.3 in
           led_by moves m.0 m.1 p next m.2 place m.4 (
             t.0,
             last,
@@ -239,18 +239,18 @@ module _ (problem : Problem) (stood : IsProblem problem) (n : ℕ) (few : n ≤ 
             ]),
           )
 
-      module _ (happened : HasHappened problem config moves (length config.pending.items)) (unknown : HasUnknown problem config moves (length problem.history.classes.items)) (none : NoneSettled problem config (length config.pending.items)) where
-        done_leads : (x : ℕ) (rest : List ℕ) (next last : Option ℤ) → IsDone ops x → MayFollow ops order x → Allows (op_at ops x).call config.value next → Follows ops (order ++ x ∷ []) next rest last → Covers (order ++ x ∷ rest) → Led moves
+      module _ (happened : HasHappened problem config moves (length config.pending.items)) (unknown : HasUnknown problem config moves (length problem.history.classes.items)) (none : IsNoneSettled problem config (length config.pending.items)) where
+        done_leads : (x : ℕ) (rest : List ℕ) (next last : Option ℤ) → IsDone ops x → MayComeNext ops order x → Allows (op_at ops x).call config.value next → GoesOnWith ops (order ++ x ∷ []) next rest last → Covers (order ++ x ∷ rest) → Led moves
         done_leads x rest next last is may allowed follows covers =
             let r = pending_at x is may in
             let m = happened r.0 next r.1 (subst (λ q. Allows (op_at ops q).call config.value next) (sym r.2) allowed) in
-            led_by moves m.0 m.1 x next m.2 (ap (place_of problem config) m.3 ∙ r.2) m.4 (first_leads order x rest next last follows covers)
+            led_by moves m.0 m.1 x next m.2 (ap (source_place problem config) m.3 ∙ r.2) m.4 (first_leads order x rest next last follows covers)
 
-        tried_by : (next : Option ℤ) → IsWanted problem config next → (k : ℕ) → IsReady problem config k → Allows (call_of problem config (Unknown k)) config.value next
+        tried_by : (next : Option ℤ) → IsWanted problem config next → (k : ℕ) → IsReady problem config k → Allows (source_call problem config (Unknown k)) config.value next
             → (i : ℕ) × (move : Move) × (slice_get moves i ≡ Some move) × (move.source ≡ Unknown k) × (move.value ≡ next)
         tried_by next wanted k ready allowed = unknown k next ready.0.0 ready allowed wanted
 
-        by_size : (size : ℕ) (back : List ℕ) (last : Option ℤ) → length back ≤ size → Follows ops order config.value back last → Covers (order ++ back) → Led moves
+        by_size : (size : ℕ) (back : List ℕ) (last : Option ℤ) → length back ≤ size → GoesOnWith ops order config.value back last → Covers (order ++ back) → Led moves
         by_size size [] last small follows covers =
             elim (halves order [] _ (covers config.stage open'')) as (λ _. Led moves) [
               | inl there ↦ absurd (not_true _ there (stands.waits room))
@@ -274,14 +274,14 @@ module _ (problem : Problem) (stood : IsProblem problem) (n : ℕ) (few : n ≤ 
                   elim other as (λ _. Led moves) [
                     | inr read ↦
                         let kept : next ≡ config.value = read_keeps (op_at ops x).call read.1.0 read.1.1 config.value next follows.1.1 in
-                        by_size size (y ∷ rest) last (omega (arith, small)) (follows_less ops x not_x order (y ∷ rest) config.value last (subst (λ v. Follows ops (order ++ x ∷ []) v (y ∷ rest) last) kept follows.1.2)) (without_first order x (y ∷ rest) not_x covers)
+                        by_size size (y ∷ rest) last (omega (arith, small)) (follows_less ops x not_x order (y ∷ rest) config.value last (subst (λ v. GoesOnWith ops (order ++ x ∷ []) v (y ∷ rest) last) kept follows.1.2)) (without_first order x (y ∷ rest) not_x covers)
                     | inl un ↦
                         let f = follows.1.2 in
                         let overwritten : (new : ℤ) → (op_at ops y).call ≡ Write new → Led moves = λ new writes.
                         by_size size (y ∷ rest) last (omega (arith, small))
                         (follows_less ops x not_x order (y ∷ rest) config.value last (f.0, (f.1.0, any_value (op_at ops y).call new writes next config.value f.1.0 f.1.1, f.1.2)))
                         (without_first order x (y ∷ rest) not_x covers) in
-                        let needed : Needs (op_at ops y).call next → (IsDone ops y ⊎ IsUnknown ops y) → Led moves = λ needs how.
+                        let needed : Needs (op_at ops y).call next → (IsDone ops y ⊎ IsUnsureChange ops y) → Led moves = λ needs how.
                         let wanted = wanted_by x y next not_x f.0 needs how in
                         class_leads x (y ∷ rest) next last un follows.0 follows.1.1 wanted (tried_by next wanted) f covers in
                         elim (kind_of ops y f.0.possible) as (λ _. Led moves) [
@@ -300,7 +300,7 @@ module _ (problem : Problem) (stood : IsProblem problem) (n : ℕ) (few : n ≤ 
                                 let not_y : IsDone ops y → ⊥ = read.0 in
                                 let kept : f.1.0 ≡ next = read_keeps (op_at ops y).call read.1.0 read.1.1 next f.1.0 f.1.1 in
                                 by_size size (x ∷ rest) last (omega (arith, small))
-                                (follows.0, (next, follows.1.1, follows_less ops y not_y (order ++ x ∷ []) rest next last (subst (λ v. Follows ops ((order ++ x ∷ []) ++ y ∷ []) v rest last) kept f.1.2)))
+                                (follows.0, (next, follows.1.1, follows_less ops y not_y (order ++ x ∷ []) rest next last (subst (λ v. GoesOnWith ops ((order ++ x ∷ []) ++ y ∷ []) v rest last) kept f.1.2)))
                                 (without_second order x y rest not_y covers)
                           ]
                         ]
@@ -311,9 +311,9 @@ module _ (problem : Problem) (stood : IsProblem problem) (n : ℕ) (few : n ≤ 
       pub one_leads : CanReach problem n order config.value → Led moves
       one_leads reach = elim are.enough as (λ _. Led moves) [
         | inl s ↦
-            let p : ℕ = place_of problem config (Happened s.0) in
+            let p : ℕ = source_place problem config (Happened s.0) in
             let fresh = (of_pending ops problem.history.arrivals.items problem.history.stages.items stood.history order config.stage config.pending.items p stands.known room (has_here config.pending.items s.0 s.1.0)).1 in
             let m = s.2 in
-            led_by moves m.0 m.1 p config.value m.2 (ap (place_of problem config) m.3) m.4 (settled_leads order config.value p s.1.1.1 fresh reach)
+            led_by moves m.0 m.1 p config.value m.2 (ap (source_place problem config) m.3) m.4 (settled_leads order config.value p s.1.1.1 fresh reach)
         | inr r ↦ by_size r.0 r.1 r.2 (length reach.0) reach.0 reach.1 (omega arith) reach.2 reach.3
       ]

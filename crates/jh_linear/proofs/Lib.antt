@@ -1,4 +1,4 @@
-pub mod SetLemmas
+pub mod PlaceSetLemmas
 pub mod StageLemmas
 pub mod NextLemmas
 pub mod FollowLemmas
@@ -6,7 +6,7 @@ pub mod LeadLemmas
 pub mod PlacingLemmas
 pub mod MoveLemmas
 pub mod WalkLemmas
-pub mod KeyLemmas
+pub mod SameConfigLemmas
 pub mod StepLemmas
 pub mod TurnLemmas
 pub mod PartialLemmas

@@ -7,7 +7,7 @@ use Rattle.jh_linear.specs.declared.config.Config.{Config}
 use Rattle.jh_linear.specs.declared.moves.Move.{Move}
 use Rattle.jh_linear.specs.declared.moves.Source.TheVariants.{Happened, Unknown}
 use Rattle.jh_linear.specs.Order.{Allows}
-use Rattle.jh_linear.specs.Search.{EachIsMove, HasHappened, HasUnknown, IsAmong, IsMove, IsReady, IsWanted, MovesMore, call_of}
+use Rattle.jh_linear.specs.Search.{EachIsMove, HasHappened, HasUnknown, IsAmong, IsMove, IsReady, IsWanted, MovesMore, source_call}
 
 pub get_kept : {X : Type 0} (xs : List X) (y x : X) (i : ℕ) → slice_get xs i ≡ Some x → slice_get (xs ++ y ∷ []) i ≡ Some x
 get_kept [] y x i h = absurd (let bad = h in cc)
@@ -59,25 +59,25 @@ module _ (problem : Problem) (config : Config) where
 
   -- one more index of what is pending was looked at
   pub happened_more : (moves moves' : List Move) (bound : ℕ) → MovesMore problem config moves moves'
-      → ((next : Option ℤ) → Allows (call_of problem config (Happened bound)) config.value next → IsAmong moves' (Happened bound) next)
+      → ((next : Option ℤ) → Allows (source_call problem config (Happened bound)) config.value next → IsAmong moves' (Happened bound) next)
       → HasHappened problem config moves bound → HasHappened problem config moves' (bound + 1)
   happened_more moves moves' bound more here before index next lt allowed = elim (cases_lt index bound) as (λ _. IsAmong moves' (Happened index) next) [
     | inl low ↦ more.kept (Happened index) next (before index next low allowed)
     | inr high ↦
         let is : bound ≡ index = omega (arith, lt, high) in
-        subst (λ i. IsAmong moves' (Happened i) next) is (here next (subst (λ i. Allows (call_of problem config (Happened i)) config.value next) (sym is) allowed))
+        subst (λ i. IsAmong moves' (Happened i) next) is (here next (subst (λ i. Allows (source_call problem config (Happened i)) config.value next) (sym is) allowed))
   ]
 
   -- one more class was looked at
   pub unknown_more : (moves moves' : List Move) (bound : ℕ) → MovesMore problem config moves moves'
-      → (IsReady problem config bound → (next : Option ℤ) → Allows (call_of problem config (Unknown bound)) config.value next → IsWanted problem config next → IsAmong moves' (Unknown bound) next)
+      → (IsReady problem config bound → (next : Option ℤ) → Allows (source_call problem config (Unknown bound)) config.value next → IsWanted problem config next → IsAmong moves' (Unknown bound) next)
       → HasUnknown problem config moves bound → HasUnknown problem config moves' (bound + 1)
   unknown_more moves moves' bound more here before k next lt ready allowed wanted = elim (cases_lt k bound) as (λ _. IsAmong moves' (Unknown k) next) [
     | inl low ↦ more.kept (Unknown k) next (before k next low ready allowed wanted)
     | inr high ↦
         let is : bound ≡ k = omega (arith, lt, high) in
         subst (λ c. IsAmong moves' (Unknown c) next) is
-        (here (subst (IsReady problem config) (sym is) ready) next (subst (λ c. Allows (call_of problem config (Unknown c)) config.value next) (sym is) allowed) wanted)
+        (here (subst (IsReady problem config) (sym is) ready) next (subst (λ c. Allows (source_call problem config (Unknown c)) config.value next) (sym is) allowed) wanted)
   ]
 
   pub each_none : (moves : List Move) → moves ≡ [] → EachIsMove problem config moves

@@ -11,9 +11,9 @@ use Rattle.std.proofs.lemmas.Map.Made.{length-le_from_is_member}
 use Rattle.jh_linear.specs.declared.register.Outcome.{Outcome}
 use Rattle.jh_linear.specs.declared.register.Outcome.TheVariants.{Done, Failed, Unsure}
 use Rattle.jh_linear.specs.declared.register.RegOp.{RegOp}
-use Rattle.jh_linear.specs.Order.{op_at, IsDone, IsBefore, EndsBefore, has, StandBefore, AreApart, HasAllDone, KeepsPrecedence, EndAfterInvoked}
-use Rattle.jh_linear.specs.Checking.{NoneLate, is_done, is_done_at, done_below}
-use Rattle.jh_linear.proofs.SetLemmas.{eqb_self, or_left, or_right, or_cases, not_true, true_if, false_if, same_tests, has_here, place_of, has_filter, passes_filter, distinct_filter}
+use Rattle.jh_linear.specs.Order.{op_at, IsDone, Precedes, EndsBefore, has, StandBefore, HasNoneTwice, HasAllDone, KeepsPrecedence, EndAfterInvoked}
+use Rattle.jh_linear.specs.Checking.{IsNoneLate, is_outcome_done, is_op_done, done_places_below}
+use Rattle.jh_linear.proofs.PlaceSetLemmas.{eqb_self, or_left, or_right, or_cases, not_true, true_if, false_if, same_tests, has_here, place_of, has_filter, passes_filter, distinct_filter}
 use Rattle.jh_linear.proofs.StageLemmas.{not_before_itself, done_there}
 
 pub ends_later : (end : Option ℕ) (a b : ℕ) → EndsBefore end a → a ≤ b → EndsBefore end b
@@ -30,7 +30,7 @@ module _ (ops : List RegOp) (order : List ℕ) (n latest : ℕ) where
   Invoked i = (op_at ops (get_or order i 0)).invoked
 
   pub none_more : (op : RegOp) → op ≡ op_at ops (get_or order n 0) → ((op.outcome ≡ Done) × EndsBefore op.ended latest → ⊥) → ((i : ℕ) → i < n → Invoked i ≤ latest)
-      → ((i j : ℕ) → i < j → j < n → IsBefore ops (get_or order j 0) (get_or order i 0) → ⊥) → (i j : ℕ) → i < j → j < n + 1 → IsBefore ops (get_or order j 0) (get_or order i 0) → ⊥
+      → ((i j : ℕ) → i < j → j < n → Precedes ops (get_or order j 0) (get_or order i 0) → ⊥) → (i j : ℕ) → i < j → j < n + 1 → Precedes ops (get_or order j 0) (get_or order i 0) → ⊥
   none_more op is open'' high so_far i j before low late =
       elim (cases_lt j n) as (λ _. ⊥) [
         | inl lt ↦ so_far i j before lt late
@@ -58,7 +58,7 @@ module _ (ops : List RegOp) (order : List ℕ) (n latest : ℕ) where
         | inr ge ↦ let same : latest ≡ next = omega (arith, most, ge) in let r = some (omega (arith, same, pos)) in (r.0, omega (arith, r.1), r.2 ∙ same)
       ]
 
-pub before_if : (ops : List RegOp) (a b : ℕ) (x y : RegOp) → x ≡ op_at ops a → y ≡ op_at ops b → (x.outcome ≡ Done) × EndsBefore x.ended y.invoked → IsBefore ops a b
+pub before_if : (ops : List RegOp) (a b : ℕ) (x y : RegOp) → x ≡ op_at ops a → y ≡ op_at ops b → (x.outcome ≡ Done) × EndsBefore x.ended y.invoked → Precedes ops a b
 before_if ops a b x y e f h = (sym (ap (λ o. o.outcome) e) ∙ h.0, subst (λ o. EndsBefore (op_at ops a).ended o.invoked) f (subst (λ o. EndsBefore o.ended y.invoked) e h.1))
 
 pub each_more : (xs : List ℕ) (p n : ℕ) → ((i : ℕ) → i < n → get_or xs i 0 ≡ p → ⊥) → (get_or xs n 0 ≡ p → ⊥) → (i : ℕ) → i < n + 1 → get_or xs i 0 ≡ p → ⊥
@@ -77,14 +77,14 @@ behind_at order i j before low =
     let at : i + 1 + k ≡ j = omega (arith, before) in
     subst (λ p. has (drop (i + 1) order) p ≡ true) (get_or-drop (i + 1) order k 0 ∙ ap (λ n. get_or order n 0) at) (has_here (drop (i + 1) order) k inside)
 
-pub apart_if : (order : List ℕ) → ((k : ℕ) → k < length order → has (drop (k + 1) order) (get_or order k 0) ≡ false) → AreApart order
+pub apart_if : (order : List ℕ) → ((k : ℕ) → k < length order → has (drop (k + 1) order) (get_or order k 0) ≡ false) → HasNoneTwice order
 apart_if order none = IsDistinct-from_apart eqb order (λ i j d before low.
     let first : i < length order = omega (arith, before, low) in
     ne_eqb _ _ (λ same.
     let is : get_or order j 0 ≡ get_or order i 0 = get_or_default order j 0 d low ∙ sym same ∙ get_or_default order i d 0 first in
     not_true _ (subst (λ p. has (drop (i + 1) order) p ≡ true) is (behind_at order i j before low)) (none i first)))
 
-pub not_apart : (order : List ℕ) (k : ℕ) → k < length order → has (drop (k + 1) order) (get_or order k 0) ≡ true → AreApart order → ⊥
+pub not_apart : (order : List ℕ) (k : ℕ) → k < length order → has (drop (k + 1) order) (get_or order k 0) ≡ true → HasNoneTwice order → ⊥
 not_apart order k low again apart =
     let r = place_of (drop (k + 1) order) (get_or order k 0) again in
     let j : ℕ = k + 1 + r.0 in
@@ -92,7 +92,7 @@ not_apart order k low again apart =
     let is : get_or order j 0 ≡ get_or order k 0 = sym (get_or-drop (k + 1) order r.0 0) ∙ r.2 in
     not_true _ (eq-eqb _ _ (sym is)) (apart_from_distinct eqb order k j 0 apart (omega arith) inside)
 
-same_place : (order : List ℕ) (i j : ℕ) → AreApart order → i < length order → j < length order → get_or order i 0 ≡ get_or order j 0 → i ≡ j
+same_place : (order : List ℕ) (i j : ℕ) → HasNoneTwice order → i < length order → j < length order → get_or order i 0 ≡ get_or order j 0 → i ≡ j
 same_place order i j apart il jl is =
     elim (cases_lt i j) as (λ _. i ≡ j) [
       | inl lt ↦ absurd (not_true _ (eq-eqb _ _ is) (apart_from_distinct eqb order i j 0 apart lt jl))
@@ -122,7 +122,7 @@ shifted order k zero = ap (λ m. get_or order m 0) (let e : k ≡ k + 0 = omega 
 shifted order k (suc n) = get_or-drop (k + 1) order n 0 ∙ ap (λ m. get_or order m 0) (let e : k + 1 + n ≡ k + suc n = omega arith in e)
 
 module _ (ops : List RegOp) (order : List ℕ) where
-  pub late_if : AreApart order → KeepsPrecedence ops order → NoneLate ops order
+  pub late_if : HasNoneTwice order → KeepsPrecedence ops order → IsNoneLate ops order
   late_if apart keeps i j before low is =
       let first : i < length order = omega (arith, before, low) in
       let s = stand_places order _ _ (keeps _ _ is (has_here order i first)) in
@@ -130,71 +130,71 @@ module _ (ops : List RegOp) (order : List ℕ) where
       let two : s.1 ≡ i = same_place order s.1 i apart s.3 first s.5 in
       absurd (omega (arith, one, two, s.2, before))
 
-  pub keeps_if : EndAfterInvoked ops → HasAllDone ops order → NoneLate ops order → KeepsPrecedence ops order
+  pub keeps_if : EndAfterInvoked ops → HasAllDone ops order → IsNoneLate ops order → KeepsPrecedence ops order
   keeps_if ends whole none a b is there =
       let i = place_of order a (whole a is.0) in
       let j = place_of order b there in
       elim (cases_lt i.0 j.0) as (λ _. StandBefore order a b) [
         | inl before ↦ subst (λ x. StandBefore order x b) i.2 (subst (λ y. StandBefore order (get_or order i.0 0) y) j.2 (stand_at order i.0 j.0 before j.1))
         | inr back ↦ elim (cases_lt j.0 i.0) as (λ _. StandBefore order a b) [
-          | inl late ↦ absurd (none j.0 i.0 late i.1 (subst (λ x. IsBefore ops x (get_or order j.0 0)) (sym i.2) (subst (λ y. IsBefore ops a y) (sym j.2) is)))
+          | inl late ↦ absurd (none j.0 i.0 late i.1 (subst (λ x. Precedes ops x (get_or order j.0 0)) (sym i.2) (subst (λ y. Precedes ops a y) (sym j.2) is)))
           | inr on ↦
               let same : i.0 ≡ j.0 = omega (arith, back, on) in
               let one : b ≡ a = sym j.2 ∙ ap (λ n. get_or order n 0) (sym same) ∙ i.2 in
-              absurd (not_before_itself ops ends a (subst (λ y. IsBefore ops a y) one is))
+              absurd (not_before_itself ops ends a (subst (λ y. Precedes ops a y) one is))
         ]
       ]
 
   -- where none is late, those behind a place are not late either
-  pub none_behind : (k : ℕ) → k < length order → NoneLate ops order → NoneLate ops (get_or order k 0 ∷ drop (k + 1) order)
+  pub none_behind : (k : ℕ) → k < length order → IsNoneLate ops order → IsNoneLate ops (get_or order k 0 ∷ drop (k + 1) order)
   none_behind k low none i j before inside is =
       let at : (n : ℕ) → get_or (get_or order k 0 ∷ drop (k + 1) order) n 0 ≡ get_or order (k + n) 0 = shifted order k in
       none (k + i) (k + j) (omega (arith, before)) (omega (arith, inside, length-drop (k + 1) order, low))
-      (subst (λ x. IsBefore ops x (get_or order (k + i) 0)) (at j) (subst (λ y. IsBefore ops (get_or (get_or order k 0 ∷ drop (k + 1) order) j 0) y) (at i) is))
+      (subst (λ x. Precedes ops x (get_or order (k + i) 0)) (at j) (subst (λ y. Precedes ops (get_or (get_or order k 0 ∷ drop (k + 1) order) j 0) y) (at i) is))
 
 -- a place is not behind another where it would be late
-pub not_behind : (ops : List RegOp) (place : ℕ) (behind : List ℕ) (k : ℕ) → k < length behind → NoneLate ops (place ∷ behind) → IsBefore ops place (get_or behind k 0) → ((i : ℕ) → i < k + 1 → get_or behind i 0 ≡ place → ⊥) → has behind place ≡ false
+pub not_behind : (ops : List RegOp) (place : ℕ) (behind : List ℕ) (k : ℕ) → k < length behind → IsNoneLate ops (place ∷ behind) → Precedes ops place (get_or behind k 0) → ((i : ℕ) → i < k + 1 → get_or behind i 0 ≡ place → ⊥) → has behind place ≡ false
 not_behind ops place behind k low none late so_far = false_if _ (λ there.
     let r = place_of behind place there in
     elim (cases_lt r.0 (k + 1)) as (λ _. ⊥) [
       | inl before ↦ so_far r.0 before r.2
-      | inr after ↦ none (suc k) (suc r.0) (omega (arith, after)) (omega (arith, r.1)) (subst (λ x. IsBefore ops x (get_or behind k 0)) (sym r.2) late)
+      | inr after ↦ none (suc k) (suc r.0) (omega (arith, after)) (omega (arith, r.1)) (subst (λ x. Precedes ops x (get_or behind k 0)) (sym r.2) late)
     ])
 
 -- What happened, counted.
 
-pub done_test : (outcome : Outcome) → is_done outcome ≡ true → outcome ≡ Done
+pub done_test : (outcome : Outcome) → is_outcome_done outcome ≡ true → outcome ≡ Done
 done_test Done h = refl
 done_test Failed h = absurd (false≢true h)
 done_test Unsure h = absurd (false≢true h)
 
-pub is_done_if : (ops : List RegOp) (place : ℕ) → IsDone ops place → is_done_at ops place ≡ true
-is_done_if ops place done = ap is_done done
+pub is_done_if : (ops : List RegOp) (place : ℕ) → IsDone ops place → is_op_done ops place ≡ true
+is_done_if ops place done = ap is_outcome_done done
 
 module _ (ops : List RegOp) where
-  pub below_more : (n : ℕ) → done_below ops (n + 1) ≡ cond (is_done_at ops n) (n ∷ done_below ops n) (done_below ops n)
-  below_more n = ap (done_below ops) (add-one n)
+  pub below_more : (n : ℕ) → done_places_below ops (n + 1) ≡ cond (is_op_done ops n) (n ∷ done_places_below ops n) (done_places_below ops n)
+  below_more n = ap (done_places_below ops) (add-one n)
 
-  below_all : (n place : ℕ) → place < n → IsDone ops place → has (done_below ops n) place ≡ true
+  below_all : (n place : ℕ) → place < n → IsDone ops place → has (done_places_below ops n) place ≡ true
   below_all zero place low done = absurd (omega (arith, low))
   below_all (suc n) place low done =
-      elim (cases_lt place n) as (λ _. has (done_below ops (suc n)) place ≡ true) [
-        | inl lt ↦ elim (is_done_at ops n) as (λ v. has (cond v (n ∷ done_below ops n) (done_below ops n)) place ≡ true) [
+      elim (cases_lt place n) as (λ _. has (done_places_below ops (suc n)) place ≡ true) [
+        | inl lt ↦ elim (is_op_done ops n) as (λ v. has (cond v (n ∷ done_places_below ops n) (done_places_below ops n)) place ≡ true) [
           | true ↦ or_right (eqb n place) _ (below_all n place lt done)
           | false ↦ below_all n place lt done
         ]
         | inr ge ↦
             let is : n ≡ place = omega (arith, low, ge) in
-            let here : is_done_at ops n ≡ true = is_done_if ops n (subst (IsDone ops) (sym is) done) in
+            let here : is_op_done ops n ≡ true = is_done_if ops n (subst (IsDone ops) (sym is) done) in
             rw here (or_left (eqb n place) _ (eq-eqb n place is))
       ]
 
-  below_each : (n place : ℕ) → has (done_below ops n) place ≡ true → (place < n) × (is_done_at ops place ≡ true)
+  below_each : (n place : ℕ) → has (done_places_below ops n) place ≡ true → (place < n) × (is_op_done ops place ≡ true)
   below_each zero place h = absurd (false≢true h)
   below_each (suc n) place h =
-      elim (is_done_at ops n) as (λ v. is_done_at ops n ≡ v → has (cond v (n ∷ done_below ops n) (done_below ops n)) place ≡ true → (place < suc n) × (is_done_at ops place ≡ true)) [
-        | true ↦ λ e k. elim (or_cases (eqb n place) (has (done_below ops n) place) k) as (λ _. (place < suc n) × (is_done_at ops place ≡ true)) [
-          | inl s ↦ let is : n ≡ place = eqb-true n place s in (omega (arith, is), subst (λ x. is_done_at ops x ≡ true) is e)
+      elim (is_op_done ops n) as (λ v. is_op_done ops n ≡ v → has (cond v (n ∷ done_places_below ops n) (done_places_below ops n)) place ≡ true → (place < suc n) × (is_op_done ops place ≡ true)) [
+        | true ↦ λ e k. elim (or_cases (eqb n place) (has (done_places_below ops n) place) k) as (λ _. (place < suc n) × (is_op_done ops place ≡ true)) [
+          | inl s ↦ let is : n ≡ place = eqb-true n place s in (omega (arith, is), subst (λ x. is_op_done ops x ≡ true) is e)
           | inr s ↦ let r = below_each n place s in (omega (arith, r.0), r.1)
         ]
         | false ↦ λ e k. let r = below_each n place k in (omega (arith, r.0), r.1)
@@ -207,11 +207,11 @@ module _ (ops : List RegOp) where
     apart_from_low n xs (λ q h. low q (or_right (eqb x q) (has xs q) h)),
   )
 
-  below_apart : (n : ℕ) → IsDistinct eqb (done_below ops n)
+  below_apart : (n : ℕ) → IsDistinct eqb (done_places_below ops n)
   below_apart zero = IsDistinct-from_apart eqb [] (λ i j d lt inside. absurd (omega (arith, inside)))
   below_apart (suc n) =
-      elim (is_done_at ops n) as (λ v. IsDistinct eqb (cond v (n ∷ done_below ops n) (done_below ops n))) [
-        | true ↦ IsDistinct-cons eqb n (done_below ops n) (apart_from_low n (done_below ops n) (λ q h. (below_each n q h).0)) (below_apart n)
+      elim (is_op_done ops n) as (λ v. IsDistinct eqb (cond v (n ∷ done_places_below ops n) (done_places_below ops n))) [
+        | true ↦ IsDistinct-cons eqb n (done_places_below ops n) (apart_from_low n (done_places_below ops n) (λ q h. (below_each n q h).0)) (below_apart n)
         | false ↦ below_apart n
       ]
 
@@ -233,28 +233,28 @@ outside_all p (x ∷ xs) h = (
   outside_all p xs (false_if _ (λ e. not_true _ (or_right (eqb x p) (has xs p) e) h)),
 )
 
-module _ (ops : List RegOp) (order : List ℕ) (apart : AreApart order) where
+module _ (ops : List RegOp) (order : List ℕ) (apart : HasNoneTwice order) where
   abbrev pub done_in : List ℕ
-  done_in = filter (is_done_at ops) order
+  done_in = filter (is_op_done ops) order
 
-  in_all : (q : ℕ) → is_done_at ops q ≡ true → has (done_below ops (length ops)) q ≡ true
+  in_all : (q : ℕ) → is_op_done ops q ≡ true → has (done_places_below ops (length ops)) q ≡ true
   in_all q h = let done = done_test _ h in below_all ops (length ops) q (done_there ops q done) done
 
-  pub whole_if : length done_in ≡ length (done_below ops (length ops)) → HasAllDone ops order
+  pub whole_if : length done_in ≡ length (done_places_below ops (length ops)) → HasAllDone ops order
   whole_if same place done = true_if _ (λ out.
       let t = is_done_if ops place done in
-      let outside : has done_in place ≡ false = false_if _ (λ h. not_true _ (passes_filter (is_done_at ops) order place h).0 out) in
-      let more = no_more (place ∷ done_in) (done_below ops (length ops)) (IsDistinct-cons eqb place done_in (outside_all place done_in outside) (distinct_filter (is_done_at ops) order apart))
-      (λ q h. elim (or_cases (eqb place q) (has done_in q) h) as (λ _. has (done_below ops (length ops)) q ≡ true) [
-        | inl is ↦ in_all q (subst (λ x. is_done_at ops x ≡ true) (eqb-true place q is) t)
-        | inr in' ↦ in_all q (passes_filter (is_done_at ops) order q in').1
+      let outside : has done_in place ≡ false = false_if _ (λ h. not_true _ (passes_filter (is_op_done ops) order place h).0 out) in
+      let more = no_more (place ∷ done_in) (done_places_below ops (length ops)) (IsDistinct-cons eqb place done_in (outside_all place done_in outside) (distinct_filter (is_op_done ops) order apart))
+      (λ q h. elim (or_cases (eqb place q) (has done_in q) h) as (λ _. has (done_places_below ops (length ops)) q ≡ true) [
+        | inl is ↦ in_all q (subst (λ x. is_op_done ops x ≡ true) (eqb-true place q is) t)
+        | inr in' ↦ in_all q (passes_filter (is_op_done ops) order q in').1
       ]) in
       absurd (omega (arith, more, same)))
 
-  pub counted_if : HasAllDone ops order → length done_in ≡ length (done_below ops (length ops))
+  pub counted_if : HasAllDone ops order → length done_in ≡ length (done_places_below ops (length ops))
   counted_if whole =
-      let low = no_more done_in (done_below ops (length ops)) (distinct_filter (is_done_at ops) order apart) (λ q h. in_all q (passes_filter (is_done_at ops) order q h).1) in
-      let high = no_more (done_below ops (length ops)) done_in (below_apart ops (length ops)) (λ q h.
+      let low = no_more done_in (done_places_below ops (length ops)) (distinct_filter (is_op_done ops) order apart) (λ q h. in_all q (passes_filter (is_op_done ops) order q h).1) in
+      let high = no_more (done_places_below ops (length ops)) done_in (below_apart ops (length ops)) (λ q h.
       let t = (below_each ops (length ops) q h).1 in
-      has_filter (is_done_at ops) order q (whole q (done_test _ t)) t) in
+      has_filter (is_op_done ops) order q (whole q (done_test _ t)) t) in
       omega (arith, low, high)

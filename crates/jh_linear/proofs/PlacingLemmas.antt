@@ -10,23 +10,23 @@ use Rattle.jh_linear.specs.declared.history.Stage.{Stage}
 use Rattle.jh_linear.specs.declared.config.Config.{Config}
 use Rattle.jh_linear.specs.declared.moves.Source.TheVariants.{Happened, Unknown}
 use Rattle.jh_linear.specs.Order.{op_at, has, Allows, IsDone}
-use Rattle.jh_linear.specs.Search.{AreNext, Follows, IsAfter, IsAt, IsProblem, IsThere, IsUnknown, MayFollow, PassesStages, call_of, coming_after, next_at, place_of, stage_at, stage_place, stages_in}
-use Rattle.jh_linear.proofs.SetLemmas.{has_here, has_push_cases, false_if, place_of as index_of}
+use Rattle.jh_linear.specs.Search.{AreNext, GoesOnWith, IsAfter, IsAt, IsProblem, CanBePlaced, IsUnsureChange, MayComeNext, PassesStages, source_call, arrivals_after, next_at, source_place, stage_at, stage_place, stages_in}
+use Rattle.jh_linear.proofs.PlaceSetLemmas.{has_here, has_push_cases, false_if, place_of as index_of}
 use Rattle.jh_linear.proofs.StageLemmas.{at_next, at_other, at_placed, done_possible, is_placed, may_come, not_arrival, of_pending, unknown_not_done, unknown_possible}
 use Rattle.jh_linear.proofs.NextLemmas.{is_unknown_at, next_other, next_placed}
 use Rattle.jh_linear.proofs.FollowLemmas.{not_pushed}
 
-pub follows_push : (ops : List RegOp) (front order : List ℕ) (value last next : Option ℤ) (p : ℕ) → Follows ops front value order last → MayFollow ops (front ++ order) p → Allows (op_at ops p).call last next → Follows ops front value (order ++ p ∷ []) next
+pub follows_push : (ops : List RegOp) (front order : List ℕ) (value last next : Option ℤ) (p : ℕ) → GoesOnWith ops front value order last → MayComeNext ops (front ++ order) p → Allows (op_at ops p).call last next → GoesOnWith ops front value (order ++ p ∷ []) next
 follows_push ops front [] value last next p is may allowed =
-    (subst (λ o. MayFollow ops o p) (append-nil front) may, (next, subst (λ v. Allows (op_at ops p).call v next) is allowed, refl))
+    (subst (λ o. MayComeNext ops o p) (append-nil front) may, (next, subst (λ v. Allows (op_at ops p).call v next) is allowed, refl))
 follows_push ops front (q ∷ order) value last next p is may allowed =
-    (is.0, (is.1.0, is.1.1, follows_push ops (front ++ q ∷ []) order is.1.0 last next p is.1.2 (subst (λ o. MayFollow ops o p) (sym (append_assoc front (q ∷ []) order)) may) allowed))
+    (is.0, (is.1.0, is.1.1, follows_push ops (front ++ q ∷ []) order is.1.0 last next p is.1.2 (subst (λ o. MayComeNext ops o p) (sym (append_assoc front (q ∷ []) order)) may) allowed))
 
 pub seen_at : (stages stages' : List Stage) (pending pending' : List ℕ) (k : ℕ) (b : Bool) → stages' ≡ stages → pending' ≡ pending → has pending' (stage_at stages' k).place ≡ b → has pending (stage_at stages k).place ≡ b
 seen_at stages stages' pending pending' k b e f h = subst (λ s. has pending (stage_at s k).place ≡ b) e (subst (λ p. has p (stage_at stages' k).place ≡ b) f h)
 
-pub coming_same : (arrivals arrivals' : List ℕ) (stages stages' : List Stage) (k : ℕ) → arrivals' ≡ arrivals → stages' ≡ stages → coming_after arrivals' stages' k ≡ coming_after arrivals stages k
-coming_same arrivals arrivals' stages stages' k e f = ap (λ a. coming_after a stages' k) e ∙ ap (λ s. coming_after arrivals s k) f
+pub coming_same : (arrivals arrivals' : List ℕ) (stages stages' : List Stage) (k : ℕ) → arrivals' ≡ arrivals → stages' ≡ stages → arrivals_after arrivals' stages' k ≡ arrivals_after arrivals stages k
+coming_same arrivals arrivals' stages stages' k e f = ap (λ a. arrivals_after a stages' k) e ∙ ap (λ s. arrivals_after arrivals s k) f
 
 module _ (problem : Problem) (stood : IsProblem problem) where
   abbrev ops : List RegOp
@@ -41,7 +41,7 @@ module _ (problem : Problem) (stood : IsProblem problem) where
 
   -- a stage whose place is not pending is passed
   pub passes_one : (stage : ℕ) (pending : List ℕ) (later : ℕ) (left next : List ℕ) → later < stages_in problem → has left (stage_place problem later) ≡ false
-      → (later + 1 < stages_in problem → next ≡ left ++ coming_after problem.history.arrivals.items problem.history.stages.items later)
+      → (later + 1 < stages_in problem → next ≡ left ++ arrivals_after problem.history.arrivals.items problem.history.stages.items later)
       → ((order : List ℕ) → At order stage pending → At order later left)
       → (order : List ℕ) → At order stage pending → At order (later + 1) next
   passes_one stage pending later left next lt gone more so_far order known =
@@ -50,20 +50,20 @@ module _ (problem : Problem) (stood : IsProblem problem) where
       at_next ops problem.history.arrivals.items problem.history.stages.items stood.history order later left next now lt here more
 
   not_unknown : (p : ℕ) → IsDone ops p → has problem.history.unknown.items p ≡ false
-  not_unknown p done = false_if _ (λ h. let r = index_of problem.history.unknown.items p h in unknown_not_done ops p (subst (IsUnknown ops) r.2 (stood.classes.each r.0 0 r.1)) done)
+  not_unknown p done = false_if _ (λ h. let r = index_of problem.history.unknown.items p h in unknown_not_done ops p (subst (IsUnsureChange ops) r.2 (stood.classes.each r.0 0 r.1)) done)
 
   -- what is pending is not placed
   in_order : (order : List ℕ) (stage : ℕ) (pending : List ℕ) → At order stage pending → stage < stages_in problem → has pending (stage_place problem stage) ≡ true → has order (stage_place problem stage) ≡ false
   in_order order stage pending known lt h = (of_pending ops problem.history.arrivals.items problem.history.stages.items stood.history order stage pending (stage_place problem stage) known lt h).1
 
   -- an operation that happened is placed
-  pub stands_happened : (config config' : Config) (i : ℕ) (value : Option ℤ) (left : List ℕ) → config.stage < stages_in problem → i < length config.pending.items → Allows (call_of problem config (Happened i)) config.value value
+  pub stands_happened : (config config' : Config) (i : ℕ) (value : Option ℤ) (left : List ℕ) → config.stage < stages_in problem → i < length config.pending.items → Allows (source_call problem config (Happened i)) config.value value
       → left ≡ remove config.pending.items i → PassesStages problem config.stage left config'.stage config'.pending.items → config'.next.items ≡ config.next.items → config'.value ≡ value
-      → IsAfter problem config (place_of problem config (Happened i)) value config'
+      → IsAfter problem config (source_place problem config (Happened i)) value config'
   stands_happened config config' i value left lt inside allowed left_is passes next_is value_is =
       let arrivals : List ℕ = problem.history.arrivals.items in
       let stages : List Stage = problem.history.stages.items in
-      let p : ℕ = place_of problem config (Happened i) in
+      let p : ℕ = source_place problem config (Happened i) in
       record {
         rises = passes.rises;
         value_is = value_is;
@@ -74,8 +74,8 @@ module _ (problem : Problem) (stood : IsProblem problem) where
             let placed = at_placed ops arrivals stages stood.history order config.stage config.pending.items i stands.known lt inside in
             let known = passes.at (order ++ p ∷ []) (subst (At (order ++ p ∷ []) config.stage) (sym left_is) placed) in
             record {
-              follows = subst (λ v. Follows ops [] problem.initial (order ++ p ∷ []) v) (sym value_is) (follows_push ops [] order problem.initial config.value value p stands.follows may allowed);
-              searched = λ q h. elim (has_push_cases order p q h) as (λ _. IsDone ops q ⊎ IsUnknown ops q) [ inl old ↦ stands.searched q old | inr is ↦ inl (subst (IsDone ops) is r.0) ];
+              follows = subst (λ v. GoesOnWith ops [] problem.initial (order ++ p ∷ []) v) (sym value_is) (follows_push ops [] order problem.initial config.value value p stands.follows may allowed);
+              searched = λ q h. elim (has_push_cases order p q h) as (λ _. IsDone ops q ⊎ IsUnsureChange ops q) [ inl old ↦ stands.searched q old | inr is ↦ inl (subst (IsDone ops) is r.0) ];
               known = known;
               used = next_other ops problem.history.unknown.items problem.history.classes.items stood.classes order config'.next.items p (not_unknown p r.0) (subst (λ ns. AreNext problem.history.unknown.items problem.history.classes.items order ns) (sym next_is) stands.used);
               low = passes.low;
@@ -84,13 +84,13 @@ module _ (problem : Problem) (stood : IsProblem problem) where
       }
 
   -- an operation of unknown outcome is placed
-  pub stands_unknown : (config config' : Config) (k : ℕ) (value : Option ℤ) → config.stage < stages_in problem → IsThere problem config (Unknown k) → Allows (call_of problem config (Unknown k)) config.value value
+  pub stands_unknown : (config config' : Config) (k : ℕ) (value : Option ℤ) → config.stage < stages_in problem → CanBePlaced problem config (Unknown k) → Allows (source_call problem config (Unknown k)) config.value value
       → config'.stage ≡ config.stage → config'.pending.items ≡ config.pending.items → config'.next.items ≡ set config.next.items k (next_at config.next.items k + 1) → config'.value ≡ value
-      → IsAfter problem config (place_of problem config (Unknown k)) value config'
+      → IsAfter problem config (source_place problem config (Unknown k)) value config'
   stands_unknown config config' k value lt there allowed stage_is pending_is next_is value_is =
       let arrivals : List ℕ = problem.history.arrivals.items in
       let stages : List Stage = problem.history.stages.items in
-      let p : ℕ = place_of problem config (Unknown k) in
+      let p : ℕ = source_place problem config (Unknown k) in
       let bound = stood.classes.bounded k there.0.0 in
       let un = is_unknown_at ops problem.history.unknown.items problem.history.classes.items stood.classes (next_at config.next.items k) (omega (arith, there.0.1, bound.1)) in
       let not_done : IsDone ops p → ⊥ = unknown_not_done ops p un in
@@ -103,8 +103,8 @@ module _ (problem : Problem) (stood : IsProblem problem) where
             let may = may_come ops arrivals stages stood.history order config.stage config.pending.items p stands.known lt (unknown_possible ops p un) fresh there.1 in
             let known = at_other ops arrivals stages stood.history order config.stage config.pending.items p stands.known (not_arrival ops arrivals stages stood.history p not_done) in
             record {
-              follows = subst (λ v. Follows ops [] problem.initial (order ++ p ∷ []) v) (sym value_is) (follows_push ops [] order problem.initial config.value value p stands.follows may allowed);
-              searched = λ q h. elim (has_push_cases order p q h) as (λ _. IsDone ops q ⊎ IsUnknown ops q) [ inl old ↦ stands.searched q old | inr is ↦ inr (subst (IsUnknown ops) is un) ];
+              follows = subst (λ v. GoesOnWith ops [] problem.initial (order ++ p ∷ []) v) (sym value_is) (follows_push ops [] order problem.initial config.value value p stands.follows may allowed);
+              searched = λ q h. elim (has_push_cases order p q h) as (λ _. IsDone ops q ⊎ IsUnsureChange ops q) [ inl old ↦ stands.searched q old | inr is ↦ inr (subst (IsUnsureChange ops) is un) ];
               known = subst (λ s. At (order ++ p ∷ []) s config'.pending.items) (sym stage_is) (subst (At (order ++ p ∷ []) config.stage) (sym pending_is) known);
               used = next_placed ops problem.history.unknown.items problem.history.classes.items stood.classes order config.next.items config'.next.items k there.0.0 there.0.1 next_is stands.used;
               low = subst (λ s. s ≤ stages_in problem) (sym stage_is) stands.low;

@@ -7,15 +7,15 @@ use Rattle.std.proofs.lemmas.List.{drop-take, take-append-drop, take-take, get_o
 use Rattle.std.proofs.lemmas.List.Elements.{filter-append}
 use Rattle.jh_linear.specs.declared.register.RegOp.{RegOp}
 use Rattle.jh_linear.specs.declared.history.Stage.{Stage}
-use Rattle.jh_linear.specs.Order.{no_op, op_at, IsPossible, IsDone, IsBefore, EndsBefore, has, EndAfterInvoked}
+use Rattle.jh_linear.specs.Order.{no_op, op_at, IsPossible, IsDone, Precedes, EndsBefore, has, EndAfterInvoked}
 use Rattle.jh_linear.specs.declared.register.Outcome.{Outcome}
 use Rattle.jh_linear.specs.declared.register.Outcome.TheVariants.{Done, Failed, Unsure}
 use Rattle.jh_linear.specs.declared.register.RegCall.{RegCall}
-use Rattle.jh_linear.specs.Search.{is_unknown, IsUnknown, MayFollow, stage_at, arrived_by, IsHistory, without, IsAt, invoked_at, end_at, coming_after}
-use Rattle.jh_linear.proofs.SetLemmas.{has_append, has_kept, has_push_cases, has_here, place_of, has_without, in_without, apart_halves, has_taken, has_dropped, without_none, without_push, not_true, true_if, false_if, or_left, or_right, eqb_self, same_tests}
+use Rattle.jh_linear.specs.Search.{is_unsure_change, IsUnsureChange, MayComeNext, stage_at, arrivals_by, IsHistory, places_without, IsAt, invocation_at, end_at, arrivals_after}
+use Rattle.jh_linear.proofs.PlaceSetLemmas.{has_append, has_kept, has_push_cases, has_here, place_of, has_without, in_without, apart_halves, has_taken, has_dropped, without_none, without_push, not_true, true_if, false_if, or_left, or_right, eqb_self, same_tests}
 
 -- nothing is before itself
-pub not_before_itself : (ops : List RegOp) → EndAfterInvoked ops → (p : ℕ) → IsBefore ops p p → ⊥
+pub not_before_itself : (ops : List RegOp) → EndAfterInvoked ops → (p : ℕ) → Precedes ops p p → ⊥
 not_before_itself ops ends p h =
     elim (op_at ops p).ended as (λ e. (op_at ops p).ended ≡ e → EndsBefore e (op_at ops p).invoked → ⊥) [
       | None ↦ λ _ k. k
@@ -25,18 +25,18 @@ not_before_itself ops ends p h =
 pub done_possible : (ops : List RegOp) (p : ℕ) → IsDone ops p → IsPossible ops p
 done_possible ops p done failed = let both = sym done ∙ failed in cc
 
-unknown_unsure : (outcome : Outcome) (call : RegCall) → is_unknown outcome call ≡ true → outcome ≡ Unsure
+unknown_unsure : (outcome : Outcome) (call : RegCall) → is_unsure_change outcome call ≡ true → outcome ≡ Unsure
 unknown_unsure Failed call h = absurd (false≢true h)
 unknown_unsure Done call h = absurd (false≢true h)
 unknown_unsure Unsure call h = refl
 
-pub unknown_is : (ops : List RegOp) (p : ℕ) → IsUnknown ops p → (op_at ops p).outcome ≡ Unsure
+pub unknown_is : (ops : List RegOp) (p : ℕ) → IsUnsureChange ops p → (op_at ops p).outcome ≡ Unsure
 unknown_is ops p h = unknown_unsure (op_at ops p).outcome (op_at ops p).call h
 
-pub unknown_possible : (ops : List RegOp) (p : ℕ) → IsUnknown ops p → IsPossible ops p
+pub unknown_possible : (ops : List RegOp) (p : ℕ) → IsUnsureChange ops p → IsPossible ops p
 unknown_possible ops p h failed = let both = sym (unknown_is ops p h) ∙ failed in cc
 
-pub unknown_not_done : (ops : List RegOp) (p : ℕ) → IsUnknown ops p → IsDone ops p → ⊥
+pub unknown_not_done : (ops : List RegOp) (p : ℕ) → IsUnsureChange ops p → IsDone ops p → ⊥
 unknown_not_done ops p h done = let both = sym (unknown_is ops p h) ∙ done in cc
 
 -- past the end of the list all have failed
@@ -59,9 +59,9 @@ distinct_take n xs d = IsDistinct-from_apart eqb (take n xs) (λ i j e lt inside
     let low : j < n = omega (arith, length-take {A = ℕ}) in
     rw (get_or-take n xs i e (omega arith), get_or-take n xs j e low) (apart_from_distinct eqb xs i j e d lt (omega arith)))
 
-pub removed : (order all pending : List ℕ) (i : ℕ) → pending ≡ without order all → IsDistinct eqb all → i < length pending → remove pending i ≡ without (order ++ get_or pending i 0 ∷ []) all
+pub removed : (order all pending : List ℕ) (i : ℕ) → pending ≡ places_without order all → IsDistinct eqb all → i < length pending → remove pending i ≡ places_without (order ++ get_or pending i 0 ∷ []) all
 removed order all pending i is d inside =
-    let Claim : List ℕ → Type 0 = λ xs. i < length xs → remove xs i ≡ without (order ++ get_or xs i 0 ∷ []) all in
+    let Claim : List ℕ → Type 0 = λ xs. i < length xs → remove xs i ≡ places_without (order ++ get_or xs i 0 ∷ []) all in
     subst Claim (sym is) (λ lt. sym (without_push order all i d lt)) inside
 
 pub taken_on : (xs : List ℕ) (n m : ℕ) → n ≤ m → take m xs ≡ take n xs ++ take (m - n) (drop n xs)
@@ -71,23 +71,23 @@ taken_on xs n m le =
     ap (λ j. take j xs) is ∙ sym (take-append-drop n (take (n + k) xs)) ∙ rw (take-take n (n + k) xs (omega arith), drop-take n k xs) refl
 
 -- an operation that comes before another ends before that one is invoked
-pub end_before : (ops : List RegOp) (a b : ℕ) → IsBefore ops a b → end_at ops a < invoked_at ops b
+pub end_before : (ops : List RegOp) (a b : ℕ) → Precedes ops a b → end_at ops a < invocation_at ops b
 end_before ops a b h = elim (op_at ops a).ended as (λ e. EndsBefore e (op_at ops b).invoked → unwrap_or e (2 ^ 64 - 1) < (op_at ops b).invoked) [
   | None ↦ λ k. absurd k
   | Some e ↦ λ k. k
 ] h.1
 
-without_same : (a b xs : List ℕ) → ((q : ℕ) → has xs q ≡ true → has a q ≡ has b q) → without a xs ≡ without b xs
+without_same : (a b xs : List ℕ) → ((q : ℕ) → has xs q ≡ true → has a q ≡ has b q) → places_without a xs ≡ places_without b xs
 without_same a b [] same = refl
 without_same a b (x ∷ xs) same =
     let rest = without_same a b xs (λ q h. same q (or_right (eqb x q) _ h)) in
-    rw (same x (or_left (eqb x x) _ (eqb_self x))) (elim (has b x) as (λ v. cond (not v) (x ∷ without a xs) (without a xs) ≡ cond (not v) (x ∷ without b xs) (without b xs)) [
+    rw (same x (or_left (eqb x x) _ (eqb_self x))) (elim (has b x) as (λ v. cond (not v) (x ∷ places_without a xs) (places_without a xs) ≡ cond (not v) (x ∷ places_without b xs) (places_without b xs)) [
       | true ↦ rest
       | false ↦ ap (λ ys. x ∷ ys) rest
     ])
 
 -- where an order has none of the list, a longer one leaves out what is not the new place
-pub without_other : (order xs : List ℕ) (p : ℕ) → has xs p ≡ false → without (order ++ p ∷ []) xs ≡ without order xs
+pub without_other : (order xs : List ℕ) (p : ℕ) → has xs p ≡ false → places_without (order ++ p ∷ []) xs ≡ places_without order xs
 without_other order xs p out = without_same (order ++ p ∷ []) order xs (λ q there. same_tests (has (order ++ p ∷ []) q) (has order q)
     (λ h. elim (has_push_cases order p q h) as (λ _. has order q ≡ true) [
       | inl old ↦ old
@@ -100,7 +100,7 @@ module _ (ops : List RegOp) (arrivals : List ℕ) (stages : List Stage) (history
   End k = end_at ops (stage_at stages k).place
 
   -- what is possible, not placed and invoked before the end of the stage may come next
-  pub may_come : (order : List ℕ) (stage : ℕ) (pending : List ℕ) (p : ℕ) → IsAt arrivals stages order stage pending → stage < length stages → IsPossible ops p → has order p ≡ false → invoked_at ops p ≤ End stage → MayFollow ops order p
+  pub may_come : (order : List ℕ) (stage : ℕ) (pending : List ℕ) (p : ℕ) → IsAt arrivals stages order stage pending → stage < length stages → IsPossible ops p → has order p ≡ false → invocation_at ops p ≤ End stage → MayComeNext ops order p
   may_come order stage pending p known lt possible fresh early = record {
     there = possible_there ops p possible;
     possible = possible;
@@ -115,20 +115,20 @@ module _ (ops : List RegOp) (arrivals : List ℕ) (stages : List Stage) (history
   not_arrival p out = false_if _ (λ h. out (arrival_done p h))
 
   -- what is pending happened, is not placed and was invoked before the end of the stage
-  pub of_pending : (order : List ℕ) (stage : ℕ) (pending : List ℕ) (p : ℕ) → IsAt arrivals stages order stage pending → stage < length stages → has pending p ≡ true → IsDone ops p × (has order p ≡ false) × (invoked_at ops p ≤ End stage)
+  pub of_pending : (order : List ℕ) (stage : ℕ) (pending : List ℕ) (p : ℕ) → IsAt arrivals stages order stage pending → stage < length stages → has pending p ≡ true → IsDone ops p × (has order p ≡ false) × (invocation_at ops p ≤ End stage)
   of_pending order stage pending p known lt h =
-      let both = in_without order (arrived_by arrivals stages stage) p (subst (λ xs. has xs p ≡ true) (known.pending_is lt) h) in
+      let both = in_without order (arrivals_by arrivals stages stage) p (subst (λ xs. has xs p ≡ true) (known.pending_is lt) h) in
       (arrival_done p (has_taken arrivals _ p both.0), both.1, history.in_time stage p lt both.0)
 
-  pub may_follow : (order : List ℕ) (stage : ℕ) (pending : List ℕ) (p : ℕ) → IsAt arrivals stages order stage pending → stage < length stages → has pending p ≡ true → MayFollow ops order p
+  pub may_follow : (order : List ℕ) (stage : ℕ) (pending : List ℕ) (p : ℕ) → IsAt arrivals stages order stage pending → stage < length stages → has pending p ≡ true → MayComeNext ops order p
   may_follow order stage pending p known lt h =
       let r = of_pending order stage pending p known lt h in
       may_come order stage pending p known lt (done_possible ops p r.0) r.1 r.2
 
   -- what happened and may come next is pending
-  pub is_pending : (order : List ℕ) (stage : ℕ) (pending : List ℕ) (p : ℕ) → IsAt arrivals stages order stage pending → (lt : stage < length stages) → has order (stage_at stages stage).place ≡ false → IsDone ops p → MayFollow ops order p → has pending p ≡ true
+  pub is_pending : (order : List ℕ) (stage : ℕ) (pending : List ℕ) (p : ℕ) → IsAt arrivals stages order stage pending → (lt : stage < length stages) → has order (stage_at stages stage).place ≡ false → IsDone ops p → MayComeNext ops order p → has pending p ≡ true
   is_pending order stage pending p known lt waits done may =
-      let here : has (arrived_by arrivals stages stage) p ≡ true = history.enough stage p lt done (λ before. not_true _ (may.ready _ before) waits) in
+      let here : has (arrivals_by arrivals stages stage) p ≡ true = history.enough stage p lt done (λ before. not_true _ (may.ready _ before) waits) in
       subst (λ xs. has xs p ≡ true) (sym (known.pending_is lt)) (has_without order _ p here may.fresh)
 
   -- the first stage
@@ -143,7 +143,7 @@ module _ (ops : List RegOp) (arrivals : List ℕ) (stages : List Stage) (history
   pub at_placed : (order : List ℕ) (stage : ℕ) (pending : List ℕ) (i : ℕ) → IsAt arrivals stages order stage pending → stage < length stages → i < length pending → IsAt arrivals stages (order ++ get_or pending i 0 ∷ []) stage (remove pending i)
   at_placed order stage pending i known lt inside =
       let p : ℕ = get_or pending i 0 in
-      let all : List ℕ = arrived_by arrivals stages stage in
+      let all : List ℕ = arrivals_by arrivals stages stage in
       record {
         passed = λ k below. has_kept order p _ (known.passed k below);
         pending_is = λ _. removed order all pending i (known.pending_is lt) (distinct_take _ arrivals history.distinct) inside;
@@ -157,8 +157,8 @@ module _ (ops : List RegOp) (arrivals : List ℕ) (stages : List Stage) (history
   pub at_other : (order : List ℕ) (stage : ℕ) (pending : List ℕ) (p : ℕ) → IsAt arrivals stages order stage pending → has arrivals p ≡ false → IsAt arrivals stages (order ++ p ∷ []) stage pending
   at_other order stage pending p known out = record {
     passed = λ k below. has_kept order p _ (known.passed k below);
-    pending_is = λ lt. known.pending_is lt ∙ sym (without_other order (arrived_by arrivals stages stage) p (false_if _ (λ h. not_true _ (has_taken arrivals _ p h) out)));
-    arrived = λ lt q h in'. elim (has_push_cases order p q h) as (λ _. has (arrived_by arrivals stages stage) q ≡ true) [
+    pending_is = λ lt. known.pending_is lt ∙ sym (without_other order (arrivals_by arrivals stages stage) p (false_if _ (λ h. not_true _ (has_taken arrivals _ p h) out)));
+    arrived = λ lt q h in'. elim (has_push_cases order p q h) as (λ _. has (arrivals_by arrivals stages stage) q ≡ true) [
       | inl e ↦ known.arrived lt q e in'
       | inr e ↦ absurd (not_true _ in' (subst (λ x. has arrivals x ≡ false) e out))
     ];
@@ -168,14 +168,14 @@ module _ (ops : List RegOp) (arrivals : List ℕ) (stages : List Stage) (history
   pub is_placed : EndAfterInvoked ops → (order : List ℕ) (stage : ℕ) (pending : List ℕ) → IsAt arrivals stages order stage pending → (lt : stage < length stages) → has pending (stage_at stages stage).place ≡ false → has order (stage_at stages stage).place ≡ true
   is_placed ends order stage pending known lt h =
       let p : ℕ = (stage_at stages stage).place in
-      let here : has (arrived_by arrivals stages stage) p ≡ true = history.enough stage p lt (history.are_done stage lt) (not_before_itself ops ends p) in
+      let here : has (arrivals_by arrivals stages stage) p ≡ true = history.enough stage p lt (history.are_done stage lt) (not_before_itself ops ends p) in
       true_if _ (λ no. not_true _ (subst (λ xs. has xs p ≡ true) (sym (known.pending_is lt)) (has_without order _ p here no)) h)
 
   -- the next stage, which is the last or brings what is coming
-  pub at_next : (order : List ℕ) (stage : ℕ) (pending next : List ℕ) → IsAt arrivals stages order stage pending → stage < length stages → has order (stage_at stages stage).place ≡ true → (stage + 1 < length stages → next ≡ pending ++ coming_after arrivals stages stage) → IsAt arrivals stages order (stage + 1) next
+  pub at_next : (order : List ℕ) (stage : ℕ) (pending next : List ℕ) → IsAt arrivals stages order stage pending → stage < length stages → has order (stage_at stages stage).place ≡ true → (stage + 1 < length stages → next ≡ pending ++ arrivals_after arrivals stages stage) → IsAt arrivals stages order (stage + 1) next
   at_next order stage pending next known lt here more =
-      let now : List ℕ = arrived_by arrivals stages stage in
-      let coming : List ℕ = coming_after arrivals stages stage in
+      let now : List ℕ = arrivals_by arrivals stages stage in
+      let coming : List ℕ = arrivals_after arrivals stages stage in
       record {
         passed = λ k below. elim (cases_lt k stage) as (λ _. has order (stage_at stages k).place ≡ true) [
           | inl before ↦ known.passed k before
@@ -185,11 +185,11 @@ module _ (ops : List RegOp) (arrivals : List ℕ) (stages : List Stage) (history
             let whole = taken_on arrivals (stage_at stages stage).arrived (stage_at stages (stage + 1)).arrived (history.rises stage room) in
             more room
             ∙ ap (λ xs. xs ++ coming) (known.pending_is lt)
-            ∙ ap (λ xs. without order now ++ xs) (sym (without_none order coming (λ q h. false_if _ (λ placed.
+            ∙ ap (λ xs. places_without order now ++ xs) (sym (without_none order coming (λ q h. false_if _ (λ placed.
             let late = has_taken _ _ q h in
             apart_halves arrivals _ q history.distinct (known.arrived lt q placed (has_dropped arrivals _ q late)) late))))
             ∙ sym (filter-append (λ p. not (has order p)) now coming)
-            ∙ ap (without order) (sym whole);
+            ∙ ap (places_without order) (sym whole);
         arrived = λ room q h in'.
             let whole = taken_on arrivals (stage_at stages stage).arrived (stage_at stages (stage + 1)).arrived (history.rises stage room) in
             subst (λ xs. has xs q ≡ true) (sym whole) (has_append now coming q ∙ or_left _ _ (known.arrived lt q h in'));

@@ -9,13 +9,13 @@ use Rattle.jh_linear.specs.declared.register.RegOp.{RegOp}
 use Rattle.jh_linear.specs.declared.history.Problem.{Problem}
 use Rattle.jh_linear.specs.declared.search.Search.{Search}
 use Rattle.jh_linear.specs.declared.verdict.Stuck.{Stuck}
-use Rattle.jh_linear.specs.Checking.{NoneLate, is_done}
-use Rattle.jh_linear.specs.Order.{Allows, AreApart, EndAfterInvoked, EndsBefore, HasAllDone, IsBefore, IsDone, IsOrder, IsPartialOrder, IsPossible, Runs, has, no_op, op_at}
+use Rattle.jh_linear.specs.Checking.{IsNoneLate, is_outcome_done}
+use Rattle.jh_linear.specs.Order.{Allows, HasNoneTwice, EndAfterInvoked, EndsBefore, HasAllDone, Precedes, IsDone, IsOrder, IsPartialOrder, IsPossible, IsLegalFrom, has, no_op, op_at}
 use Rattle.jh_linear.specs.Search.{CanReach, IsExhausted, IsProblem, end_at, furthest_order, stage_place, stages_in}
-use Rattle.jh_linear.specs.Stuck.{IsStuck, cut, end_of, op_in, outcome_before_end, outcome_in}
+use Rattle.jh_linear.specs.Stuck.{IsStuck, ops_before, op_end, op_in, outcome_before_end, outcome_in}
 use Rattle.jh_linear.specs.StuckInside.{IsKnownUntil, is_known, is_known_at}
 use Rattle.jh_linear.specs.Verdict.{HaveNoOrder}
-use Rattle.jh_linear.proofs.SetLemmas.{has_here, place_of, not_true}
+use Rattle.jh_linear.proofs.PlaceSetLemmas.{has_here, place_of, not_true}
 use Rattle.jh_linear.proofs.StageLemmas.{distinct_take, not_before_itself, possible_there}
 use Rattle.jh_linear.proofs.OrderLemmas.{keeps_if, late_if}
 use Rattle.jh_linear.proofs.PartialLemmas.{follows_of, partial}
@@ -41,99 +41,99 @@ still op failed true = failed
 still op failed false = kept_failed op.outcome failed
 
 module _ (n : ℕ) (op : RegOp) where
-  done_in : outcome_in n op ≡ Done → (op.outcome ≡ Done) × (op.invoked < n) × (end_of op < n)
-  done_in h = elim (ltb op.invoked n) as (λ b. ltb op.invoked n ≡ b → cond b (cond (ltb (end_of op) n) op.outcome (outcome_before_end op.outcome)) Failed ≡ Done → (op.outcome ≡ Done) × (op.invoked < n) × (end_of op < n)) [
-    | true ↦ λ e k. elim (ltb (end_of op) n) as (λ b. ltb (end_of op) n ≡ b → cond b op.outcome (outcome_before_end op.outcome) ≡ Done → (op.outcome ≡ Done) × (op.invoked < n) × (end_of op < n)) [
+  done_in : outcome_in n op ≡ Done → (op.outcome ≡ Done) × (op.invoked < n) × (op_end op < n)
+  done_in h = elim (ltb op.invoked n) as (λ b. ltb op.invoked n ≡ b → cond b (cond (ltb (op_end op) n) op.outcome (outcome_before_end op.outcome)) Failed ≡ Done → (op.outcome ≡ Done) × (op.invoked < n) × (op_end op < n)) [
+    | true ↦ λ e k. elim (ltb (op_end op) n) as (λ b. ltb (op_end op) n ≡ b → cond b op.outcome (outcome_before_end op.outcome) ≡ Done → (op.outcome ≡ Done) × (op.invoked < n) × (op_end op < n)) [
       | true ↦ λ f l. (l, ltb-true _ _ e, ltb-true _ _ f)
       | false ↦ λ f l. absurd (not_done_before op.outcome l)
     ] refl k
     | false ↦ λ e k. absurd (let bad = k in cc)
   ] refl h
 
-  to_done : op.outcome ≡ Done → op.invoked < n → end_of op < n → outcome_in n op ≡ Done
-  to_done done low end = rw (lt-ltb op.invoked n low) (rw (lt-ltb (end_of op) n end) done)
+  to_done : op.outcome ≡ Done → op.invoked < n → op_end op < n → outcome_in n op ≡ Done
+  to_done done low end = rw (lt-ltb op.invoked n low) (rw (lt-ltb (op_end op) n end) done)
 
   possible_in : outcome_in n op ≢ Failed → (op.outcome ≢ Failed) × (op.invoked < n)
-  possible_in h = elim (ltb op.invoked n) as (λ b. ltb op.invoked n ≡ b → cond b (cond (ltb (end_of op) n) op.outcome (outcome_before_end op.outcome)) Failed ≢ Failed → (op.outcome ≢ Failed) × (op.invoked < n)) [
-    | true ↦ λ e k. (λ failed. k (still op failed (ltb (end_of op) n)), ltb-true _ _ e)
+  possible_in h = elim (ltb op.invoked n) as (λ b. ltb op.invoked n ≡ b → cond b (cond (ltb (op_end op) n) op.outcome (outcome_before_end op.outcome)) Failed ≢ Failed → (op.outcome ≢ Failed) × (op.invoked < n)) [
+    | true ↦ λ e k. (λ failed. k (still op failed (ltb (op_end op) n)), ltb-true _ _ e)
     | false ↦ λ e k. absurd (k refl)
   ] refl h
 
   to_possible : op.outcome ≢ Failed → op.invoked < n → outcome_in n op ≢ Failed
-  to_possible possible low = rw (lt-ltb op.invoked n low) (elim (ltb (end_of op) n) as (λ b. cond b op.outcome (outcome_before_end op.outcome) ≢ Failed) [
+  to_possible possible low = rw (lt-ltb op.invoked n low) (elim (ltb (op_end op) n) as (λ b. cond b op.outcome (outcome_before_end op.outcome) ≢ Failed) [
     | true ↦ possible
     | false ↦ failed_before op.outcome possible
   ])
 
 outcome_none : (n : ℕ) → outcome_in n no_op ≡ Failed
-outcome_none n = elim (ltb 0 n) as (λ b. cond b (cond (ltb (end_of no_op) n) Failed Failed) Failed ≡ Failed) [
-  | true ↦ elim (ltb (end_of no_op) n) as (λ b. cond b Failed Failed ≡ Failed) [ true ↦ refl | false ↦ refl ]
+outcome_none n = elim (ltb 0 n) as (λ b. cond b (cond (ltb (op_end no_op) n) Failed Failed) Failed ≡ Failed) [
+  | true ↦ elim (ltb (op_end no_op) n) as (λ b. cond b Failed Failed ≡ Failed) [ true ↦ refl | false ↦ refl ]
   | false ↦ refl
 ]
 
 module _ (ops : List RegOp) (n : ℕ) where
-  cut_at : (p : ℕ) → op_at (cut ops n) p ≡ op_in n (op_at ops p)
-  cut_at p = elim (cases_lt p (length ops)) as (λ _. op_at (cut ops n) p ≡ op_in n (op_at ops p)) [
+  cut_at : (p : ℕ) → op_at (ops_before ops n) p ≡ op_in n (op_at ops p)
+  cut_at p = elim (cases_lt p (length ops)) as (λ _. op_at (ops_before ops n) p ≡ op_in n (op_at ops p)) [
     | inl lt ↦ get_or-map (op_in n) ops p no_op no_op lt
     | inr le ↦
-        get_or_past (cut ops n) p no_op (omega (arith, le, length-map ops (op_in n)))
+        get_or_past (ops_before ops n) p no_op (omega (arith, le, length-map ops (op_in n)))
         ∙ sym (ap (op_in n) (get_or_past ops p no_op le) ∙ ap (λ o. record no_op { outcome = o }) (outcome_none n))
   ]
 
-  call_at : (p : ℕ) → (op_at (cut ops n) p).call ≡ (op_at ops p).call
+  call_at : (p : ℕ) → (op_at (ops_before ops n) p).call ≡ (op_at ops p).call
   call_at p = ap (λ o. o.call) (cut_at p)
 
-  ended_at : (p : ℕ) → (op_at (cut ops n) p).ended ≡ (op_at ops p).ended
+  ended_at : (p : ℕ) → (op_at (ops_before ops n) p).ended ≡ (op_at ops p).ended
   ended_at p = ap (λ o. o.ended) (cut_at p)
 
-  invoked_in : (p : ℕ) → (op_at (cut ops n) p).invoked ≡ (op_at ops p).invoked
+  invoked_in : (p : ℕ) → (op_at (ops_before ops n) p).invoked ≡ (op_at ops p).invoked
   invoked_in p = ap (λ o. o.invoked) (cut_at p)
 
-  done_cut : (p : ℕ) → IsDone (cut ops n) p → IsDone ops p × ((op_at ops p).invoked < n) × (end_at ops p < n)
+  done_cut : (p : ℕ) → IsDone (ops_before ops n) p → IsDone ops p × ((op_at ops p).invoked < n) × (end_at ops p < n)
   done_cut p done = done_in n (op_at ops p) (sym (ap (λ o. o.outcome) (cut_at p)) ∙ done)
 
-  cut_done : (p : ℕ) → IsDone ops p → (op_at ops p).invoked < n → end_at ops p < n → IsDone (cut ops n) p
+  cut_done : (p : ℕ) → IsDone ops p → (op_at ops p).invoked < n → end_at ops p < n → IsDone (ops_before ops n) p
   cut_done p done low end = ap (λ o. o.outcome) (cut_at p) ∙ to_done n (op_at ops p) done low end
 
-  possible_cut : (p : ℕ) → IsPossible (cut ops n) p → IsPossible ops p × ((op_at ops p).invoked < n)
+  possible_cut : (p : ℕ) → IsPossible (ops_before ops n) p → IsPossible ops p × ((op_at ops p).invoked < n)
   possible_cut p possible = possible_in n (op_at ops p) (λ failed. possible (ap (λ o. o.outcome) (cut_at p) ∙ failed))
 
-  cut_possible : (p : ℕ) → IsPossible ops p → (op_at ops p).invoked < n → IsPossible (cut ops n) p
+  cut_possible : (p : ℕ) → IsPossible ops p → (op_at ops p).invoked < n → IsPossible (ops_before ops n) p
   cut_possible p possible low failed = to_possible n (op_at ops p) possible low (sym (ap (λ o. o.outcome) (cut_at p)) ∙ failed)
 
-  before_cut : (a b : ℕ) → IsBefore (cut ops n) a b → IsBefore ops a b
-  before_cut a b h = ((done_cut a h.0).0, subst (λ i. EndsBefore (op_at ops a).ended i) (invoked_in b) (subst (λ e. EndsBefore e (op_at (cut ops n) b).invoked) (ended_at a) h.1))
+  before_cut : (a b : ℕ) → Precedes (ops_before ops n) a b → Precedes ops a b
+  before_cut a b h = ((done_cut a h.0).0, subst (λ i. EndsBefore (op_at ops a).ended i) (invoked_in b) (subst (λ e. EndsBefore e (op_at (ops_before ops n) b).invoked) (ended_at a) h.1))
 
   ends_in_time : (ended : Option ℕ) (at : ℕ) → EndsBefore ended at → at < n → unwrap_or ended (2 ^ 64 - 1) < n
   ends_in_time None at h lt = absurd h
   ends_in_time (Some e) at h lt = omega (arith, h, lt)
 
   module _ (ends : EndAfterInvoked ops) where
-    cut_before : (a b : ℕ) → IsBefore ops a b → (op_at ops b).invoked < n → (op_at ops a).invoked < n → IsBefore (cut ops n) a b
+    cut_before : (a b : ℕ) → Precedes ops a b → (op_at ops b).invoked < n → (op_at ops a).invoked < n → Precedes (ops_before ops n) a b
     cut_before a b h low also = (
       cut_done a h.0 also (ends_in_time (op_at ops a).ended (op_at ops b).invoked h.1 low),
-      subst (λ i. EndsBefore (op_at (cut ops n) a).ended i) (sym (invoked_in b)) (subst (λ e. EndsBefore e (op_at ops b).invoked) (sym (ended_at a)) h.1),
+      subst (λ i. EndsBefore (op_at (ops_before ops n) a).ended i) (sym (invoked_in b)) (subst (λ e. EndsBefore e (op_at ops b).invoked) (sym (ended_at a)) h.1),
     )
 
-    ends_cut : EndAfterInvoked (cut ops n)
+    ends_cut : EndAfterInvoked (ops_before ops n)
     ends_cut p end is = subst (λ i. i < end) (sym (invoked_in p)) (ends p end (sym (ended_at p) ∙ is))
 
-    invoked_before : (a b : ℕ) → IsBefore ops a b → (op_at ops a).invoked < (op_at ops b).invoked
+    invoked_before : (a b : ℕ) → Precedes ops a b → (op_at ops a).invoked < (op_at ops b).invoked
     invoked_before a b h = elim (op_at ops a).ended as (λ e. (op_at ops a).ended ≡ e → EndsBefore e (op_at ops b).invoked → (op_at ops a).invoked < (op_at ops b).invoked) [
       | None ↦ λ _ k. absurd k
       | Some end ↦ λ is k. let first = ends a end is in omega (arith, first, k)
     ] refl h.1
 
-    runs_cut : (order : List ℕ) (v last : Option ℤ) → Runs ops v order last → Runs (cut ops n) v order last
+    runs_cut : (order : List ℕ) (v last : Option ℤ) → IsLegalFrom ops v order last → IsLegalFrom (ops_before ops n) v order last
     runs_cut [] v last r = r
     runs_cut (p ∷ order) v last r = (r.0, subst (λ c. Allows c v r.0) (sym (call_at p)) r.1, runs_cut order r.0 last r.2)
 
-    cut_runs : (order : List ℕ) (v last : Option ℤ) → Runs (cut ops n) v order last → Runs ops v order last
+    cut_runs : (order : List ℕ) (v last : Option ℤ) → IsLegalFrom (ops_before ops n) v order last → IsLegalFrom ops v order last
     cut_runs [] v last r = r
     cut_runs (p ∷ order) v last r = (r.0, subst (λ c. Allows c v r.0) (call_at p) r.1, cut_runs order r.0 last r.2)
 
     -- an order of the cut history is a partial order of the whole
-    pub partial_of_cut : (initial : Option ℤ) (order : List ℕ) (last : Option ℤ) → IsPartialOrder (cut ops n) initial order last → IsPartialOrder ops initial order last
+    pub partial_of_cut : (initial : Option ℤ) (order : List ℕ) (last : Option ℤ) → IsPartialOrder (ops_before ops n) initial order last → IsPartialOrder ops initial order last
     partial_of_cut initial order last is = record {
       places = λ k d lt. subst (λ m. get_or order k d < m) (length-map ops (op_in n)) (is.places k d lt);
       distinct = is.distinct;
@@ -147,20 +147,20 @@ module _ (ops : List RegOp) (n : ℕ) where
 
 -- ---- the first part of an order, up to the last that is known
 
-pub runs_front : (ops : List RegOp) (k : ℕ) (order : List ℕ) (v last : Option ℤ) → Runs ops v order last → (mid : Option ℤ) × Runs ops v (take k order) mid
+pub runs_front : (ops : List RegOp) (k : ℕ) (order : List ℕ) (v last : Option ℤ) → IsLegalFrom ops v order last → (mid : Option ℤ) × IsLegalFrom ops v (take k order) mid
 runs_front ops zero order v last r = (v, refl)
 runs_front ops (suc k) [] v last r = (v, refl)
 runs_front ops (suc k) (p ∷ order) v last r = let rest = runs_front ops k order r.0 last r.2 in (rest.0, (r.0, r.1, rest.1))
 
-known_done : (op : RegOp) (n : ℕ) → is_known op n ≡ true → (op.outcome ≡ Done) × (end_of op < n)
-known_done op n h = elim op.outcome as (λ o. op.outcome ≡ o → (is_done o && ltb (end_of op) n) ≡ true → (op.outcome ≡ Done) × (end_of op < n)) [
+known_done : (op : RegOp) (n : ℕ) → is_known op n ≡ true → (op.outcome ≡ Done) × (op_end op < n)
+known_done op n h = elim op.outcome as (λ o. op.outcome ≡ o → (is_outcome_done o && ltb (op_end op) n) ≡ true → (op.outcome ≡ Done) × (op_end op < n)) [
   | Done ↦ λ is k. (is, ltb-true _ _ k)
   | Failed ↦ λ is k. absurd (false≢true k)
   | Unsure ↦ λ is k. absurd (false≢true k)
 ] refl h
 
-done_known : (op : RegOp) (n : ℕ) → op.outcome ≡ Done → end_of op < n → is_known op n ≡ true
-done_known op n done end = rw done (lt-ltb (end_of op) n end)
+done_known : (op : RegOp) (n : ℕ) → op.outcome ≡ Done → op_end op < n → is_known op n ≡ true
+done_known op n done end = rw done (lt-ltb (op_end op) n end)
 
 -- there is such a part for each place
 until : (ops : List RegOp) (order : List ℕ) (n k : ℕ) → k ≤ length order → ((i : ℕ) → k ≤ i → i < length order → is_known_at ops order n i ≡ false) → (count : ℕ) × IsKnownUntil ops order n count
@@ -175,7 +175,7 @@ until ops order n (suc k) low behind = elim (is_known_at ops order n k) as (λ b
 
 module _ (ops : List RegOp) (ends : EndAfterInvoked ops) (bounded : (p : ℕ) → IsDone ops p → (op_at ops p).invoked ≤ end_at ops p) (initial : Option ℤ) (order : List ℕ) (last : Option ℤ) (is : IsPartialOrder ops initial order last)
     (n : ℕ) (small : n ≤ 2 ^ 64 - 1) (all : (p : ℕ) → IsDone ops p → end_at ops p < n → has order p ≡ true) (count : ℕ) (known : IsKnownUntil ops order n count) where
-  none_late : NoneLate ops order
+  none_late : IsNoneLate ops order
   none_late = late_if ops order is.distinct is.precedence
 
   ends_small : (ended : Option ℕ) (at : ℕ) → unwrap_or ended (2 ^ 64 - 1) < n → n ≤ at → EndsBefore ended at
@@ -213,27 +213,27 @@ module _ (ops : List RegOp) (ends : EndAfterInvoked ops) (bounded : (p : ℕ) �
         | inr ge ↦ absurd (not_true _ known' (known.behind r.0 ge r.1))
       ]
 
-  pub whole_cut : HasAllDone (cut ops n) (take count order)
+  pub whole_cut : HasAllDone (ops_before ops n) (take count order)
   whole_cut p done = let d = done_cut ops n p done in has_front p d.0 d.2
 
-  pub partial_cut : (mid : Option ℤ) → Runs ops initial (take count order) mid → IsPartialOrder (cut ops n) initial (take count order) mid
+  pub partial_cut : (mid : Option ℤ) → IsLegalFrom ops initial (take count order) mid → IsPartialOrder (ops_before ops n) initial (take count order) mid
   partial_cut mid runs =
-      let apart : AreApart (take count order) = distinct_take count order is.distinct in
-      let possible : (i : ℕ) (d : ℕ) → i < length (take count order) → IsPossible (cut ops n) (get_or (take count order) i d) = λ i d lt.
+      let apart : HasNoneTwice (take count order) = distinct_take count order is.distinct in
+      let possible : (i : ℕ) (d : ℕ) → i < length (take count order) → IsPossible (ops_before ops n) (get_or (take count order) i d) = λ i d lt.
       let low : i < count = omega (arith, lt, size) in
       let here : get_or (take count order) i d ≡ get_or order i d = get_or-take count order i d low in
       let inside : i < length order = omega (arith, low, known.bounded) in
       let zero' : get_or order i 0 ≡ get_or order i d = get_or_default order i 0 d inside in
-      subst (IsPossible (cut ops n)) (sym here) (cut_possible ops n _ (is.possible i d inside) (subst (λ p. (op_at ops p).invoked < n) zero' (invoked_there i low))) in
+      subst (IsPossible (ops_before ops n)) (sym here) (cut_possible ops n _ (is.possible i d inside) (subst (λ p. (op_at ops p).invoked < n) zero' (invoked_there i low))) in
       record {
-        places = λ i d lt. possible_there (cut ops n) _ (possible i d lt);
+        places = λ i d lt. possible_there (ops_before ops n) _ (possible i d lt);
         distinct = apart;
         possible = possible;
-        precedence = keeps_if (cut ops n) (take count order) (ends_cut ops n ends) whole_cut (λ i j before lt late.
+        precedence = keeps_if (ops_before ops n) (take count order) (ends_cut ops n ends) whole_cut (λ i j before lt late.
             let high : j < count = omega (arith, lt, size) in
             let low : i < count = omega (arith, before, high) in
             none_late i j before (omega (arith, high, known.bounded))
-            (subst (λ p. IsBefore ops p (get_or order i 0)) (at_front j high) (subst (λ p. IsBefore ops (get_or (take count order) j 0) p) (at_front i low) (before_cut ops n _ _ late))));
+            (subst (λ p. Precedes ops p (get_or order i 0)) (at_front j high) (subst (λ p. Precedes ops (get_or (take count order) j 0) p) (at_front i low) (before_cut ops n _ _ late))));
         runs = runs_cut ops n ends (take count order) initial mid runs;
       }
 
@@ -280,7 +280,7 @@ module _ (problem : Problem) (stood : IsProblem problem) (search : Search) (done
   no_order o is = none_reaches problem stood search done (stages_in problem) done.0.begun.far.open' (omega arith)
       (reach_of (stages_in problem) o is.last is.partial (λ k lt. is.whole _ (stood.history.are_done k lt)))
 
-  pub none_behind : (o : List ℕ) → IsOrder (cut ops (End + 1)) problem.initial o → ⊥
+  pub none_behind : (o : List ℕ) → IsOrder (ops_before ops (End + 1)) problem.initial o → ⊥
   none_behind o is = none_reaches problem stood search done (stage + 1) (omega arith) (omega (arith, done.0.begun.far.open'))
       (reach_of (stage + 1) o is.last (partial_of_cut ops (End + 1) stood.ends problem.initial o is.last is.partial) (λ k lt.
       let room : k < stages_in problem = omega (arith, lt, done.0.begun.far.open') in
@@ -288,17 +288,17 @@ module _ (problem : Problem) (stood : IsProblem problem) (search : Search) (done
       let rise = stood.history.ends_rise k stage (omega (arith, lt)) done.0.begun.far.open' in
       is.whole _ (cut_done ops (End + 1) (stage_place problem k) there (omega (arith, bounded (stage_place problem k) there, rise)) (omega (arith, rise)))))
 
-  pub stuck_is : (stuck : Stuck) (count : ℕ) → IsKnownUntil ops order End count → End ≤ 2 ^ 64 - 1 → stuck.end ≡ End → stuck.order ≡ take count order → ((last : Option ℤ) → Runs ops problem.initial (take count order) last → stuck.value ≡ last) → IsStuck ops problem.initial stuck
+  pub stuck_is : (stuck : Stuck) (count : ℕ) → IsKnownUntil ops order End count → End ≤ 2 ^ 64 - 1 → stuck.end ≡ End → stuck.order ≡ take count order → ((last : Option ℤ) → IsLegalFrom ops problem.initial (take count order) last → stuck.value ≡ last) → IsStuck ops problem.initial stuck
   stuck_is stuck count known small end_is order_is value_is =
       let mid = runs_front ops count order problem.initial done.0.begun.far.value is_partial.runs in
       let one = partial_cut ops stood.ends bounded problem.initial order done.0.begun.far.value is_partial End small (all_before End (omega arith)) count known mid.0 mid.1 in
       let all = whole_cut ops stood.ends bounded problem.initial order done.0.begun.far.value is_partial End small (all_before End (omega arith)) count known in
       record {
         completion = (stage_place problem stage, stood.history.are_done stage done.0.begun.far.open', sym end_is);
-        before = subst (λ e. IsPartialOrder (cut ops e) problem.initial stuck.order stuck.value) (sym end_is)
-            (subst (λ o. IsPartialOrder (cut ops End) problem.initial o stuck.value) (sym order_is) (subst (λ v. IsPartialOrder (cut ops End) problem.initial (take count order) v) (sym (value_is mid.0 mid.1)) one));
-        whole = subst (λ e. HasAllDone (cut ops e) stuck.order) (sym end_is) (subst (λ o. HasAllDone (cut ops End) o) (sym order_is) all);
-        behind = λ o is. none_behind o (subst (λ e. IsOrder (cut ops (e + 1)) problem.initial o) end_is is);
+        before = subst (λ e. IsPartialOrder (ops_before ops e) problem.initial stuck.order stuck.value) (sym end_is)
+            (subst (λ o. IsPartialOrder (ops_before ops End) problem.initial o stuck.value) (sym order_is) (subst (λ v. IsPartialOrder (ops_before ops End) problem.initial (take count order) v) (sym (value_is mid.0 mid.1)) one));
+        whole = subst (λ e. HasAllDone (ops_before ops e) stuck.order) (sym end_is) (subst (λ o. HasAllDone (ops_before ops End) o) (sym order_is) all);
+        behind = λ o is. none_behind o (subst (λ e. IsOrder (ops_before ops (e + 1)) problem.initial o) end_is is);
         least = λ n le.
             let low : n ≤ End = omega (arith, le, end_is) in
             let u = until ops order n (length order) (omega arith) (λ i ge lt. absurd (omega (arith, ge, lt))) in

@@ -7,7 +7,7 @@ use Rattle.std.proofs.lemmas.List.Folds.{list_any-append}
 use Rattle.std.proofs.lemmas.List.Sorted.{list_any-IsPermutation, sum_by-IsPermutation}
 use Rattle.jh_linear.specs.declared.queue.Turn.{Turn}
 use Rattle.jh_linear.specs.TurnsInside.{IsWith, awaits, turns_in, turns_left}
-use Rattle.jh_linear.proofs.SetLemmas.{eqb_self, or_cases, or_left, or_right}
+use Rattle.jh_linear.proofs.PlaceSetLemmas.{eqb_self, or_cases, or_left, or_right}
 
 pub awaits_is : (turn : Turn) (ws ws' : List Turn) → IsWith turn ws ws' → (i : ℕ) → (eqb turn.at i || awaits ws i) ≡ awaits ws' i
 awaits_is turn ws ws' h i = list_any-IsPermutation (λ (t : Turn). eqb t.at i) (turn ∷ ws) ws' h

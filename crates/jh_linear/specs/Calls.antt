@@ -1,11 +1,13 @@
--- The operations of a register that a history tells (Jepsen's register workloads: `:read`, `:write` with a value, and
--- `:cas` with `[old new]`). That a read which did not complete `:ok` tells no value, that a missing completion tells as
--- little as an `:info`, and where a bad value is told, are this project's own. Places count from 0 in the whole history.
-use Rattle.std.specs.Prelude.{◌≡◌, ℕ, ◌≤◌, Bool, false, List, [], ◌∷◌, map, codes, if◌then◌else◌, slice_get, Option, Some, None, IfSome, is_some, unwrap_or, option_map, option_and_then}
+-- The operations of a register that a history tells (Jepsen's register workloads: `:read`, `:write`
+-- with a value, and `:cas` with `[old new]`). That a read which did not complete `:ok` tells no
+-- value, that a missing completion tells as little as an `:info`, and where a bad value is
+-- reported, are this project's own. Places count from 0 in the whole history.
+use Rattle.std.specs.Prelude.{◌≡◌, ℕ, ◌≤◌, Bool, false, List, [], ◌∷◌, map, codes, if◌then◌else◌}
+use Rattle.std.specs.Prelude.{slice_get, Option, Some, None, IfSome, is_some, unwrap_or, option_map}
+use Rattle.std.specs.Prelude.{option_and_then}
 use Rattle.std.specs.List.{All, Contains}
-use Rattle.jh_edn.specs.Edn.{Edn, nil, int, elements_of}
+use Rattle.jh_edn.specs.Edn.{Edn, nil, int, elements_of, is_keyword, integer_of}
 use Rattle.jh_ops.specs.Operation.{Operation}
-use Rattle.jh_ops.specs.OperationText.{is_keyword, integer_of}
 use Rattle.jh_ops.specs.declared.operation.Kind.{Kind}
 use Rattle.jh_ops.specs.declared.pairs.Pair.{Pair}
 use Rattle.jh_linear.specs.declared.calls.RegOpsError.{RegOpsError}
@@ -38,8 +40,8 @@ abbrev pub is_read : Edn → Bool
 is_read f = is_keyword (codes "read") f
 
 -- a read by what it answered; a write and a compare and set by what they were invoked with
-abbrev pub call_of : Edn → Edn → Option Edn → Option RegCall
-call_of f value answered =
+abbrev pub reg_call_of : Edn → Edn → Option Edn → Option RegCall
+reg_call_of f value answered =
     if is_read f then read_of (unwrap_or answered nil)
     else if is_keyword (codes "write") f then write_of value
     else if is_keyword (codes "cas") f then cas_of value
@@ -56,39 +58,43 @@ abbrev pub answer_in : Kind → Edn → Option Edn
 answer_in Kind.Ok value = Some value
 answer_in _ value = None
 
-abbrev pub answer_of : Option Operation → Option Edn
-answer_of completion = option_and_then (λ op. answer_in op.kind op.value) completion
+abbrev pub answered_value : Option Operation → Option Edn
+answered_value completion = option_and_then (λ op. answer_in op.kind op.value) completion
 
 -- the completion of a pair, if there is one
 abbrev pub completion_of : List Operation → Pair → Option Operation
 completion_of history pair = option_and_then (λ place. slice_get history place) pair.outcome
 
-abbrev pub with_call : List Operation → Pair → RegCall → RegOp
-with_call history pair call = record {
+abbrev pub op_with_call : List Operation → Pair → RegCall → RegOp
+op_with_call history pair call = record {
   invoked = pair.invoke;
   ended = pair.outcome;
   outcome = outcome_of (option_map (λ op. op.kind) (completion_of history pair));
   call = call;
 }
 
--- the operation of a pair, where its call can be told
+-- the operation of a pair, where its call can be parsed
 abbrev pub reg_op_of : List Operation → Pair → Option RegOp
 reg_op_of history pair =
-    option_map (with_call history pair)
-    (option_and_then (λ invocation. call_of invocation.f invocation.value (answer_of (completion_of history pair)))
+    option_map (op_with_call history pair)
+    (option_and_then
+    (λ invocation.
+    reg_call_of invocation.f invocation.value (answered_value (completion_of history pair)))
     (slice_get history pair.invoke))
 
 -- a read is invoked there
 abbrev pub reads_at : List Operation → ℕ → Bool
 reads_at history place = unwrap_or (option_map (λ op. is_read op.f) (slice_get history place)) false
 
--- where a bad value would be told: of a read at its completion, of any other at its invocation
-abbrev pub told_at : List Operation → Pair → ℕ
-told_at history pair = if reads_at history pair.invoke then unwrap_or pair.outcome pair.invoke else pair.invoke
+-- where a bad value would be reported: of a read at its completion, of any other at its invocation
+abbrev pub place_of_value : List Operation → Pair → ℕ
+place_of_value history pair =
+    if reads_at history pair.invoke then unwrap_or pair.outcome pair.invoke else pair.invoke
 
--- where a bad value is told, if one is
+-- where a bad value is reported, if one is
 abbrev pub bad_place : List Operation → Pair → Option ℕ
-bad_place history pair = if is_some (reg_op_of history pair) then None else Some (told_at history pair)
+bad_place history pair =
+    if is_some (reg_op_of history pair) then None else Some (place_of_value history pair)
 
 -- one operation for each pair, in order
 abbrev pub AreRegOps : List Operation → List Pair → List RegOp → Type 0
@@ -101,7 +107,8 @@ IsLeastBad history pairs (Some place) =
     Contains (map (bad_place history) pairs) (Some place)
     × All (λ pair. IfSome (bad_place history pair) (λ other. place ≤ other)) pairs
 
--- Why the pairs of a history are refused: at the least place of a bad value; for want of memory only where there is none.
+-- Why the pairs of a history are refused: at the least place of a bad value; for want of memory
+-- only where there is none.
 abbrev pub RefusesPairs : List Operation → List Pair → RegOpsError → Type 0
 RefusesPairs history pairs (BadValue place) = IsLeastBad history pairs (Some place)
 RefusesPairs history pairs OutOfMemory = IsLeastBad history pairs None

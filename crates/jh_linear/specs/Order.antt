@@ -1,7 +1,8 @@
--- The orders in which the operations of a register can have happened: linearizations, as Jepsen's page on its checkers
--- means them (`linearizable`), on the model `cas-register`, where a read of nil matches any value. Operations go by their
--- places in a list, from 0.
-use Rattle.std.specs.Prelude.{◌≡◌, ◌≢◌, ◌==◌, ◌⊎◌, ℕ, ◌<◌, ℤ, Bool, true, Option, Some, None, List, [], ◌∷◌, length, slice_index_or}
+-- The orders in which the operations of a register can have happened: linearizations, as Jepsen's
+-- page on its checkers means them (`linearizable`), on the model `cas-register`, where a read of
+-- nil matches any value. Operations go by their places in a list, from 0.
+use Rattle.std.specs.Prelude.{◌≡◌, ◌≢◌, ◌==◌, ◌⊎◌, ℕ, ◌<◌, ℤ, Bool, true, Option, Some, None, List}
+use Rattle.std.specs.Prelude.{[], ◌∷◌, length, slice_index_or}
 use Rattle.std.specs.List.{list_any, All, IsDistinct}
 use Rattle.jh_linear.specs.declared.register.Outcome.TheVariants.{Done, Failed}
 use Rattle.jh_linear.specs.declared.register.RegCall.{RegCall}
@@ -35,8 +36,9 @@ EndsBefore None at = ⊥
 EndsBefore (Some end) at = end < at
 
 -- the first operation happened, and ended before the second was invoked
-abbrev pub IsBefore : List RegOp → ℕ → ℕ → Type 0
-IsBefore ops first second = IsDone ops first × EndsBefore (op_at ops first).ended (op_at ops second).invoked
+abbrev pub Precedes : List RegOp → ℕ → ℕ → Type 0
+Precedes ops first second =
+    IsDone ops first × EndsBefore (op_at ops first).ended (op_at ops second).invoked
 
 -- whether a place stands in an order
 abbrev pub has : List ℕ → ℕ → Bool
@@ -45,15 +47,16 @@ has order place = list_any (λ x. x == place) order
 -- the first place stands in the order, and the second one after it
 abbrev pub StandBefore : List ℕ → ℕ → ℕ → Type 0
 StandBefore [] first second = ⊥
-StandBefore (x ∷ order) first second = ((x ≡ first) × (has order second ≡ true)) ⊎ StandBefore order first second
+StandBefore (x ∷ order) first second =
+    ((x ≡ first) × (has order second ≡ true)) ⊎ StandBefore order first second
 
 -- each place is that of an operation
 abbrev pub AreThere : List RegOp → List ℕ → Type 0
 AreThere ops order = All (λ place. place < length ops) order
 
 -- no place stands there twice
-abbrev pub AreApart : List ℕ → Type 0
-AreApart order = IsDistinct ◌==◌ order
+abbrev pub HasNoneTwice : List ℕ → Type 0
+HasNoneTwice order = IsDistinct ◌==◌ order
 
 -- no operation failed
 abbrev pub ArePossible : List RegOp → List ℕ → Type 0
@@ -63,24 +66,27 @@ ArePossible ops order = All (IsPossible ops) order
 abbrev pub HasAllDone : List RegOp → List ℕ → Type 0
 HasAllDone ops order = (place : ℕ) → IsDone ops place → has order place ≡ true
 
--- What happened and ended before another was invoked stands before that one, where that one is there.
+-- What happened and ended before another was invoked stands before that one, where that one is
+-- there.
 abbrev pub KeepsPrecedence : List RegOp → List ℕ → Type 0
 KeepsPrecedence ops order =
-    (first second : ℕ) → IsBefore ops first second → has order second ≡ true → StandBefore order first second
+    (first second : ℕ) → Precedes ops first second → has order second ≡ true
+    → StandBefore order first second
 
 -- The calls at these places, one after another, lead from the first value to the last.
-abbrev pub Runs : List RegOp → Option ℤ → List ℕ → Option ℤ → Type 0
-Runs ops value [] last = last ≡ value
-Runs ops value (place ∷ order) last =
-    (next : Option ℤ) × Allows (op_at ops place).call value next × Runs ops next order last
+abbrev pub IsLegalFrom : List RegOp → Option ℤ → List ℕ → Option ℤ → Type 0
+IsLegalFrom ops value [] last = last ≡ value
+IsLegalFrom ops value (place ∷ order) last =
+    (next : Option ℤ) × Allows (op_at ops place).call value next × IsLegalFrom ops next order last
 
 -- Some operations in an order in which they can have happened, which leads to this value.
-pub record IsPartialOrder (ops : List RegOp) (initial : Option ℤ) (order : List ℕ) (last : Option ℤ) : Type 0 where
+pub record IsPartialOrder (ops : List RegOp) (initial : Option ℤ) (order : List ℕ)
+    (last : Option ℤ) : Type 0 where
   pub places : AreThere ops order
-  pub distinct : AreApart order
+  pub distinct : HasNoneTwice order
   pub possible : ArePossible ops order
   pub precedence : KeepsPrecedence ops order
-  pub runs : Runs ops initial order last
+  pub runs : IsLegalFrom ops initial order last
 
 -- An order in which all that is known to have happened can have happened.
 pub record IsOrder (ops : List RegOp) (initial : Option ℤ) (order : List ℕ) : Type 0 where
@@ -90,4 +96,5 @@ pub record IsOrder (ops : List RegOp) (initial : Option ℤ) (order : List ℕ) 
 
 -- each operation ends after its invocation
 abbrev pub EndAfterInvoked : List RegOp → Type 0
-EndAfterInvoked ops = (place end : ℕ) → (op_at ops place).ended ≡ Some end → (op_at ops place).invoked < end
+EndAfterInvoked ops =
+    (place end : ℕ) → (op_at ops place).ended ≡ Some end → (op_at ops place).invoked < end

@@ -1,14 +1,17 @@
--- What the judge hands over where its budget was used up: steps, each of which stands for some operations in an order
--- in which they can have happened. All of it is this project's own; what an order is stands in Order.antt.
+-- What the judge hands over where its budget was used up: steps, each of which stands for some
+-- operations in an order in which they can have happened. All of it is this project's own; what an
+-- order is stands in Order.antt.
 use Rattle.std.specs.Prelude.{◌≡◌, ◌<◌, ℕ, ℤ, Option, List, [], ◌∷◌, ◌++◌, length, slice_index_or}
 use Rattle.jh_linear.specs.declared.register.RegOp.{RegOp}
 use Rattle.jh_linear.specs.declared.verdict.Step.{Step}
 use Rattle.jh_linear.specs.Order.{IsPartialOrder, has}
 
--- Steps stand for orders, one for each: that of the earlier step that it names, with its own places behind it.
+-- Steps stand for orders, one for each: that of the earlier step that it names, with its own places
+-- behind it.
 abbrev pub orders_from : List (List ℕ) → List Step → List (List ℕ)
 orders_from known [] = known
-orders_from known (step ∷ steps) = orders_from (known ++ (slice_index_or known step.parent [] ++ step.placed) ∷ []) steps
+orders_from known (step ∷ steps) =
+    orders_from (known ++ (slice_index_or known step.parent [] ++ step.placed) ∷ []) steps
 
 -- the first step stands for the empty order
 abbrev pub orders_of : List Step → List (List ℕ)
@@ -25,12 +28,16 @@ root = record { parent = 0; placed = [] }
 abbrev pub NameEarlier : List Step → Type 0
 NameEarlier steps = (i : ℕ) → 0 < i → i < length steps → (slice_index_or steps i root).parent < i
 
--- As many steps as the budget, which stand for partial orders, no two of them with the same places and last value.
-pub record AreReached (ops : List RegOp) (initial : Option ℤ) (budget : ℕ) (steps : List Step) : Type 0 where
+-- As many steps as the budget, which stand for partial orders, no two of them with the same places
+-- and last value.
+pub record AreReached (ops : List RegOp) (initial : Option ℤ) (budget : ℕ)
+    (steps : List Step) : Type 0 where
   pub count : length steps ≡ budget
   pub begins : 0 < length steps → slice_index_or steps 0 root ≡ root
   pub earlier : NameEarlier steps
-  pub partial : (i : ℕ) → i < length steps → (last : Option ℤ) × IsPartialOrder ops initial (order_at steps i) last
+  pub partial : (i : ℕ) → i < length steps → (last : Option ℤ)
+      × IsPartialOrder ops initial (order_at steps i) last
   pub apart : (i j : ℕ) (last : Option ℤ) → i < j → j < length steps
-      → IsPartialOrder ops initial (order_at steps i) last → IsPartialOrder ops initial (order_at steps j) last
+      → IsPartialOrder ops initial (order_at steps i) last
+      → IsPartialOrder ops initial (order_at steps j) last
       → ((place : ℕ) → has (order_at steps i) place ≡ has (order_at steps j) place) → ⊥

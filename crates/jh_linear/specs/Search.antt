@@ -1,5 +1,7 @@
 -- What the search for an order keeps: proofs rest on it, and no public clause names it.
-use Rattle.std.specs.Prelude.{◌⊎◌, ◌≡◌, ◌==◌, ℕ, ◌+◌, ◌*◌, ◌<◌, ◌≤◌, ℤ, Bool, true, false, not, Option, Some, None, List, [], ◌∷◌, ◌++◌, length, take, drop, ◌-◌, slice_index_or, slice_get, nat_lt}
+use Rattle.std.specs.Prelude.{◌⊎◌, ◌≡◌, ◌==◌, ℕ, ◌+◌, ◌*◌, ◌<◌, ◌≤◌, ℤ, Bool, true, false, not}
+use Rattle.std.specs.Prelude.{Option, Some, None, List, [], ◌∷◌, ◌++◌, length, take, drop, ◌-◌}
+use Rattle.std.specs.Prelude.{slice_index_or, slice_get, nat_lt}
 use Rattle.std.specs.List.{All, IsDistinct, filter, Contains}
 use Rattle.std.specs.Prelude.{map, unwrap_or, ◌^◌}
 use Rattle.jh_linear.specs.declared.register.Outcome.{Outcome}
@@ -23,39 +25,43 @@ use Rattle.jh_linear.specs.declared.walk.WalkEnd.TheVariants.{Several, Stuck, Co
 use Rattle.jh_linear.specs.declared.verdict.Step.{Step}
 use Rattle.jh_linear.specs.declared.judge.Progress.{Progress}
 use Rattle.jh_linear.specs.declared.queue.Turn.{Turn}
-use Rattle.jh_linear.specs.declared.judge.Progress.TheVariants.{More, Complete as Whole, Full as NoRoom}
-use Rattle.jh_linear.specs.Order.{op_at, HasAllDone, IsPossible, IsDone, IsBefore, has, Allows, EndAfterInvoked}
+use Rattle.jh_linear.specs.declared.judge.Progress.TheVariants.{More, Complete as Whole}
+use Rattle.jh_linear.specs.declared.judge.Progress.TheVariants.{Full as NoRoom}
+use Rattle.jh_linear.specs.Order.{op_at, HasAllDone, IsPossible, IsDone, Precedes, has, Allows}
+use Rattle.jh_linear.specs.Order.{EndAfterInvoked}
 use Rattle.jh_linear.specs.Reached.{order_at, root, NameEarlier}
 use Rattle.jh_linear.specs.TurnsInside.{IsWith, awaits, turns_in, turns_left}
 
 -- ---- orders, place by place
 
 -- The place may come next after those in front.
-pub record MayFollow (ops : List RegOp) (front : List ℕ) (place : ℕ) : Type 0 where
+pub record MayComeNext (ops : List RegOp) (front : List ℕ) (place : ℕ) : Type 0 where
   pub there : place < length ops
   pub possible : IsPossible ops place
   pub fresh : has front place ≡ false
-  pub ready : (first : ℕ) → IsBefore ops first place → has front first ≡ true
+  pub ready : (first : ℕ) → Precedes ops first place → has front first ≡ true
 
--- Each place of an order may come next after those before it, and the calls lead from the value to the last.
-abbrev pub Follows : List RegOp → List ℕ → Option ℤ → List ℕ → Option ℤ → Type 0
-Follows ops front value [] last = last ≡ value
-Follows ops front value (place ∷ order) last =
-    MayFollow ops front place
-    × ((next : Option ℤ) × Allows (op_at ops place).call value next × Follows ops (front ++ place ∷ []) next order last)
+-- Each place of an order may come next after those before it, and the calls lead from the value to
+-- the last.
+abbrev pub GoesOnWith : List RegOp → List ℕ → Option ℤ → List ℕ → Option ℤ → Type 0
+GoesOnWith ops front value [] last = last ≡ value
+GoesOnWith ops front value (place ∷ order) last =
+    MayComeNext ops front place
+    × ((next : Option ℤ) × Allows (op_at ops place).call value next
+    × GoesOnWith ops (front ++ place ∷ []) next order last)
 
 -- ---- what is placed
 
 -- What is tried though it is not known to have happened: no read, since an order holds without it.
-abbrev pub is_unknown : Outcome → RegCall → Bool
-is_unknown Failed call = false
-is_unknown Done call = false
-is_unknown Unsure (Read seen) = false
-is_unknown Unsure (Write new) = true
-is_unknown Unsure (Cas old new) = true
+abbrev pub is_unsure_change : Outcome → RegCall → Bool
+is_unsure_change Failed call = false
+is_unsure_change Done call = false
+is_unsure_change Unsure (Read seen) = false
+is_unsure_change Unsure (Write new) = true
+is_unsure_change Unsure (Cas old new) = true
 
-abbrev pub IsUnknown : List RegOp → ℕ → Type 0
-IsUnknown ops place = is_unknown (op_at ops place).outcome (op_at ops place).call ≡ true
+abbrev pub IsUnsureChange : List RegOp → ℕ → Type 0
+IsUnsureChange ops place = is_unsure_change (op_at ops place).outcome (op_at ops place).call ≡ true
 
 -- the call leaves the value as it is
 abbrev pub LeavesValue : RegCall → Type 0
@@ -74,8 +80,8 @@ Needs (Cas old new) value = value ≡ Some old
 
 -- ---- the history, sorted
 
-abbrev pub invoked_at : List RegOp → ℕ → ℕ
-invoked_at ops place = (op_at ops place).invoked
+abbrev pub invocation_at : List RegOp → ℕ → ℕ
+invocation_at ops place = (op_at ops place).invoked
 
 -- where an operation ended; one with no such place ends after all others
 abbrev pub end_at : List RegOp → ℕ → ℕ
@@ -88,8 +94,8 @@ abbrev pub stage_at : List Stage → ℕ → Stage
 stage_at stages k = slice_index_or stages k no_stage
 
 -- what was invoked before the end of a stage
-abbrev pub arrived_by : List ℕ → List Stage → ℕ → List ℕ
-arrived_by arrivals stages k = take (stage_at stages k).arrived arrivals
+abbrev pub arrivals_by : List ℕ → List Stage → ℕ → List ℕ
+arrivals_by arrivals stages k = take (stage_at stages k).arrived arrivals
 
 -- What happened, in the order of invocation, and once more in the order of the ends.
 pub record IsHistory (ops : List RegOp) (arrivals : List ℕ) (stages : List Stage) : Type 0 where
@@ -97,18 +103,27 @@ pub record IsHistory (ops : List RegOp) (arrivals : List ℕ) (stages : List Sta
   pub happened : All (IsDone ops) arrivals
   pub all : (place : ℕ) → IsDone ops place → has arrivals place ≡ true
   pub bounded : (k : ℕ) → k < length stages → (stage_at stages k).arrived ≤ length arrivals
-  pub rises : (k : ℕ) → k + 1 < length stages → (stage_at stages k).arrived ≤ (stage_at stages (k + 1)).arrived
-  pub each_done : (place : ℕ) → IsDone ops place → (k : ℕ) × (k < length stages) × ((stage_at stages k).place ≡ place)
+  pub rises : (k : ℕ) → k + 1 < length stages
+      → (stage_at stages k).arrived ≤ (stage_at stages (k + 1)).arrived
+  pub each_done : (place : ℕ) → IsDone ops place → (k : ℕ) × (k < length stages)
+      × ((stage_at stages k).place ≡ place)
   pub are_done : (k : ℕ) → k < length stages → IsDone ops (stage_at stages k).place
-  pub ends_rise : (j k : ℕ) → j ≤ k → k < length stages → end_at ops (stage_at stages j).place ≤ end_at ops (stage_at stages k).place
-  pub needs : (k first second : ℕ) → k < length stages → invoked_at ops second ≤ end_at ops (stage_at stages k).place → IsBefore ops first second
+  pub ends_rise : (j k : ℕ) → j ≤ k → k < length stages
+      → end_at ops (stage_at stages j).place ≤ end_at ops (stage_at stages k).place
+  pub needs : (k first second : ℕ) → k < length stages
+      → invocation_at ops second ≤ end_at ops (stage_at stages k).place → Precedes ops first second
       → (j : ℕ) × (j < k) × ((stage_at stages j).place ≡ first)
-  pub in_time : (k place : ℕ) → k < length stages → has (arrived_by arrivals stages k) place ≡ true → invoked_at ops place ≤ end_at ops (stage_at stages k).place
-  pub enough : (k place : ℕ) → k < length stages → IsDone ops place → (IsBefore ops (stage_at stages k).place place → ⊥) → has (arrived_by arrivals stages k) place ≡ true
+  pub in_time : (k place : ℕ) → k < length stages → has (arrivals_by arrivals stages k) place ≡ true
+      → invocation_at ops place ≤ end_at ops (stage_at stages k).place
+  pub enough : (k place : ℕ) → k < length stages → IsDone ops place
+      → (Precedes ops (stage_at stages k).place place → ⊥)
+      → has (arrivals_by arrivals stages k) place ≡ true
 
 -- the same call, and the first is not invoked after the second
 abbrev pub AreTwins : List RegOp → ℕ → ℕ → Type 0
-AreTwins ops first second = ((op_at ops first).call ≡ (op_at ops second).call) × (invoked_at ops first ≤ invoked_at ops second)
+AreTwins ops first second =
+    ((op_at ops first).call ≡ (op_at ops second).call)
+    × (invocation_at ops first ≤ invocation_at ops second)
 
 abbrev pub no_class : Class
 no_class = record { from = 0; upto = 0 }
@@ -117,28 +132,35 @@ abbrev pub class_at : List Class → ℕ → Class
 class_at classes k = slice_index_or classes k no_class
 
 -- the operation of unknown outcome at an index is of the class
-abbrev pub IsIn : List Class → ℕ → ℕ → Type 0
-IsIn classes k j = ((class_at classes k).from ≤ j) × (j < (class_at classes k).upto)
+abbrev pub IsOfClass : List Class → ℕ → ℕ → Type 0
+IsOfClass classes k j = ((class_at classes k).from ≤ j) × (j < (class_at classes k).upto)
 
-abbrev pub unknown_at : List ℕ → ℕ → ℕ
-unknown_at unknown j = slice_index_or unknown j 0
+abbrev pub unknown_place : List ℕ → ℕ → ℕ
+unknown_place unknown j = slice_index_or unknown j 0
 
--- The operations of unknown outcome that are tried, each in one class; those of a class are twins, in the order of
--- invocation.
+-- The operations of unknown outcome that are tried, each in one class; those of a class are twins,
+-- in the order of invocation.
 pub record AreClasses (ops : List RegOp) (unknown : List ℕ) (classes : List Class) : Type 0 where
   pub distinct : IsDistinct ◌==◌ unknown
-  pub each : All (IsUnknown ops) unknown
-  pub all : (place : ℕ) → IsUnknown ops place → has unknown place ≡ true
-  pub bounded : (k : ℕ) → k < length classes → ((class_at classes k).from ≤ (class_at classes k).upto) × ((class_at classes k).upto ≤ length unknown)
-  pub covered : (j : ℕ) → j < length unknown → (k : ℕ) × (k < length classes) × IsIn classes k j
-  pub rises : (k l : ℕ) → k < l → l < length classes → (class_at classes k).upto ≤ (class_at classes l).from
-  pub twins : (k i j : ℕ) → k < length classes → IsIn classes k i → IsIn classes k j → i ≤ j → AreTwins ops (unknown_at unknown i) (unknown_at unknown j)
+  pub each : All (IsUnsureChange ops) unknown
+  pub all : (place : ℕ) → IsUnsureChange ops place → has unknown place ≡ true
+  pub bounded : (k : ℕ) → k < length classes
+      → ((class_at classes k).from ≤ (class_at classes k).upto)
+      × ((class_at classes k).upto ≤ length unknown)
+  pub covered : (j : ℕ) → j < length unknown → (k : ℕ) × (k < length classes)
+      × IsOfClass classes k j
+  pub rises : (k l : ℕ) → k < l → l < length classes
+      → (class_at classes k).upto ≤ (class_at classes l).from
+  pub twins : (k i j : ℕ) → k < length classes → IsOfClass classes k i → IsOfClass classes k j
+      → i ≤ j → AreTwins ops (unknown_place unknown i) (unknown_place unknown j)
 
 -- What a search stands on.
 pub record IsProblem (problem : Problem) : Type 0 where
   pub ends : EndAfterInvoked problem.ops.now
-  pub history : IsHistory problem.ops.now problem.history.arrivals.items problem.history.stages.items
-  pub classes : AreClasses problem.ops.now problem.history.unknown.items problem.history.classes.items
+  pub history : IsHistory problem.ops.now problem.history.arrivals.items
+      problem.history.stages.items
+  pub classes : AreClasses problem.ops.now problem.history.unknown.items
+      problem.history.classes.items
 
 -- how many stages there are
 abbrev pub stages_in : Problem → ℕ
@@ -151,120 +173,148 @@ stage_place problem k = (stage_at problem.history.stages.items k).place
 -- ---- configurations
 
 -- those of the places that an order lacks
-abbrev pub without : List ℕ → List ℕ → List ℕ
-without order places = filter (λ place. not (has order place)) places
+abbrev pub places_without : List ℕ → List ℕ → List ℕ
+places_without order places = filter (λ place. not (has order place)) places
 
--- The stage, what happened and is pending there, and what is known of the order, where a stage is not passed yet.
-pub record IsAt (arrivals : List ℕ) (stages : List Stage) (order : List ℕ) (stage : ℕ) (pending : List ℕ) : Type 0 where
+-- The stage, what happened and is pending there, and what is known of the order, where a stage is
+-- not passed yet.
+pub record IsAt (arrivals : List ℕ) (stages : List Stage) (order : List ℕ) (stage : ℕ)
+    (pending : List ℕ) : Type 0 where
   pub passed : (k : ℕ) → k < stage → has order (stage_at stages k).place ≡ true
-  pub pending_is : stage < length stages → pending ≡ without order (arrived_by arrivals stages stage)
-  pub arrived : stage < length stages → (place : ℕ) → has order place ≡ true → has arrivals place ≡ true → has (arrived_by arrivals stages stage) place ≡ true
+  pub pending_is : stage < length stages
+      → pending ≡ places_without order (arrivals_by arrivals stages stage)
+  pub arrived : stage < length stages → (place : ℕ) → has order place ≡ true
+      → has arrivals place ≡ true → has (arrivals_by arrivals stages stage) place ≡ true
 
 abbrev pub next_at : List ℕ → ℕ → ℕ
 next_at next k = slice_index_or next k 0
 
 -- Of each class the ones before its next are placed, and no others.
-pub record AreNext (unknown : List ℕ) (classes : List Class) (order : List ℕ) (next : List ℕ) : Type 0 where
+pub record AreNext (unknown : List ℕ) (classes : List Class) (order : List ℕ)
+    (next : List ℕ) : Type 0 where
   pub sizes : length next ≡ length classes
-  pub bounds : (k : ℕ) → k < length classes → ((class_at classes k).from ≤ next_at next k) × (next_at next k ≤ (class_at classes k).upto)
-  pub placed : (k j : ℕ) → k < length classes → IsIn classes k j → has order (unknown_at unknown j) ≡ nat_lt j (next_at next k)
+  pub bounds : (k : ℕ) → k < length classes → ((class_at classes k).from ≤ next_at next k)
+      × (next_at next k ≤ (class_at classes k).upto)
+  pub placed : (k j : ℕ) → k < length classes → IsOfClass classes k j
+      → has order (unknown_place unknown j) ≡ nat_lt j (next_at next k)
 
 -- A configuration stands for an order, which leads to its value.
 pub record LeadsTo (problem : Problem) (order : List ℕ) (config : Config) : Type 0 where
-  pub follows : Follows problem.ops.now [] problem.initial order config.value
-  pub searched : (place : ℕ) → has order place ≡ true → IsDone problem.ops.now place ⊎ IsUnknown problem.ops.now place
-  pub known : IsAt problem.history.arrivals.items problem.history.stages.items order config.stage config.pending.items
-  pub used : AreNext problem.history.unknown.items problem.history.classes.items order config.next.items
+  pub follows : GoesOnWith problem.ops.now [] problem.initial order config.value
+  pub searched : (place : ℕ) → has order place ≡ true → IsDone problem.ops.now place
+      ⊎ IsUnsureChange problem.ops.now place
+  pub known : IsAt problem.history.arrivals.items problem.history.stages.items order config.stage
+      config.pending.items
+  pub used : AreNext problem.history.unknown.items problem.history.classes.items order
+      config.next.items
   pub low : config.stage ≤ stages_in problem
-  pub waits : config.stage < stages_in problem → has order (stage_place problem config.stage) ≡ false
+  pub waits : config.stage < stages_in problem
+      → has order (stage_place problem config.stage) ≡ false
 
 -- the same stage, the same places pending and next, and the same value
 abbrev pub AreSame : Config → Config → Type 0
-AreSame a b = (a.stage ≡ b.stage) × (a.pending.items ≡ b.pending.items) × (a.next.items ≡ b.next.items) × (a.value ≡ b.value)
+AreSame a b =
+    (a.stage ≡ b.stage) × (a.pending.items ≡ b.pending.items) × (a.next.items ≡ b.next.items)
+    × (a.value ≡ b.value)
 
 -- An order with this value can be gone on to one that passes so many stages.
 abbrev pub CanReach : Problem → ℕ → List ℕ → Option ℤ → Type 0
 CanReach problem stages order value =
-    (back : List ℕ) × (last : Option ℤ) × Follows problem.ops.now order value back last
+    (back : List ℕ) × (last : Option ℤ) × GoesOnWith problem.ops.now order value back last
     × ((k : ℕ) → k < stages → has (order ++ back) (stage_place problem k) ≡ true)
 
 -- What one order can be gone on to, another can, as far as it is past a stage.
 abbrev pub Carries : Problem → ℕ → List ℕ → Option ℤ → List ℕ → Option ℤ → Type 0
 Carries problem stage order value order' value' =
-    (stages : ℕ) → stage < stages → stages ≤ stages_in problem → CanReach problem stages order value → CanReach problem stages order' value'
+    (stages : ℕ) → stage < stages → stages ≤ stages_in problem → CanReach problem stages order value
+    → CanReach problem stages order' value'
 
 -- An order can't be gone on to one that passes the stage.
 abbrev pub IsDead : Problem → ℕ → List ℕ → Option ℤ → Type 0
 IsDead problem stage order value =
-    (stages : ℕ) → stage < stages → stages ≤ stages_in problem → CanReach problem stages order value → ⊥
+    (stages : ℕ) → stage < stages → stages ≤ stages_in problem → CanReach problem stages order value
+    → ⊥
 
 -- ---- moves
 
 -- what a move places
-abbrev pub place_of : Problem → Config → Source → ℕ
-place_of problem config (Happened index) = slice_index_or config.pending.items index 0
-place_of problem config (Unknown k) = unknown_at problem.history.unknown.items (next_at config.next.items k)
+abbrev pub source_place : Problem → Config → Source → ℕ
+source_place problem config (Happened index) = slice_index_or config.pending.items index 0
+source_place problem config (Unknown k) =
+    unknown_place problem.history.unknown.items (next_at config.next.items k)
 
 abbrev pub op_of : Problem → Config → Source → RegOp
-op_of problem config source = op_at problem.ops.now (place_of problem config source)
+op_of problem config source = op_at problem.ops.now (source_place problem config source)
 
-abbrev pub call_of : Problem → Config → Source → RegCall
-call_of problem config source = (op_of problem config source).call
+abbrev pub source_call : Problem → Config → Source → RegCall
+source_call problem config source = (op_of problem config source).call
 
 -- the class has one that is not placed
 abbrev pub IsLeft : Problem → Config → ℕ → Type 0
 IsLeft problem config k =
-    (k < length problem.history.classes.items) × (next_at config.next.items k < (class_at problem.history.classes.items k).upto)
+    (k < length problem.history.classes.items)
+    × (next_at config.next.items k < (class_at problem.history.classes.items k).upto)
 
 -- the operation is there, and invoked before the end of the stage
-abbrev pub IsThere : Problem → Config → Source → Type 0
-IsThere problem config (Happened index) = index < length config.pending.items
-IsThere problem config (Unknown k) =
+abbrev pub CanBePlaced : Problem → Config → Source → Type 0
+CanBePlaced problem config (Happened index) = index < length config.pending.items
+CanBePlaced problem config (Unknown k) =
     IsLeft problem config k
-    × (invoked_at problem.ops.now (place_of problem config (Unknown k)) ≤ end_at problem.ops.now (stage_place problem config.stage))
+    × (invocation_at problem.ops.now (source_place problem config (Unknown k))
+    ≤ end_at problem.ops.now (stage_place problem config.stage))
 
 -- a move that the value allows, with the value that it leads to
 abbrev pub IsMove : Problem → Config → Move → Type 0
 IsMove problem config move =
-    IsThere problem config move.source × Allows (call_of problem config move.source) config.value move.value
+    CanBePlaced problem config move.source
+    × Allows (source_call problem config move.source) config.value move.value
 
 -- the class has one that is not placed and may come before the stage's operation
 abbrev pub IsReady : Problem → Config → ℕ → Type 0
 IsReady problem config k =
-    IsLeft problem config k × (IsBefore problem.ops.now (stage_place problem config.stage) (place_of problem config (Unknown k)) → ⊥)
+    IsLeft problem config k
+    × (Precedes problem.ops.now (stage_place problem config.stage)
+    (source_place problem config (Unknown k)) → ⊥)
 
 -- something that may come next finds this value, and no other would do
 abbrev pub IsWanted : Problem → Config → Option ℤ → Type 0
 IsWanted problem config value =
-    ((index : ℕ) × (index < length config.pending.items) × Needs (call_of problem config (Happened index)) value)
-    ⊎ ((k : ℕ) × IsReady problem config k × Needs (call_of problem config (Unknown k)) value)
+    ((index : ℕ) × (index < length config.pending.items)
+    × Needs (source_call problem config (Happened index)) value)
+    ⊎ ((k : ℕ) × IsReady problem config k × Needs (source_call problem config (Unknown k)) value)
 
 -- a move with this source and value
 abbrev pub IsAmong : List Move → Source → Option ℤ → Type 0
-IsAmong moves source value = (i : ℕ) × (move : Move) × (slice_get moves i ≡ Some move) × (move.source ≡ source) × (move.value ≡ value)
+IsAmong moves source value =
+    (i : ℕ) × (move : Move) × (slice_get moves i ≡ Some move) × (move.source ≡ source)
+    × (move.value ≡ value)
 
 -- each operation below an index that happened, is pending and may come next, is among the moves
 abbrev pub HasHappened : Problem → Config → List Move → ℕ → Type 0
 HasHappened problem config moves bound =
-    (index : ℕ) (next : Option ℤ) → index < bound → Allows (call_of problem config (Happened index)) config.value next
+    (index : ℕ) (next : Option ℤ) → index < bound
+    → Allows (source_call problem config (Happened index)) config.value next
     → IsAmong moves (Happened index) next
 
 -- the first one left of each class below a bound is among the moves where its value is wanted
 abbrev pub HasUnknown : Problem → Config → List Move → ℕ → Type 0
 HasUnknown problem config moves bound =
-    (k : ℕ) (next : Option ℤ) → k < bound → IsReady problem config k → Allows (call_of problem config (Unknown k)) config.value next
+    (k : ℕ) (next : Option ℤ) → k < bound → IsReady problem config k
+    → Allows (source_call problem config (Unknown k)) config.value next
     → IsWanted problem config next → IsAmong moves (Unknown k) next
 
 -- nothing that happened and is pending below an index is a read of any value
-abbrev pub NoneSettled : Problem → Config → ℕ → Type 0
-NoneSettled problem config bound =
-    (index : ℕ) → index < bound → IsDone problem.ops.now (place_of problem config (Happened index))
-    → call_of problem config (Happened index) ≡ Read None → ⊥
+abbrev pub IsNoneSettled : Problem → Config → ℕ → Type 0
+IsNoneSettled problem config bound =
+    (index : ℕ) → index < bound
+    → IsDone problem.ops.now (source_place problem config (Happened index))
+    → source_call problem config (Happened index) ≡ Read None → ⊥
 
 -- it is pending, and can be placed at once and alone
 abbrev pub IsSettledAt : Problem → Config → ℕ → Type 0
 IsSettledAt problem config index =
-    (index < length config.pending.items) × IsSettled (op_of problem config (Happened index)) config.value
+    (index < length config.pending.items)
+    × IsSettled (op_of problem config (Happened index)) config.value
 
 -- one operation that can be placed at once and alone, or all that may lead on
 abbrev pub AreEnough : Problem → Config → List Move → Type 0
@@ -272,15 +322,17 @@ AreEnough problem config moves =
     ((index : ℕ) × IsSettledAt problem config index × IsAmong moves (Happened index) config.value)
     ⊎ (HasHappened problem config moves (length config.pending.items)
     × HasUnknown problem config moves (length problem.history.classes.items)
-    × NoneSettled problem config (length config.pending.items))
+    × IsNoneSettled problem config (length config.pending.items))
 
 abbrev pub EachIsMove : Problem → Config → List Move → Type 0
-EachIsMove problem config moves = (i : ℕ) (move : Move) → slice_get moves i ≡ Some move → IsMove problem config move
+EachIsMove problem config moves =
+    (i : ℕ) (move : Move) → slice_get moves i ≡ Some move → IsMove problem config move
 
 -- More moves, all of them moves where the others were.
 pub record MovesMore (problem : Problem) (config : Config) (old new : List Move) : Type 0 where
   pub each : EachIsMove problem config old → EachIsMove problem config new
-  pub kept : (source : Source) (value : Option ℤ) → IsAmong old source value → IsAmong new source value
+  pub kept : (source : Source) (value : Option ℤ) → IsAmong old source value
+      → IsAmong new source value
 
 -- the ways to go on from a configuration
 pub record AreMoves (problem : Problem) (config : Config) (moves : List Move) : Type 0 where
@@ -292,79 +344,102 @@ pub record AreMoves (problem : Problem) (config : Config) (moves : List Move) : 
 -- the stages' ends come one after another
 pub record AreRising (arrivals : List ℕ) (stages : List Stage) : Type 0 where
   pub bounded : (k : ℕ) → k < length stages → (stage_at stages k).arrived ≤ length arrivals
-  pub rises : (k : ℕ) → k + 1 < length stages → (stage_at stages k).arrived ≤ (stage_at stages (k + 1)).arrived
+  pub rises : (k : ℕ) → k + 1 < length stages
+      → (stage_at stages k).arrived ≤ (stage_at stages (k + 1)).arrived
 
 -- what was invoked after the end of a stage, and before that of the next
-abbrev pub coming_after : List ℕ → List Stage → ℕ → List ℕ
-coming_after arrivals stages stage =
-    take ((stage_at stages (stage + 1)).arrived - (stage_at stages stage).arrived) (drop (stage_at stages stage).arrived arrivals)
+abbrev pub arrivals_after : List ℕ → List Stage → ℕ → List ℕ
+arrivals_after arrivals stages stage =
+    take ((stage_at stages (stage + 1)).arrived - (stage_at stages stage).arrived)
+    (drop (stage_at stages stage).arrived arrivals)
 
 -- What is known of an order at one stage is known of it at a later one, which it does not pass.
-pub record PassesStages (problem : Problem) (stage : ℕ) (pending : List ℕ) (later : ℕ) (left : List ℕ) : Type 0 where
+pub record PassesStages (problem : Problem) (stage : ℕ) (pending : List ℕ) (later : ℕ)
+    (left : List ℕ) : Type 0 where
   pub rises : stage ≤ later
   pub low : later ≤ stages_in problem
   pub waits : later < stages_in problem → has left (stage_place problem later) ≡ true
-  pub at : (order : List ℕ) → IsAt problem.history.arrivals.items problem.history.stages.items order stage pending
+  pub at : (order : List ℕ)
+      → IsAt problem.history.arrivals.items problem.history.stages.items order stage pending
       → IsAt problem.history.arrivals.items problem.history.stages.items order later left
 
--- A configuration with this value stands for every order that the other one stands for, with one more place.
-pub record IsAfter (problem : Problem) (config : Config) (place : ℕ) (value : Option ℤ) (config' : Config) : Type 0 where
+-- A configuration with this value stands for every order that the other one stands for, with one
+-- more place.
+pub record IsAfter (problem : Problem) (config : Config) (place : ℕ) (value : Option ℤ)
+    (config' : Config) : Type 0 where
   pub rises : config.stage ≤ config'.stage
   pub value_is : config'.value ≡ value
   pub sizes : length config'.next.items ≡ length config.next.items
-  pub stands : (order : List ℕ) → LeadsTo problem order config → LeadsTo problem (order ++ place ∷ []) config'
+  pub stands : (order : List ℕ) → LeadsTo problem order config
+      → LeadsTo problem (order ++ place ∷ []) config'
 
 -- a move was made, and its operation put behind those that were placed
-pub record IsMadeBy (problem : Problem) (config : Config) (placed : List ℕ) (move : Move) (config' : Config) (placed' : List ℕ) : Type 0 where
-  pub after : IsAfter problem config (place_of problem config move.source) move.value config'
-  pub placed_is : placed' ≡ placed ++ place_of problem config move.source ∷ []
+pub record IsMadeBy (problem : Problem) (config : Config) (placed : List ℕ) (move : Move)
+    (config' : Config) (placed' : List ℕ) : Type 0 where
+  pub after : IsAfter problem config (source_place problem config move.source) move.value config'
+  pub placed_is : placed' ≡ placed ++ source_place problem config move.source ∷ []
 
--- A configuration stands for every order that the other one stands for, with more places, and no order is lost.
-pub record HasGone (problem : Problem) (config : Config) (placed : List ℕ) (config' : Config) (placed' : List ℕ) : Type 0 where
+-- A configuration stands for every order that the other one stands for, with more places, and no
+-- order is lost.
+pub record HasGone (problem : Problem) (config : Config) (placed : List ℕ) (config' : Config)
+    (placed' : List ℕ) : Type 0 where
   pub rises : config.stage ≤ config'.stage
   pub longer : length placed ≤ length placed'
   pub sizes : length config'.next.items ≡ length config.next.items
-  pub stands : (front : List ℕ) → LeadsTo problem (front ++ placed) config → LeadsTo problem (front ++ placed') config'
+  pub stands : (front : List ℕ) → LeadsTo problem (front ++ placed) config
+      → LeadsTo problem (front ++ placed') config'
   pub carries : (front : List ℕ) → LeadsTo problem (front ++ placed) config
-      → Carries problem config'.stage (front ++ placed) config.value (front ++ placed') config'.value
+      → Carries problem config'.stage (front ++ placed) config.value
+      (front ++ placed') config'.value
 
 -- where a walk ends
 abbrev pub EndsAs : Problem → Config → List ℕ → WalkEnd → Type 0
 EndsAs problem config placed Several = config.stage < stages_in problem
 EndsAs problem config placed Stuck =
     (config.stage < stages_in problem)
-    × ((front : List ℕ) → LeadsTo problem (front ++ placed) config → IsDead problem config.stage (front ++ placed) config.value)
+    × ((front : List ℕ) → LeadsTo problem (front ++ placed) config
+    → IsDead problem config.stage (front ++ placed) config.value)
 EndsAs problem config placed Complete = stages_in problem ≤ config.stage
 
 -- ---- the search
 
--- The configurations that were reached so far, each by its own order, and none in which every stage is passed.
+-- The configurations that were reached so far, each by its own order, and none in which every stage
+-- is passed.
 pub record IsSearch (problem : Problem) (configs : List Config) (steps : List Step) : Type 0 where
   pub sizes : length configs ≡ length steps
   pub some : 0 < length steps
   pub begins : slice_index_or steps 0 root ≡ root
   pub earlier : NameEarlier steps
-  pub stands : (i : ℕ) (config : Config) → slice_get configs i ≡ Some config → LeadsTo problem (order_at steps i) config
-  pub open' : (i : ℕ) (config : Config) → slice_get configs i ≡ Some config → config.stage < stages_in problem
-  pub apart : (i j : ℕ) (a b : Config) → i < j → slice_get configs i ≡ Some a → slice_get configs j ≡ Some b → AreSame a b → ⊥
+  pub stands : (i : ℕ) (config : Config) → slice_get configs i ≡ Some config
+      → LeadsTo problem (order_at steps i) config
+  pub open' : (i : ℕ) (config : Config) → slice_get configs i ≡ Some config
+      → config.stage < stages_in problem
+  pub apart : (i j : ℕ) (a b : Config) → i < j → slice_get configs i ≡ Some a
+      → slice_get configs j ≡ Some b → AreSame a b → ⊥
 
 -- the order that passes most stages
 abbrev pub furthest_order : List Step → Furthest → List ℕ
 furthest_order steps furthest = order_at steps furthest.step.parent ++ furthest.step.placed
 
--- An order that passes so many stages, which is not all; no configuration that was reached passes more.
-pub record IsFurthest (problem : Problem) (configs : List Config) (steps : List Step) (furthest : Furthest) : Type 0 where
+-- An order that passes so many stages, which is not all; no configuration that was reached passes
+-- more.
+pub record IsFurthest (problem : Problem) (configs : List Config) (steps : List Step)
+    (furthest : Furthest) : Type 0 where
   pub named : furthest.step.parent < length steps
   pub open' : furthest.stage < stages_in problem
   pub value : Option ℤ
-  pub follows : Follows problem.ops.now [] problem.initial (furthest_order steps furthest) value
-  pub passed : (k : ℕ) → k < furthest.stage → has (furthest_order steps furthest) (stage_place problem k) ≡ true
-  pub most : (i : ℕ) (config : Config) → slice_get configs i ≡ Some config → config.stage ≤ furthest.stage
+  pub follows : GoesOnWith problem.ops.now [] problem.initial (furthest_order steps furthest) value
+  pub passed : (k : ℕ) → k < furthest.stage
+      → has (furthest_order steps furthest) (stage_place problem k) ≡ true
+  pub most : (i : ℕ) (config : Config) → slice_get configs i ≡ Some config
+      → config.stage ≤ furthest.stage
 
--- A longer order was reached, by a configuration, that can be gone on to one that passes so many stages.
+-- A longer order was reached, by a configuration, that can be gone on to one that passes so many
+-- stages.
 abbrev pub LeadsOn : Problem → List Config → List Step → ℕ → ℕ → Type 0
 LeadsOn problem configs steps size stages =
-    (i : ℕ) × (found : Config) × (slice_get configs i ≡ Some found) × (size < length (order_at steps i))
+    (i : ℕ) × (found : Config) × (slice_get configs i ≡ Some found)
+    × (size < length (order_at steps i))
     × CanReach problem stages (order_at steps i) found.value
 
 -- All was done after an order with this value that can lead past a stage.
@@ -373,20 +448,26 @@ IsGoneOn problem configs steps stage order value =
     (stages : ℕ) → stage < stages → stages ≤ stages_in problem → CanReach problem stages order value
     → LeadsOn problem configs steps (length order) stages
 
--- What a step adds: a configuration that was known, a new one, or none, since there is no room for one that is new.
+-- What a step adds: a configuration that was known, a new one, or none, since there is no room for
+-- one that is new.
 abbrev pub Adds : Search → Search → ℕ → ℕ → List ℕ → Config → Added → Type 0
 Adds old new budget parent placed config Known =
-    (new.configs.keys ≡ old.configs.keys) × (new.steps.items ≡ old.steps.items) × (new.waiting ≡ old.waiting)
+    (new.configs.keys ≡ old.configs.keys) × (new.steps.items ≡ old.steps.items)
+    × (new.waiting ≡ old.waiting)
     × (new.furthest ≡ old.furthest)
-    × ((i : ℕ) × (found : Config) × (slice_get old.configs.keys i ≡ Some found) × AreSame config found)
+    × ((i : ℕ) × (found : Config) × (slice_get old.configs.keys i ≡ Some found)
+    × AreSame config found)
 Adds old new budget parent placed config New =
     (new.configs.keys ≡ old.configs.keys ++ config ∷ [])
     × (new.steps.items ≡ old.steps.items ++ record { parent = parent; placed = placed } ∷ [])
-    × ((turn : Turn) × (turn.at ≡ length old.configs.keys) × (turn.is_last ≡ false) × IsWith turn old.waiting new.waiting)
+    × ((turn : Turn) × (turn.at ≡ length old.configs.keys) × (turn.is_last ≡ false)
+    × IsWith turn old.waiting new.waiting)
     × (new.furthest ≡ old.furthest)
-    × ((i : ℕ) (found : Config) → slice_get old.configs.keys i ≡ Some found → AreSame config found → ⊥)
+    × ((i : ℕ) (found : Config) → slice_get old.configs.keys i ≡ Some found → AreSame config found
+    → ⊥)
     × ((length old.steps.items ≡ budget) → ⊥)
-Adds old new budget parent placed config Full = (new.steps.items ≡ old.steps.items) × (length old.steps.items ≡ budget)
+Adds old new budget parent placed config Full =
+    (new.steps.items ≡ old.steps.items) × (length old.steps.items ≡ budget)
 
 -- What noting does: an order that passes more stages than any before takes its place.
 pub record Notes (old new : Search) (parent : ℕ) (placed : List ℕ) (stage : ℕ) : Type 0 where
@@ -394,21 +475,28 @@ pub record Notes (old new : Search) (parent : ℕ) (placed : List ℕ) (stage : 
   pub steps : new.steps.items ≡ old.steps.items
   pub waiting : new.waiting ≡ old.waiting
   pub furthest : ((stage ≤ old.furthest.stage) × (new.furthest ≡ old.furthest))
-      ⊎ ((old.furthest.stage < stage) × (new.furthest ≡ record { stage = stage; step = record { parent = parent; placed = placed } }))
+      ⊎ ((old.furthest.stage < stage)
+      × (new.furthest
+      ≡ record { stage = stage; step = record { parent = parent; placed = placed } }))
 
 -- What is kept of the lists while the search goes on.
-pub record Grows (problem : Problem) (configs : List Config) (steps : List Step) (waiting : List Turn) (furthest : Furthest)
-    (configs' : List Config) (steps' : List Step) (waiting' : List Turn) (furthest' : Furthest) : Type 0 where
+pub record Grows (problem : Problem) (configs : List Config) (steps : List Step)
+    (waiting : List Turn) (furthest : Furthest)
+    (configs' : List Config) (steps' : List Step) (waiting' : List Turn)
+    (furthest' : Furthest) : Type 0 where
   pub known : IsSearch problem configs' steps'
   pub far : IsFurthest problem configs' steps' furthest'
   pub few : length steps' ≤ problem.budget
   pub longer : length steps ≤ length steps'
   pub further : furthest.stage ≤ furthest'.stage
   pub orders : (i : ℕ) → i < length steps → order_at steps' i ≡ order_at steps i
-  pub kept : (i : ℕ) (config : Config) → slice_get configs i ≡ Some config → slice_get configs' i ≡ Some config
-  pub fresh : (i : ℕ) (config : Config) → slice_get configs' i ≡ Some config → (slice_get configs i ≡ Some config) ⊎ (awaits waiting' i ≡ true)
+  pub kept : (i : ℕ) (config : Config) → slice_get configs i ≡ Some config
+      → slice_get configs' i ≡ Some config
+  pub fresh : (i : ℕ) (config : Config) → slice_get configs' i ≡ Some config
+      → (slice_get configs i ≡ Some config) ⊎ (awaits waiting' i ≡ true)
   pub waits : (i : ℕ) → awaits waiting i ≡ true → awaits waiting' i ≡ true
-  pub inside : ((i : ℕ) → awaits waiting i ≡ true → i < length steps) → (i : ℕ) → awaits waiting' i ≡ true → i < length steps'
+  pub inside : ((i : ℕ) → awaits waiting i ≡ true → i < length steps) → (i : ℕ)
+      → awaits waiting' i ≡ true → i < length steps'
   pub balance : turns_in waiting' + 2 * length steps ≡ turns_in waiting + 2 * length steps'
 
 abbrev pub GrowsTo : Problem → Search → Search → Type 0
@@ -417,65 +505,77 @@ GrowsTo problem old new =
     new.configs.keys new.steps.items new.waiting new.furthest
 
 -- An order that passes every stage.
-abbrev pub IsWhole : Problem → List ℕ → Type 0
-IsWhole problem order =
-    ((end : Option ℤ) × Follows problem.ops.now [] problem.initial order end) × HasAllDone problem.ops.now order
+abbrev pub IsWholeOrder : Problem → List ℕ → Type 0
+IsWholeOrder problem order =
+    ((end : Option ℤ) × GoesOnWith problem.ops.now [] problem.initial order end)
+    × HasAllDone problem.ops.now order
 
 -- The budget is used up.
 abbrev pub IsFull : Problem → Search → Type 0
-IsFull problem search = ((configs : List Config) × IsSearch problem configs search.steps.items) × (length search.steps.items ≡ problem.budget)
+IsFull problem search =
+    ((configs : List Config) × IsSearch problem configs search.steps.items)
+    × (length search.steps.items ≡ problem.budget)
 
 -- The search so far, without what was gone on from.
-pub record IsBegun (problem : Problem) (search : Search) : Type 0 where
+pub record IsSearchSoFar (problem : Problem) (search : Search) : Type 0 where
   pub known : IsSearch problem search.configs.keys search.steps.items
   pub far : IsFurthest problem search.configs.keys search.steps.items search.furthest
   pub few : length search.steps.items ≤ problem.budget
 
 -- A configuration is one of those that were reached.
 abbrev pub WasReached : Search → ℕ → Config → Type 0
-WasReached search at config = (found : Config) × (slice_get search.configs.keys at ≡ Some found) × AreSame found config
+WasReached search at config =
+    (found : Config) × (slice_get search.configs.keys at ≡ Some found) × AreSame found config
 
 -- All was done after a move that can lead past the furthest stage.
 abbrev pub IsMoved : Problem → Search → Search → ℕ → Config → Move → Type 0
 IsMoved problem old new at config move =
     (stages : ℕ) → new.furthest.stage < stages → stages ≤ stages_in problem
-    → CanReach problem stages (order_at old.steps.items at ++ place_of problem config move.source ∷ []) move.value
+    → CanReach problem stages
+    (order_at old.steps.items at ++ source_place problem config move.source ∷ []) move.value
     → LeadsOn problem new.configs.keys new.steps.items (length (order_at old.steps.items at)) stages
 
--- What came of entering a configuration, which is reached from the order at an index by some places.
-abbrev pub Entered : Problem → Search → Search → ℕ → List ℕ → Config → Progress → Type 0
-Entered problem old new at placed config More =
+-- What came of entering a configuration, which is reached from the order at an index by some
+-- places.
+abbrev pub ComesOfEntering : Problem → Search → Search → ℕ → List ℕ → Config → Progress → Type 0
+ComesOfEntering problem old new at placed config More =
     GrowsTo problem old new × (new.furthest ≡ old.furthest)
     × ((stages : ℕ) → CanReach problem stages (order_at old.steps.items at ++ placed) config.value
-    → LeadsOn problem new.configs.keys new.steps.items (length (order_at old.steps.items at)) stages)
-Entered problem old new at placed config (Whole places) = ⊥
-Entered problem old new at placed config NoRoom = IsFull problem new
+    → LeadsOn problem new.configs.keys new.steps.items
+    (length (order_at old.steps.items at)) stages)
+ComesOfEntering problem old new at placed config (Whole places) = ⊥
+ComesOfEntering problem old new at placed config NoRoom = IsFull problem new
 
 -- What came of one move, after the order at an index.
-abbrev pub Tried : Problem → Search → Search → ℕ → Config → Move → Progress → Type 0
-Tried problem old new at config move More = GrowsTo problem old new × IsMoved problem old new at config move
-Tried problem old new at config move (Whole placed) = (new.steps.items ≡ old.steps.items) × IsWhole problem (order_at old.steps.items at ++ placed.items)
-Tried problem old new at config move NoRoom = IsFull problem new
+abbrev pub ComesOfMove : Problem → Search → Search → ℕ → Config → Move → Progress → Type 0
+ComesOfMove problem old new at config move More =
+    GrowsTo problem old new × IsMoved problem old new at config move
+ComesOfMove problem old new at config move (Whole placed) =
+    (new.steps.items ≡ old.steps.items)
+    × IsWholeOrder problem (order_at old.steps.items at ++ placed.items)
+ComesOfMove problem old new at config move NoRoom = IsFull problem new
 
 -- each of the moves was tried from the configuration at an index
-abbrev pub EachTried : Problem → Search → Search → ℕ → Config → List Move → Type 0
-EachTried problem old new at config moves =
+abbrev pub AreAllTried : Problem → Search → Search → ℕ → Config → List Move → Type 0
+AreAllTried problem old new at config moves =
     (i : ℕ) (move : Move) → slice_get moves i ≡ Some move → IsMoved problem old new at config move
 
 -- the last of the moves, this many, were tried from the configuration at an index
 abbrev pub AreTried : Problem → Search → Search → ℕ → Config → List Move → ℕ → Type 0
 AreTried problem old new at config moves count =
-    (i : ℕ) (move : Move) → length moves ≤ i + count → slice_get moves i ≡ Some move → IsMoved problem old new at config move
+    (i : ℕ) (move : Move) → length moves ≤ i + count → slice_get moves i ≡ Some move
+    → IsMoved problem old new at config move
 
 -- What is known where an order is complete, which goes on from the configuration at an index.
 abbrev pub IsCompleted : Problem → Search → ℕ → List ℕ → Type 0
 IsCompleted problem search at placed =
-    IsWhole problem (order_at search.steps.items at ++ placed)
+    IsWholeOrder problem (order_at search.steps.items at ++ placed)
     × (at < length search.steps.items) × NameEarlier search.steps.items
 
 -- What came of trying moves from the configuration at an index.
 abbrev pub WereTried : Problem → Search → Search → ℕ → Config → List Move → Progress → Type 0
-WereTried problem old new at config moves More = GrowsTo problem old new × EachTried problem old new at config moves
+WereTried problem old new at config moves More =
+    GrowsTo problem old new × AreAllTried problem old new at config moves
 WereTried problem old new at config moves (Whole placed) = IsCompleted problem new at placed.items
 WereTried problem old new at config moves NoRoom = IsFull problem new
 
@@ -488,48 +588,54 @@ pub record IsTurnTaken (problem : Problem) (old new : Search) (turn : Turn) : Ty
       new.configs.keys new.steps.items new.waiting new.furthest
   pub gone : (awaits again turn.at ≡ true)
       ⊎ ((config : Config) → slice_get old.configs.keys turn.at ≡ Some config
-      → IsGoneOn problem new.configs.keys new.steps.items new.furthest.stage (order_at old.steps.items turn.at) config.value)
+      → IsGoneOn problem new.configs.keys new.steps.items new.furthest.stage
+      (order_at old.steps.items turn.at) config.value)
 
 -- What came of a turn.
-abbrev pub Taken : Problem → Search → Search → Turn → Progress → Type 0
-Taken problem old new turn More = IsTurnTaken problem old new turn
-Taken problem old new turn (Whole placed) = IsCompleted problem new turn.at placed.items
-Taken problem old new turn NoRoom = IsFull problem new
+abbrev pub ComesOfTurn : Problem → Search → Search → Turn → Progress → Type 0
+ComesOfTurn problem old new turn More = IsTurnTaken problem old new turn
+ComesOfTurn problem old new turn (Whole placed) = IsCompleted problem new turn.at placed.items
+ComesOfTurn problem old new turn NoRoom = IsFull problem new
 
 -- Each configuration that was reached waits or was gone on from.
-pub record IsKept (problem : Problem) (search : Search) : Type 0 where
-  pub begun : IsBegun problem search
-  pub first : (config : Config) × (slice_get search.configs.keys 0 ≡ Some config) × (config.value ≡ problem.initial)
+pub record IsSearchKept (problem : Problem) (search : Search) : Type 0 where
+  pub begun : IsSearchSoFar problem search
+  pub first : (config : Config) × (slice_get search.configs.keys 0 ≡ Some config)
+      × (config.value ≡ problem.initial)
   pub inside : (i : ℕ) → awaits search.waiting i ≡ true → i < length search.steps.items
   pub gone : (i : ℕ) (config : Config) → slice_get search.configs.keys i ≡ Some config
       → (awaits search.waiting i ≡ true)
-      ⊎ IsGoneOn problem search.configs.keys search.steps.items search.furthest.stage (order_at search.steps.items i) config.value
+      ⊎ IsGoneOn problem search.configs.keys search.steps.items search.furthest.stage
+      (order_at search.steps.items i) config.value
 
 -- Nothing waits any more.
 abbrev pub IsExhausted : Problem → Search → Type 0
-IsExhausted problem search = IsKept problem search × (search.waiting ≡ [])
+IsExhausted problem search = IsSearchKept problem search × (search.waiting ≡ [])
 
 -- ---- sorting
 
 -- Entries that name a place, one for each place that is kept.
-pub record AreEntries {X : Type 0} (Kept : ℕ → Type 0) (entry : ℕ → X) (place : X → ℕ) (bound : ℕ) (entries : List X) : Type 0 where
+pub record ArePlaceEntries {X : Type 0} (Kept : ℕ → Type 0) (entry : ℕ → X) (place : X → ℕ)
+    (bound : ℕ) (entries : List X) : Type 0 where
   pub each : All (λ x. (place x < bound) × Kept (place x) × (entry (place x) ≡ x)) entries
   pub all : (p : ℕ) → p < bound → Kept p → Contains entries (entry p)
   pub distinct : IsDistinct ◌==◌ (map place entries)
 
 -- an operation with its invocation, with its end, or with its call and its invocation
 abbrev pub arrival_entry : List RegOp → ℕ → ℕ × ℕ
-arrival_entry ops place = (invoked_at ops place, place)
+arrival_entry ops place = (invocation_at ops place, place)
 
 abbrev pub end_entry : List RegOp → ℕ → ℕ × ℕ
 end_entry ops place = (end_at ops place, place)
 
 abbrev pub unknown_entry : List RegOp → ℕ → RegCall × ℕ × ℕ
-unknown_entry ops place = ((op_at ops place).call, invoked_at ops place, place)
+unknown_entry ops place = ((op_at ops place).call, invocation_at ops place, place)
 
 -- the numbers do not fall
 abbrev pub DoNotFall : List (ℕ × ℕ) → Type 0
-DoNotFall pairs = (i j : ℕ) (d : ℕ × ℕ) → i ≤ j → j < length pairs → (slice_index_or pairs i d).0 ≤ (slice_index_or pairs j d).0
+DoNotFall pairs =
+    (i j : ℕ) (d : ℕ × ℕ) → i ≤ j → j < length pairs
+    → (slice_index_or pairs i d).0 ≤ (slice_index_or pairs j d).0
 
 abbrev pub no_entry : ℕ × ℕ
 no_entry = (0, 0)
@@ -537,11 +643,15 @@ no_entry = (0, 0)
 -- For each end a stage, with the number of invocations that are not after it.
 pub record AreStages (invocations ends : List (ℕ × ℕ)) (stages : List Stage) : Type 0 where
   pub sizes : length stages ≡ length ends
-  pub place : (k : ℕ) → k < length stages → (stage_at stages k).place ≡ (slice_index_or ends k no_entry).1
+  pub place : (k : ℕ) → k < length stages
+      → (stage_at stages k).place ≡ (slice_index_or ends k no_entry).1
   pub bounded : (k : ℕ) → k < length stages → (stage_at stages k).arrived ≤ length invocations
-  pub below : (k i : ℕ) → k < length stages → i < (stage_at stages k).arrived → (slice_index_or invocations i no_entry).0 ≤ (slice_index_or ends k no_entry).0
+  pub below : (k i : ℕ) → k < length stages → i < (stage_at stages k).arrived
+      → (slice_index_or invocations i no_entry).0 ≤ (slice_index_or ends k no_entry).0
   pub above : (k : ℕ) → k < length stages → (stage_at stages k).arrived < length invocations
-      → ((slice_index_or ends k no_entry).0 < (slice_index_or invocations (stage_at stages k).arrived no_entry).0) × ((slice_index_or ends k no_entry).0 < 2 ^ 64 - 1)
+      → ((slice_index_or ends k no_entry).0
+      < (slice_index_or invocations (stage_at stages k).arrived no_entry).0)
+      × ((slice_index_or ends k no_entry).0 < 2 ^ 64 - 1)
 
 -- the same call, and an invocation that is not later
 abbrev pub GoTogether : RegCall × ℕ × ℕ → RegCall × ℕ × ℕ → Type 0
@@ -551,9 +661,13 @@ abbrev pub no_call : RegCall × ℕ × ℕ
 no_call = (Read None, 0, 0)
 
 -- Classes of neighbours that go together, side by side, for the first so many entries.
-pub record AreRuns (entries : List (RegCall × ℕ × ℕ)) (classes : List Class) (upto : ℕ) : Type 0 where
-  pub bounded : (k : ℕ) → k < length classes → ((class_at classes k).from ≤ (class_at classes k).upto) × ((class_at classes k).upto ≤ upto)
-  pub covered : (j : ℕ) → j < upto → (k : ℕ) × (k < length classes) × IsIn classes k j
-  pub rises : (k l : ℕ) → k < l → l < length classes → (class_at classes k).upto ≤ (class_at classes l).from
-  pub together : (k i j : ℕ) → k < length classes → IsIn classes k i → IsIn classes k j → i ≤ j
+pub record AreClassesUpTo (entries : List (RegCall × ℕ × ℕ)) (classes : List Class)
+    (upto : ℕ) : Type 0 where
+  pub bounded : (k : ℕ) → k < length classes
+      → ((class_at classes k).from ≤ (class_at classes k).upto) × ((class_at classes k).upto ≤ upto)
+  pub covered : (j : ℕ) → j < upto → (k : ℕ) × (k < length classes) × IsOfClass classes k j
+  pub rises : (k l : ℕ) → k < l → l < length classes
+      → (class_at classes k).upto ≤ (class_at classes l).from
+  pub together : (k i j : ℕ) → k < length classes → IsOfClass classes k i → IsOfClass classes k j
+      → i ≤ j
       → GoTogether (slice_index_or entries i no_call) (slice_index_or entries j no_call)

@@ -1,6 +1,7 @@
--- Why operations have no order: the first completion with which they have none any more (Knossos tells the operation
--- at which its search got stuck; the definition is this project's own).
-use Rattle.std.specs.Prelude.{◌≡◌, ℕ, ◌+◌, ◌-◌, ◌^◌, ◌≤◌, ℤ, Option, List, map, unwrap_or, nat_lt, if◌then◌else◌}
+-- Why operations have no order: the first completion with which they have none any more (Knossos
+-- tells the operation at which its search got stuck; the definition is this project's own).
+use Rattle.std.specs.Prelude.{◌≡◌, ℕ, ◌+◌, ◌-◌, ◌^◌, ◌≤◌, ℤ, Option, List, map, unwrap_or, nat_lt}
+use Rattle.std.specs.Prelude.{if◌then◌else◌}
 use Rattle.jh_linear.specs.declared.register.Outcome.{Outcome}
 use Rattle.jh_linear.specs.declared.register.Outcome.TheVariants.{Done, Failed, Unsure}
 use Rattle.jh_linear.specs.declared.register.RegOp.{RegOp}
@@ -8,8 +9,8 @@ use Rattle.jh_linear.specs.declared.verdict.Stuck.{Stuck}
 use Rattle.jh_linear.specs.Order.{op_at, IsDone, HasAllDone, IsPartialOrder, IsOrder}
 
 -- where an operation ended; one with no such place ends after all others
-abbrev pub end_of : RegOp → ℕ
-end_of op = unwrap_or op.ended (2 ^ 64 - 1)
+abbrev pub op_end : RegOp → ℕ
+op_end op = unwrap_or op.ended (2 ^ 64 - 1)
 
 -- what is known of an operation that has not ended yet; one that fails is left out from the start
 abbrev pub outcome_before_end : Outcome → Outcome
@@ -17,24 +18,27 @@ outcome_before_end Done = Unsure
 outcome_before_end Failed = Failed
 outcome_before_end Unsure = Unsure
 
--- What the first so many places of a history tell of an operation: one that is not invoked there did not happen, and of
--- one that does not end there it is not known whether it did.
+-- What the first so many places of a history tell of an operation: one that is not invoked there
+-- did not happen, and of one that does not end there it is not known whether it did.
 abbrev pub outcome_in : ℕ → RegOp → Outcome
 outcome_in count op =
-    if nat_lt op.invoked count then (if nat_lt (end_of op) count then op.outcome else outcome_before_end op.outcome) else Failed
+    if nat_lt op.invoked count
+    then (if nat_lt (op_end op) count then op.outcome else outcome_before_end op.outcome)
+    else Failed
 
 abbrev pub op_in : ℕ → RegOp → RegOp
 op_in count op = record op { outcome = outcome_in count op }
 
 -- the operations, as the first so many places of the history tell them
-abbrev pub cut : List RegOp → ℕ → List RegOp
-cut ops count = map (op_in count) ops
+abbrev pub ops_before : List RegOp → ℕ → List RegOp
+ops_before ops count = map (op_in count) ops
 
--- The place of a completion: cut right before it the operations have an order, which leads to a value; cut right behind
--- it they have none. They have one wherever they are cut before.
+-- The place of a completion: cut right before it the operations have an order, which leads to a
+-- value; cut right behind it they have none. They have one wherever they are cut before.
 pub record IsStuck (ops : List RegOp) (initial : Option ℤ) (stuck : Stuck) : Type 0 where
-  pub completion : (place : ℕ) × IsDone ops place × (end_of (op_at ops place) ≡ stuck.end)
-  pub before : IsPartialOrder (cut ops stuck.end) initial stuck.order stuck.value
-  pub whole : HasAllDone (cut ops stuck.end) stuck.order
-  pub behind : (order : List ℕ) → IsOrder (cut ops (stuck.end + 1)) initial order → ⊥
-  pub least : (count : ℕ) → count ≤ stuck.end → (order : List ℕ) × IsOrder (cut ops count) initial order
+  pub completion : (place : ℕ) × IsDone ops place × (op_end (op_at ops place) ≡ stuck.end)
+  pub before : IsPartialOrder (ops_before ops stuck.end) initial stuck.order stuck.value
+  pub whole : HasAllDone (ops_before ops stuck.end) stuck.order
+  pub behind : (order : List ℕ) → IsOrder (ops_before ops (stuck.end + 1)) initial order → ⊥
+  pub least : (count : ℕ) → count ≤ stuck.end → (order : List ℕ)
+      × IsOrder (ops_before ops count) initial order

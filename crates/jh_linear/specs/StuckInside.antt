@@ -1,13 +1,15 @@
--- What finding the place where a search got stuck goes by: proofs rest on it, and no public clause names it.
-use Rattle.std.specs.Prelude.{◌≡◌, ℕ, ◌+◌, ◌<◌, ◌≤◌, ◌&&◌, Bool, true, false, List, length, nat_lt, slice_index_or}
+-- What finding the place where a search got stuck goes by: proofs rest on it, and no public clause
+-- names it.
+use Rattle.std.specs.Prelude.{◌≡◌, ℕ, ◌+◌, ◌<◌, ◌≤◌, ◌&&◌, Bool, true, false, List, length, nat_lt}
+use Rattle.std.specs.Prelude.{slice_index_or}
 use Rattle.jh_linear.specs.declared.register.RegOp.{RegOp}
-use Rattle.jh_linear.specs.Checking.{is_done}
+use Rattle.jh_linear.specs.Checking.{is_outcome_done}
 use Rattle.jh_linear.specs.Order.{op_at}
-use Rattle.jh_linear.specs.Stuck.{end_of}
+use Rattle.jh_linear.specs.Stuck.{op_end}
 
 -- it is known to have happened, in a history that is cut at a place
 abbrev pub is_known : RegOp → ℕ → Bool
-is_known op cut = is_done op.outcome && nat_lt (end_of op) cut
+is_known op cut = is_outcome_done op.outcome && nat_lt (op_end op) cut
 
 abbrev pub is_known_at : List RegOp → List ℕ → ℕ → ℕ → Bool
 is_known_at ops order cut i = is_known (op_at ops (slice_index_or order i 0)) cut

@@ -1,12 +1,15 @@
--- What the judge's answers say, and why a given order is refused. All of it is this project's own; what an order is
--- stands in Order.antt.
+-- What the judge's answers say, and why a given order is refused. All of it is this project's own;
+-- what an order is stands in Order.antt.
 use Rattle.std.specs.Prelude.{ℕ, ℤ, Option, List}
 use Rattle.jh_linear.specs.declared.order_check.OrderFault.{OrderFault}
-use Rattle.jh_linear.specs.declared.order_check.OrderFault.TheVariants.{NoSuch, Repeat, Failed, Missing, Precedence, Illegal}
+use Rattle.jh_linear.specs.declared.order_check.OrderFault.TheVariants.{NoSuch, Repeat, Failed}
+use Rattle.jh_linear.specs.declared.order_check.OrderFault.TheVariants.{Missing, Precedence}
+use Rattle.jh_linear.specs.declared.order_check.OrderFault.TheVariants.{Illegal}
 use Rattle.jh_linear.specs.declared.register.RegOp.{RegOp}
 use Rattle.jh_linear.specs.declared.verdict.LinVerdict.{LinVerdict}
 use Rattle.jh_linear.specs.declared.verdict.LinVerdict.TheVariants.{Valid, Invalid, Unknown}
-use Rattle.jh_linear.specs.Order.{IsOrder, AreThere, AreApart, ArePossible, HasAllDone, KeepsPrecedence, Runs}
+use Rattle.jh_linear.specs.Order.{IsOrder, AreThere, HasNoneTwice, ArePossible, HasAllDone}
+use Rattle.jh_linear.specs.Order.{KeepsPrecedence, IsLegalFrom}
 use Rattle.jh_linear.specs.Reached.{AreReached}
 use Rattle.jh_linear.specs.Stuck.{IsStuck}
 
@@ -14,8 +17,8 @@ use Rattle.jh_linear.specs.Stuck.{IsStuck}
 abbrev pub HaveNoOrder : List RegOp → Option ℤ → Type 0
 HaveNoOrder ops initial = (order : List ℕ) → IsOrder ops initial order → ⊥
 
--- Valid: it carries an order. Invalid: there is none, and it says up to where there is one. Unknown: it carries as much
--- as the budget of what was reached.
+-- Valid: it carries an order. Invalid: there is none, and it says up to where there is one.
+-- Unknown: it carries as much as the budget of what was reached.
 abbrev pub IsJudged : List RegOp → Option ℤ → ℕ → LinVerdict → Type 0
 IsJudged ops initial budget (Valid order) = IsOrder ops initial order
 IsJudged ops initial budget (Invalid stuck) = HaveNoOrder ops initial × IsStuck ops initial stuck
@@ -24,12 +27,15 @@ IsJudged ops initial budget (Unknown steps) = AreReached ops initial budget step
 -- Why places are refused as an order: the first of its parts, in this order, that does not hold.
 abbrev pub RefusesOrder : List RegOp → Option ℤ → List ℕ → OrderFault → Type 0
 RefusesOrder ops initial order NoSuch = ¬ AreThere ops order
-RefusesOrder ops initial order Repeat = AreThere ops order × (¬ AreApart order)
-RefusesOrder ops initial order Failed = AreThere ops order × AreApart order × (¬ ArePossible ops order)
+RefusesOrder ops initial order Repeat = AreThere ops order × (¬ HasNoneTwice order)
+RefusesOrder ops initial order Failed =
+    AreThere ops order × HasNoneTwice order × (¬ ArePossible ops order)
 RefusesOrder ops initial order Missing =
-    AreThere ops order × AreApart order × ArePossible ops order × (¬ HasAllDone ops order)
+    AreThere ops order × HasNoneTwice order × ArePossible ops order × (¬ HasAllDone ops order)
 RefusesOrder ops initial order Precedence =
-    AreThere ops order × AreApart order × ArePossible ops order × HasAllDone ops order × (¬ KeepsPrecedence ops order)
+    AreThere ops order × HasNoneTwice order × ArePossible ops order × HasAllDone ops order
+    × (¬ KeepsPrecedence ops order)
 RefusesOrder ops initial order Illegal =
-    AreThere ops order × AreApart order × ArePossible ops order × HasAllDone ops order × KeepsPrecedence ops order
-    × ((last : Option ℤ) → Runs ops initial order last → ⊥)
+    AreThere ops order × HasNoneTwice order × ArePossible ops order × HasAllDone ops order
+    × KeepsPrecedence ops order
+    × ((last : Option ℤ) → IsLegalFrom ops initial order last → ⊥)

@@ -6,7 +6,7 @@ use Rattle.jh_linear.specs.declared.config.Config.{Config}
 use Rattle.jh_linear.specs.declared.history.Problem.{Problem}
 use Rattle.jh_linear.specs.declared.moves.Source.TheVariants.{Happened, Unknown}
 use Rattle.jh_linear.specs.declared.wanted.Wanted.{Wanted}
-use Rattle.jh_linear.specs.Search.{IsReady, Needs, call_of}
+use Rattle.jh_linear.specs.Search.{IsReady, Needs, source_call}
 
 -- the value is in the set
 abbrev pub Holds : Wanted → Option ℤ → Type 0
@@ -19,9 +19,11 @@ HoldsMore old new = (value : Option ℤ) → Holds old value → Holds new value
 -- what the operations below an index need, of those that happened and are pending
 abbrev pub HoldsHappened : Problem → Config → Wanted → ℕ → Type 0
 HoldsHappened problem config wanted bound =
-    (index : ℕ) (value : Option ℤ) → index < bound → Needs (call_of problem config (Happened index)) value → Holds wanted value
+    (index : ℕ) (value : Option ℤ) → index < bound
+    → Needs (source_call problem config (Happened index)) value → Holds wanted value
 
 -- what the first one left of each class below a bound needs, where it may come next
 abbrev pub HoldsUnknown : Problem → Config → Wanted → ℕ → Type 0
 HoldsUnknown problem config wanted bound =
-    (k : ℕ) (value : Option ℤ) → k < bound → IsReady problem config k → Needs (call_of problem config (Unknown k)) value → Holds wanted value
+    (k : ℕ) (value : Option ℤ) → k < bound → IsReady problem config k
+    → Needs (source_call problem config (Unknown k)) value → Holds wanted value

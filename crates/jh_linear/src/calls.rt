@@ -1,12 +1,11 @@
 //! The operations of a register that the pairs of a history tell.
 //!
-//! `specs/Calls.antt` says which call each pair tells, and where a bad value is told.
+//! `specs/Calls.antt` says which call each pair tells, and where a bad value is reported.
 
 ghost use Rattle.std.specs.Prelude.{◌≡◌, All, IfOk, MatchResult, length, slice_get, option_map};
 ghost use Rattle.jh_edn.specs.View.{view};
 ghost use Rattle.jh_ops.specs.Operation.{operation, operations};
-ghost use Rattle.jh_ops.specs.OperationText as text;
-ghost use Rattle.jh_ops.specs.Pairing.{IsWithin};
+ghost use Rattle.jh_ops.specs.Pairing.{IsPairWithin};
 ghost use Rattle.jh_linear.specs.Calls as rule;
 ghost use Rattle.jh_linear.specs.Checking as place;
 ghost use Rattle.jh_linear.specs.Calls.{AreRegOps, IsLeastBad, RefusesPairs};
@@ -22,8 +21,8 @@ use thiserror::Error;
 /// Why the pairs of a history tell no operations of a register.
 #[derive(Clone, Copy, Debug, PartialEq, Eq, Error)]
 pub enum RegOpsError {
-    /// The operation at this place of the history, from 0, has a value that its function does not take, or a function
-    /// that no register has.
+    /// The operation at this place of the history, from 0, has a value that its function does not
+    /// take, or a function that no register has.
     #[error("operation {0}: bad value")]
     BadValue(usize),
     #[error("out of memory")]
@@ -46,23 +45,24 @@ impl<T: Drop> From<AllocFailed<T>> for RegOpsError {
     }
 }
 
-/// The operations of a register that pairs tell, one each, in the order of the pairs: those that `jh_ops::pair` gives
-/// for the history. Only client operations are in pairs.
+/// The operations of a register that pairs tell, one each, in the order of the pairs: those that
+/// `jh_ops::pair` gives for the history. Only client operations are in pairs.
 ///
-/// A `:read` has the value that its `:ok` completion tells, an integer or nil; one that did not complete `:ok` has nil.
-/// A `:write` has the integer, a `:cas` the two integers `[old new]`, in a vector or a list, that it was invoked with.
-/// The function is that of the invocation. `:ok` happened, `:fail` did not; `:info`, or no completion, is not known. An
-/// operation ended at the place of its completion, whatever that was.
+/// A `:read` has the value that its `:ok` completion tells, an integer or nil; one that did not
+/// complete `:ok` has nil. A `:write` has the integer, a `:cas` the two integers `[old new]`, in a
+/// vector or a list, that it was invoked with. The function is that of the invocation. `:ok`
+/// happened, `:fail` did not; `:info`, or no completion, is not known. An operation ended at the
+/// place of its completion, whatever that was.
 ///
 /// The operations meet the condition of `check` and `check_order`.
 ///
-/// Errors: `BadValue` at the least place of one: of a `:read` at its completion, of any other, also one with another
-/// function, at its invocation. `OutOfMemory` only where no value is bad.
+/// Errors: `BadValue` at the least place of one: of a `:read` at its completion, of any other, also
+/// one with another function, at its invocation. `OutOfMemory` only where no value is bad.
 ///
 /// Takes time linear in the pairs.
 pub fn reg_ops(alloc: Global, ops: &[Op], pairs: &[Pair]) -> Result<Vec<RegOp>, RegOpsError>
-    requires within { All (IsWithin (length ops.now)) pairs.now }
-    ensures told { MatchResult result
+    requires within { All (IsPairWithin (length ops.now)) pairs.now }
+    ensures parsed { MatchResult result
         (λ calls. AreRegOps (operations ops.now) pairs.now calls.items)
         (RefusesPairs (operations ops.now) pairs.now) }
     ensures ends { IfOk result (λ calls. EndAfterInvoked calls.items) }
@@ -81,30 +81,14 @@ pub fn reg_ops(alloc: Global, ops: &[Op], pairs: &[Pair]) -> Result<Vec<RegOp>, 
 
 // What stands at a place, and what it tells, each as the definition of the same name has it.
 
+/// The operation at a place, if there is one.
 fn op_at(ops: &[Op], place: usize) -> Option<&Op>
     ensures { option_map (λ op. operation op.now) result ≡ slice_get (operations ops.now) place }
 {
     ops.get(place)
 }
 
-fn is_keyword(name: &str, value: &Value) -> bool
-    ensures { result ≡ text.is_keyword name.now (view value.now) }
-{
-    match value {
-        Value::Keyword(text) => text.as_str() == name,
-        _ => false,
-    }
-}
-
-fn integer_of(value: &Value) -> Option<i64>
-    ensures { result ≡ text.integer_of (view value.now) }
-{
-    match value {
-        Value::Int(number) => Some(*number),
-        _ => None,
-    }
-}
-
+/// The read that was answered with this value, an integer or nil.
 fn read_of(value: &Value) -> Option<RegCall>
     ensures { result ≡ rule.read_of (view value.now) }
 {
@@ -115,13 +99,15 @@ fn read_of(value: &Value) -> Option<RegCall>
     }
 }
 
+/// The write of a value, which has to be an integer.
 fn write_of(value: &Value) -> Option<RegCall>
     ensures { result ≡ rule.write_of (view value.now) }
 {
-    let new = integer_of(value)?;
+    let new = value.as_integer()?;
     Some(RegCall::Write(new))
 }
 
+/// The compare and set of a value, which has to be two integers in a vector or a list.
 fn cas_of(value: &Value) -> Option<RegCall>
     ensures { result ≡ rule.cas_of (view value.now) }
 {
@@ -131,31 +117,36 @@ fn cas_of(value: &Value) -> Option<RegCall>
     }
 }
 
+/// The register's call that an invocation means; what a read has seen is the answer.
 fn call_of(invocation: &Op, answer: Option<&Value>) -> Option<RegCall>
     ensures { result
-        ≡ rule.call_of (view invocation.now.f) (view invocation.now.value) (option_map (λ v. view v.now) answer.entry) }
+        ≡ rule.reg_call_of (view invocation.now.f) (view invocation.now.value)
+        (option_map (λ v. view v.now) answer.entry) }
 {
-    if is_keyword("read", &invocation.f) {
+    if invocation.f.is_keyword("read") {
         match answer {
             Some(value) => read_of(value),
             None => Some(RegCall::Read(None)),
         }
-    } else if is_keyword("write", &invocation.f) {
+    } else if invocation.f.is_keyword("write") {
         write_of(&invocation.value)
-    } else if is_keyword("cas", &invocation.f) {
+    } else if invocation.f.is_keyword("cas") {
         cas_of(&invocation.value)
     } else {
         None
     }
 }
 
+/// The completion of a pair, if it has one.
 fn completion_of(ops: &[Op], pair: Pair) -> Option<&Op>
-    ensures { option_map (λ op. operation op.now) result ≡ rule.completion_of (operations ops.now) pair }
+    ensures { option_map (λ op. operation op.now) result
+        ≡ rule.completion_of (operations ops.now) pair }
 {
     let place = pair.outcome?;
     op_at(ops, place)
 }
 
+/// How an operation with this completion ended; one without a completion may have happened.
 fn outcome_of(completion: Option<&Op>) -> Outcome
     ensures { result ≡ rule.outcome_of (option_map (λ op. op.now.kind) completion.entry) }
 {
@@ -169,9 +160,10 @@ fn outcome_of(completion: Option<&Op>) -> Outcome
     }
 }
 
+/// The value of a completion that is `:ok`.
 fn answer_of(completion: Option<&Op>) -> Option<&Value>
     ensures { option_map (λ v. view v.now) result
-        ≡ rule.answer_of (option_map (λ op. operation op.now) completion.entry) }
+        ≡ rule.answered_value (option_map (λ op. operation op.now) completion.entry) }
 {
     let op = completion?;
     match op.kind {
@@ -180,6 +172,7 @@ fn answer_of(completion: Option<&Op>) -> Option<&Value>
     }
 }
 
+/// The register's operation of a pair, if its call can be parsed.
 fn reg_op(ops: &[Op], pair: Pair) -> Option<RegOp>
     ensures { result ≡ rule.reg_op_of (operations ops.now) pair }
 {
@@ -194,15 +187,17 @@ fn reg_op(ops: &[Op], pair: Pair) -> Option<RegOp>
     })
 }
 
+/// Whether the operation at a place is a read.
 fn reads_at(ops: &[Op], place: usize) -> bool
     ensures { result ≡ rule.reads_at (operations ops.now) place }
 {
     match op_at(ops, place) {
-        Some(op) => is_keyword("read", &op.f),
+        Some(op) => op.f.is_keyword("read"),
         None => false,
     }
 }
 
+/// The place at which a bad value of a pair is reported, if it has one.
 fn bad_place(ops: &[Op], pair: Pair) -> Option<usize>
     ensures { result ≡ rule.bad_place (operations ops.now) pair }
 {
@@ -218,7 +213,7 @@ fn bad_place(ops: &[Op], pair: Pair) -> Option<usize>
 
 /// The lesser of two places, of which one or both may be missing.
 fn lesser(first: Option<usize>, second: Option<usize>) -> Option<usize>
-    ensures { result ≡ place.lesser first second }
+    ensures { result ≡ place.lesser_place first second }
 {
     match (first, second) {
         (Some(one), Some(other)) => Some(one.min(other)),
@@ -227,6 +222,7 @@ fn lesser(first: Option<usize>, second: Option<usize>) -> Option<usize>
     }
 }
 
+/// The least place at which a bad value of the pairs is reported, if there is one.
 fn least_bad(ops: &[Op], pairs: &[Pair]) -> Option<usize>
     ensures { IsLeastBad (operations ops.now) pairs.now result }
 {

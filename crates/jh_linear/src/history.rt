@@ -1,12 +1,16 @@
-//! A history, sorted for the search: what happened by invocations and, stage by stage, by ends; and what is not known to
-//! have happened by calls. `specs/Search.antt` says what it keeps of the operations.
+//! A history, sorted for the search: what happened by invocations and, stage by stage, by ends; and
+//! what is not known to have happened by calls. `specs/Search.antt` says what it keeps of the
+//! operations.
 
-ghost use Rattle.std.specs.Prelude.{◌≡◌, ℕ, ◌<◌, ◌≤◌, ◌-◌, ◌^◌, IfOk, length, map, slice_index_or, true};
-ghost use Rattle.jh_linear.specs.Search.{IsHistory, AreClasses, AreEntries, DoNotFall, AreStages, AreRuns, IsUnknown};
-ghost use Rattle.jh_linear.specs.Search.{GoTogether, arrival_entry, end_entry, unknown_entry, no_entry};
+ghost use Rattle.std.specs.Prelude.{◌≡◌, ℕ, ◌<◌, ◌≤◌, ◌-◌, ◌^◌, IfOk, length, map, slice_index_or};
+ghost use Rattle.std.specs.Prelude.{true};
+ghost use Rattle.jh_linear.specs.Search.{IsHistory, AreClasses, ArePlaceEntries, DoNotFall};
+ghost use Rattle.jh_linear.specs.Search.{AreStages, AreClassesUpTo, IsUnsureChange};
+ghost use Rattle.jh_linear.specs.Search.{GoTogether, arrival_entry, end_entry, unknown_entry};
+ghost use Rattle.jh_linear.specs.Search.{no_entry};
 ghost use Rattle.jh_linear.specs.Search.{no_call};
 ghost use Rattle.jh_linear.specs.Order.{IsDone};
-ghost use Rattle.jh_linear.specs.Checking.{is_done};
+ghost use Rattle.jh_linear.specs.Checking.{is_outcome_done};
 ghost use Rattle.std.specs.Prelude.{false};
 
 use crate::register::{Outcome, RegCall, RegOp, is_same, is_unknown};
@@ -21,8 +25,9 @@ pub(crate) struct Stage {
     pub(crate) arrived: usize,
 }
 
-/// Operations of unknown outcome with the same call, those from one index up to another, in the order of invocation. They
-/// are placed in this order: whichever of them took effect first, the first one invoked can stand in its place.
+/// Operations of unknown outcome with the same call, those from one index up to another, in the
+/// order of invocation. They are placed in this order: whichever of them took effect first, the
+/// first one invoked can stand in its place.
 #[derive(Clone, Copy, Debug)]
 pub(crate) struct Class {
     pub(crate) from: usize,
@@ -50,8 +55,9 @@ pub(crate) struct Problem<'a> {
     pub(crate) budget: u64,
 }
 
+/// Whether an operation is known to have happened.
 fn is_done(op: RegOp) -> bool
-    ensures { result ≡ is_done op.outcome }
+    ensures { result ≡ is_outcome_done op.outcome }
 {
     match op.outcome {
         Outcome::Done => true,
@@ -62,7 +68,8 @@ fn is_done(op: RegOp) -> bool
 /// The places of the operations that happened, each with that of its invocation, which do not fall.
 fn arrivals_of(alloc: Global, ops: &[RegOp]) -> Result<Vec<(usize, usize)>, AllocError>
     ensures entries { IfOk result (λ pairs.
-        AreEntries (IsDone ops.now) (arrival_entry ops.now) (λ x. x.1) (length ops.now) pairs.items) }
+        ArePlaceEntries (IsDone ops.now) (arrival_entry ops.now) (λ x. x.1)
+        (length ops.now) pairs.items) }
     ensures rises { IfOk result (λ pairs. DoNotFall pairs.items) }
 {
     let mut arrivals = Vec::new(alloc);
@@ -78,7 +85,8 @@ fn arrivals_of(alloc: Global, ops: &[RegOp]) -> Result<Vec<(usize, usize)>, Allo
 /// The places of the operations that happened, each with that of its end, which do not fall.
 fn ends_of(alloc: Global, ops: &[RegOp]) -> Result<Vec<(usize, usize)>, AllocError>
     ensures entries { IfOk result (λ pairs.
-        AreEntries (IsDone ops.now) (end_entry ops.now) (λ x. x.1) (length ops.now) pairs.items) }
+        ArePlaceEntries (IsDone ops.now) (end_entry ops.now) (λ x. x.1)
+        (length ops.now) pairs.items) }
     ensures rises { IfOk result (λ pairs. DoNotFall pairs.items) }
 {
     let mut ends = Vec::new(alloc);
@@ -91,11 +99,12 @@ fn ends_of(alloc: Global, ops: &[RegOp]) -> Result<Vec<(usize, usize)>, AllocErr
     Ok(ends)
 }
 
-/// The places of the operations of unknown outcome that are tried, each with its call and the place of its invocation.
-/// Sorted, so that equal calls are neighbours; nothing else rests on how.
+/// The places of the operations of unknown outcome that are tried, each with its call and the place
+/// of its invocation. Sorted, so that equal calls are neighbours; nothing else rests on how.
 fn unknown_of(alloc: Global, ops: &[RegOp]) -> Result<Vec<(RegCall, usize, usize)>, AllocError>
     ensures { IfOk result (λ entries.
-        AreEntries (IsUnknown ops.now) (unknown_entry ops.now) (λ x. x.2) (length ops.now) entries.items) }
+        ArePlaceEntries (IsUnsureChange ops.now) (unknown_entry ops.now) (λ x. x.2)
+        (length ops.now) entries.items) }
 {
     let mut unknown = Vec::new(alloc);
     for (place, op) in ops.iter().enumerate() {
@@ -118,14 +127,16 @@ fn go_together(first: (RegCall, usize, usize), second: (RegCall, usize, usize)) 
 fn ends_at(entries: &[(RegCall, usize, usize)], index: usize) -> bool
     requires { 0 < index }
     ensures { result ≡ false → (index < length entries.now)
-        × GoTogether (slice_index_or entries.now (index - 1) no_call) (slice_index_or entries.now index no_call) }
+        × GoTogether (slice_index_or entries.now (index - 1) no_call)
+        (slice_index_or entries.now index no_call) }
 {
     index >= entries.len() || !go_together(entries[index - 1], entries[index])
 }
 
 /// The classes of sorted entries.
 fn classes_of(alloc: Global, entries: &[(RegCall, usize, usize)]) -> Result<Vec<Class>, AllocError>
-    ensures { IfOk result (λ classes. AreRuns entries.now classes.items (length entries.now)) }
+    ensures { IfOk result
+        (λ classes. AreClassesUpTo entries.now classes.items (length entries.now)) }
 {
     let mut classes = Vec::new(alloc);
     let mut from = 0;
@@ -164,7 +175,8 @@ fn unknown_places(
     Ok(places)
 }
 
-/// How many of the invocations are not after an end, from a count of those that are known not to be.
+/// How many of the invocations are not after an end, from a count of those that are known not to
+/// be.
 fn arrived_by(invocations: &[(usize, usize)], end: usize, from: usize) -> usize
     requires from { from ≤ length invocations.now }
     requires before { (i : ℕ) → i < from → (slice_index_or invocations.now i no_entry).0 ≤ end }
@@ -203,8 +215,10 @@ fn stages_of(
 
 /// The history of some operations.
 pub(crate) fn history_of(alloc: Global, ops: &[RegOp]) -> Result<History, AllocError>
-    ensures history { IfOk result (λ history. IsHistory ops.now history.arrivals.items history.stages.items) }
-    ensures classes { IfOk result (λ history. AreClasses ops.now history.unknown.items history.classes.items) }
+    ensures history { IfOk result
+        (λ history. IsHistory ops.now history.arrivals.items history.stages.items) }
+    ensures classes { IfOk result
+        (λ history. AreClasses ops.now history.unknown.items history.classes.items) }
 {
     let invocations = arrivals_of(alloc, ops)?;
     let ends = ends_of(alloc, ops)?;

@@ -1,16 +1,19 @@
 //! The search for an order.
 //!
-//! It goes through configurations, each entered once, with the one that it was reached from. `specs/Search.antt` says what
-//! it keeps: each configuration that was entered waits, or all that may lead past the furthest stage was reached from it.
-//! Where none waits, no order passes that stage. Which one is taken next may be changed: `queue.rt` has the ranks.
+//! It goes through configurations, each entered once, with the one that it was reached from.
+//! `specs/Search.antt` says what it keeps: each configuration that was entered waits, or all that
+//! may lead past the furthest stage was reached from it. Where none waits, no order passes that
+//! stage. Which one is taken next may be changed: `queue.rt` has the ranks.
 
-ghost use Rattle.std.specs.Prelude.{◌≡◌, ◌++◌, ◌<◌, ◌≤◌, length, slice_get, Some, vec_len, IfOk, false};
+ghost use Rattle.std.specs.Prelude.{◌≡◌, ◌++◌, ◌<◌, ◌≤◌, length, slice_get, Some, vec_len, IfOk};
+ghost use Rattle.std.specs.Prelude.{false};
 ghost use Rattle.jh_linear.specs.declared.config.Config.{Config};
 ghost use Rattle.jh_linear.specs.Order.{EndAfterInvoked};
 ghost use Rattle.jh_linear.specs.Reached.{order_at, root};
 ghost use Rattle.jh_linear.specs.Verdict.{IsJudged};
-ghost use Rattle.jh_linear.specs.Search.{AreSame, EachIsMove, Entered, IsBegun, IsKept, IsMove, IsProblem, LeadsTo, Taken};
-ghost use Rattle.jh_linear.specs.Search.{Tried, WasReached, WereTried, stages_in};
+ghost use Rattle.jh_linear.specs.Search.{AreSame, EachIsMove, ComesOfEntering, IsSearchSoFar};
+ghost use Rattle.jh_linear.specs.Search.{IsSearchKept, IsMove, IsProblem, LeadsTo, ComesOfTurn};
+ghost use Rattle.jh_linear.specs.Search.{ComesOfMove, WasReached, WereTried, stages_in};
 
 use crate::config::{Config, copy_config, first_config};
 use crate::history::{Problem, history_of};
@@ -42,10 +45,11 @@ fn try_move(
     step: Move,
 ) -> Result<Progress, AllocError>
     requires problem { IsProblem problem.now }
-    requires begun { IsBegun problem.now search.old }
+    requires begun { IsSearchSoFar problem.now search.old }
     requires reached { WasReached search.old at config.now }
     requires moves { IsMove problem.now config.now step }
-    ensures { IfOk result (λ progress. Tried problem.now search.old search.new at config.now step progress) }
+    ensures { IfOk result
+        (λ progress. ComesOfMove problem.now search.old search.new at config.now step progress) }
 {
     let mut next = copy_config(alloc, config)?;
     let mut placed = Vec::new(alloc);
@@ -74,13 +78,16 @@ fn enter(
     config: Config,
 ) -> Result<Progress, AllocError>
     requires problem { IsProblem problem.now }
-    requires begun { IsBegun problem.now search.old }
+    requires begun { IsSearchSoFar problem.now search.old }
     requires low { at < length search.old.steps.items }
     requires longer { 0 < vec_len placed }
-    requires stands { LeadsTo problem.now (order_at search.old.steps.items at ++ placed.items) config }
+    requires stands { LeadsTo problem.now
+        (order_at search.old.steps.items at ++ placed.items) config }
     requires open { config.stage < stages_in problem.now }
     requires far { config.stage ≤ search.old.furthest.stage }
-    ensures { IfOk result (λ progress. Entered problem.now search.old search.new at placed.items config progress) }
+    ensures { IfOk result
+        (λ progress.
+        ComesOfEntering problem.now search.old search.new at placed.items config progress) }
 {
     let rank = rank_of(problem, &config);
     match add(search, problem.budget, at, placed, config, rank)? {
@@ -90,7 +97,8 @@ fn enter(
     }
 }
 
-/// Goes on from a configuration by these moves, at last by the first, which of the same rank is taken up first.
+/// Goes on from a configuration by these moves, at last by the first, which of the same rank is
+/// taken up first.
 fn try_moves(
     alloc: Global,
     problem: &Problem,
@@ -100,10 +108,11 @@ fn try_moves(
     moves: &[Move],
 ) -> Result<Progress, AllocError>
     requires problem { IsProblem problem.now }
-    requires begun { IsBegun problem.now search.old }
+    requires begun { IsSearchSoFar problem.now search.old }
     requires reached { WasReached search.old at config.now }
     requires moves { EachIsMove problem.now config.now moves.now }
-    ensures { IfOk result (λ progress. WereTried problem.now search.old search.new at config.now moves.now progress) }
+    ensures { IfOk result
+        (λ progress. WereTried problem.now search.old search.new at config.now moves.now progress) }
 {
     let count = moves.len();
     for step in 0..count {
@@ -138,17 +147,19 @@ fn put_off(
     happened: &[Move],
 ) -> Result<Progress, AllocError>
     requires problem { IsProblem problem.now }
-    requires begun { IsBegun problem.now search.old }
+    requires begun { IsSearchSoFar problem.now search.old }
     requires reached { WasReached search.old turn.at config.now }
     requires moves { EachIsMove problem.now config.now happened.now }
     requires first { turn.is_last ≡ false }
-    ensures { IfOk result (λ progress. Taken problem.now search.old search.new turn progress) }
+    ensures { IfOk result
+        (λ progress. ComesOfTurn problem.now search.old search.new turn progress) }
 {
     search.waiting.push(second_turn(problem, turn))?;
     try_moves(alloc, problem, search, turn.at, config, happened)
 }
 
-/// Goes on from a configuration whose turn it is: at the first by what happened, where that is not all, else by all.
+/// Goes on from a configuration whose turn it is: at the first by what happened, where that is not
+/// all, else by all.
 fn expand(
     alloc: Global,
     problem: &Problem,
@@ -157,9 +168,10 @@ fn expand(
     config: &Config,
 ) -> Result<Progress, AllocError>
     requires problem { IsProblem problem.now }
-    requires begun { IsBegun problem.now search.old }
+    requires begun { IsSearchSoFar problem.now search.old }
     requires reached { WasReached search.old turn.at config.now }
-    ensures { IfOk result (λ progress. Taken problem.now search.old search.new turn progress) }
+    ensures { IfOk result
+        (λ progress. ComesOfTurn problem.now search.old search.new turn progress) }
 {
     let mut found = Vec::new(alloc);
     find_moves(alloc, problem, config, &mut found)?;
@@ -176,7 +188,7 @@ fn start(alloc: Global, problem: &Problem) -> Result<Search, AllocError>
     requires problem { IsProblem problem.now }
     requires some { 0 < stages_in problem.now }
     requires budget { 0 < problem.now.budget }
-    ensures { IfOk result (λ search. IsKept problem.now search) }
+    ensures { IfOk result (λ search. IsSearchKept problem.now search) }
 {
     let config = first_config(alloc, problem)?;
     let mut configs = IndexSet::new(alloc);
@@ -210,20 +222,22 @@ fn first_step(alloc: Global) -> Step
     }
 }
 
-/// Whether the operations can have happened one after another on a register with this initial value. `Valid` carries an
-/// order, `Invalid` says that there is none, and up to where there is one, and `Unknown` that the budget was used up. Each
-/// operation has to end after its invocation.
+/// Whether the operations can have happened one after another on a register with this initial
+/// value. `Valid` carries an order, `Invalid` says that there is none, and up to where there is
+/// one, and `Unknown` that the budget was used up. Each operation has to end after its invocation.
 ///
-/// The budget counts configurations: a set of operations that are placed, with the register's value, counts once, when it
-/// is entered. One from which there is one way to go on, or none, is not entered. `Unknown` carries as many as the budget.
-/// With a budget of 0 the answer is `Unknown` of none.
+/// The budget counts configurations: a set of operations that are placed, with the register's
+/// value, counts once, when it is entered. One from which there is one way to go on, or none, is
+/// not entered. `Unknown` carries as many as the budget. With a budget of 0 the answer is `Unknown`
+/// of none.
 ///
 /// Errors: out of memory.
 ///
-/// Let w be how many operations may be in flight at once, and u how many different calls are not known to have happened.
-/// Takes O(n log n) for n operations, and for each configuration w + u words of memory, those for what was placed since
-/// the one before it, and for each way to go on from it w + u steps for each operation that is placed until there are
-/// several ways again. docs/register.md says more.
+/// Let w be how many operations may be in flight at once, and u how many different calls are not
+/// known to have happened. Takes O(n log n) for n operations, and for each configuration w + u
+/// words of memory, those for what was placed since the one before it, and for each way to go on
+/// from it w + u steps for each operation that is placed until there are several ways again.
+/// docs/register.md says more.
 pub fn check(
     alloc: Global,
     ops: &[RegOp],

@@ -1,5 +1,5 @@
-//! Whether the operations of a register can have happened one after another: a judge whose yes carries an order, and
-//! whose no is proved.
+//! Whether the operations of a register can have happened one after another: a judge whose yes
+//! carries an order, and whose no is proved.
 #![tactic(auto)]
 
 mod calls;

@@ -1,16 +1,19 @@
 //! The ways to go on from a configuration.
 //!
-//! `specs/Search.antt` says which are enough for no order to be lost (`AreEnough`), and what is left out may be changed
-//! where none is. Here a read that happened and matches the value is placed at once and alone; of the operations of unknown
-//! outcome with one call only the one invoked first is tried, and only where something that may come next needs its value.
+//! `specs/Search.antt` says which are enough for no order to be lost (`AreEnough`), and what is
+//! left out may be changed where none is. Here a read that happened and matches the value is placed
+//! at once and alone; of the operations of unknown outcome with one call only the one invoked first
+//! is tried, and only where something that may come next needs its value.
 
-ghost use Rattle.std.specs.Prelude.{◌≡◌, ℕ, ℤ, ◌<◌, ◌≤◌, length, vec_len, true, false, IfSome, OnOk, Option, None};
+ghost use Rattle.std.specs.Prelude.{◌≡◌, ℤ, ◌<◌, ◌≤◌, length, vec_len, true, false, IfSome, OnOk};
+ghost use Rattle.std.specs.Prelude.{Option, None};
 ghost use Rattle.jh_linear.specs.Order.{Allows, EndsBefore};
 ghost use Rattle.jh_linear.specs.Search as rule;
-ghost use Rattle.jh_linear.specs.Search.{AreMoves, HasHappened, HasUnknown, IsProblem, IsReady, IsSettledAt, IsThere, IsWanted};
-ghost use Rattle.jh_linear.specs.Search.{IsAmong, MovesMore, NoneSettled, call_of, stages_in};
+ghost use Rattle.jh_linear.specs.Search.{AreMoves, HasHappened, HasUnknown, IsProblem, IsReady};
+ghost use Rattle.jh_linear.specs.Search.{IsSettledAt, CanBePlaced, IsWanted};
+ghost use Rattle.jh_linear.specs.Search.{IsAmong, MovesMore, IsNoneSettled, source_call, stages_in};
 ghost use Rattle.jh_linear.specs.WantedInside.{Holds};
-ghost use Rattle.jh_linear.specs.Stuck.{end_of};
+ghost use Rattle.jh_linear.specs.Stuck.{op_end};
 ghost use Rattle.jh_linear.specs.declared.moves.Source.TheVariants as source;
 
 use crate::config::Config;
@@ -36,6 +39,7 @@ pub(crate) struct Move {
     pub(crate) value: Option<i64>,
 }
 
+/// The class at an index; past the end, one with no operations.
 fn class_at(classes: &[Class], class: usize) -> Class
     ensures { result ≡ rule.class_at classes.now class }
 {
@@ -45,6 +49,7 @@ fn class_at(classes: &[Class], class: usize) -> Class
     }
 }
 
+/// The number at an index; past the end, 0.
 fn at_or_zero(places: &[usize], index: usize) -> usize
     ensures { result ≡ rule.next_at places.now index }
 {
@@ -54,9 +59,9 @@ fn at_or_zero(places: &[usize], index: usize) -> usize
     }
 }
 
-/// The operation that a move places.
+/// The place of the operation that a move places.
 pub(crate) fn place_of(problem: &Problem, config: &Config, source: Source) -> usize
-    ensures { result ≡ rule.place_of problem.now config.now source }
+    ensures { result ≡ rule.source_place problem.now config.now source }
 {
     match source {
         Source::Happened(index) => at_or_zero(config.pending.as_slice(), index),
@@ -67,6 +72,7 @@ pub(crate) fn place_of(problem: &Problem, config: &Config, source: Source) -> us
     }
 }
 
+/// The operation that a move places.
 pub(crate) fn op_of(problem: &Problem, config: &Config, source: Source) -> RegOp
     ensures { result ≡ rule.op_of problem.now config.now source }
 {
@@ -75,7 +81,7 @@ pub(crate) fn op_of(problem: &Problem, config: &Config, source: Source) -> RegOp
 
 /// Whether an operation was invoked before another one ended.
 fn is_in_time(op: RegOp, other: RegOp) -> bool
-    ensures in_time { result ≡ true → op.invoked ≤ end_of other }
+    ensures in_time { result ≡ true → op.invoked ≤ op_end other }
     ensures late { result ≡ false → EndsBefore other.ended op.invoked }
 {
     match other.ended {
@@ -89,7 +95,7 @@ pub(crate) fn is_ready(problem: &Problem, config: &Config, class: usize) -> bool
     requires problem { IsProblem problem.now }
     requires stage { config.now.stage < stages_in problem.now }
     requires class { class < length problem.now.history.classes.items }
-    ensures ready { result ≡ true → IsThere problem.now config.now (source.Unknown class) }
+    ensures ready { result ≡ true → CanBePlaced problem.now config.now (source.Unknown class) }
     ensures other { result ≡ false → IsReady problem.now config.now class → ⊥ }
 {
     let next = at_or_zero(config.next.as_slice(), class);
@@ -102,7 +108,8 @@ pub(crate) fn is_ready(problem: &Problem, config: &Config, class: usize) -> bool
 fn settled(problem: &Problem, config: &Config) -> Option<usize>
     requires problem { IsProblem problem.now }
     ensures some { IfSome result (λ index. IsSettledAt problem.now config.now index) }
-    ensures none { result ≡ None → NoneSettled problem.now config.now (vec_len config.now.pending) }
+    ensures none { result ≡ None
+        → IsNoneSettled problem.now config.now (vec_len config.now.pending) }
 {
     for index in 0..config.pending.len() {
         if is_settled(
@@ -122,9 +129,11 @@ fn push_move(
     source: Source,
     moves: &mut Vec<Move>,
 ) -> Result<(), AllocError>
-    requires { IsThere problem.now config.now source }
+    requires { CanBePlaced problem.now config.now source }
     ensures more { OnOk result (MovesMore problem.now config.now moves.old.items moves.new.items) }
-    ensures among { OnOk result ((next : Option ℤ) → Allows (call_of problem.now config.now source) config.now.value next
+    ensures among { OnOk result
+        ((next : Option ℤ)
+        → Allows (source_call problem.now config.now source) config.now.value next
         → IsAmong moves.new.items source next) }
 {
     if let Some(value) = after(op_of(problem, config, source).call, config.value) {
@@ -133,13 +142,15 @@ fn push_move(
     Ok(())
 }
 
+/// Puts last the moves of all that happened and is pending, where the value allows them.
 fn push_happened(
     problem: &Problem,
     config: &Config,
     moves: &mut Vec<Move>,
 ) -> Result<(), AllocError>
     ensures more { OnOk result (MovesMore problem.now config.now moves.old.items moves.new.items) }
-    ensures happened { OnOk result (HasHappened problem.now config.now moves.new.items (vec_len config.now.pending)) }
+    ensures happened { OnOk result
+        (HasHappened problem.now config.now moves.new.items (vec_len config.now.pending)) }
 {
     for index in 0..config.pending.len() {
         push_move(problem, config, Source::Happened(index), moves)?;
@@ -147,14 +158,15 @@ fn push_happened(
     Ok(())
 }
 
-/// Whether the next operation of a class is worth a try: it may come next, and leads to a value that is wanted.
+/// Whether the next operation of a class is worth a try: it may come next, and leads to a value
+/// that is wanted.
 fn is_worth(problem: &Problem, config: &Config, wanted: &Wanted, class: usize) -> bool
     requires problem { IsProblem problem.now }
     requires stage { config.now.stage < stages_in problem.now }
     requires class { class < length problem.now.history.classes.items }
-    ensures ready { result ≡ true → IsThere problem.now config.now (source.Unknown class) }
+    ensures ready { result ≡ true → CanBePlaced problem.now config.now (source.Unknown class) }
     ensures other { result ≡ false → IsReady problem.now config.now class → (next : Option ℤ)
-        → Allows (call_of problem.now config.now (source.Unknown class)) config.now.value next
+        → Allows (source_call problem.now config.now (source.Unknown class)) config.now.value next
         → Holds wanted.now next → ⊥ }
 {
     if !is_ready(problem, config, class) {
@@ -169,6 +181,7 @@ fn is_worth(problem: &Problem, config: &Config, wanted: &Wanted, class: usize) -
     }
 }
 
+/// Puts last a move of each class whose next operation is worth a try.
 fn push_unknown(
     problem: &Problem,
     config: &Config,
@@ -177,9 +190,12 @@ fn push_unknown(
 ) -> Result<(), AllocError>
     requires problem { IsProblem problem.now }
     requires stage { config.now.stage < stages_in problem.now }
-    requires wanted { (value : Option ℤ) → IsWanted problem.now config.now value → Holds wanted.now value }
+    requires wanted { (value : Option ℤ) → IsWanted problem.now config.now value
+        → Holds wanted.now value }
     ensures more { OnOk result (MovesMore problem.now config.now moves.old.items moves.new.items) }
-    ensures unknown { OnOk result (HasUnknown problem.now config.now moves.new.items (length problem.now.history.classes.items)) }
+    ensures unknown { OnOk result
+        (HasUnknown problem.now config.now moves.new.items
+        (length problem.now.history.classes.items)) }
 {
     for class in 0..problem.history.classes.len() {
         if is_worth(problem, config, wanted, class) {

@@ -1,12 +1,14 @@
 //! A given order, checked without memory.
 //!
-//! `specs/Order.antt` says what an order is, part by part, and `specs/Verdict.antt` which part each refusal stands for.
-//! How a part is looked at may be changed; each part has a function with its exact clause.
+//! `specs/Order.antt` says what an order is, part by part, and `specs/Verdict.antt` which part each
+//! refusal stands for. How a part is looked at may be changed; each part has a function with its
+//! exact clause.
 
 ghost use Rattle.std.specs.Prelude.{◌≡◌, ◌+◌, ◌<◌, ◌↔◌, ◌∷◌, ℤ, Option, length, drop, filter, true};
 ghost use Rattle.std.specs.Prelude.{IsTrue, MatchResult};
-ghost use Rattle.jh_linear.specs.Checking.{NoneLate, is_done_at, done_below};
-ghost use Rattle.jh_linear.specs.Order.{IsOrder, AreThere, AreApart, ArePossible, HasAllDone, Runs};
+ghost use Rattle.jh_linear.specs.Checking.{IsNoneLate, is_op_done, done_places_below};
+ghost use Rattle.jh_linear.specs.Order.{IsOrder, AreThere, HasNoneTwice, ArePossible, HasAllDone};
+ghost use Rattle.jh_linear.specs.Order.{IsLegalFrom};
 ghost use Rattle.jh_linear.specs.Order.{IsPossible, EndAfterInvoked, EndsBefore, has};
 ghost use Rattle.jh_linear.specs.Order as rule;
 ghost use Rattle.jh_linear.specs.Verdict.{RefusesOrder};
@@ -38,15 +40,16 @@ pub enum OrderFault {
     Illegal,
 }
 
-/// Whether these places are an order in which the operations can have happened, on a register with this initial
-/// value. Each operation has to end after its invocation.
+/// Whether these places are an order in which the operations can have happened, on a register with
+/// this initial value. Each operation has to end after its invocation.
 ///
 /// Errors, in this order: `NoSuch`, `Repeat`, `Failed`, `Missing`, `Precedence`, `Illegal`.
 ///
-/// Takes no memory. Takes time linear in the operations and the places, but for `Repeat`: there each place is looked
-/// for among those behind it up to the first that was invoked after its end. So an order of m places with w in flight
-/// at once takes m * w steps, and up to m more for each operation that is not known to have happened. Places that break
-/// precedence are compared each with each: m * m steps.
+/// Takes no memory. Takes time linear in the operations and the places, but for `Repeat`: there
+/// each place is looked for among those behind it up to the first that was invoked after its end.
+/// So an order of m places with w in flight at once takes m * w steps, and up to m more for each
+/// operation that is not known to have happened. Places that break precedence are compared each
+/// with each: m * m steps.
 pub fn check_order(ops: &[RegOp], initial: Option<i64>, order: &[usize]) -> Result<(), OrderFault>
     requires ends { EndAfterInvoked ops.now }
     ensures judged { MatchResult result
@@ -89,12 +92,14 @@ pub(crate) fn op_at(ops: &[RegOp], place: usize) -> RegOp
     }
 }
 
+/// Whether each place is that of an operation.
 fn are_there(ops: &[RegOp], order: &[usize]) -> bool
     ensures { IsTrue result ↔ AreThere ops.now order.now }
 {
     order.iter().all(|place| *place < ops.len())
 }
 
+/// Whether the operation at a place did not fail.
 fn is_possible(ops: &[RegOp], place: usize) -> bool
     ensures { IsTrue result ↔ IsPossible ops.now place }
 {
@@ -104,14 +109,16 @@ fn is_possible(ops: &[RegOp], place: usize) -> bool
     }
 }
 
+/// Whether no operation of the order failed.
 fn are_possible(ops: &[RegOp], order: &[usize]) -> bool
     ensures { IsTrue result ↔ ArePossible ops.now order.now }
 {
     order.iter().all(|place| is_possible(ops, *place))
 }
 
+/// Whether the operation at a place is known to have happened.
 fn is_done(ops: &[RegOp], place: usize) -> bool
-    ensures { result ≡ is_done_at ops.now place }
+    ensures { result ≡ is_op_done ops.now place }
 {
     match op_at(ops, place).outcome {
         Outcome::Done => true,
@@ -121,7 +128,7 @@ fn is_done(ops: &[RegOp], place: usize) -> bool
 
 /// How many of the places are those of what happened.
 fn count_done(ops: &[RegOp], order: &[usize]) -> usize
-    ensures { result ≡ length (filter (is_done_at ops.now) order.now) }
+    ensures { result ≡ length (filter (is_op_done ops.now) order.now) }
 {
     let mut count = 0;
     for place in order {
@@ -134,7 +141,7 @@ fn count_done(ops: &[RegOp], order: &[usize]) -> usize
 
 /// How many operations happened.
 fn count_all_done(ops: &[RegOp]) -> usize
-    ensures { result ≡ length (done_below ops.now (length ops.now)) }
+    ensures { result ≡ length (done_places_below ops.now (length ops.now)) }
 {
     let mut count = 0;
     for place in 0..ops.len() {
@@ -147,7 +154,7 @@ fn count_all_done(ops: &[RegOp]) -> usize
 
 /// Whether all that happened is among the places, which are apart: then it is enough to count.
 fn has_all_done(ops: &[RegOp], order: &[usize]) -> bool
-    requires apart { AreApart order.now }
+    requires apart { HasNoneTwice order.now }
     ensures { IsTrue result ↔ HasAllDone ops.now order.now }
 {
     count_done(ops, order) == count_all_done(ops)
@@ -163,9 +170,10 @@ fn is_over(op: RegOp, at: usize) -> bool
     }
 }
 
-/// Whether none stands behind one that was invoked after its end. It is enough to know the latest invocation so far.
+/// Whether none stands behind one that was invoked after its end. It is enough to know the latest
+/// invocation so far.
 fn none_late(ops: &[RegOp], order: &[usize]) -> bool
-    ensures { IsTrue result ↔ NoneLate ops.now order.now }
+    ensures { IsTrue result ↔ IsNoneLate ops.now order.now }
 {
     let mut latest = 0;
     for place in order {
@@ -178,10 +186,10 @@ fn none_late(ops: &[RegOp], order: &[usize]) -> bool
     true
 }
 
-/// Whether a place is among those behind it. Where none of them is late, it can stand only before the first that was
-/// invoked after its end.
+/// Whether a place is among those behind it. Where none of them is late, it can stand only before
+/// the first that was invoked after its end.
 fn stands_again(ops: &[RegOp], place: usize, behind: &[usize], in_time: bool) -> bool
-    requires in_time { in_time ≡ true → NoneLate ops.now (place ∷ behind.now) }
+    requires in_time { in_time ≡ true → IsNoneLate ops.now (place ∷ behind.now) }
     ensures { result ≡ has behind.now place }
 {
     let op = op_at(ops, place);
@@ -204,8 +212,9 @@ fn behind(order: &[usize], index: usize) -> &[usize]
     &order[index + 1..]
 }
 
+/// Whether no place stands there twice.
 fn are_apart(ops: &[RegOp], order: &[usize]) -> bool
-    ensures { IsTrue result ↔ AreApart order.now }
+    ensures { IsTrue result ↔ HasNoneTwice order.now }
 {
     let in_time = none_late(ops, order);
     for (index, place) in order.iter().enumerate() {
@@ -218,7 +227,7 @@ fn are_apart(ops: &[RegOp], order: &[usize]) -> bool
 
 /// Whether the calls lead from the initial value to some value.
 fn runs(ops: &[RegOp], initial: Option<i64>, order: &[usize]) -> bool
-    ensures { IsTrue result ↔ ((last : Option ℤ) × Runs ops.now initial order.now last) }
+    ensures { IsTrue result ↔ ((last : Option ℤ) × IsLegalFrom ops.now initial order.now last) }
 {
     let mut value = initial;
     for place in order {

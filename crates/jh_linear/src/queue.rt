@@ -1,10 +1,11 @@
-//! Which configuration the search goes on from next. Any would do: nothing that is proved hangs on the ranks, which say
-//! only how soon an order is found.
+//! Which configuration the search goes on from next. Any would do: nothing that is proved hangs on
+//! the ranks, which say only how soon an order is found.
 //!
-//! The further a configuration came, the sooner its turn comes, and an operation of unknown outcome is held to be worth some
-//! stages: one that is placed may be wanted later. So an order that does without it is looked for first, as far as these
-//! stages. For the same reason a configuration has two turns. At the first one only what happened is tried; what is unknown
-//! waits for the second. docs/performance.md has what comes of it.
+//! The further a configuration came, the sooner its turn comes, and an operation of unknown outcome
+//! is held to be worth some stages: one that is placed may be wanted later. So an order that does
+//! without it is looked for first, as far as these stages. For the same reason a configuration has
+//! two turns. At the first one only what happened is tried; what is unknown waits for the second.
+//! docs/performance.md has what comes of it.
 
 ghost use Rattle.std.specs.Prelude.{◌≡◌, [], IfSome, IfNone, OnOk, true};
 ghost use Rattle.jh_linear.specs.TurnsInside.{IsWith};
@@ -46,6 +47,7 @@ impl Model for Queue {
 }
 
 impl Queue {
+    /// A queue with no turns.
     pub(crate) fn new(alloc: Global) -> Queue
         ensures { result ≡ [] }
     {
@@ -54,6 +56,7 @@ impl Queue {
         }
     }
 
+    /// Puts in a turn.
     pub(crate) fn push(&mut self, turn: Turn) -> Result<(), AllocError>
         ensures { OnOk result (IsWith turn self.old self.new) }
     {
@@ -70,7 +73,8 @@ impl Queue {
     }
 }
 
-/// How many stages one operation of unknown outcome is worth: as many as there are for each of them, up to a limit.
+/// How many stages one operation of unknown outcome is worth: as many as there are for each of
+/// them, up to a limit.
 fn price(history: &History) -> usize {
     match history.stages.len().checked_div(history.unknown.len()) {
         Some(stages) => stages.clamp(1, MAX_PRICE),
@@ -78,7 +82,8 @@ fn price(history: &History) -> usize {
     }
 }
 
-/// The rank of a configuration: the stages that it has passed, and the worth of what is unknown and not placed.
+/// The rank of a configuration: the stages that it has passed, and the worth of what is unknown and
+/// not placed.
 pub(crate) fn rank_of(problem: &Problem, config: &Config) -> usize {
     let mut left = 0usize;
     for (class, next) in problem.history.classes.iter().zip(config.next.as_slice()) {

@@ -1,7 +1,7 @@
 //! The operations of a register, as the judge takes them, and the register itself.
 //!
-//! `specs/Order.antt` has the register's rule. What the search leaves out, and what it places at once, stands in
-//! `specs/Search.antt`, and may be changed where no order is lost.
+//! `specs/Order.antt` has the register's rule. What the search leaves out, and what it places at
+//! once, stands in `specs/Search.antt`, and may be changed where no order is lost.
 
 ghost use Rattle.std.specs.Prelude.{◌≡◌, ℤ, Option, Some, IfSome, IsTrue, ◌↔◌, true};
 ghost use Rattle.jh_linear.specs.Order.{Allows};
@@ -25,7 +25,7 @@ pub enum Outcome {
 /// What was asked of the register, whose value is an integer or nil.
 #[derive(Clone, Copy, Debug, PartialEq, Eq, PartialOrd, Ord)]
 pub enum RegCall {
-    /// Read this value, or any where none is told.
+    /// Read this value, or any where none is parsed.
     Read(Option<i64>),
     /// Write this value.
     Write(i64),
@@ -55,6 +55,7 @@ pub(crate) fn after(call: RegCall, value: Option<i64>) -> Option<Option<i64>>
     }
 }
 
+/// Whether the register's value is this integer.
 fn value_is(value: Option<i64>, wanted: i64) -> bool
     ensures { IsTrue result ↔ (value ≡ Some wanted) }
 {
@@ -64,9 +65,10 @@ fn value_is(value: Option<i64>, wanted: i64) -> bool
     }
 }
 
-/// Whether an operation is tried though it is not known to have happened. A read is not: an order holds without it.
+/// Whether an operation is tried though it is not known to have happened. A read is not: an order
+/// holds without it.
 pub(crate) fn is_unknown(op: RegOp) -> bool
-    ensures { result ≡ rule.is_unknown op.outcome op.call }
+    ensures { result ≡ rule.is_unsure_change op.outcome op.call }
 {
     match (op.outcome, op.call) {
         (Outcome::Unsure, RegCall::Write(_)) => true,
@@ -77,7 +79,8 @@ pub(crate) fn is_unknown(op: RegOp) -> bool
 
 /// The value that a call needs, where no other would do.
 pub(crate) fn needed(call: RegCall) -> Option<i64>
-    ensures { (value : Option ℤ) → Needs call value → (x : ℤ) × (result ≡ Some x) × (value ≡ Some x) }
+    ensures { (value : Option ℤ) → Needs call value → (x : ℤ) × (result ≡ Some x)
+        × (value ≡ Some x) }
 {
     match call {
         RegCall::Read(seen) => seen,
@@ -98,8 +101,8 @@ pub(crate) fn is_same(first: RegCall, second: RegCall) -> bool
     }
 }
 
-/// Whether an operation is a read that happened and that the value allows. Wherever one may come next, it may come at
-/// once: what follows it is not changed by it.
+/// Whether an operation is a read that happened and that the value allows. Wherever one may come
+/// next, it may come at once: what follows it is not changed by it.
 pub(crate) fn is_settled(op: RegOp, value: Option<i64>) -> bool
     ensures settled { result ≡ true → IsSettled op value }
     ensures other { result ≡ false → op.outcome ≡ Done → op.call ≡ Read None → ⊥ }

@@ -1,7 +1,7 @@
 //! Where a search that came to its end got stuck. `specs/Stuck.antt` says what it stands for.
 
 ghost use Rattle.std.specs.Prelude.{◌≡◌, ◌++◌, ℤ, ◌<◌, Option, length, reverse, IfOk, OnOk};
-ghost use Rattle.jh_linear.specs.Order.{Runs};
+ghost use Rattle.jh_linear.specs.Order.{IsLegalFrom};
 ghost use Rattle.jh_linear.specs.Reached.{NameEarlier, order_at};
 ghost use Rattle.jh_linear.specs.Search.{IsExhausted, IsProblem};
 ghost use Rattle.jh_linear.specs.Stuck as rule;
@@ -46,7 +46,7 @@ fn push_reversed(order: &mut Vec<usize>, placed: &[usize]) -> Result<(), AllocEr
 
 /// Where an operation ended; one with no such place ends after all others.
 fn end_of(op: RegOp) -> usize
-    ensures { result ≡ rule.end_of op }
+    ensures { result ≡ rule.op_end op }
 {
     op.ended.unwrap_or(usize::MAX)
 }
@@ -76,7 +76,7 @@ fn known_until(ops: &[RegOp], order: &[usize], cut: usize) -> usize
 
 /// The value that an order leads to.
 fn value_after(ops: &[RegOp], initial: Option<i64>, order: &[usize]) -> Option<i64>
-    ensures { (last : Option ℤ) → Runs ops.now initial order.now last → result ≡ last }
+    ensures { (last : Option ℤ) → IsLegalFrom ops.now initial order.now last → result ≡ last }
 {
     let mut value = initial;
     for place in order {

@@ -28,6 +28,7 @@ impl Order {
         Order { places }
     }
 
+    /// The places, one after another.
     pub fn as_slice(&self) -> &[usize]
         ensures { result.now ≡ self.now }
     {
@@ -43,9 +44,9 @@ impl Order {
     }
 }
 
-/// A configuration that the judge reached, as one before it and what was placed since: it stands for the order of the
-/// step `parent` with `placed` behind it. The first step of all names itself, places nothing, and stands for the empty
-/// order.
+/// A configuration that the judge reached, as one before it and what was placed since: it stands
+/// for the order of the step `parent` with `placed` behind it. The first step of all names itself,
+/// places nothing, and stands for the empty order.
 #[derive(Debug, Drop)]
 pub struct Step {
     pub parent: usize,
@@ -75,6 +76,7 @@ impl Reached {
         Reached { steps }
     }
 
+    /// The steps, one after another.
     pub fn as_slice(&self) -> &[Step]
         ensures { result.now ≡ self.now }
     {
@@ -90,12 +92,13 @@ impl Reached {
     }
 }
 
-/// Why operations have no order: where the history is to be cut for them to have one. `specs/Stuck.antt` says what is
-/// known of operations in a history that is cut.
+/// Why operations have no order: where the history is to be cut for them to have one.
+/// `specs/Stuck.antt` says what is known of operations in a history that is cut.
 #[derive(Debug, Drop)]
 pub struct Stuck {
-    /// The place of the first completion with which there is no order any more: where the operation ended that it
-    /// completes, and `usize::MAX` for one that happened and has no such place. Of several at one place any may be meant.
+    /// The place of the first completion with which there is no order any more: where the operation
+    /// ended that it completes, and `usize::MAX` for one that happened and has no such place. Of
+    /// several at one place any may be meant.
     pub end: usize,
     /// An order of the history cut right before that completion.
     pub order: Order,
@@ -110,6 +113,7 @@ pub enum LinVerdict {
     Valid(Order),
     /// There is no order in which they can have happened, and this is where it ends.
     Invalid(Stuck),
-    /// The budget was used up: as many steps as the budget, no two of which stand for the same places and value.
+    /// The budget was used up: as many steps as the budget, no two of which stand for the same
+    /// places and value.
     Unknown(Reached),
 }

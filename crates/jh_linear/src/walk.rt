@@ -1,5 +1,5 @@
-//! A configuration that goes on in place, as long as there is one way to go on. `specs/Search.antt` says that no order is
-//! lost by it (`HasGone`).
+//! A configuration that goes on in place, as long as there is one way to go on. `specs/Search.antt`
+//! says that no order is lost by it (`HasGone`).
 
 ghost use Rattle.std.specs.Prelude.{◌≡◌, ◌<◌, length, vec_len, IfOk, OnOk};
 ghost use Rattle.jh_linear.specs.Search.{EndsAs, HasGone, IsMadeBy, IsMove, IsProblem, stages_in};
@@ -30,7 +30,8 @@ pub(crate) fn make(
     requires stage { config.old.stage < stages_in problem.now }
     requires sizes { vec_len config.old.next ≡ length problem.now.history.classes.items }
     requires moves { IsMove problem.now config.old step }
-    ensures { OnOk result (IsMadeBy problem.now config.old placed.old.items step config.new placed.new.items) }
+    ensures { OnOk result
+        (IsMadeBy problem.now config.old placed.old.items step config.new placed.new.items) }
 {
     placed.push(place_of(problem, config, step.source))?;
     place(problem, config, step)
@@ -46,7 +47,8 @@ pub(crate) fn walk(
 ) -> Result<WalkEnd, AllocError>
     requires problem { IsProblem problem.now }
     requires sizes { vec_len config.old.next ≡ length problem.now.history.classes.items }
-    ensures gone { OnOk result (HasGone problem.now config.old placed.old.items config.new placed.new.items) }
+    ensures gone { OnOk result
+        (HasGone problem.now config.old placed.old.items config.new placed.new.items) }
     ensures ends { IfOk result (λ walk. EndsAs problem.now config.new placed.new.items walk) }
 {
     for _ in 0..problem.ops.len() {

@@ -1,8 +1,9 @@
-//! The values that something which may come next needs. They are put into a set once for all ways to go on, since there may
-//! be as many of these as operations.
+//! The values that something which may come next needs. They are put into a set once for all ways
+//! to go on, since there may be as many of these as operations.
 
 ghost use Rattle.std.specs.Prelude.{◌≡◌, ℤ, ◌<◌, false, Option, Some, OnOk, IfOk, length, vec_len};
-ghost use Rattle.jh_linear.specs.Search.{IsProblem, IsReady, IsWanted, Needs, call_of, stages_in};
+ghost use Rattle.jh_linear.specs.Search.{IsProblem, IsReady, IsWanted, Needs, source_call};
+ghost use Rattle.jh_linear.specs.Search.{stages_in};
 ghost use Rattle.jh_linear.specs.declared.moves.Source.TheVariants as source;
 ghost use Rattle.jh_linear.specs.WantedInside.{Holds, HoldsHappened, HoldsMore, HoldsUnknown};
 
@@ -40,8 +41,10 @@ pub(crate) fn is_held(wanted: &Wanted, value: Option<i64>) -> bool
     }
 }
 
+/// Puts in what each operation needs that happened and is pending.
 fn put_happened(problem: &Problem, config: &Config, wanted: &mut Wanted) -> Result<(), AllocError>
-    ensures happened { OnOk result (HoldsHappened problem.now config.now wanted.new (vec_len config.now.pending)) }
+    ensures happened { OnOk result
+        (HoldsHappened problem.now config.now wanted.new (vec_len config.now.pending)) }
     ensures more { OnOk result (HoldsMore wanted.old wanted.new) }
 {
     for index in 0..config.pending.len() {
@@ -61,7 +64,8 @@ fn put_next(
     requires stage { config.now.stage < stages_in problem.now }
     requires class { class < length problem.now.history.classes.items }
     ensures needs { OnOk result ((value : Option ℤ) → IsReady problem.now config.now class
-        → Needs (call_of problem.now config.now (source.Unknown class)) value → Holds wanted.new value) }
+        → Needs (source_call problem.now config.now (source.Unknown class)) value
+        → Holds wanted.new value) }
     ensures more { OnOk result (HoldsMore wanted.old wanted.new) }
 {
     if is_ready(problem, config, class) {
@@ -70,10 +74,12 @@ fn put_next(
     Ok(())
 }
 
+/// Puts in what the next operation of each class needs, where it may come next.
 fn put_unknown(problem: &Problem, config: &Config, wanted: &mut Wanted) -> Result<(), AllocError>
     requires problem { IsProblem problem.now }
     requires stage { config.now.stage < stages_in problem.now }
-    ensures unknown { OnOk result (HoldsUnknown problem.now config.now wanted.new (length problem.now.history.classes.items)) }
+    ensures unknown { OnOk result
+        (HoldsUnknown problem.now config.now wanted.new (length problem.now.history.classes.items)) }
     ensures more { OnOk result (HoldsMore wanted.old wanted.new) }
 {
     for class in 0..problem.history.classes.len() {
@@ -90,7 +96,8 @@ pub(crate) fn wanted_by(
 ) -> Result<Wanted, AllocError>
     requires problem { IsProblem problem.now }
     requires stage { config.now.stage < stages_in problem.now }
-    ensures { IfOk result (λ wanted. (value : Option ℤ) → IsWanted problem.now config.now value → Holds wanted value) }
+    ensures { IfOk result
+        (λ wanted. (value : Option ℤ) → IsWanted problem.now config.now value → Holds wanted value) }
 {
     let mut wanted = Wanted {
         values: HashSet::new(alloc),

@@ -14,12 +14,11 @@ use Rattle.jh_edn.specs.Normal.{normal}
 use Rattle.jh_edn.specs.Order.{in_order, is_below}
 use Rattle.jh_edn.specs.View.{view, views}
 use Rattle.jh_edn.specs.declared.value.Value.{Value}
-use Rattle.jh_ops.specs.Operation.{Operation, operation, operations}
+use Rattle.jh_ops.specs.Operation.{Operation, operation, operations, is_asked}
 use Rattle.jh_ops.specs.Pairing.{pair_of, pairs_from}
 use Rattle.jh_ops.specs.declared.operation.Kind.{Kind}
 use Rattle.jh_ops.specs.declared.operation.Op.{Op}
 use Rattle.jh_ops.specs.declared.operation.Process.{Process}
-use Rattle.jh_check.specs.Asked.{is_asked}
 use Rattle.jh_check.specs.IdsView.{view_duplicate, view_duplicates}
 use Rattle.jh_check.specs.SetResults.{final_read}
 use Rattle.jh_check.specs.declared.ids.Duplicate.{Duplicate}
@@ -30,8 +29,8 @@ use Rattle.jh_timeline.specs.declared.marks.Mark.{Mark}
 use Rattle.jh_timeline.specs.declared.marks.Note.{Note}
 use Rattle.jh_timeline.specs.declared.picture.Bar.{Bar}
 use Rattle.jh_timeline.specs.declared.picture.Call.{Call}
-use Rattle.jh_marks.specs.Marked.{adds_one_of, completion_of, found_note, has_one_of, invocation_of, invocations_of, is_completed_at, mark_at, marks_by, noted, place_among}
-use Rattle.jh_marks.specs.MarkedInside.{found_with, gives_one_of, invocations, is_by_client, is_invocation, unexpected_at}
+use Rattle.jh_marks.specs.Marked.{adds_one_of, call_completion, found_note, has_one_of, invocation_of, invocations_of, is_completed_at, mark_at, marks_by, note_if, place_among}
+use Rattle.jh_marks.specs.MarkedInside.{found_note_with, gives_one_of, invocations, is_by_client, is_invocation, unexpected_place}
 
 -- ---- bar by bar
 
@@ -90,10 +89,10 @@ ids_more ids duplicated i duplicate id below at same before =
     ∙ map-append first (view_duplicates (take i duplicated)) (view_duplicate duplicate ∷ []))
 
 pub ids_same : (sorted ids : List Edn) (history : List Operation) (bars : List Bar) → sorted ≡ in_order is_below ids
-    → marks_by (λ call. noted (gives_one_of sorted history call) Note.Repeated) bars ≡ marks_by (λ call. noted (gives_one_of ids history call) Note.Repeated) bars
+    → marks_by (λ call. note_if (gives_one_of sorted history call) Note.Repeated) bars ≡ marks_by (λ call. note_if (gives_one_of ids history call) Note.Repeated) bars
 ids_same sorted ids history bars e =
-    ap (λ xs. marks_by (λ call. noted (gives_one_of xs history call) Note.Repeated) bars) e
-    ∙ (λ i. marks_by (λ call. noted (has_same Kind.Ok (codes "generate") ids (completion_of history call) i) Note.Repeated) bars)
+    ap (λ xs. marks_by (λ call. note_if (gives_one_of xs history call) Note.Repeated) bars) e
+    ∙ (λ i. marks_by (λ call. note_if (has_same Kind.Ok (codes "generate") ids (call_completion history call) i) Note.Repeated) bars)
 
 adds_same : (values : List Edn) (history : List Operation) (call : Call) → adds_one_of (in_order is_below values) history call ≡ adds_one_of values history call
 adds_same values history call = has_same Kind.Invoke (codes "add") values (invocation_of history call)
@@ -109,12 +108,12 @@ unexpected_same false (Some read) call = refl
 -- nor does what is said of a set
 pub found_same : (lost recovered : List Edn) (found : SetFound) (history : List Operation) (bars : List Bar)
     → lost ≡ in_order is_below found.lost → recovered ≡ in_order is_below found.recovered
-    → marks_by (found_with lost recovered (unexpected_at found history) history) bars ≡ marks_by (found_note found history) bars
+    → marks_by (found_note_with lost recovered (unexpected_place found history) history) bars ≡ marks_by (found_note found history) bars
 found_same lost recovered found history bars e f =
-    (λ i. marks_by (found_with (e i) (f i) (unexpected_at found history) history) bars)
+    (λ i. marks_by (found_note_with (e i) (f i) (unexpected_place found history) history) bars)
     ∙ (λ i. marks_by (λ call. cond (adds_same found.lost history call i) (Some Note.Lost)
     (cond (adds_same found.recovered history call i) (Some Note.Recovered)
-    (noted (unexpected_same (eqb (length found.unexpected) 0) (final_read history) call i) Note.Unexpected))) bars)
+    (note_if (unexpected_same (eqb (length found.unexpected) 0) (final_read history) call i) Note.Unexpected))) bars)
 
 -- ---- invocations
 

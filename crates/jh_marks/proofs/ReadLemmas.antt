@@ -8,22 +8,22 @@ use Rattle.std.proofs.lemmas.Bool.Decides.{nat_tests}
 use Rattle.std.proofs.lemmas.List.{length-map, map-append, reverse-append}
 use Rattle.std.proofs.lemmas.List.Elements.{filter-append}
 use Rattle.jh_edn.specs.Order.{in_order}
-use Rattle.jh_edn.proofs.Facts.{map_in_order}
+use Rattle.jh_edn.proofs.CitedLemmas.{map_in_order}
 use Rattle.jh_ops.specs.Operation.{Operation, operation, operations}
-use Rattle.jh_ops.specs.Pairing.{first_of, is_client, pair_of, pairs_from, pairs_of}
+use Rattle.jh_ops.specs.Pairing.{first_of, is_of_client, pair_of, pairs_from, history_pairs}
 use Rattle.jh_ops.specs.declared.operation.Kind.{Kind}
 use Rattle.jh_ops.specs.declared.operation.Op.{Op}
 use Rattle.jh_ops.specs.declared.operation.Process.{Process}
 use Rattle.jh_ops.specs.declared.pairs.Pair.{Pair}
-use Rattle.jh_check.specs.CounterResults.{end_of, is_ok_read}
+use Rattle.jh_check.specs.CounterResults.{end_place, is_ok_read}
 use Rattle.jh_marks.specs.Marked.{read_ends}
-use Rattle.jh_marks.specs.MarkedInside.{ends_of, pair_with}
+use Rattle.jh_marks.specs.MarkedInside.{ok_read_ends, pair_with}
 
 -- what is kept of the records from a place on
 pub record Ended (kept : ℕ → Option ℕ) (found : List ℕ) (history : List Op) (place : ℕ) : Type 0 where
   pub within : place ≤ length history
   pub next : (client : ℕ) → kept client ≡ first_of client place (drop place (operations history))
-  pub ends : reverse found ≡ ends_of (operations history) (pairs_from place (drop place (operations history)))
+  pub ends : reverse found ≡ ok_read_ends (operations history) (pairs_from place (drop place (operations history)))
 
 drop_one : (history : List Op) (i : ℕ) (op : Op) → i < length history → op ≡ get_or history i op
     → drop i (operations history) ≡ operation op ∷ drop (i + 1) (operations history)
@@ -45,11 +45,11 @@ ended_none kept history place at none =
     record {
       within = omega arith;
       next = λ client. none client ∙ sym (ap (first_of client place) nothing);
-      ends = sym (ap (λ ops. ends_of (operations history) (pairs_from place ops)) nothing);
+      ends = sym (ap (λ ops. ok_read_ends (operations history) (pairs_from place ops)) nothing);
     }
 
-ends_both : (history : List Operation) (xs ys : List Pair) → ends_of history (xs ++ ys) ≡ ends_of history xs ++ ends_of history ys
-ends_both history xs ys = ap (map end_of) (filter-append (is_ok_read history) xs ys) ∙ map-append end_of (filter (is_ok_read history) xs) (filter (is_ok_read history) ys)
+ends_both : (history : List Operation) (xs ys : List Pair) → ok_read_ends history (xs ++ ys) ≡ ok_read_ends history xs ++ ok_read_ends history ys
+ends_both history xs ys = ap (map end_place) (filter-append (is_ok_read history) xs ys) ∙ map-append end_place (filter (is_ok_read history) xs) (filter (is_ok_read history) ys)
 
 pair_same : (kind : Kind) (client i : ℕ) (ops : List Operation) → pair_of kind (Process.Client client) i ops ≡ pair_with kind i (first_of client (i + 1) ops)
 pair_same Kind.Invoke client i ops = refl
@@ -64,11 +64,11 @@ no_pair Kind.Fail i ops = refl
 no_pair Kind.Info i ops = refl
 
 -- a list of one at most is its own reverse
-short : (b : Bool) (end : ℕ) (pair : Pair) → reverse (map end_of (cond b (pair ∷ []) [])) ≡ map end_of (cond b (pair ∷ []) [])
+short : (b : Bool) (end : ℕ) (pair : Pair) → reverse (map end_place (cond b (pair ∷ []) [])) ≡ map end_place (cond b (pair ∷ []) [])
 short true end pair = refl
 short false end pair = refl
 
-ends_reversed : (history : List Operation) (kind : Kind) (i : ℕ) (next : Option ℕ) → reverse (ends_of history (pair_with kind i next)) ≡ ends_of history (pair_with kind i next)
+ends_reversed : (history : List Operation) (kind : Kind) (i : ℕ) (next : Option ℕ) → reverse (ok_read_ends history (pair_with kind i next)) ≡ ok_read_ends history (pair_with kind i next)
 ends_reversed history Kind.Invoke i next = short (is_ok_read history (record { invoke = i; outcome = next })) 0 (record { invoke = i; outcome = next })
 ends_reversed history Kind.Ok i next = refl
 ends_reversed history Kind.Fail i next = refl
@@ -91,28 +91,28 @@ chosen false x y z h k = k refl
 pub ended_client : (old new : BTreeMap ℕ ℕ) (ends added : List ℕ) (history : List Op) (n i number : ℕ) (op : Op) (next : Option ℕ)
     → n ≡ i + 1 → i < length history → op ≡ get_or history i op → op.process ≡ Process.Client number → next ≡ get nat_cmp old number
     → Ended (get nat_cmp old) ends history n → Updates nat_cmp old new number (Some i)
-    → added ≡ ends ++ ends_of (operations history) (pair_with op.kind i next) → Ended (get nat_cmp new) added history i
+    → added ≡ ends ++ ok_read_ends (operations history) (pair_with op.kind i next) → Ended (get nat_cmp new) added history i
 ended_client old new ends added history n i number op next at below same is found kept updates grown =
     let all = operations history in
     let rest = drop (i + 1) all in
     let whole = drop_one history i op below same in
     let before : (client : ℕ) → get nat_cmp old client ≡ first_of client (i + 1) rest = λ client. kept.next client ∙ ap (λ m. first_of client m (drop m all)) at in
-    let ended : reverse ends ≡ ends_of all (pairs_from (i + 1) rest) = kept.ends ∙ ap (λ m. ends_of all (pairs_from m (drop m all))) at in
+    let ended : reverse ends ≡ ok_read_ends all (pairs_from (i + 1) rest) = kept.ends ∙ ap (λ m. ok_read_ends all (pairs_from m (drop m all))) at in
     let seen : next ≡ first_of number (i + 1) rest = found ∙ before number in
-    let fresh = ends_of all (pair_with op.kind i next) in
+    let fresh = ok_read_ends all (pair_with op.kind i next) in
     record {
       within = omega arith;
       next = λ client.
           chosen (eqb client number) (Some i) (first_of client (i + 1) rest) (get nat_cmp new client)
           (λ yes. ap (get nat_cmp new) (equal client number yes) ∙ updates.1)
           (λ no. updates.2 client (missed number client (λ e. differ client number no (sym e))) ∙ before client)
-          ∙ sym (ap (first_of client i) whole ∙ ap (λ p. cond (is_client client p) (Some i) (first_of client (i + 1) rest)) is);
+          ∙ sym (ap (first_of client i) whole ∙ ap (λ p. cond (is_of_client client p) (Some i) (first_of client (i + 1) rest)) is);
       ends =
           ap reverse grown ∙ reverse-append ends fresh ∙ ap (λ ws. ws ++ reverse ends) (ends_reversed all op.kind i next)
-          ∙ ap (λ ws. fresh ++ ws) ended ∙ ap (λ b. ends_of all (pair_with op.kind i b) ++ ends_of all (pairs_from (i + 1) rest)) seen
-          ∙ sym (ap (λ ops. ends_of all (pairs_from i ops)) whole ∙ ends_both all (pair_of op.kind op.process i rest) (pairs_from (i + 1) rest)
-          ∙ ap (λ p. ends_of all (pair_of op.kind p i rest) ++ ends_of all (pairs_from (i + 1) rest)) is
-          ∙ ap (λ ps. ends_of all ps ++ ends_of all (pairs_from (i + 1) rest)) (pair_same op.kind number i rest));
+          ∙ ap (λ ws. fresh ++ ws) ended ∙ ap (λ b. ok_read_ends all (pair_with op.kind i b) ++ ok_read_ends all (pairs_from (i + 1) rest)) seen
+          ∙ sym (ap (λ ops. ok_read_ends all (pairs_from i ops)) whole ∙ ends_both all (pair_of op.kind op.process i rest) (pairs_from (i + 1) rest)
+          ∙ ap (λ p. ok_read_ends all (pair_of op.kind p i rest) ++ ok_read_ends all (pairs_from (i + 1) rest)) is
+          ∙ ap (λ ps. ok_read_ends all ps ++ ok_read_ends all (pairs_from (i + 1) rest)) (pair_same op.kind number i rest));
     }
 
 -- a record of the nemesis
@@ -127,19 +127,19 @@ ended_other kept_at ends history n i op at below same is kept =
       within = omega arith;
       next = λ client.
           kept.next client ∙ ap (λ m. first_of client m (drop m all)) at
-          ∙ sym (ap (first_of client i) whole ∙ ap (λ p. cond (is_client client p) (Some i) (first_of client (i + 1) rest)) is);
+          ∙ sym (ap (first_of client i) whole ∙ ap (λ p. cond (is_of_client client p) (Some i) (first_of client (i + 1) rest)) is);
       ends =
-          kept.ends ∙ ap (λ m. ends_of all (pairs_from m (drop m all))) at
-          ∙ sym (ap (λ ops. ends_of all (pairs_from i ops)) whole
-          ∙ ap (λ p. ends_of all (pair_of op.kind p i rest ++ pairs_from (i + 1) rest)) is
-          ∙ ap (λ ps. ends_of all (ps ++ pairs_from (i + 1) rest)) (no_pair op.kind i rest));
+          kept.ends ∙ ap (λ m. ok_read_ends all (pairs_from m (drop m all))) at
+          ∙ sym (ap (λ ops. ok_read_ends all (pairs_from i ops)) whole
+          ∙ ap (λ p. ok_read_ends all (pair_of op.kind p i rest ++ pairs_from (i + 1) rest)) is
+          ∙ ap (λ ps. ok_read_ends all (ps ++ pairs_from (i + 1) rest)) (no_pair op.kind i rest));
     }
 
 -- from the first record on that is every end
 pub ended_all : (kept : ℕ → Option ℕ) (ends : List ℕ) (history : List Op) (place : ℕ) → place ≡ 0 → Ended kept ends history place
-    → reverse ends ≡ ends_of (operations history) (pairs_of (operations history))
-ended_all kept_at ends history place at kept = kept.ends ∙ ap (λ m. ends_of (operations history) (pairs_from m (drop m (operations history)))) at
+    → reverse ends ≡ ok_read_ends (operations history) (history_pairs (operations history))
+ended_all kept_at ends history place at kept = kept.ends ∙ ap (λ m. ok_read_ends (operations history) (pairs_from m (drop m (operations history)))) at
 
 -- in order they are the ends of the reads in order
-pub ends_in_order : (history : List Operation) (sorted : List ℕ) → sorted ≡ in_order nat_lt (ends_of history (pairs_of history)) → sorted ≡ read_ends history
-ends_in_order history sorted e = e ∙ sym (map_in_order end_of nat_lt (filter (is_ok_read history) (pairs_of history)))
+pub ends_in_order : (history : List Operation) (sorted : List ℕ) → sorted ≡ in_order nat_lt (ok_read_ends history (history_pairs history)) → sorted ≡ read_ends history
+ends_in_order history sorted e = e ∙ sym (map_in_order end_place nat_lt (filter (is_ok_read history) (history_pairs history)))

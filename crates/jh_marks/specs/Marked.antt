@@ -1,16 +1,18 @@
--- What a checker found in a history, as marks at the bars of its page (what each checker finds stands in the definitions of its own
--- crate; which bars that marks is this project's own). Each bar has at most one note.
-use Rattle.std.specs.Prelude.{ℕ, ◌==◌, ◌&&◌, Bool, false, not, List, [], length, map, codes, if◌then◌else◌, slice_get, Option, Some, None, option_map, option_and_then, is_some}
+-- What a checker found in a history, as marks at the bars of its page (what each checker finds
+-- stands in the definitions of its own crate; which bars that marks is this project's own). Each
+-- bar has at most one note.
+use Rattle.std.specs.Prelude.{ℕ, ◌==◌, ◌&&◌, Bool, false, not, List, [], length, map, codes}
+use Rattle.std.specs.Prelude.{if◌then◌else◌, slice_get, Option, Some, None, option_map}
+use Rattle.std.specs.Prelude.{option_and_then, is_some}
 use Rattle.std.specs.List.{enumerate_from, filter_map, position_from}
 use Rattle.std.specs.Option.{option_map_or}
 use Rattle.jh_edn.specs.Edn.{Edn}
 use Rattle.jh_edn.specs.Normal.{normal}
-use Rattle.jh_ops.specs.Operation.{Operation}
-use Rattle.jh_ops.specs.Pairing.{pairs_of}
+use Rattle.jh_ops.specs.Operation.{Operation, is_asked}
+use Rattle.jh_ops.specs.Pairing.{history_pairs}
 use Rattle.jh_ops.specs.declared.operation.Kind.{Kind}
-use Rattle.jh_check.specs.Asked.{is_asked}
-use Rattle.jh_check.specs.CounterResults.{end_of, is_within, reads_in}
-use Rattle.jh_check.specs.Distinct.{is_among}
+use Rattle.jh_check.specs.CounterResults.{end_place, is_in_bounds, reads_in}
+use Rattle.jh_check.specs.Distinct.{has_same_value}
 use Rattle.jh_check.specs.SetResults.{final_read}
 use Rattle.jh_check.specs.declared.counter.ReadBounds.{ReadBounds}
 use Rattle.jh_check.specs.declared.set.SetFound.{SetFound}
@@ -29,14 +31,14 @@ use Rattle.jh_timeline.specs.declared.picture.Call.{Call}
 -- ---- calls
 
 -- a note where something holds
-abbrev pub noted : Bool → Note → Option Note
-noted holds note = if holds then Some note else None
+abbrev pub note_if : Bool → Note → Option Note
+note_if holds note = if holds then Some note else None
 
 abbrev pub invocation_of : List Operation → Call → Option Operation
 invocation_of history call = slice_get history call.invoke
 
-abbrev pub completion_of : List Operation → Call → Option Operation
-completion_of history call = option_and_then (slice_get history) call.completion
+abbrev pub call_completion : List Operation → Call → Option Operation
+call_completion history call = option_and_then (slice_get history) call.completion
 
 -- the call is completed at this index
 abbrev pub is_completed_at : ℕ → Call → Bool
@@ -44,7 +46,7 @@ is_completed_at index call = option_map_or (λ completion. completion == index) 
 
 -- a client's operation of this kind, of the function of this name, has one of these values
 abbrev pub has_one_of : Kind → List ℕ → List Edn → Operation → Bool
-has_one_of kind name values op = is_asked kind name op && is_among values (normal op.value)
+has_one_of kind name values op = is_asked kind name op && has_same_value values (normal op.value)
 
 -- the place that a number has among these, if it is one: the first
 abbrev pub place_among : List ℕ → ℕ → Option ℕ
@@ -54,30 +56,33 @@ place_among numbers number = position_from (λ other. other == number) 0 numbers
 
 -- where clients invoke something: a number in an order means the invocation at this place here
 abbrev pub invocations_of : List Operation → List ℕ
-invocations_of history = map (λ pair. pair.invoke) (pairs_of history)
+invocations_of history = map (λ pair. pair.invoke) (history_pairs history)
 
 -- the place of a call in an order, if it has one
 abbrev pub place_in : List ℕ → List Operation → Call → Option ℕ
-place_in order history call = option_and_then (place_among order) (place_among (invocations_of history) call.invoke)
+place_in order history call =
+    option_and_then (place_among order) (place_among (invocations_of history) call.invoke)
 
 -- its place in an order
 abbrev pub placed_note : List ℕ → List Operation → Call → Option Note
 placed_note order history call = option_map Note.Placed (place_in order history call)
 
 -- the numbers of what is pending, where that is told
-abbrev pub pending_in : Option Explanation → List ℕ
-pending_in explanation = option_map_or (λ told. told.pending.items) explanation []
+abbrev pub pending_numbers_in : Option Explanation → List ℕ
+pending_numbers_in explanation = option_map_or (λ told. told.pending.items) explanation []
 
 -- it is pending where the history is stuck
-abbrev pub is_pending : Option Explanation → List Operation → Call → Bool
-is_pending explanation history call = is_some (place_in (pending_in explanation) history call)
+abbrev pub is_pending_call : Option Explanation → List Operation → Call → Bool
+is_pending_call explanation history call =
+    is_some (place_in (pending_numbers_in explanation) history call)
 
--- Of a no: that the history is stuck at its completion, or that it is pending there, with its place in the order of what is before,
--- or its place there.
+-- Of a no: that the history is stuck at its completion, or that it is pending there, with its place
+-- in the order of what is before, or its place there.
 abbrev pub stuck_note : Stuck → Option Explanation → List Operation → Call → Option Note
 stuck_note stuck explanation history call =
     if is_completed_at stuck.end call then Some Note.Stuck
-    else if is_pending explanation history call then Some (Note.Pending (place_in stuck.order history call))
+    else if is_pending_call explanation history call
+    then Some (Note.Pending (place_in stuck.order history call))
     else placed_note stuck.order history call
 
 -- of a yes its place in the order
@@ -92,46 +97,52 @@ register_note (Unknown reached) explanation history call = None
 abbrev pub ids_note : List (Edn × ℕ) → List Operation → Call → Option Note
 ids_note duplicated history call =
     let ids = map (λ id. id.0) duplicated in
-    noted (option_map_or (has_one_of Kind.Ok (codes "generate") ids) (completion_of history call) false) Note.Repeated
+    note_if (option_map_or (has_one_of Kind.Ok (codes "generate") ids)
+    (call_completion history call) false) Note.Repeated
 
 -- ---- counters
 
 -- where the reads that happened are completed, in order: the bounds of reads are told in the same
 abbrev pub read_ends : List Operation → List ℕ
-read_ends history = map end_of (reads_in history (pairs_of history))
+read_ends history = map end_place (reads_in history (history_pairs history))
 
 -- the bounds of the read that is completed at an index, if one is
-abbrev pub bounds_at : List ReadBounds → List Operation → ℕ → Option ReadBounds
-bounds_at reads history index = option_and_then (slice_get reads) (place_among (read_ends history) index)
+abbrev pub read_bounds_at : List ReadBounds → List Operation → ℕ → Option ReadBounds
+read_bounds_at reads history index =
+    option_and_then (slice_get reads) (place_among (read_ends history) index)
 
 -- the bounds, where what was read lies outside
 abbrev pub outside_note : ReadBounds → Option Note
-outside_note read = noted (not (is_within read)) (Note.Outside read.lower read.upper)
+outside_note read = note_if (not (is_in_bounds read)) (Note.Outside read.lower read.upper)
 
 -- it read what lies outside its bounds
 abbrev pub counter_note : List ReadBounds → List Operation → Call → Option Note
-counter_note reads history call = option_and_then outside_note (option_and_then (bounds_at reads history) call.completion)
+counter_note reads history call =
+    option_and_then outside_note (option_and_then (read_bounds_at reads history) call.completion)
 
 -- ---- sets
 
 -- a client tried to add one of these by this call
 abbrev pub adds_one_of : List Edn → List Operation → Call → Bool
-adds_one_of elements history call = option_map_or (has_one_of Kind.Invoke (codes "add") elements) (invocation_of history call) false
+adds_one_of elements history call =
+    option_map_or (has_one_of Kind.Invoke (codes "add") elements) (invocation_of history call) false
 
 -- it is completed by the last read that happened, by which the set is judged
 abbrev pub is_final_read : List Operation → Call → Bool
-is_final_read history call = option_map_or (λ read. is_completed_at read.0 call) (final_read history) false
+is_final_read history call =
+    option_map_or (λ read. is_completed_at read.0 call) (final_read history) false
 
 -- it is the read that shows what nobody tried to add
 abbrev pub shows_unexpected : SetFound → List Operation → Call → Bool
-shows_unexpected found history call = not (length found.unexpected == 0) && is_final_read history call
+shows_unexpected found history call =
+    not (length found.unexpected == 0) && is_final_read history call
 
 -- it tried to add what is lost, or what is recovered, or showed what is unexpected
 abbrev pub found_note : SetFound → List Operation → Call → Option Note
 found_note found history call =
     if adds_one_of found.lost history call then Some Note.Lost
     else if adds_one_of found.recovered history call then Some Note.Recovered
-    else noted (shows_unexpected found history call) Note.Unexpected
+    else note_if (shows_unexpected found history call) Note.Unexpected
 
 -- nothing, where the set was never read
 abbrev pub set_note : Option SetFound → List Operation → Call → Option Note
@@ -152,7 +163,8 @@ mark_at bar note = option_map (λ told. record { bar = bar; note = told }) note
 
 -- bar by bar its mark, if it has one, where this is said of calls
 abbrev pub marks_by : (Call → Option Note) → List Bar → List Mark
-marks_by note bars = filter_map (λ numbered. mark_at numbered.0 (note numbered.1.call)) (enumerate_from 0 bars)
+marks_by note bars =
+    filter_map (λ numbered. mark_at numbered.0 (note numbered.1.call)) (enumerate_from 0 bars)
 
 -- the marks of a picture's bars
 abbrev pub marks_of : List Operation → Found → List Bar → List Mark

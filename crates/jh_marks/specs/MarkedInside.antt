@@ -1,5 +1,7 @@
 -- What the loops of this crate keep.
-use Rattle.std.specs.Prelude.{ℕ, ◌==◌, Bool, false, List, [], ◌∷◌, length, map, filter, codes, if◌then◌else◌, slice_get, Option, Some, None, option_map, option_and_then}
+use Rattle.std.specs.Prelude.{ℕ, ◌==◌, Bool, false, List, [], ◌∷◌, length, map, filter, codes}
+use Rattle.std.specs.Prelude.{if◌then◌else◌, slice_get, Option, Some, None, option_map}
+use Rattle.std.specs.Prelude.{option_and_then}
 use Rattle.std.specs.BTreeMap.{BTreeMap, get}
 use Rattle.std.specs.List.{enumerate_from}
 use Rattle.std.specs.Option.{option_map_or}
@@ -11,13 +13,14 @@ use Rattle.jh_ops.specs.declared.operation.Op.{Op}
 use Rattle.jh_ops.specs.declared.operation.Process.{Process}
 use Rattle.jh_ops.specs.declared.pairs.Pair.{Pair}
 use Rattle.jh_ops.specs.Pairing.{is_invoke}
-use Rattle.jh_check.specs.CounterResults.{end_of, is_ok_read}
+use Rattle.jh_check.specs.CounterResults.{end_place, is_ok_read}
 use Rattle.jh_check.specs.SetResults.{final_read}
 use Rattle.jh_check.specs.declared.counter.ReadBounds.{ReadBounds}
 use Rattle.jh_check.specs.declared.set.SetFound.{SetFound}
 use Rattle.jh_timeline.specs.declared.marks.Note.{Note}
 use Rattle.jh_timeline.specs.declared.picture.Call.{Call}
-use Rattle.jh_marks.specs.Marked.{adds_one_of, completion_of, has_one_of, is_completed_at, noted}
+use Rattle.jh_marks.specs.Marked.{adds_one_of, call_completion, has_one_of, is_completed_at}
+use Rattle.jh_marks.specs.Marked.{note_if}
 
 -- a client invokes something
 abbrev pub is_by_client : Kind → Process → Bool
@@ -29,37 +32,43 @@ is_invocation op = is_by_client op.kind op.process
 
 -- where clients invoke something
 abbrev pub invocations : List Op → List ℕ
-invocations history = map (λ numbered. numbered.0) (filter (λ numbered. is_invocation numbered.1) (enumerate_from 0 history))
+invocations history =
+    map (λ numbered. numbered.0)
+    (filter (λ numbered. is_invocation numbered.1) (enumerate_from 0 history))
 
--- the pair of a client's record at a place, if it is an invocation, where this is the place of the client's next record
+-- the pair of a client's record at a place, if it is an invocation, where this is the place of the
+-- client's next record
 abbrev pub pair_with : Kind → ℕ → Option ℕ → List Pair
 pair_with Kind.Invoke place next = record { invoke = place; outcome = next } ∷ []
 pair_with _ place next = []
 
 -- where those of these pairs end that are reads which happened
-abbrev pub ends_of : List Operation → List Pair → List ℕ
-ends_of history pairs = map end_of (filter (is_ok_read history) pairs)
+abbrev pub ok_read_ends : List Operation → List Pair → List ℕ
+ok_read_ends history pairs = map end_place (filter (is_ok_read history) pairs)
 
 -- a call gave one of these ids
 abbrev pub gives_one_of : List Edn → List Operation → Call → Bool
-gives_one_of ids history call = option_map_or (has_one_of Kind.Ok (codes "generate") ids) (completion_of history call) false
+gives_one_of ids history call =
+    option_map_or (has_one_of Kind.Ok (codes "generate") ids) (call_completion history call) false
 
 -- what is said where a history is stuck of a call with this place in the order of what is before
-abbrev pub stuck_with : ℕ → Bool → Option ℕ → Call → Option Note
-stuck_with end pending place call =
-    if is_completed_at end call then Some Note.Stuck else if pending then Some (Note.Pending place) else option_map Note.Placed place
+abbrev pub stuck_note_with : ℕ → Bool → Option ℕ → Call → Option Note
+stuck_note_with end pending place call =
+    if is_completed_at end call then Some Note.Stuck else if pending then Some (Note.Pending place)
+    else option_map Note.Placed place
 
 -- the bounds of the read that is completed at an index, by the places of ends
 abbrev pub bounds_with : List ReadBounds → BTreeMap ℕ ℕ → ℕ → Option ReadBounds
 bounds_with reads places index = option_and_then (slice_get reads) (get nat_cmp places index)
 
 -- where the read is completed that shows something unexpected
-abbrev pub unexpected_at : SetFound → List Operation → Option ℕ
-unexpected_at found history = if length found.unexpected == 0 then None else option_map (λ read. read.0) (final_read history)
+abbrev pub unexpected_place : SetFound → List Operation → Option ℕ
+unexpected_place found history =
+    if length found.unexpected == 0 then None else option_map (λ read. read.0) (final_read history)
 
 -- a call that tried to add what is lost, or what is recovered, or is completed where this is
-abbrev pub found_with : List Edn → List Edn → Option ℕ → List Operation → Call → Option Note
-found_with lost recovered read history call =
+abbrev pub found_note_with : List Edn → List Edn → Option ℕ → List Operation → Call → Option Note
+found_note_with lost recovered read history call =
     if adds_one_of lost history call then Some Note.Lost
     else if adds_one_of recovered history call then Some Note.Recovered
-    else noted (option_map_or (λ index. is_completed_at index call) read false) Note.Unexpected
+    else note_if (option_map_or (λ index. is_completed_at index call) read false) Note.Unexpected

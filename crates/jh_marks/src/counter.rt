@@ -3,14 +3,14 @@
 ghost use Rattle.std.specs.Prelude.{◌≡◌, [], ◌∷◌, ◌++◌, codes, nat_lt, IfOk, OnOk, option_and_then};
 ghost use Rattle.std.specs.Ordering.{is_lt};
 ghost use Rattle.jh_ops.specs.Operation.{operations};
-ghost use Rattle.jh_ops.specs.Pairing.{pairs_of};
+ghost use Rattle.jh_ops.specs.Pairing.{history_pairs};
 ghost use Rattle.jh_check.specs.CounterResults as counter;
 ghost use Rattle.jh_marks.specs.Marked as rule;
 ghost use Rattle.jh_marks.specs.Marked.{marks_by};
-ghost use Rattle.jh_marks.specs.MarkedInside.{bounds_with, ends_of, pair_with};
+ghost use Rattle.jh_marks.specs.MarkedInside.{bounds_with, ok_read_ends, pair_with};
 
 use crate::notes::{noted, push_note};
-use crate::operations::{is_keyword, is_kind, op_at};
+use crate::operations::op_at;
 use crate::places::{place_of, places_of};
 use jh_check::ReadBounds;
 use jh_ops::{Kind, Op, Pair, Process};
@@ -24,7 +24,7 @@ fn is_read(history: &[Op], pair: Pair) -> bool
     ensures { result ≡ counter.asks (codes "read") (operations history.now) pair }
 {
     match op_at(history, pair.invoke) {
-        Some(op) => is_keyword("read", &op.f),
+        Some(op) => op.f.is_keyword("read"),
         None => false,
     }
 }
@@ -37,14 +37,14 @@ fn is_done(history: &[Op], pair: Pair) -> bool
         return false;
     };
     match op_at(history, outcome) {
-        Some(op) => is_kind(Kind::Ok, op.kind),
+        Some(op) => Kind::Ok.is(op.kind),
         None => false,
     }
 }
 
 /// Where a call ends, or else where it is invoked.
 fn end_of(pair: Pair) -> usize
-    ensures { result ≡ counter.end_of pair }
+    ensures { result ≡ counter.end_place pair }
 {
     pair.outcome.unwrap_or(pair.invoke)
 }
@@ -52,7 +52,7 @@ fn end_of(pair: Pair) -> usize
 /// Puts the end of a call last, if it is a read that happened.
 fn push_end(history: &[Op], pair: Pair, ends: &mut Vec<usize>) -> Result<(), AllocError>
     ensures { OnOk result (ends.new.items
-        ≡ ends.old.items ++ ends_of (operations history.now) (pair ∷ [])) }
+        ≡ ends.old.items ++ ok_read_ends (operations history.now) (pair ∷ [])) }
 {
     if is_read(history, pair) && is_done(history, pair) {
         ends.push(end_of(pair))?;
@@ -70,7 +70,7 @@ fn push_read(
     ends: &mut Vec<usize>,
 ) -> Result<(), AllocError>
     ensures { OnOk result (ends.new.items
-        ≡ ends.old.items ++ ends_of (operations history.now) (pair_with kind place next)) }
+        ≡ ends.old.items ++ ok_read_ends (operations history.now) (pair_with kind place next)) }
 {
     match kind {
         Kind::Invoke => {
@@ -87,7 +87,7 @@ fn push_read(
 /// Where the reads that happened end, in the order of their invocations.
 fn ends_by_invocation(alloc: Global, history: &[Op]) -> Result<Vec<usize>, AllocError>
     ensures { IfOk result (λ ends. ends.items
-        ≡ ends_of (operations history.now) (pairs_of (operations history.now))) }
+        ≡ ok_read_ends (operations history.now) (history_pairs (operations history.now))) }
 {
     let mut next = BTreeMap::new(alloc);
     let mut ends = Vec::new(alloc);
@@ -123,7 +123,7 @@ fn read_ends(alloc: Global, history: &[Op]) -> Result<Vec<usize>, AllocError>
 
 /// Whether a read lies within its bounds.
 fn is_within(read: ReadBounds) -> bool
-    ensures { result ≡ counter.is_within read }
+    ensures { result ≡ counter.is_in_bounds read }
 {
     let value = i128::from(read.value);
     read.lower <= value && value <= read.upper

@@ -20,7 +20,9 @@ use std::alloc::{AllocError, Global};
 
 /// Ids that were given more than once, in normal order.
 fn ids_of(alloc: Global, duplicated: &[Duplicate]) -> Result<Vec<Value>, AllocError>
-    ensures ids { IfOk result (λ ids. views ids.items ≡ in_order is_below (map (λ id. id.0) (view_duplicates duplicated.now))) }
+    ensures ids { IfOk result
+        (λ ids. views ids.items
+        ≡ in_order is_below (map (λ id. id.0) (view_duplicates duplicated.now))) }
     ensures ascends { IfOk result (λ ids. Ascends (views ids.items)) }
 {
     let mut ids = Vec::new(alloc);
@@ -38,7 +40,8 @@ fn gives_one_of(
     call: &Call,
 ) -> Result<bool, AllocError>
     requires { Ascends (views ids.now) }
-    ensures { IfOk result (λ gives. gives ≡ inside.gives_one_of (views ids.now) (operations history.now) call.now) }
+    ensures { IfOk result
+        (λ gives. gives ≡ inside.gives_one_of (views ids.now) (operations history.now) call.now) }
 {
     match completion_of(history, call) {
         Some(op) => has_one_of(alloc, Kind::Ok, "generate", ids, op),

@@ -37,7 +37,8 @@ pub fn marks_of(
     found: &Found,
     bars: &[Bar],
 ) -> Result<Vec<Mark>, AllocError>
-    ensures { IfOk result (λ marks. marks.items ≡ rule.marks_of (operations history.now) found.now bars.now) }
+    ensures { IfOk result
+        (λ marks. marks.items ≡ rule.marks_of (operations history.now) found.now bars.now) }
 {
     match &found.finding {
         Finding::Set(told) => set_marks(alloc, &told.found, history, bars),

@@ -10,7 +10,7 @@ use std::alloc::{AllocError, Global};
 
 /// A note, where something holds.
 pub(crate) fn noted(holds: bool, note: Note) -> Option<Note>
-    ensures { result ≡ rule.noted holds note }
+    ensures { result ≡ rule.note_if holds note }
 {
     if holds { Some(note) } else { None }
 }

@@ -32,7 +32,8 @@ pub(crate) fn places_of(
     alloc: Global,
     numbers: &[usize],
 ) -> Result<BTreeMap<usize, usize>, AllocError>
-    ensures { IfOk result (λ places. (number : ℕ) → get nat_cmp places number ≡ place_among numbers.now number) }
+    ensures { IfOk result
+        (λ places. (number : ℕ) → get nat_cmp places number ≡ place_among numbers.now number) }
 {
     let mut places = BTreeMap::new(alloc);
     let mut place = numbers.len();

@@ -43,7 +43,8 @@ fn invocations(alloc: Global, history: &[Op]) -> Result<Vec<usize>, AllocError>
 /// The number that calls have in orders, by where they are invoked.
 fn numbers_of(alloc: Global, history: &[Op]) -> Result<BTreeMap<usize, usize>, AllocError>
     ensures { IfOk result (λ numbers. (index : ℕ)
-        → get nat_cmp numbers index ≡ place_among (rule.invocations_of (operations history.now)) index) }
+        → get nat_cmp numbers index
+        ≡ place_among (rule.invocations_of (operations history.now)) index) }
 {
     let found = invocations(alloc, history)?;
     places_of(alloc, &found)
@@ -66,7 +67,8 @@ fn valid_marks(
     history: &[Op],
     bars: &[Bar],
 ) -> Result<Vec<Mark>, AllocError>
-    ensures { IfOk result (λ marks. marks.items ≡ marks_by (placed_note order.now (operations history.now)) bars.now) }
+    ensures { IfOk result
+        (λ marks. marks.items ≡ marks_by (placed_note order.now (operations history.now)) bars.now) }
 {
     let numbers = numbers_of(alloc, history)?;
     let places = places_of(alloc, order)?;
@@ -80,7 +82,7 @@ fn valid_marks(
 
 /// The numbers of what is pending, where that is told.
 fn pending_in(explanation: &Option<Explanation>) -> &[usize]
-    ensures { result.now ≡ rule.pending_in explanation.now }
+    ensures { result.now ≡ rule.pending_numbers_in explanation.now }
 {
     match explanation {
         Some(told) => told.pending.as_slice(),
@@ -90,7 +92,7 @@ fn pending_in(explanation: &Option<Explanation>) -> &[usize]
 
 /// What is said where a history is stuck of a call with this place in the order of what is before.
 fn stuck_note(end: usize, pending: bool, place: Option<usize>, call: &Call) -> Option<Note>
-    ensures { result ≡ inside.stuck_with end pending place call.now }
+    ensures { result ≡ inside.stuck_note_with end pending place call.now }
 {
     if is_completed_at(end, call) {
         Some(Note::Stuck)

@@ -9,10 +9,10 @@ ghost use Rattle.jh_check.specs.SetResults.{final_read};
 ghost use Rattle.jh_marks.specs.Marked as rule;
 ghost use Rattle.jh_marks.specs.Marked.{marks_by};
 ghost use Rattle.jh_marks.specs.MarkedInside as inside;
-ghost use Rattle.jh_marks.specs.MarkedInside.{found_with};
+ghost use Rattle.jh_marks.specs.MarkedInside.{found_note_with};
 
 use crate::notes::{no_marks, noted, push_note};
-use crate::operations::{is_asked, is_completed_at, op_at};
+use crate::operations::{is_completed_at, op_at};
 use crate::values::{has_one_of, sorted_copies};
 use jh_check::SetFound;
 use jh_edn::Value;
@@ -26,7 +26,7 @@ fn final_read_at(history: &[Op]) -> Option<usize>
 {
     let mut found = None;
     for (place, op) in history.iter().enumerate() {
-        if is_asked(Kind::Ok, "read", op) {
+        if op.is_asked(Kind::Ok, "read") {
             found = Some(place);
         }
     }
@@ -35,7 +35,7 @@ fn final_read_at(history: &[Op]) -> Option<usize>
 
 /// Where the read is completed that shows something unexpected.
 fn unexpected_at(found: &SetFound, history: &[Op]) -> Option<usize>
-    ensures { result ≡ inside.unexpected_at found.now (operations history.now) }
+    ensures { result ≡ inside.unexpected_place found.now (operations history.now) }
 {
     if found.unexpected.is_empty() {
         None
@@ -52,7 +52,8 @@ fn adds_one_of(
     call: &Call,
 ) -> Result<bool, AllocError>
     requires { Ascends (views elements.now) }
-    ensures { IfOk result (λ adds. adds ≡ rule.adds_one_of (views elements.now) (operations history.now) call.now) }
+    ensures { IfOk result
+        (λ adds. adds ≡ rule.adds_one_of (views elements.now) (operations history.now) call.now) }
 {
     match op_at(history, call.invoke) {
         Some(op) => has_one_of(alloc, Kind::Invoke, "add", elements, op),
@@ -83,7 +84,8 @@ fn found_note(
     requires lost { Ascends (views lost.now) }
     requires recovered { Ascends (views recovered.now) }
     ensures { IfOk result (λ note. note
-        ≡ found_with (views lost.now) (views recovered.now) read (operations history.now) call.now) }
+        ≡ found_note_with (views lost.now) (views recovered.now) read
+        (operations history.now) call.now) }
 {
     if adds_one_of(alloc, lost, history, call)? {
         return Ok(Some(Note::Lost));

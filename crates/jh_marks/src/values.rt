@@ -8,14 +8,14 @@ ghost use Rattle.jh_check.specs.Distinct as distinct;
 ghost use Rattle.jh_check.specs.Distinct.{Ascends};
 ghost use Rattle.jh_marks.specs.Marked as rule;
 
-use crate::operations::is_asked;
 use jh_edn::Value;
 use jh_ops::{Kind, Op};
 use std::alloc::{AllocError, Global};
 
 /// The values in normal order.
 pub(crate) fn sorted(values: Vec<Value>) -> Result<Vec<Value>, AllocError>
-    ensures order { IfOk result (λ sorted. views sorted.items ≡ in_order is_below (views values.items)) }
+    ensures order { IfOk result
+        (λ sorted. views sorted.items ≡ in_order is_below (views values.items)) }
     ensures ascends { IfOk result (λ sorted. Ascends (views sorted.items)) }
 {
     let mut values = values;
@@ -25,7 +25,8 @@ pub(crate) fn sorted(values: Vec<Value>) -> Result<Vec<Value>, AllocError>
 
 /// Copies of the values, in normal order.
 pub(crate) fn sorted_copies(alloc: Global, values: &[Value]) -> Result<Vec<Value>, AllocError>
-    ensures order { IfOk result (λ copies. views copies.items ≡ in_order is_below (views values.now)) }
+    ensures order { IfOk result
+        (λ copies. views copies.items ≡ in_order is_below (views values.now)) }
     ensures ascends { IfOk result (λ copies. Ascends (views copies.items)) }
 {
     let mut copies = Vec::new(alloc);
@@ -38,7 +39,7 @@ pub(crate) fn sorted_copies(alloc: Global, values: &[Value]) -> Result<Vec<Value
 /// Whether the value is one of these, which ascend.
 fn is_among(values: &[Value], value: &Value) -> bool
     requires { Ascends (views values.now) }
-    ensures { result ≡ distinct.is_among (views values.now) (view value.now) }
+    ensures { result ≡ distinct.has_same_value (views values.now) (view value.now) }
 {
     values
         .binary_search_by(|other| other.compare(value))
@@ -54,9 +55,10 @@ pub(crate) fn has_one_of(
     op: &Op,
 ) -> Result<bool, AllocError>
     requires { Ascends (views values.now) }
-    ensures { IfOk result (λ has. has ≡ rule.has_one_of kind name.now (views values.now) (operation op.now)) }
+    ensures { IfOk result
+        (λ has. has ≡ rule.has_one_of kind name.now (views values.now) (operation op.now)) }
 {
-    if !is_asked(kind, name, op) {
+    if !op.is_asked(kind, name) {
         return Ok(false);
     }
     let value = op.value.normal(alloc)?;

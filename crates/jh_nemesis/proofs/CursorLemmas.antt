@@ -1,15 +1,16 @@
 -- What holds of a nemesis whose cursor goes back and forth, and where a step is put at it.
 use Rattle.std.proofs.Common.{◌≡◌, ℕ, zero, suc, ◌+◌, ◌-◌, ◌≤◌, ◌<◌, Bool, true, false, not, eqb, inl, inr, List, [], ◌∷◌, ◌++◌, length, get_or, take, refl, sym, ap, ◌∙◌, arith, Global, Vec, length-append, length-take-le, get_or-take, add-one}
+use Rattle.jh_edn.specs.Edn.{is_empty}
 use Rattle.std.specs.Prelude.{if◌then◌else◌, nat_le}
 use Rattle.std.specs.List.{All, AllPairs, Contains}
 use Rattle.std.proofs.lemmas.Bool.{leb-false, cases_lt, eq-eqb, ne_eqb}
 use Rattle.std.proofs.lemmas.List.Elements.{All-filter}
 use Rattle.std.proofs.lemmas.List.{get_or_append_left, get_or_at, length-map, map-append}
 use Rattle.jh_env.specs.Faults.{FaultValue, FitsCount}
-use Rattle.jh_env.specs.Overlay.{EnvValue, StandsWith, SamePlace}
-use Rattle.jh_nemesis.specs.State.{State, Active, is_active, is_empty, next_state, back_to, forth_to}
-use Rattle.jh_nemesis.specs.Steps.{begin_answer, withdraw_answer, withdraw_all_answer, state_after, without}
-use Rattle.jh_nemesis.specs.RecordsInside.{record_at, played, played_back, active_after, fault_of, faults_at, past_of, future_of, stamped_at, AreStamps, IsBegin, IsRight, IsTrueTo}
+use Rattle.jh_env.specs.Overlay.{EnvValue, StandsWith, KeepsStart}
+use Rattle.jh_nemesis.specs.State.{State, Active, is_active, next_state, state_back_to, state_forth_to}
+use Rattle.jh_nemesis.specs.Steps.{begin_answer, withdraw_answer, withdraw_all_answer, state_after, active_without}
+use Rattle.jh_nemesis.specs.RecordsInside.{record_at, stamps_after, stamps_before, active_after, begun_fault, faults_at, past_of, future_of, faults_with_stamps, AreStamps, IsBegin, IsRight, IsTrueTo}
 use Rattle.jh_nemesis.specs.NemesisInside.{state_from}
 use Rattle.jh_nemesis.specs.Work.{size_between}
 use Rattle.jh_nemesis.specs.declared.records.Record.{Record}
@@ -87,24 +88,24 @@ module _ {env : EnvValue} {records : List Record} {cursor : ℕ} {active : List 
   apart = rw sound.now (apart_after (length env.names) records sound.right cursor sound.within)
 
   -- the step before the cursor is taken back
-  played_back_from : (n : ℕ) → cursor ≡ suc n → played_back (record_at records n) active ≡ active_after records n
+  played_back_from : (n : ℕ) → cursor ≡ suc n → stamps_before (record_at records n) active ≡ active_after records n
   played_back_from n at =
       let within : n < length records = let w = sound.within in omega (arith, at) in
       let now : active ≡ active_after records (suc n) = sound.now ∙ ap (active_after records) at in
       let before = apart_after (length env.names) records sound.right n (omega arith) in
       rw now (back_again (length env.names) n records (record_at records n) (sound.right n within) before)
 
-  pub played_back_is : 0 < cursor → played_back (record_at records (cursor - 1)) active ≡ active_after records (cursor - 1)
+  pub played_back_is : 0 < cursor → stamps_before (record_at records (cursor - 1)) active ≡ active_after records (cursor - 1)
   played_back_is h = played_back_from (cursor - 1) (omega arith)
 
   -- the step at the cursor is taken
-  pub played_is : played cursor (record_at records cursor) active ≡ active_after records (cursor + 1)
-  played_is = rw (add-one cursor) (ap (played cursor (record_at records cursor)) sound.now)
+  pub played_is : stamps_after cursor (record_at records cursor) active ≡ active_after records (cursor + 1)
+  played_is = rw (add-one cursor) (ap (stamps_after cursor (record_at records cursor)) sound.now)
 
   -- what holds once the cursor is elsewhere
   pub moved_true : (new : EnvValue) (n : ℕ) (stamps : List ℕ) → n ≤ length records → stamps ≡ active_after records n
-      → SamePlace env new
-      → StandsWith new (stamped_at records stamps) → IsTrueTo new records n stamps
+      → KeepsStart env new
+      → StandsWith new (faults_with_stamps records stamps) → IsTrueTo new records n stamps
   moved_true new n stamps within is same stands = record {
     within = within;
     short = sound.short;
@@ -114,22 +115,22 @@ module _ {env : EnvValue} {records : List Record} {cursor : ℕ} {active : List 
   }
 
   state_back_from : (new : EnvValue) (n : ℕ) (stamps : List ℕ) → cursor ≡ suc n → stamps ≡ active_after records n
-      → SamePlace env new
-      → state_from new records n stamps ≡ back_to (state_from env records cursor active) (past_of records cursor)
+      → KeepsStart env new
+      → state_from new records n stamps ≡ state_back_to (state_from env records cursor active) (past_of records cursor)
   state_back_from new n stamps at is same =
       let left : length records - n ≡ suc (length records - suc n) = let w = sound.within in omega (arith, at) in
       rw (left, sound.now, at, is, same.names, same.start) refl
 
   -- the state once the cursor went back
   pub state_back : (new : EnvValue) (stamps : List ℕ) → 0 < cursor → stamps ≡ active_after records (cursor - 1)
-      → SamePlace env new
-      → state_from new records (cursor - 1) stamps ≡ back_to (state_from env records cursor active) (past_of records cursor)
+      → KeepsStart env new
+      → state_from new records (cursor - 1) stamps ≡ state_back_to (state_from env records cursor active) (past_of records cursor)
   state_back new stamps h is same = state_back_from new (cursor - 1) stamps (omega arith) is same
 
   -- the state once the cursor went forth
   pub state_forth : (new : EnvValue) (stamps : List ℕ) → cursor < length records → stamps ≡ active_after records (cursor + 1)
-      → SamePlace env new
-      → state_from new records (cursor + 1) stamps ≡ forth_to (state_from env records cursor active)
+      → KeepsStart env new
+      → state_from new records (cursor + 1) stamps ≡ state_forth_to (state_from env records cursor active)
       (future_of records cursor (length records - cursor))
   state_forth new stamps h is same =
       let left : length records - cursor ≡ suc (length records - suc cursor) = omega arith in
@@ -158,7 +159,7 @@ module _ {env : EnvValue} {records : List Record} {cursor : ℕ} {active : List 
     put_faults : faults_at put active ≡ faults_at records active
     put_faults = same_faults cursor records put active put_same (rw sound.now (stamps_below records cursor))
 
-    put_stamped : stamped_at put active ≡ stamped_at records active
+    put_stamped : faults_with_stamps put active ≡ faults_with_stamps records active
     put_stamped = same_stamped cursor records put active put_same (rw sound.now (stamps_below records cursor))
 
     right_before : (nodes n : ℕ) → n < cursor → IsRight nodes records n (record_at records n)
@@ -189,8 +190,8 @@ module _ {env : EnvValue} {records : List Record} {cursor : ℕ} {active : List 
         ∙ ne_eqb cursor (length put) (λ e. absurd (omega (arith, put_long)))
 
     -- the state once that step was taken
-    pub put_state : (next : Active) → faults_at put (played cursor step active) ≡ next
-        → forth_to (state_from env put cursor active) (future_of put cursor (length put - cursor))
+    pub put_state : (next : Active) → faults_at put (stamps_after cursor step active) ≡ next
+        → state_forth_to (state_from env put cursor active) (future_of put cursor (length put - cursor))
         ≡ next_state (state_from env records cursor active) next
     put_state next is =
         let left : length put - cursor ≡ suc zero = omega (arith, put_long) in
@@ -205,45 +206,45 @@ module _ {env : EnvValue} {records : List Record} {cursor : ℕ} {active : List 
 
   -- the active faults after each kind of step
   pub begun_faults : (id : ℕ) (fault : FaultValue)
-      → faults_at (put (Begun id fault)) (played cursor (Begun id fault) active) ≡ faults_at records active ++ (id, fault) ∷ []
+      → faults_at (put (Begun id fault)) (stamps_after cursor (Begun id fault) active) ≡ faults_at records active ++ (id, fault) ∷ []
   begun_faults id fault =
       let all = put (Begun id fault) in
-      map-append (λ k. fault_of (record_at all k)) active (cursor ∷ [])
+      map-append (λ k. begun_fault (record_at all k)) active (cursor ∷ [])
       ∙ rw (put_faults (Begun id fault), put_here (Begun id fault)) refl
 
-  pub withdrawn_faults : (id stamp : ℕ) → Contains active stamp → (fault_of (record_at records stamp)).0 ≡ id
-      → faults_at (put (Withdrawn stamp)) (played cursor (Withdrawn stamp) active) ≡ without (faults_at records active) id
+  pub withdrawn_faults : (id stamp : ℕ) → Contains active stamp → (begun_fault (record_at records stamp)).0 ≡ id
+      → faults_at (put (Withdrawn stamp)) (stamps_after cursor (Withdrawn stamp) active) ≡ active_without (faults_at records active) id
   withdrawn_faults id stamp inside is =
       let step : Record = Withdrawn stamp in
       let below : All (λ k. k < cursor) active = rw sound.now (stamps_below records cursor) in
-      same_faults cursor records (put step) (played cursor step active) (put_same step)
+      same_faults cursor records (put step) (stamps_after cursor step active) (put_same step)
       (All-filter (λ k. not (eqb k stamp)) (λ k. k < cursor) active below)
       ∙ without_stamp records active id stamp apart inside is
 
   -- the state once a step was put at the cursor and taken
   taken : (step : Record) (items : List Record) (new : State) (next : Active) → items ≡ put step
-      → new ≡ forth_to (state_from env items cursor active) (future_of items cursor (length items - cursor))
-      → faults_at (put step) (played cursor step active) ≡ next
+      → new ≡ state_forth_to (state_from env items cursor active) (future_of items cursor (length items - cursor))
+      → faults_at (put step) (stamps_after cursor step active) ≡ next
       → new ≡ next_state (state_from env records cursor active) next
   taken step items new next is forth faults = rw is at forth ∙ put_state step next faults
 
   pub begun_state : (id : ℕ) (fault : FaultValue) (items : List Record) (new : State) → items ≡ put (Begun id fault)
-      → new ≡ forth_to (state_from env items cursor active) (future_of items cursor (length items - cursor))
+      → new ≡ state_forth_to (state_from env items cursor active) (future_of items cursor (length items - cursor))
       → begin_answer (state_from env records cursor active) id ≡ StepAnswer.Ok
       → new ≡ state_after (state_from env records cursor active) (Begin id fault)
   begun_state id fault items new is forth ok =
       rw ok (taken (Begun id fault) items new (faults_at records active ++ (id, fault) ∷ []) is forth (begun_faults id fault))
 
   pub withdrawn_state : (id stamp : ℕ) (items : List Record) (new : State) → items ≡ put (Withdrawn stamp)
-      → Contains active stamp → (fault_of (record_at records stamp)).0 ≡ id
-      → new ≡ forth_to (state_from env items cursor active) (future_of items cursor (length items - cursor))
+      → Contains active stamp → (begun_fault (record_at records stamp)).0 ≡ id
+      → new ≡ state_forth_to (state_from env items cursor active) (future_of items cursor (length items - cursor))
       → withdraw_answer (state_from env records cursor active) id ≡ StepAnswer.Ok
       → new ≡ state_after (state_from env records cursor active) (Withdraw id)
   withdrawn_state id stamp items new is inside at forth ok =
-      rw ok (taken (Withdrawn stamp) items new (without (faults_at records active) id) is forth (withdrawn_faults id stamp inside at))
+      rw ok (taken (Withdrawn stamp) items new (active_without (faults_at records active) id) is forth (withdrawn_faults id stamp inside at))
 
   pub all_withdrawn_state : (stamps : Vec ℕ Global) (items : List Record) (new : State) → items ≡ put (WithdrawnAll stamps)
-      → new ≡ forth_to (state_from env items cursor active) (future_of items cursor (length items - cursor))
+      → new ≡ state_forth_to (state_from env items cursor active) (future_of items cursor (length items - cursor))
       → withdraw_all_answer (state_from env records cursor active) ≡ StepAnswer.Ok
       → new ≡ state_after (state_from env records cursor active) WithdrawAll
   all_withdrawn_state stamps items new is forth ok = rw ok (taken (WithdrawnAll stamps) items new [] is forth refl)
@@ -268,6 +269,6 @@ module _ {env : EnvValue} {records : List Record} {cursor : ℕ} {active : List 
       tests_fail (is_active (faults_at records active) id) (nat_le max_active (length (faults_at records active)))
       (nat_le max_steps (length (past_of records cursor))) ok in
       let few : length (faults_at records active) < max_active = leb-false max_active (length (faults_at records active)) t.1 in
-      let few : length active < max_active = rw (length-map active (λ k. fault_of (record_at records k))) at few in
+      let few : length active < max_active = rw (length-map active (λ k. begun_fault (record_at records k))) at few in
       let free : is_active (faults_at records active) id ≡ false = t.0 in
       ((fits, rw sound.now at few, rw sound.now at free), room_left records cursor t.2)

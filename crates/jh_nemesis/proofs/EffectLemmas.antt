@@ -5,12 +5,12 @@ use Rattle.std.specs.List.{All, AllPairs, Contains}
 use Rattle.std.proofs.lemmas.List.{get_or_default, get_or-map, length-map, map-append, take_more}
 use Rattle.std.proofs.lemmas.List.Elements.{All-contains, Contains-append_right}
 use Rattle.std.proofs.lemmas.List.Sums.{sum_by-cons}
-use Rattle.jh_env.specs.Faults.{FaultValue, FitsCount, size_of}
+use Rattle.jh_env.specs.Faults.{FaultValue, FitsCount, fault_size}
 use Rattle.jh_env.specs.Standing.{AreInOrder}
 use Rattle.jh_nemesis.specs.State.{Active, has_id, is_active}
-use Rattle.jh_nemesis.specs.Steps.{without}
-use Rattle.jh_nemesis.specs.RecordsInside.{active_after, fault_of, faults_at, moment, record_at, stamped, stamped_at, AreRight, AreStamps, IsBegin, IsRight}
-use Rattle.jh_nemesis.specs.Work.{only_in, size_between, size_of_all}
+use Rattle.jh_nemesis.specs.Steps.{active_without}
+use Rattle.jh_nemesis.specs.RecordsInside.{active_after, begun_fault, faults_at, moment, record_at, fault_with_stamp, faults_with_stamps, AreRight, AreStamps, IsBegin, IsRight}
+use Rattle.jh_nemesis.specs.Work.{faults_only_in, size_between, size_of_all}
 use Rattle.jh_nemesis.specs.Steps.{max_active}
 use Rattle.jh_nemesis.specs.declared.records.Record.{Record}
 use Rattle.jh_nemesis.specs.declared.records.Record.TheVariants.{Begun, Withdrawn}
@@ -23,11 +23,11 @@ step_read records n step within is = get_or_default records n (Withdrawn 0) step
 
 -- ---- in order of their stamps
 
-pub stamps_rise : (records : List Record) (stamps : List ℕ) → AllPairs (λ x y. x < y) stamps → AreInOrder (stamped_at records stamps)
+pub stamps_rise : (records : List Record) (stamps : List ℕ) → AllPairs (λ x y. x < y) stamps → AreInOrder (faults_with_stamps records stamps)
 stamps_rise records stamps rise i j d less within =
-    let below : j < length stamps = rw (length-map stamps (stamped records)) at within in
-    let first = get_or-map (stamped records) stamps i 0 d (omega arith) in
-    let second = get_or-map (stamped records) stamps j 0 d below in
+    let below : j < length stamps = rw (length-map stamps (fault_with_stamp records)) at within in
+    let first = get_or-map (fault_with_stamp records) stamps i 0 d (omega arith) in
+    let second = get_or-map (fault_with_stamp records) stamps j 0 d below in
     rw (first, second) (rise i j 0 less below)
 
 pub active_rise : (nodes : ℕ) (records : List Record) → AreRight nodes records → (n : ℕ) → n ≤ length records → AllPairs (λ x y. x < y) (active_after records n)
@@ -40,30 +40,30 @@ rise_take n stamps rise i j d less within =
 
 -- one more stamp
 pub stamped_more : (records : List Record) (stamps : List ℕ) (i : ℕ) → i < length stamps
-    → stamped_at records (take (i + 1) stamps) ≡ stamped_at records (take i stamps) ++ stamped records (get_or stamps i 0) ∷ []
-stamped_more records stamps i h = ap (stamped_at records) (take_more stamps i 0 h) ∙ map-append (stamped records) (take i stamps) (get_or stamps i 0 ∷ [])
+    → faults_with_stamps records (take (i + 1) stamps) ≡ faults_with_stamps records (take i stamps) ++ fault_with_stamp records (get_or stamps i 0) ∷ []
+stamped_more records stamps i h = ap (faults_with_stamps records) (take_more stamps i 0 h) ∙ map-append (fault_with_stamp records) (take i stamps) (get_or stamps i 0 ∷ [])
 
 pub faults_more : (records : List Record) (stamps : List ℕ) (i : ℕ) → i < length stamps
-    → faults_at records (take (i + 1) stamps) ≡ faults_at records (take i stamps) ++ fault_of (record_at records (get_or stamps i 0)) ∷ []
+    → faults_at records (take (i + 1) stamps) ≡ faults_at records (take i stamps) ++ begun_fault (record_at records (get_or stamps i 0)) ∷ []
 faults_more records stamps i h =
-    ap (faults_at records) (take_more stamps i 0 h) ∙ map-append (λ k. fault_of (record_at records k)) (take i stamps) (get_or stamps i 0 ∷ [])
+    ap (faults_at records) (take_more stamps i 0 h) ∙ map-append (λ k. begun_fault (record_at records k)) (take i stamps) (get_or stamps i 0 ∷ [])
 
 -- the stamp at i, and those behind it
 pub stamped_left : (records : List Record) (stamps : List ℕ) (i : ℕ) → i < length stamps
-    → stamped_at records (drop i stamps) ≡ stamped records (get_or stamps i 0) ∷ stamped_at records (drop (i + 1) stamps)
+    → faults_with_stamps records (drop i stamps) ≡ fault_with_stamp records (get_or stamps i 0) ∷ faults_with_stamps records (drop (i + 1) stamps)
 stamped_left records stamps i h =
     let cut : drop i stamps ≡ get_or stamps i 0 ∷ drop (i + 1) stamps = rw add-one (drop-cons stamps i 0 h) in
-    ap (stamped_at records) cut
+    ap (faults_with_stamps records) cut
 
 -- ---- how much is written
 
-size_in : (f : ℕ × FaultValue) (fs : Active) → Contains fs f → size_of f.1 ≤ size_of_all fs
+size_in : (f : ℕ × FaultValue) (fs : Active) → Contains fs f → fault_size f.1 ≤ size_of_all fs
 size_in f [] (k, within, at) = absurd (omega arith)
 size_in f (g ∷ fs) (zero, within, at) =
-    subst (λ (h : ℕ × FaultValue). size_of h.1 ≤ size_of_all (g ∷ fs)) at (omega (arith, sum_by-cons (λ (f : ℕ × FaultValue). size_of f.1) g fs))
+    subst (λ (h : ℕ × FaultValue). fault_size h.1 ≤ size_of_all (g ∷ fs)) at (omega (arith, sum_by-cons (λ (f : ℕ × FaultValue). fault_size f.1) g fs))
 size_in f (g ∷ fs) (suc k, within, at) =
     let rest = size_in f fs (k, omega arith, at) in
-    omega (arith, rest, sum_by-cons (λ (f : ℕ × FaultValue). size_of f.1) g fs)
+    omega (arith, rest, sum_by-cons (λ (f : ℕ × FaultValue). fault_size f.1) g fs)
 
 -- what passes is kept
 kept : {X : Type 0} (p : X → Bool) (x : X) (xs : List X) → Contains xs x → p x ≡ true → Contains (filter p xs) x
@@ -79,39 +79,39 @@ kept p x (y ∷ ys) (suc k, within, at) pass =
     ]
 
 -- a fault is written that is active at one of the moments alone
-alone_before : (f : ℕ × FaultValue) (before after : Active) → Contains before f → is_active after f.0 ≡ false → size_of f.1 ≤ size_between before after
+alone_before : (f : ℕ × FaultValue) (before after : Active) → Contains before f → is_active after f.0 ≡ false → fault_size f.1 ≤ size_between before after
 alone_before f before after inside gone =
-    let alone = size_in f (only_in before after) (kept (λ (g : ℕ × FaultValue). not (is_active after g.0)) f before inside (ap not gone)) in
+    let alone = size_in f (faults_only_in before after) (kept (λ (g : ℕ × FaultValue). not (is_active after g.0)) f before inside (ap not gone)) in
     omega (arith, alone)
 
-alone_after : (f : ℕ × FaultValue) (before after : Active) → Contains after f → is_active before f.0 ≡ false → size_of f.1 ≤ size_between before after
+alone_after : (f : ℕ × FaultValue) (before after : Active) → Contains after f → is_active before f.0 ≡ false → fault_size f.1 ≤ size_between before after
 alone_after f before after inside new =
-    let alone = size_in f (only_in after before) (kept (λ (g : ℕ × FaultValue). not (is_active before g.0)) f after inside (ap not new)) in
+    let alone = size_in f (faults_only_in after before) (kept (λ (g : ℕ × FaultValue). not (is_active before g.0)) f after inside (ap not new)) in
     omega (arith, alone)
 
-pub all_alone : (active : Active) → only_in active [] ≡ active
+pub all_alone : (active : Active) → faults_only_in active [] ≡ active
 all_alone active = all_pass (λ (g : ℕ × FaultValue). true) active (λ k d h. refl)
 
 all_before : (active : Active) → size_of_all active ≤ size_between active []
 all_before active = rw (all_alone active) (omega arith)
 
 -- one more is written
-pub size_more : (f : ℕ × FaultValue) (before : Active) → size_of_all (before ++ f ∷ []) ≡ size_of_all before + size_of f.1
-size_more f [] = omega (arith, sum_by-cons (λ (f : ℕ × FaultValue). size_of f.1) f [])
+pub size_more : (f : ℕ × FaultValue) (before : Active) → size_of_all (before ++ f ∷ []) ≡ size_of_all before + fault_size f.1
+size_more f [] = omega (arith, sum_by-cons (λ (f : ℕ × FaultValue). fault_size f.1) f [])
 size_more f (g ∷ before) =
-    omega (arith, size_more f before, sum_by-cons (λ (f : ℕ × FaultValue). size_of f.1) g (before ++ f ∷ []), sum_by-cons (λ (f : ℕ × FaultValue). size_of f.1) g before)
+    omega (arith, size_more f before, sum_by-cons (λ (f : ℕ × FaultValue). fault_size f.1) g (before ++ f ∷ []), sum_by-cons (λ (f : ℕ × FaultValue). fault_size f.1) g before)
 
 -- what is written of the first of some stamps, and of one more
 pub work_more : (records : List Record) (stamps : List ℕ) (i was now start : ℕ) → i < length stamps → was ≤ start + size_of_all (faults_at records (take i stamps))
-    → now ≤ was + size_of (stamped records (get_or stamps i 0)).1 → now ≤ start + size_of_all (faults_at records (take (i + 1) stamps))
+    → now ≤ was + fault_size (fault_with_stamp records (get_or stamps i 0)).1 → now ≤ start + size_of_all (faults_at records (take (i + 1) stamps))
 work_more records stamps i was now start h before here =
-    rw (faults_more records stamps i h) (omega (arith, before, here, size_more (fault_of (record_at records (get_or stamps i 0))) (faults_at records (take i stamps))))
+    rw (faults_more records stamps i h) (omega (arith, before, here, size_more (begun_fault (record_at records (get_or stamps i 0))) (faults_at records (take i stamps))))
 
 -- no fault of an id is left where they are taken out
-gone : (id : ℕ) (fs : Active) → is_active (without fs id) id ≡ false
+gone : (id : ℕ) (fs : Active) → is_active (active_without fs id) id ≡ false
 gone id [] = refl
 gone id (f ∷ fs) =
-    elim (has_id id f) as (λ t. has_id id f ≡ t → is_active (if not t then f ∷ without fs id else without fs id) id ≡ false) [
+    elim (has_id id f) as (λ t. has_id id f ≡ t → is_active (if not t then f ∷ active_without fs id else active_without fs id) id ≡ false) [
       | true ↦ λ is. gone id fs
       | false ↦ λ is. rw is (gone id fs)
     ] refl
@@ -120,10 +120,10 @@ module _ (nodes : ℕ) (records : List Record) (right : AreRight nodes records) 
   before_rise : AllPairs (λ x y. x < y) (active_after records n)
   before_rise = active_rise nodes records right n (omega arith)
 
-  pub before_order : AreInOrder (stamped_at records (active_after records n))
+  pub before_order : AreInOrder (faults_with_stamps records (active_after records n))
   before_order = stamps_rise records (active_after records n) before_rise
 
-  pub after_order : AreInOrder (stamped_at records (active_after records (n + 1)))
+  pub after_order : AreInOrder (faults_with_stamps records (active_after records (n + 1)))
   after_order = stamps_rise records (active_after records (n + 1)) (active_rise nodes records right (n + 1) (omega arith))
 
   before_few : length (active_after records n) ≤ max_active
@@ -134,29 +134,29 @@ module _ (nodes : ℕ) (records : List Record) (right : AreRight nodes records) 
     begun_right : IsRight nodes records n (Begun id fault)
     begun_right = subst (IsRight nodes records n) at (right n within)
 
-    pub begun_fits : FitsCount nodes (stamped records n).1
+    pub begun_fits : FitsCount nodes (fault_with_stamp records n).1
     begun_fits = rw at begun_right.0
 
-    pub begun_room : (laid : ℕ) → laid ≡ length (stamped_at records (active_after records n)) → laid < max_active
-    begun_room laid is = let short = begun_right.1 in omega (arith, is, short, length-map (active_after records n) (stamped records))
+    pub begun_room : (laid : ℕ) → laid ≡ length (faults_with_stamps records (active_after records n)) → laid < max_active
+    begun_room laid is = let short = begun_right.1 in omega (arith, is, short, length-map (active_after records n) (fault_with_stamp records))
 
     begun_active : active_after records (n + 1) ≡ active_after records n ++ n ∷ []
     begun_active = rw (add-one n, at) refl
 
-    pub begun_stamped : stamped_at records (active_after records (n + 1)) ≡ stamped_at records (active_after records n) ++ stamped records n ∷ []
-    begun_stamped = ap (stamped_at records) begun_active ∙ map-append (stamped records) (active_after records n) (n ∷ [])
+    pub begun_stamped : faults_with_stamps records (active_after records (n + 1)) ≡ faults_with_stamps records (active_after records n) ++ fault_with_stamp records n ∷ []
+    begun_stamped = ap (faults_with_stamps records) begun_active ∙ map-append (fault_with_stamp records) (active_after records n) (n ∷ [])
 
     begun_moment : moment records (n + 1) ≡ moment records n ++ (id, fault) ∷ []
     begun_moment =
         ap (faults_at records) begun_active
-        ∙ map-append (λ k. fault_of (record_at records k)) (active_after records n) (n ∷ [])
-        ∙ ap (λ (step : Record). moment records n ++ fault_of step ∷ []) at
+        ∙ map-append (λ k. begun_fault (record_at records k)) (active_after records n) (n ∷ [])
+        ∙ ap (λ (step : Record). moment records n ++ begun_fault step ∷ []) at
 
-    pub begun_size : size_of (stamped records n).1 ≤ size_between (moment records n) (moment records (n + 1))
+    pub begun_size : fault_size (fault_with_stamp records n).1 ≤ size_between (moment records n) (moment records (n + 1))
     begun_size =
         let new : ℕ × FaultValue = (id, fault) in
         let there : Contains (moment records n ++ new ∷ []) new = Contains-append_right (moment records n) (new ∷ []) new (zero, omega arith, refl) in
-        let size : size_of fault ≤ size_between (moment records n) (moment records n ++ new ∷ []) = alone_after new (moment records n) (moment records n ++ new ∷ []) there begun_right.2 in
+        let size : fault_size fault ≤ size_between (moment records n) (moment records n ++ new ∷ []) = alone_after new (moment records n) (moment records n ++ new ∷ []) there begun_right.2 in
         rw (begun_moment, at) size
 
   -- a withdrawal
@@ -167,22 +167,22 @@ module _ (nodes : ℕ) (records : List Record) (right : AreRight nodes records) 
     pub withdrawn_begin : (stamp < length records) × IsBegin (record_at records stamp)
     withdrawn_begin = All-contains (λ k. (k < length records) × IsBegin (record_at records k)) (active_after records n) stamp (are_stamps records n (omega arith)) withdrawn_right
 
-    pub withdrawn_fits : FitsCount nodes (stamped records stamp).1
+    pub withdrawn_fits : FitsCount nodes (fault_with_stamp records stamp).1
     withdrawn_fits =
-        All-contains (λ k. FitsCount nodes (fault_of (record_at records k)).1) (active_after records n) stamp (fit_after nodes records right n (omega arith)) withdrawn_right
+        All-contains (λ k. FitsCount nodes (begun_fault (record_at records k)).1) (active_after records n) stamp (fit_after nodes records right n (omega arith)) withdrawn_right
 
     pub split : SplitAt (Apart records) (active_after records n) stamp
     split = split_at (Apart records) (active_after records n) stamp (apart_after nodes records right n (omega arith)) withdrawn_right
 
     -- the others, before it and after it
     abbrev pub first : List (ℕ × FaultValue)
-    first = stamped_at records split.before
+    first = faults_with_stamps records split.before
 
     abbrev pub last : List (ℕ × FaultValue)
-    last = stamped_at records split.after
+    last = faults_with_stamps records split.after
 
-    pub withdrawn_before : stamped_at records (active_after records n) ≡ first ++ stamped records stamp ∷ last
-    withdrawn_before = ap (stamped_at records) split.is ∙ map-append (stamped records) split.before (stamp ∷ split.after)
+    pub withdrawn_before : faults_with_stamps records (active_after records n) ≡ first ++ fault_with_stamp records stamp ∷ last
+    withdrawn_before = ap (faults_with_stamps records) split.is ∙ map-append (fault_with_stamp records) split.before (stamp ∷ split.after)
 
     withdrawn_active : active_after records (n + 1) ≡ filter (λ other. not (eqb other stamp)) (active_after records n)
     withdrawn_active = rw (add-one n, at) refl
@@ -193,10 +193,10 @@ module _ (nodes : ℕ) (records : List Record) (right : AreRight nodes records) 
         ∙ ap (filter (λ other. not (eqb other stamp))) split.is
         ∙ taken_out split.before split.after stamp (λ k d h e. let less = (split.below k d h).less in omega arith) (λ k d h e. let less = (split.above k d h).less in omega arith)
 
-    pub withdrawn_after : stamped_at records (active_after records (n + 1)) ≡ first ++ last
-    withdrawn_after = ap (stamped_at records) others_left ∙ map-append (stamped records) split.before split.after
+    pub withdrawn_after : faults_with_stamps records (active_after records (n + 1)) ≡ first ++ last
+    withdrawn_after = ap (faults_with_stamps records) others_left ∙ map-append (fault_with_stamp records) split.before split.after
 
-    pub withdrawn_room : (laid : ℕ) → laid ≡ length (stamped_at records (active_after records (n + 1))) → laid < max_active
+    pub withdrawn_room : (laid : ℕ) → laid ≡ length (faults_with_stamps records (active_after records (n + 1))) → laid < max_active
     withdrawn_room laid is =
         omega (
           arith,
@@ -204,19 +204,19 @@ module _ (nodes : ℕ) (records : List Record) (right : AreRight nodes records) 
           before_few,
           ap length split.is,
           ap length others_left,
-          length-map (active_after records (n + 1)) (stamped records),
+          length-map (active_after records (n + 1)) (fault_with_stamp records),
           length-append split.before (stamp ∷ split.after),
           length-append split.before split.after,
         )
 
-    pub withdrawn_size : size_of (stamped records stamp).1 ≤ size_between (moment records n) (moment records (n + 1))
+    pub withdrawn_size : fault_size (fault_with_stamp records stamp).1 ≤ size_between (moment records n) (moment records (n + 1))
     withdrawn_size =
-        let f : ℕ × FaultValue = fault_of (record_at records stamp) in
+        let f : ℕ × FaultValue = begun_fault (record_at records stamp) in
         let parts : moment records n ≡ faults_at records split.before ++ f ∷ faults_at records split.after =
-        ap (faults_at records) split.is ∙ map-append (λ k. fault_of (record_at records k)) split.before (stamp ∷ split.after) in
+        ap (faults_at records) split.is ∙ map-append (λ k. begun_fault (record_at records k)) split.before (stamp ∷ split.after) in
         let there : Contains (moment records n) f =
         subst (λ fs. Contains fs f) (sym parts) (Contains-append_right (faults_at records split.before) (f ∷ faults_at records split.after) f (zero, omega arith, refl)) in
-        let left : moment records (n + 1) ≡ without (moment records n) f.0 =
+        let left : moment records (n + 1) ≡ active_without (moment records n) f.0 =
         ap (faults_at records) withdrawn_active ∙ without_stamp records (active_after records n) f.0 stamp (apart_after nodes records right n (omega arith)) withdrawn_right refl in
         alone_before f (moment records n) (moment records (n + 1)) there (ap (λ fs. is_active fs f.0) left ∙ gone f.0 (moment records n))
 
@@ -228,7 +228,7 @@ module _ (nodes : ℕ) (records : List Record) (right : AreRight nodes records) 
     pub all_few : length stamps ≤ max_active
     all_few = rw is before_few
 
-    pub all_fit : All (λ k. FitsCount nodes (stamped records k).1) stamps
+    pub all_fit : All (λ k. FitsCount nodes (fault_with_stamp records k).1) stamps
     all_fit = rw is (fit_after nodes records right n (omega arith))
 
     pub all_rise : AllPairs (λ x y. x < y) stamps

@@ -14,10 +14,11 @@ use Rattle.std.proofs.lemmas.List.Sums.{AllPass-from_list_all}
 use Rattle.jh_edn.specs.Edn.{Edn}
 use Rattle.jh_edn.specs.View.{view, views, view_pair, view_pairs}
 use Rattle.jh_edn.specs.declared.value.Value.{Value}
-use Rattle.jh_env.specs.Faults.{FaultValue, kept_links, is_self_link, is_unknown_link, is_unknown_node, is_unknown_bump, same_bumped, AreBumps, IsBumpAmount, RefusesLinks, RefusesNodes, RefusesBumps}
+use Rattle.jh_env.specs.Faults.{FaultValue, kept_links, is_self_link, is_unknown_link, is_unknown_node, is_unknown_bump, is_same_bumped, AreBumps, IsBumpAmount, RefusesLinks, RefusesNodes, RefusesBumps}
 use Rattle.jh_env.specs.Faults.{Slow, Loss, Fix, Bump}
+use Rattle.jh_env.specs.TextErrors.{place_of}
 use Rattle.jh_env.specs.declared.faults.FaultError.TheVariants as FaultError
-use Rattle.jh_nemesis.specs.FaultText.{parsed_links, parsed_nodes, parsed_bumps, links_fault, nodes_fault, ends_of, node_of, bump_of, place_of, both, link_names, node_name, bump_spelled, amount_within, is_bump_amount, are_apart_after, are_bumps}
+use Rattle.jh_nemesis.specs.FaultText.{parsed_links, parsed_nodes, parsed_bumps, links_fault, nodes_fault, ends_of, named_node, bump_of, known_pair, link_names, node_name, bump_spelled, amount_within, is_bump_amount, are_apart_after, are_bumps}
 use Rattle.jh_nemesis.specs.declared.texts.shapes.OnLinks.{OnLinks}
 use Rattle.jh_nemesis.specs.declared.texts.shapes.OnNodes.{OnNodes}
 use Rattle.jh_nemesis.specs.declared.texts.StepTextError.TheVariants.{UnknownNode, SelfLink, BadAmount}
@@ -67,7 +68,7 @@ some_there : {A : Type 0} (o : Option A) → is_some o ≡ true → (x : A) × (
 some_there None e = absurd cc
 some_there (Some x) e = (x, refl)
 
--- something is told, so that want of memory may be answered
+-- something is parsed, so that want of memory may be answered
 pub parsed_links-ok : (names : List (List ℕ)) (effect : OnLinks) (links : List Value) → list_any (λ l. is_none (ends_of names (view l))) links ≡ false
     → list_any is_self_link (filter_map (λ l. ends_of names (view l)) links) ≡ false → is_some (links_fault effect []) ≡ true
     → IsOk (parsed_links names effect (views links))
@@ -76,7 +77,7 @@ parsed_links-ok names effect links known other right =
     let made = some_there (links_fault effect ends) (right_anywhere effect ends ∙ right) in
     rw (parsed_links-fault names effect links made.0 known other made.1) refl
 
-both_known : (n : ℕ) (a b : Option ℕ) (e : ℕ × ℕ) → ((i : ℕ) → a ≡ Some i → i < n) → ((i : ℕ) → b ≡ Some i → i < n) → both a b ≡ Some e
+both_known : (n : ℕ) (a b : Option ℕ) (e : ℕ × ℕ) → ((i : ℕ) → a ≡ Some i → i < n) → ((i : ℕ) → b ≡ Some i → i < n) → known_pair a b ≡ Some e
     → is_unknown_link n e ≡ false
 both_known n (Some i) (Some j) e p q h = let below : i < n = p i refl in let under : j < n = q j refl in
     let f : (i, j) ≡ e = cc in rw (← f) grind (arith, common_steps)
@@ -85,7 +86,7 @@ both_known n None b e p q h = absurd cc
 
 ends_known : (names : List (List ℕ)) (v : Edn) (e : ℕ × ℕ) → ends_of names v ≡ Some e → is_unknown_link (length names) e ≡ false
 ends_known names v e h =
-    elim (link_names v) as (λ l. option_and_then (λ l. both (place_of names l.0) (place_of names l.1)) l ≡ Some e → is_unknown_link (length names) e ≡ false) [
+    elim (link_names v) as (λ l. option_and_then (λ l. known_pair (place_of names l.0) (place_of names l.1)) l ≡ Some e → is_unknown_link (length names) e ≡ false) [
       | None ↦ λ h. absurd cc
       | Some l ↦ λ h. both_known (length names) (place_of names l.0) (place_of names l.1) e
           (λ i p. (position-Some (bytes_eq l.0) names i [] p).0) (λ i p. (position-Some (bytes_eq l.1) names i [] p).0) h
@@ -104,15 +105,15 @@ all_found h fails (x ∷ xs) each =
 pub links_found : (names : List (List ℕ)) (links : List Value) → list_any (is_unknown_link (length names)) (filter_map (λ l. ends_of names (view l)) links) ≡ false
 links_found names links = all_found (λ l. ends_of names (view l)) (is_unknown_link (length names)) links (λ l e. ends_known names (view l) e)
 
-node_known : (names : List (List ℕ)) (v : Edn) (n : ℕ) → node_of names v ≡ Some n → is_unknown_node (length names) n ≡ false
+node_known : (names : List (List ℕ)) (v : Edn) (n : ℕ) → named_node names v ≡ Some n → is_unknown_node (length names) n ≡ false
 node_known names v n h =
     elim (node_name v) as (λ o. option_and_then (place_of names) o ≡ Some n → is_unknown_node (length names) n ≡ false) [
       | None ↦ λ h. absurd cc
       | Some name ↦ λ h. let below : n < length names = (position-Some (bytes_eq name) names n [] h).0 in grind (arith, common_steps)
     ] h
 
-pub nodes_found : (names : List (List ℕ)) (nodes : List Value) → list_any (is_unknown_node (length names)) (filter_map (λ n. node_of names (view n)) nodes) ≡ false
-nodes_found names nodes = all_found (λ n. node_of names (view n)) (is_unknown_node (length names)) nodes (λ v n. node_known names (view v) n)
+pub nodes_found : (names : List (List ℕ)) (nodes : List Value) → list_any (is_unknown_node (length names)) (filter_map (λ n. named_node names (view n)) nodes) ≡ false
+nodes_found names nodes = all_found (λ n. named_node names (view n)) (is_unknown_node (length names)) nodes (λ v n. node_known names (view v) n)
 
 placed : (names : List (List ℕ)) (name : List ℕ) (ms : ℤ) (o : Option ℕ) (b : ℕ × ℤ) → place_of names name ≡ o → option_map (λ node. (node, ms)) o ≡ Some b
     → is_unknown_bump (length names) b ≡ false
@@ -132,17 +133,17 @@ pub bumps_found : (names : List (List ℕ)) (bumps : List (Value × Value)) → 
 bumps_found names bumps = all_found (λ b. bump_of names (view_pair b)) (is_unknown_bump (length names)) bumps (λ v b. bump_known names (view_pair v) b)
 
 -- a fault on nodes
-pub parsed_nodes-unknown : (names : List (List ℕ)) (effect : OnNodes) (nodes : List Value) → list_any (λ n. is_none (node_of names (view n))) nodes ≡ true
+pub parsed_nodes-unknown : (names : List (List ℕ)) (effect : OnNodes) (nodes : List Value) → list_any (λ n. is_none (named_node names (view n))) nodes ≡ true
     → parsed_nodes names effect (views nodes) ≡ Err UnknownNode
-parsed_nodes-unknown names effect nodes unknown = rw (list_any-map (λ n. is_none (node_of names n)) view nodes, unknown) refl
+parsed_nodes-unknown names effect nodes unknown = rw (list_any-map (λ n. is_none (named_node names n)) view nodes, unknown) refl
 
-pub parsed_nodes-fault : (names : List (List ℕ)) (effect : OnNodes) (nodes : List Value) → list_any (λ n. is_none (node_of names (view n))) nodes ≡ false
-    → parsed_nodes names effect (views nodes) ≡ Ok (nodes_fault effect (filter_map (λ n. node_of names (view n)) nodes))
-parsed_nodes-fault names effect nodes known = rw (list_any-map (λ n. is_none (node_of names n)) view nodes, known, filter_map-map (node_of names) view nodes) refl
+pub parsed_nodes-fault : (names : List (List ℕ)) (effect : OnNodes) (nodes : List Value) → list_any (λ n. is_none (named_node names (view n))) nodes ≡ false
+    → parsed_nodes names effect (views nodes) ≡ Ok (nodes_fault effect (filter_map (λ n. named_node names (view n)) nodes))
+parsed_nodes-fault names effect nodes known = rw (list_any-map (λ n. is_none (named_node names n)) view nodes, known, filter_map-map (named_node names) view nodes) refl
 
 -- nodes that were found are refused for want of memory alone
 pub nodes_refused : (names : List (List ℕ)) (nodes : List Value) (refusal : FaultError.the_data)
-    → RefusesNodes (length names) (filter_map (λ n. node_of names (view n)) nodes) refusal → refusal ≡ FaultError.OutOfMemory
+    → RefusesNodes (length names) (filter_map (λ n. named_node names (view n)) nodes) refusal → refusal ≡ FaultError.OutOfMemory
 nodes_refused names nodes FaultError.UnknownNode refused = absurd (false≢true (sym (nodes_found names nodes) ∙ refused))
 nodes_refused names nodes FaultError.SelfLink refused = absurd refused
 nodes_refused names nodes FaultError.BadAmount refused = absurd refused
@@ -177,13 +178,13 @@ not_false true e = absurd cc
 not_false false e = refl
 
 apart_in_order : (before bumps : List (ℕ × ℤ)) → are_apart_after before bumps ≡ true
-    → (i : ℕ) (d : ℕ × ℤ) → i < length bumps → list_any (λ x. same_bumped x (get_or bumps i d)) (before ++ take i bumps) ≡ false
+    → (i : ℕ) (d : ℕ × ℤ) → i < length bumps → list_any (λ x. is_same_bumped x (get_or bumps i d)) (before ++ take i bumps) ≡ false
 apart_in_order before [] h i d below = absurd (omega arith)
 apart_in_order before (b ∷ bs) h zero d below =
-    let p = and_parts (not (list_any (λ x. same_bumped x b) before)) (are_apart_after (before ++ b ∷ []) bs) h in
-    rw (append-nil before) (not_false (list_any (λ x. same_bumped x b) before) p.0)
+    let p = and_parts (not (list_any (λ x. is_same_bumped x b) before)) (are_apart_after (before ++ b ∷ []) bs) h in
+    rw (append-nil before) (not_false (list_any (λ x. is_same_bumped x b) before) p.0)
 apart_in_order before (b ∷ bs) h (suc i) d below =
-    let p = and_parts (not (list_any (λ x. same_bumped x b) before)) (are_apart_after (before ++ b ∷ []) bs) h in
+    let p = and_parts (not (list_any (λ x. is_same_bumped x b) before)) (are_apart_after (before ++ b ∷ []) bs) h in
     let rest = apart_in_order (before ++ b ∷ []) bs p.1 i d (omega arith) in
     rw (append_assoc before (b ∷ []) (take i bs)) at rest
 

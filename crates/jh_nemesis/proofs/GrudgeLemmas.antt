@@ -13,17 +13,17 @@ use Rattle.std.proofs.lemmas.Map.Keys.{IsDistinct-IsPermutation}
 use Rattle.std.proofs.lemmas.Map.Made.{AllPairs-from_IsDistinct, IsDistinct-from_AllPairs}
 use Rattle.std.proofs.lemmas.Option.{slice_get_within, get_or_from_slice_get}
 use Rattle.jh_grudge.specs.Lists.{AreDistinct, first_half, second_half, split_of}
-use Rattle.jh_grudge.specs.Grudges.{CutsExactly, IsAscending, JoinsTwoOf, CompleteDrops, BridgeDrops, RingDrops, beyond_bridge}
-use Rattle.jh_nemesis.specs.NamedFaults.{AreLinksAmong, places, links_that, crosses, crosses_halves, touches, crosses_bridge, leaves_majority, is_at, option_is}
+use Rattle.jh_grudge.specs.Grudges.{CutsExactly, IsAscending, JoinsTwoOf, CompleteDrops, BridgeDrops, RingDrops, nodes_beyond_bridge}
+use Rattle.jh_nemesis.specs.NamedFaults.{AreLinksAmong, node_places, links_that, crosses, crosses_halves, touches, crosses_bridge, leaves_majority, is_at, is_option_of}
 use Rattle.jh_nemesis.proofs.LinkLemmas.{all_from, links_are, contains_none, contains_cons, kept, keeps, any_from, some_of_any, in_range, range_has, range_take, range_drop, in_links, links_have}
 
-first_is : (n : ℕ) → first_half (places n) ≡ range_with_len 0 (n / 2)
+first_is : (n : ℕ) → first_half (node_places n) ≡ range_with_len 0 (n / 2)
 first_is n = rw (length-range_with_len 0 n) (range_take (n / 2) 0 n (omega arith))
 
-second_is : (n : ℕ) → second_half (places n) ≡ range_with_len (n / 2) (n - n / 2)
+second_is : (n : ℕ) → second_half (node_places n) ≡ range_with_len (n / 2) (n - n / 2)
 second_is n = let none : 0 + n / 2 ≡ n / 2 = omega arith in rw (length-range_with_len 0 n) (range_drop (n / 2) 0 n ∙ ap (λ s. range_with_len s (n - n / 2)) none)
 
-beyond_is : (n : ℕ) → beyond_bridge (places n) ≡ range_with_len (n / 2 + 1) (n - (n / 2 + 1))
+beyond_is : (n : ℕ) → nodes_beyond_bridge (node_places n) ≡ range_with_len (n / 2 + 1) (n - (n / 2 + 1))
 beyond_is n = let none : 0 + (n / 2 + 1) ≡ n / 2 + 1 = omega arith in rw (length-range_with_len 0 n) (range_drop (n / 2 + 1) 0 n ∙ ap (λ s. range_with_len s (n - (n / 2 + 1))) none)
 
 -- just one end of a link is such
@@ -57,7 +57,7 @@ first_drops xs ys dst src a b = (0, 1, (λ e. omega (arith, e)), a, b)
 second_drops : (xs ys : List ℕ) (dst src : ℕ) → Contains ys dst → Contains xs src → CompleteDrops (xs ∷ ys ∷ []) dst src
 second_drops xs ys dst src a b = (1, 0, (λ e. omega (arith, e)), a, b)
 
-pub halves_exact : (n : ℕ) → CutsExactly (CompleteDrops (first_half (places n) ∷ second_half (places n) ∷ [])) (links_that (crosses_halves n) n)
+pub halves_exact : (n : ℕ) → CutsExactly (CompleteDrops (first_half (node_places n) ∷ second_half (node_places n) ∷ [])) (links_that (crosses_halves n) n)
 halves_exact n dst src = rw (first_is n, second_is n) (
   (λ has. let ends = in_links (crosses_halves n) n (src, dst) has in
       elim (one_end (λ a. nat_lt a (n / 2)) src dst ends.2) [
@@ -87,22 +87,22 @@ other_is loner a e = go (a == loner) e where
   go true e = absurd cc
   go false e = refl
 
-pub split_exact : (n loner : ℕ) → loner < n → CutsExactly (CompleteDrops (split_of loner (places n))) (links_that (touches loner) n)
+pub split_exact : (n loner : ℕ) → loner < n → CutsExactly (CompleteDrops (split_of loner (node_places n))) (links_that (touches loner) n)
 split_exact n loner low dst src = (
   (λ has. let ends = in_links (touches loner) n (src, dst) has in
       elim (one_end (λ a. a == loner) src dst ends.2) [
-        | inl (is, other) ↦ second_drops (loner ∷ []) (filter (λ node. not (node == loner)) (places n)) dst src
-            (keeps (λ node. not (node == loner)) (places n) dst (range_has 0 n dst (omega arith) (omega (arith, ends.1))) (rw other refl))
+        | inl (is, other) ↦ second_drops (loner ∷ []) (filter (λ node. not (node == loner)) (node_places n)) dst src
+            (keeps (λ node. not (node == loner)) (node_places n) dst (range_has 0 n dst (omega arith) (omega (arith, ends.1))) (rw other refl))
             (0, omega arith, sym (eqb-true src loner is))
-        | inr (other, is) ↦ first_drops (loner ∷ []) (filter (λ node. not (node == loner)) (places n)) dst src
+        | inr (other, is) ↦ first_drops (loner ∷ []) (filter (λ node. not (node == loner)) (node_places n)) dst src
             (0, omega arith, sym (eqb-true dst loner is))
-            (keeps (λ node. not (node == loner)) (places n) src (range_has 0 n src (omega arith) (omega (arith, ends.0))) (rw other refl))
+            (keeps (λ node. not (node == loner)) (node_places n) src (range_has 0 n src (omega arith) (omega (arith, ends.0))) (rw other refl))
       ]),
-  (λ drops. elim (two_parts (loner ∷ []) (filter (λ node. not (node == loner)) (places n)) dst src drops) [
-    | inl (a, b) ↦ (let same : loner ≡ dst = alone loner dst a in let found = kept (λ node. not (node == loner)) (places n) src b in let below = in_range 0 n src found.0 in
+  (λ drops. elim (two_parts (loner ∷ []) (filter (λ node. not (node == loner)) (node_places n)) dst src drops) [
+    | inl (a, b) ↦ (let same : loner ≡ dst = alone loner dst a in let found = kept (λ node. not (node == loner)) (node_places n) src b in let below = in_range 0 n src found.0 in
         links_have (touches loner) n src dst (omega (arith, below.1)) (omega (arith, same))
         (to_end (λ a. a == loner) src dst (other_is loner src found.1) (eq-eqb dst loner (sym same))))
-    | inr (a, b) ↦ (let same : loner ≡ src = alone loner src b in let found = kept (λ node. not (node == loner)) (places n) dst a in let below = in_range 0 n dst found.0 in
+    | inr (a, b) ↦ (let same : loner ≡ src = alone loner src b in let found = kept (λ node. not (node == loner)) (node_places n) dst a in let below = in_range 0 n dst found.0 in
         links_have (touches loner) n src dst (omega (arith, same)) (omega (arith, below.1))
         (from_end (λ a. a == loner) src dst (eq-eqb src loner (sym same)) (other_is loner dst found.1)))
   ]),
@@ -121,7 +121,7 @@ one_side h a b low high = rw (lt-ltb a h low, lt-ltb h b high) refl
 other_side : (h a b : ℕ) → h < a → b < h → ((nat_lt a h && nat_lt h b) || (nat_lt h a && nat_lt b h)) ≡ true
 other_side h a b high low = rw (le-ltb a h (omega arith), lt-ltb h a high, lt-ltb b h low) refl
 
-pub bridge_exact : (n : ℕ) → CutsExactly (BridgeDrops (places n)) (links_that (crosses_bridge n) n)
+pub bridge_exact : (n : ℕ) → CutsExactly (BridgeDrops (node_places n)) (links_that (crosses_bridge n) n)
 bridge_exact n dst src = rw (first_is n, beyond_is n) (
   (λ has. let ends = in_links (crosses_bridge n) n (src, dst) has in
       elim (sides (n / 2) src dst ends.2) [
@@ -138,7 +138,7 @@ bridge_exact n dst src = rw (first_is n, beyond_is n) (
 
 at_place : (nodes : List ℕ) (place node : ℕ) → is_at nodes place node ≡ true → slice_get nodes place ≡ Some node
 at_place nodes place node hit = go (slice_get nodes place) hit where
-  go : (o : Option ℕ) → option_is node o ≡ true → o ≡ Some node
+  go : (o : Option ℕ) → is_option_of node o ≡ true → o ≡ Some node
   go None hit = absurd cc
   go (Some b) hit = ap Some (eqb-true b node hit)
 
@@ -170,27 +170,27 @@ ring_exact order n long below dst src = (
 )
 
 -- the places are distinct, in whatever order
-pub places_apart : (n : ℕ) → AreDistinct (places n)
+pub places_apart : (n : ℕ) → AreDistinct (node_places n)
 places_apart n i j d less below =
     let long = length-range_with_len 0 n in
-    let here : get_or (places n) i d ≡ 0 + i = get_or-range_with_len 0 n i d (omega arith) in
-    let there : get_or (places n) j d ≡ 0 + j = get_or-range_with_len 0 n j d (omega arith) in
+    let here : get_or (node_places n) i d ≡ 0 + i = get_or-range_with_len 0 n i d (omega arith) in
+    let there : get_or (node_places n) j d ≡ 0 + j = get_or-range_with_len 0 n j d (omega arith) in
     λ same. omega (arith, here, there, same)
 
 flips : (a b : ℕ) → (a == b) ≡ (b == a)
 flips a b = elim (eqb_tells a b) [ inl (hit, same) ↦ hit ∙ sym (eq-eqb b a (sym same)) | inr (miss, other) ↦ miss ∙ sym (ne_eqb b a (λ same. other (sym same))) ]
 
-pub order_distinct : (n : ℕ) (order : List ℕ) → IsPermutation (places n) order → AreDistinct order
-order_distinct n order shuffled = AllPairs-from_IsDistinct (λ a b. Decides-eqb a b) order (IsDistinct-IsPermutation (λ a b. a == b) flips (places n) order shuffled (IsDistinct-from_AllPairs (λ a b. Decides-eqb a b) (places n) (places_apart n)))
+pub order_distinct : (n : ℕ) (order : List ℕ) → IsPermutation (node_places n) order → AreDistinct order
+order_distinct n order shuffled = AllPairs-from_IsDistinct (λ a b. Decides-eqb a b) order (IsDistinct-IsPermutation (λ a b. a == b) flips (node_places n) order shuffled (IsDistinct-from_AllPairs (λ a b. Decides-eqb a b) (node_places n) (places_apart n)))
 
-pub places_below : (n : ℕ) → All (λ a. a < n) (places n)
-places_below n = all_from (λ a. a < n) (places n) (λ a has. let found = in_range 0 n a has in omega (arith, found.1))
+pub places_below : (n : ℕ) → All (λ a. a < n) (node_places n)
+places_below n = all_from (λ a. a < n) (node_places n) (λ a has. let found = in_range 0 n a has in omega (arith, found.1))
 
-pub order_below : (n : ℕ) (order : List ℕ) → IsPermutation (places n) order → All (λ a. a < n) order
-order_below n order shuffled = All-permutation (λ a. a < n) (places n) order shuffled (places_below n)
+pub order_below : (n : ℕ) (order : List ℕ) → IsPermutation (node_places n) order → All (λ a. a < n) order
+order_below n order shuffled = All-permutation (λ a. a < n) (node_places n) order shuffled (places_below n)
 
-pub order_long : (n : ℕ) (order : List ℕ) → IsPermutation (places n) order → length order ≡ n
-order_long n order shuffled = length_permutation (places n) order shuffled ∙ length-range_with_len 0 n
+pub order_long : (n : ℕ) (order : List ℕ) → IsPermutation (node_places n) order → length order ≡ n
+order_long n order shuffled = length_permutation (node_places n) order shuffled ∙ length-range_with_len 0 n
 
 -- what is answered where a grudge is made: the links that are such, and no others
 pub made_of : {E : Type 0} (answer : Result (List (ℕ × ℕ)) E) (F : E → Type 0) (Drops : ℕ → ℕ → Type 0) (is : (ℕ × ℕ) → Bool) (n : ℕ)

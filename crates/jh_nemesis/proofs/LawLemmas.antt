@@ -1,3 +1,4 @@
+-- The laws of undo, redo and withdrawal, from what each step makes of a state.
 use Rattle.std.proofs.Common.{◌≡◌, ◌≢◌, ℕ, ℤ, Bool, true, false, [], ◌∷◌, ◌++◌, refl, ap, ◌∙◌, sym}
 use Rattle.std.specs.Prelude.{if◌then◌else◌, not, ◌==◌, ◌||◌}
 use Rattle.std.proofs.lemmas.Bool.{eq-eqb, eqb-true, or_right}
@@ -6,7 +7,7 @@ use Rattle.jh_env.specs.Overlay.{cuts, link_over}
 use Rattle.std.proofs.lemmas.List.Elements.{filter-append}
 use Rattle.jh_env.specs.Faults.{FaultValue}
 use Rattle.jh_nemesis.specs.State.{State, Active, has_id, is_active, faults_in, next_state}
-use Rattle.jh_nemesis.specs.Steps.{answer_of, begin_answer, state_after, is_ok, moved, without}
+use Rattle.jh_nemesis.specs.Steps.{answer_of, begin_answer, state_after, is_ok, moved_state, active_without}
 use Rattle.jh_nemesis.specs.Laws.{CutsOfOthersStay, CutsOfStartStay, WithdrawalLeavesOthers, WithdrawalEndsBegin, OthersAloneMake, WithdrawingAllLeavesStart, IsAtStart}
 use Rattle.std.proofs.lemmas.List.{append-nil}
 use Rattle.jh_nemesis.specs.declared.steps.StepAnswer.{StepAnswer}
@@ -34,21 +35,21 @@ parts true y e = cc
 parts false y e = (refl, e)
 
 -- where no fault has the id, none is withdrawn
-without_none : (active : Active) (id : ℕ) → is_active active id ≡ false → without active id ≡ active
+without_none : (active : Active) (id : ℕ) → is_active active id ≡ false → active_without active id ≡ active
 without_none [] id h = refl
 without_none (f ∷ fs) id h =
     let p = parts (has_id id f) (is_active fs id) h in
     rw (p.0, without_none fs id p.1) refl
 
 -- the fault of the id is withdrawn
-without_middle : (before after : Active) (id : ℕ) (f : FaultValue) → is_active (before ++ after) id ≡ false → without (before ++ ((id, f) ∷ after)) id ≡ before ++ after
+without_middle : (before after : Active) (id : ℕ) (f : FaultValue) → is_active (before ++ after) id ≡ false → active_without (before ++ ((id, f) ∷ after)) id ≡ before ++ after
 without_middle [] after id f h = rw (eq-eqb id id refl) (without_none after id h)
 without_middle (b ∷ before) after id f h =
     let p = parts (has_id id b) (is_active (before ++ after) id) h in
     rw (p.0, without_middle before after id f p.1) refl
 
 -- what an accepted step makes of the active faults
-pub accepted : (s : State) (step : Step) → is_ok (answer_of s step) ≡ true → (state_after s step).active ≡ (moved s step).active
+pub accepted : (s : State) (step : Step) → is_ok (answer_of s step) ≡ true → (state_after s step).active ≡ (moved_state s step).active
 accepted s step ok = rw ok refl
 
 pub withdrawal_leaves : WithdrawalLeavesOthers
@@ -65,7 +66,7 @@ fresh s id ok = rw (append-nil s.active) (not_taken (is_active s.active id) _ ok
 pub withdrawal_ends : WithdrawalEndsBegin
 withdrawal_ends s id f began ended =
     accepted (state_after s (Begin id f)) (Withdraw id) ended
-    ∙ (ap (λ a. without a id) (accepted s (Begin id f) began) ∙ (without_middle s.active [] id f (fresh s id began) ∙ append-nil s.active))
+    ∙ (ap (λ a. active_without a id) (accepted s (Begin id f) began) ∙ (without_middle s.active [] id f (fresh s id began) ∙ append-nil s.active))
 
 -- a link is cut if one of the faults cuts it
 cut_among : (before after : Active) (x : ℕ × FaultValue) (a b : ℕ) → cuts a b x.1 ≡ true → list_any (cuts a b) (faults_in (before ++ (x ∷ after))) ≡ true
@@ -76,14 +77,14 @@ different : (a b : ℕ) → a ≢ b → (a == b) ≡ false
 different a b apart = elim (a == b) as (λ s. (a == b) ≡ s → s ≡ false) [ true ↦ λ s. absurd (apart (eqb-true a b s)) | false ↦ λ s. refl ] refl
 
 -- a withdrawal keeps a fault of another id
-without_other : (before after : Active) (id other : ℕ) (f : FaultValue) → other ≢ id → without (before ++ ((other, f) ∷ after)) id ≡ without before id ++ ((other, f) ∷ without after id)
+without_other : (before after : Active) (id other : ℕ) (f : FaultValue) → other ≢ id → active_without (before ++ ((other, f) ∷ after)) id ≡ active_without before id ++ ((other, f) ∷ active_without after id)
 without_other before after id other f apart =
     filter-append (λ g. not (has_id id g)) before ((other, f) ∷ after) ∙ rw (different other id apart) refl
 
 pub others_stay : CutsOfOthersStay
 others_stay s before after id other f a b l now apart h =
-    elim (is_ok (answer_of s (Withdraw id))) as (λ k. (link_over (faults_in (if k then next_state s (without s.active id) else s).active) a b l).cut ≡ true) [
-      | true ↦ rw (now, without_other before after id other f apart) (or_right l.cut _ (cut_among (without before id) (without after id) (other, f) a b h))
+    elim (is_ok (answer_of s (Withdraw id))) as (λ k. (link_over (faults_in (if k then next_state s (active_without s.active id) else s).active) a b l).cut ≡ true) [
+      | true ↦ rw (now, without_other before after id other f apart) (or_right l.cut _ (cut_among (active_without before id) (active_without after id) (other, f) a b h))
       | false ↦ rw now (or_right l.cut _ (cut_among before after (other, f) a b h))
     ]
 

@@ -7,5 +7,5 @@ pub mod ListLemmas
 pub mod LinkLemmas
 pub mod GrudgeLemmas
 pub mod FaultTextLemmas
-pub mod RunLemmas
+pub mod StepLemmas
 pub mod WorkLemmas

@@ -2,8 +2,7 @@
 use Rattle.std.proofs.Common.{◌≡◌, Bool, List, [], ◌∷◌, refl, ap}
 use Rattle.std.specs.Prelude.{◌||◌, Option, map}
 use Rattle.std.specs.List.{filter_map, list_any}
-use Rattle.jh_edn.specs.Edn.{Edn, members_of}
-use Rattle.jh_env.specs.Text.{pairs_in}
+use Rattle.jh_edn.specs.Edn.{Edn, members_of, pairs_in}
 
 -- what is kept of the images
 pub filter_map-map : {X Y Z : Type 0} (h : Y → Option Z) (f : X → Y) (xs : List X) → filter_map h (map f xs) ≡ filter_map (λ x. h (f x)) xs

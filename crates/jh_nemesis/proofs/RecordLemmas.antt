@@ -1,5 +1,6 @@
 -- What the steps that a nemesis keeps make active, and what holds of it.
 use Rattle.std.proofs.Common.{◌≡◌, ◌≢◌, ℕ, zero, suc, ◌-◌, ◌≤◌, ◌<◌, Bool, true, false, not, List, [], ◌∷◌, ◌++◌, length, get_or, eqb, refl, sym, ap, ap₂, subst, ◌∙◌, arith, length-append, take_at, Some}
+use Rattle.jh_edn.specs.Edn.{is_empty}
 use Rattle.std.specs.Prelude.{filter, slice_get}
 use Rattle.std.specs.List.{All, AllPairs, Contains}
 use Rattle.std.proofs.lemmas.Bool.{eq-eqb, ne_eqb}
@@ -11,10 +12,10 @@ use Rattle.std.proofs.lemmas.List.Folds.{list_any_at}
 use Rattle.std.proofs.lemmas.List.Kept.{AllPairs-filter}
 use Rattle.std.proofs.lemmas.List.Quantifiers.{all_pairs_push}
 use Rattle.jh_env.specs.Faults.{FaultValue, FitsCount}
-use Rattle.jh_nemesis.specs.State.{has_id, is_active, is_empty, faults_in}
+use Rattle.jh_nemesis.specs.State.{has_id, is_active, faults_in}
 use Rattle.jh_env.specs.Standing.{faults_of}
-use Rattle.jh_nemesis.specs.Steps.{without}
-use Rattle.jh_nemesis.specs.RecordsInside.{record_at, played, played_back, active_after, fault_of, faults_at, moment, past_of, stamped, stamped_at, IsBegin, AreRight, AreStamps, IsRight}
+use Rattle.jh_nemesis.specs.Steps.{active_without}
+use Rattle.jh_nemesis.specs.RecordsInside.{record_at, stamps_after, stamps_before, active_after, begun_fault, faults_at, moment, past_of, fault_with_stamp, faults_with_stamps, IsBegin, AreRight, AreStamps, IsRight}
 use Rattle.jh_nemesis.specs.declared.records.Record.{Record}
 use Rattle.jh_nemesis.specs.declared.records.Record.TheVariants.{Begun, Withdrawn, WithdrawnAll}
 use Rattle.jh_nemesis.specs.Steps.{max_active}
@@ -26,29 +27,29 @@ SameBelow n old new = (k : ℕ) → k < n → record_at new k ≡ record_at old 
 
 pub same_active : (n : ℕ) (old new : List Record) → SameBelow n old new → active_after new n ≡ active_after old n
 same_active zero old new same = refl
-same_active (suc n) old new same = ap₂ (played n) (same n (omega arith)) (same_active n old new (λ k below. same k (omega arith)))
+same_active (suc n) old new same = ap₂ (stamps_after n) (same n (omega arith)) (same_active n old new (λ k below. same k (omega arith)))
 
 pub same_faults : (n : ℕ) (old new : List Record) (stamps : List ℕ) → SameBelow n old new → All (λ k. k < n) stamps
     → faults_at new stamps ≡ faults_at old stamps
 same_faults n old new [] same below = refl
 same_faults n old new (k ∷ ks) same below =
-    ap₂ (λ fault faults. fault ∷ faults) (ap fault_of (same k (All-head (λ k. k < n) k ks below)))
+    ap₂ (λ fault faults. fault ∷ faults) (ap begun_fault (same k (All-head (λ k. k < n) k ks below)))
     (same_faults n old new ks same (All-tail (λ k. k < n) k ks below))
 
 pub same_stamped : (n : ℕ) (old new : List Record) (stamps : List ℕ) → SameBelow n old new → All (λ k. k < n) stamps
-    → stamped_at new stamps ≡ stamped_at old stamps
+    → faults_with_stamps new stamps ≡ faults_with_stamps old stamps
 same_stamped n old new [] same below = refl
 same_stamped n old new (k ∷ ks) same below =
-    let here : stamped new k ≡ stamped old k = ap (λ (step : Record). (k, (fault_of step).1)) (same k (All-head (λ k. k < n) k ks below)) in
+    let here : fault_with_stamp new k ≡ fault_with_stamp old k = ap (λ (step : Record). (k, (begun_fault step).1)) (same k (All-head (λ k. k < n) k ks below)) in
     ap₂ (λ first rest. first ∷ rest) here (same_stamped n old new ks same (All-tail (λ k. k < n) k ks below))
 
 -- without their stamps they are the faults
-pub stamped_faults : (records : List Record) (stamps : List ℕ) → faults_of (stamped_at records stamps) ≡ faults_in (faults_at records stamps)
+pub stamped_faults : (records : List Record) (stamps : List ℕ) → faults_of (faults_with_stamps records stamps) ≡ faults_in (faults_at records stamps)
 stamped_faults records [] = refl
-stamped_faults records (k ∷ ks) = ap (λ (faults : List FaultValue). (fault_of (record_at records k)).1 ∷ faults) (stamped_faults records ks)
+stamped_faults records (k ∷ ks) = ap (λ (faults : List FaultValue). (begun_fault (record_at records k)).1 ∷ faults) (stamped_faults records ks)
 
 -- each stamp is the index of a step before
-played_below : (n : ℕ) (step : Record) (active : List ℕ) → All (λ k. k < n) active → All (λ k. k < suc n) (played n step active)
+played_below : (n : ℕ) (step : Record) (active : List ℕ) → All (λ k. k < n) active → All (λ k. k < suc n) (stamps_after n step active)
 played_below n (Begun id fault) active below =
     All-push (λ k. k < suc n) active n (λ k d within. let less = below k d within in omega arith) (omega arith)
 played_below n (Withdrawn stamp) active below =
@@ -62,7 +63,7 @@ stamps_below records (suc n) = played_below n (record_at records n) (active_afte
 -- and that step is a begin
 played_begins : (records : List Record) (n : ℕ) (step : Record) (active : List ℕ) → record_at records n ≡ step
     → All (λ k. IsBegin (record_at records k)) active
-    → All (λ k. IsBegin (record_at records k)) (played n step active)
+    → All (λ k. IsBegin (record_at records k)) (stamps_after n step active)
 played_begins records n (Begun id fault) active at begins =
     All-push (λ k. IsBegin (record_at records k)) active n begins (subst IsBegin (sym at) tt)
 played_begins records n (Withdrawn stamp) active at begins =
@@ -108,7 +109,7 @@ length-past records (suc n) = ap suc (length-past records n)
 
 played_few : (nodes n : ℕ) (records : List Record) (step : Record) → IsRight nodes records n step
     → length (active_after records n) ≤ max_active
-    → length (played n step (active_after records n)) ≤ max_active
+    → length (stamps_after n step (active_after records n)) ≤ max_active
 played_few nodes n records (Begun id fault) right few =
     let room = right.1 in omega (arith, length-append (active_after records n) (n ∷ []))
 played_few nodes n records (Withdrawn stamp) right few =
@@ -122,13 +123,13 @@ few_after nodes records right (suc n) within =
     played_few nodes n records (record_at records n) (right n (omega arith)) (few_after nodes records right n (omega arith))
 
 begin_fits : (nodes n : ℕ) (records : List Record) (step : Record) → IsBegin step → IsRight nodes records n step
-    → FitsCount nodes (fault_of step).1
+    → FitsCount nodes (begun_fault step).1
 begin_fits nodes n records (Begun id fault) begins right = right.0
 begin_fits nodes n records (Withdrawn stamp) begins right = absurd begins
 begin_fits nodes n records (WithdrawnAll stamps) begins right = absurd begins
 
 pub fit_after : (nodes : ℕ) (records : List Record) → AreRight nodes records → (n : ℕ) → n ≤ length records
-    → All (λ k. FitsCount nodes (fault_of (record_at records k)).1) (active_after records n)
+    → All (λ k. FitsCount nodes (begun_fault (record_at records k)).1) (active_after records n)
 fit_after nodes records right n within k d inside =
     let stamp = get_or (active_after records n) k d in
     let here = are_stamps records n within k d inside in
@@ -143,35 +144,35 @@ not_begin (WithdrawnAll stamps) begins other = begins
 -- the fault of the stamp that stands at i
 pub fault_read : (records : List Record) (stamps : List ℕ) (i stamp : ℕ) (step : Record) → i < length stamps
     → stamp ≡ get_or stamps i stamp → stamp < length records → step ≡ get_or records stamp step
-    → Some (fault_of step) ≡ slice_get (faults_at records stamps) i
+    → Some (begun_fault step) ≡ slice_get (faults_at records stamps) i
 fault_read records stamps i stamp step below at known is =
     let here : slice_get stamps i ≡ Some stamp = slice_get_read stamps (length stamps) i stamp refl below at in
     let value : record_at records stamp ≡ step = get_or_default records stamp (Withdrawn 0) step known ∙ sym is in
-    rw (slice_get-map (λ k. fault_of (record_at records k)) stamps i, here, value) refl
+    rw (slice_get-map (λ k. begun_fault (record_at records k)) stamps i, here, value) refl
 
 -- one fault was begun before the other, under another id
 pub record Apart (records : List Record) (a b : ℕ) : Type 0 where
   pub less : a < b
-  pub ids : (fault_of (record_at records a)).0 ≢ (fault_of (record_at records b)).0
+  pub ids : (begun_fault (record_at records a)).0 ≢ (begun_fault (record_at records b)).0
 
 id_apart : (records : List Record) (active : List ℕ) (id : ℕ) → is_active (faults_at records active) id ≡ false → (k d : ℕ)
     → k < length active
-    → (fault_of (record_at records (get_or active k d))).0 ≢ id
+    → (begun_fault (record_at records (get_or active k d))).0 ≢ id
 id_apart records active id free k d within same =
-    let at = get_or-map (λ k. fault_of (record_at records k)) active k d (fault_of (record_at records 0)) within in
-    let inside : k < length (faults_at records active) = rw (length-map active (λ k. fault_of (record_at records k))) within in
+    let at = get_or-map (λ k. begun_fault (record_at records k)) active k d (begun_fault (record_at records 0)) within in
+    let inside : k < length (faults_at records active) = rw (length-map active (λ k. begun_fault (record_at records k))) within in
     let taken : is_active (faults_at records active) id ≡ true =
-    list_any_at (has_id id) (faults_at records active) k (fault_of (record_at records 0)) inside
-    (rw at (eq-eqb (fault_of (record_at records (get_or active k d))).0 id same)) in
+    list_any_at (has_id id) (faults_at records active) k (begun_fault (record_at records 0)) inside
+    (rw at (eq-eqb (begun_fault (record_at records (get_or active k d))).0 id same)) in
     absurd cc
 
 played_apart : (nodes n : ℕ) (records : List Record) (step : Record) → record_at records n ≡ step → IsRight nodes records n step
     → AllPairs (Apart records) (active_after records n)
-    → AllPairs (Apart records) (played n step (active_after records n))
+    → AllPairs (Apart records) (stamps_after n step (active_after records n))
 played_apart nodes n records (Begun id fault) at right apart =
     all_pairs_push (Apart records) (active_after records n) n apart (λ k d within. record {
       less = stamps_below records n k d within;
-      ids = λ same. id_apart records (active_after records n) id right.2 k d within (same ∙ ap (λ step. (fault_of step).0) at);
+      ids = λ same. id_apart records (active_after records n) id right.2 k d within (same ∙ ap (λ step. (begun_fault step).0) at);
     })
 played_apart nodes n records (Withdrawn stamp) at right apart =
     AllPairs-filter (Apart records) (λ k. not (eqb k stamp)) (active_after records n) apart
@@ -187,7 +188,7 @@ apart_after nodes records right (suc n) within =
 -- a step that is taken back leaves what was active before it
 pub back_again : (nodes n : ℕ) (records : List Record) (step : Record) → IsRight nodes records n step
     → AllPairs (Apart records) (active_after records n)
-    → played_back step (played n step (active_after records n)) ≡ active_after records n
+    → stamps_before step (stamps_after n step (active_after records n)) ≡ active_after records n
 back_again nodes n records (Begun id fault) right apart =
     let active = active_after records n in
     take_at active (n ∷ []) (length (active ++ n ∷ []) - 1) (omega (arith, length-append active (n ∷ [])))
@@ -201,19 +202,19 @@ back_again nodes n records (Withdrawn stamp) right apart =
     rw (s.is, out) (put_back s.before s.after stamp below above)
 back_again nodes n records (WithdrawnAll stamps) right apart = right
 
-others_stay : (id : ℕ) (records : List Record) (stamps : List ℕ) → All (λ k. (fault_of (record_at records k)).0 ≢ id) stamps
+others_stay : (id : ℕ) (records : List Record) (stamps : List ℕ) → All (λ k. (begun_fault (record_at records k)).0 ≢ id) stamps
     → filter (λ f. not (has_id id f)) (faults_at records stamps) ≡ faults_at records stamps
 others_stay id records stamps other =
     all_pass (λ (f : ℕ × FaultValue). not (has_id id f)) (faults_at records stamps)
-    (All-map (λ (f : ℕ × FaultValue). not (has_id id f) ≡ true) (λ k. fault_of (record_at records k)) stamps
-    (λ k d h. ap not (ne_eqb (fault_of (record_at records (get_or stamps k d))).0 id (other k d h))))
+    (All-map (λ (f : ℕ × FaultValue). not (has_id id f) ≡ true) (λ k. begun_fault (record_at records k)) stamps
+    (λ k d h. ap not (ne_eqb (begun_fault (record_at records (get_or stamps k d))).0 id (other k d h))))
 
 -- the fault of an id is the one of its stamp
 pub without_stamp : (records : List Record) (active : List ℕ) (id stamp : ℕ) → AllPairs (Apart records) active
-    → Contains active stamp → (fault_of (record_at records stamp)).0 ≡ id
-    → faults_at records (filter (λ other. not (eqb other stamp)) active) ≡ without (faults_at records active) id
+    → Contains active stamp → (begun_fault (record_at records stamp)).0 ≡ id
+    → faults_at records (filter (λ other. not (eqb other stamp)) active) ≡ active_without (faults_at records active) id
 without_stamp records active id stamp apart inside is =
-    let f : ℕ → ℕ × FaultValue = λ k. fault_of (record_at records k) in
+    let f : ℕ → ℕ × FaultValue = λ k. begun_fault (record_at records k) in
     let p : ℕ × FaultValue → Bool = λ g. not (has_id id g) in
     let s = split_at (Apart records) active stamp apart inside in
     let out =

@@ -4,15 +4,15 @@ use Rattle.std.specs.List.{Contains}
 use Rattle.std.proofs.lemmas.Bool.{eq-eqb, or_right}
 use Rattle.std.proofs.lemmas.List.{append-nil}
 use Rattle.std.proofs.lemmas.List.Elements.{Contains-append_left, Contains-append_right, filter-append}
-use Rattle.jh_env.specs.Faults.{FaultValue, size_of}
+use Rattle.jh_env.specs.Faults.{FaultValue, fault_size}
 use Rattle.jh_nemesis.specs.State.{Active, has_id, is_active}
 use Rattle.jh_nemesis.specs.Steps.{state_after}
-use Rattle.jh_nemesis.specs.Work.{only_in, size_between, size_of_all}
+use Rattle.jh_nemesis.specs.Work.{faults_only_in, size_between, size_of_all}
 use Rattle.jh_nemesis.specs.WorkLaws.{BeginWritesItsFault, RedoWritesItsUndo, RefusedWritesNothing, UndoWritesItsRedo, UndoWritesItsStep, WithdrawalWritesItsFault, WithdrawingAllWritesAll}
 use Rattle.jh_nemesis.specs.declared.steps.Step.TheVariants.{Begin, Redo, Undo, WithdrawAll}
 use Rattle.jh_nemesis.proofs.EffectLemmas.{all_alone}
 use Rattle.jh_nemesis.proofs.LawLemmas.{accepted, fresh, withdrawal_leaves}
-use Rattle.jh_nemesis.proofs.RunLemmas.{redo_back, redo_undone, undo_back}
+use Rattle.jh_nemesis.proofs.StepLemmas.{redo_back, redo_undone, undo_back}
 
 -- a fault of the list is active in it
 active_there : (f : ℕ × FaultValue) (fs : Active) → Contains fs f → is_active fs f.0 ≡ true
@@ -24,7 +24,7 @@ active_there f (g ∷ fs) (suc k, within, at) =
     or_right (has_id f.0 g) (is_active fs f.0) (active_there f fs (k, omega arith, at))
 
 -- none is alone whose ids are all in the other list
-none_alone : (fs others : Active) → ((f : ℕ × FaultValue) → Contains fs f → is_active others f.0 ≡ true) → only_in fs others ≡ []
+none_alone : (fs others : Active) → ((f : ℕ × FaultValue) → Contains fs f → is_active others f.0 ≡ true) → faults_only_in fs others ≡ []
 none_alone [] others there = refl
 none_alone (f ∷ fs) others there =
     rw (there f (zero, omega arith, refl))
@@ -36,23 +36,23 @@ same_moment now = rw (none_alone now now (λ f inside. active_there f now inside
 
 -- as much is written back as forth
 turned : (before after : Active) → size_between before after ≡ size_between after before
-turned before after = add_comm (size_of_all (only_in before after)) (size_of_all (only_in after before))
+turned before after = add_comm (size_of_all (faults_only_in before after)) (size_of_all (faults_only_in after before))
 
 -- one fault among others comes or goes
 one_more : (before after : Active) (id : ℕ) (f : FaultValue) → is_active (before ++ after) id ≡ false
-    → size_between (before ++ ((id, f) ∷ after)) (before ++ after) ≡ size_of f
+    → size_between (before ++ ((id, f) ∷ after)) (before ++ after) ≡ fault_size f
 one_more before after id f new =
     let one : ℕ × FaultValue = (id, f) in
     let with : Active = before ++ (one ∷ after) in
     let others : Active = before ++ after in
-    let first : only_in before others ≡ [] = none_alone before others (λ g inside. active_there g others (Contains-append_left before after g inside)) in
-    let last : only_in after others ≡ [] = none_alone after others (λ g inside. active_there g others (Contains-append_right before after g inside)) in
-    let apart : only_in with others ≡ only_in before others ++ only_in (one ∷ after) others = filter-append (λ (g : ℕ × FaultValue). not (is_active others g.0)) before (one ∷ after) in
-    let here : only_in (one ∷ after) others ≡ one ∷ only_in after others = rw new refl in
-    let gone : only_in with others ≡ one ∷ [] = apart ∙ rw (first, here, last) refl in
-    let firsts : only_in before with ≡ [] = none_alone before with (λ g inside. active_there g with (Contains-append_left before (one ∷ after) g inside)) in
-    let lasts : only_in after with ≡ [] = none_alone after with (λ g inside. active_there g with (Contains-append_right before (one ∷ after) g (Contains-append_right (one ∷ []) after g inside))) in
-    let none : only_in others with ≡ [] = filter-append (λ (g : ℕ × FaultValue). not (is_active with g.0)) before after ∙ rw (firsts, lasts) refl in
+    let first : faults_only_in before others ≡ [] = none_alone before others (λ g inside. active_there g others (Contains-append_left before after g inside)) in
+    let last : faults_only_in after others ≡ [] = none_alone after others (λ g inside. active_there g others (Contains-append_right before after g inside)) in
+    let apart : faults_only_in with others ≡ faults_only_in before others ++ faults_only_in (one ∷ after) others = filter-append (λ (g : ℕ × FaultValue). not (is_active others g.0)) before (one ∷ after) in
+    let here : faults_only_in (one ∷ after) others ≡ one ∷ faults_only_in after others = rw new refl in
+    let gone : faults_only_in with others ≡ one ∷ [] = apart ∙ rw (first, here, last) refl in
+    let firsts : faults_only_in before with ≡ [] = none_alone before with (λ g inside. active_there g with (Contains-append_left before (one ∷ after) g inside)) in
+    let lasts : faults_only_in after with ≡ [] = none_alone after with (λ g inside. active_there g with (Contains-append_right before (one ∷ after) g (Contains-append_right (one ∷ []) after g inside))) in
+    let none : faults_only_in others with ≡ [] = filter-append (λ (g : ℕ × FaultValue). not (is_active with g.0)) before after ∙ rw (firsts, lasts) refl in
     rw (gone, none) (omega arith)
 
 pub refused_writes : RefusedWritesNothing
@@ -61,13 +61,13 @@ refused_writes s step refused = rw refused (same_moment s.active)
 pub begin_writes : BeginWritesItsFault
 begin_writes s id f ok =
     let one : ℕ × FaultValue = (id, f) in
-    let size : size_between (s.active ++ one ∷ []) (s.active ++ []) ≡ size_of f = one_more s.active [] id f (fresh s id ok) in
-    let last : size_between (s.active ++ one ∷ []) s.active ≡ size_of f = rw (append-nil s.active) at size in
+    let size : size_between (s.active ++ one ∷ []) (s.active ++ []) ≡ fault_size f = one_more s.active [] id f (fresh s id ok) in
+    let last : size_between (s.active ++ one ∷ []) s.active ≡ fault_size f = rw (append-nil s.active) at size in
     rw (accepted s (Begin id f) ok) (turned s.active (s.active ++ one ∷ []) ∙ last)
 
 pub withdrawal_writes : WithdrawalWritesItsFault
 withdrawal_writes s before after id f now others ok =
-    let size : size_between s.active (before ++ after) ≡ size_of f = rw now (one_more before after id f others) in
+    let size : size_between s.active (before ++ after) ≡ fault_size f = rw now (one_more before after id f others) in
     rw (withdrawal_leaves s before after id f now others ok) size
 
 pub all_written : WithdrawingAllWritesAll

@@ -1,8 +1,11 @@
--- Faults that are named by a grudge (Jepsen's page on nemeses: the partitions of `bisect`, `split-one`, `bridge` and
--- `majorities-ring`; their texts, and the rings in another order, are this project's own). Each cuts the links between all
--- nodes on which its grudge drops messages. A link is the pair of its source's place and its destination's. A new name is
--- a new case of `named_links`.
-use Rattle.std.specs.Prelude.{◌≢◌, ◌<◌, ℕ, ◌+◌, ◌-◌, ◌/◌, ◌%◌, ◌==◌, ◌&&◌, ◌||◌, Bool, false, not, pos, negsuc, List, map, length, filter, flat_map, nat_lt, slice_get, Option, Some, None, IsPermutation}
+-- Faults that are named by a grudge (Jepsen's page on nemeses: the partitions of `bisect`,
+-- `split-one`, `bridge` and `majorities-ring`; their texts, and the rings in another order, are
+-- this project's own). Each cuts the links between all nodes on which its grudge drops messages. A
+-- link is the pair of its source's place and its destination's. A new name is a new case of
+-- `named_links`.
+use Rattle.std.specs.Prelude.{◌≢◌, ◌<◌, ℕ, ◌+◌, ◌-◌, ◌/◌, ◌%◌, ◌==◌, ◌&&◌, ◌||◌, Bool, false, not}
+use Rattle.std.specs.Prelude.{pos, negsuc, List, map, length, filter, flat_map, nat_lt, slice_get}
+use Rattle.std.specs.Prelude.{Option, Some, None, IsPermutation}
 use Rattle.std.specs.List.{All, list_any, range_with_len}
 use Rattle.rand_core.specs.Pcg32Seed.{pcg32_seed}
 use Rattle.rand_core.specs.Steps.{steps_u32, stream_of}
@@ -11,12 +14,12 @@ use Rattle.rand.specs.Shuffle.{shuffled}
 use Rattle.jh_nemesis.specs.declared.texts.shapes.Named.{Named}
 
 -- the places of n nodes, in order
-abbrev pub places : ℕ → List ℕ
-places n = range_with_len 0 n
+abbrev pub node_places : ℕ → List ℕ
+node_places n = range_with_len 0 n
 
 -- all pairs of places, by the first and then by the second
 abbrev pub all_pairs : ℕ → List (ℕ × ℕ)
-all_pairs n = flat_map (λ a. map (λ b. (a, b)) (places n)) (places n)
+all_pairs n = flat_map (λ a. map (λ b. (a, b)) (node_places n)) (node_places n)
 
 -- of all links between n nodes those that are such
 abbrev pub links_that : ((ℕ × ℕ) → Bool) → ℕ → List (ℕ × ℕ)
@@ -40,22 +43,25 @@ touches loner = crosses (λ a. a == loner)
 
 -- from one side to the other of the bridge, which is the first node of the second half
 abbrev pub crosses_bridge : ℕ → (ℕ × ℕ) → Bool
-crosses_bridge n l = (nat_lt l.0 (n / 2) && nat_lt (n / 2) l.1) || (nat_lt (n / 2) l.0 && nat_lt l.1 (n / 2))
+crosses_bridge n l =
+    (nat_lt l.0 (n / 2) && nat_lt (n / 2) l.1) || (nat_lt (n / 2) l.0 && nat_lt l.1 (n / 2))
 
-abbrev pub option_is : ℕ → Option ℕ → Bool
-option_is a (Some b) = b == a
-option_is a None = false
+abbrev pub is_option_of : ℕ → Option ℕ → Bool
+is_option_of a (Some b) = b == a
+is_option_of a None = false
 
 -- this node stands at this place of an order
 abbrev pub is_at : List ℕ → ℕ → ℕ → Bool
-is_at order place node = option_is node (slice_get order place)
+is_at order place node = is_option_of node (slice_get order place)
 
--- In a ring of n nodes in this order, the source comes behind the majority that begins with the destination: k places on
--- from it, around, for a k from the majority to n - 1.
+-- In a ring of n nodes in this order, the source comes behind the majority that begins with the
+-- destination: k places on from it, around, for a k from the majority to n - 1.
 abbrev pub leaves_majority : List ℕ → (ℕ × ℕ) → Bool
 leaves_majority order l =
     (let n = length order in let majority = n / 2 + 1 in
-    list_any (λ i. is_at order i l.1 && list_any (λ k. is_at order ((i + k) % n) l.0) (range_with_len majority (n - majority))) (places n))
+    list_any (λ i. is_at order i l.1
+    && list_any (λ k. is_at order ((i + k) % n) l.0) (range_with_len majority (n - majority)))
+    (node_places n))
 
 -- the links that a ring in this order cuts
 abbrev pub ring_links : List ℕ → ℕ → List (ℕ × ℕ)
@@ -63,17 +69,19 @@ ring_links order n = links_that (leaves_majority order) n
 
 -- the order that a seed gives: the places, shuffled by the generator that is seeded with it
 abbrev pub seeded_order : ℕ → ℕ → List ℕ
-seeded_order seed n = (shuffled (places n) 0 (stream_of (steps_u32 pcg32) (pcg32_of_seed (pcg32_seed 16 seed)))).0
+seeded_order seed n =
+    (shuffled (node_places n) 0
+    (stream_of (steps_u32 pcg32) (pcg32_of_seed (pcg32_seed 16 seed)))).0
 
 -- a ring in the order that a seed gives is laid over all n nodes, each once
 abbrev pub IsOverAll : ℕ → Named → Type 0
-IsOverAll n (Named.ShuffledRing (pos seed)) = IsPermutation (places n) (seeded_order seed n)
+IsOverAll n (Named.ShuffledRing (pos seed)) = IsPermutation (node_places n) (seeded_order seed n)
 IsOverAll n _ = Unit {0}
 
 -- the links that a named fault cuts between n nodes; a seed below zero is none
 abbrev pub named_links : Named → ℕ → Option (List (ℕ × ℕ))
 named_links Named.Halves n = Some (links_that (crosses_halves n) n)
 named_links Named.Bridge n = Some (links_that (crosses_bridge n) n)
-named_links Named.Ring n = Some (ring_links (places n) n)
+named_links Named.Ring n = Some (ring_links (node_places n) n)
 named_links (Named.ShuffledRing (pos seed)) n = Some (ring_links (seeded_order seed n) n)
 named_links (Named.ShuffledRing (negsuc z)) n = None

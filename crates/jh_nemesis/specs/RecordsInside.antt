@@ -1,6 +1,8 @@
--- The steps that a nemesis keeps, the active faults that they make, and what holds of them, of the cursor
--- among them and of the active stamps (this project's own). The stamp of a fault is the index of its begin in the list of steps.
-use Rattle.std.specs.Prelude.{ℕ, suc, zero, ◌==◌, List, [], ◌∷◌, ◌++◌, ◌-◌, filter, insert, length, map, nat_lt, not, slice_index_or, take, ◌≡◌, ◌≤◌, ◌<◌, false}
+-- The steps that a nemesis keeps, the active faults that they make, and what holds of them, of the
+-- cursor among them and of the active stamps (this project's own). The stamp of a fault is the
+-- index of its begin in the list of steps.
+use Rattle.std.specs.Prelude.{ℕ, suc, zero, ◌==◌, List, [], ◌∷◌, ◌++◌, ◌-◌, filter, insert, length}
+use Rattle.std.specs.Prelude.{map, nat_lt, not, slice_index_or, take, ◌≡◌, ◌≤◌, ◌<◌, false}
 use Rattle.std.specs.List.{position_or_len, All, Contains}
 use Rattle.jh_env.specs.Faults.{FaultValue, Cut, FitsCount}
 use Rattle.jh_nemesis.specs.State.{Active, is_active}
@@ -14,39 +16,39 @@ abbrev pub record_at : List Record → ℕ → Record
 record_at records index = slice_index_or records index (Withdrawn 0)
 
 -- the active stamps after the step at this index, where these were active before it
-abbrev pub played : ℕ → Record → List ℕ → List ℕ
-played index (Begun id fault) active = active ++ index ∷ []
-played index (Withdrawn stamp) active = filter (λ other. not (other == stamp)) active
-played index (WithdrawnAll stamps) active = []
+abbrev pub stamps_after : ℕ → Record → List ℕ → List ℕ
+stamps_after index (Begun id fault) active = active ++ index ∷ []
+stamps_after index (Withdrawn stamp) active = filter (λ other. not (other == stamp)) active
+stamps_after index (WithdrawnAll stamps) active = []
 
 -- the active stamps before a step, where these are active after it
-abbrev pub played_back : Record → List ℕ → List ℕ
-played_back (Begun id fault) active = take (length active - 1) active
-played_back (Withdrawn stamp) active = insert active (position_or_len (nat_lt stamp) active) stamp
-played_back (WithdrawnAll stamps) active = stamps.items
+abbrev pub stamps_before : Record → List ℕ → List ℕ
+stamps_before (Begun id fault) active = take (length active - 1) active
+stamps_before (Withdrawn stamp) active = insert active (position_or_len (nat_lt stamp) active) stamp
+stamps_before (WithdrawnAll stamps) active = stamps.items
 
 -- the active stamps after so many steps
 abbrev pub active_after : List Record → ℕ → List ℕ
 active_after records zero = []
-active_after records (suc n) = played n (record_at records n) (active_after records n)
+active_after records (suc n) = stamps_after n (record_at records n) (active_after records n)
 
 -- the fault that a begin holds, with its id
-abbrev pub fault_of : Record → ℕ × FaultValue
-fault_of (Begun id fault) = (id, fault)
-fault_of (Withdrawn stamp) = (0, Cut [])
-fault_of (WithdrawnAll stamps) = (0, Cut [])
+abbrev pub begun_fault : Record → ℕ × FaultValue
+begun_fault (Begun id fault) = (id, fault)
+begun_fault (Withdrawn stamp) = (0, Cut [])
+begun_fault (WithdrawnAll stamps) = (0, Cut [])
 
 -- the faults of these stamps
 abbrev pub faults_at : List Record → List ℕ → Active
-faults_at records stamps = map (λ stamp. fault_of (record_at records stamp)) stamps
+faults_at records stamps = map (λ stamp. begun_fault (record_at records stamp)) stamps
 
 -- the fault of a stamp, with it
-abbrev pub stamped : List Record → ℕ → ℕ × FaultValue
-stamped records stamp = (stamp, (fault_of (record_at records stamp)).1)
+abbrev pub fault_with_stamp : List Record → ℕ → ℕ × FaultValue
+fault_with_stamp records stamp = (stamp, (begun_fault (record_at records stamp)).1)
 
 -- the faults of these stamps, with them
-abbrev pub stamped_at : List Record → List ℕ → List (ℕ × FaultValue)
-stamped_at records stamps = map (stamped records) stamps
+abbrev pub faults_with_stamps : List Record → List ℕ → List (ℕ × FaultValue)
+faults_with_stamps records stamps = map (fault_with_stamp records) stamps
 
 -- the active faults after so many steps
 abbrev pub moment : List Record → ℕ → Active
@@ -86,7 +88,8 @@ IsRight nodes records n (WithdrawnAll stamps) = stamps.items ≡ active_after re
 
 -- each of the steps could be taken
 abbrev pub AreRight : ℕ → List Record → Type 0
-AreRight nodes records = (n : ℕ) → n < length records → IsRight nodes records n (record_at records n)
+AreRight nodes records =
+    (n : ℕ) → n < length records → IsRight nodes records n (record_at records n)
 
 -- each step could be taken, the stamps are those that the steps before the cursor make active, and
 -- the environment is what their faults make of its start
@@ -97,4 +100,4 @@ pub record IsTrueTo (env : EnvValue) (records : List Record) (cursor : ℕ) (act
   pub right : (n : ℕ) → n < length records
       → IsRight (length env.names) records n (record_at records n)
   pub now : active ≡ active_after records cursor
-  pub stands : StandsWith env (stamped_at records active)
+  pub stands : StandsWith env (faults_with_stamps records active)

@@ -1,5 +1,6 @@
--- What a nemesis is at a moment (this project's own; Jepsen's pages on nemeses call its faults begun and withdrawn).
-use Rattle.std.specs.Prelude.{ℕ, ◌==◌, Bool, true, false, List, [], ◌∷◌, map}
+-- What a nemesis is at a moment (this project's own; Jepsen's pages on nemeses call its faults
+-- begun and withdrawn).
+use Rattle.std.specs.Prelude.{ℕ, ◌==◌, Bool, List, [], ◌∷◌, map}
 use Rattle.std.specs.List.{list_any}
 use Rattle.jh_env.specs.Cells.{Table}
 use Rattle.jh_env.specs.Faults.{FaultValue}
@@ -9,7 +10,8 @@ use Rattle.jh_env.specs.Overlay.{EnvValue}
 abbrev pub Active : Type 0
 Active = List (ℕ × FaultValue)
 
--- the names and starting cells of the environment, and the active lists: those of the past, the one now, and those undone, the latest first
+-- the names and starting cells of the environment, and the active lists: those of the past, the one
+-- now, and those undone, the latest first
 pub record State : Type 0 where
   pub names : List (List ℕ)
   pub start : Table
@@ -19,7 +21,8 @@ pub record State : Type 0 where
 
 -- over an environment at its start
 abbrev pub first_state : EnvValue → State
-first_state env = record { names = env.names; start = env.start; past = []; active = []; future = [] }
+first_state env =
+    record { names = env.names; start = env.start; past = []; active = []; future = [] }
 
 -- the fault stands under this id
 abbrev pub has_id : ℕ → (ℕ × FaultValue) → Bool
@@ -37,17 +40,14 @@ faults_in active = map (λ f. f.1) active
 abbrev pub next_state : State → Active → State
 next_state s next = record s { past = s.active ∷ s.past; active = next; future = [] }
 
--- nothing is in the list
-abbrev pub is_empty : {A : Type 0} → List A → Bool
-is_empty [] = true
-is_empty (x ∷ xs) = false
-
 -- back to the last moment of these before: what was now is the first that is undone
-abbrev pub back_to : State → List Active → State
-back_to s [] = s
-back_to s (moment ∷ before) = record s { past = before; active = moment; future = s.active ∷ s.future }
+abbrev pub state_back_to : State → List Active → State
+state_back_to s [] = s
+state_back_to s (moment ∷ before) =
+    record s { past = before; active = moment; future = s.active ∷ s.future }
 
 -- forth to the first moment of these that are undone: what was now is the last of the past
-abbrev pub forth_to : State → List Active → State
-forth_to s [] = s
-forth_to s (moment ∷ after) = record s { past = s.active ∷ s.past; active = moment; future = after }
+abbrev pub state_forth_to : State → List Active → State
+state_forth_to s [] = s
+state_forth_to s (moment ∷ after) =
+    record s { past = s.active ∷ s.past; active = moment; future = after }

@@ -1,11 +1,18 @@
 -- The steps of a nemesis (this project's own): the answer to a step and the state that it leaves.
-use Rattle.std.specs.Prelude.{◌≡◌, ◌⊎◌, ℕ, Bool, true, false, List, [], ◌∷◌, ◌++◌, length, filter, not, nat_le, if◌then◌else◌}
+use Rattle.std.specs.Prelude.{◌≡◌, ◌⊎◌, ℕ, Bool, true, false, List, [], ◌∷◌, ◌++◌, length, filter}
+use Rattle.jh_edn.specs.Edn.{is_empty}
+use Rattle.std.specs.Prelude.{not, nat_le, if◌then◌else◌}
 use Rattle.jh_env.specs.Faults.{FitsCount}
-use Rattle.jh_nemesis.specs.State.{State, Active, has_id, is_active, is_empty, next_state, back_to, forth_to}
+use Rattle.jh_nemesis.specs.State.{State, Active, has_id, is_active, next_state}
+use Rattle.jh_nemesis.specs.State.{state_back_to, state_forth_to}
 use Rattle.jh_nemesis.specs.declared.steps.Step.{Step}
-use Rattle.jh_nemesis.specs.declared.steps.Step.TheVariants.{Begin, Withdraw, WithdrawAll, Undo, Redo}
+use Rattle.jh_nemesis.specs.declared.steps.Step.TheVariants.{Begin, Withdraw, WithdrawAll, Undo}
+use Rattle.jh_nemesis.specs.declared.steps.Step.TheVariants.{Redo}
 use Rattle.jh_nemesis.specs.declared.steps.StepAnswer.{StepAnswer}
-use Rattle.jh_nemesis.specs.declared.steps.StepAnswer.TheVariants.{Ok, IdTaken, TooManyActive, TooManySteps, NotActive, NothingActive, NothingToUndo, NothingToRedo}
+use Rattle.jh_nemesis.specs.declared.steps.StepAnswer.TheVariants.{Ok, IdTaken, TooManyActive}
+use Rattle.jh_nemesis.specs.declared.steps.StepAnswer.TheVariants.{TooManySteps, NotActive}
+use Rattle.jh_nemesis.specs.declared.steps.StepAnswer.TheVariants.{NothingActive, NothingToUndo}
+use Rattle.jh_nemesis.specs.declared.steps.StepAnswer.TheVariants.{NothingToRedo}
 use Rattle.jh_nemesis.specs.declared.steps.BeginError.TheVariants as BeginError
 use Rattle.jh_nemesis.specs.declared.steps.WithdrawError.TheVariants as WithdrawError
 use Rattle.jh_nemesis.specs.declared.steps.WithdrawAllError.TheVariants as WithdrawAllError
@@ -40,7 +47,8 @@ withdraw_all_answer s =
     else if nat_le max_steps (length s.past) then TooManySteps
     else Ok
 
--- the answer to a step; a step back or forth needs no room, for it was made when its step was accepted
+-- the answer to a step; a step back or forth needs no room, for it was made when its step was
+-- accepted
 abbrev pub answer_of : State → Step → StepAnswer
 answer_of s (Begin id f) = begin_answer s id
 answer_of s (Withdraw id) = withdraw_answer s id
@@ -49,16 +57,17 @@ answer_of s Undo = if is_empty s.past then NothingToUndo else Ok
 answer_of s Redo = if is_empty s.future then NothingToRedo else Ok
 
 -- the active faults but the one of this id
-abbrev pub without : Active → ℕ → Active
-without active id = filter (λ f. not (has_id id f)) active
+abbrev pub active_without : Active → ℕ → Active
+active_without active id = filter (λ f. not (has_id id f)) active
 
--- the state after an accepted step: a fault that is begun stands last, one that is withdrawn is gone
-abbrev pub moved : State → Step → State
-moved s (Begin id f) = next_state s (s.active ++ (id, f) ∷ [])
-moved s (Withdraw id) = next_state s (without s.active id)
-moved s WithdrawAll = next_state s []
-moved s Undo = back_to s s.past
-moved s Redo = forth_to s s.future
+-- the state after an accepted step: a fault that is begun stands last, one that is withdrawn is
+-- gone
+abbrev pub moved_state : State → Step → State
+moved_state s (Begin id f) = next_state s (s.active ++ (id, f) ∷ [])
+moved_state s (Withdraw id) = next_state s (active_without s.active id)
+moved_state s WithdrawAll = next_state s []
+moved_state s Undo = state_back_to s s.past
+moved_state s Redo = state_forth_to s s.future
 
 -- the step is accepted
 abbrev pub is_ok : StepAnswer → Bool
@@ -73,7 +82,7 @@ is_ok NothingToRedo = false
 
 -- the state after a step: a refused one changes nothing
 abbrev pub state_after : State → Step → State
-state_after s step = if is_ok (answer_of s step) then moved s step else s
+state_after s step = if is_ok (answer_of s step) then moved_state s step else s
 
 -- the nodes that the fault of the step names are among so many
 abbrev pub FitsNodes : ℕ → Step → Type 0
@@ -109,14 +118,16 @@ state_after_all s (step ∷ steps) = state_after_all (state_after s step) steps
 abbrev pub NeedsMemory : State → Step → Type 0
 NeedsMemory s step = (answer_of s step ≡ Ok) × (is_free step ≡ false)
 
--- Memory was refused: the steps before one were taken, with these answers, and left this state. It was refused to that step, or
--- to the room for all answers before any step was taken.
+-- Memory was refused: the steps before one were taken, with these answers, and left this state. It
+-- was refused to that step, or to the room for all answers before any step was taken.
 abbrev pub TakesFirst : State → List Step → List StepAnswer → State → Type 0
 TakesFirst s steps answers after =
     (taken : List Step) × (next : Step) × (rest : List Step) × (steps ≡ taken ++ (next ∷ rest))
-    × (answers ≡ answers_of s taken) × (after ≡ state_after_all s taken) × ((taken ≡ []) ⊎ NeedsMemory after next)
+    × (answers ≡ answers_of s taken) × (after ≡ state_after_all s taken)
+    × ((taken ≡ []) ⊎ NeedsMemory after next)
 
--- why a fault is not begun: what the step is answered, or memory was refused where it would be accepted
+-- why a fault is not begun: what the step is answered, or memory was refused where it would be
+-- accepted
 abbrev pub RefusesBegin : State → ℕ → BeginError.the_data → Type 0
 RefusesBegin s id BeginError.IdTaken = begin_answer s id ≡ IdTaken
 RefusesBegin s id BeginError.TooManyActive = begin_answer s id ≡ TooManyActive

@@ -1,7 +1,7 @@
 -- How much is written by the steps of a nemesis (this project's own).
 use Rattle.std.specs.Prelude.{ℕ, ◌+◌, List, [], ◌∷◌, filter, not}
 use Rattle.std.specs.List.{sum_by}
-use Rattle.jh_env.specs.Faults.{size_of}
+use Rattle.jh_env.specs.Faults.{fault_size}
 use Rattle.jh_nemesis.specs.State.{State, Active, is_active}
 use Rattle.jh_nemesis.specs.Steps.{state_after}
 use Rattle.jh_nemesis.specs.declared.steps.Step.{Step}
@@ -13,15 +13,17 @@ pub record NemesisValue : Type 0 where
 
 -- the most cells and entries that these faults may take
 abbrev pub size_of_all : Active → ℕ
-size_of_all active = sum_by (λ f. size_of f.1) active
+size_of_all active = sum_by (λ f. fault_size f.1) active
 
 -- the faults of the one list whose ids the other has not
-abbrev pub only_in : Active → Active → Active
-only_in active other = filter (λ f. not (is_active other f.0)) active
+abbrev pub faults_only_in : Active → Active → Active
+faults_only_in active other = filter (λ f. not (is_active other f.0)) active
 
--- the most that may be written between two moments: what the faults take that are active at one of them alone
+-- the most that may be written between two moments: what the faults take that are active at one of
+-- them alone
 abbrev pub size_between : Active → Active → ℕ
-size_between before after = size_of_all (only_in before after) + size_of_all (only_in after before)
+size_between before after =
+    size_of_all (faults_only_in before after) + size_of_all (faults_only_in after before)
 
 -- the most that a step may write
 abbrev pub size_of_step : State → Step → ℕ

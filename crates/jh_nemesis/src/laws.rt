@@ -1,5 +1,5 @@
-//! Laws of the steps, each a function that does nothing and whose contract is the law. `specs/Laws.antt` states
-//! them, and `specs/WorkLaws.antt` those of what is written.
+//! Laws of the steps, each a function that does nothing and whose contract is the law.
+//! `specs/Laws.antt` states them, and `specs/WorkLaws.antt` those of what is written.
 
 ghost use Rattle.std.specs.Prelude.{◌≡◌};
 ghost use Rattle.jh_nemesis.specs.Steps.{max_active, max_steps};
@@ -47,20 +47,20 @@ pub fn refused_stays()
     ensures { RefusedStays }
 {}
 
-/// For every list of steps: the environment of a nemesis (`Nemesis::env`) is what the active faults make of the
-/// environment in which it was begun.
+/// For every list of steps: the environment of a nemesis (`Nemesis::env`) is what the active faults
+/// make of the environment in which it was begun.
 pub fn environment_is_overlay()
     ensures { EnvironmentIsOverlay }
 {}
 
-/// An undo after an accepted begin or withdrawal gives back the active faults, in their order, over the same start, and
-/// so the environment.
+/// An undo after an accepted begin or withdrawal gives back the active faults, in their order, over
+/// the same start, and so the environment.
 pub fn undo_restores()
     ensures { UndoRestores }
 {}
 
-/// A redo after an undo gives back what the undo took, and an undo after a redo what the redo took; so do as many redos
-/// after undos.
+/// A redo after an undo gives back what the undo took, and an undo after a redo what the redo took;
+/// so do as many redos after undos.
 pub fn redo_restores()
     ensures redo { RedoRestores }
     ensures undo { UndoTakesRedoBack }
@@ -72,7 +72,8 @@ pub fn change_ends_future()
     ensures { ChangeEndsFuture }
 {}
 
-/// A withdrawal leaves the other faults, in their order, and the environment that these alone make of the start.
+/// A withdrawal leaves the other faults, in their order, and the environment that these alone make
+/// of the start.
 pub fn withdrawal_leaves_others()
     ensures faults { WithdrawalLeavesOthers }
     ensures environment { OthersAloneMake }
@@ -98,9 +99,9 @@ pub fn cuts_of_start_stay()
     ensures { CutsOfStartStay }
 {}
 
-/// The most that a step writes (`Nemesis::apply`) is what its own faults take, whatever else is active: a begin or a
-/// withdrawal what its fault takes, a withdrawal of all the sum, an undo what its step takes, a redo what its undo takes, and a
-/// refused step nothing.
+/// The most that a step writes (`Nemesis::apply`) is what its own faults take, whatever else is
+/// active: a begin or a withdrawal what its fault takes, a withdrawal of all the sum, an undo what
+/// its step takes, a redo what its undo takes, and a refused step nothing.
 pub fn steps_write_their_faults()
     ensures refused { RefusedWritesNothing }
     ensures begin { BeginWritesItsFault }
@@ -111,9 +112,10 @@ pub fn steps_write_their_faults()
     ensures back { UndoWritesItsRedo }
 {}
 
-/// A named fault cuts the links of its grudge: `[:halves]` those of the complete grudge of the two halves of all nodes,
-/// `[:split-one NODE]` those of the complete grudge of the node and the rest, `[:bridge]` those of the bridge, and a ring, in
-/// whatever order of all nodes, those of the majorities ring in that order.
+/// A named fault cuts the links of its grudge: `[:halves]` those of the complete grudge of the two
+/// halves of all nodes, `[:split-one NODE]` those of the complete grudge of the node and the rest,
+/// `[:bridge]` those of the bridge, and a ring, in whatever order of all nodes, those of the
+/// majorities ring in that order.
 pub fn named_faults_are_grudges()
     ensures halves { HalvesAreComplete }
     ensures split { SplitIsComplete }

@@ -1,5 +1,5 @@
-//! Faults that are begun and withdrawn over an environment, with undo and redo. Whatever the steps were, the environment is what
-//! the faults that are active make of its start.
+//! Faults that are begun and withdrawn over an environment, with undo and redo. Whatever the steps
+//! were, the environment is what the faults that are active make of its start.
 #![tactic(auto)]
 
 mod effects;

@@ -1,13 +1,17 @@
-//! A nemesis: faults that are begun and withdrawn over an environment, and steps back and forth. `specs/Steps.antt`
-//! says what a step does, `specs/Work.antt` how much it may write, `specs/RecordsInside.antt` what the steps that are kept
-//! make active, and what holds between the fields.
+//! A nemesis: faults that are begun and withdrawn over an environment, and steps back and forth.
+//! `specs/Steps.antt` says what a step does, `specs/Work.antt` how much it may write,
+//! `specs/RecordsInside.antt` what the steps that are kept make active, and what holds between the
+//! fields.
 
-ghost use Rattle.std.specs.Prelude.{◌≡◌, ◌+◌, ◌≤◌, ◌<◌, ◌↔◌, [], true, false, length, nat_le, option_map, slice_get, MatchResult, OnErr, OnOk, IfOk, IsOk, IsErr};
+ghost use Rattle.std.specs.Prelude.{◌≡◌, ◌+◌, ◌≤◌, ◌<◌, ◌↔◌, [], true, false, length, nat_le};
+ghost use Rattle.jh_edn.specs.Edn.{is_empty};
+ghost use Rattle.std.specs.Prelude.{option_map, slice_get, MatchResult, OnErr, OnOk, IfOk, IsOk};
+ghost use Rattle.std.specs.Prelude.{IsErr};
 ghost use Rattle.std.specs.List.{All};
-ghost use Rattle.jh_env.specs.Overlay.{StandsFor, SamePlace, work_of};
+ghost use Rattle.jh_env.specs.Overlay.{StandsFor, work_of};
 ghost use Rattle.jh_env.specs.Faults.{FitsCount};
-ghost use Rattle.jh_nemesis.specs.State.{faults_in, first_state, is_empty, back_to, forth_to};
-ghost use Rattle.jh_nemesis.specs.RecordsInside.{faults_at, fault_of, record_at, AreStamps};
+ghost use Rattle.jh_nemesis.specs.State.{faults_in, first_state, state_back_to};
+ghost use Rattle.jh_nemesis.specs.State.{state_forth_to};
 ghost use Rattle.jh_nemesis.specs.Work.{size_between, size_of_step, size_of_steps};
 
 use crate::effects::{step_back, step_forth};
@@ -20,9 +24,9 @@ use jh_env::{Env, Fault};
 use std::alloc::{AllocError, Global};
 use std::marker::Model;
 
-/// Faults over an environment, each begun under an id and active until it is withdrawn. A contract sees the
-/// names, the starting cells, the active faults now and at the moments before and after, and how often the
-/// environment was written.
+/// Faults over an environment, each begun under an id and active until it is withdrawn. A contract
+/// sees the names, the starting cells, the active faults now and at the moments before and after,
+/// and how often the environment was written.
 #[derive(Debug, Drop)]
 pub struct Nemesis {
     alloc: Global,
@@ -63,7 +67,8 @@ impl Nemesis {
       RefusesWithdraw,
       RefusesWithdrawAll,
     };
-    ghost use Rattle.jh_nemesis.specs.declared.steps.Step.TheVariants.{Begin, Withdraw, WithdrawAll, Undo, Redo};
+    ghost use Rattle.jh_nemesis.specs.declared.steps.Step.TheVariants.{Begin, Withdraw};
+    ghost use Rattle.jh_nemesis.specs.declared.steps.Step.TheVariants.{WithdrawAll, Undo, Redo};
 
     /// A nemesis over an environment in which no fault is laid.
     pub fn new(alloc: Global, env: Env) -> Nemesis
@@ -109,14 +114,14 @@ impl Nemesis {
         }
     }
 
-    // Whether so many steps lie in the past that none can follow.
+    /// Whether so many steps lie in the past that none can follow.
     fn is_full(&self) -> bool
         ensures { result ≡ nat_le max_steps (length self.now.state.past) }
     {
         self.cursor >= MAX_STEPS
     }
 
-    // The answer to a begin, if there is memory.
+    /// The answer to a begin, if there is memory.
     fn check_begin(&self, id: u32) -> StepAnswer
         ensures { result ≡ begin_answer self.now.state id }
     {
@@ -132,13 +137,18 @@ impl Nemesis {
         StepAnswer::Ok
     }
 
-    // An accepted step is put at the cursor, as though it had been undone, and then taken as a redo takes it.
+    /// An accepted step is put at the cursor, as though it had been undone, and then taken as a
+    /// redo takes it.
     fn begin_step(&mut self, id: u32, fault: Fault) -> Result<StepAnswer, AllocError>
         requires { FitsCount (length self.old.state.names) fault }
-        ensures ok { IfOk result (λ answer. (answer ≡ begin_answer self.old.state id) × (self.new.state ≡ state_after self.old.state (Begin id fault))) }
+        ensures ok { IfOk result
+            (λ answer. (answer ≡ begin_answer self.old.state id)
+            × (self.new.state ≡ state_after self.old.state (Begin id fault))) }
         ensures refused { IfOk result (λ answer. is_ok answer ≡ false → self.new ≡ self.old) }
-        ensures err { OnErr result ((begin_answer self.old.state id ≡ StepAnswer.Ok) × (self.new ≡ self.old)) }
-        ensures work { self.new.work ≤ self.old.work + size_of_step self.old.state (Begin id fault) }
+        ensures err { OnErr result
+            ((begin_answer self.old.state id ≡ StepAnswer.Ok) × (self.new ≡ self.old)) }
+        ensures work { self.new.work
+            ≤ self.old.work + size_of_step self.old.state (Begin id fault) }
     {
         let answer = self.check_begin(id);
         if answer != StepAnswer::Ok {
@@ -149,10 +159,14 @@ impl Nemesis {
         Ok(StepAnswer::Ok)
     }
 
+    /// Withdraws the active fault of an id, and answers the step.
     fn withdraw_step(&mut self, id: u32) -> Result<StepAnswer, AllocError>
-        ensures ok { IfOk result (λ answer. (answer ≡ withdraw_answer self.old.state id) × (self.new.state ≡ state_after self.old.state (Withdraw id))) }
+        ensures ok { IfOk result
+            (λ answer. (answer ≡ withdraw_answer self.old.state id)
+            × (self.new.state ≡ state_after self.old.state (Withdraw id))) }
         ensures refused { IfOk result (λ answer. is_ok answer ≡ false → self.new ≡ self.old) }
-        ensures err { OnErr result ((withdraw_answer self.old.state id ≡ StepAnswer.Ok) × (self.new ≡ self.old)) }
+        ensures err { OnErr result
+            ((withdraw_answer self.old.state id ≡ StepAnswer.Ok) × (self.new ≡ self.old)) }
         ensures work { self.new.work ≤ self.old.work + size_of_step self.old.state (Withdraw id) }
     {
         let Some(stamp) = stamp_of(&self.records, &self.active, id) else {
@@ -166,7 +180,7 @@ impl Nemesis {
         Ok(StepAnswer::Ok)
     }
 
-    // The answer to a withdrawal of all faults, if there is memory.
+    /// The answer to a withdrawal of all faults, if there is memory.
     fn check_withdraw_all(&self) -> StepAnswer
         ensures { result ≡ withdraw_all_answer self.now.state }
     {
@@ -179,10 +193,14 @@ impl Nemesis {
         StepAnswer::Ok
     }
 
+    /// Withdraws all active faults, and answers the step.
     fn withdraw_all_step(&mut self) -> Result<StepAnswer, AllocError>
-        ensures ok { IfOk result (λ answer. (answer ≡ withdraw_all_answer self.old.state) × (self.new.state ≡ state_after self.old.state WithdrawAll)) }
+        ensures ok { IfOk result
+            (λ answer. (answer ≡ withdraw_all_answer self.old.state)
+            × (self.new.state ≡ state_after self.old.state WithdrawAll)) }
         ensures refused { IfOk result (λ answer. is_ok answer ≡ false → self.new ≡ self.old) }
-        ensures err { OnErr result ((withdraw_all_answer self.old.state ≡ StepAnswer.Ok) × (self.new ≡ self.old)) }
+        ensures err { OnErr result
+            ((withdraw_all_answer self.old.state ≡ StepAnswer.Ok) × (self.new ≡ self.old)) }
         ensures work { self.new.work ≤ self.old.work + size_of_step self.old.state WithdrawAll }
     {
         let answer = self.check_withdraw_all();
@@ -195,42 +213,45 @@ impl Nemesis {
         Ok(StepAnswer::Ok)
     }
 
-    // Whether no step lies before.
+    /// Whether no step lies before.
     fn is_at_start(&self) -> bool
         ensures { result ≡ is_empty self.now.state.past }
     {
         self.cursor == 0
     }
 
-    // Whether no step was undone.
+    /// Whether no step was undone.
     fn is_at_end(&self) -> bool
         ensures { result ≡ is_empty self.now.state.future }
     {
         self.cursor == self.records.len()
     }
 
-    // Goes back to the moment before the last step.
+    /// Goes back to the moment before the last step.
     fn go_back(&mut self)
         requires { is_empty self.old.state.past ≡ false }
-        ensures state { self.new.state ≡ back_to self.old.state self.old.state.past }
-        ensures work { self.new.work ≤ self.old.work + size_between self.old.state.active self.new.state.active }
+        ensures state { self.new.state ≡ state_back_to self.old.state self.old.state.past }
+        ensures work { self.new.work
+            ≤ self.old.work + size_between self.old.state.active self.new.state.active }
     {
         self.cursor -= 1;
         step_back(&mut self.env, &self.records, self.cursor);
         play_back(&self.records, self.cursor, &mut self.active);
     }
 
-    // Goes forth to the moment after the next step.
+    /// Goes forth to the moment after the next step.
     fn go_forth(&mut self)
         requires { is_empty self.old.state.future ≡ false }
-        ensures state { self.new.state ≡ forth_to self.old.state self.old.state.future }
-        ensures work { self.new.work ≤ self.old.work + size_between self.old.state.active self.new.state.active }
+        ensures state { self.new.state ≡ state_forth_to self.old.state self.old.state.future }
+        ensures work { self.new.work
+            ≤ self.old.work + size_between self.old.state.active self.new.state.active }
     {
         step_forth(&mut self.env, &self.records, self.cursor);
         play(&self.records, self.cursor, &mut self.active);
         self.cursor += 1;
     }
 
+    /// Goes back to the moment before the last step, and answers the step.
     fn undo_step(&mut self) -> StepAnswer
         ensures answer { result ≡ answer_of self.old.state Undo }
         ensures state { self.new.state ≡ state_after self.old.state Undo }
@@ -244,6 +265,7 @@ impl Nemesis {
         StepAnswer::Ok
     }
 
+    /// Goes forth to the moment after the next step, and answers the step.
     fn redo_step(&mut self) -> StepAnswer
         ensures answer { result ≡ answer_of self.old.state Redo }
         ensures state { self.new.state ≡ state_after self.old.state Redo }
@@ -257,17 +279,18 @@ impl Nemesis {
         StepAnswer::Ok
     }
 
-    /// Takes a step, and answers it; a refused step changes nothing. The fault of a begin must fit the
-    /// environment, as `Fault::fits` tests. An accepted step writes no more than those faults take which it begins or
-    /// ends (`steps_write_their_faults`), and takes time for their links and nodes, and for the stamps of the active faults,
-    /// at most 256.
+    /// Takes a step, and answers it; a refused step changes nothing. The fault of a begin must fit
+    /// the environment, as `Fault::fits` tests. An accepted step writes no more than those faults
+    /// take which it begins or ends (`steps_write_their_faults`), and takes time for their links
+    /// and nodes, and for the stamps of the active faults, at most 256.
     ///
-    /// Error: memory was refused to a step that would be accepted. Then nothing has changed. A step back or forth
-    /// takes no memory.
+    /// Error: memory was refused to a step that would be accepted. Then nothing has changed. A step
+    /// back or forth takes no memory.
     pub fn apply(&mut self, step: Step) -> Result<StepAnswer, AllocError>
         requires { StepFits self.old.state step }
         ensures answer { MatchResult result
-            (λ answer. (answer ≡ answer_of self.old.state step) × (self.new.state ≡ state_after self.old.state step))
+            (λ answer. (answer ≡ answer_of self.old.state step)
+            × (self.new.state ≡ state_after self.old.state step))
             (λ _. (answer_of self.old.state step ≡ StepAnswer.Ok) × (self.new ≡ self.old)) }
         ensures refused { IfOk result (λ answer. is_ok answer ≡ false → self.new ≡ self.old) }
         ensures work { self.new.work ≤ self.old.work + size_of_step self.old.state step }
@@ -282,14 +305,17 @@ impl Nemesis {
         }
     }
 
-    /// Takes steps, one after another, and answers each. The fault of each begin must fit the environment.
+    /// Takes steps, one after another, and answers each. The fault of each begin must fit the
+    /// environment.
     ///
-    /// Error: memory was refused, for all answers before any step was taken, or to a step that would be accepted. What was
-    /// taken until then stands, and `Stopped` has its answers; the next step changed nothing.
+    /// Error: memory was refused, for all answers before any step was taken, or to a step that
+    /// would be accepted. What was taken until then stands, and `Stopped` has its answers; the next
+    /// step changed nothing.
     pub fn apply_all(&mut self, alloc: Global, steps: Vec<Step>) -> Result<Vec<StepAnswer>, Stopped>
         requires { All (StepFits self.old.state) steps.items }
         ensures answer { MatchResult result
-            (λ answers. (answers.items ≡ answers_of self.old.state steps.items) × (self.new.state ≡ state_after_all self.old.state steps.items))
+            (λ answers. (answers.items ≡ answers_of self.old.state steps.items)
+            × (self.new.state ≡ state_after_all self.old.state steps.items))
             (λ stopped. TakesFirst self.old.state steps.items stopped self.new.state) }
         ensures work { self.new.work ≤ self.old.work + size_of_steps self.old.state steps.items }
     {
@@ -309,14 +335,16 @@ impl Nemesis {
     /// Begins a fault under an id that no active fault has. The fault must fit the environment, as
     /// `Fault::fits` tests.
     ///
-    /// Errors, which change nothing: `IdTaken`; `TooManyActive` where 256 faults are active; `TooManySteps`
-    /// where 4,096 steps lie in the past; `OutOfMemory`.
+    /// Errors, which change nothing: `IdTaken`; `TooManyActive` where 256 faults are active;
+    /// `TooManySteps` where 4,096 steps lie in the past; `OutOfMemory`.
     pub fn begin(&mut self, id: u32, fault: Fault) -> Result<(), BeginError>
         requires { FitsCount (length self.old.state.names) fault }
         ensures answer { MatchResult result
-            (λ _. (begin_answer self.old.state id ≡ StepAnswer.Ok) × (self.new.state ≡ state_after self.old.state (Begin id fault)))
+            (λ _. (begin_answer self.old.state id ≡ StepAnswer.Ok)
+            × (self.new.state ≡ state_after self.old.state (Begin id fault)))
             (λ e. (self.new ≡ self.old) × RefusesBegin self.old.state id e) }
-        ensures work { self.new.work ≤ self.old.work + size_of_step self.old.state (Begin id fault) }
+        ensures work { self.new.work
+            ≤ self.old.work + size_of_step self.old.state (Begin id fault) }
     {
         match self.begin_step(id, fault) {
             Ok(StepAnswer::IdTaken) => Err(BeginError::IdTaken),
@@ -327,13 +355,15 @@ impl Nemesis {
         }
     }
 
-    /// Withdraws the active fault of an id. What other faults or the start make of the environment stays.
+    /// Withdraws the active fault of an id. What other faults or the start make of the environment
+    /// stays.
     ///
     /// Errors, which change nothing: `NotActive`; `TooManySteps` where 4,096 steps lie in the past;
     /// `OutOfMemory`.
     pub fn withdraw(&mut self, id: u32) -> Result<(), WithdrawError>
         ensures answer { MatchResult result
-            (λ _. (withdraw_answer self.old.state id ≡ StepAnswer.Ok) × (self.new.state ≡ state_after self.old.state (Withdraw id)))
+            (λ _. (withdraw_answer self.old.state id ≡ StepAnswer.Ok)
+            × (self.new.state ≡ state_after self.old.state (Withdraw id)))
             (λ e. (self.new ≡ self.old) × RefusesWithdraw self.old.state id e) }
         ensures work { self.new.work ≤ self.old.work + size_of_step self.old.state (Withdraw id) }
     {
@@ -347,11 +377,12 @@ impl Nemesis {
 
     /// Withdraws all active faults: the environment is its start again, whatever that was.
     ///
-    /// Errors, which change nothing: `NothingActive`; `TooManySteps` where 4,096 steps lie in the past;
-    /// `OutOfMemory`.
+    /// Errors, which change nothing: `NothingActive`; `TooManySteps` where 4,096 steps lie in the
+    /// past; `OutOfMemory`.
     pub fn withdraw_all(&mut self) -> Result<(), WithdrawAllError>
         ensures answer { MatchResult result
-            (λ _. (withdraw_all_answer self.old.state ≡ StepAnswer.Ok) × (self.new.state ≡ state_after self.old.state WithdrawAll))
+            (λ _. (withdraw_all_answer self.old.state ≡ StepAnswer.Ok)
+            × (self.new.state ≡ state_after self.old.state WithdrawAll))
             (λ e. (self.new ≡ self.old) × RefusesWithdrawAll self.old.state e) }
         ensures work { self.new.work ≤ self.old.work + size_of_step self.old.state WithdrawAll }
     {
@@ -363,8 +394,8 @@ impl Nemesis {
         }
     }
 
-    /// Goes back to the moment before the last step that stands: the faults that were active then are active
-    /// again, each in its place. It takes no memory.
+    /// Goes back to the moment before the last step that stands: the faults that were active then
+    /// are active again, each in its place. It takes no memory.
     ///
     /// Error, which changes nothing: no step lies in the past.
     pub fn undo(&mut self) -> Result<(), NothingToUndo>

@@ -1,16 +1,19 @@
-//! The steps that a nemesis keeps, and the stamps of the faults that they make active. The stamp of a fault is the index
-//! of its begin among the steps. `specs/RecordsInside.antt` says what a step makes of the active stamps.
+//! The steps that a nemesis keeps, and the stamps of the faults that they make active. The stamp of
+//! a fault is the index of its begin among the steps. `specs/RecordsInside.antt` says what a step
+//! makes of the active stamps.
 
-ghost use Rattle.std.specs.Prelude.{◌≡◌, ◌==◌, ◌≤◌, ◌<◌, ◌++◌, ◌∷◌, [], OnErr, OnOk, IfSome, filter, insert, is_some, length, nat_lt, not, take};
+ghost use Rattle.std.specs.Prelude.{◌≡◌, ◌==◌, ◌≤◌, ◌<◌, ◌++◌, ◌∷◌, [], OnErr, OnOk, IfSome};
+ghost use Rattle.std.specs.Prelude.{filter, insert, is_some, length, nat_lt, not, take};
 ghost use Rattle.std.specs.List.{Contains, position_or_len};
 ghost use Rattle.jh_nemesis.specs.State as spec;
-ghost use Rattle.jh_nemesis.specs.RecordsInside.{faults_at, fault_of, played, played_back, record_at, AreStamps, IsBegin};
+ghost use Rattle.jh_nemesis.specs.RecordsInside.{faults_at, begun_fault, stamps_after};
+ghost use Rattle.jh_nemesis.specs.RecordsInside.{stamps_before, record_at, AreStamps, IsBegin};
 ghost use Rattle.jh_nemesis.specs.Steps.{max_active};
 
 use crate::steps::MAX_ACTIVE;
 use arrayvec::ArrayVec;
 use jh_env::Fault;
-use std::alloc::{AllocError, Global};
+use std::alloc::AllocError;
 
 /// Stamps of active faults, ascending.
 pub type Stamps = ArrayVec<usize, MAX_ACTIVE>;
@@ -26,8 +29,8 @@ pub enum Record {
     WithdrawnAll(Vec<usize>),
 }
 
-/// Puts a step at the cursor, in place of all from there on. Memory is taken first: where it is refused, all
-/// steps stay.
+/// Puts a step at the cursor, in place of all from there on. Memory is taken first: where it is
+/// refused, all steps stay.
 pub fn put_at(records: &mut Vec<Record>, cursor: usize, step: Record) -> Result<(), AllocError>
     requires { cursor ≤ length records.old.items }
     ensures ok { OnOk result (records.new.items ≡ take cursor records.old.items ++ step ∷ []) }
@@ -39,23 +42,24 @@ pub fn put_at(records: &mut Vec<Record>, cursor: usize, step: Record) -> Result<
     Ok(())
 }
 
-// Takes a stamp out.
+/// Takes a stamp out.
 fn take_out(active: &mut Stamps, stamp: usize)
     ensures { active.new.items ≡ filter (λ other. not (other == stamp)) active.old.items }
 {
     active.retain(|other| *other != stamp);
 }
 
-// Puts a stamp back, before those that are higher.
+/// Puts a stamp back, before those that are higher.
 fn put_back(active: &mut Stamps, stamp: usize)
     requires { length active.old.items < max_active }
-    ensures { active.new.items ≡ insert active.old.items (position_or_len (nat_lt stamp) active.old.items) stamp }
+    ensures { active.new.items
+        ≡ insert active.old.items (position_or_len (nat_lt stamp) active.old.items) stamp }
 {
     let higher = active.iter().position(|other| *other > stamp);
     active.insert(higher.unwrap_or(active.len()), stamp);
 }
 
-// Makes the stamps active that are in the list.
+/// Makes the stamps active that are in the list.
 fn put_all(active: &mut Stamps, stamps: &[usize])
     requires { length stamps.now ≤ max_active }
     ensures { active.new.items ≡ stamps.now }
@@ -67,8 +71,9 @@ fn put_all(active: &mut Stamps, stamps: &[usize])
 /// Takes the step at this index, over the active stamps.
 pub fn play(records: &[Record], index: usize, active: &mut Stamps)
     requires known { index < length records.now }
-    requires room { length (played index (record_at records.now index) active.old.items) ≤ max_active }
-    ensures { active.new.items ≡ played index (record_at records.now index) active.old.items }
+    requires room { length (stamps_after index (record_at records.now index) active.old.items)
+        ≤ max_active }
+    ensures { active.new.items ≡ stamps_after index (record_at records.now index) active.old.items }
 {
     match &records[index] {
         Record::Begun(_, _) => active.push(index),
@@ -80,8 +85,9 @@ pub fn play(records: &[Record], index: usize, active: &mut Stamps)
 /// Takes the step at this index back, over the active stamps.
 pub fn play_back(records: &[Record], index: usize, active: &mut Stamps)
     requires known { index < length records.now }
-    requires room { length (played_back (record_at records.now index) active.old.items) ≤ max_active }
-    ensures { active.new.items ≡ played_back (record_at records.now index) active.old.items }
+    requires room { length (stamps_before (record_at records.now index) active.old.items)
+        ≤ max_active }
+    ensures { active.new.items ≡ stamps_before (record_at records.now index) active.old.items }
 {
     match &records[index] {
         Record::Begun(_, _) => {
@@ -92,10 +98,10 @@ pub fn play_back(records: &[Record], index: usize, active: &mut Stamps)
     }
 }
 
-// Whether the step begins a fault under the id.
+/// Whether the step begins a fault under the id.
 fn is_begin_of(step: &Record, id: u32) -> bool
     requires { IsBegin step.now }
-    ensures { result ≡ spec.has_id id (fault_of step.now) }
+    ensures { result ≡ spec.has_id id (begun_fault step.now) }
 {
     match step {
         Record::Begun(other, _) => *other == id,
@@ -107,7 +113,8 @@ fn is_begin_of(step: &Record, id: u32) -> bool
 pub fn stamp_of(records: &[Record], stamps: &[usize], id: u32) -> Option<usize>
     requires { AreStamps records.now stamps.now }
     ensures variant { is_some result ≡ spec.is_active (faults_at records.now stamps.now) id }
-    ensures stamp { IfSome result (λ stamp. Contains stamps.now stamp × ((fault_of (record_at records.now stamp)).0 ≡ id)) }
+    ensures stamp { IfSome result
+        (λ stamp. Contains stamps.now stamp × ((begun_fault (record_at records.now stamp)).0 ≡ id)) }
 {
     for stamp in stamps {
         if is_begin_of(&records[*stamp], id) {

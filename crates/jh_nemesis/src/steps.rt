@@ -1,5 +1,5 @@
-//! Steps and the answers to them. `specs/Steps.antt` says which answer a step has; a new kind of step begins
-//! there.
+//! Steps and the answers to them. `specs/Steps.antt` says which answer a step has; a new kind of
+//! step begins there.
 
 ghost use Rattle.std.specs.Prelude.{◌≡◌, ◌↔◌, IfOk, IsTrue};
 
@@ -43,7 +43,8 @@ impl Step {
         }
     }
 
-    /// Whether the other is the same step, with the same fault where it begins one ([`Fault::is_same`]).
+    /// Whether the other is the same step, with the same fault where it begins one
+    /// ([`Fault::is_same`]).
     pub fn is_same(&self, other: &Step) -> bool
         ensures { IsTrue result ↔ (self.now ≡ other.now) }
     {

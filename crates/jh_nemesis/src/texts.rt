@@ -2,9 +2,10 @@
 
 ghost use Rattle.std.specs.Prelude.{◌≡◌, IfOk, length, option_and_then};
 ghost use Rattle.jh_edn.specs.View.{view};
-ghost use Rattle.jh_nemesis.specs.FaultText.{IsPartParsed, IsRingOverAll, spelled};
+ghost use Rattle.jh_nemesis.specs.FaultText.{IsParsedAs, IsRingOverAll, fault_spelling};
 ghost use Rattle.jh_nemesis.specs.StepText as rule;
-ghost use Rattle.jh_nemesis.specs.StepText.{parsed_step, parsed_begin, fault_of_begin, parsed_withdraw, parsed_word};
+ghost use Rattle.jh_nemesis.specs.StepText.{parsed_step, parsed_begin, fault_of_begin};
+ghost use Rattle.jh_nemesis.specs.StepText.{parsed_withdraw, parsed_keyword};
 ghost use Rattle.jh_nemesis.specs.Steps.{FitsNodes};
 
 mod faults;
@@ -64,15 +65,18 @@ impl From<AllocError> for StepTextError {
     }
 }
 
+/// The id that an integer gives, where it is in the range of ids.
 fn id_of(id: i64) -> Option<u32>
     ensures { result ≡ rule.id_of id }
 {
     u32::try_from(id).ok()
 }
 
+/// The begin of a fault under this id, or why it is refused.
 fn begin_of(alloc: Global, nodes: &Nodes, id: i64, fault: &Value) -> Result<Step, StepTextError>
-    ensures told { IsPartParsed result (parsed_begin nodes.now id (view fault.now)) }
-    ensures ring { IfOk result (λ _. IsRingOverAll (length nodes.now) (spelled (view fault.now))) }
+    ensures parsed { IsParsedAs result (parsed_begin nodes.now id (view fault.now)) }
+    ensures ring { IfOk result
+        (λ _. IsRingOverAll (length nodes.now) (fault_spelling (view fault.now))) }
     ensures fits { IfOk result (FitsNodes (length nodes.now)) }
 {
     let Some(shape) = shapes::shape_of(fault) else {
@@ -87,8 +91,9 @@ fn begin_of(alloc: Global, nodes: &Nodes, id: i64, fault: &Value) -> Result<Step
     }
 }
 
+/// The withdrawal of the fault of this id, or why it is refused.
 fn withdraw_of(id: i64) -> Result<Step, StepTextError>
-    ensures { IsPartParsed result (parsed_withdraw id) }
+    ensures { IsParsedAs result (parsed_withdraw id) }
 {
     match id_of(id) {
         Some(id) => Ok(Step::Withdraw(id)),
@@ -96,10 +101,11 @@ fn withdraw_of(id: i64) -> Result<Step, StepTextError>
     }
 }
 
-fn word_of(word: &str) -> Result<Step, StepTextError>
-    ensures { IsPartParsed result (parsed_word word.now) }
+/// The step that a keyword alone means, or why it is refused.
+fn step_of_keyword(name: &str) -> Result<Step, StepTextError>
+    ensures { IsParsedAs result (parsed_keyword name.now) }
 {
-    match word {
+    match name {
         "withdraw-all" => Ok(Step::WithdrawAll),
         "undo" => Ok(Step::Undo),
         "redo" => Ok(Step::Redo),
@@ -107,29 +113,30 @@ fn word_of(word: &str) -> Result<Step, StepTextError>
     }
 }
 
-/// The step that a value tells, its nodes given by their names: `[:begin ID FAULT]`, `[:withdraw ID]`,
-/// `[:withdraw-all]`, `[:undo]` or `[:redo]`, ids from 0 to 4,294,967,295. A fault is `[:cut LINKS]`,
-/// `[:slow MS LINKS]`, `[:loss LEVEL LINKS]`, `[:fix MS LINKS]`, `[:pause NODES]`, `[:kill NODES]` or `[:bump {NODE MS, ..}]`;
-/// or it is the cut of a grudge over all nodes: `[:halves]`, `[:split-one NODE]`, `[:bridge]`, `[:ring]`, which takes the nodes as they
-/// are listed, or `[:ring SEED]`, which shuffles them first, for one seed always alike, and leaves none out.
-/// `named_faults_are_grudges` ties these to their grudges.
+/// The step that a value means, its nodes given by their names: `[:begin ID FAULT]`,
+/// `[:withdraw ID]`, `[:withdraw-all]`, `[:undo]` or `[:redo]`, ids from 0 to 4,294,967,295. A
+/// fault is `[:cut LINKS]`, `[:slow MS LINKS]`, `[:loss LEVEL LINKS]`, `[:fix MS LINKS]`,
+/// `[:pause NODES]`, `[:kill NODES]` or `[:bump {NODE MS, ..}]`; or it is the cut of a grudge over
+/// all nodes: `[:halves]`, `[:split-one NODE]`, `[:bridge]`, `[:ring]`, which takes the nodes as
+/// they are listed, or `[:ring SEED]`, which shuffles them first, for one seed always alike, and
+/// leaves none out. `named_faults_are_grudges` ties these to their grudges.
 ///
-/// Errors: `BadStep` where the value has none of these shapes, its fault's looked at too; `BadId`; then over the
-/// whole fault `UnknownNode`, `SelfLink`, `BadAmount` also where a node is bumped twice or the seed is below zero;
-/// `OutOfMemory`.
+/// Errors: `BadStep` where the value has none of these shapes, its fault's looked at too; `BadId`;
+/// then over the whole fault `UnknownNode`, `SelfLink`, `BadAmount` also where a node is bumped
+/// twice or the seed is below zero; `OutOfMemory`.
 pub fn step_of_value(alloc: Global, nodes: &Nodes, value: &Value) -> Result<Step, StepTextError>
-    ensures told { IsPartParsed result (parsed_step nodes.now (view value.now)) }
+    ensures parsed { IsParsedAs result (parsed_step nodes.now (view value.now)) }
     ensures ring { IfOk result (λ _. IsRingOverAll (length nodes.now)
-        (option_and_then spelled (fault_of_begin (view value.now)))) }
+        (option_and_then fault_spelling (fault_of_begin (view value.now)))) }
     ensures fits { IfOk result (FitsNodes (length nodes.now)) }
 {
     let Some(parts) = value.elements() else {
         return Err(StepTextError::BadStep);
     };
     match parts {
-        [Value::Keyword(word)] => word_of(word.as_str()),
-        [Value::Keyword(word), Value::Int(id)] if word.as_str() == "withdraw" => withdraw_of(*id),
-        [Value::Keyword(word), Value::Int(id), fault] if word.as_str() == "begin" => {
+        [Value::Keyword(name)] => step_of_keyword(name.as_str()),
+        [Value::Keyword(name), Value::Int(id)] if name.as_str() == "withdraw" => withdraw_of(*id),
+        [Value::Keyword(name), Value::Int(id), fault] if name.as_str() == "begin" => {
             begin_of(alloc, nodes, *id, fault)
         }
         _ => Err(StepTextError::BadStep),

@@ -11,7 +11,6 @@
 
 ghost use Rattle.std.specs.Prelude.{[], IfOk, IfSome};
 ghost use Rattle.std.specs.List.{All};
-ghost use Rattle.jh_env.specs.Faults.{FitsCount};
 ghost use Rattle.jh_env.specs.Overlay.{StandsFor};
 ghost use Rattle.jh_nemesis.specs.State.{State};
 ghost use Rattle.jh_nemesis.specs.Steps.{StepFits};

@@ -5,7 +5,7 @@ use Rattle.std.proofs.Math.Bool.{or-false}
 use Rattle.std.proofs.lemmas.List.{map-append, append-nil}
 use Rattle.std.proofs.lemmas.List.Elements.{filter-append}
 use Rattle.jh_ops.specs.Operation.{Operation}
-use Rattle.jh_ops.specs.Pairing.{is_client, kinds_of, Alternate, is_invoke, is_info, has_crashed, pair_error_after}
+use Rattle.jh_ops.specs.Pairing.{is_of_client, kinds_of, Alternate, is_invoke, is_info, has_crashed, pair_error_after}
 use Rattle.jh_ops.specs.declared.operation.Kind.{Kind}
 use Rattle.jh_ops.specs.declared.pairs.PairError.TheVariants.{AfterCrash, DoubleInvoke, NoInvoke}
 
@@ -13,22 +13,22 @@ use Rattle.jh_ops.specs.declared.pairs.PairError.TheVariants.{AfterCrash, Double
 
 pub kinds_of-append : (client : ℕ) (xs ys : List Operation) → kinds_of client (xs ++ ys) ≡ kinds_of client xs ++ kinds_of client ys
 kinds_of-append client xs ys =
-    ap (map (λ op. op.kind)) (filter-append (λ op. is_client client op.process) xs ys)
-    ∙ map-append (λ op. op.kind) (filter (λ op. is_client client op.process) xs) (filter (λ op. is_client client op.process) ys)
+    ap (map (λ op. op.kind)) (filter-append (λ op. is_of_client client op.process) xs ys)
+    ∙ map-append (λ op. op.kind) (filter (λ op. is_of_client client op.process) xs) (filter (λ op. is_of_client client op.process) ys)
 
-pub kinds_of-own : (client : ℕ) (op : Operation) (ops : List Operation) → is_client client op.process ≡ true → kinds_of client (op ∷ ops) ≡ op.kind ∷ kinds_of client ops
+pub kinds_of-own : (client : ℕ) (op : Operation) (ops : List Operation) → is_of_client client op.process ≡ true → kinds_of client (op ∷ ops) ≡ op.kind ∷ kinds_of client ops
 kinds_of-own client op ops own =
-    ap (λ b. map (λ x. x.kind) (cond b (op ∷ filter (λ x. is_client client x.process) ops) (filter (λ x. is_client client x.process) ops))) own
+    ap (λ b. map (λ x. x.kind) (cond b (op ∷ filter (λ x. is_of_client client x.process) ops) (filter (λ x. is_of_client client x.process) ops))) own
 
-pub kinds_of-other : (client : ℕ) (op : Operation) (ops : List Operation) → is_client client op.process ≡ false → kinds_of client (op ∷ ops) ≡ kinds_of client ops
+pub kinds_of-other : (client : ℕ) (op : Operation) (ops : List Operation) → is_of_client client op.process ≡ false → kinds_of client (op ∷ ops) ≡ kinds_of client ops
 kinds_of-other client op ops other =
-    ap (λ b. map (λ x. x.kind) (cond b (op ∷ filter (λ x. is_client client x.process) ops) (filter (λ x. is_client client x.process) ops))) other
+    ap (λ b. map (λ x. x.kind) (cond b (op ∷ filter (λ x. is_of_client client x.process) ops) (filter (λ x. is_of_client client x.process) ops))) other
 
 -- one more operation, of this client or of another
-pub kinds_push-own : (client : ℕ) (ops : List Operation) (op : Operation) → is_client client op.process ≡ true → kinds_of client (ops ++ op ∷ []) ≡ kinds_of client ops ++ op.kind ∷ []
+pub kinds_push-own : (client : ℕ) (ops : List Operation) (op : Operation) → is_of_client client op.process ≡ true → kinds_of client (ops ++ op ∷ []) ≡ kinds_of client ops ++ op.kind ∷ []
 kinds_push-own client ops op own = kinds_of-append client ops (op ∷ []) ∙ ap (λ ks. kinds_of client ops ++ ks) (kinds_of-own client op [] own)
 
-pub kinds_push-other : (client : ℕ) (ops : List Operation) (op : Operation) → is_client client op.process ≡ false → kinds_of client (ops ++ op ∷ []) ≡ kinds_of client ops
+pub kinds_push-other : (client : ℕ) (ops : List Operation) (op : Operation) → is_of_client client op.process ≡ false → kinds_of client (ops ++ op ∷ []) ≡ kinds_of client ops
 kinds_push-other client ops op other = kinds_of-append client ops (op ∷ []) ∙ ap (λ ks. kinds_of client ops ++ ks) (kinds_of-other client op [] other) ∙ append-nil (kinds_of client ops)
 
 -- ---- one kind after another

@@ -1,11 +1,11 @@
 pub mod KindLemmas
-pub mod ClaimLemmas
+pub mod ClientPairLemmas
 pub mod StageLemmas
 pub mod PlaceLemmas
-pub mod PartLemmas
+pub mod MapPairLemmas
 pub mod ReadBackLemmas
-pub mod WrittenLemmas
+pub mod FourPairLemmas
 pub mod HistoryLemmas
-pub mod WithinLemmas
+pub mod PairPlaceLemmas
 pub mod RecordLemmas
 pub mod RecordReadLemmas

@@ -9,7 +9,7 @@ use Rattle.std.proofs.lemmas.List.{length-map, take-append-drop, take_more, take
 use Rattle.std.proofs.lemmas.Option.{slice_get_within, get_or_from_slice_get}
 use borrow.Author.Count.{below_more}
 use Rattle.jh_ops.specs.Operation.{Operation, operation, operations}
-use Rattle.jh_ops.specs.Pairing.{is_client, kinds_of, IsWellFormed, pair_error_of, pair_error_at, HasPairError, RefusesHistory, pairs_of}
+use Rattle.jh_ops.specs.Pairing.{is_of_client, kinds_of, IsWellFormed, pair_error_of, pair_error_at, HasPairError, RefusesHistory, history_pairs}
 use Rattle.jh_ops.specs.Stage.{stage_after, pairs_after, pair_awaited}
 use Rattle.jh_ops.specs.declared.operation.Kind.{Kind}
 use Rattle.jh_ops.specs.declared.operation.Op.{Op}
@@ -20,7 +20,7 @@ use Rattle.jh_ops.specs.declared.pairs.PairError.TheVariants.{AfterCrash, Double
 use Rattle.jh_ops.specs.declared.pairing.Stage.{Stage}
 use Rattle.jh_ops.specs.declared.pairing.Stage.TheVariants.{Idle, Waiting, Crashed}
 use Rattle.jh_ops.proofs.KindLemmas.{kinds_of-append, kinds_of-own, Follows, follows_at, alternate, follows}
-use Rattle.jh_ops.proofs.StageLemmas.{Tells, tells_skip, tells_more, refused, taken, pairs_told, awaited_within}
+use Rattle.jh_ops.proofs.StageLemmas.{Tells, tells_skip, tells_more, refused, taken, pairs_parsed, awaited_within}
 
 -- ---- the operation at a place
 
@@ -99,12 +99,12 @@ first_error stages pairs history place op client opened e below same own stands 
 -- ---- the whole history
 
 pub stands_end : (stages : ℕ → Stage) (pairs : List Pair) (history : List Op) (place : ℕ) → length history ≤ place → Stands stages pairs (operations history) place
-    → IsWellFormed (operations history) × (pairs ≡ pairs_of (operations history))
+    → IsWellFormed (operations history) × (pairs ≡ history_pairs (operations history))
 stands_end stages pairs history place end stands =
     let long = length-map history operation in
     let all : take place (operations history) ≡ operations history = take_all place (operations history) (omega (arith, long)) in
     let tells = subst (λ (ops : List Operation). Tells stages pairs ops) all stands.tells in
-    ((λ client. (alternate (kinds_of client (operations history))).0 (tells.sound client)), pairs_told stages pairs (operations history) tells)
+    ((λ client. (alternate (kinds_of client (operations history))).0 (tells.sound client)), pairs_parsed stages pairs (operations history) tells)
 
 never_for : (history : List Operation) (place : ℕ) (op : Operation) (process : Process) → IsWellFormed history → slice_get history place ≡ Some op → op.process ≡ process
     → pair_error_of process op.kind (take place history) place ≡ None
@@ -116,7 +116,7 @@ never_for history place op (Process.Client client) good at own =
     sym (take-append-drop place history) ∙ ap (λ r. take place history ++ r) (drop-cons history place op within ∙ ap (λ x. x ∷ drop (suc place) history) here) in
     let kinds : kinds_of client history ≡ kinds_of client (take place history) ++ op.kind ∷ kinds_of client (drop (suc place) history) =
     ap (kinds_of client) split ∙ kinds_of-append client (take place history) (op ∷ drop (suc place) history)
-    ∙ ap (λ ks. kinds_of client (take place history) ++ ks) (kinds_of-own client op (drop (suc place) history) (ap (is_client client) own ∙ eq-eqb client client refl)) in
+    ∙ ap (λ ks. kinds_of client (take place history) ++ ks) (kinds_of-own client op (drop (suc place) history) (ap (is_of_client client) own ∙ eq-eqb client client refl)) in
     follows_at false false (kinds_of client (take place history)) op.kind (kinds_of client (drop (suc place) history))
     (subst (λ (ks : List Kind). Follows false false ks) kinds ((follows (kinds_of client history)).0 (good client))) place
 

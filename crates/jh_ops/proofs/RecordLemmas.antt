@@ -11,14 +11,13 @@ use Rattle.std.proofs.lemmas.List.{drop-set-add, take_more_set, take_more, drop-
 use Rattle.std.proofs.lemmas.List.Folds.{list_all-map}
 use Rattle.jh_edn.specs.View.{view, views}
 use Rattle.jh_edn.specs.declared.value.Value.{Value}
-use Rattle.jh_edn.specs.Edn.{Edn, Items, no_items, item, nil, int, keyword, vector, items_of, list_of}
+use Rattle.jh_edn.specs.Edn.{Edn, Items, no_items, item, nil, int, keyword, vector, items_of, list_of, is_keyword, is_integer}
 use Rattle.jh_ops.specs.Operation.{Operation}
-use Rattle.jh_ops.specs.OperationText.{is_keyword, is_integer}
-use Rattle.jh_ops.specs.RecordParts.{function_named, function_of, takes, shape_number, holds, shape_of, elements, IsPlain, event_word_in, first_word, IsHeadingOf, IsWordOf, AreWordsOf}
-use Rattle.jh_ops.specs.Words.{Content, Nothing, One, Several, content_value, content_number, integers, MayHave, function_name, Record, event_part, operation_of, CanBeKept, StandFor, event_word, heading, process_word}
+use Rattle.jh_ops.specs.RecordParts.{function_named, function_of, takes, shape_number, holds, shape_of_value, elements, IsPlain, event_word_in, first_word, IsHeadingOf, IsWordOf, AreWordsOfValues}
+use Rattle.jh_ops.specs.Words.{Content, Nothing, One, Several, content_value, content_number, integers, MayHave, function_name, Record, pairs_of_event, operation_of, CanBeKept, StandFor, event_word, heading, process_word}
 use Rattle.jh_ops.specs.declared.record.Function.{Function}
 use Rattle.jh_ops.specs.declared.record.Shape.{Shape}
-use Rattle.jh_ops.proofs.PartLemmas.{keyword_is}
+use Rattle.jh_ops.proofs.MapPairLemmas.{keyword_is}
 use Rattle.jh_ops.proofs.HistoryLemmas.{listed}
 
 -- ---- its function
@@ -93,7 +92,7 @@ are_integers_again : (zs : List ℤ) → list_all is_integer (map int zs) ≡ tr
 are_integers_again [] = refl
 are_integers_again (z ∷ zs) = are_integers_again zs
 
-value_is : (value : Edn) (s : Shape) → shape_of value ≡ Some s → (c : Content) × (content_value c ≡ value) × (shape_in c ≡ s)
+value_is : (value : Edn) (s : Shape) → shape_of_value value ≡ Some s → (c : Content) × (content_value c ≡ value) × (shape_in c ≡ s)
 value_is nil s found = (Nothing, refl, let e : Some Shape.Nil ≡ Some s = found in cc)
 value_is (int z) s found = (One z, refl, let e : Some Shape.Integer ≡ Some s = found in cc)
 value_is (vector xs) s found =
@@ -110,11 +109,11 @@ then_some_is true = refl
 then_some_is false = refl
 
 -- the shape of a vector of these values
-pub shape_of_vector : (values : List Value) (b : Bool) → list_all (λ v. is_integer (view v)) values ≡ b → shape_of (vector (items_of (views values))) ≡ cond b (Some Shape.Vector) None
+pub shape_of_vector : (values : List Value) (b : Bool) → list_all (λ v. is_integer (view v)) values ≡ b → shape_of_value (vector (items_of (views values))) ≡ cond b (Some Shape.Vector) None
 shape_of_vector values b all =
     ap (λ xs. cond (list_all is_integer xs) (Some Shape.Vector) None) (listed (views values)) ∙ ap (λ t. cond t (Some Shape.Vector) None) (list_all-map is_integer view values ∙ all)
 
-shape_again : (c : Content) → shape_of (content_value c) ≡ Some (shape_in c)
+shape_again : (c : Content) → shape_of_value (content_value c) ≡ Some (shape_in c)
 shape_again Nothing = refl
 shape_again (One z) = refl
 shape_again (Several zs) = ap (λ xs. cond (list_all is_integer xs) (Some Shape.Vector) None) (listed (map int zs)) ∙ ap (λ b. cond b (Some Shape.Vector) None) (are_integers_again zs)
@@ -183,7 +182,7 @@ holds_again (Several zs) h = grind (arith, h)
 
 -- ---- its event
 
-event_is : (rest : List (Edn × Edn)) (word : ℕ) → event_word_in rest ≡ Some word → (e : Option ℕ) × (event_part e ≡ rest) × (event_word e ≡ word)
+event_is : (rest : List (Edn × Edn)) (word : ℕ) → event_word_in rest ≡ Some word → (e : Option ℕ) × (pairs_of_event e ≡ rest) × (event_word e ≡ word)
 event_is [] word found = (None, refl, let e : Some 0 ≡ Some word = found in cc)
 event_is ((key, int (pos number)) ∷ []) word found =
     elim (cases_Bool (is_keyword (codes "event") key)) [
@@ -196,7 +195,7 @@ event_is ((key, int (pos number)) ∷ []) word found =
     ]
 event_is _ word found = absurd (let clash : None ≡ Some word = found in cc)
 
-event_again : (e : Option ℕ) → event_word_in (event_part e) ≡ Some (event_word e)
+event_again : (e : Option ℕ) → event_word_in (pairs_of_event e) ≡ Some (event_word e)
 event_again None = refl
 event_again (Some number) = refl
 
@@ -206,7 +205,7 @@ event_small (Some number) h = omega (arith, h)
 
 -- ---- the whole
 
-pub heading_is : (op : Operation) (f : Function) (s : Shape) (word : ℕ) → event_word_in op.rest ≡ Some word → word ≤ 2 ^ 63 → function_of op.f ≡ Some f → shape_of op.value ≡ Some s → IsPlain op
+pub heading_is : (op : Operation) (f : Function) (s : Shape) (word : ℕ) → event_word_in op.rest ≡ Some word → word ≤ 2 ^ 63 → function_of op.f ≡ Some f → shape_of_value op.value ≡ Some s → IsPlain op
     → (holds s (length (elements op.value)) && takes f s (length (elements op.value))) ≡ true → IsHeadingOf op (first_word (record { kind = op.kind; function = f; shape = s }) ∷ process_word op.process ∷ word ∷ [])
 heading_is op f s word event small function shape plain fits =
     let e = event_is op.rest word event in
@@ -229,13 +228,13 @@ kept_event op r same = ap (λ o. event_word_in o.rest) (sym same) ∙ event_agai
 pub kept_function : (op : Operation) (r : Record) → operation_of r ≡ op → function_of op.f ≡ Some r.function
 kept_function op r same = ap (λ o. function_of o.f) (sym same) ∙ function_again r.function
 
-pub kept_shape : (op : Operation) (r : Record) → operation_of r ≡ op → shape_of op.value ≡ Some (shape_in r.content)
-kept_shape op r same = ap (λ o. shape_of o.value) (sym same) ∙ shape_again r.content
+pub kept_shape : (op : Operation) (r : Record) → operation_of r ≡ op → shape_of_value op.value ≡ Some (shape_in r.content)
+kept_shape op r same = ap (λ o. shape_of_value o.value) (sym same) ∙ shape_again r.content
 
 pub kept_plain : (op : Operation) (r : Record) → CanBeKept r → operation_of r ≡ op → IsPlain op
 kept_plain op r can same = subst IsPlain same (refl, refl, can.process)
 
-pub kept_fits : (op : Operation) (r : Record) (f : Function) (s : Shape) → CanBeKept r → operation_of r ≡ op → function_of op.f ≡ Some f → shape_of op.value ≡ Some s
+pub kept_fits : (op : Operation) (r : Record) (f : Function) (s : Shape) → CanBeKept r → operation_of r ≡ op → function_of op.f ≡ Some f → shape_of_value op.value ≡ Some s
     → (holds s (length (elements op.value)) && takes f s (length (elements op.value))) ≡ true
 kept_fits op r f s can same function shape =
     let f_is : r.function ≡ f = (let e : Some r.function ≡ Some f = sym (kept_function op r same) ∙ function in cc) in
@@ -262,15 +261,15 @@ pub heading_stands : (heading words : List ℕ) → length heading ≡ 3 → 3 �
     → take 3 (slice_set (slice_set (slice_set words 0 (slice_index_or heading 0 0)) 1 (slice_index_or heading 1 0)) 2 (slice_index_or heading 2 0)) ≡ heading
 heading_stands heading words three long = first_three words (slice_index_or heading 0 0) (slice_index_or heading 1 0) (slice_index_or heading 2 0) long ∙ three_of heading three
 
-pushed : (words : List ℕ) (values : List Edn) (word : ℕ) (value : Edn) → AreWordsOf words values → IsWordOf value word → AreWordsOf (words ++ word ∷ []) (values ++ value ∷ [])
+pushed : (words : List ℕ) (values : List Edn) (word : ℕ) (value : Edn) → AreWordsOfValues words values → IsWordOf value word → AreWordsOfValues (words ++ word ∷ []) (values ++ value ∷ [])
 pushed [] [] word value are is = (is, tt)
 pushed (w ∷ words) (x ∷ values) word value are is = (are.0, pushed words values word value are.1 is)
 pushed [] (x ∷ values) word value are is = absurd are
 pushed (w ∷ words) [] word value are is = absurd are
 
 -- a word that is put after those that stand there
-pub put : (words : List ℕ) (place word : ℕ) (values : List Edn) (value : Edn) → 3 + place < length words → AreWordsOf (take place (drop 3 words)) values → IsWordOf value word
-    → AreWordsOf (take (place + 1) (drop 3 (slice_set words (3 + place) word))) (values ++ value ∷ [])
+pub put : (words : List ℕ) (place word : ℕ) (values : List Edn) (value : Edn) → 3 + place < length words → AreWordsOfValues (take place (drop 3 words)) values → IsWordOf value word
+    → AreWordsOfValues (take (place + 1) (drop 3 (slice_set words (3 + place) word))) (values ++ value ∷ [])
 put words place word values value within are is =
     let long : place < length (drop 3 words) = omega (arith, within, length-drop 3 words) in
     let there : take (place + 1) (drop 3 (slice_set words (3 + place) word)) ≡ take place (drop 3 words) ++ word ∷ [] =
@@ -285,7 +284,7 @@ views_more values i value within is =
     ap views (take_more values i value within) ∙ map-append view (take i values) (get_or values i value ∷ []) ∙ ap (λ v. views (take i values) ++ view v ∷ []) (sym is)
 
 -- the one word of an integer
-pub one_word : (words : List ℕ) (word : ℕ) (value : Edn) → 3 < length words → IsWordOf value word → AreWordsOf (take 1 (drop 3 (slice_set words 3 word))) (value ∷ [])
+pub one_word : (words : List ℕ) (word : ℕ) (value : Edn) → 3 < length words → IsWordOf value word → AreWordsOfValues (take 1 (drop 3 (slice_set words 3 word))) (value ∷ [])
 one_word words word value within is = put words 0 word [] value within tt is
 
 small_first : (word : ℕ) (words : List ℕ) → word < 2 ^ 64 → All (λ w. w < 2 ^ 64) words → All (λ w. w < 2 ^ 64) (word ∷ words)
@@ -293,7 +292,7 @@ small_first word words small rest zero d within = small
 small_first word words small rest (suc k) d within = rest k d (omega (arith, within))
 
 -- words of integers
-pub stand_for : (words : List ℕ) (zs : List ℤ) → AreWordsOf words (map int zs) → StandFor words zs
+pub stand_for : (words : List ℕ) (zs : List ℤ) → AreWordsOfValues words (map int zs) → StandFor words zs
 stand_for [] [] are = ((λ k d h. absurd (omega (arith, h))), refl)
 stand_for (w ∷ words) (z ∷ zs) are =
     let rest = stand_for words zs are.1 in

@@ -10,7 +10,7 @@ use Rattle.std.proofs.lemmas.List.Elements.{All-drop}
 use Rattle.jh_edn.specs.Edn.{Edn, Items, no_items, item, nil, int, vector, items_of}
 use Rattle.jh_ops.specs.Operation.{Operation}
 use Rattle.jh_ops.specs.OperationWritten.{IsWritable}
-use Rattle.jh_ops.specs.RecordParts.{function_numbered, kind_numbered, shape_numbered, takes, shape_number, holds, first_word, event_of, content_of, record_of, Begin}
+use Rattle.jh_ops.specs.RecordParts.{function_numbered, kind_numbered, shape_numbered, takes, shape_number, holds, first_word, event_of, content_of, record_of, BeginWith}
 use Rattle.jh_ops.specs.Words.{Content, Nothing, One, Several, content_value, content_number, integers, Record, operation_of, CanBeKept, AreWordsOf, IsRecordedAs, event_word, heading, process_word, kind_number, function_number}
 use Rattle.jh_ops.specs.declared.operation.Kind.{Kind}
 use Rattle.jh_ops.specs.declared.operation.Process.{Process}
@@ -48,8 +48,8 @@ event_is word =
       | inr miss ↦ ap (λ b. event_word (cond b None (Some (word - 1)))) miss ∙ grind (arith, miss)
     ]
 
-pub record_told : (words : List ℕ) (h : Heading) → All (λ word. word < 2 ^ 64) words → Begin words h → CanBeKept (record_of h (drop 3 words)) × AreWordsOf words (record_of h (drop 3 words))
-record_told words h small begins =
+pub record_parsed : (words : List ℕ) (h : Heading) → All (λ word. word < 2 ^ 64) words → BeginWith words h → CanBeKept (record_of h (drop 3 words)) × AreWordsOf words (record_of h (drop 3 words))
+record_parsed words h small begins =
     let rest = drop 3 words in
     let zs = map (cast_signed w64) rest in
     let s = h.head.shape in
@@ -210,11 +210,11 @@ content_in (int z) = One z
 content_in (vector xs) = Several (integers_in xs)
 content_in _ = Nothing
 
-content_told : (c : Content) → content_in (content_value c) ≡ c
+content_parsed : (c : Content) → content_in (content_value c) ≡ c
 unfolding content_in
-content_told Nothing = refl
-content_told (One z) = refl
-content_told (Several zs) = ap Several (integers_again zs)
+content_parsed Nothing = refl
+content_parsed (One z) = refl
+content_parsed (Several zs) = ap Several (integers_again zs)
 
 -- one record is kept of an operation
 same_kept : (op : Operation) (this that : Record) → operation_of this ≡ op → operation_of that ≡ op → this ≡ that
@@ -222,7 +222,7 @@ same_kept op this that kept held =
     let same : operation_of this ≡ operation_of that = kept ∙ sym held in
     let fs : Some this.function ≡ Some that.function = sym (kept_function op this kept) ∙ kept_function op that held in
     let f : this.function ≡ that.function = cc in
-    let content : this.content ≡ that.content = sym (content_told this.content) ∙ ap (λ o. content_in o.value) same ∙ content_told that.content in
+    let content : this.content ≡ that.content = sym (content_parsed this.content) ∙ ap (λ o. content_in o.value) same ∙ content_parsed that.content in
     let es : Some (event_word this.event) ≡ Some (event_word that.event) = sym (kept_event op this kept) ∙ kept_event op that held in
     let words : event_word this.event ≡ event_word that.event = cc in
     let event : this.event ≡ that.event = sym (event_again this.event) ∙ ap event_of words ∙ event_again that.event in

@@ -7,7 +7,7 @@ use Rattle.std.proofs.lemmas.List.Folds.{list_any-append}
 use Rattle.std.proofs.lemmas.List.Sums.{fold_push}
 use Rattle.std.proofs.Math.Bool.{or-false}
 use Rattle.jh_ops.specs.Operation.{Operation}
-use Rattle.jh_ops.specs.Pairing.{is_client, kinds_of, is_invoke, is_info, has_crashed, is_waiting, pair_error_after, pair_error_of, pairs_of}
+use Rattle.jh_ops.specs.Pairing.{is_of_client, kinds_of, is_invoke, is_info, has_crashed, is_waiting, pair_error_after, pair_error_of, history_pairs}
 use Rattle.jh_ops.specs.Stage.{stage_after, pairs_after}
 use Rattle.jh_ops.specs.declared.operation.Kind.{Kind}
 use Rattle.jh_ops.specs.declared.operation.Process.{Process}
@@ -16,7 +16,7 @@ use Rattle.jh_ops.specs.declared.pairs.PairError.{PairError}
 use Rattle.jh_ops.specs.declared.pairing.Stage.{Stage}
 use Rattle.jh_ops.specs.declared.pairing.Stage.TheVariants.{Idle, Waiting, Crashed}
 use Rattle.jh_ops.proofs.KindLemmas.{kinds_push-own, kinds_push-other, Follows, any_place, follows_push}
-use Rattle.jh_ops.proofs.ClaimLemmas.{Claim, claim_of, claims_from, pairs_in, pairs_claimed, closed, claims_push, untouched, no_claim, waits, same_place, same_place-self, waits_within, none_closed, one_closed, none_waits, others_wait, opened_waits, opened_others}
+use Rattle.jh_ops.proofs.ClientPairLemmas.{Claim, claim_of, claims_from, pairs_in, pairs_claimed, closed, claims_push, untouched, no_claim, waits, same_place, same_place-self, waits_within, none_closed, one_closed, none_waits, others_wait, opened_waits, opened_others}
 
 abbrev pub crashed_at : Stage → Bool
 crashed_at Crashed = true
@@ -110,7 +110,7 @@ tells_nothing stages pairs idle none = record {
 -- an operation of the nemesis
 pub tells_skip : (stages : ℕ → Stage) (pairs : List Pair) (done : List Operation) (op : Operation) → op.process ≡ Process.Nemesis → Tells stages pairs done → Tells stages pairs (done ++ op ∷ [])
 tells_skip stages pairs done op nemesis tells =
-    let kinds : (client : ℕ) → kinds_of client (done ++ op ∷ []) ≡ kinds_of client done = λ client. kinds_push-other client done op (ap (is_client client) nemesis) in
+    let kinds : (client : ℕ) → kinds_of client (done ++ op ∷ []) ≡ kinds_of client done = λ client. kinds_push-other client done op (ap (is_of_client client) nemesis) in
     let claims : claims_from 0 (done ++ op ∷ []) ≡ claims_from 0 done =
     claims_push 0 done op (length done) (omega arith)
     ∙ ap (λ p. map (closed p (length done)) (claims_from 0 done) ++ claim_of op.kind p (length done) []) nemesis
@@ -126,21 +126,21 @@ tells_skip stages pairs done op nemesis tells =
     }
 
 -- what an operation of a client at the next place is judged by
-pub error_told : (stages : ℕ → Stage) (pairs : List Pair) (done : List Operation) (kind : Kind) (client place : ℕ) → Tells stages pairs done
+pub error_parsed : (stages : ℕ → Stage) (pairs : List Pair) (done : List Operation) (kind : Kind) (client place : ℕ) → Tells stages pairs done
     → pair_error_of (Process.Client client) kind done place ≡ pair_error_after (crashed_at (stages client)) (waiting_at (stages client)) kind place
-error_told stages pairs done kind client place tells =
+error_parsed stages pairs done kind client place tells =
     ap (λ c. pair_error_after c (is_waiting (kinds_of client done)) kind place) (sym (tells.crashed client))
     ∙ ap (λ w. pair_error_after (crashed_at (stages client)) w kind place) (sym (tells.waiting client))
 
 pub refused : (stages : ℕ → Stage) (pairs : List Pair) (done : List Operation) (kind : Kind) (client place opened : ℕ) (e : PairError) → Tells stages pairs done
     → stage_after (stages client) kind place opened ≡ Err e → pair_error_of (Process.Client client) kind done place ≡ Some e
 refused stages pairs done kind client place opened e tells step =
-    error_told stages pairs done kind client place tells ∙ (rw step at (judged (stages client) kind place opened))
+    error_parsed stages pairs done kind client place tells ∙ (rw step at (judged (stages client) kind place opened))
 
 pub taken : (stages : ℕ → Stage) (pairs : List Pair) (done : List Operation) (kind : Kind) (client place opened : ℕ) (next : Stage) → Tells stages pairs done
     → stage_after (stages client) kind place opened ≡ Ok next → pair_error_of (Process.Client client) kind done place ≡ None
 taken stages pairs done kind client place opened next tells step =
-    error_told stages pairs done kind client place tells ∙ (rw step at (judged (stages client) kind place opened)).0
+    error_parsed stages pairs done kind client place tells ∙ (rw step at (judged (stages client) kind place opened)).0
 
 -- the pair that a stage awaits is there
 pub awaited_within : (stages : ℕ → Stage) (pairs : List Pair) (done : List Operation) (client at : ℕ) → Tells stages pairs done → stages client ≡ Waiting at → at < length pairs
@@ -150,11 +150,11 @@ awaited_within stages pairs done client at tells stage =
     let same : length pairs ≡ length (claims_from 0 done) = ap length tells.claimed ∙ length-map (claims_from 0 done) (λ c. c.pair) in
     omega (arith, within, same)
 
-is_own : (client : ℕ) (op : Operation) → op.process ≡ Process.Client client → is_client client op.process ≡ true
-is_own client op own = ap (is_client client) own ∙ eq-eqb client client refl
+is_own : (client : ℕ) (op : Operation) → op.process ≡ Process.Client client → is_of_client client op.process ≡ true
+is_own client op own = ap (is_of_client client) own ∙ eq-eqb client client refl
 
-is_other : (client other : ℕ) (op : Operation) → op.process ≡ Process.Client client → (client ≡ other → ⊥) → is_client other op.process ≡ false
-is_other client other op own apart = ap (is_client other) own ∙ ne_eqb other client (λ e. apart (sym e))
+is_other : (client other : ℕ) (op : Operation) → op.process ≡ Process.Client client → (client ≡ other → ⊥) → is_of_client other op.process ≡ false
+is_other client other op own apart = ap (is_of_client other) own ∙ ne_eqb other client (λ e. apart (sym e))
 
 crashed_push : (kinds : List Kind) (kind : Kind) → has_crashed (kinds ++ kind ∷ []) ≡ (has_crashed kinds || is_info kind)
 crashed_push kinds kind = list_any-append is_info kinds (kind ∷ []) ∙ ap (λ b. has_crashed kinds || b) (or-false (is_info kind))
@@ -206,5 +206,5 @@ tells_more stages stages' pairs pairs' done op client next own tells step here a
       ];
     }
 
-pub pairs_told : (stages : ℕ → Stage) (pairs : List Pair) (history : List Operation) → Tells stages pairs history → pairs ≡ pairs_of history
-pairs_told stages pairs history tells = tells.claimed ∙ sym (pairs_claimed 0 history)
+pub pairs_parsed : (stages : ℕ → Stage) (pairs : List Pair) (history : List Operation) → Tells stages pairs history → pairs ≡ history_pairs history
+pairs_parsed stages pairs history tells = tells.claimed ∙ sym (pairs_claimed 0 history)

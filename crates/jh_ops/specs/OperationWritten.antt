@@ -1,5 +1,7 @@
--- The value that is written of an operation (the keys are those of jepsen.history; their order is this project's own).
-use Rattle.std.specs.Prelude.{◌≡◌, ℕ, ◌^◌, ◌<◌, ℤ, pos, List, [], ◌∷◌, ◌++◌, codes, Option, Some, None, Ok}
+-- The value that is written of an operation (the keys are those of jepsen.history; their order is
+-- this project's own).
+use Rattle.std.specs.Prelude.{◌≡◌, ℕ, ◌^◌, ◌<◌, ℤ, pos, List, [], ◌∷◌, ◌++◌, codes, Option, Some}
+use Rattle.std.specs.Prelude.{None, Ok}
 use Rattle.jh_edn.specs.Edn.{Edn, int, keyword, mapping, members_of}
 use Rattle.jh_ops.specs.Operation.{Operation}
 use Rattle.jh_ops.specs.OperationText.{parsed_op}
@@ -22,22 +24,26 @@ IsWritable (Process.Client number) = number < 2 ^ 63
 IsWritable Process.Nemesis = Unit {0}
 
 -- a part with an integer, where there is one
-abbrev pub integer_part : List ℕ → Option ℤ → List (Edn × Edn)
-integer_part name None = []
-integer_part name (Some z) = (keyword name, int z) ∷ []
+abbrev pub integer_pairs : List ℕ → Option ℤ → List (Edn × Edn)
+integer_pairs name None = []
+integer_pairs name (Some z) = (keyword name, int z) ∷ []
 
 -- the parts that each operation has
-abbrev pub four_parts : Operation → List (Edn × Edn)
-four_parts op =
-    (keyword (codes "type"), keyword (kind_name op.kind)) ∷ (keyword (codes "process"), process_value op.process)
+abbrev pub four_pairs : Operation → List (Edn × Edn)
+four_pairs op =
+    (keyword (codes "type"), keyword (kind_name op.kind))
+    ∷ (keyword (codes "process"), process_value op.process)
     ∷ (keyword (codes "f"), op.f) ∷ (keyword (codes "value"), op.value) ∷ []
 
 abbrev pub pairs_written : Operation → List (Edn × Edn)
-pairs_written op = integer_part (codes "index") op.index ++ (integer_part (codes "time") op.time ++ (four_parts op ++ op.rest))
+pairs_written op =
+    integer_pairs (codes "index") op.index
+    ++ (integer_pairs (codes "time") op.time ++ (four_pairs op ++ op.rest))
 
 abbrev pub value_written : Operation → Edn
 value_written op = mapping (members_of (pairs_written op))
 
--- an operation that some value tells is told again by what is written of it
-abbrev pub ReadBack : Type 0
-ReadBack = (value : Edn) (op : Operation) → parsed_op value ≡ Ok op → parsed_op (value_written op) ≡ Ok op
+-- an operation that some value tells is parsed again by what is written of it
+abbrev pub OperationsReadBack : Type 0
+OperationsReadBack =
+    (value : Edn) (op : Operation) → parsed_op value ≡ Ok op → parsed_op (value_written op) ≡ Ok op

@@ -1,13 +1,15 @@
 -- What the code finds of the parts of a recorded operation, one after another; Words has the rule.
-use Rattle.std.specs.Prelude.{◌≡◌, ℕ, suc, ◌+◌, ◌*◌, ◌^◌, ◌<◌, ◌≤◌, ◌==◌, nat_le, ◌&&◌, Bool, true, false, ℤ, pos, List, [], ◌∷◌, length, drop, ◌-◌, map, codes, if◌then◌else◌, Option, Some, None}
+use Rattle.std.specs.Prelude.{◌≡◌, ℕ, suc, ◌+◌, ◌*◌, ◌^◌, ◌<◌, ◌≤◌, ◌==◌, nat_le, ◌&&◌, Bool, true}
+use Rattle.std.specs.Prelude.{false, ℤ, pos, List, [], ◌∷◌, length, drop, ◌-◌, map, codes}
+use Rattle.std.specs.Prelude.{if◌then◌else◌, Option, Some, None}
 use Rattle.std.specs.Int.{w64, cast_signed}
 use Rattle.std.specs.List.{list_all}
 use Rattle.std.specs.Str.{bytes_eq}
-use Rattle.jh_edn.specs.Edn.{Edn, nil, int, keyword, vector, list_of}
+use Rattle.jh_edn.specs.Edn.{Edn, nil, int, keyword, vector, list_of, is_keyword, is_integer}
 use Rattle.jh_ops.specs.Operation.{Operation}
-use Rattle.jh_ops.specs.OperationText.{is_keyword, is_integer}
 use Rattle.jh_ops.specs.OperationWritten.{IsWritable}
-use Rattle.jh_ops.specs.Words.{Content, Nothing, One, Several, Record, CanBeKept, operation_of, heading, kind_number, function_number, process_word}
+use Rattle.jh_ops.specs.Words.{Content, Nothing, One, Several, Record, CanBeKept, operation_of}
+use Rattle.jh_ops.specs.Words.{heading, kind_number, function_number, process_word}
 use Rattle.jh_ops.specs.declared.operation.Kind.{Kind}
 use Rattle.jh_ops.specs.declared.operation.Process.{Process}
 use Rattle.jh_ops.specs.declared.record.Function.{Function}
@@ -72,11 +74,11 @@ holds Shape.Vector count = nat_le count 1272
 abbrev pub are_integers : List Edn → Bool
 are_integers values = list_all is_integer values
 
-abbrev pub shape_of : Edn → Option Shape
-shape_of nil = Some Shape.Nil
-shape_of (int z) = Some Shape.Integer
-shape_of (vector xs) = if are_integers (list_of xs) then Some Shape.Vector else None
-shape_of _ = None
+abbrev pub shape_of_value : Edn → Option Shape
+shape_of_value nil = Some Shape.Nil
+shape_of_value (int z) = Some Shape.Integer
+shape_of_value (vector xs) = if are_integers (list_of xs) then Some Shape.Vector else None
+shape_of_value _ = None
 
 -- the values that take a word each
 abbrev pub elements : Edn → List Edn
@@ -97,12 +99,14 @@ IsPlain op = (op.time ≡ None) × (op.index ≡ None) × IsWritable op.process
 -- the word of the event under the one key `:event` that there may be
 abbrev pub event_word_in : List (Edn × Edn) → Option ℕ
 event_word_in [] = Some 0
-event_word_in ((key, int (pos number)) ∷ []) = if is_keyword (codes "event") key then Some (suc number) else None
+event_word_in ((key, int (pos number)) ∷ []) =
+    if is_keyword (codes "event") key then Some (suc number) else None
 event_word_in _ = None
 
 -- the first word of these parts
 abbrev pub first_word : Head → ℕ
-first_word head = kind_number head.kind + 4 * function_number head.function + 64 * shape_number head.shape
+first_word head =
+    kind_number head.kind + 4 * function_number head.function + 64 * shape_number head.shape
 
 abbrev pub IsNoFirstWord : ℕ → Type 0
 IsNoFirstWord word = (head : Head) → first_word head ≡ word → ⊥
@@ -122,10 +126,11 @@ abbrev pub IsWordOf : Edn → ℕ → Type 0
 IsWordOf value word = (word < 2 ^ 64) × ((z : ℤ) → value ≡ int z → cast_signed w64 word ≡ z)
 
 -- words are those of values, one by one
-abbrev pub AreWordsOf : List ℕ → List Edn → Type 0
-AreWordsOf [] [] = Unit {0}
-AreWordsOf (word ∷ words) (value ∷ values) = IsWordOf value word × AreWordsOf words values
-AreWordsOf _ _ = ⊥
+abbrev pub AreWordsOfValues : List ℕ → List Edn → Type 0
+AreWordsOfValues [] [] = Unit {0}
+AreWordsOfValues (word ∷ words) (value ∷ values) =
+    IsWordOf value word × AreWordsOfValues words values
+AreWordsOfValues _ _ = ⊥
 
 -- ---- read again
 
@@ -152,8 +157,9 @@ record_of h words =
     }
 
 -- Words begin with a heading, and go on with as many as its shape wants.
-pub record Begin (words : List ℕ) (h : Heading) : Type 0 where
+pub record BeginWith (words : List ℕ) (h : Heading) : Type 0 where
   pub first : words ≡ first_word h.head ∷ process_word h.process ∷ h.event ∷ drop 3 words
   pub process : IsWritable h.process
   pub event : h.event ≤ 2 ^ 63
-  pub fit : (holds h.head.shape (length (drop 3 words)) && takes h.head.function h.head.shape (length (drop 3 words))) ≡ true
+  pub fit : (holds h.head.shape (length (drop 3 words))
+      && takes h.head.function h.head.shape (length (drop 3 words))) ≡ true

@@ -1,11 +1,14 @@
--- The requests of each workload: those of the workloads that Jepsen's pages on checkers name.
-use Rattle.std.specs.Prelude.{Bool, true, false}
+-- The requests of each workload, those of the workloads that Jepsen's pages on checkers name, and
+-- its name and its most calls (this project's own).
+use Rattle.std.specs.Prelude.{ℕ, Bool, true, false, List, codes, if◌then◌else◌, Option, Some, None}
+use Rattle.std.specs.Str.{bytes_eq}
 use Rattle.jh_ops.specs.declared.call.Request.{Request}
 use Rattle.jh_ops.specs.declared.call.Request.TheVariants.{Read, Write, Cas, Add, Generate}
 use Rattle.jh_ops.specs.declared.call.Workload.{Workload}
 use Rattle.jh_ops.specs.declared.call.Workload.TheVariants.{Register, Counter, Set, Ids}
 
--- a register is read, written, and compared and set; counters and sets are added to and read; ids are generated
+-- a register is read, written, and compared and set; counters and sets are added to and read; ids
+-- are generated
 abbrev pub is_request_of : Request → Workload → Bool
 is_request_of Read Register = true
 is_request_of Read Counter = true
@@ -27,3 +30,24 @@ is_request_of Generate Register = false
 is_request_of Generate Counter = false
 is_request_of Generate Set = false
 is_request_of Generate Ids = true
+
+-- the name by which a workload is chosen
+abbrev pub workload_name : Workload → List ℕ
+workload_name Register = codes "register"
+workload_name Counter = codes "counter"
+workload_name Set = codes "set"
+workload_name Ids = codes "unique-ids"
+
+-- the workload of this name
+abbrev pub workload_named : List ℕ → Option Workload
+workload_named name =
+    if bytes_eq name (codes "register") then Some Register
+    else if bytes_eq name (codes "counter") then Some Counter
+    else if bytes_eq name (codes "set") then Some Set
+    else if bytes_eq name (codes "unique-ids") then Some Ids
+    else None
+
+-- how many calls a run of a workload may make; a read of a set gives all its elements
+abbrev pub max_calls_of : Workload → ℕ
+max_calls_of Set = 1000
+max_calls_of _ = 10000

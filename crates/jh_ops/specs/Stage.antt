@@ -1,5 +1,6 @@
 -- What pairing keeps of each process while it goes over a history: how far it has come.
-use Rattle.std.specs.Prelude.{ℕ, List, [], ◌∷◌, ◌++◌, zero, suc, Option, Some, None, Result, Ok, Err}
+use Rattle.std.specs.Prelude.{ℕ, List, [], ◌∷◌, ◌++◌, zero, suc, Option, Some, None, Result, Ok}
+use Rattle.std.specs.Prelude.{Err}
 use Rattle.jh_ops.specs.declared.operation.Kind.{Kind}
 use Rattle.jh_ops.specs.declared.pairs.Pair.{Pair}
 use Rattle.jh_ops.specs.declared.pairs.PairError.{PairError}
@@ -17,14 +18,14 @@ stage_after (Waiting at) Kind.Info place opened = Ok Crashed
 stage_after (Waiting at) kind place opened = Ok Idle
 
 -- the pairs with this outcome of the pair at a place
-abbrev pub with_outcome : List Pair → ℕ → ℕ → List Pair
-with_outcome [] at outcome = []
-with_outcome (p ∷ pairs) zero outcome = record p { outcome = Some outcome } ∷ pairs
-with_outcome (p ∷ pairs) (suc at) outcome = p ∷ with_outcome pairs at outcome
+abbrev pub pairs_with_outcome : List Pair → ℕ → ℕ → List Pair
+pairs_with_outcome [] at outcome = []
+pairs_with_outcome (p ∷ pairs) zero outcome = record p { outcome = Some outcome } ∷ pairs
+pairs_with_outcome (p ∷ pairs) (suc at) outcome = p ∷ pairs_with_outcome pairs at outcome
 
 -- the pairs after an operation at a place that its process may do at this stage
 abbrev pub pairs_after : Stage → ℕ → List Pair → List Pair
-pairs_after (Waiting at) place pairs = with_outcome pairs at place
+pairs_after (Waiting at) place pairs = pairs_with_outcome pairs at place
 pairs_after _ place pairs = pairs ++ record { invoke = place; outcome = None } ∷ []
 
 -- the place of the pair that awaits its outcome

@@ -1,6 +1,7 @@
--- The words of a recorded operation (this project's own): a log of 64-bit words keeps what a run's own operations say, and no
--- other part of one.
-use Rattle.std.specs.Prelude.{◌≡◌, ℕ, suc, ◌+◌, ◌*◌, ◌^◌, ◌<◌, ◌≤◌, ◌-◌, ℤ, pos, List, [], ◌∷◌, ◌++◌, length, map, codes, All, Option, Some, None, IfSome}
+-- The words of a recorded operation (this project's own): a log of 64-bit words keeps what a run's
+-- own operations say, and no other part of one.
+use Rattle.std.specs.Prelude.{◌≡◌, ℕ, suc, ◌+◌, ◌*◌, ◌^◌, ◌<◌, ◌≤◌, ◌-◌, ℤ, pos, List, [], ◌∷◌}
+use Rattle.std.specs.Prelude.{◌++◌, length, map, codes, All, Option, Some, None, IfSome}
 use Rattle.std.specs.Int.{w64, cast_signed}
 use Rattle.jh_edn.specs.Edn.{Edn, nil, int, keyword, vector, items_of}
 use Rattle.jh_ops.specs.Operation.{Operation}
@@ -9,7 +10,8 @@ use Rattle.jh_ops.specs.declared.operation.Kind.{Kind}
 use Rattle.jh_ops.specs.declared.operation.Process.{Process}
 use Rattle.jh_ops.specs.declared.record.Function.{Function}
 use Rattle.jh_ops.specs.declared.words.WordsError.{WordsError}
-use Rattle.jh_ops.specs.declared.words.WordsError.TheVariants.{NotRecordable, TooSmall, BadWords, OutOfMemory}
+use Rattle.jh_ops.specs.declared.words.WordsError.TheVariants.{NotRecordable, TooSmall, BadWords}
+use Rattle.jh_ops.specs.declared.words.WordsError.TheVariants.{OutOfMemory}
 
 -- what an operation asks with, or answers: nil, an integer, or a vector of integers
 pub data Content : Type 0 where
@@ -47,7 +49,8 @@ function_name Function.Add = codes "add"
 function_name Function.Generate = codes "generate"
 function_name Function.Step = codes "step"
 
--- What is kept of an operation. The event is the number of what happened in the world at it, where that is known.
+-- What is kept of an operation. The event is the number of what happened in the world at it, where
+-- that is known.
 pub record Record : Type 0 where
   pub kind : Kind
   pub process : Process
@@ -55,15 +58,27 @@ pub record Record : Type 0 where
   pub content : Content
   pub event : Option ℕ
 
-abbrev pub event_part : Option ℕ → List (Edn × Edn)
-event_part None = []
-event_part (Some number) = (keyword (codes "event"), int (pos number)) ∷ []
+abbrev pub pairs_of_event : Option ℕ → List (Edn × Edn)
+pairs_of_event None = []
+pairs_of_event (Some number) = (keyword (codes "event"), int (pos number)) ∷ []
 
 -- the operation of which it is kept: it has no time, no index, and no other key than `:event`
 abbrev pub operation_of : Record → Operation
-operation_of r = record { kind = r.kind; process = r.process; f = keyword (function_name r.function); value = content_value r.content; time = None; index = None; rest = event_part r.event }
+operation_of r =
+    record {
+      kind = r.kind;
+      process = r.process;
+      f = keyword
+          (function_name r.function);
+      value = content_value r.content;
+      time = None;
+      index = None;
+      rest =
+          pairs_of_event r.event;
+    }
 
--- what can be kept: with as many integers as the longest record has room for, beside its three first words
+-- what can be kept: with as many integers as the longest record has room for, beside its three
+-- first words
 pub record CanBeKept (r : Record) : Type 0 where
   pub process : IsWritable r.process
   pub content : MayHave r.function r.content
@@ -101,7 +116,9 @@ event_word (Some number) = suc number
 
 -- the first three words
 abbrev pub heading : Record → List ℕ
-heading r = (kind_number r.kind + 4 * function_number r.function + 64 * content_number r.content) ∷ process_word r.process ∷ event_word r.event ∷ []
+heading r =
+    (kind_number r.kind + 4 * function_number r.function + 64 * content_number r.content)
+    ∷ process_word r.process ∷ event_word r.event ∷ []
 
 -- Each word is an integer's two's complement.
 abbrev pub StandFor : List ℕ → List ℤ → Type 0
@@ -109,7 +126,8 @@ StandFor words zs = All (λ word. word < 2 ^ 64) words × (map (cast_signed w64)
 
 -- the heading, and then a word for each integer
 abbrev pub AreWordsOf : List ℕ → Record → Type 0
-AreWordsOf words r = (rest : List ℕ) × (words ≡ heading r ++ rest) × StandFor rest (integers r.content)
+AreWordsOf words r =
+    (rest : List ℕ) × (words ≡ heading r ++ rest) × StandFor rest (integers r.content)
 
 -- An operation is recorded as words.
 abbrev pub IsRecordedAs : Operation → List ℕ → Type 0
@@ -118,7 +136,8 @@ IsRecordedAs op words = (r : Record) × CanBeKept r × (operation_of r ≡ op) �
 -- Why an operation is refused, where there is room for so many words.
 abbrev pub RefusesOperation : Operation → ℕ → WordsError → Type 0
 RefusesOperation op room NotRecordable = (r : Record) → CanBeKept r → operation_of r ≡ op → ⊥
-RefusesOperation op room TooSmall = (r : Record) × CanBeKept r × (operation_of r ≡ op) × (room < 3 + length (integers r.content))
+RefusesOperation op room TooSmall =
+    (r : Record) × CanBeKept r × (operation_of r ≡ op) × (room < 3 + length (integers r.content))
 RefusesOperation op room _ = ⊥
 
 -- Why words are refused.
@@ -128,6 +147,8 @@ RefusesWords words OutOfMemory = (r : Record) × CanBeKept r × AreWordsOf words
 RefusesWords words _ = ⊥
 
 -- An operation is recorded as one list of words, and no other operation is recorded as it.
-pub record RecordedOnce : Type 0 where
-  pub one_list : (op : Operation) (these those : List ℕ) → IsRecordedAs op these → IsRecordedAs op those → these ≡ those
-  pub one_operation : (this that : Operation) (words : List ℕ) → IsRecordedAs this words → IsRecordedAs that words → this ≡ that
+pub record AreRecordedOnce : Type 0 where
+  pub one_list : (op : Operation) (these those : List ℕ) → IsRecordedAs op these
+      → IsRecordedAs op those → these ≡ those
+  pub one_operation : (this that : Operation) (words : List ℕ) → IsRecordedAs this words
+      → IsRecordedAs that words → this ≡ that

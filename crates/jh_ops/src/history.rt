@@ -3,7 +3,7 @@
 ghost use Rattle.std.specs.Prelude.{◌≡◌, All, IfOk, MatchResult};
 ghost use Rattle.jh_edn.specs.View.{views};
 ghost use Rattle.jh_ops.specs.HistoryText as rule;
-ghost use Rattle.jh_ops.specs.HistoryText.{AreParsed, RefusesValues, refusal_at};
+ghost use Rattle.jh_ops.specs.HistoryText.{AreParsed, RefusesValues, history_error_at};
 ghost use Rattle.jh_ops.specs.Operation.{operations};
 ghost use Rattle.jh_ops.specs.OperationWritten.{IsWritable};
 
@@ -33,8 +33,9 @@ impl<T: Drop> From<AllocFailed<T>> for HistoryError {
     }
 }
 
+/// The error of a history with this refusal at a place; out of memory names no place.
 fn refusal(place: usize, refusal: OpError) -> HistoryError
-    ensures { result ≡ refusal_at place refusal }
+    ensures { result ≡ history_error_at place refusal }
 {
     match refusal {
         OpError::OutOfMemory => HistoryError::OutOfMemory,
@@ -42,7 +43,7 @@ fn refusal(place: usize, refusal: OpError) -> HistoryError
     }
 }
 
-// The values that tell operations.
+/// The values that tell operations.
 fn elements_in(values: Vec<Value>) -> Vec<Value>
     ensures { views result.items ≡ rule.elements_in (views values.items) }
 {
@@ -63,13 +64,13 @@ fn elements_in(values: Vec<Value>) -> Vec<Value>
     }
 }
 
-/// The history that values tell: one operation each, or a single list or vector, with or without
-/// tags around it, of one operation for each element. No values tell the empty history.
+/// The history that values mean: one operation each, or a single list or vector, with or without
+/// tags around it, of one operation for each element. No values mean the empty history.
 ///
 /// Errors: `Op`, with the first place from 0 at which `op_of` refuses the value, and why;
 /// `OutOfMemory` at a place where it refuses none up to it.
 pub fn history_of(alloc: Global, values: Vec<Value>) -> Result<Vec<Op>, HistoryError>
-    ensures told { MatchResult result
+    ensures parsed { MatchResult result
         (λ ops. AreParsed (views values.items) (operations ops.items))
         (RefusesValues (views values.items)) }
     ensures writable { IfOk result (λ ops. All (λ op. IsWritable op.process) ops.items) }

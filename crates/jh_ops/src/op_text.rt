@@ -2,12 +2,13 @@
 
 ghost use Rattle.std.specs.Prelude.{◌≡◌, IfOk, IfSome, filter, find, position};
 ghost use Rattle.std.specs.Prelude.{option_map, option_copied};
-ghost use Rattle.jh_edn.specs.Edn.{int};
+ghost use Rattle.jh_edn.specs.Edn.{int, is_keyword, value_under};
 ghost use Rattle.jh_edn.specs.View.{view, view_pair, view_pairs};
 ghost use Rattle.jh_ops.specs.OperationText as rule;
-ghost use Rattle.jh_ops.specs.OperationText.{IsOperationParsed, parsed_op, op_of_pairs, untagged};
+ghost use Rattle.jh_ops.specs.OperationText.{IsOperationParsed, parsed_op, op_of_pairs};
+ghost use Rattle.jh_ops.specs.OperationText.{untagged_value};
 ghost use Rattle.jh_ops.specs.OperationWritten.{IsWritable};
-ghost use Rattle.jh_ops.specs.Parts.{without};
+ghost use Rattle.jh_ops.specs.Parts.{pairs_without_first};
 
 use crate::operation::{Kind, Op, Process};
 use jh_edn::{Pairs, Value};
@@ -37,7 +38,7 @@ pub enum OpError {
 
 /// A value without the tags around it.
 pub(crate) fn untag(value: Value) -> Value
-    ensures { view result ≡ untagged (view value) }
+    ensures { view result ≡ untagged_value (view value) }
 {
     let mut value = value;
     while let Value::Tagged(tagged) = value {
@@ -46,52 +47,31 @@ pub(crate) fn untag(value: Value) -> Value
     value
 }
 
-pub(crate) fn is_keyword(name: &str, value: &Value) -> bool
-    ensures { result ≡ rule.is_keyword name.now (view value.now) }
-{
-    match value {
-        Value::Keyword(text) => text.as_str() == name,
-        _ => false,
-    }
-}
-
-pub(crate) fn is_integer(value: &Value) -> bool
-    ensures { result ≡ rule.is_integer (view value.now) }
-{
-    matches!(value, Value::Int(_))
-}
-
-fn integer_of(value: &Value) -> Option<i64>
-    ensures { result ≡ rule.integer_of (view value.now) }
-{
-    match value {
-        Value::Int(number) => Some(*number),
-        _ => None,
-    }
-}
-
+/// The first pair with a keyword, if there is one.
 fn find_pair<'a>(name: &str, pairs: &'a [(Value, Value)]) -> Option<&'a (Value, Value)>
     ensures { option_copied result
-        ≡ find (λ pair. rule.is_keyword name.now (view pair.0)) pairs.now }
+        ≡ find (λ pair. is_keyword name.now (view pair.0)) pairs.now }
 {
-    pairs.iter().find(|pair| is_keyword(name, &pair.0))
+    pairs.iter().find(|pair| pair.0.is_keyword(name))
 }
 
-// The value under a keyword.
+/// The value under a keyword.
 fn value_under<'a>(name: &str, pairs: &'a [(Value, Value)]) -> Option<&'a Value>
     ensures { option_map (λ v. view v.now) result
-        ≡ rule.value_under name.now (view_pairs pairs.now) }
+        ≡ value_under name.now (view_pairs pairs.now) }
 {
     let pair = find_pair(name, pairs)?;
     Some(&pair.1)
 }
 
+/// Whether a pair has a keyword and an integer.
 fn is_integer_under(name: &str, pair: &(Value, Value)) -> bool
     ensures { result ≡ rule.is_integer_under name.now (view_pair pair.now) }
 {
-    is_keyword(name, &pair.0) && is_integer(&pair.1)
+    pair.0.is_keyword(name) && pair.1.is_integer()
 }
 
+/// The first pair with a keyword and an integer, if there is one.
 fn find_integer<'a>(name: &str, pairs: &'a [(Value, Value)]) -> Option<&'a (Value, Value)>
     ensures { option_copied result
         ≡ find (λ pair. rule.is_integer_under name.now (view_pair pair)) pairs.now }
@@ -99,33 +79,36 @@ fn find_integer<'a>(name: &str, pairs: &'a [(Value, Value)]) -> Option<&'a (Valu
     pairs.iter().find(|pair| is_integer_under(name, pair))
 }
 
-// The integer under a keyword.
+/// The integer under a keyword.
 fn integer_under(name: &str, pairs: &[(Value, Value)]) -> Option<i64>
     ensures { result ≡ rule.integer_under name.now (view_pairs pairs.now) }
 {
     let pair = find_integer(name, pairs)?;
-    integer_of(&pair.1)
+    pair.1.as_integer()
 }
 
+/// The place of the first pair with a keyword, if there is one.
 fn place_of(name: &str, pairs: &[(Value, Value)]) -> Option<usize>
-    ensures { result ≡ position (λ pair. rule.is_keyword name.now (view pair.0)) pairs.now }
+    ensures { result ≡ position (λ pair. is_keyword name.now (view pair.0)) pairs.now }
 {
-    pairs.iter().position(|pair| is_keyword(name, &pair.0))
+    pairs.iter().position(|pair| pair.0.is_keyword(name))
 }
 
-// Takes out the first pair with a keyword, and gives its value.
+/// Takes out the first pair with a keyword, and gives its value.
 fn take_under(name: &str, pairs: &mut Vec<(Value, Value)>) -> Option<Value>
     ensures value { option_map view result
-        ≡ rule.value_under name.now (view_pairs pairs.old.items) }
-    ensures rest { view_pairs pairs.new.items ≡ without name.now (view_pairs pairs.old.items) }
+        ≡ value_under name.now (view_pairs pairs.old.items) }
+    ensures rest { view_pairs pairs.new.items
+        ≡ pairs_without_first name.now (view_pairs pairs.old.items) }
 {
     let place = place_of(name, pairs)?;
     let (_key, value) = pairs.remove(place);
     Some(value)
 }
 
-fn is_part_key(key: &Value) -> bool
-    ensures { result ≡ rule.is_part_key (view key.now) }
+/// Whether a key is that of a part of each operation, whatever its value.
+fn is_common_key(key: &Value) -> bool
+    ensures { result ≡ rule.is_common_key (view key.now) }
 {
     match key {
         Value::Keyword(name) => matches!(name.as_str(), "type" | "process" | "f" | "value"),
@@ -133,6 +116,7 @@ fn is_part_key(key: &Value) -> bool
     }
 }
 
+/// Whether a key is that of a part only where its value is an integer.
 fn is_integer_key(key: &Value) -> bool
     ensures { result ≡ rule.is_integer_key (view key.now) }
 {
@@ -142,13 +126,14 @@ fn is_integer_key(key: &Value) -> bool
     }
 }
 
+/// Whether a pair is no part of its own, and is kept as it stands.
 fn is_other(pair: &(Value, Value)) -> bool
     ensures { result ≡ rule.is_other (view_pair pair.now) }
 {
-    !is_part_key(&pair.0) && !(is_integer_key(&pair.0) && is_integer(&pair.1))
+    !is_common_key(&pair.0) && !(is_integer_key(&pair.0) && pair.1.is_integer())
 }
 
-// The pairs that are kept as they stand.
+/// The pairs that are kept as they stand.
 fn others(alloc: Global, pairs: Vec<(Value, Value)>) -> Result<Vec<(Value, Value)>, AllocError>
     ensures { IfOk result (λ kept. kept.items
         ≡ filter (λ pair. rule.is_other (view_pair pair)) pairs.items) }
@@ -159,8 +144,9 @@ fn others(alloc: Global, pairs: Vec<(Value, Value)>) -> Result<Vec<(Value, Value
         .collect(alloc)
 }
 
-fn kind_of(value: &Value) -> Option<Kind>
-    ensures { result ≡ rule.kind_of (view value.now) }
+/// The kind that a value means, if it means one.
+fn kind_of_value(value: &Value) -> Option<Kind>
+    ensures { result ≡ rule.kind_of_value (view value.now) }
 {
     let Value::Keyword(name) = value else {
         return None;
@@ -174,6 +160,7 @@ fn kind_of(value: &Value) -> Option<Kind>
     }
 }
 
+/// The client with this number, if the number is from 0 on.
 fn client_of(number: i64) -> Option<Process>
     ensures named { result ≡ rule.process_of (int number) }
     ensures writable { IfSome result IsWritable }
@@ -181,6 +168,7 @@ fn client_of(number: i64) -> Option<Process>
     u64::try_from(number).ok().map(Process::Client)
 }
 
+/// The process that a value means, if it means one.
 fn process_of(value: &Value) -> Option<Process>
     ensures named { result ≡ rule.process_of (view value.now) }
     ensures writable { IfSome result IsWritable }
@@ -192,13 +180,14 @@ fn process_of(value: &Value) -> Option<Process>
     }
 }
 
-// The kind of the operation of these pairs.
+/// The kind of the operation of these pairs.
 fn kind_in(pairs: &[(Value, Value)]) -> Result<Kind, OpError>
     ensures { result ≡ rule.kind_in (view_pairs pairs.now) }
 {
-    kind_of(value_under("type", pairs).ok_or(OpError::MissingType)?).ok_or(OpError::BadType)
+    kind_of_value(value_under("type", pairs).ok_or(OpError::MissingType)?).ok_or(OpError::BadType)
 }
 
+/// The process of the operation of these pairs.
 fn process_in(pairs: &[(Value, Value)]) -> Result<Process, OpError>
     ensures named { result ≡ rule.process_in (view_pairs pairs.now) }
     ensures writable { IfOk result IsWritable }
@@ -208,8 +197,9 @@ fn process_in(pairs: &[(Value, Value)]) -> Result<Process, OpError>
     )
 }
 
+/// The operation that the pairs of a map mean, or the first refusal that applies.
 fn op_in(alloc: Global, pairs: Vec<(Value, Value)>) -> Result<Op, OpError>
-    ensures told { IsOperationParsed result (op_of_pairs (view_pairs pairs.items)) }
+    ensures parsed { IsOperationParsed result (op_of_pairs (view_pairs pairs.items)) }
     ensures writable { IfOk result (λ op. IsWritable op.process) }
 {
     let mut pairs = pairs;
@@ -235,7 +225,7 @@ fn op_in(alloc: Global, pairs: Vec<(Value, Value)>) -> Result<Op, OpError>
     }
 }
 
-/// The operation that a value tells: a map of `:type`, one of `:invoke`, `:ok`, `:fail` and
+/// The operation that a value means: a map of `:type`, one of `:invoke`, `:ok`, `:fail` and
 /// `:info`; `:f`; `:process`, an integer from 0 or `:nemesis`; and if wanted `:value`, nil where it
 /// is missing, `:time` and `:index`. Tags around the map are ignored. All other pairs are kept in
 /// their order, also those of a `:time` or an `:index` that is no integer. Of a key that a map made
@@ -246,7 +236,7 @@ fn op_in(alloc: Global, pairs: Vec<(Value, Value)>) -> Result<Op, OpError>
 /// Errors, in this order: `NotMap`; `MissingType`, `BadType`; `MissingF`; `MissingProcess`,
 /// `BadProcess`; `OutOfMemory`.
 pub fn op_of(alloc: Global, value: Value) -> Result<Op, OpError>
-    ensures told { IsOperationParsed result (parsed_op (view value)) }
+    ensures parsed { IsOperationParsed result (parsed_op (view value)) }
     ensures writable { IfOk result (λ op. IsWritable op.process) }
 {
     match untag(value) {

@@ -5,13 +5,15 @@ ghost use Rattle.jh_edn.specs.Edn.{keyword};
 ghost use Rattle.jh_edn.specs.View.{view, view_pairs};
 ghost use Rattle.jh_ops.specs.Operation.{operation};
 ghost use Rattle.jh_ops.specs.OperationWritten as rule;
-ghost use Rattle.jh_ops.specs.OperationWritten.{IsWritable, ReadBack, integer_part, four_parts};
+ghost use Rattle.jh_ops.specs.OperationWritten.{IsWritable, OperationsReadBack, integer_pairs};
+ghost use Rattle.jh_ops.specs.OperationWritten.{four_pairs};
 ghost use Rattle.jh_ops.specs.OperationWritten.{value_written};
 
 use crate::operation::{Kind, Op, Process};
-use jh_edn::{Pairs, Text, Value};
+use jh_edn::{Pairs, Value};
 use std::alloc::{AllocError, Global};
 
+/// The name of a kind, without its colon.
 fn kind_name(kind: Kind) -> &'static str
     ensures { result.now ≡ rule.kind_name kind }
 {
@@ -23,24 +25,19 @@ fn kind_name(kind: Kind) -> &'static str
     }
 }
 
-pub(crate) fn keyword(alloc: Global, name: &str) -> Result<Value, AllocError>
-    ensures { IfOk result (λ value. view value ≡ keyword name.now) }
-{
-    Ok(Value::Keyword(Text::of(alloc, name)?))
-}
-
+/// The value that is written of a process.
 fn process_value(alloc: Global, process: Process) -> Result<Value, AllocError>
     requires { IsWritable process }
     ensures { IfOk result (λ value. view value ≡ rule.process_value process) }
 {
     match process {
         Process::Client(number) => Ok(Value::Int(number as i64)),
-        Process::Nemesis => keyword(alloc, "nemesis"),
+        Process::Nemesis => Value::keyword(alloc, "nemesis"),
     }
 }
 
-// Adds a pair with a keyword.
-fn push_part(
+/// Adds a pair with a keyword.
+fn push_pair(
     alloc: Global,
     pairs: &mut Vec<(Value, Value)>,
     name: &str,
@@ -49,10 +46,11 @@ fn push_part(
     ensures { OnOk result (view_pairs pairs.new.items
         ≡ view_pairs pairs.old.items ++ (keyword name.now, view value) ∷ []) }
 {
-    pairs.push((keyword(alloc, name)?, value))?;
+    pairs.push((Value::keyword(alloc, name)?, value))?;
     Ok(())
 }
 
+/// Adds a pair with a keyword and an integer, where there is an integer.
 fn push_integer(
     alloc: Global,
     pairs: &mut Vec<(Value, Value)>,
@@ -60,27 +58,33 @@ fn push_integer(
     integer: Option<i64>,
 ) -> Result<(), AllocError>
     ensures { OnOk result (view_pairs pairs.new.items
-        ≡ view_pairs pairs.old.items ++ integer_part name.now integer) }
+        ≡ view_pairs pairs.old.items ++ integer_pairs name.now integer) }
 {
     match integer {
-        Some(integer) => push_part(alloc, pairs, name, Value::Int(integer)),
+        Some(integer) => push_pair(alloc, pairs, name, Value::Int(integer)),
         None => Ok(()),
     }
 }
 
-// Adds the parts that each operation has.
+/// Adds the parts that each operation has.
 fn push_four(alloc: Global, pairs: &mut Vec<(Value, Value)>, op: &Op) -> Result<(), AllocError>
     requires { IsWritable op.now.process }
     ensures { OnOk result (view_pairs pairs.new.items
-        ≡ view_pairs pairs.old.items ++ four_parts (operation op.now)) }
+        ≡ view_pairs pairs.old.items ++ four_pairs (operation op.now)) }
 {
-    push_part(alloc, pairs, "type", keyword(alloc, kind_name(op.kind))?)?;
-    push_part(alloc, pairs, "process", process_value(alloc, op.process)?)?;
-    push_part(alloc, pairs, "f", op.f.copy(alloc)?)?;
-    push_part(alloc, pairs, "value", op.value.copy(alloc)?)?;
+    push_pair(
+        alloc,
+        pairs,
+        "type",
+        Value::keyword(alloc, kind_name(op.kind))?,
+    )?;
+    push_pair(alloc, pairs, "process", process_value(alloc, op.process)?)?;
+    push_pair(alloc, pairs, "f", op.f.copy(alloc)?)?;
+    push_pair(alloc, pairs, "value", op.value.copy(alloc)?)?;
     Ok(())
 }
 
+/// Adds copies of pairs, in their order.
 fn push_copies(
     alloc: Global,
     pairs: &mut Vec<(Value, Value)>,
@@ -112,5 +116,5 @@ pub fn value_of(alloc: Global, op: &Op) -> Result<Value, AllocError>
 
 /// A law: what is written of an operation that a value told is read as that operation.
 pub fn operations_read_back()
-    ensures { ReadBack }
+    ensures { OperationsReadBack }
 {}

@@ -1,6 +1,8 @@
 //! Operations, as programs hold them. `specs/Operation.antt` says what a contract sees of one.
 
-ghost use Rattle.std.specs.Prelude.{◌↔◌, IsTrue};
+ghost use Rattle.std.specs.Prelude.{◌≡◌, ◌↔◌, IsTrue};
+ghost use Rattle.jh_ops.specs.Operation as rule;
+ghost use Rattle.jh_ops.specs.Operation.{operation};
 ghost use Rattle.jh_ops.specs.OperationWritten.{IsWritable};
 
 use jh_edn::{Pairs, Value};
@@ -27,7 +29,29 @@ pub enum Process {
     Nemesis,
 }
 
+impl Kind {
+    /// Whether the two are one.
+    pub fn is(self, other: Kind) -> bool
+        ensures { result ≡ rule.is_kind self other }
+    {
+        match (self, other) {
+            (Kind::Invoke, Kind::Invoke) => true,
+            (Kind::Ok, Kind::Ok) => true,
+            (Kind::Fail, Kind::Fail) => true,
+            (Kind::Info, Kind::Info) => true,
+            _ => false,
+        }
+    }
+}
+
 impl Process {
+    /// Whether it is a client's, and not the nemesis.
+    pub fn is_client(self) -> bool
+        ensures { result ≡ rule.is_client self }
+    {
+        matches!(self, Process::Client(_))
+    }
+
     /// Whether the process can be written: a client's number is at most `i64::MAX`.
     pub fn is_writable(self) -> bool
         ensures { IsTrue result ↔ IsWritable self }
@@ -54,4 +78,14 @@ pub struct Op {
     pub index: Option<i64>,
     /// All other keys with their values, in order.
     pub rest: Pairs,
+}
+
+impl Op {
+    /// Whether a client did it, and it is of this kind and of the function of this name, which
+    /// stands without its colon.
+    pub fn is_asked(&self, kind: Kind, name: &str) -> bool
+        ensures { result ≡ rule.is_asked kind name.now (operation self.now) }
+    {
+        self.process.is_client() && kind.is(self.kind) && self.f.is_keyword(name)
+    }
 }

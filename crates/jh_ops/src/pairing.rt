@@ -7,7 +7,7 @@
 ghost use Rattle.std.specs.Prelude.{◌≡◌, ◌<◌, length, All, IfOk, IsOkUnless, MatchResult, OnOk};
 ghost use Rattle.std.specs.Option.{ForSome};
 ghost use Rattle.jh_ops.specs.Operation.{operations};
-ghost use Rattle.jh_ops.specs.Pairing.{IsWellFormed, IsWithin, RefusesHistory, pairs_of};
+ghost use Rattle.jh_ops.specs.Pairing.{IsWellFormed, IsPairWithin, RefusesHistory, history_pairs};
 ghost use Rattle.jh_ops.specs.Stage.{pair_awaited, pairs_after, stage_after};
 ghost use Rattle.jh_ops.specs.declared.pairs.PairError.TheVariants.{OutOfMemory};
 
@@ -27,7 +27,7 @@ enum Stage {
     Crashed,
 }
 
-// The stage after an operation at a place, where a new pair would stand at `opened`.
+/// The stage after an operation at a place, where a new pair would stand at `opened`.
 fn next_stage(stage: Stage, kind: Kind, place: usize, opened: usize) -> Result<Stage, PairError>
     ensures { result ≡ stage_after stage kind place opened }
 {
@@ -41,7 +41,7 @@ fn next_stage(stage: Stage, kind: Kind, place: usize, opened: usize) -> Result<S
     }
 }
 
-// Closes the pair that waits for the operation at a place, or opens one.
+/// Closes the pair that waits for the operation at a place, or opens one.
 fn record_pair(pairs: &mut Vec<Pair>, stage: Stage, place: usize) -> Result<(), AllocError>
     requires { ForSome (pair_awaited stage) (λ at. at < length pairs.old.items) }
     ensures { OnOk result (pairs.new.items ≡ pairs_after stage place pairs.old.items) }
@@ -67,10 +67,10 @@ fn record_pair(pairs: &mut Vec<Pair>, stage: Stage, place: usize) -> Result<(), 
 pub fn pair(alloc: Global, history: &[Op]) -> Result<Vec<Pair>, PairError>
     ensures judged { MatchResult result
         (λ pairs. IsWellFormed (operations history.now)
-        × (pairs.items ≡ pairs_of (operations history.now)))
+        × (pairs.items ≡ history_pairs (operations history.now)))
         (RefusesHistory (operations history.now)) }
     ensures accepts { IsWellFormed (operations history.now) → IsOkUnless result OutOfMemory }
-    ensures within { IfOk result (λ pairs. All (IsWithin (length history.now)) pairs.items) }
+    ensures within { IfOk result (λ pairs. All (IsPairWithin (length history.now)) pairs.items) }
 {
     let mut stages = BTreeMap::new(alloc);
     let mut pairs = Vec::new(alloc);

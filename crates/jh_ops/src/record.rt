@@ -1,14 +1,14 @@
-//! The parts of a recorded operation: its function, the shape of its value, and their numbers. `specs/Words.antt` has
-//! the rule, `specs/RecordParts.antt` what a body computes of it; a new function is a variant here and a case of both.
+//! The parts of a recorded operation: its function, the shape of its value, and their numbers.
+//! `specs/Words.antt` has the rule, `specs/RecordParts.antt` what a body computes of it; a new
+//! function is a variant here and a case of both.
 
 ghost use Rattle.std.specs.Prelude.{◌≡◌, ◌&&◌, length};
+ghost use Rattle.jh_edn.specs.Edn.{is_integer};
 ghost use Rattle.std.specs.List.{list_all};
 ghost use Rattle.jh_edn.specs.View.{view};
-ghost use Rattle.jh_ops.specs.OperationText.{is_integer};
 ghost use Rattle.jh_ops.specs.RecordParts as rule;
 ghost use Rattle.jh_ops.specs.Words as words;
 
-use crate::op_text::is_integer;
 use crate::operation::Kind;
 use jh_edn::Value;
 
@@ -37,6 +37,7 @@ pub(crate) enum Shape {
 }
 
 impl Function {
+    /// The name of the function, without its colon.
     pub(crate) fn name(self) -> &'static str
         ensures { result.now ≡ words.function_name self }
     {
@@ -50,6 +51,7 @@ impl Function {
         }
     }
 
+    /// The number of the function in the first word of a record.
     pub(crate) fn number(self) -> u64
         ensures { result ≡ words.function_number self }
     {
@@ -63,6 +65,7 @@ impl Function {
         }
     }
 
+    /// The function with this number, if there is one.
     pub(crate) fn of_number(number: u64) -> Option<Function>
         ensures { result ≡ rule.function_numbered number }
     {
@@ -77,6 +80,7 @@ impl Function {
         }
     }
 
+    /// The function that a value names, if it names one.
     pub(crate) fn of_value(value: &Value) -> Option<Function>
         ensures { result ≡ rule.function_of (view value.now) }
     {
@@ -94,7 +98,8 @@ impl Function {
         }
     }
 
-    // Whether it may have a value of this shape with so many integers, if a value of this shape may have so many.
+    /// Whether it may have a value of this shape with so many integers, if a value of this shape
+    /// may have so many.
     fn takes(self, shape: Shape, count: usize) -> bool
         ensures { result ≡ rule.takes self shape count }
     {
@@ -120,6 +125,7 @@ impl Function {
 }
 
 impl Shape {
+    /// The number of the shape in the first word of a record.
     pub(crate) fn number(self) -> u64
         ensures { result ≡ rule.shape_number self }
     {
@@ -130,6 +136,7 @@ impl Shape {
         }
     }
 
+    /// The shape with this number, if there is one.
     pub(crate) fn of_number(number: u64) -> Option<Shape>
         ensures { result ≡ rule.shape_numbered number }
     {
@@ -143,7 +150,7 @@ impl Shape {
 
     /// The shape of a value that may be recorded, but for the number of its integers.
     pub(crate) fn of_value(value: &Value) -> Option<Shape>
-        ensures { result ≡ rule.shape_of (view value.now) }
+        ensures { result ≡ rule.shape_of_value (view value.now) }
     {
         match value {
             Value::Nil => Some(Shape::Nil),
@@ -153,7 +160,7 @@ impl Shape {
         }
     }
 
-    // Whether a recorded value of this shape has so many integers.
+    /// Whether a recorded value of this shape has so many integers.
     fn holds(self, count: usize) -> bool
         ensures { result ≡ rule.holds self count }
     {
@@ -165,10 +172,11 @@ impl Shape {
     }
 }
 
+/// Whether all values are integers.
 fn are_integers(values: &[Value]) -> bool
     ensures { result ≡ list_all (λ value. is_integer (view value)) values.now }
 {
-    values.iter().all(|value| is_integer(value))
+    values.iter().all(|value| value.is_integer())
 }
 
 /// How many words the integers of a value take.
@@ -182,6 +190,7 @@ pub(crate) fn count_of(value: &Value) -> usize
     }
 }
 
+/// The number of a kind, from 0 to 3.
 pub(crate) fn kind_number(kind: Kind) -> u64
     ensures { result ≡ words.kind_number kind }
 {

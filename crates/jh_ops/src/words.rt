@@ -1,6 +1,8 @@
-//! Operations as words of 64 bits: what a log that threads share keeps of one. `specs/Words.antt` has the rule.
+//! Operations as words of 64 bits: what a log that threads share keeps of one. `specs/Words.antt`
+//! has the rule.
 
-ghost use Rattle.std.specs.Prelude.{◌≡◌, ◌+◌, ◌*◌, ◌<◌, ◌≤◌, ◌^◌, ◌∷◌, [], ◌++◌, length, take, drop, map, All, true};
+ghost use Rattle.std.specs.Prelude.{◌≡◌, ◌+◌, ◌*◌, ◌<◌, ◌≤◌, ◌^◌, [], length, take, drop, map};
+ghost use Rattle.std.specs.Prelude.{true};
 ghost use Rattle.std.specs.Prelude.{◌↔◌, IsTrue, IfOk, IfErr, IfSome, MatchOption, MatchResult};
 ghost use Rattle.std.specs.Int.{w64, cast_signed};
 ghost use Rattle.jh_edn.specs.Edn.{int};
@@ -8,13 +10,11 @@ ghost use Rattle.jh_edn.specs.View.{view, view_pairs, views};
 ghost use Rattle.jh_ops.specs.Operation.{operation};
 ghost use Rattle.jh_ops.specs.OperationWritten.{IsWritable};
 ghost use Rattle.jh_ops.specs.RecordParts as parts;
-ghost use Rattle.jh_ops.specs.RecordParts.{IsHeadingOf, CannotBeKept, IsWordOf, Begin};
+ghost use Rattle.jh_ops.specs.RecordParts.{IsHeadingOf, CannotBeKept, IsWordOf, BeginWith};
 ghost use Rattle.jh_ops.specs.Words as rule;
 ghost use Rattle.jh_ops.specs.declared.words.WordsError.TheVariants.{BadWords};
-ghost use Rattle.jh_ops.specs.Words.{IsRecordedAs, RefusesOperation, RefusesWords, RecordedOnce};
+ghost use Rattle.jh_ops.specs.Words.{IsRecordedAs, RefusesOperation, RefusesWords, AreRecordedOnce};
 
-use crate::op_text::is_keyword;
-use crate::op_written::keyword;
 use crate::operation::{Kind, Op, Process};
 use crate::record::{Function, Shape, count_of, kind_number, kind_of_number};
 use jh_edn::{Pairs, Value, Values};
@@ -47,14 +47,17 @@ struct Head {
 }
 
 impl Head {
+    /// The first word of a record with these parts.
     fn word(self) -> u64
         ensures { result ≡ parts.first_word self }
     {
         kind_number(self.kind) + 4 * self.function.number() + 64 * self.shape.number()
     }
 
+    /// What a word says as the first of a record, if it can be that.
     fn of_word(word: u64) -> Option<Head>
-        ensures { MatchOption result (parts.IsNoFirstWord word) (λ head. parts.first_word head ≡ word) }
+        ensures { MatchOption result (parts.IsNoFirstWord word)
+            (λ head. parts.first_word head ≡ word) }
     {
         Some(Head {
             kind: kind_of_number(word % 4),
@@ -64,6 +67,7 @@ impl Head {
     }
 }
 
+/// The word of a process.
 fn process_word(process: Process) -> u64
     requires { IsWritable process }
     ensures { result ≡ rule.process_word process }
@@ -74,6 +78,7 @@ fn process_word(process: Process) -> u64
     }
 }
 
+/// The process of a word, if it is the word of one.
 fn process_of_word(word: u64) -> Option<Process>
     ensures { MatchOption result (parts.IsNoProcessWord word)
         (λ process. IsWritable process × (rule.process_word process ≡ word)) }
@@ -85,30 +90,33 @@ fn process_of_word(word: u64) -> Option<Process>
     }
 }
 
-// The word of the event under the one key that there may be beside the parts that each operation has.
+/// The word of the event under the one key that there may be beside the parts that each operation
+/// has.
 fn event_word(rest: &[(Value, Value)]) -> Option<u64>
     ensures word { result ≡ parts.event_word_in (view_pairs rest.now) }
     ensures small { IfSome result (λ word. word ≤ 2 ^ 63) }
 {
     match rest {
         [] => Some(0),
-        [(key, Value::Int(number))] if is_keyword("event", key) => {
+        [(key, Value::Int(number))] if key.is_keyword("event") => {
             u64::try_from(*number).ok().map(|number| number + 1)
         }
         _ => None,
     }
 }
 
-// Whether it says nothing that words do not keep, but for its function, its value and its other keys.
+/// Whether it says nothing that words do not keep, but for its function, its value and its other
+/// keys.
 fn is_plain(op: &Op) -> bool
     ensures { IsTrue result ↔ parts.IsPlain (operation op.now) }
 {
     op.time.is_none() && op.index.is_none() && op.process.is_writable()
 }
 
-// The three first words of an operation that can be recorded.
+/// The three first words of an operation that can be recorded.
 fn heading_of(op: &Op) -> Option<[u64; 3]>
-    ensures { MatchOption result (CannotBeKept (operation op.now)) (IsHeadingOf (operation op.now)) }
+    ensures { MatchOption result (CannotBeKept (operation op.now))
+        (IsHeadingOf (operation op.now)) }
 {
     let event = event_word(op.rest.as_slice())?;
     let function = Function::of_value(&op.f)?;
@@ -128,6 +136,7 @@ fn heading_of(op: &Op) -> Option<[u64; 3]>
     Some([head.word(), process_word(op.process), event])
 }
 
+/// The word of an integer; 0 for any other value.
 fn integer_word(value: &Value) -> u64
     ensures { IsWordOf (view value.now) result }
 {
@@ -137,7 +146,7 @@ fn integer_word(value: &Value) -> u64
     }
 }
 
-// Writes the three first words.
+/// Writes the three first words.
 fn write_heading(heading: [u64; 3], words: &mut [u64])
     requires { 3 ≤ length words.now }
     ensures heading { take 3 words.new ≡ heading }
@@ -149,11 +158,12 @@ fn write_heading(heading: [u64; 3], words: &mut [u64])
     words[2] = event;
 }
 
-// Writes a word for each integer, after the three first words.
+/// Writes a word for each integer, after the three first words.
 fn write_integers(items: &[Value], words: &mut [u64])
     requires { 3 + length items.now ≤ length words.now }
     ensures before { take 3 words.new ≡ take 3 words.old }
-    ensures integers { parts.AreWordsOf (take (length items.now) (drop 3 words.new)) (views items.now) }
+    ensures integers { parts.AreWordsOfValues (take (length items.now) (drop 3 words.new))
+        (views items.now) }
     ensures after { drop (3 + length items.now) words.new ≡ drop (3 + length items.now) words.old }
 {
     for (place, item) in items.iter().enumerate() {
@@ -161,12 +171,13 @@ fn write_integers(items: &[Value], words: &mut [u64])
     }
 }
 
-// Writes the words of a value, after the three first words.
+/// Writes the words of a value, after the three first words.
 fn write_value(value: &Value, words: &mut [u64])
     requires { 3 + length (parts.elements (view value.now)) ≤ length words.now }
     ensures before { take 3 words.new ≡ take 3 words.old }
-    ensures integers { parts.AreWordsOf
-        (take (length (parts.elements (view value.now))) (drop 3 words.new)) (parts.elements (view value.now)) }
+    ensures integers { parts.AreWordsOfValues
+        (take (length (parts.elements (view value.now))) (drop 3 words.new))
+        (parts.elements (view value.now)) }
     ensures after { drop (3 + length (parts.elements (view value.now))) words.new
         ≡ drop (3 + length (parts.elements (view value.now))) words.old }
 {
@@ -177,12 +188,13 @@ fn write_value(value: &Value, words: &mut [u64])
     }
 }
 
-/// Writes the words of an operation of a run to the first places of `words`, and answers how many there are, from 3 to
-/// 1,275: one for kind, function and shape of the value, one for the process, one for the event, and one for each
-/// integer. The others keep what they hold. Recordable are operations without a time, an index and other keys than
-/// `:event`, an integer from 0: a read of nil, an integer or a vector of integers; a write or an add of an integer; a cas of
-/// a vector of two; a generate of nil or an integer; a step of an integer or a vector of two. The words are this project's
-/// own.
+/// Writes the words of an operation of a run to the first places of `words`, and answers how many
+/// there are, from 3 to 1,275: one for kind, function and shape of the value, one for the process,
+/// one for the event, and one for each integer. The others keep what they hold. Recordable are
+/// operations without a time, an index and other keys than `:event`, an integer from 0: a read of
+/// nil, an integer or a vector of integers; a write or an add of an integer; a cas of a vector of
+/// two; a generate of nil or an integer; a step of an integer or a vector of two. The words are
+/// this project's own.
 ///
 /// Takes no memory, and time linear in the words.
 ///
@@ -206,7 +218,7 @@ pub fn to_words(op: &Op, words: &mut [u64]) -> Result<usize, WordsError>
     Ok(len)
 }
 
-// What the first words of a record say.
+/// What the first words of a record say.
 #[derive(Clone, Copy)]
 struct Heading {
     head: Head,
@@ -214,8 +226,9 @@ struct Heading {
     event: u64,
 }
 
+/// What the first words say, if an operation is recorded as these words.
 fn heading_in(words: &[u64]) -> Option<Heading>
-    ensures { MatchOption result (RefusesWords words.now BadWords) (Begin words.now) }
+    ensures { MatchOption result (RefusesWords words.now BadWords) (BeginWith words.now) }
 {
     let [first, process, event, integers @ ..] = words else {
         return None;
@@ -235,8 +248,10 @@ fn heading_in(words: &[u64]) -> Option<Heading>
     })
 }
 
+/// The integers of words, as values.
 fn integers_of(alloc: Global, words: &[u64]) -> Result<Vec<Value>, AllocError>
-    ensures { IfOk result (λ values. views values.items ≡ map int (map (cast_signed w64) words.now)) }
+    ensures { IfOk result
+        (λ values. views values.items ≡ map int (map (cast_signed w64) words.now)) }
 {
     let mut values = Vec::new(alloc);
     for word in words {
@@ -245,7 +260,7 @@ fn integers_of(alloc: Global, words: &[u64]) -> Result<Vec<Value>, AllocError>
     Ok(values)
 }
 
-// The value of this shape with these integers.
+/// The value of this shape with these integers.
 fn value_with(alloc: Global, shape: Shape, words: &[u64]) -> Result<Value, AllocError>
     requires { parts.holds shape (length words.now) ≡ true }
     ensures { IfOk result (λ value. view value
@@ -258,26 +273,32 @@ fn value_with(alloc: Global, shape: Shape, words: &[u64]) -> Result<Value, Alloc
     }
 }
 
-// The other keys of an operation with this word of its event.
+/// The other keys of an operation with this word of its event.
 fn event_pairs(alloc: Global, word: u64) -> Result<Vec<(Value, Value)>, AllocError>
     requires { word ≤ 2 ^ 63 }
-    ensures { IfOk result (λ pairs. view_pairs pairs.items ≡ rule.event_part (parts.event_of word)) }
+    ensures { IfOk result
+        (λ pairs. view_pairs pairs.items ≡ rule.pairs_of_event (parts.event_of word)) }
 {
     let mut pairs = Vec::new(alloc);
     if word > 0 {
-        pairs.push((keyword(alloc, "event")?, Value::Int((word - 1) as i64)))?;
+        pairs.push((
+            Value::keyword(alloc, "event")?,
+            Value::Int((word - 1) as i64),
+        ))?;
     }
     Ok(pairs)
 }
 
+/// The operation of a heading with these integers.
 fn op_with(alloc: Global, heading: Heading, integers: &[u64]) -> Result<Op, AllocError>
     requires event { heading.event ≤ 2 ^ 63 }
     requires shape { parts.holds heading.head.shape (length integers.now) ≡ true }
-    ensures { IfOk result (λ op. operation op ≡ rule.operation_of (parts.record_of heading integers.now)) }
+    ensures { IfOk result
+        (λ op. operation op ≡ rule.operation_of (parts.record_of heading integers.now)) }
 {
     Ok(Op {
         kind: heading.head.kind,
-        f: keyword(alloc, heading.head.function.name())?,
+        f: Value::keyword(alloc, heading.head.function.name())?,
         value: value_with(alloc, heading.head.shape, integers)?,
         process: heading.process,
         time: None,
@@ -292,7 +313,8 @@ fn op_with(alloc: Global, heading: Heading, integers: &[u64]) -> Result<Op, Allo
 ///
 /// Errors, in this order: `BadWords`, where no operation is recorded as them; `OutOfMemory`.
 pub fn of_words(alloc: Global, words: &[u64]) -> Result<Op, WordsError>
-    ensures { MatchResult result (λ op. IsRecordedAs (operation op) words.now) (RefusesWords words.now) }
+    ensures { MatchResult result (λ op. IsRecordedAs (operation op) words.now)
+        (RefusesWords words.now) }
 {
     let Some(heading) = heading_in(words) else {
         return Err(WordsError::BadWords);
@@ -305,5 +327,5 @@ pub fn of_words(alloc: Global, words: &[u64]) -> Result<Op, WordsError>
 
 /// A law: an operation is recorded as one list of words, and no other operation as it.
 pub fn recorded_once()
-    ensures { RecordedOnce }
+    ensures { AreRecordedOnce }
 {}

@@ -1,5 +1,5 @@
-//! Operations and their pairs told slowly, straight from their definitions, and records that look random. They serve
-//! tests alone: `jh_ops_tests` compares `jh_ops` with them.
+//! Operations and their pairs told slowly, straight from their definitions, and records that look
+//! random. They serve tests alone: `jh_ops_tests` compares `jh_ops` with them.
 //!
 //! A value is its text, as it is printed.
 #![tactic(auto)]

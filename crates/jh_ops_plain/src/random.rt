@@ -31,6 +31,7 @@ struct Client {
     is_waiting: bool,
 }
 
+/// A random kind.
 fn any_kind(dice: &mut Dice) -> Kind {
     match dice.below(4) {
         0 => Kind::Invoke,
@@ -41,7 +42,8 @@ fn any_kind(dice: &mut Dice) -> Kind {
 }
 
 impl Client {
-    /// What it does next, seldom out of turn. Mostly it goes on under another number behind an `:info`.
+    /// What it does next, seldom out of turn. Mostly it goes on under another number behind an
+    /// `:info`.
     fn act(&mut self, dice: &mut Dice) -> Step {
         let kind = match dice.below(24) {
             0 => any_kind(dice),
@@ -78,6 +80,7 @@ pub fn random_steps(alloc: Global, dice: &mut Dice, bound: u64) -> Result<Vec<St
     Ok(steps)
 }
 
+/// The text of a kind.
 fn kind_text(kind: Kind) -> &'static str {
     match kind {
         Kind::Invoke => ":invoke",
@@ -137,6 +140,7 @@ fn spoil(dice: &mut Dice, pairs: &mut Vec<Words>) -> Result<(), AllocError> {
     Ok(())
 }
 
+/// A record of a step, changed in one to three things, or now and then a value that is no map.
 fn spoiled_record(alloc: Global, dice: &mut Dice, step: Step) -> Result<Record, AllocError> {
     if dice.below(6) == 0 {
         return Ok(Record::Other(dice.one_of(NO_MAPS)));

@@ -1,4 +1,5 @@
-//! Operations told slowly: each key of a record is looked for among all its pairs, from the first on.
+//! Operations told slowly: each key of a record is looked for among all its pairs, from the first
+//! on.
 
 use crate::records::{Held, Record, Records, Words};
 use jh_ops::{HistoryError, Kind, OpError, Process};
@@ -37,6 +38,7 @@ fn integer_under(pairs: &[Words], key: &str) -> Option<i64> {
     None
 }
 
+/// The kind that a text means, if it means one.
 fn kind_named(text: &'static str) -> Option<Kind> {
     match text {
         ":invoke" => Some(Kind::Invoke),
@@ -47,6 +49,7 @@ fn kind_named(text: &'static str) -> Option<Kind> {
     }
 }
 
+/// The process that a text means, if it means one.
 fn process_named(text: &'static str) -> Option<Process> {
     match text.parse::<i64>() {
         Ok(number) => u64::try_from(number).ok().map(Process::Client),
@@ -74,6 +77,7 @@ fn refusal(pairs: &[Words]) -> Option<OpError> {
     }
 }
 
+/// Whether a pair is a part of its own, and is not kept as it stands.
 fn is_part(key: &str, value: &str) -> bool {
     match key {
         ":type" | ":process" | ":f" | ":value" => true,

@@ -6,7 +6,7 @@
 //! - `broken TEXT`: the same, where a byte that is no UTF-8 stands behind the text.
 
 use crate::operations::print_all;
-use crate::rows::{first_wrong, shown};
+use crate::rows::first_wrong;
 use jh_edn::EdnError;
 use jh_histories::{ReadHistoryError, history_in, read_history};
 use jh_ops::{HistoryError, Op, OpError};

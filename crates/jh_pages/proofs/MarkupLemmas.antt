@@ -7,7 +7,7 @@ use Rattle.std.specs.Char.{digit_value}
 use Rattle.std.specs.Fmt.{digits}
 use Rattle.std.specs.List.{flat_map}
 use Rattle.std.specs.Str.Parse.{AllDigits}
-use Rattle.jh_pages.specs.Markup.{escaped, is_inert, is_markup, is_unshown, number_text, shown}
+use Rattle.jh_pages.specs.Markup.{escaped_text, is_inert, is_markup, is_hidden, number_text, escaped_character}
 use lib.Utf8.{encode, next}
 
 -- none of the bytes could be markup
@@ -60,10 +60,10 @@ digits_plain : (ds : List ℕ) → AllDigits 16 ds → is_plain ds ≡ true
 digits_plain [] all = refl
 digits_plain (d ∷ ds) all = plain_more d ds (digit_plain d all.0) (digits_plain ds all.1)
 
-unshown_below : (c : ℕ) → is_unshown c ≡ true → c < 65536
+unshown_below : (c : ℕ) → is_hidden c ≡ true → c < 65536
 unshown_below c h = grind (arith, nat_tests)
 
-number_inert : (c : ℕ) (s : List ℕ) → is_unshown c ≡ true → is_inert s ≡ true → is_inert (number_text c ++ s) ≡ true
+number_inert : (c : ℕ) (s : List ℕ) → is_hidden c ≡ true → is_inert s ≡ true → is_inert (number_text c ++ s) ≡ true
 number_inert c s h e =
     let small : c < 65536 = unshown_below c h in
     let numeral = digits_is_IsNumeral 16 false (omega arith) (omega arith) c (omega (arith, small)) in
@@ -97,16 +97,16 @@ itself_inert c s h e =
     (λ _. either (ltb c 65536) (three c) (four c) s (above_more (224 + c / 4096) (next (c / 64) ∷ next c ∷ s) (omega arith) more)
     (λ _. above_more (240 + c / 262144) (next (c / 4096) ∷ next (c / 64) ∷ next c ∷ s) (omega arith) (next_more (c / 4096) (next (c / 64) ∷ next c ∷ s) more))))
 
-shown_inert : (c : ℕ) (s : List ℕ) → is_inert s ≡ true → is_inert (shown c ++ s) ≡ true
-unfolding shown
+shown_inert : (c : ℕ) (s : List ℕ) → is_inert s ≡ true → is_inert (escaped_character c ++ s) ≡ true
+unfolding escaped_character
 shown_inert c s e =
     either (eqb c 60) _ _ s e (λ l. either (eqb c 62) _ _ s e (λ g. either (eqb c 38) _ _ s e (λ a.
     either (eqb c 34) _ _ s e (λ q. either (eqb c 39) _ _ s e (λ p.
-    either_way (is_unshown c) _ _ s (λ h. number_inert c s h e) (λ _. itself_inert c s (markup_false c l g a q p) e))))))
+    either_way (is_hidden c) _ _ s (λ h. number_inert c s h e) (λ _. itself_inert c s (markup_false c l g a q p) e))))))
 
-all_inert : (cs : List ℕ) → is_inert (flat_map shown cs) ≡ true
+all_inert : (cs : List ℕ) → is_inert (flat_map escaped_character cs) ≡ true
 all_inert [] = refl
-all_inert (c ∷ cs) = shown_inert c (flat_map shown cs) (all_inert cs)
+all_inert (c ∷ cs) = shown_inert c (flat_map escaped_character cs) (all_inert cs)
 
-pub escaped_inert : (text : List ℕ) → is_inert (escaped text) ≡ true
+pub escaped_inert : (text : List ℕ) → is_inert (escaped_text text) ≡ true
 escaped_inert text = all_inert _

@@ -1,5 +1,6 @@
 -- The picture of a history, byte for byte (this project's own; SVG within HTML that is XML too).
-use Rattle.std.specs.Prelude.{ℕ, List, [], ◌++◌, codes, min, slice_get, vec_len, Option, Some, None, option_map, option_and_then}
+use Rattle.std.specs.Prelude.{ℕ, List, [], ◌++◌, codes, min, slice_get, vec_len, Option, Some, None}
+use Rattle.std.specs.Prelude.{option_map, option_and_then}
 use Rattle.std.specs.Fmt.{decimal}
 use Rattle.std.specs.List.{flat_map}
 use Rattle.jh_edn.specs.Edn.{Edn}
@@ -15,8 +16,8 @@ use Rattle.jh_timeline.specs.declared.picture.Bar.{Bar}
 use Rattle.jh_timeline.specs.declared.picture.Window.{Window}
 
 -- the record that a section has at an index, if there is one
-abbrev pub record_of : Section → ℕ → Option Operation
-record_of section index = slice_get (operations section.history.items) index
+abbrev pub section_record : Section → ℕ → Option Operation
+section_record section index = slice_get (operations section.history.items) index
 
 -- ---- bars
 
@@ -38,45 +39,52 @@ ending_sign (Some Kind.Fail) = codes "&#10007; "
 ending_sign (Some _) = codes "? "
 ending_sign None = codes "&#8230; "
 
--- of what an operation asked with and what it answered, the one that its label shows: where it happened, what it answered
+-- of what an operation asked with and what it answered, the one that its label shows: where it
+-- happened, what it answered
 abbrev pub shown_value : Kind → Edn → Edn → Edn
 shown_value Kind.Ok asked answered = answered
 shown_value _ asked answered = asked
 
 -- what the label of an operation has behind its function
-abbrev pub answer_of : Operation → Option Operation → Edn
-answer_of invocation None = invocation.value
-answer_of invocation (Some completion) = shown_value completion.kind invocation.value completion.value
+abbrev pub label_value : Operation → Option Operation → Edn
+label_value invocation None = invocation.value
+label_value invocation (Some completion) =
+    shown_value completion.kind invocation.value completion.value
 
 -- both records of an operation, one above the other
 abbrev pub records_text : Operation → Option Operation → List ℕ
 records_text invocation None = record_text invocation
-records_text invocation (Some completion) = record_text invocation ++ codes "\n" ++ record_text completion
+records_text invocation (Some completion) =
+    record_text invocation ++ codes "\n" ++ record_text completion
 
 -- where a box begins, and how high it is
 abbrev pub place_text : ℕ → ℕ → ℕ → List ℕ
 place_text left top height =
     codes "\" x=\"" ++ (decimal left ++ (codes "\" y=\"" ++ (decimal top
-    ++ (codes "\" width=\"232\" height=\"" ++ (decimal height ++ codes "\"><rect width=\"100%\" height=\"100%\"/>")))))
+    ++ (codes "\" width=\"232\" height=\""
+    ++ (decimal height ++ codes "\"><rect width=\"100%\" height=\"100%\"/>")))))
 
 -- the box of a bar, of a class in the style: in its lane, from its first row to its last
 abbrev pub box_text : List ℕ → Window → Bar → List ℕ
 box_text class window bar =
-    codes "<svg class=\"" ++ class ++ place_text (left_of bar.lane) (top_of window bar.call.invoke) (height_of window bar.call)
+    codes "<svg class=\"" ++ class
+    ++ place_text (left_of bar.lane) (top_of window bar.call.invoke) (height_of window bar.call)
 
--- an operation: its box, its records, and its label behind a sign; nothing where there is no invocation
+-- an operation: its box, its records, and its label behind a sign; nothing where there is no
+-- invocation
 abbrev pub bar_text : Window → Bar → Option Operation → Option Operation → List ℕ
 bar_text window bar None completion = []
 bar_text window bar (Some invocation) completion =
-    box_text (ending_class (ending_of completion)) window bar ++ codes "<title>" ++ records_text invocation completion
+    box_text (ending_class (ending_of completion)) window bar ++ codes "<title>"
+    ++ records_text invocation completion
     ++ codes "</title><text x=\"4\" y=\"12\">" ++ ending_sign (ending_of completion)
-    ++ short_label_text invocation.f (answer_of invocation completion) ++ codes "</text></svg>\n"
+    ++ short_label_text invocation.f (label_value invocation completion) ++ codes "</text></svg>\n"
 
 -- a bar, with the records that it has in the history
 abbrev pub drawn_bar : Section → Bar → List ℕ
 drawn_bar section bar =
-    bar_text section.window bar (record_of section bar.call.invoke)
-    (option_and_then (λ index. record_of section index) bar.call.completion)
+    bar_text section.window bar (section_record section bar.call.invoke)
+    (option_and_then (λ index. section_record section index) bar.call.completion)
 
 -- ---- faults
 
@@ -84,7 +92,8 @@ drawn_bar section bar =
 abbrev pub line_text : Window → ℕ → List ℕ
 line_text window index =
     codes "<svg class=\"fault\" y=\""
-    ++ (decimal (top_of window index) ++ codes "\" width=\"100%\" height=\"16\"><line x2=\"100%\"/><title>")
+    ++ (decimal (top_of window index)
+    ++ codes "\" width=\"100%\" height=\"16\"><line x2=\"100%\"/><title>")
 
 -- a record of the nemesis, and nothing where there is none
 abbrev pub fault_text : Window → ℕ → Option Operation → List ℕ
@@ -94,7 +103,7 @@ fault_text window index (Some op) =
     ++ label_text op.f op.value ++ codes "</text></svg>\n"
 
 abbrev pub drawn_fault : Section → ℕ → List ℕ
-drawn_fault section index = fault_text section.window index (record_of section index)
+drawn_fault section index = fault_text section.window index (section_record section index)
 
 -- ---- marks
 
@@ -102,11 +111,13 @@ drawn_fault section index = fault_text section.window index (record_of section i
 abbrev pub mark_text : Window → Note → Option Bar → List ℕ
 mark_text window note None = []
 mark_text window note (Some bar) =
-    box_text (class_of note) window bar ++ codes "<text x=\"228\" y=\"12\">" ++ note_text note ++ codes "</text></svg>\n"
+    box_text (class_of note) window bar ++ codes "<text x=\"228\" y=\"12\">" ++ note_text note
+    ++ codes "</text></svg>\n"
 
 -- a mark at the bar that it names
 abbrev pub drawn_mark : Section → Mark → List ℕ
-drawn_mark section mark = mark_text section.window mark.note (slice_get section.picture.bars.items mark.bar)
+drawn_mark section mark =
+    mark_text section.window mark.note (slice_get section.picture.bars.items mark.bar)
 
 -- ---- the picture
 
@@ -116,11 +127,13 @@ end_in window total = min window.to total
 
 -- so wide and so high, on a screen
 abbrev pub sides_text : ℕ → ℕ → List ℕ
-sides_text width height = codes " width=\"" ++ (decimal width ++ (codes "\" height=\"" ++ (decimal height ++ codes "\"")))
+sides_text width height =
+    codes " width=\"" ++ (decimal width ++ (codes "\" height=\"" ++ (decimal height ++ codes "\"")))
 
 -- the same, whatever it is made as wide as
 abbrev pub view_text : ℕ → ℕ → List ℕ
-view_text width height = codes " viewBox=\"0 0 " ++ (decimal width ++ (codes " " ++ (decimal height ++ codes "\">\n")))
+view_text width height =
+    codes " viewBox=\"0 0 " ++ (decimal width ++ (codes " " ++ (decimal height ++ codes "\">\n")))
 
 -- the opening of a picture of this size
 abbrev pub opening_text : ℕ → ℕ → List ℕ
@@ -128,7 +141,8 @@ opening_text width height =
     codes "<div class=\"picture\">\n<svg xmlns=\"http://www.w3.org/2000/svg\""
     ++ sides_text width height ++ view_text width height
 
--- the opening of the picture: as wide as its lanes, with the one of the nemesis, and as high as the records that are drawn
+-- the opening of the picture: as wide as its lanes, with the one of the nemesis, and as high as the
+-- records that are drawn
 abbrev pub picture_head : Section → List ℕ
 picture_head section =
     opening_text (left_of (vec_len section.picture.lanes))

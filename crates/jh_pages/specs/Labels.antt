@@ -17,19 +17,19 @@ name_of (keyword name) = name
 name_of f = print f
 
 -- what a function is asked with: nothing, the elements of a list or a vector, or one value
-abbrev pub arguments_of : Edn → List Edn
-arguments_of nil = []
-arguments_of (list xs) = list_of xs
-arguments_of (vector xs) = list_of xs
-arguments_of value = value ∷ []
+abbrev pub asked_values : Edn → List Edn
+asked_values nil = []
+asked_values (list xs) = list_of xs
+asked_values (vector xs) = list_of xs
+asked_values value = value ∷ []
 
 -- a value behind others
-abbrev pub argument_text : Edn → List ℕ
-argument_text value = codes " " ++ print value
+abbrev pub asked_value_text : Edn → List ℕ
+asked_value_text value = codes " " ++ print value
 
 -- a function with what it is asked with, as `cas 0 1`
 abbrev pub asked_text : Edn → Edn → List ℕ
-asked_text f value = name_of f ++ flat_map argument_text (arguments_of value)
+asked_text f value = name_of f ++ flat_map asked_value_text (asked_values value)
 
 -- the label of a line, which has room for it
 abbrev pub label_text : Edn → Edn → List ℕ

@@ -1,65 +1,69 @@
--- A text as it stands in the page, where no character of it is read as markup (XML 1.0: section 2.2 says which characters a
--- document may have, 4.1 and 4.6 how an entity stands for one). A line feed stays; another character that would not show stands
--- as `\u{1f}` (this project's own).
-use Rattle.std.specs.Prelude.{ℕ, length, take, Bool, true, false, not, ◌&&◌, ◌||◌, ◌==◌, nat_lt, nat_eq, List, [], ◌∷◌, ◌++◌, if◌then◌else◌, codes, encode_utf8}
+-- A text as it stands in the page, where no character of it is read as markup (XML 1.0: section 2.2
+-- says which characters a document may have, 4.1 and 4.6 how an entity stands for one). A line feed
+-- stays; another character that would not show stands as `\u{1f}` (this project's own).
+use Rattle.std.specs.Prelude.{ℕ, length, take, Bool, true, false, not, ◌&&◌, ◌||◌, ◌==◌, nat_lt}
+use Rattle.jh_edn.specs.Bytes.{quote}
+use Rattle.std.specs.Prelude.{nat_eq, List, [], ◌∷◌, ◌++◌, if◌then◌else◌, codes, encode_utf8}
 use Rattle.std.specs.Fmt.{digits}
 use Rattle.std.specs.List.{flat_map, list_any, starts_with}
 use Rattle.std.specs.Str.{byte, chars}
 use Rattle.std.specs.Str.Lossy.{utf8_lossy}
 use Rattle.jh_pages.specs.declared.markup.TheConstants.{MAX_SHOWN}
 
-abbrev pub less : ℕ
-less = byte "<"
+abbrev pub less_sign : ℕ
+less_sign = byte "<"
 
-abbrev pub greater : ℕ
-greater = byte ">"
+abbrev pub greater_sign : ℕ
+greater_sign = byte ">"
 
 abbrev pub ampersand : ℕ
 ampersand = byte "&"
 
-abbrev pub quote : ℕ
-quote = byte "\""
-
 abbrev pub apostrophe : ℕ
 apostrophe = byte "'"
 
--- a control character but a line feed, or one of the two code points below 2 ^ 16 that are no surrogates and that XML has no
--- place for
-abbrev pub is_unshown : ℕ → Bool
-is_unshown c = (nat_lt c 32 && not (c == 10)) || (nat_lt 126 c && nat_lt c 160) || c == 65534 || c == 65535
+-- a control character but a line feed, or one of the two code points below 2 ^ 16 that are no
+-- surrogates and that XML has no place for
+abbrev pub is_hidden : ℕ → Bool
+is_hidden c =
+    (nat_lt c 32 && not (c == 10)) || (nat_lt 126 c && nat_lt c 160) || c == 65534 || c == 65535
 
 -- a character by its number, in hexadecimal digits
 abbrev pub number_text : ℕ → List ℕ
 number_text c = codes "\\u{" ++ (digits 16 false c ++ codes "}")
 
 -- a character, as it stands between tags and in attributes
-unfoldable pub shown : ℕ → List ℕ
-shown c =
-    if c == less then codes "&lt;" else if c == greater then codes "&gt;" else if c == ampersand then codes "&amp;"
+unfoldable pub escaped_character : ℕ → List ℕ
+escaped_character c =
+    if c == less_sign then codes "&lt;" else if c == greater_sign then codes "&gt;"
+    else if c == ampersand then codes "&amp;"
     else if c == quote then codes "&quot;" else if c == apostrophe then codes "&#39;"
-    else if is_unshown c then number_text c else encode_utf8 c
+    else if is_hidden c then number_text c else encode_utf8 c
 
 -- a text, as it stands between tags and in attributes
-abbrev pub escaped : List ℕ → List ℕ
-escaped text = flat_map shown (chars text)
+abbrev pub escaped_text : List ℕ → List ℕ
+escaped_text text = flat_map escaped_character (chars text)
 
 -- characters in so much room, with dots where there are more
-abbrev pub short : List ℕ → List ℕ
-short cs = if nat_lt MAX_SHOWN (length cs) then flat_map shown (take MAX_SHOWN cs) ++ codes "&#8230;" else flat_map shown cs
+abbrev pub short_text : List ℕ → List ℕ
+short_text cs =
+    if nat_lt MAX_SHOWN (length cs)
+    then flat_map escaped_character (take MAX_SHOWN cs) ++ codes "&#8230;"
+    else flat_map escaped_character cs
 
--- The same of bytes that something else printed. Where they are no UTF-8, which no printed value is, the replacement character
--- stands for those that are none.
+-- The same of bytes that something else printed. Where they are no UTF-8, which no printed value
+-- is, the replacement character stands for those that are none.
 abbrev pub escaped_bytes : List ℕ → List ℕ
-escaped_bytes bytes = escaped (utf8_lossy bytes)
+escaped_bytes bytes = escaped_text (utf8_lossy bytes)
 
 abbrev pub short_bytes : List ℕ → List ℕ
-short_bytes bytes = short (chars (utf8_lossy bytes))
+short_bytes bytes = short_text (chars (utf8_lossy bytes))
 
 -- ---- what an escaped text is proved to be
 
 -- a byte that begins or ends markup
 abbrev pub is_markup : ℕ → Bool
-is_markup b = b == less || b == greater || b == ampersand || b == quote || b == apostrophe
+is_markup b = b == less_sign || b == greater_sign || b == ampersand || b == quote || b == apostrophe
 
 abbrev pub entities : List (List ℕ)
 entities = codes "&lt;" ∷ codes "&gt;" ∷ codes "&amp;" ∷ codes "&quot;" ∷ codes "&#39;" ∷ []

@@ -1,5 +1,6 @@
 -- The page of histories, byte for byte (this project's own; HTML that is XML too).
-use Rattle.std.specs.Prelude.{ℕ, Bool, ◌-◌, ◌==◌, ◌&&◌, nat_le, nat_lt, List, [], ◌++◌, if◌then◌else◌, codes, length, vec_len}
+use Rattle.std.specs.Prelude.{ℕ, Bool, ◌-◌, ◌==◌, ◌&&◌, nat_le, nat_lt, List, [], ◌++◌}
+use Rattle.std.specs.Prelude.{if◌then◌else◌, codes, length, vec_len}
 use Rattle.std.specs.Fmt.{decimal}
 use Rattle.std.specs.List.{enumerate_from, flat_map}
 use Rattle.jh_pages.specs.Drawings.{end_in, picture_text}
@@ -12,22 +13,23 @@ use Rattle.jh_timeline.specs.declared.picture.Window.{Window}
 -- ---- sections
 
 -- the end of a tag with the name of a section, or a link to it
-abbrev pub name_text : List ℕ → ℕ → List ℕ
-name_text tag number = tag ++ (codes "part-" ++ (decimal number ++ codes "\">"))
+abbrev pub anchor_text : List ℕ → ℕ → List ℕ
+anchor_text tag number = tag ++ (codes "part-" ++ (decimal number ++ codes "\">"))
 
--- the heading of a section, where links to it lead; where it has none, its first line is where they lead
+-- the heading of a section, where links to it lead; where it has none, its first line is where they
+-- lead
 abbrev pub heading_text : ℕ → List ℕ → List ℕ
 heading_text number heading =
-    if length heading == 0 then name_text (codes "<p id=\"") number
-    else name_text (codes "<h2 id=\"") number ++ escaped_bytes heading ++ codes "</h2>\n<p>"
+    if length heading == 0 then anchor_text (codes "<p id=\"") number
+    else anchor_text (codes "<h2 id=\"") number ++ escaped_bytes heading ++ codes "</h2>\n<p>"
 
 -- all records are drawn
 abbrev pub is_whole : Window → ℕ → Bool
 is_whole window total = window.from == 0 && nat_le total window.to
 
 -- that records from one to another are drawn, of so many, and how others are
-abbrev pub range_text : ℕ → ℕ → ℕ → List ℕ
-range_text first last total =
+abbrev pub drawn_records_text : ℕ → ℕ → ℕ → List ℕ
+drawn_records_text first last total =
     codes "Records " ++ (decimal first ++ (codes " to " ++ (decimal last ++ (codes " of "
     ++ (decimal total ++ codes "; --from and --to choose others.</p>\n")))))
 
@@ -35,7 +37,8 @@ range_text first last total =
 abbrev pub window_text : Window → ℕ → List ℕ
 window_text window total =
     if is_whole window total then codes "All " ++ (decimal total ++ codes " records.</p>\n")
-    else if nat_lt window.from (end_in window total) then range_text window.from (end_in window total - 1) total
+    else if nat_lt window.from (end_in window total)
+    then drawn_records_text window.from (end_in window total - 1) total
     else codes "No record of " ++ (decimal total ++ codes "; --from and --to choose others.</p>\n")
 
 -- a process that a lane had
@@ -46,29 +49,35 @@ client_text client = codes " " ++ decimal client
 abbrev pub lane_text : Lane → List ℕ
 lane_text lane = codes "<li>process" ++ flat_map client_text lane.clients.items ++ codes "</li>\n"
 
--- a history: its heading, which of its records are drawn, the lanes numbered from 1, and its picture
+-- a history: its heading, which of its records are drawn, the lanes numbered from 1, and its
+-- picture
 abbrev pub section_text : ℕ → Section → List ℕ
 section_text number section =
-    heading_text number section.heading.items ++ window_text section.window (vec_len section.history) ++ codes "<ol>\n"
+    heading_text number section.heading.items
+    ++ window_text section.window (vec_len section.history) ++ codes "<ol>\n"
     ++ flat_map lane_text section.picture.lanes.items ++ codes "</ol>\n" ++ picture_text section
 
 -- ---- the page
 
 -- a link to a section
-abbrev pub link_text : ℕ → Section → List ℕ
-link_text number section =
-    name_text (codes "<li><a href=\"#") number ++ escaped_bytes section.heading.items ++ codes "</a></li>\n"
+abbrev pub section_link_text : ℕ → Section → List ℕ
+section_link_text number section =
+    anchor_text (codes
+    "<li><a href=\"#") number ++ escaped_bytes section.heading.items ++ codes "</a></li>\n"
 
 -- a link to each section, where there is more than one
 abbrev pub contents_text : List Section → List ℕ
 contents_text sections =
     if nat_lt 1 (length sections) then
-    codes "<ul>\n" ++ flat_map (λ numbered. link_text numbered.0 numbered.1) (enumerate_from 0 sections) ++ codes "</ul>\n"
+    codes "<ul>\n"
+    ++ flat_map (λ numbered. section_link_text numbered.0 numbered.1)
+    (enumerate_from 0 sections) ++ codes "</ul>\n"
     else []
 
 -- what stands below all sections
 abbrev pub below_text : List ℕ → List ℕ
-below_text below = if length below == 0 then [] else codes "<pre>" ++ escaped_bytes below ++ codes "</pre>\n"
+below_text below =
+    if length below == 0 then [] else codes "<pre>" ++ escaped_bytes below ++ codes "</pre>\n"
 
 -- the whole page
 abbrev pub page_text : List ℕ → List Section → List ℕ → List ℕ

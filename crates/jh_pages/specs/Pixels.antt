@@ -13,10 +13,11 @@ left_of lane = (lane + 1) * LANE_WIDTH
 abbrev pub top_of : Window → ℕ → ℕ
 top_of window index = (index - window.from) * ROW_HEIGHT
 
--- the index down to which a bar is drawn: that of its completion, but no further than the window; where there is none, that of
--- its invocation
+-- the index down to which a bar is drawn: that of its completion, but no further than the window;
+-- where there is none, that of its invocation
 abbrev pub end_of : Window → Call → ℕ
-end_of window call = option_map_or (λ completion. min completion (window.to - 1)) call.completion call.invoke
+end_of window call =
+    option_map_or (λ completion. min completion (window.to - 1)) call.completion call.invoke
 
 -- how high a bar is: a row for each index
 abbrev pub height_of : Window → Call → ℕ

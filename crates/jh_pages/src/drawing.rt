@@ -1,6 +1,6 @@
 //! The picture of a history. `specs/Drawings.antt` has the rule.
 
-ghost use Rattle.std.specs.Prelude.{◌≡◌, ◌++◌, All, IfSome, OnOk, codes, option_and_then, option_map};
+ghost use Rattle.std.specs.Prelude.{◌≡◌, All, IfSome, OnOk, option_and_then, option_map};
 ghost use Rattle.std.specs.Io.KnownBytes.{Appends};
 ghost use Rattle.std.specs.List.{flat_map};
 ghost use Rattle.std.specs.Option.{ForSome};
@@ -8,9 +8,12 @@ ghost use Rattle.jh_edn.specs.View.{view};
 ghost use Rattle.jh_ops.specs.Operation.{operation};
 ghost use Rattle.jh_ops.specs.OperationWritten.{IsWritable};
 ghost use Rattle.jh_pages.specs.Drawings as rule;
-ghost use Rattle.jh_pages.specs.Drawings.{bar_text, box_text, drawn_bar, drawn_fault, drawn_mark, fault_text};
-ghost use Rattle.jh_pages.specs.Drawings.{line_text, mark_text, opening_text, picture_head, picture_text};
-ghost use Rattle.jh_pages.specs.Drawings.{place_text, record_of, records_text, sides_text, view_text};
+ghost use Rattle.jh_pages.specs.Drawings.{bar_text, box_text, drawn_bar, drawn_fault, drawn_mark};
+ghost use Rattle.jh_pages.specs.Drawings.{fault_text};
+ghost use Rattle.jh_pages.specs.Drawings.{line_text, mark_text, opening_text, picture_head};
+ghost use Rattle.jh_pages.specs.Drawings.{picture_text};
+ghost use Rattle.jh_pages.specs.Drawings.{place_text, section_record, records_text, sides_text};
+ghost use Rattle.jh_pages.specs.Drawings.{view_text};
 
 use crate::error::PageError;
 use crate::label::{write_label, write_short_label};
@@ -61,7 +64,7 @@ fn ending_sign(ending: Option<Kind>) -> &'static str
 
 /// What the label of an operation has behind its function.
 fn answer_of<'a>(invocation: &'a Op, completion: Option<&'a Op>) -> &'a Value
-    ensures { view result.now ≡ rule.answer_of (operation invocation.now)
+    ensures { view result.now ≡ rule.label_value (operation invocation.now)
         (option_map (λ op. operation op.now) completion.entry) }
 {
     match completion {
@@ -166,7 +169,7 @@ fn write_bar<W: Write>(
 fn completion_of<'a>(section: &'a Section, bar: &Bar) -> Option<&'a Op>
     requires { All (λ op. IsWritable op.process) section.now.history.items }
     ensures found { option_map (λ op. operation op.now) result
-        ≡ option_and_then (λ index. record_of section.now index) bar.now.call.completion }
+        ≡ option_and_then (λ index. section_record section.now index) bar.now.call.completion }
     ensures writable { IfSome result (λ op. IsWritable op.now.process) }
 {
     match bar.call.completion {

@@ -4,7 +4,8 @@ ghost use Rattle.std.specs.Prelude.{◌≡◌, IfOk, OnOk};
 ghost use Rattle.std.specs.Io.KnownBytes.{Appends};
 ghost use Rattle.std.specs.List.{flat_map};
 ghost use Rattle.jh_edn.specs.View.{view, views};
-ghost use Rattle.jh_pages.specs.Labels.{argument_text, arguments_of, asked_text, label_text, name_of, short_label_text};
+ghost use Rattle.jh_pages.specs.Labels.{asked_value_text, asked_values, asked_text, label_text};
+ghost use Rattle.jh_pages.specs.Labels.{name_of, short_label_text};
 
 use crate::error::PageError;
 use crate::markup::{write_escaped_bytes, write_short_bytes};
@@ -33,7 +34,8 @@ fn write_name<W: Write>(f: &Value, writer: &mut W) -> Result<(), EdnError>
 /// Writes a value behind others.
 fn write_argument<W: Write>(value: &Value, writer: &mut W) -> Result<(), EdnError>
     ensures { OnOk result
-        (Appends (W.contents writer.old) (W.contents writer.new) (argument_text (view value.now))) }
+        (Appends (W.contents writer.old) (W.contents writer.new)
+        (asked_value_text (view value.now))) }
 {
     put(b" ", writer)?;
     write(value, writer)
@@ -42,7 +44,7 @@ fn write_argument<W: Write>(value: &Value, writer: &mut W) -> Result<(), EdnErro
 /// Writes values behind others.
 fn write_each<W: Write>(values: &[Value], writer: &mut W) -> Result<(), EdnError>
     ensures { OnOk result (Appends (W.contents writer.old) (W.contents writer.new)
-        (flat_map argument_text (views values.now))) }
+        (flat_map asked_value_text (views values.now))) }
 {
     for value in values {
         write_argument(value, writer)?;
@@ -53,7 +55,7 @@ fn write_each<W: Write>(values: &[Value], writer: &mut W) -> Result<(), EdnError
 /// Writes what a function is asked with.
 fn write_arguments<W: Write>(value: &Value, writer: &mut W) -> Result<(), EdnError>
     ensures { OnOk result (Appends (W.contents writer.old) (W.contents writer.new)
-        (flat_map argument_text (arguments_of (view value.now)))) }
+        (flat_map asked_value_text (asked_values (view value.now)))) }
 {
     match value {
         Value::Nil => Ok(()),

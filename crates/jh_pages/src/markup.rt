@@ -3,7 +3,8 @@
 ghost use Rattle.std.specs.Prelude.{◌≡◌, ℕ, List, IfErr, IsTrue, OnOk, encode_utf8};
 ghost use Rattle.std.specs.Io.KnownBytes.{Appends};
 ghost use Rattle.std.specs.Str.{chars};
-ghost use Rattle.jh_pages.specs.Markup.{escaped, escaped_bytes, is_inert, number_text, short, short_bytes, shown};
+ghost use Rattle.jh_pages.specs.Markup.{escaped_text, escaped_bytes, is_inert, number_text};
+ghost use Rattle.jh_pages.specs.Markup.{short_text, short_bytes, escaped_character};
 
 use crate::error::PageError;
 use std::alloc::Global;
@@ -42,10 +43,10 @@ fn write_itself<W: Write>(c: char, writer: &mut W) -> Result<(), PageError>
 }
 
 /// Writes a character as it stands in the page.
-#[tactic(auto, unfolding(crate::specs::Markup::shown))]
+#[tactic(auto, unfolding(crate::specs::Markup::escaped_character))]
 fn write_shown<W: Write>(c: char, writer: &mut W) -> Result<(), PageError>
     ensures bytes { OnOk result
-        (Appends (W.contents writer.old) (W.contents writer.new) (shown c)) }
+        (Appends (W.contents writer.old) (W.contents writer.new) (escaped_character c)) }
     ensures error { IfErr result (λ e. e ≡ PageError.Write) }
 {
     match c {
@@ -70,7 +71,7 @@ fn write_shown<W: Write>(c: char, writer: &mut W) -> Result<(), PageError>
 /// Errors: `Write` where the writer failed, and no other.
 pub fn write_escaped<W: Write>(text: &str, writer: &mut W) -> Result<(), PageError>
     ensures bytes { OnOk result
-        (Appends (W.contents writer.old) (W.contents writer.new) (escaped text.now)) }
+        (Appends (W.contents writer.old) (W.contents writer.new) (escaped_text text.now)) }
     ensures error { IfErr result (λ e. e ≡ PageError.Write) }
 {
     for c in text.chars() {
@@ -79,10 +80,11 @@ pub fn write_escaped<W: Write>(text: &str, writer: &mut W) -> Result<(), PageErr
     Ok(())
 }
 
-/// Writes a text in the same way where there is little room: its first characters, and dots where it has more.
+/// Writes a text in the same way where there is little room: its first characters, and dots where
+/// it has more.
 fn write_short<W: Write>(text: &str, writer: &mut W) -> Result<(), PageError>
     ensures { OnOk result
-        (Appends (W.contents writer.old) (W.contents writer.new) (short (chars text.now))) }
+        (Appends (W.contents writer.old) (W.contents writer.new) (short_text (chars text.now))) }
 {
     let mut written = 0;
     for character in text.chars() {
@@ -123,5 +125,5 @@ pub(crate) fn write_escaped_bytes<W: Write>(
 
 /// A law: no byte of an escaped text is read as markup, whatever the text is.
 pub fn escaped_text_is_inert()
-    ensures { (text : List ℕ) → IsTrue (is_inert (escaped text)) }
+    ensures { (text : List ℕ) → IsTrue (is_inert (escaped_text text)) }
 {}

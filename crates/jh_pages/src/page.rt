@@ -1,12 +1,14 @@
 //! The page of histories. `specs/Page.antt` has the rule.
 
-ghost use Rattle.std.specs.Prelude.{◌≡◌, ◌++◌, All, OnOk, length};
+ghost use Rattle.std.specs.Prelude.{◌≡◌, All, OnOk};
 ghost use Rattle.std.specs.Io.KnownBytes.{Appends};
 ghost use Rattle.std.specs.List.{enumerate_from, flat_map};
 ghost use Rattle.jh_ops.specs.OperationWritten.{IsWritable};
 ghost use Rattle.jh_pages.specs.Page as rule;
-ghost use Rattle.jh_pages.specs.Page.{below_text, client_text, contents_text, heading_text, lane_text, link_text};
-ghost use Rattle.jh_pages.specs.Page.{name_text, page_text, range_text, section_text, window_text};
+ghost use Rattle.jh_pages.specs.Page.{below_text, client_text, contents_text, heading_text};
+ghost use Rattle.jh_pages.specs.Page.{lane_text, section_link_text};
+ghost use Rattle.jh_pages.specs.Page.{anchor_text, page_text, drawn_records_text, section_text};
+ghost use Rattle.jh_pages.specs.Page.{window_text};
 
 use crate::drawing::{end_in, write_picture};
 use crate::error::PageError;
@@ -59,7 +61,7 @@ const LEGEND: &[u8] = b"</h1>\n<p class=\"legend\"><span class=\"ok\">&#10003; o
 /// Writes the end of a tag with the name of a section, or a link to it.
 fn write_name<W: Write>(tag: &str, number: usize, writer: &mut W) -> Result<(), PageError>
     ensures { OnOk result
-        (Appends (W.contents writer.old) (W.contents writer.new) (name_text tag.now number)) }
+        (Appends (W.contents writer.old) (W.contents writer.new) (anchor_text tag.now number)) }
 {
     write!(writer, "{tag}part-{number}\">").map_err(|_| PageError::Write)
 }
@@ -98,7 +100,8 @@ fn write_range<W: Write>(
     writer: &mut W,
 ) -> Result<(), PageError>
     ensures { OnOk result
-        (Appends (W.contents writer.old) (W.contents writer.new) (range_text first last total)) }
+        (Appends (W.contents writer.old) (W.contents writer.new)
+        (drawn_records_text first last total)) }
 {
     write!(
         writer,
@@ -204,7 +207,8 @@ fn write_link<W: Write>(
     writer: &mut W,
 ) -> Result<(), PageError>
     ensures { OnOk result
-        (Appends (W.contents writer.old) (W.contents writer.new) (link_text number section.now)) }
+        (Appends (W.contents writer.old) (W.contents writer.new)
+        (section_link_text number section.now)) }
 {
     write_name("<li><a href=\"#", number, writer)?;
     write_escaped_bytes(alloc, section.heading.as_slice(), writer)?;
@@ -218,7 +222,8 @@ fn write_links<W: Write>(
     writer: &mut W,
 ) -> Result<(), PageError>
     ensures { OnOk result (Appends (W.contents writer.old) (W.contents writer.new)
-        (flat_map (λ numbered. link_text numbered.0 numbered.1) (enumerate_from 0 sections.now))) }
+        (flat_map (λ numbered. section_link_text numbered.0 numbered.1)
+        (enumerate_from 0 sections.now))) }
 {
     for (number, section) in sections.iter().enumerate() {
         write_link(alloc, number, section, writer)?;

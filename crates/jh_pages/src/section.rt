@@ -22,7 +22,7 @@ pub struct Section {
 }
 
 impl Section {
-    ghost use Rattle.jh_pages.specs.Drawings.{record_of};
+    ghost use Rattle.jh_pages.specs.Drawings.{section_record};
 
     /// The bar of this number, if there is one.
     pub(crate) fn bar(&self, number: usize) -> Option<Bar>
@@ -34,7 +34,7 @@ impl Section {
     /// The record at an index, if there is one.
     pub(crate) fn record(&self, index: usize) -> Option<&Op>
         requires { All (λ op. IsWritable op.process) self.now.history.items }
-        ensures found { option_map (λ op. operation op.now) result ≡ record_of self.now index }
+        ensures found { option_map (λ op. operation op.now) result ≡ section_record self.now index }
         ensures writable { IfSome result (λ op. IsWritable op.now.process) }
     {
         if index < self.history.len() {

@@ -12,10 +12,10 @@ use Rattle.jh_gen.specs.Tally.{Path}
 use Rattle.jh_simnode.specs.declared.events.Event.{Event}
 use Rattle.jh_simnode.specs.Counts.{process_after}
 use Rattle.jh_simnode.specs.Plans.{PlanValue, IsFit}
-use Rattle.jh_simnode.specs.Runs.{Turns, Move, Comes, Reaches, Runs, call_event, move_of, question, run_generator, thread_of}
+use Rattle.jh_simnode.specs.Runs.{Turns, Move, Comes, Reaches, IsReachable, call_event, move_of, turn_question, run_generator, thread_of}
 use Rattle.jh_simnode.specs.Runs.Move.{Ticks, Applies, Waits, Calls, Ends, Rests}
-use Rattle.jh_simnode.proofs.GivenLemmas.{call_is}
-use Rattle.jh_simnode.proofs.Turning.{process_thread}
+use Rattle.jh_simnode.proofs.GivenCallLemmas.{call_is}
+use Rattle.jh_simnode.proofs.TurnLemmas.{process_thread}
 use Rattle.jh_run_laws.specs.OwnHistory.{Passes, FitsAfter, CallsFit}
 use Rattle.jh_run_laws.proofs.OfferLemmas.{offers_suit}
 
@@ -29,7 +29,7 @@ request_fits : (p : PlanValue) → IsFit p → (r : Turns) (journal : List Event
 request_fits p fit r journal path request h =
     let w = p.settings.workload in
     let only : has_only (is_call_for w) (run_generator p) ≡ true = second (fits p.clients p.generator) (has_only (is_call_for w) p.generator) fit.generator in
-    subst (Passes (is_call_for w)) (call_is p r journal path request h) (offers_suit w (run_generator p) only r.tally (all_seats p.clients) (question p r journal))
+    subst (Passes (is_call_for w)) (call_is p r journal path request h) (offers_suit w (run_generator p) only r.tally (all_seats p.clients) (turn_question p r journal))
 
 -- ---- all calls of a journal
 
@@ -57,5 +57,5 @@ reaches_fit p fit zero r journal h = subst (CallsFit p.settings.workload p.clien
 reaches_fit p fit (suc n) r journal h =
     comes_fit p fit h.0 r h.1.0 journal (move_of p h.0 h.1.0) refl h.1.1.1 (reaches_fit p fit n h.0 h.1.0 h.1.1.0)
 
-pub run_fits : (p : PlanValue) → IsFit p → (r : Turns) (journal : List Event) → Runs p r journal → CallsFit p.settings.workload p.clients [] journal
+pub run_fits : (p : PlanValue) → IsFit p → (r : Turns) (journal : List Event) → IsReachable p r journal → CallsFit p.settings.workload p.clients [] journal
 run_fits p fit r journal h = reaches_fit p fit h.0 r journal h.1

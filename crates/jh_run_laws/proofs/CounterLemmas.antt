@@ -3,16 +3,16 @@ use Rattle.std.proofs.Common.{◌≡◌, ℕ, List, [], ◌∷◌, refl, subst, 
 use Rattle.std.specs.Prelude.{pos, negsuc, Some, None}
 use Rattle.std.specs.List.{Contains}
 use Rattle.jh_ops.specs.Operation.{Operation}
-use Rattle.jh_ops.specs.Pairing.{pairs_of}
+use Rattle.jh_ops.specs.Pairing.{history_pairs}
 use Rattle.jh_ops.specs.declared.call.Request.TheVariants.{Read, Write, Cas, Add, Generate}
 use Rattle.jh_ops.specs.declared.call.Workload.TheVariants.{Counter}
 use Rattle.jh_ops.specs.declared.pairs.Pair.{Pair}
-use Rattle.jh_check.specs.CounterResults.{call_error, errors_in, IsFirst}
+use Rattle.jh_check.specs.CounterResults.{call_error, errors_in, IsEarliest}
 use Rattle.jh_check.specs.declared.error.CheckError.{CheckError}
 use Rattle.jh_simnode.specs.declared.replicas.Got.{Got}
 use Rattle.jh_simnode.specs.declared.replicas.Reply.TheVariants as said
 use Rattle.jh_simnode.specs.declared.events.Event.{Event}
-use Rattle.jh_simnode.specs.Histories.{history_of}
+use Rattle.jh_simnode.specs.Histories.{journal_history}
 use Rattle.jh_run_laws.specs.OwnHistory.{CallsFit, RepliesFit}
 use Rattle.jh_run_laws.proofs.PairLemmas.{Each, FromCall, each_pair}
 
@@ -40,7 +40,7 @@ none_in history (p ∷ ps) h = rw h.0 (none_in history ps h.1)
 not_there : {X : Type 0} (x : X) → Contains [] x → ⊥
 not_there x h = absurd (omega (arith, h.1))
 
-pub no_error : (c : ℕ) (journal : List Event) → CallsFit Counter c [] journal → RepliesFit Counter journal → (error : CheckError) → IsFirst error (errors_in (history_of journal) (pairs_of (history_of journal))) → ⊥
+pub no_error : (c : ℕ) (journal : List Event) → CallsFit Counter c [] journal → RepliesFit Counter journal → (error : CheckError) → IsEarliest error (errors_in (journal_history journal) (history_pairs (journal_history journal))) → ⊥
 no_error c journal a b error first =
-    let none = none_in (history_of journal) (pairs_of (history_of journal)) (each_pair Counter NoError counted c journal a b) in
+    let none = none_in (journal_history journal) (history_pairs (journal_history journal)) (each_pair Counter NoError counted c journal a b) in
     not_there error (subst (λ (errors : List CheckError). Contains errors error) none first.0)

@@ -11,26 +11,26 @@ use Rattle.jh_simnode.specs.declared.replicas.Reply.{Reply}
 use Rattle.jh_simnode.specs.declared.replicas.Reply.TheVariants as said
 use Rattle.jh_simnode.specs.declared.events.Event.{Event}
 use Rattle.jh_simnode.specs.Counts.{is_crash_of, process_after}
-use Rattle.jh_simnode.specs.Histories.{history_of, kind_of, told_from}
-use Rattle.jh_simnode.proofs.Counting.{count_yes}
+use Rattle.jh_simnode.specs.Histories.{journal_history, completion_kind, operations_from}
+use Rattle.jh_simnode.proofs.EventCountLemmas.{count_yes}
 use Rattle.jh_run_laws.specs.OwnHistory.{CallsFit}
 
 -- the kinds of a client's operations, event by event
 abbrev kinds_in : ℕ → List Event → List Kind
 kinds_in x [] = []
-kinds_in x (Event.Call process node request draw reply ∷ es) = if x == process then Kind.Invoke ∷ kind_of reply ∷ kinds_in x es else kinds_in x es
+kinds_in x (Event.Call process node request draw reply ∷ es) = if x == process then Kind.Invoke ∷ completion_kind reply ∷ kinds_in x es else kinds_in x es
 kinds_in x (Event.Step step answer ∷ es) = kinds_in x es
 kinds_in x (Event.Tick ∷ es) = kinds_in x es
 
-kinds_told : (x place number entry : ℕ) (es : List Event) → kinds_of x (told_from place number entry es) ≡ kinds_in x es
-kinds_told x place number entry [] = refl
-kinds_told x place number entry (Event.Call process node request draw reply ∷ es) =
-    elim (x == process) as (λ b. (x == process) ≡ b → kinds_of x (told_from place number entry (Event.Call process node request draw reply ∷ es)) ≡ (if b then Kind.Invoke ∷ kind_of reply ∷ kinds_in x es else kinds_in x es)) [
-      | true ↦ λ e. rw e (ap (λ (ks : List Kind). Kind.Invoke ∷ kind_of reply ∷ ks) (kinds_told x (place + 2) (number + 1) entry es))
-      | false ↦ λ e. rw e (kinds_told x (place + 2) (number + 1) entry es)
+kinds_parsed : (x place number entry : ℕ) (es : List Event) → kinds_of x (operations_from place number entry es) ≡ kinds_in x es
+kinds_parsed x place number entry [] = refl
+kinds_parsed x place number entry (Event.Call process node request draw reply ∷ es) =
+    elim (x == process) as (λ b. (x == process) ≡ b → kinds_of x (operations_from place number entry (Event.Call process node request draw reply ∷ es)) ≡ (if b then Kind.Invoke ∷ completion_kind reply ∷ kinds_in x es else kinds_in x es)) [
+      | true ↦ λ e. rw e (ap (λ (ks : List Kind). Kind.Invoke ∷ completion_kind reply ∷ ks) (kinds_parsed x (place + 2) (number + 1) entry es))
+      | false ↦ λ e. rw e (kinds_parsed x (place + 2) (number + 1) entry es)
     ] refl
-kinds_told x place number entry (Event.Step step answer ∷ es) = kinds_told x (place + 2) (number + 1) (entry + 1) es
-kinds_told x place number entry (Event.Tick ∷ es) = kinds_told x place (number + 1) entry es
+kinds_parsed x place number entry (Event.Step step answer ∷ es) = kinds_parsed x (place + 2) (number + 1) (entry + 1) es
+kinds_parsed x place number entry (Event.Tick ∷ es) = kinds_parsed x place (number + 1) entry es
 
 -- one event more leaves the process of a thread as it was, or gives it a greater one
 not_less : (c t : ℕ) (done : List Event) (e : Event) → process_after c t done ≤ process_after c t (done ++ e ∷ [])
@@ -56,7 +56,7 @@ gone : (w : Workload) (c x : ℕ) (done es : List Event) → CallsFit w c done e
 gone w c x done [] a below = refl
 gone w c x done (Event.Call process node request draw reply ∷ es) a below =
     let e = Event.Call process node request draw reply in
-    elim (x == process) as (λ b. (x == process) ≡ b → (if b then Kind.Invoke ∷ kind_of reply ∷ kinds_in x es else kinds_in x es) ≡ []) [
+    elim (x == process) as (λ b. (x == process) ≡ b → (if b then Kind.Invoke ∷ completion_kind reply ∷ kinds_in x es else kinds_in x es) ≡ []) [
       | true ↦ λ same.
           let is : x ≡ process = eqb-true x process same in
           let own : x ≡ process_after c (x % c) done = subst (λ (y : ℕ). y ≡ process_after c (y % c) done) (sym is) a.0.0 in
@@ -73,11 +73,11 @@ alternates w c x some done [] a = tt
 alternates w c x some done (Event.Call process node request draw reply ∷ es) a =
     let e = Event.Call process node request draw reply in
     let rest = alternates w c x some (done ++ e ∷ []) es a.1 in
-    elim (x == process) as (λ b. (x == process) ≡ b → Alternate (if b then Kind.Invoke ∷ kind_of reply ∷ kinds_in x es else kinds_in x es)) [
+    elim (x == process) as (λ b. (x == process) ≡ b → Alternate (if b then Kind.Invoke ∷ completion_kind reply ∷ kinds_in x es else kinds_in x es)) [
       | true ↦ λ same. after reply (eqb-true x process same) a rest
       | false ↦ λ other. rest
     ] refl where
-      after : (r : Reply) → x ≡ process → CallsFit w c done (Event.Call process node request draw r ∷ es) → Alternate (kinds_in x es) → Alternate (Kind.Invoke ∷ kind_of r ∷ kinds_in x es)
+      after : (r : Reply) → x ≡ process → CallsFit w c done (Event.Call process node request draw r ∷ es) → Alternate (kinds_in x es) → Alternate (Kind.Invoke ∷ completion_kind r ∷ kinds_in x es)
       after (said.Ok got) is a rest = rest
       after said.Fail is a rest = rest
       after said.Info is a rest =
@@ -87,5 +87,5 @@ alternates w c x some done (Event.Call process node request draw reply ∷ es) a
 alternates w c x some done (Event.Step step answer ∷ es) a = alternates w c x some (done ++ Event.Step step answer ∷ []) es a.1
 alternates w c x some done (Event.Tick ∷ es) a = alternates w c x some (done ++ Event.Tick ∷ []) es a.1
 
-pub is_formed : (w : Workload) (c : ℕ) → 0 < c → (journal : List Event) → CallsFit w c [] journal → IsWellFormed (history_of journal)
-is_formed w c some journal a = λ x. subst Alternate (sym (kinds_told x 0 0 0 journal)) (alternates w c x some [] journal a)
+pub is_formed : (w : Workload) (c : ℕ) → 0 < c → (journal : List Event) → CallsFit w c [] journal → IsWellFormed (journal_history journal)
+is_formed w c some journal a = λ x. subst Alternate (sym (kinds_parsed x 0 0 0 journal)) (alternates w c x some [] journal a)

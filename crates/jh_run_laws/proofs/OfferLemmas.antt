@@ -1,5 +1,6 @@
 -- What a generator offers is a call that it has.
 use Rattle.std.proofs.Common.{◌≡◌, ℕ, suc, zero, ◌+◌, ◌%◌, ℤ, pos, negsuc, ◌+ℤ◌, Bool, true, false, ◌&&◌, not, List, [], ◌∷◌, ◌++◌, length, take, drop, filter, Some, None, refl, ap, le-ltb, arith}
+use Rattle.jh_edn.specs.Edn.{is_empty}
 use Rattle.std.specs.Prelude.{if◌then◌else◌}
 use Rattle.std.specs.Option.{option_or}
 use Rattle.jh_ops.specs.declared.call.Call.{Call}
@@ -7,11 +8,11 @@ use Rattle.jh_ops.specs.declared.call.Call.TheVariants.{Client}
 use Rattle.jh_ops.specs.declared.call.Request.TheVariants.{Add}
 use Rattle.jh_ops.specs.declared.call.Workload.{Workload}
 use Rattle.jh_ops.specs.declared.call.Workload.TheVariants.{Register, Counter, Set, Ids}
-use Rattle.jh_gen.specs.Generator.{Generator, nothing, once, rising, forever, seq, limit, mix, phases, reserve, each_thread, clients, nemesis_only, Generators, no_generators, generator, Shared, no_shares, share}
+use Rattle.jh_gen.specs.Generator.{Generator, nothing, once, rising, forever, seq, limit, mix, phases, reserve, each_thread, clients, nemesis_only, Generators, no_generators, generator, ShareList, no_shares, share}
 use Rattle.jh_gen.specs.Fits.{shares_sum}
-use Rattle.jh_gen.specs.Tally.{Tally, under}
-use Rattle.jh_gen.specs.Scope.{Scope, Question, is_client, is_among, is_beyond, is_in, is_empty, any_busy}
-use Rattle.jh_gen.specs.Offers.{Offer, offer, open_offers, share_offer, by_member, head_of, first_some, picked, unless_spent, spent, shares_len}
+use Rattle.jh_gen.specs.Tally.{Tally, tally_under}
+use Rattle.jh_gen.specs.Scope.{Scope, Question, is_client_thread, is_share_seat, is_beyond, is_in_scope, has_busy_thread}
+use Rattle.jh_gen.specs.Offers.{Offer, offer, open_offers, share_offer, member_offer, head_of, first_some, picked_value, offer_unless_exhausted, is_exhausted, shares_len}
 use Rattle.jh_gen.specs.Suits.{has_only, all_have_only, shares_have_only, is_call_for}
 use Rattle.jh_run_laws.specs.OwnHistory.{Passes, OffersSuit}
 
@@ -25,7 +26,7 @@ module _ (passes : Call → Bool) (more : (n : ℤ) (k : ℕ) → passes (Client
   AllPass [] = Unit {0}
   AllPass (o ∷ os) = Passes passes o × AllPass os
 
-  member_passes : (i : ℕ) (o : Offer) → Passes passes o → Passes passes (by_member i o)
+  member_passes : (i : ℕ) (o : Offer) → Passes passes o → Passes passes (member_offer i o)
   member_passes i None h = tt
   member_passes i (Some (path, call)) h = h
 
@@ -33,9 +34,9 @@ module _ (passes : Call → Bool) (more : (n : ℤ) (k : ℕ) → passes (Client
   if_passes true o h = tt
   if_passes false o h = h
 
-  unless_passes : (b : Bool) (scope : Scope) (q : Question) (o : Offer) → Passes passes o → Passes passes (unless_spent b scope q o)
+  unless_passes : (b : Bool) (scope : Scope) (q : Question) (o : Offer) → Passes passes o → Passes passes (offer_unless_exhausted b scope q o)
   unless_passes b scope q o h =
-      elim (is_in scope q.seat) as (λ c. Passes passes (if c then (if b then None else o) else None)) [
+      elim (is_in_scope scope q.seat) as (λ c. Passes passes (if c then (if b then None else o) else None)) [
         | true ↦ if_passes b o h
         | false ↦ tt
       ]
@@ -66,9 +67,9 @@ module _ (passes : Call → Bool) (more : (n : ℤ) (k : ℕ) → passes (Client
   left_pass (suc n) [] a = tt
   left_pass (suc n) (o ∷ os) a = left_pass n os a.1
 
-  picked_passes : (word : ℕ) (os : List Offer) → AllPass os → Passes passes (picked word os)
-  picked_passes word os a =
-      let n = word % length os in
+  picked_passes : (random_number : ℕ) (os : List Offer) → AllPass os → Passes passes (picked_value random_number os)
+  picked_passes random_number os a =
+      let n = random_number % length os in
       first_passes (drop n os ++ take n os) (joined_pass (drop n os) (take n os) (left_pass n os a) (taken_pass n os a))
 
   mutual
@@ -78,15 +79,15 @@ module _ (passes : Call → Bool) (more : (n : ℤ) (k : ℕ) → passes (Client
     offer_passes (rising n) h t scope q = unless_passes _ scope q (Some ([], Client (Add (n +ℤ pos (length t))))) (more n (length t) h)
     offer_passes (forever c) h t scope q = unless_passes _ scope q (Some ([], c)) h
     offer_passes (seq gs) h t scope q = unless_passes _ scope q _ (head_passes _ (open_pass [] gs h 0 t scope q))
-    offer_passes (limit n g) h t scope q = unless_passes _ scope q _ (member_passes 0 _ (offer_passes g h (under 0 t) scope q))
-    offer_passes (mix gs) h t scope q = unless_passes _ scope q _ (picked_passes q.word _ (open_pass [] gs h 0 t scope q))
+    offer_passes (limit n g) h t scope q = unless_passes _ scope q _ (member_passes 0 _ (offer_passes g h (tally_under 0 t) scope q))
+    offer_passes (mix gs) h t scope q = unless_passes _ scope q _ (picked_passes q.random_number _ (open_pass [] gs h 0 t scope q))
     offer_passes (phases gs) h t scope q = unless_passes _ scope q _ (head_passes _ (open_pass scope gs h 0 t scope q))
     offer_passes (reserve ms g) h t scope q =
         let p = both (shares_have_only passes ms) (has_only passes g) h in
         unless_passes _ scope q _ (share_passes ms p.0 0 0 t scope q _
-        (member_passes (shares_len ms) _ (offer_passes g p.1 (under (shares_len ms) t) (filter (is_beyond (shares_sum ms)) scope) q)))
-    offer_passes (each_thread g) h t scope q = unless_passes _ scope q _ (member_passes q.seat _ (offer_passes g h (under q.seat t) (q.seat ∷ []) q))
-    offer_passes (clients g) h t scope q = unless_passes _ scope q _ (member_passes 0 _ (offer_passes g h (under 0 t) (filter is_client scope) q))
+        (member_passes (shares_len ms) _ (offer_passes g p.1 (tally_under (shares_len ms) t) (filter (is_beyond (shares_sum ms)) scope) q)))
+    offer_passes (each_thread g) h t scope q = unless_passes _ scope q _ (member_passes q.seat _ (offer_passes g h (tally_under q.seat t) (q.seat ∷ []) q))
+    offer_passes (clients g) h t scope q = unless_passes _ scope q _ (member_passes 0 _ (offer_passes g h (tally_under 0 t) (filter is_client_thread scope) q))
     offer_passes (nemesis_only g) h t scope q = absurd cc
 
     open_pass : (awaited : Scope) (gs : Generators) → all_have_only passes gs ≡ true → (i : ℕ) (t : Tally) (scope : Scope) (q : Question) → AllPass (open_offers awaited gs i t scope q)
@@ -94,19 +95,19 @@ module _ (passes : Call → Bool) (more : (n : ℤ) (k : ℕ) → passes (Client
     open_pass awaited (generator g gs) h i t scope q =
         let p = both (has_only passes g) (all_have_only passes gs) h in
         let rest = open_pass awaited gs p.1 (suc i) t scope q in
-        let first = if_passes (is_empty (under i t) && any_busy q.busy awaited) _ (member_passes i _ (offer_passes g p.0 (under i t) scope q)) in
-        elim (spent g (under i t) scope) as (λ b. AllPass (if b then open_offers awaited gs (suc i) t scope q else (if is_empty (under i t) && any_busy q.busy awaited then None else by_member i (offer g (under i t) scope q)) ∷ open_offers awaited gs (suc i) t scope q)) [
+        let first = if_passes (is_empty (tally_under i t) && has_busy_thread q.busy awaited) _ (member_passes i _ (offer_passes g p.0 (tally_under i t) scope q)) in
+        elim (is_exhausted g (tally_under i t) scope) as (λ b. AllPass (if b then open_offers awaited gs (suc i) t scope q else (if is_empty (tally_under i t) && has_busy_thread q.busy awaited then None else member_offer i (offer g (tally_under i t) scope q)) ∷ open_offers awaited gs (suc i) t scope q)) [
           | true ↦ rest
           | false ↦ (first, rest)
         ]
 
-    share_passes : (ms : Shared) → shares_have_only passes ms ≡ true → (i first : ℕ) (t : Tally) (scope : Scope) (q : Question) (others : Offer) → Passes passes others → Passes passes (share_offer ms i first t scope q others)
+    share_passes : (ms : ShareList) → shares_have_only passes ms ≡ true → (i first : ℕ) (t : Tally) (scope : Scope) (q : Question) (others : Offer) → Passes passes others → Passes passes (share_offer ms i first t scope q others)
     share_passes no_shares h i first t scope q others k = k
     share_passes (share n g ms) h i first t scope q others k =
         let p = both (has_only passes g) (shares_have_only passes ms) h in
-        let own = member_passes i _ (offer_passes g p.0 (under i t) (filter (is_among first n) scope) q) in
+        let own = member_passes i _ (offer_passes g p.0 (tally_under i t) (filter (is_share_seat first n) scope) q) in
         let rest = share_passes ms p.1 (suc i) (first + n) t scope q others k in
-        elim (is_among first n q.seat) as (λ b. Passes passes (if b then by_member i (offer g (under i t) (filter (is_among first n) scope) q) else share_offer ms (suc i) (first + n) t scope q others)) [
+        elim (is_share_seat first n q.seat) as (λ b. Passes passes (if b then member_offer i (offer g (tally_under i t) (filter (is_share_seat first n) scope) q) else share_offer ms (suc i) (first + n) t scope q others)) [
           | true ↦ own
           | false ↦ rest
         ]

@@ -2,7 +2,7 @@
 use Rattle.std.proofs.Common.{◌≡◌, ℕ, ◌+◌, ◌==◌, true, List, [], ◌∷◌, ◌++◌, length, refl, sym, ap, subst, ◌∙◌, arith, append_assoc, length-append, eq-eqb}
 use Rattle.std.specs.Prelude.{slice_get, Some}
 use Rattle.jh_ops.specs.Operation.{Operation}
-use Rattle.jh_ops.specs.Pairing.{pair_of, pairs_from, pairs_of}
+use Rattle.jh_ops.specs.Pairing.{pair_of, pairs_from, history_pairs}
 use Rattle.jh_ops.specs.declared.call.Request.{Request}
 use Rattle.jh_ops.specs.declared.operation.Process.{Process}
 use Rattle.jh_ops.specs.declared.pairs.Pair.{Pair}
@@ -12,7 +12,7 @@ use Rattle.jh_simnode.specs.declared.events.Event.{Event}
 use Rattle.jh_ops.specs.declared.call.Call.TheVariants.{Client}
 use Rattle.jh_ops.specs.declared.call.Workload.{Workload}
 use Rattle.jh_gen.specs.Suits.{is_call_for}
-use Rattle.jh_simnode.specs.Histories.{answered_by, begun, completed, history_of, invoked, kind_of, told_from}
+use Rattle.jh_simnode.specs.Histories.{placed_entry_completion, placed_entry_invocation, placed_completion, journal_history, placed_invocation, completion_kind, operations_from}
 use Rattle.jh_run_laws.specs.OwnHistory.{CallsFit, RepliesFit, ReplyFits}
 
 -- the pair at a place and the next
@@ -26,15 +26,15 @@ own_pairs place (Event.Call process node request draw reply ∷ es) = pair_at pl
 own_pairs place (Event.Step step answer ∷ es) = own_pairs (place + 2) es
 own_pairs place (Event.Tick ∷ es) = own_pairs place es
 
-no_pair : (r : Reply) (process : Process) (place : ℕ) (after : List Operation) → pair_of (kind_of r) process place after ≡ []
+no_pair : (r : Reply) (process : Process) (place : ℕ) (after : List Operation) → pair_of (completion_kind r) process place after ≡ []
 no_pair (said.Ok got) process place after = refl
 no_pair said.Fail process place after = refl
 no_pair said.Info process place after = refl
 
-pub pairs_own : (place number entry : ℕ) (es : List Event) → pairs_from place (told_from place number entry es) ≡ own_pairs place es
+pub pairs_own : (place number entry : ℕ) (es : List Event) → pairs_from place (operations_from place number entry es) ≡ own_pairs place es
 pairs_own place number entry [] = refl
 pairs_own place number entry (Event.Call process node request draw reply ∷ es) =
-    let rest = told_from (place + 2) (number + 1) entry es in
+    let rest = operations_from (place + 2) (number + 1) entry es in
     let own : (process == process) ≡ true = eq-eqb process process refl in
     let two : place + 1 + 1 ≡ place + 2 = omega arith in
     rw (own, no_pair reply (Process.Client process) (place + 1) rest, two) (ap (λ (ps : List Pair). pair_at place ∷ ps) (pairs_own (place + 2) (number + 1) entry es))
@@ -74,16 +74,16 @@ Each P (x ∷ xs) = P x × Each P xs
 abbrev pub FromCall : Workload → (List Operation → Pair → Type 0) → Type 0
 FromCall w P =
     (history : List Operation) (place number process : ℕ) (request : Request) (reply : Reply)
-    → slice_get history place ≡ Some (invoked place process request) → slice_get history (place + 1) ≡ Some (completed (place + 1) number process request reply)
+    → slice_get history place ≡ Some (placed_invocation place process request) → slice_get history (place + 1) ≡ Some (placed_completion (place + 1) number process request reply)
     → is_call_for w (Client request) ≡ true → ReplyFits w request reply → P history (pair_at place)
 
 each_from : (w : Workload) (P : List Operation → Pair → Type 0) → FromCall w P → (c : ℕ) (done es : List Event) → CallsFit w c done es → RepliesFit w es
-    → (history before : List Operation) (place number entry : ℕ) → place ≡ length before → history ≡ before ++ told_from place number entry es → Each (P history) (own_pairs place es)
+    → (history before : List Operation) (place number entry : ℕ) → place ≡ length before → history ≡ before ++ operations_from place number entry es → Each (P history) (own_pairs place es)
 each_from w P from c done [] a b history before place number entry at is = tt
 each_from w P from c done (Event.Call process node request draw reply ∷ es) a b history before place number entry at is =
-    let x = invoked place process request in
-    let y = completed (place + 1) number process request reply in
-    let rest = told_from (place + 2) (number + 1) entry es in
+    let x = placed_invocation place process request in
+    let y = placed_completion (place + 1) number process request reply in
+    let rest = operations_from (place + 2) (number + 1) entry es in
     let here : slice_get history place ≡ Some x =
     subst (λ (h : List Operation). slice_get h place ≡ Some x) (sym is)
     (subst (λ (n : ℕ). slice_get (before ++ x ∷ y ∷ rest) n ≡ Some x) (sym at) (first_there before x y rest)) in
@@ -96,9 +96,9 @@ each_from w P from c done (Event.Call process node request draw reply ∷ es) a 
       each_from w P from c (done ++ Event.Call process node request draw reply ∷ []) es a.1 b.1 history (before ++ x ∷ y ∷ []) (place + 2) (number + 1) entry longer parted,
     )
 each_from w P from c done (Event.Step step answer ∷ es) a b history before place number entry at is =
-    let x = begun place entry in
-    let y = answered_by (place + 1) number entry answer in
-    let rest = told_from (place + 2) (number + 1) (entry + 1) es in
+    let x = placed_entry_invocation place entry in
+    let y = placed_entry_completion (place + 1) number entry answer in
+    let rest = operations_from (place + 2) (number + 1) (entry + 1) es in
     let longer : place + 2 ≡ length (before ++ x ∷ y ∷ []) = omega (arith, at, length-append before (x ∷ y ∷ [])) in
     let parted : history ≡ (before ++ x ∷ y ∷ []) ++ rest = is ∙ sym (append_assoc before (x ∷ y ∷ []) rest) in
     each_from w P from c (done ++ Event.Step step answer ∷ []) es a.1 b history (before ++ x ∷ y ∷ []) (place + 2) (number + 1) (entry + 1) longer parted
@@ -107,6 +107,6 @@ each_from w P from c done (Event.Tick ∷ es) a b history before place number en
 
 -- each pair of a run's history is such
 pub each_pair : (w : Workload) (P : List Operation → Pair → Type 0) → FromCall w P → (c : ℕ) (journal : List Event) → CallsFit w c [] journal → RepliesFit w journal
-    → Each (P (history_of journal)) (pairs_of (history_of journal))
+    → Each (P (journal_history journal)) (history_pairs (journal_history journal))
 each_pair w P from c journal a b =
-    rw (pairs_own 0 0 0 journal) (each_from w P from c [] journal a b (history_of journal) [] 0 0 0 refl refl)
+    rw (pairs_own 0 0 0 journal) (each_from w P from c [] journal a b (journal_history journal) [] 0 0 0 refl refl)

@@ -1,20 +1,19 @@
 -- The last read of a run of a set shows elements.
-use Rattle.std.proofs.Common.{◌≡◌, ℕ, zero, suc, ◌+◌, ◌-◌, Bool, true, false, List, [], ◌∷◌, filter, refl, ap, ◌∙◌}
+use Rattle.std.proofs.Common.{◌≡◌, ℕ, zero, suc, ◌+◌, Bool, true, false, List, [], ◌∷◌, filter, refl, ap, ◌∙◌}
 use Rattle.std.specs.Prelude.{if◌then◌else◌, slice_get, Some, None, codes}
 use Rattle.std.specs.List.{enumerate_from}
 use Rattle.std.proofs.lemmas.Option.{same_Some}
-use Rattle.jh_ops.specs.Operation.{Operation}
+use Rattle.jh_ops.specs.Operation.{Operation, is_asked}
 use Rattle.jh_ops.specs.declared.call.Request.{Request}
 use Rattle.jh_ops.specs.declared.call.Request.TheVariants.{Read, Write, Cas, Add, Generate}
 use Rattle.jh_ops.specs.declared.call.Workload.TheVariants.{Set}
 use Rattle.jh_ops.specs.declared.operation.Kind.{Kind}
-use Rattle.jh_check.specs.Asked.{is_asked}
 use Rattle.jh_check.specs.SetResults.{elements_shown, final_read}
 use Rattle.jh_simnode.specs.declared.replicas.Got.{Got}
 use Rattle.jh_simnode.specs.declared.replicas.Reply.{Reply}
 use Rattle.jh_simnode.specs.declared.replicas.Reply.TheVariants as said
 use Rattle.jh_simnode.specs.declared.events.Event.{Event}
-use Rattle.jh_simnode.specs.Histories.{completed, history_of, told_from}
+use Rattle.jh_simnode.specs.Histories.{placed_completion, journal_history, operations_from}
 use Rattle.jh_run_laws.specs.OwnHistory.{RepliesFit, ReplyFits}
 use Rattle.jh_run_laws.proofs.PairLemmas.{Each}
 
@@ -22,7 +21,7 @@ use Rattle.jh_run_laws.proofs.PairLemmas.{Each}
 abbrev Shows : Operation → Type 0
 Shows op = is_asked Kind.Ok (codes "read") op ≡ true → elements_shown op.value ≡ None → ⊥
 
-completion_shows : (place number process : ℕ) (request : Request) (reply : Reply) → ReplyFits Set request reply → Shows (completed place number process request reply)
+completion_shows : (place number process : ℕ) (request : Request) (reply : Reply) → ReplyFits Set request reply → Shows (placed_completion place number process request reply)
 completion_shows place number process Read (said.Ok (Got.Many xs)) fits asked none = absurd cc
 completion_shows place number process Read (said.Ok (Got.One x)) fits asked none = absurd fits
 completion_shows place number process Read (said.Ok Got.Nothing) fits asked none = absurd fits
@@ -41,13 +40,13 @@ completion_shows place number process Generate (said.Ok got) fits asked none = a
 completion_shows place number process Generate said.Fail fits asked none = absurd cc
 completion_shows place number process Generate said.Info fits asked none = absurd cc
 
-told_shows : (place number entry : ℕ) (es : List Event) → RepliesFit Set es → Each Shows (told_from place number entry es)
-told_shows place number entry [] h = tt
-told_shows place number entry (Event.Call process node request draw reply ∷ es) h =
-    ((λ asked none. absurd cc), (completion_shows (place + 1) number process request reply h.0, told_shows (place + 2) (number + 1) entry es h.1))
-told_shows place number entry (Event.Step step answer ∷ es) h =
-    ((λ asked none. absurd cc), ((λ asked none. absurd cc), told_shows (place + 2) (number + 1) (entry + 1) es h))
-told_shows place number entry (Event.Tick ∷ es) h = told_shows place (number + 1) entry es h
+parsed_shows : (place number entry : ℕ) (es : List Event) → RepliesFit Set es → Each Shows (operations_from place number entry es)
+parsed_shows place number entry [] h = tt
+parsed_shows place number entry (Event.Call process node request draw reply ∷ es) h =
+    ((λ asked none. absurd cc), (completion_shows (place + 1) number process request reply h.0, parsed_shows (place + 2) (number + 1) entry es h.1))
+parsed_shows place number entry (Event.Step step answer ∷ es) h =
+    ((λ asked none. absurd cc), ((λ asked none. absurd cc), parsed_shows (place + 2) (number + 1) (entry + 1) es h))
+parsed_shows place number entry (Event.Tick ∷ es) h = parsed_shows place (number + 1) entry es h
 
 abbrev is_read : ℕ × Operation → Bool
 is_read read = is_asked Kind.Ok (codes "read") read.1
@@ -65,5 +64,5 @@ found_shows n (x ∷ ops) h i place op =
       at zero asked later e none = let same : x ≡ op = ap (λ (q : ℕ × Operation). q.1) (same_Some (n, x) (place, op) e) in h.0 asked (ap (λ (o : Operation). elements_shown o.value) same ∙ none)
       at (suc k) asked later e none = later k e none
 
-pub last_shows : (journal : List Event) → RepliesFit Set journal → (place : ℕ) (op : Operation) → final_read (history_of journal) ≡ Some (place, op) → elements_shown op.value ≡ None → ⊥
-last_shows journal h place op = found_shows 0 (history_of journal) (told_shows 0 0 0 journal h) _ place op
+pub last_shows : (journal : List Event) → RepliesFit Set journal → (place : ℕ) (op : Operation) → final_read (journal_history journal) ≡ Some (place, op) → elements_shown op.value ≡ None → ⊥
+last_shows journal h place op = found_shows 0 (journal_history journal) (parsed_shows 0 0 0 journal h) _ place op

@@ -4,31 +4,31 @@ use Rattle.std.specs.Prelude.{option_map, if◌then◌else◌}
 use Rattle.jh_env.specs.Cells.{Table}
 use Rattle.jh_env.specs.Faults.{FaultValue}
 use Rattle.jh_env.specs.Overlay.{EnvValue, link_over, node_over}
-use Rattle.jh_env.specs.TextLaws.{SameCells}
-use Rattle.jh_nemesis.specs.State.{Active, State, back_to, faults_in, forth_to}
-use Rattle.jh_nemesis.specs.Steps.{answer_of, is_ok, moved, state_after}
+use Rattle.jh_env.specs.TextLaws.{AreSameCells}
+use Rattle.jh_nemesis.specs.State.{Active, State, state_back_to, faults_in, state_forth_to}
+use Rattle.jh_nemesis.specs.Steps.{answer_of, is_ok, moved_state, state_after}
 use Rattle.jh_nemesis.specs.declared.steps.Step.{Step}
 use Rattle.jh_nemesis.specs.declared.steps.Step.TheVariants.{Begin, Withdraw, WithdrawAll, Undo, Redo}
 use Rattle.jh_ops.specs.Operation.{Operation}
 use Rattle.jh_simnode.specs.declared.events.Event.{Event}
-use Rattle.jh_simnode.specs.Events.{AreDue, IsDue, IsLegal, Moment, Setup, env_of, faults_after, next, opening}
+use Rattle.jh_simnode.specs.Events.{AreDue, IsDue, IsLegal, Moment, Setup, env_of, faults_after, moment_after, opening}
 use Rattle.jh_simnode.specs.Plans.{PlanValue}
 use Rattle.jh_simnode.specs.Reach.{Cells, cells_over}
-use Rattle.jh_simnode.specs.Runs.{Turns, Move, Comes, Reaches, Serial, move_of, setup_of}
+use Rattle.jh_simnode.specs.Runs.{Turns, Move, Comes, Reaches, IsSerialRun, move_of, setup_of}
 use Rattle.jh_simnode.specs.Runs.Move.{Ticks, Applies, Waits, Calls, Ends, Rests}
-use Rattle.jh_simnode.specs.Stores.{dead, replicas_after_kills, serve, replicas_after_tick}
-use Rattle.jh_simnode.proofs.StepLemmas.{state_after_start}
+use Rattle.jh_simnode.specs.Stores.{killed_flags, replicas_after_kills, reply_to, replicas_after_tick}
+use Rattle.jh_nemesis.proofs.StepLemmas.{state_after_start}
 
 -- ---- the same faults over another start
 
 abbrev restarted : Table → State → State
 restarted start s = record { names = s.names; start = start; past = s.past; active = s.active; future = s.future }
 
-back_restarted : (start : Table) (s : State) (past : List Active) → back_to (restarted start s) past ≡ restarted start (back_to s past)
+back_restarted : (start : Table) (s : State) (past : List Active) → state_back_to (restarted start s) past ≡ restarted start (state_back_to s past)
 back_restarted start s [] = refl
 back_restarted start s (p ∷ ps) = refl
 
-forth_restarted : (start : Table) (s : State) (future : List Active) → forth_to (restarted start s) future ≡ restarted start (forth_to s future)
+forth_restarted : (start : Table) (s : State) (future : List Active) → state_forth_to (restarted start s) future ≡ restarted start (state_forth_to s future)
 forth_restarted start s [] = refl
 forth_restarted start s (p ∷ ps) = refl
 
@@ -39,7 +39,7 @@ answer_restarted start s WithdrawAll = refl
 answer_restarted start s Undo = refl
 answer_restarted start s Redo = refl
 
-moved_restarted : (start : Table) (s : State) (step : Step) → moved (restarted start s) step ≡ restarted start (moved s step)
+moved_restarted : (start : Table) (s : State) (step : Step) → moved_state (restarted start s) step ≡ restarted start (moved_state s step)
 moved_restarted start s (Begin id f) = refl
 moved_restarted start s (Withdraw id) = refl
 moved_restarted start s WithdrawAll = refl
@@ -48,14 +48,14 @@ moved_restarted start s Redo = forth_restarted start s s.future
 
 step_restarted : (start : Table) (s : State) (step : Step) → state_after (restarted start s) step ≡ restarted start (state_after s step)
 step_restarted start s step =
-    rw (answer_restarted start s step) (elim (is_ok (answer_of s step)) as (λ b. (if b then moved (restarted start s) step else restarted start s) ≡ restarted start (if b then moved s step else s)) [
+    rw (answer_restarted start s step) (elim (is_ok (answer_of s step)) as (λ b. (if b then moved_state (restarted start s) step else restarted start s) ≡ restarted start (if b then moved_state s step else s)) [
       | true ↦ moved_restarted start s step
       | false ↦ refl
     ])
 
 -- ---- the same links and nodes
 
-cells_same : (start other : Table) → SameCells start other → (faults : List FaultValue) → cells_over other faults ≡ cells_over start faults
+cells_same : (start other : Table) → AreSameCells start other → (faults : List FaultValue) → cells_over other faults ≡ cells_over start faults
 cells_same start other same faults = λ i. record {
   link = λ a b. option_map (link_over faults a b) (sym (same.links a b) i);
   node = λ a. option_map (node_over faults a) (sym (same.nodes a) i);
@@ -73,41 +73,41 @@ start_kept s (Event.Step step answer) = state_after_start s step
 start_kept s Event.Tick = refl
 
 -- the same environment at a moment
-env_same : (start : Table) (s : State) → SameCells s.start start → env_of (restarted start s) ≡ env_of s
+env_same : (start : Table) (s : State) → AreSameCells s.start start → env_of (restarted start s) ≡ env_of s
 env_same start s same = cells_same s.start start same (faults_in s.active)
 
-still_same : (start : Table) (s : State) (e : Event) → SameCells s.start start → SameCells (faults_after s e).start start
-still_same start s e same = subst (λ (t : Table). SameCells t start) (sym (start_kept s e)) same
+still_same : (start : Table) (s : State) (e : Event) → AreSameCells s.start start → AreSameCells (faults_after s e).start start
+still_same start s e same = subst (λ (t : Table). AreSameCells t start) (sym (start_kept s e)) same
 
-next_placed : (u : Setup) (start : Table) (m : Moment) (e : Event) → SameCells m.faults.start start → next (founded start u) (placed start m) e ≡ placed start (next u m e)
+next_placed : (u : Setup) (start : Table) (m : Moment) (e : Event) → AreSameCells m.faults.start start → moment_after (founded start u) (placed start m) e ≡ placed start (moment_after u m e)
 next_placed u start m (Event.Call process node request draw reply) same =
     let env = env_same start m.faults same in
-    λ i. record { number = m.number + 1; faults = restarted start m.faults; replicas = (serve u.settings (env i) m.replicas m.number node request draw).replicas }
+    λ i. record { number = m.number + 1; faults = restarted start m.faults; replicas = (reply_to u.settings (env i) m.replicas m.number node request draw).replicas }
 next_placed u start m (Event.Step step answer) same =
     let env = env_same start m.faults same in
     let faults = step_restarted start m.faults step in
     let after : env_of (state_after (restarted start m.faults) step) ≡ env_of (state_after m.faults step) =
     ap env_of faults ∙ env_same start (state_after m.faults step) (still_same start m.faults (Event.Step step answer) same) in
-    λ i. record { number = m.number + 1; faults = faults i; replicas = replicas_after_kills u.settings (dead (env i) (length u.names)) (after i) m.replicas }
+    λ i. record { number = m.number + 1; faults = faults i; replicas = replicas_after_kills u.settings (killed_flags (env i) (length u.names)) (after i) m.replicas }
 next_placed u start m Event.Tick same =
     let env = env_same start m.faults same in
     λ i. record { number = m.number + 1; faults = restarted start m.faults; replicas = replicas_after_tick u.settings.store (env i) m.replicas }
 
-due_placed : (u : Setup) (start : Table) (m : Moment) (e : Event) → SameCells m.faults.start start → IsDue u m e → IsDue (founded start u) (placed start m) e
+due_placed : (u : Setup) (start : Table) (m : Moment) (e : Event) → AreSameCells m.faults.start start → IsDue u m e → IsDue (founded start u) (placed start m) e
 due_placed u start m (Event.Call process node request draw reply) same h =
-    (h.0, subst (λ (env : Cells). reply ≡ (serve u.settings env m.replicas m.number node request draw).reply) (sym (env_same start m.faults same)) h.1)
+    (h.0, subst (λ (env : Cells). reply ≡ (reply_to u.settings env m.replicas m.number node request draw).reply) (sym (env_same start m.faults same)) h.1)
 due_placed u start m (Event.Step step answer) same h = (h.0, h.1 ∙ sym (answer_restarted start m.faults step))
 due_placed u start m Event.Tick same h = tt
 
-all_due : (u : Setup) (start : Table) (m : Moment) (es : List Event) → SameCells m.faults.start start → AreDue u m es → AreDue (founded start u) (placed start m) es
+all_due : (u : Setup) (start : Table) (m : Moment) (es : List Event) → AreSameCells m.faults.start start → AreDue u m es → AreDue (founded start u) (placed start m) es
 all_due u start m [] same h = tt
 all_due u start m (e ∷ es) same h =
-    let after : SameCells (next u m e).faults.start start = still_same start m.faults e same in (
+    let after : AreSameCells (moment_after u m e).faults.start start = still_same start m.faults e same in (
       due_placed u start m e same h.0,
-      subst (λ (k : Moment). AreDue (founded start u) k es) (sym (next_placed u start m e same)) (all_due u start (next u m e) es after h.1),
+      subst (λ (k : Moment). AreDue (founded start u) k es) (sym (next_placed u start m e same)) (all_due u start (moment_after u m e) es after h.1),
     )
 
-legal_founded : (u : Setup) (start : Table) (journal : List Event) → SameCells u.start start → IsLegal u journal → IsLegal (founded start u) journal
+legal_founded : (u : Setup) (start : Table) (journal : List Event) → AreSameCells u.start start → IsLegal u journal → IsLegal (founded start u) journal
 legal_founded u start journal same h = all_due u start (opening u) journal same h
 
 -- ---- the same plan with another environment
@@ -138,12 +138,12 @@ reaches_with p env named zero r journal h = h
 reaches_with p env named (suc n) r journal h =
     (h.0, (h.1.0, (reaches_with p env named n h.0 h.1.0 h.1.1.0, comes_with p env named h.0 r h.1.0 journal (move_of p h.0 h.1.0) h.1.1.1)))
 
-legal_with : (p : PlanValue) (env : EnvValue) → env.names ≡ p.env.names → SameCells p.env.start env.start → (journal : List Event) → IsLegal (setup_of p) journal → IsLegal (setup_of (with_env p env)) journal
+legal_with : (p : PlanValue) (env : EnvValue) → env.names ≡ p.env.names → AreSameCells p.env.start env.start → (journal : List Event) → IsLegal (setup_of p) journal → IsLegal (setup_of (with_env p env)) journal
 legal_with p env named same journal h =
     subst (λ (names : List (List ℕ)). IsLegal (record { names = names; start = env.start; settings = p.settings }) journal) (sym named) (legal_founded (setup_of p) env.start journal same h)
 
 -- a serial run of a plan is one of the plan with this environment
-pub serial_with : (p : PlanValue) (env : EnvValue) → env.names ≡ p.env.names → SameCells p.env.start env.start → (journal : List Event) (history : List Operation) → Serial p journal history → Serial (with_env p env) journal history
+pub serial_with : (p : PlanValue) (env : EnvValue) → env.names ≡ p.env.names → AreSameCells p.env.start env.start → (journal : List Event) (history : List Operation) → IsSerialRun p journal history → IsSerialRun (with_env p env) journal history
 serial_with p env named same journal history run = record {
   turns = run.turns;
   reached = record {

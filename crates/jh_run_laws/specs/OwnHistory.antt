@@ -1,5 +1,5 @@
--- What holds of the history that a serial run tells (this project's own): it is well formed, no checker refuses it, and it is
--- read back from its lines.
+-- What holds of the history that a serial run tells (this project's own): it is well formed, no
+-- checker refuses it, and it is read back from its lines.
 use Rattle.std.specs.Prelude.{◌≡◌, All, ℕ, ◌%◌, Bool, true, List, [], ◌∷◌, ◌++◌, Some, None}
 use Rattle.jh_ops.specs.declared.call.Call.{Call}
 use Rattle.jh_ops.specs.declared.call.Call.TheVariants.{Client}
@@ -8,10 +8,10 @@ use Rattle.jh_ops.specs.Operation.{Operation}
 use Rattle.jh_ops.specs.Pairing.{IsWellFormed}
 use Rattle.jh_check.specs.declared.error.CheckError.{CheckError}
 use Rattle.jh_check.specs.declared.error.CheckError.TheVariants.{OutOfMemory}
-use Rattle.jh_keys.specs.Findings.{RefusesHistory}
+use Rattle.jh_keys.specs.Findings.{RefusesChecking}
 use Rattle.jh_laws.specs.HistoryLines.{CanPrint, IsTextOfHistory, history_lines}
 use Rattle.jh_simnode.specs.Plans.{PlanValue, IsFit}
-use Rattle.jh_simnode.specs.Runs.{Serial}
+use Rattle.jh_simnode.specs.Runs.{IsSerialRun}
 use Rattle.jh_gen.specs.Generator.{Generator}
 use Rattle.jh_gen.specs.Tally.{Tally}
 use Rattle.jh_gen.specs.Scope.{Scope, Question}
@@ -38,17 +38,20 @@ abbrev pub OffersSuit : Type 0
 OffersSuit = (w : Workload) (g : Generator) → has_only (is_call_for w) g ≡ true
     → (t : Tally) (scope : Scope) (q : Question) → Passes (is_call_for w) (offer g t scope q)
 
--- a call after these events is by the process whose turn its thread has, and its request is of the workload
+-- a call after these events is by the process whose turn its thread has, and its request is of the
+-- workload
 abbrev pub FitsAfter : Workload → ℕ → List Event → Event → Type 0
 FitsAfter w clients before (Event.Call process node request draw reply) =
-    (process ≡ process_after clients (process % clients) before) × (is_call_for w (Client request) ≡ true)
+    (process ≡ process_after clients (process % clients) before)
+    × (is_call_for w (Client request) ≡ true)
 FitsAfter w clients before (Event.Step step answer) = Unit {0}
 FitsAfter w clients before Event.Tick = Unit {0}
 
 -- each of these events does, after those before it
 abbrev pub CallsFit : Workload → ℕ → List Event → List Event → Type 0
 CallsFit w clients before [] = Unit {0}
-CallsFit w clients before (e ∷ es) = FitsAfter w clients before e × CallsFit w clients (before ++ e ∷ []) es
+CallsFit w clients before (e ∷ es) =
+    FitsAfter w clients before e × CallsFit w clients (before ++ e ∷ []) es
 
 -- contents of a replica that a run of the workload can have
 abbrev pub IsShaped : Workload → Contents → Type 0
@@ -79,20 +82,27 @@ ReplyFits w request said.Info = Unit {0}
 -- each reply of these events fits
 abbrev pub RepliesFit : Workload → List Event → Type 0
 RepliesFit w [] = Unit {0}
-RepliesFit w (Event.Call process node request draw reply ∷ es) = ReplyFits w request reply × RepliesFit w es
+RepliesFit w (Event.Call process node request draw reply ∷ es) =
+    ReplyFits w request reply × RepliesFit w es
 RepliesFit w (Event.Step step answer ∷ es) = RepliesFit w es
 RepliesFit w (Event.Tick ∷ es) = RepliesFit w es
 
 -- each process does one operation at a time, and nothing after it crashed
 abbrev pub OwnHistoryIsFormed : Type 0
-OwnHistoryIsFormed = (p : PlanValue) (journal : List Event) (history : List Operation) → IsFit p → Serial p journal history → IsWellFormed history
+OwnHistoryIsFormed =
+    (p : PlanValue) (journal : List Event) (history : List Operation) → IsFit p
+    → IsSerialRun p journal history → IsWellFormed history
 
 -- the checker of the run's workload refuses the history for want of memory alone
 abbrev pub OwnHistoryIsJudged : Type 0
-OwnHistoryIsJudged = (p : PlanValue) (journal : List Event) (history : List Operation) → IsFit p → Serial p journal history
-    → (e : CheckError) → RefusesHistory p.settings.workload history e → e ≡ OutOfMemory
+OwnHistoryIsJudged =
+    (p : PlanValue) (journal : List Event) (history : List Operation) → IsFit p
+    → IsSerialRun p journal history
+    → (e : CheckError) → RefusesChecking p.settings.workload history e → e ≡ OutOfMemory
 
 -- the lines that are printed of the history are a text of it, where its operations can be printed
-abbrev pub OwnLinesTell : Type 0
-OwnLinesTell = (p : PlanValue) (journal : List Event) (history : List Operation) → Serial p journal history
+abbrev pub OwnLinesAreText : Type 0
+OwnLinesAreText =
+    (p : PlanValue) (journal : List Event) (history : List Operation)
+    → IsSerialRun p journal history
     → All CanPrint history → IsTextOfHistory (history_lines history) history

@@ -1,7 +1,9 @@
-//! Laws of runs. `specs/OwnHistory.antt` states those of histories, `specs/SameSettings.antt` that of settings.
+//! Laws of runs. `specs/OwnHistory.antt` states those of histories, `specs/SameSettings.antt` that
+//! of settings.
 
-ghost use Rattle.jh_run_laws.specs.OwnHistory.{OffersSuit, OwnHistoryIsFormed, OwnHistoryIsJudged, OwnLinesTell};
-ghost use Rattle.jh_run_laws.specs.SameSettings.{SameSettingsSameRun};
+ghost use Rattle.jh_run_laws.specs.OwnHistory.{OffersSuit, OwnHistoryIsFormed, OwnHistoryIsJudged};
+ghost use Rattle.jh_run_laws.specs.OwnHistory.{OwnLinesAreText};
+ghost use Rattle.jh_run_laws.specs.SameSettings.{SameSettingsGiveSameRun};
 
 use jh_env::environments_read_back;
 use jh_laws::operation_lines_read_back;
@@ -12,24 +14,25 @@ pub fn calls_are_of_their_workload()
     ensures { OffersSuit }
 {}
 
-/// The history of a serial run is well formed, and the checker of its workload refuses it for want of memory alone.
+/// The history of a serial run is well formed, and the checker of its workload refuses it for want
+/// of memory alone.
 pub fn own_histories_are_judged()
     ensures formed { OwnHistoryIsFormed }
     ensures judged { OwnHistoryIsJudged }
 {}
 
-/// The lines that are printed of the history of a serial run are a text of that history, and of no other
-/// (`histories_read_back`): so whoever judges these lines judges that history.
+/// The lines that are printed of the history of a serial run are a text of that history, and of no
+/// other (`histories_read_back`): so whoever judges these lines judges that history.
 pub fn own_lines_tell()
-    ensures { OwnLinesTell }
+    ensures { OwnLinesAreText }
 {
     operation_lines_read_back()
 }
 
-/// Bytes of settings tell one mode and one budget, and every plan that is made of them has the same serial run: one journal, and
-/// one history.
+/// Bytes of settings tell one mode and one budget, and every plan that is made of them has the same
+/// serial run: one journal, and one history.
 pub fn same_settings_same_run()
-    ensures { SameSettingsSameRun }
+    ensures { SameSettingsGiveSameRun }
 {
     one_run();
     environments_read_back()

@@ -15,17 +15,17 @@ use Rattle.jh_simnode.specs.declared.plan.PlanError.TheVariants as PlanError
 use Rattle.jh_search.specs.declared.kinds.Kind.{Kind}
 use Rattle.jh_search.specs.declared.kinds.Palette.{Palette}
 use Rattle.jh_search.specs.declared.options.Options.{Options}
-use Rattle.jh_search.specs.Candidates.{replanned, with_entry, with_random}
+use Rattle.jh_search.specs.Candidates.{candidate_plan, entries_with, entries_with_random}
 use Rattle.jh_search.specs.CandidatesInside.{AreEntriesFor}
 use Rattle.jh_search.specs.FaultsInside.{HasNamed, HaveNamed}
 use Rattle.jh_search.specs.Kinds.{all_kinds, has_kind, is_drawn, is_on_links, kinds_drawn}
 
 -- one fault more
 pub one_fault_more : (p : PlanValue) (options : Options) (seed n : ℕ)
-    → fold (with_random p options seed) p.schedule (range_with_len 0 (n + 1)) ≡ with_random p options seed (fold (with_random p options seed) p.schedule (range_with_len 0 n)) n
+    → fold (entries_with_random p options seed) p.schedule (range_with_len 0 (n + 1)) ≡ entries_with_random p options seed (fold (entries_with_random p options seed) p.schedule (range_with_len 0 n)) n
 one_fault_more p options seed n =
     let same : 0 + n ≡ n = omega arith in
-    rw (← range_more 0 n, same) (fold_push (with_random p options seed) p.schedule (range_with_len 0 n) n)
+    rw (← range_more 0 n, same) (fold_push (entries_with_random p options seed) p.schedule (range_with_len 0 n) n)
 
 -- a kind that is drawn has something to name
 named_if_drawn : (palette : Palette) (count : ℕ) (kind : Kind) → is_drawn palette count kind ≡ true → HasNamed count kind
@@ -41,7 +41,7 @@ drawn_named palette count =
 
 -- entries with one more are such as a schedule of the plan may have
 pub one_entry_more : (p : PlanValue) (entries : List Entry) (entry : Entry) → AreEntriesFor p entries → FitsNodes (length p.env.names) entry.step
-    → AreEntriesFor p (with_entry entries entry)
+    → AreEntriesFor p (entries_with entries entry)
 one_entry_more p entries entry are fits =
     let P : Entry → Type 0 = λ e. FitsNodes (length p.env.names) e.step in
     let place = position_or_len (λ (other : Entry). nat_lt entry.at other.at) entries in
@@ -67,7 +67,7 @@ plan_refused p PlanError.BadStep fit refused = absurd (refused.4 fit.steps)
 plan_refused p PlanError.OutOfMemory fit refused = refl
 
 -- the plan with other entries and another seed can be run as well
-pub fit_replanned : (p : PlanValue) (entries : List Entry) (seed : ℕ) → IsFit p → AreEntriesFor p entries → IsFit (replanned p entries seed)
+pub fit_replanned : (p : PlanValue) (entries : List Entry) (seed : ℕ) → IsFit p → AreEntriesFor p entries → IsFit (candidate_plan p entries seed)
 fit_replanned p entries seed fit are = record {
   clients = fit.clients;
   ops = fit.ops;

@@ -6,17 +6,17 @@ use Rattle.std.specs.List.{All, AllPairs, Contains, list_any}
 use Rattle.std.proofs.lemmas.Bool.{both_ways as differ, eqb-true}
 use Rattle.std.proofs.lemmas.List.{get_or-map, get_or-take, length-map, take-append-drop}
 use Rattle.std.proofs.lemmas.List.Elements.{All-nil, All-cons, All-append, All-map, All-take, All-contains, Contains-append_left, Contains-append_right}
-use Rattle.jh_env.specs.Faults.{AreApart, IsBumpAmount, RefusesBumps, RefusesLinks, RefusesNodes, is_unknown_bump, is_unknown_node, same_bumped}
+use Rattle.jh_env.specs.Faults.{AreApart, IsBumpAmount, RefusesBumps, RefusesLinks, RefusesNodes, is_unknown_bump, is_unknown_node, is_same_bumped}
 use Rattle.jh_env.specs.declared.faults.FaultError.TheVariants as FaultError
 use Rattle.jh_env.proofs.FaultLemmas.{known_bumps, known_nodes}
 use Rattle.jh_grudge.specs.Grudges.{JoinsTwoOf}
 use Rattle.jh_grudge.specs.Lists.{AreDistinct}
-use Rattle.jh_nemesis.specs.NamedFaults.{AreLinksAmong, places}
+use Rattle.jh_nemesis.specs.NamedFaults.{AreLinksAmong, node_places}
 use Rattle.jh_nemesis.proofs.FaultTextLemmas.{cut_refused}
 use Rattle.jh_nemesis.proofs.LinkLemmas.{all_pairs_head, all_pairs_tail, contains_cons, contains_head, contains_none, contains_tail, some_of_any}
 use Rattle.jh_nemesis.proofs.GrudgeLemmas.{made_among, order_below, order_distinct, order_long}
 use Rattle.jh_search.specs.FaultsInside.{AreNodesOf}
-use Rattle.jh_search.specs.RandomFaults.{both_ways, links_between, links_apart, first_link}
+use Rattle.jh_search.specs.RandomFaults.{links_both_ways, links_between, links_apart, first_link}
 
 -- a link joins two different nodes of n
 abbrev Joins : ℕ → ℕ × ℕ → Type 0
@@ -25,18 +25,18 @@ Joins n l = (l.0 < n) × (l.1 < n) × (l.0 ≢ l.1)
 flips : {a b : ℕ} → a ≢ b → b ≢ a
 flips apart same = apart (sym same)
 
-both_among : (n node : ℕ) (others : List ℕ) → ((b : ℕ) → Contains others b → Joins n (node, b)) → AreLinksAmong n (both_ways node others)
+both_among : (n node : ℕ) (others : List ℕ) → ((b : ℕ) → Contains others b → Joins n (node, b)) → AreLinksAmong n (links_both_ways node others)
 both_among n node [] each = All-nil (Joins n)
 both_among n node (b ∷ others) each =
     let joins = each b (contains_head b others) in
-    All-cons (Joins n) (node, b) ((b, node) ∷ both_ways node others) joins
-    (All-cons (Joins n) (b, node) (both_ways node others) (joins.1, joins.0, flips joins.2)
+    All-cons (Joins n) (node, b) ((b, node) ∷ links_both_ways node others) joins
+    (All-cons (Joins n) (b, node) (links_both_ways node others) (joins.1, joins.0, flips joins.2)
     (both_among n node others (λ c has. each c (contains_tail b others c has))))
 
 between_among : (n : ℕ) (side rest : List ℕ) → ((a b : ℕ) → Contains side a → Contains rest b → Joins n (a, b)) → AreLinksAmong n (links_between side rest)
 between_among n [] rest each = All-nil (Joins n)
 between_among n (a ∷ side) rest each =
-    All-append (Joins n) (both_ways a rest) (links_between side rest)
+    All-append (Joins n) (links_both_ways a rest) (links_between side rest)
     (both_among n a rest (λ b has. each a b (contains_head a side) has))
     (between_among n side rest (λ c b has other. each c b (contains_tail a side c has) other))
 
@@ -50,7 +50,7 @@ sides_differ (x ∷ side) rest all a b has other =
       | inr later ↦ sides_differ side rest (all_pairs_tail (λ x y. x ≢ y) x (side ++ rest) all) a b later other
     ]
 
-pub apart_among : (n k : ℕ) (order : List ℕ) → IsPermutation (places n) order → AreLinksAmong n (links_apart k order)
+pub apart_among : (n k : ℕ) (order : List ℕ) → IsPermutation (node_places n) order → AreLinksAmong n (links_apart k order)
 apart_among n k order shuffled =
     let whole : take k order ++ drop k order ≡ order = take-append-drop k order in
     let below = order_below n order shuffled in
@@ -60,7 +60,7 @@ apart_among n k order shuffled =
       sides_differ (take k order) (drop k order) (subst (AllPairs (λ x y. x ≢ y)) (sym whole) (order_distinct n order shuffled)) a b has other,
     ))
 
-pub first_among : (n : ℕ) (order : List ℕ) → IsPermutation (places n) order → AreLinksAmong n (first_link order)
+pub first_among : (n : ℕ) (order : List ℕ) → IsPermutation (node_places n) order → AreLinksAmong n (first_link order)
 first_among n [] shuffled = All-nil (Joins n)
 first_among n (a ∷ []) shuffled = All-nil (Joins n)
 first_among n (a ∷ b ∷ rest) shuffled =
@@ -105,7 +105,7 @@ bumped ms nodes = map (λ node. (node, ms)) nodes
 -- no bump has the node of an earlier one
 bump_alone : (nodes : List ℕ) (ms : ℤ) (i j : ℕ) (d x : ℕ × ℤ) → AreDistinct nodes → i < length (bumped ms nodes)
     → j < length (take i (bumped ms nodes)) → get_or (take i (bumped ms nodes)) j x ≡ x
-    → same_bumped x (get_or (bumped ms nodes) i d) ≡ true → ⊥
+    → is_same_bumped x (get_or (bumped ms nodes) i d) ≡ true → ⊥
 bump_alone nodes ms i j d x distinct below low at hit =
     let bumps = bumped ms nodes in
     let f : ℕ → ℕ × ℤ = λ node. (node, ms) in
@@ -119,10 +119,10 @@ bump_alone nodes ms i j d x distinct below low at hit =
     (ap (λ (b : ℕ × ℤ). b.0) (sym there ∙ this) ∙ eqb-true x.0 (get_or bumps i d).0 hit ∙ ap (λ (b : ℕ × ℤ). b.0) here)
 
 -- bumps of distinct nodes are apart
-bumps_apart : (nodes : List ℕ) (ms : ℤ) → AreDistinct nodes → AreApart same_bumped (bumped ms nodes)
+bumps_apart : (nodes : List ℕ) (ms : ℤ) → AreDistinct nodes → AreApart is_same_bumped (bumped ms nodes)
 bumps_apart nodes ms distinct i d below =
     let bumps = bumped ms nodes in
-    let p : ℕ × ℤ → Bool = λ x. same_bumped x (get_or bumps i d) in
+    let p : ℕ × ℤ → Bool = λ x. is_same_bumped x (get_or bumps i d) in
     elim (list_any p (take i bumps)) as (λ b. list_any p (take i bumps) ≡ b → b ≡ false) [
       | false ↦ λ is. refl
       | true ↦ λ is. (let (x, has, hit) = some_of_any p (take i bumps) is in absurd (bump_alone nodes ms i has.0 d x distinct below has.1 has.2 hit))
@@ -154,7 +154,7 @@ only_memory P F (Ok fault) only told = tt
 only_memory P F (Err e) only told = only e told
 
 -- the nodes that are taken from an order
-pub taken_nodes : (n k : ℕ) (order : List ℕ) → IsPermutation (places n) order → k ≤ n → AreNodesOf n (take k order)
+pub taken_nodes : (n k : ℕ) (order : List ℕ) → IsPermutation (node_places n) order → k ≤ n → AreNodesOf n (take k order)
 taken_nodes n k order shuffled few =
     let long = order_long n order shuffled in
     record {

@@ -1,5 +1,5 @@
--- The random numbers of a candidate (this project's own): those of O'Neill's PCG XSL RR 128/64, on a stream that is not the
--- one of its run.
+-- The random numbers of a candidate (this project's own): those of O'Neill's PCG XSL RR 128/64, on
+-- a stream that is not the one of its run.
 use Rattle.std.specs.Prelude.{ℕ, zero, suc, ◌+◌, ◌*◌}
 use Rattle.rand_pcg.specs.Lcg.{Lcg, started, increment_of}
 use Rattle.rand_pcg.specs.Pcg.{pcg64, multiplier_128}
@@ -26,6 +26,7 @@ draw_from seed n = record {
   length = number seed (n + 6);
 }
 
--- the numbers of a fault: the first number is the candidate's own, and each fault has the next seven
+-- the numbers of a fault: the first number is the candidate's own, and each fault has the next
+-- seven
 abbrev pub draw_of : ℕ → ℕ → Draw
 draw_of seed fault = draw_from seed (7 * fault + 1)

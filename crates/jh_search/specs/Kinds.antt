@@ -1,5 +1,5 @@
--- The kinds of faults that random schedules are made of (this project's own; what a fault of each kind does stands in
--- jh_tables).
+-- The kinds of faults that random schedules are made of (this project's own; what a fault of each
+-- kind does stands in jh_tables).
 use Rattle.std.specs.Prelude.{ℕ, ◌&&◌, ◌||◌, Bool, true, false, not, nat_lt, List, [], ◌∷◌, filter}
 use Rattle.jh_search.specs.declared.kinds.Kind.{Kind}
 use Rattle.jh_search.specs.declared.kinds.Kind.TheVariants.{Cut, Slow, Loss, Fix, Pause, Kill, Bump}
@@ -12,7 +12,16 @@ all_kinds = Cut ∷ Slow ∷ Loss ∷ Fix ∷ Pause ∷ Kill ∷ Bump ∷ []
 -- the palette that has them all
 abbrev pub whole_palette : Palette
 whole_palette =
-    record { cut = true; slow = true; loss = true; fix = true; pause = true; kill = true; bump = true }
+    record {
+      cut = true;
+      slow = true;
+      loss = true;
+      fix = true;
+      pause = true;
+      kill = true;
+      bump =
+          true;
+    }
 
 -- the palette has this kind
 abbrev pub has_kind : Palette → Kind → Bool
@@ -34,8 +43,8 @@ is_on_links Pause = false
 is_on_links Kill = false
 is_on_links Bump = false
 
--- Faults of this kind are drawn for so many nodes: the palette has it, and they have something to name, for one node has
--- no link.
+-- Faults of this kind are drawn for so many nodes: the palette has it, and they have something to
+-- name, for one node has no link.
 abbrev pub is_drawn : Palette → ℕ → Kind → Bool
 is_drawn palette count kind = has_kind palette kind && (not (is_on_links kind) || nat_lt 1 count)
 

@@ -1,8 +1,11 @@
--- The fault that random numbers make (this project's own). As in Jepsen's nemeses it is about the first of all nodes, which
--- are shuffled (jepsen.nemesis: partition-random-node, partition-random-halves, partition-majorities-ring).
-use Rattle.std.specs.Prelude.{ℕ, ◌-◌, ◌+◌, ◌/◌, ◌%◌, ◌==◌, ℤ, pos, List, [], ◌∷◌, drop, flat_map, map, take, if◌then◌else◌, nat_lt, negsuc}
+-- The fault that random numbers make (this project's own). As in Jepsen's nemeses it is about the
+-- first of all nodes, which are shuffled (jepsen.nemesis: partition-random-node,
+-- partition-random-halves, partition-majorities-ring).
+use Rattle.std.specs.Prelude.{ℕ, ◌-◌, ◌/◌, ◌%◌, ◌==◌, ℤ, pos, List, [], ◌∷◌, drop, flat_map}
+use Rattle.std.specs.Prelude.{map, take, if◌then◌else◌, nat_lt, negsuc}
 use Rattle.jh_env.specs.Faults.{FaultValue, kept_links, kept_nodes}
 use Rattle.jh_env.specs.Faults.{Cut, Slow, Loss, Fix, Pause, Kill, Bump}
+use Rattle.jh_grudge.specs.Grudges.{majority}
 use Rattle.jh_nemesis.specs.NamedFaults.{ring_links, seeded_order}
 use Rattle.jh_search.specs.declared.draws.Draw.{Draw}
 use Rattle.jh_search.specs.declared.kinds.Kind.{Kind}
@@ -18,13 +21,10 @@ order_of count d = seeded_order d.order count
 abbrev pub minority : ℕ → ℕ
 minority count = if nat_lt count 3 then 1 else (count - 1) / 2
 
--- the smallest number above half of so many
-abbrev pub majority : ℕ → ℕ
-majority count = count / 2 + 1
-
 -- how many: one, a minority, or a majority
 abbrev pub nodes_named : ℕ → ℕ → ℕ
-nodes_named count choice = if choice == 0 then 1 else if choice == 1 then minority count else majority count
+nodes_named count choice =
+    if choice == 0 then 1 else if choice == 1 then minority count else majority count
 
 abbrev pub drawn_nodes : ℕ → Draw → List ℕ
 drawn_nodes count d = take (nodes_named count (d.shape % 3)) (order_of count d)
@@ -32,14 +32,15 @@ drawn_nodes count d = take (nodes_named count (d.shape % 3)) (order_of count d)
 -- ---- the links
 
 -- those between one node and others, both ways
-abbrev pub both_ways : ℕ → List ℕ → List (ℕ × ℕ)
-both_ways node others = flat_map (λ other. (node, other) ∷ (other, node) ∷ []) others
+abbrev pub links_both_ways : ℕ → List ℕ → List (ℕ × ℕ)
+links_both_ways node others = flat_map (λ other. (node, other) ∷ (other, node) ∷ []) others
 
 -- those between each of these nodes and each of the rest
 abbrev pub links_between : List ℕ → List ℕ → List (ℕ × ℕ)
-links_between side rest = flat_map (λ node. both_ways node rest) side
+links_between side rest = flat_map (λ node. links_both_ways node rest) side
 
--- those between the first so many nodes of an order and the rest (Jepsen's complete-grudge of two components)
+-- those between the first so many nodes of an order and the rest (Jepsen's complete-grudge of two
+-- components)
 abbrev pub links_apart : ℕ → List ℕ → List (ℕ × ℕ)
 links_apart first order = links_between (take first order) (drop first order)
 
@@ -62,12 +63,14 @@ drawn_links count d = links_named count (order_of count d) (d.shape % 4)
 -- ---- the amounts
 
 -- milliseconds of a delay: an answer has to come within 1,000
-abbrev pub delay_of : ℕ → ℕ
-delay_of choice = if choice == 0 then 50 else if choice == 1 then 400 else if choice == 2 then 600 else 1500
+abbrev pub drawn_delay : ℕ → ℕ
+drawn_delay choice =
+    if choice == 0 then 50 else if choice == 1 then 400 else if choice == 2 then 600 else 1500
 
 -- a level of loss, in twentieths
 abbrev pub level_of : ℕ → ℕ
-level_of choice = if choice == 0 then 2 else if choice == 1 then 6 else if choice == 2 then 12 else 20
+level_of choice =
+    if choice == 0 then 2 else if choice == 1 then 6 else if choice == 2 then 12 else 20
 
 -- milliseconds by which a clock is moved
 abbrev pub offset_of : ℕ → ℤ
@@ -77,11 +80,12 @@ offset_of choice =
 
 -- ---- the fault
 
-abbrev pub fault_of : Kind → ℕ → Draw → FaultValue
-fault_of kind.Cut count d = Cut (kept_links (drawn_links count d))
-fault_of kind.Slow count d = Slow (delay_of (d.amount % 4)) (kept_links (drawn_links count d))
-fault_of kind.Loss count d = Loss (level_of (d.amount % 4)) (kept_links (drawn_links count d))
-fault_of kind.Fix count d = Fix (delay_of (d.amount % 4)) (kept_links (drawn_links count d))
-fault_of kind.Pause count d = Pause (kept_nodes (drawn_nodes count d))
-fault_of kind.Kill count d = Kill (kept_nodes (drawn_nodes count d))
-fault_of kind.Bump count d = Bump (map (λ node. (node, offset_of (d.amount % 4))) (drawn_nodes count d))
+abbrev pub fault_drawn : Kind → ℕ → Draw → FaultValue
+fault_drawn kind.Cut count d = Cut (kept_links (drawn_links count d))
+fault_drawn kind.Slow count d = Slow (drawn_delay (d.amount % 4)) (kept_links (drawn_links count d))
+fault_drawn kind.Loss count d = Loss (level_of (d.amount % 4)) (kept_links (drawn_links count d))
+fault_drawn kind.Fix count d = Fix (drawn_delay (d.amount % 4)) (kept_links (drawn_links count d))
+fault_drawn kind.Pause count d = Pause (kept_nodes (drawn_nodes count d))
+fault_drawn kind.Kill count d = Kill (kept_nodes (drawn_nodes count d))
+fault_drawn kind.Bump count d =
+    Bump (map (λ node. (node, offset_of (d.amount % 4))) (drawn_nodes count d))

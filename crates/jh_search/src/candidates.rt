@@ -1,5 +1,5 @@
-//! The candidates of a search. `specs/Candidates.antt` says which plan each is, `specs/CandidatesInside.antt` what is known
-//! of entries while one is made.
+//! The candidates of a search. `specs/Candidates.antt` says which plan each is,
+//! `specs/CandidatesInside.antt` what is known of entries while one is made.
 
 ghost use Rattle.std.specs.Prelude.{◌≡◌, ◌<◌, ◌≤◌, ◌+◌, ◌%◌, ◌^◌, ℕ, IfErr, IfOk, Ok, OnOk, length};
 ghost use Rattle.jh_simnode.specs.declared.plan.PlanError.TheVariants.{OutOfMemory};
@@ -12,14 +12,14 @@ use crate::draws::{Draw, next, next_draw, numbers_of};
 use crate::entries::{greatest_id, put_entry};
 use crate::kinds::{Kind, kinds_of};
 use crate::options::Options;
-use crate::random_faults::fault_of;
+use crate::random_faults::fault_drawn;
 use jh_nemesis::Step;
-use jh_simnode::{Entry, Plan, PlanError, Schedule};
+use jh_simnode::{Entry, Plan, PlanData, PlanError, Schedule, Settings};
 use rand_pcg::Lcg128Xsl64;
 use std::alloc::{AllocError, Global};
 
 /// The id of a fault, where the greatest of the plan's own is given.
-fn id_of(last_id: u32, fault: u32) -> u32
+fn fault_id(last_id: u32, fault: u32) -> u32
     ensures { result ≡ (last_id + 1 + fault) % 2 ^ 32 }
 {
     let id = u64::from(last_id) + 1 + u64::from(fault);
@@ -27,26 +27,26 @@ fn id_of(last_id: u32, fault: u32) -> u32
 }
 
 /// After how many calls a candidate heals, where it does.
-fn heals_at(plan: &Plan) -> u32
-    ensures at { result ≡ rule.heals_at plan.now }
+fn calls_before_heal(plan: &Plan) -> u32
+    ensures at { result ≡ rule.calls_before_heal plan.now }
     ensures within { (1 ≤ result) × (result ≤ plan.now.ops) }
 {
     plan.ops() - plan.ops() / 4
 }
 
 /// After how many calls a fault begins.
-fn begins_at(plan: &Plan, draw: Draw) -> u32
-    ensures at { result ≡ rule.begins_at plan.now draw }
+fn calls_before_begin(plan: &Plan, draw: Draw) -> u32
+    ensures at { result ≡ rule.calls_before_begin plan.now draw }
     ensures within { result < plan.now.ops }
 {
-    (draw.begin % u64::from(heals_at(plan))) as u32
+    (draw.begin % u64::from(calls_before_heal(plan))) as u32
 }
 
 /// After how many calls it is withdrawn.
-fn ends_at(plan: &Plan, draw: Draw) -> u32
-    ensures { result ≡ rule.ends_at plan.now draw }
+fn calls_before_end(plan: &Plan, draw: Draw) -> u32
+    ensures { result ≡ rule.calls_before_end plan.now draw }
 {
-    let begin = begins_at(plan, draw);
+    let begin = calls_before_begin(plan, draw);
     let left = plan.ops() - begin;
     begin + 1 + (draw.length % u64::from(left)) as u32
 }
@@ -59,8 +59,8 @@ fn stays(draw: Draw) -> bool
 }
 
 /// The kind that is drawn, where there is one.
-fn kind_of(kinds: &[Kind], draw: Draw) -> Option<Kind>
-    ensures { result ≡ rule.kind_of kinds.now draw }
+fn drawn_kind(kinds: &[Kind], draw: Draw) -> Option<Kind>
+    ensures { result ≡ rule.drawn_kind kinds.now draw }
 {
     if kinds.is_empty() {
         return None;
@@ -80,12 +80,13 @@ fn put_fault(
 ) -> Result<(), AllocError>
     requires kept { AreEntriesFor plan.now entries.old.items }
     requires named { HasNamed (length plan.now.env.names) kind }
-    ensures put { OnOk result (entries.new.items ≡ rule.with_fault plan.now id draw entries.old.items kind) }
+    ensures put { OnOk result
+        (entries.new.items ≡ rule.entries_with_fault plan.now id draw entries.old.items kind) }
     ensures kept { OnOk result (AreEntriesFor plan.now entries.new.items) }
 {
-    let fault = fault_of(alloc, plan.environment().nodes(), kind, draw)?;
+    let fault = fault_drawn(alloc, plan.environment().nodes(), kind, draw)?;
     let begin = Entry {
-        at: begins_at(plan, draw),
+        at: calls_before_begin(plan, draw),
         step: Step::Begin(id, fault),
     };
     put_entry(entries, begin)?;
@@ -93,7 +94,7 @@ fn put_fault(
         return Ok(());
     }
     let end = Entry {
-        at: ends_at(plan, draw),
+        at: calls_before_end(plan, draw),
         step: Step::Withdraw(id),
     };
     put_entry(entries, end)
@@ -111,31 +112,32 @@ fn put_drawn(
     requires kept { AreEntriesFor plan.now entries.old.items }
     requires named { HaveNamed (length plan.now.env.names) kinds.now }
     ensures put { OnOk result (entries.new.items
-        ≡ rule.with_drawn plan.now id draw entries.old.items (rule.kind_of kinds.now draw)) }
+        ≡ rule.entries_with_drawn plan.now id draw entries.old.items
+        (rule.drawn_kind kinds.now draw)) }
     ensures kept { OnOk result (AreEntriesFor plan.now entries.new.items) }
 {
-    match kind_of(kinds, draw) {
+    match drawn_kind(kinds, draw) {
         Some(kind) => put_fault(alloc, plan, id, draw, kind, entries),
         None => Ok(()),
     }
 }
 
 /// The plan's own entries, with random faults among them.
-fn with_faults(
+fn entries_with_faults(
     alloc: Global,
     plan: &Plan,
     options: Options,
     numbers: &mut Lcg128Xsl64,
 ) -> Result<Vec<Entry>, AllocError>
     ensures faults { (seed : ℕ) → numbers.old ≡ numbers_after seed 1
-        → IfOk result (λ entries. entries.items ≡ rule.with_faults plan.now options seed) }
+        → IfOk result (λ entries. entries.items ≡ rule.entries_with_faults plan.now options seed) }
     ensures kept { IfOk result (λ entries. AreEntriesFor plan.now entries.items) }
 {
     let kinds = kinds_of(alloc, options.palette, plan.environment().nodes().len())?;
     let last_id = greatest_id(plan.schedule().entries());
     let mut entries = plan.schedule().copy(alloc)?.into_entries();
     for fault in 0..options.faults {
-        let id = id_of(last_id, fault);
+        let id = fault_id(last_id, fault);
         put_drawn(alloc, plan, &kinds, id, next_draw(numbers), &mut entries)?;
     }
     Ok(entries)
@@ -144,14 +146,15 @@ fn with_faults(
 /// Puts the withdrawal of all faults among entries, where the candidate has one by its own number.
 fn put_heal(plan: &Plan, own: u64, entries: &mut Vec<Entry>) -> Result<(), AllocError>
     requires kept { AreEntriesFor plan.now entries.old.items }
-    ensures put { OnOk result (entries.new.items ≡ rule.healed plan.now own entries.old.items) }
+    ensures put { OnOk result
+        (entries.new.items ≡ rule.healed_entries plan.now own entries.old.items) }
     ensures kept { OnOk result (AreEntriesFor plan.now entries.new.items) }
 {
     if own % 3 == 0 {
         return Ok(());
     }
     let heal = Entry {
-        at: heals_at(plan),
+        at: calls_before_heal(plan),
         step: Step::WithdrawAll,
     };
     put_entry(entries, heal)
@@ -164,12 +167,13 @@ fn random_entries(
     options: Options,
     seed: u64,
 ) -> Result<Vec<Entry>, AllocError>
-    ensures entries { IfOk result (λ entries. entries.items ≡ rule.random_schedule plan.now options seed) }
+    ensures entries { IfOk result
+        (λ entries. entries.items ≡ rule.random_schedule plan.now options seed) }
     ensures kept { IfOk result (λ entries. AreEntriesFor plan.now entries.items) }
 {
     let mut numbers = numbers_of(seed);
     let own = next(&mut numbers);
-    let mut entries = with_faults(alloc, plan, options, &mut numbers)?;
+    let mut entries = entries_with_faults(alloc, plan, options, &mut numbers)?;
     put_heal(plan, own, &mut entries)?;
     Ok(entries)
 }
@@ -187,28 +191,35 @@ fn made_plan(made: Result<Plan, PlanError>) -> Result<Plan, AllocError>
 }
 
 /// The plan with another seed and with other entries, whose faults name nodes of its environment.
-fn replanned(alloc: Global, plan: &Plan, entries: Vec<Entry>, seed: u64) -> Result<Plan, AllocError>
+fn candidate_plan(
+    alloc: Global,
+    plan: &Plan,
+    entries: Vec<Entry>,
+    seed: u64,
+) -> Result<Plan, AllocError>
     requires { AreEntriesFor plan.now entries.items }
-    ensures { IfOk result (λ made. made ≡ rule.replanned plan.now entries.items seed) }
+    ensures { IfOk result (λ made. made ≡ rule.candidate_plan plan.now entries.items seed) }
 {
     let Ok(schedule) = Schedule::of(entries) else {
         unreachable!()
     };
-    let made = Plan::new(
-        alloc,
-        plan.environment().copy(alloc)?,
-        plan.store(),
-        plan.volatile(),
-        plan.workload(),
-        plan.initial(),
-        plan.clients(),
-        plan.ops(),
-        plan.generator().copy(alloc)?,
+    let fields = PlanData {
+        environment: plan.environment().copy(alloc)?,
+        settings: Settings {
+            store: plan.store(),
+            volatile: plan.volatile(),
+            workload: plan.workload(),
+            initial: plan.initial(),
+        },
+        clients: plan.clients(),
+        ops: plan.ops(),
+        generator: plan.generator().copy(alloc)?,
         schedule,
-        plan.tick_every(),
-        plan.rows(),
+        tick_every: plan.tick_every(),
+        rows: plan.rows(),
         seed,
-    );
+    };
+    let made = Plan::new(alloc, fields);
     made_plan(made)
 }
 
@@ -220,10 +231,12 @@ fn seed_of(plan: &Plan, number: u64) -> u64
     (raised % (1 << 63)) as u64
 }
 
-/// The candidate of this number, from 0: the plan with its seed raised by the number, around 2^63, and with random faults among
-/// the entries of its schedule. A schedule has at most 1,024 entries; what it has no room for is left out.
+/// The candidate of this number, from 0: the plan with its seed raised by the number, around 2^63,
+/// and with random faults among the entries of its schedule. A schedule has at most 1,024 entries;
+/// what it has no room for is left out.
 ///
-/// Takes time for each fault and for the entries that stand behind it, and memory for the whole plan.
+/// Takes time for each fault and for the entries that stand behind it, and memory for the whole
+/// plan.
 ///
 /// Error: memory was refused.
 pub fn candidate(
@@ -236,5 +249,5 @@ pub fn candidate(
 {
     let seed = seed_of(plan, number);
     let entries = random_entries(alloc, plan, *options, seed)?;
-    replanned(alloc, plan, entries, seed)
+    candidate_plan(alloc, plan, entries, seed)
 }

@@ -1,4 +1,5 @@
-//! Entries put among those of a schedule, and the ids that are taken there. `specs/Candidates.antt` has the rules.
+//! Entries put among those of a schedule, and the ids that are taken there. `specs/Candidates.antt`
+//! has the rules.
 
 ghost use Rattle.std.specs.Prelude.{◌≡◌, OnOk};
 ghost use Rattle.jh_search.specs.Candidates as rule;
@@ -9,7 +10,7 @@ use std::alloc::AllocError;
 
 /// Puts an entry before the first that is due later, where a schedule has room for it.
 pub(crate) fn put_entry(entries: &mut Vec<Entry>, entry: Entry) -> Result<(), AllocError>
-    ensures { OnOk result (entries.new.items ≡ rule.with_entry entries.old.items entry) }
+    ensures { OnOk result (entries.new.items ≡ rule.entries_with entries.old.items entry) }
 {
     if entries.len() < MAX_ENTRIES {
         let later = entries.iter().position(|other| other.at > entry.at);

@@ -6,14 +6,14 @@ mod draws;
 mod entries;
 mod kinds;
 mod options;
-mod outcomes;
 mod random_faults;
 mod serial;
 mod threads;
+mod verdicts;
 
 pub use candidates::candidate;
 pub use kinds::{Kind, Palette};
 pub use options::Options;
-pub use outcomes::Outcome;
 pub use serial::{Searched, search_serial};
 pub use threads::{SearchError, search};
+pub use verdicts::PlanVerdict;

@@ -1,4 +1,5 @@
-//! What a search is asked. `specs/Candidates.antt` and `specs/Search.antt` say what its fields mean.
+//! What a search is asked. `specs/Candidates.antt` and `specs/Search.antt` say what its fields
+//! mean.
 
 use crate::kinds::Palette;
 

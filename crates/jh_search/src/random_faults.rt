@@ -1,12 +1,15 @@
-//! The fault that random numbers make. `specs/RandomFaults.antt` says which; a new shape or amount is a case there and here.
+//! The fault that random numbers make. `specs/RandomFaults.antt` says which; a new shape or amount
+//! is a case there and here.
 
-ghost use Rattle.std.specs.Prelude.{◌≡◌, ◌<◌, ◌≤◌, ◌++◌, IfErr, IfOk, IsPermutation, Ok, OnOk, length, map};
+ghost use Rattle.std.specs.Prelude.{◌≡◌, ◌<◌, ◌≤◌, ◌++◌, IfErr, IfOk, IsPermutation, Ok, OnOk};
+ghost use Rattle.std.specs.Prelude.{length, map};
 ghost use Rattle.std.specs.List.{All};
 ghost use Rattle.jh_env.specs.Faults as env;
-ghost use Rattle.jh_env.specs.Faults.{Bump, Cut, FitsCount, Fix, Kill, Loss, Pause, Slow, kept_links, kept_nodes};
+ghost use Rattle.jh_env.specs.Faults.{Bump, Cut, FitsCount, Fix, Kill, Loss, Pause, Slow};
+ghost use Rattle.jh_env.specs.Faults.{kept_links, kept_nodes};
 ghost use Rattle.jh_env.specs.declared.faults.FaultError.TheVariants.{OutOfMemory};
 ghost use Rattle.jh_nemesis.specs.NamedFaults as named;
-ghost use Rattle.jh_nemesis.specs.NamedFaults.{AreLinksAmong, places};
+ghost use Rattle.jh_nemesis.specs.NamedFaults.{AreLinksAmong, node_places};
 ghost use Rattle.jh_search.specs.RandomFaults as rule;
 ghost use Rattle.jh_search.specs.FaultsInside.{AreNodesOf, HasNamed};
 
@@ -32,8 +35,8 @@ fn nodes_named(count: usize, choice: u64) -> usize
 }
 
 /// Milliseconds of a delay.
-fn delay_of(choice: u64) -> u64
-    ensures delay { result ≡ rule.delay_of choice }
+fn drawn_delay(choice: u64) -> u64
+    ensures delay { result ≡ rule.drawn_delay choice }
     ensures slow { env.IsSlowAmount result }
     ensures fix { env.IsFixAmount result }
 {
@@ -73,7 +76,8 @@ fn offset_of(choice: u64) -> i64
 
 /// Adds the links between a node and others, both ways.
 fn push_both_ways(links: &mut Vec<(Node, Node)>, node: u8, others: &[u8]) -> Result<(), AllocError>
-    ensures { OnOk result (links.new.items ≡ links.old.items ++ rule.both_ways node others.now) }
+    ensures { OnOk result
+        (links.new.items ≡ links.old.items ++ rule.links_both_ways node others.now) }
 {
     for other in others {
         links.push((Node::at(node), Node::at(*other)))?;
@@ -107,8 +111,9 @@ fn links_at(alloc: Global, ends: &[(u8, u8)]) -> Result<Vec<(Node, Node)>, Alloc
 
 /// The links of a ring of majorities in this order.
 fn ring_links(alloc: Global, order: &[u8]) -> Result<Vec<(Node, Node)>, AllocError>
-    requires { IsPermutation (places (length order.now)) order.now }
-    ensures links { IfOk result (λ links. links.items ≡ named.ring_links order.now (length order.now)) }
+    requires { IsPermutation (node_places (length order.now)) order.now }
+    ensures links { IfOk result
+        (λ links. links.items ≡ named.ring_links order.now (length order.now)) }
     ensures among { IfOk result (λ links. AreLinksAmong (length order.now) links.items) }
 {
     let grudge = majorities_ring(alloc, order)?;
@@ -129,8 +134,9 @@ fn first_link(alloc: Global, order: &[u8]) -> Result<Vec<(Node, Node)>, AllocErr
 /// The links that a fault of links names.
 fn links_named(alloc: Global, order: &[u8], choice: u64) -> Result<Vec<(Node, Node)>, AllocError>
     requires some { 1 < length order.now }
-    requires all { IsPermutation (places (length order.now)) order.now }
-    ensures links { IfOk result (λ links. links.items ≡ rule.links_named (length order.now) order.now choice) }
+    requires all { IsPermutation (node_places (length order.now)) order.now }
+    ensures links { IfOk result
+        (λ links. links.items ≡ rule.links_named (length order.now) order.now choice) }
     ensures among { IfOk result (λ links. AreLinksAmong (length order.now) links.items) }
 {
     match choice {
@@ -174,7 +180,8 @@ fn nodes_drawn(alloc: Global, nodes: &Nodes, draw: Draw) -> Result<Vec<Node>, Al
 
 /// The clocks of nodes, each moved by the same amount.
 fn bumps_of(alloc: Global, nodes: &[Node], choice: u64) -> Result<Vec<(Node, i64)>, AllocError>
-    ensures bumps { IfOk result (λ bumps. bumps.items ≡ map (λ node. (node, rule.offset_of choice)) nodes.now) }
+    ensures bumps { IfOk result
+        (λ bumps. bumps.items ≡ map (λ node. (node, rule.offset_of choice)) nodes.now) }
     ensures amounts { IfOk result (λ bumps. All (λ bump. env.IsBumpAmount bump.1) bumps.items) }
 {
     let mut bumps = Vec::new(alloc);
@@ -199,7 +206,8 @@ fn made(fault: Result<Fault, FaultError>) -> Result<Fault, AllocError>
 /// The cut of the links that a draw names.
 fn cut(alloc: Global, nodes: &Nodes, draw: Draw) -> Result<Fault, AllocError>
     requires several { 1 < length nodes.now }
-    ensures made { IfOk result (λ fault. fault ≡ Cut (kept_links (rule.drawn_links (length nodes.now) draw))) }
+    ensures made { IfOk result
+        (λ fault. fault ≡ Cut (kept_links (rule.drawn_links (length nodes.now) draw))) }
     ensures fits { IfOk result (FitsCount (length nodes.now)) }
 {
     let links = links_drawn(alloc, nodes, draw)?;
@@ -210,7 +218,8 @@ fn cut(alloc: Global, nodes: &Nodes, draw: Draw) -> Result<Fault, AllocError>
 fn slow(alloc: Global, nodes: &Nodes, draw: Draw, ms: u64) -> Result<Fault, AllocError>
     requires several { 1 < length nodes.now }
     requires amount { env.IsSlowAmount ms }
-    ensures made { IfOk result (λ fault. fault ≡ Slow ms (kept_links (rule.drawn_links (length nodes.now) draw))) }
+    ensures made { IfOk result
+        (λ fault. fault ≡ Slow ms (kept_links (rule.drawn_links (length nodes.now) draw))) }
     ensures fits { IfOk result (FitsCount (length nodes.now)) }
 {
     let links = links_drawn(alloc, nodes, draw)?;
@@ -221,7 +230,8 @@ fn slow(alloc: Global, nodes: &Nodes, draw: Draw, ms: u64) -> Result<Fault, Allo
 fn loss(alloc: Global, nodes: &Nodes, draw: Draw, level: u8) -> Result<Fault, AllocError>
     requires several { 1 < length nodes.now }
     requires amount { env.IsLossAmount level }
-    ensures made { IfOk result (λ fault. fault ≡ Loss level (kept_links (rule.drawn_links (length nodes.now) draw))) }
+    ensures made { IfOk result
+        (λ fault. fault ≡ Loss level (kept_links (rule.drawn_links (length nodes.now) draw))) }
     ensures fits { IfOk result (FitsCount (length nodes.now)) }
 {
     let links = links_drawn(alloc, nodes, draw)?;
@@ -232,7 +242,8 @@ fn loss(alloc: Global, nodes: &Nodes, draw: Draw, level: u8) -> Result<Fault, Al
 fn fix(alloc: Global, nodes: &Nodes, draw: Draw, ms: u64) -> Result<Fault, AllocError>
     requires several { 1 < length nodes.now }
     requires amount { env.IsFixAmount ms }
-    ensures made { IfOk result (λ fault. fault ≡ Fix ms (kept_links (rule.drawn_links (length nodes.now) draw))) }
+    ensures made { IfOk result
+        (λ fault. fault ≡ Fix ms (kept_links (rule.drawn_links (length nodes.now) draw))) }
     ensures fits { IfOk result (FitsCount (length nodes.now)) }
 {
     let links = links_drawn(alloc, nodes, draw)?;
@@ -241,7 +252,8 @@ fn fix(alloc: Global, nodes: &Nodes, draw: Draw, ms: u64) -> Result<Fault, Alloc
 
 /// A pause of the nodes that a draw names.
 fn pause(alloc: Global, nodes: &Nodes, draw: Draw) -> Result<Fault, AllocError>
-    ensures made { IfOk result (λ fault. fault ≡ Pause (kept_nodes (rule.drawn_nodes (length nodes.now) draw))) }
+    ensures made { IfOk result
+        (λ fault. fault ≡ Pause (kept_nodes (rule.drawn_nodes (length nodes.now) draw))) }
     ensures fits { IfOk result (FitsCount (length nodes.now)) }
 {
     let named = nodes_drawn(alloc, nodes, draw)?;
@@ -250,7 +262,8 @@ fn pause(alloc: Global, nodes: &Nodes, draw: Draw) -> Result<Fault, AllocError>
 
 /// A kill of the nodes that a draw names.
 fn kill(alloc: Global, nodes: &Nodes, draw: Draw) -> Result<Fault, AllocError>
-    ensures made { IfOk result (λ fault. fault ≡ Kill (kept_nodes (rule.drawn_nodes (length nodes.now) draw))) }
+    ensures made { IfOk result
+        (λ fault. fault ≡ Kill (kept_nodes (rule.drawn_nodes (length nodes.now) draw))) }
     ensures fits { IfOk result (FitsCount (length nodes.now)) }
 {
     let named = nodes_drawn(alloc, nodes, draw)?;
@@ -260,7 +273,8 @@ fn kill(alloc: Global, nodes: &Nodes, draw: Draw) -> Result<Fault, AllocError>
 /// The clocks of the nodes that a draw names, all moved by the same amount.
 fn bump(alloc: Global, nodes: &Nodes, draw: Draw, choice: u64) -> Result<Fault, AllocError>
     ensures made { IfOk result (λ fault. fault
-        ≡ Bump (map (λ node. (node, rule.offset_of choice)) (rule.drawn_nodes (length nodes.now) draw))) }
+        ≡ Bump (map (λ node. (node, rule.offset_of choice))
+        (rule.drawn_nodes (length nodes.now) draw))) }
     ensures fits { IfOk result (FitsCount (length nodes.now)) }
 {
     let named = nodes_drawn(alloc, nodes, draw)?;
@@ -271,22 +285,22 @@ fn bump(alloc: Global, nodes: &Nodes, draw: Draw, choice: u64) -> Result<Fault, 
 /// The fault of this kind that a draw makes of nodes. One on links is made only of several nodes.
 ///
 /// Memory is taken for its links or nodes.
-pub(crate) fn fault_of(
+pub(crate) fn fault_drawn(
     alloc: Global,
     nodes: &Nodes,
     kind: Kind,
     draw: Draw,
 ) -> Result<Fault, AllocError>
     requires { HasNamed (length nodes.now) kind }
-    ensures made { IfOk result (λ fault. fault ≡ rule.fault_of kind (length nodes.now) draw) }
+    ensures made { IfOk result (λ fault. fault ≡ rule.fault_drawn kind (length nodes.now) draw) }
     ensures fits { IfOk result (FitsCount (length nodes.now)) }
 {
     let amount = draw.amount % 4;
     match kind {
         Kind::Cut => cut(alloc, nodes, draw),
-        Kind::Slow => slow(alloc, nodes, draw, delay_of(amount)),
+        Kind::Slow => slow(alloc, nodes, draw, drawn_delay(amount)),
         Kind::Loss => loss(alloc, nodes, draw, level_of(amount)),
-        Kind::Fix => fix(alloc, nodes, draw, delay_of(amount)),
+        Kind::Fix => fix(alloc, nodes, draw, drawn_delay(amount)),
         Kind::Pause => pause(alloc, nodes, draw),
         Kind::Kill => kill(alloc, nodes, draw),
         Kind::Bump => bump(alloc, nodes, draw, amount),

@@ -4,7 +4,7 @@ ghost use Rattle.std.specs.Prelude.{◌<◌, ◌+◌, ◌^◌, IfOk};
 ghost use Rattle.jh_search.specs.Search.{IsSearched};
 
 use crate::options::Options;
-use crate::outcomes::{Outcome, outcome_at};
+use crate::verdicts::{PlanVerdict, verdict_at};
 use jh_simnode::Plan;
 use std::alloc::{AllocError, Global};
 
@@ -29,15 +29,15 @@ pub fn search_serial(alloc: Global, plan: &Plan, options: &Options) -> Result<Se
     let mut unknown = 0;
     for index in 0..options.runs {
         let number = options.from + index;
-        match outcome_at(alloc, plan, options, number)? {
-            Outcome::Fails => {
+        match verdict_at(alloc, plan, options, number)? {
+            PlanVerdict::Fails => {
                 return Ok(Searched {
                     failing: Some(number),
                     unknown,
                 });
             }
-            Outcome::Passes => {}
-            Outcome::Unknown => unknown += 1,
+            PlanVerdict::Passes => {}
+            PlanVerdict::Unknown => unknown += 1,
         }
     }
     Ok(Searched {

@@ -1,24 +1,26 @@
-//! Candidates tried on several threads, block by block. What is found is what `search_serial` may find.
+//! Candidates tried on several threads, block by block. What is found is what `search_serial` may
+//! find.
 
 ghost use Rattle.std.specs.Prelude.{◌≡◌, ◌<◌, ◌≤◌, ◌+◌, ◌^◌, ℕ, IfOk, length};
-ghost use Rattle.jh_share.specs.Answers.{AreAnswers};
+ghost use Rattle.jh_tasks.specs.Answers.{AreTaskAnswers};
 ghost use Rattle.jh_search.specs.Search.{ComesOf, IsSearched};
-ghost use Rattle.jh_search.specs.SearchInside.{AreTries, HasTried, LeadsTo};
-ghost use Rattle.jh_search.specs.declared.outcomes.Outcome.{Outcome};
+ghost use Rattle.jh_search.specs.SearchInside.{AreTries, HasTried, LeadsToNext};
+ghost use Rattle.jh_search.specs.declared.verdicts.PlanVerdict.{PlanVerdict};
 ghost use Rattle.jh_search.specs.declared.threads.SearchError.TheVariants.{OutOfMemory};
 
 use crate::options::Options;
-use crate::outcomes::{Outcome, outcome_at};
 use crate::serial::Searched;
-use jh_share::{Task, share};
+use crate::verdicts::{PlanVerdict, verdict_at};
 use jh_simnode::Plan;
+use jh_tasks::{Task, answer_tasks};
 use std::alloc::{AllocError, Global};
 use std::marker::{Brand, Model, PhantomData};
 use std::sync::Wait;
 use std::thread::Threads;
 use thiserror::Error;
 
-/// How many candidates the threads share at once: so a search of any length takes the memory of so many answers.
+/// How many candidates the threads share at once: so a search of any length takes the memory of so
+/// many answers.
 const MAX_BLOCK: u64 = 65_536;
 
 /// Why a search ends without an answer.
@@ -43,7 +45,7 @@ impl From<AllocError> for SearchError {
 }
 
 /// What trying one candidate gave.
-type Answer = Result<Outcome, AllocError>;
+type Answer = Result<PlanVerdict, AllocError>;
 
 /// The candidates of a block. Each block picks its own.
 pub trait Tries {
@@ -51,13 +53,13 @@ pub trait Tries {
     ghost count: { ℕ };
 
     /// What may come of each.
-    ghost comes: { ℕ → Outcome → Type 0 };
+    ghost comes: { ℕ → PlanVerdict → Type 0 };
 }
 
 impl Tries for Brand {
     ghost count = { 0 };
 
-    ghost comes = { λ index outcome. Unit {0} };
+    ghost comes = { λ index verdict. Unit {0} };
 }
 
 /// The candidates from a number on.
@@ -84,7 +86,7 @@ impl<'a, Q: Tries> Task<Answer> for Candidates<'a, Q> {
     ghost is_right = { λ index answer. IfOk answer (Q.comes index) };
 
     fn answer_at(&self, number: usize) -> Answer {
-        outcome_at(
+        verdict_at(
             self.alloc,
             self.plan,
             self.options,
@@ -93,7 +95,7 @@ impl<'a, Q: Tries> Task<Answer> for Candidates<'a, Q> {
     }
 
     fn is_last(answer: &Answer) -> bool {
-        matches!(answer, Err(_) | Ok(Outcome::Fails))
+        matches!(answer, Err(_) | Ok(PlanVerdict::Fails))
     }
 }
 
@@ -110,7 +112,9 @@ fn tried<Q: Tries + Send + Sync, R: Threads + Wait + Sync>(
     requires tries { AreTries plan.now options.now from Q.count Q.comes }
     requires count { count ≡ Q.count }
     requires threads { (1 ≤ threads) × (threads ≤ 16) }
-    ensures { IfOk result (λ answers. AreAnswers Q.count (λ index answer. IfOk answer (Q.comes index)) answers.items) }
+    ensures { IfOk result
+        (λ answers. AreTaskAnswers Q.count
+        (λ index answer. IfOk answer (Q.comes index)) answers.items) }
 {
     let candidates = Candidates::<'_, Q> {
         alloc,
@@ -119,7 +123,7 @@ fn tried<Q: Tries + Send + Sync, R: Threads + Wait + Sync>(
         from,
         of: PhantomData,
     };
-    share::<Answer, Candidates<'_, Q>, R>(rt, alloc, &candidates, count, threads)
+    answer_tasks::<Answer, Candidates<'_, Q>, R>(rt, alloc, &candidates, count, threads)
 }
 
 /// What came of the candidates of a block.
@@ -134,13 +138,14 @@ fn block<R: Threads + Wait + Sync>(
 ) -> Result<Vec<Option<Answer>>, AllocError>
     requires few { from + count < 2 ^ 64 }
     requires threads { (1 ≤ threads) × (threads ≤ 16) }
-    ensures { IfOk result (λ answers. AreAnswers count
+    ensures { IfOk result (λ answers. AreTaskAnswers count
         (λ index answer. IfOk answer (ComesOf plan.now options.now (from + index))) answers.items) }
 {
     tried::<Brand, R>(rt, alloc, plan, options, from, count, threads)
 }
 
-/// Where a search stands: how many candidates were tried, none of which fails, and how many of these are unknown.
+/// Where a search stands: how many candidates were tried, none of which fails, and how many of
+/// these are unknown.
 #[derive(Clone, Copy)]
 struct Progress {
     tried: u64,
@@ -162,42 +167,46 @@ fn after_block(
     answers: &[Option<Answer>],
 ) -> Result<Next, SearchError>
     requires tried { HasTried plan.now options.now progress.tried progress.unknown }
-    requires answers { AreAnswers (length answers.now)
-        (λ index answer. IfOk answer (ComesOf plan.now options.now (options.now.from + progress.tried + index))) answers.now }
+    requires answers { AreTaskAnswers (length answers.now)
+        (λ index answer.
+        IfOk answer (ComesOf plan.now options.now (options.now.from + progress.tried + index)))
+        answers.now }
     requires few { progress.tried + length answers.now ≤ options.now.runs }
     requires range { options.now.from + options.now.runs < 2 ^ 64 }
-    ensures { IfOk result (LeadsTo plan.now options.now (progress.tried + length answers.now)) }
+    ensures { IfOk result (LeadsToNext plan.now options.now (progress.tried + length answers.now)) }
 {
     let mut next = progress;
     for answer in answers {
-        let outcome = match answer {
-            Some(Ok(outcome)) => *outcome,
+        let verdict = match answer {
+            Some(Ok(verdict)) => *verdict,
             Some(Err(error)) => return Err(SearchError::from(*error)),
             None => return Err(SearchError::Thread),
         };
-        match outcome {
-            Outcome::Fails => {
+        match verdict {
+            PlanVerdict::Fails => {
                 return Ok(Next::Found(Searched {
                     failing: Some(options.from + next.tried),
                     unknown: next.unknown,
                 }));
             }
-            Outcome::Passes => {}
-            Outcome::Unknown => next.unknown += 1,
+            PlanVerdict::Passes => {}
+            PlanVerdict::Unknown => next.unknown += 1,
         }
         next.tried += 1;
     }
     Ok(Next::Goes(next))
 }
 
-/// Tries candidates on so many threads, this one among them: what is found is what `search_serial` may find, the least candidate
-/// that fails, whatever the number of threads. Each next thread that is free takes the next candidate, and none above one that
-/// fails is begun. All threads have ended when it returns.
+/// Tries candidates on so many threads, this one among them: what is found is what `search_serial`
+/// may find, the least candidate that fails, whatever the number of threads. Each next thread that
+/// is free takes the next candidate, and none above one that fails is begun. All threads have ended
+/// when it returns.
 ///
-/// May wait, and promises only if it returns. Takes the time of each run and of its judge, and memory for one at a time for each
-/// thread, and 2 bytes for each candidate of 65,536 at once.
+/// May wait, and promises only if it returns. Takes the time of each run and of its judge, and
+/// memory for one at a time for each thread, and 2 bytes for each candidate of 65,536 at once.
 ///
-/// Errors: at the first candidate that was not tried, `Thread` where a thread could not be had; `OutOfMemory`.
+/// Errors: at the first candidate that was not tried, `Thread` where a thread could not be had;
+/// `OutOfMemory`.
 pub fn search<R: Threads + Wait + Sync>(
     rt: &R,
     alloc: Global,

@@ -20,6 +20,7 @@ struct Line {
     text: Vec<u8>,
 }
 
+/// Adds a line, unless there are as many as a schedule may have entries.
 fn put_line(lines: &mut Vec<Line>, due: u32, text: Vec<u8>) -> Option<()> {
     if lines.len() < MAX_ENTRIES {
         lines.push(Line { due, text }).ok()?;
@@ -38,6 +39,7 @@ fn own_lines(alloc: Global, plan: &Plan) -> Option<Vec<Line>> {
     Some(lines)
 }
 
+/// The text of an entry: when it is due, and its step.
 fn entry_text(alloc: Global, plan: &Plan, entry: &Entry) -> Option<Vec<u8>>
     requires { FitsNodes (length plan.now.env.names) entry.now.step }
 {
@@ -49,6 +51,7 @@ fn entry_text(alloc: Global, plan: &Plan, entry: &Entry) -> Option<Vec<u8>>
     Some(text)
 }
 
+/// The id that the step of an entry names, and 0 where it names none.
 fn id_of(entry: &Entry) -> u32 {
     match &entry.step {
         Step::Begin(id, _) | Step::Withdraw(id) => *id,
@@ -85,6 +88,7 @@ fn below(numbers: &mut Lcg128Xsl64, bound: u32) -> u32 {
     u32::try_from(number).unwrap_or(0)
 }
 
+/// Draws a fault, and adds the line of its begin and, unless it stays, that of its withdrawal.
 fn put_fault(
     alloc: Global,
     plan: &Plan,
@@ -122,6 +126,7 @@ fn put_fault(
     Some(())
 }
 
+/// The seed with the lines behind it, as one text.
 fn joined(alloc: Global, seed: u64, lines: &[Line]) -> Option<Vec<u8>> {
     let mut text = Vec::new(alloc);
     write!(text, "{seed}").ok()?;

@@ -5,6 +5,7 @@ use jh_nemesis::ring_order;
 use std::alloc::Global;
 use std::io::Write;
 
+/// The name of the node at a place.
 fn name_at(nodes: &Nodes, place: u8) -> Option<&str> {
     nodes.name(Node::at(place))
 }
@@ -20,7 +21,8 @@ fn put_apart(links: &mut Vec<(u8, u8)>, order: &[u8], first: usize) -> Option<()
     Some(())
 }
 
-/// Whether a node of a ring drops what another sends: it stands behind the majority that the first sees.
+/// Whether a node of a ring drops what another sends: it stands behind the majority that the first
+/// sees.
 fn is_dropped(order: &[u8], source: u8, destination: u8) -> Option<bool> {
     let count = order.len();
     let at = order.iter().position(|node| *node == destination)?;
@@ -32,6 +34,7 @@ fn is_dropped(order: &[u8], source: u8, destination: u8) -> Option<bool> {
     Some(behind > count / 2)
 }
 
+/// The links that are dropped in a ring, each of whose nodes sees a majority.
 fn put_ring(links: &mut Vec<(u8, u8)>, order: &[u8]) -> Option<()> {
     for source in order {
         for destination in order {
@@ -56,6 +59,7 @@ fn links(alloc: Global, order: &[u8], choice: u64) -> Option<Vec<(u8, u8)>> {
     Some(links)
 }
 
+/// Writes links by the names of their nodes.
 fn put_links(text: &mut Vec<u8>, nodes: &Nodes, links: &[(u8, u8)]) -> Option<()> {
     let mut gap = "";
     for link in links {
@@ -80,6 +84,7 @@ fn some(alloc: Global, order: &[u8], choice: u64) -> Option<Vec<u8>> {
     Some(some)
 }
 
+/// Writes nodes by their names.
 fn put_nodes(text: &mut Vec<u8>, nodes: &Nodes, places: &[u8]) -> Option<()> {
     let mut gap = "";
     for place in places {
@@ -90,6 +95,7 @@ fn put_nodes(text: &mut Vec<u8>, nodes: &Nodes, places: &[u8]) -> Option<()> {
     Some(())
 }
 
+/// Writes bumps by the names of their nodes, each with the milliseconds.
 fn put_clocks(text: &mut Vec<u8>, nodes: &Nodes, places: &[u8], ms: i64) -> Option<()> {
     let mut gap = "";
     for place in places {
@@ -100,6 +106,7 @@ fn put_clocks(text: &mut Vec<u8>, nodes: &Nodes, places: &[u8], ms: i64) -> Opti
     Some(())
 }
 
+/// The one of four amounts that a number draws.
 fn one_of(choices: &[i64; 4], number: u64) -> Option<i64> {
     choices.get(usize::try_from(number % 4).ok()?).copied()
 }

@@ -1,4 +1,4 @@
-//! Tests of `jh_search` and `jh_share`, through their public calls alone: candidates worked out by another program, random ones beside the plain
+//! Tests of `jh_search` and `jh_tasks`, through their public calls alone: candidates worked out by another program, random ones beside the plain
 //! ones of `jh_search_plain`, searches, and tasks that threads share. What the clauses say is proved: a test is for values that come from outside, and shows
 //! that memory suffices where there is some.
 //!
@@ -14,4 +14,4 @@ mod fixtures;
 #[cfg(test)]
 mod searches;
 #[cfg(test)]
-mod shares;
+mod tasks;

@@ -1,2 +1,2 @@
-pub mod PartLemmas
+pub mod FirstLineLemmas
 pub mod KeyLemmas

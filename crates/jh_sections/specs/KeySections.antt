@@ -1,5 +1,5 @@
--- The sections of independent keys, one for each (jepsen.independent tells what the history of a key is; the order of the sections
--- and their headings are this project's own).
+-- The sections of independent keys, one for each (jepsen.independent tells what the history of a
+-- key is; the order of the sections and their headings are this project's own).
 use Rattle.std.specs.Prelude.{◌≡◌, ℕ, Bool, nat_lt, List, [], ◌++◌, map, codes, Option, Some, None}
 use Rattle.std.specs.List.{AllZip}
 use Rattle.jh_check.specs.declared.verdict.Verdict.{Verdict}
@@ -7,8 +7,8 @@ use Rattle.jh_edn.specs.Edn.{Edn}
 use Rattle.jh_edn.specs.Order.{in_order}
 use Rattle.jh_edn.specs.Print.{print}
 use Rattle.jh_edn.specs.View.{view}
-use Rattle.jh_keys.specs.Findings.{Found, verdict_of}
-use Rattle.jh_keys.specs.Keys.{AreTuples, history_of, keys_of}
+use Rattle.jh_keys.specs.Findings.{Found, verdict_of_finding}
+use Rattle.jh_keys.specs.Keys.{AreTuples, history_of, history_keys}
 use Rattle.jh_keys.specs.declared.serial.KeyFinding.{KeyFinding}
 use Rattle.jh_ops.specs.Operation.{Operation}
 use Rattle.jh_pages.specs.declared.section.Section.{Section}
@@ -18,17 +18,17 @@ use Rattle.jh_sections.specs.declared.window.Choice.{Choice}
 -- ---- keys
 
 -- a key with what was found of it
-abbrev pub found_of : KeyFinding → Edn × Option Found
-found_of finding = (view finding.key, Some finding.found)
+abbrev pub key_found : KeyFinding → Edn × Option Found
+key_found finding = (view finding.key, Some finding.found)
 
 -- a key that was not judged
-abbrev pub unjudged : Edn → Edn × Option Found
-unjudged key = (key, None)
+abbrev pub unjudged_key : Edn → Edn × Option Found
+unjudged_key key = (key, None)
 
 -- the keys of a history, each with what was found of it, if they were judged
 abbrev pub keys_found : List Operation → Option (List KeyFinding) → List (Edn × Option Found)
-keys_found history None = map unjudged (keys_of history)
-keys_found history (Some findings) = map found_of findings
+keys_found history None = map unjudged_key (history_keys history)
+keys_found history (Some findings) = map key_found findings
 
 -- ---- the order of sections
 
@@ -38,12 +38,12 @@ rank_of_verdict Verdict.Unknown = 1
 rank_of_verdict Verdict.True = 2
 
 -- where sections stand: first those of keys that are not valid, then those of unknown verdict
-abbrev pub rank_of : Option Found → ℕ
-rank_of None = 0
-rank_of (Some found) = rank_of_verdict (verdict_of found.finding)
+abbrev pub section_rank : Option Found → ℕ
+section_rank None = 0
+section_rank (Some found) = rank_of_verdict (verdict_of_finding found.finding)
 
 abbrev pub stands_before : Edn × Option Found → Edn × Option Found → Bool
-stands_before a b = nat_lt (rank_of a.1) (rank_of b.1)
+stands_before a b = nat_lt (section_rank a.1) (section_rank b.1)
 
 -- keys as their sections stand; those of one verdict stay as they stood
 abbrev pub section_order : List (Edn × Option Found) → List (Edn × Option Found)
@@ -59,7 +59,7 @@ verdict_text Verdict.False = codes ": not valid"
 -- what a heading says of what was found
 abbrev pub found_text : Option Found → List ℕ
 found_text None = []
-found_text (Some found) = verdict_text (verdict_of found.finding)
+found_text (Some found) = verdict_text (verdict_of_finding found.finding)
 
 -- the heading of a section: its key, and what was found of it
 abbrev pub heading_of : Edn × Option Found → List ℕ
@@ -67,15 +67,19 @@ heading_of key = codes "Key " ++ print key.0 ++ found_text key.1
 
 -- The section shows the key's own history, with what was found in it.
 abbrev pub IsSectionOfKey : List Operation → Choice → Edn × Option Found → Section → Type 0
-IsSectionOfKey history choice key section = IsSectionOf (heading_of key) (history_of key.0 history) key.1 choice section
+IsSectionOfKey history choice key section =
+    IsSectionOf (heading_of key) (history_of key.0 history) key.1 choice section
 
 -- one section for each key of a history of tuples
-pub record AreSectionsOf (history : List Operation) (choice : Choice) (findings : Option (List KeyFinding)) (sections : List Section)
+pub record AreSectionsOf (history : List Operation) (choice : Choice)
+    (findings : Option (List KeyFinding)) (sections : List Section)
     : Type 0 where
   pub tuples : AreTuples history
-  pub each : AllZip (IsSectionOfKey history choice) (section_order (keys_found history findings)) sections
+  pub each : AllZip (IsSectionOfKey history choice)
+      (section_order (keys_found history findings)) sections
 
 -- what is found stands in the order of the keys, if they were judged
 abbrev pub AreOfKeys : List Operation → Option (List KeyFinding) → Type 0
 AreOfKeys history None = Unit {0}
-AreOfKeys history (Some findings) = map (λ finding. view finding.key) findings ≡ keys_of history
+AreOfKeys history (Some findings) =
+    map (λ finding. view finding.key) findings ≡ history_keys history

@@ -1,4 +1,5 @@
--- A section of a page: a history, which of its records are shown, and what was found in it (this project's own).
+-- A section of a page: a history, which of its records are shown, and what was found in it (this
+-- project's own).
 use Rattle.std.specs.Prelude.{◌≡◌, ℕ, true, List, [], length, Option, Some, None}
 use Rattle.jh_keys.specs.Findings.{Found}
 use Rattle.jh_marks.specs.Marked.{marks_of}
@@ -6,7 +7,7 @@ use Rattle.jh_ops.specs.Operation.{Operation, operations}
 use Rattle.jh_pages.specs.declared.section.Section.{Section}
 use Rattle.jh_sections.specs.Windows.{focus_of, is_open, window_of}
 use Rattle.jh_sections.specs.declared.window.Choice.{Choice}
-use Rattle.jh_timeline.specs.Lanes.{AreBarsOf, AreLanesOf, faults_in}
+use Rattle.jh_timeline.specs.Lanes.{AreBarsOf, AreLanesOf, fault_indexes}
 use Rattle.jh_timeline.specs.declared.marks.Mark.{Mark}
 use Rattle.jh_timeline.specs.declared.picture.Bar.{Bar}
 use Rattle.jh_timeline.specs.declared.picture.Window.{Window}
@@ -17,14 +18,15 @@ marks_in history None bars = []
 marks_in history (Some found) bars = marks_of history found bars
 
 -- all records
-abbrev pub whole : List Operation → Window
-whole history = record { from = 0; to = length history }
+abbrev pub whole_window : List Operation → Window
+whole_window history = record { from = 0; to = length history }
 
 -- At this index the first bar of the history ends that what is found points at.
 abbrev pub IsFocus : List Operation → Option Found → Option ℕ → Type 0
 IsFocus history None focus = focus ≡ None
 IsFocus history (Some found) focus =
-    (bars : List Bar) × AreBarsOf (whole history) history bars × (focus ≡ focus_of bars (marks_of history found bars))
+    (bars : List Bar) × AreBarsOf (whole_window history) history bars
+    × (focus ≡ focus_of bars (marks_of history found bars))
 
 -- The records that are shown: where there are too many, those around what is pointed at.
 abbrev pub IsWindowOf : Choice → List Operation → Option Found → Window → Type 0
@@ -32,13 +34,15 @@ IsWindowOf choice history found window =
     (focus : Option ℕ) × (is_open choice (length history) ≡ true → IsFocus history found focus)
     × (window ≡ window_of choice (length history) focus)
 
--- The section has this heading and this history, the window, what of the history is drawn in it, and a mark for what was found.
-pub record IsSectionOf (heading : List ℕ) (history : List Operation) (found : Option Found) (choice : Choice) (section : Section)
+-- The section has this heading and this history, the window, what of the history is drawn in it,
+-- and a mark for what was found.
+pub record IsSectionOf (heading : List ℕ) (history : List Operation) (found : Option Found)
+    (choice : Choice) (section : Section)
     : Type 0 where
   pub titled : section.heading.items ≡ heading
   pub records : operations section.history.items ≡ history
   pub window : IsWindowOf choice history found section.window
   pub bars : AreBarsOf section.window history section.picture.bars.items
-  pub faults : section.picture.faults.items ≡ faults_in section.window section.history.items
+  pub faults : section.picture.faults.items ≡ fault_indexes section.window section.history.items
   pub lanes : AreLanesOf section.picture.bars.items section.picture.lanes.items
   pub marks : section.marks.items ≡ marks_in history found section.picture.bars.items

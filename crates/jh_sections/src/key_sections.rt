@@ -6,12 +6,12 @@ ghost use Rattle.std.specs.Option.{option_copied};
 ghost use Rattle.std.specs.Ordering.{is_lt};
 ghost use Rattle.jh_edn.specs.Order.{in_order};
 ghost use Rattle.jh_edn.specs.View.{view};
-ghost use Rattle.jh_keys.specs.Histories.{RefusesSplit};
-ghost use Rattle.jh_keys.specs.Keys.{keys_of};
+ghost use Rattle.jh_keys.specs.Histories.{RefusesKeySplit};
+ghost use Rattle.jh_keys.specs.Keys.{history_keys};
 ghost use Rattle.jh_ops.specs.Operation.{operations};
 ghost use Rattle.jh_ops.specs.OperationWritten.{IsWritable};
-ghost use Rattle.jh_sections.specs.KeyPartsInside.{AreParts, IsSectionOfPart, key_of};
-ghost use Rattle.jh_sections.specs.KeyPartsInside.{part_before};
+ghost use Rattle.jh_sections.specs.ShownKeysInside.{AreShownKeys, IsSectionOfShown, key_and_found};
+ghost use Rattle.jh_sections.specs.ShownKeysInside.{is_shown_before};
 ghost use Rattle.jh_sections.specs.KeySections as rule;
 ghost use Rattle.jh_sections.specs.KeySections.{AreOfKeys, AreSectionsOf};
 
@@ -27,7 +27,7 @@ use std::cmp::Ordering;
 
 /// A key with its own history.
 #[derive(Drop)]
-struct KeyPart {
+struct ShownKey {
     key: Value,
     history: Vec<Op>,
     /// What was found in it, if it was judged.
@@ -51,63 +51,65 @@ pub fn sections_of_keys(
     findings: Option<Vec<KeyFinding>>,
     choice: Choice,
 ) -> Result<Vec<Section>, KeysError>
-    requires keys { AreOfKeys (operations history.now) (option_map (λ found. found.items) findings) }
+    requires keys { AreOfKeys (operations history.now)
+        (option_map (λ found. found.items) findings) }
     ensures sections { MatchResult result
         (λ sections. AreSectionsOf (operations history.now) choice
         (option_map (λ found. found.items) findings) sections.items)
-        (RefusesSplit (operations history.now)) }
+        (RefusesKeySplit (operations history.now)) }
     ensures writable { All (λ op. IsWritable op.process) history.now → IfOk result (λ sections.
         All (λ section. All (λ op. IsWritable op.process) section.history.items) sections.items) }
 {
-    let parts = parts_of(alloc, history, findings)?;
-    let sorted = sorted(parts)?;
-    Ok(sections_of_parts(alloc, sorted, choice)?)
+    let shown = shown_keys(alloc, history, findings)?;
+    let sorted = sorted(shown)?;
+    Ok(sections_of_shown(alloc, sorted, choice)?)
 }
 
 /// Each key with its history, and what was found in it, if it was judged.
-fn parts_of(
+fn shown_keys(
     alloc: Global,
     history: &[Op],
     findings: Option<Vec<KeyFinding>>,
-) -> Result<Vec<KeyPart>, KeysError>
+) -> Result<Vec<ShownKey>, KeysError>
     requires { AreOfKeys (operations history.now) (option_map (λ found. found.items) findings) }
     ensures { MatchResult result
-        (λ parts. AreParts (operations history.now)
-        (option_map (λ found. found.items) findings) parts.items)
-        (RefusesSplit (operations history.now)) }
+        (λ shown. AreShownKeys (operations history.now)
+        (option_map (λ found. found.items) findings) shown.items)
+        (RefusesKeySplit (operations history.now)) }
 {
     match findings {
-        Some(findings) => judged_parts(alloc, history, findings),
-        None => unjudged_parts(alloc, history),
+        Some(findings) => judged_shown_keys(alloc, history, findings),
+        None => unjudged_shown_keys(alloc, history),
     }
 }
 
 /// Each key with its history, and what was found in it.
-fn judged_parts(
+fn judged_shown_keys(
     alloc: Global,
     history: &[Op],
     findings: Vec<KeyFinding>,
-) -> Result<Vec<KeyPart>, KeysError>
-    requires { map (λ finding. view finding.key) findings.items ≡ keys_of (operations history.now) }
+) -> Result<Vec<ShownKey>, KeysError>
+    requires { map (λ finding. view finding.key) findings.items
+        ≡ history_keys (operations history.now) }
     ensures { MatchResult result
-        (λ parts. AreParts (operations history.now) (Some findings.items) parts.items)
-        (RefusesSplit (operations history.now)) }
+        (λ shown. AreShownKeys (operations history.now) (Some findings.items) shown.items)
+        (RefusesKeySplit (operations history.now)) }
 {
     let histories = histories_by_key(alloc, history)?;
-    let mut parts = Vec::with_capacity(alloc, findings.len())?;
+    let mut shown = Vec::with_capacity(alloc, findings.len())?;
     for (finding, own) in findings.into_iter().zip(histories) {
-        parts.push(judged_part(own, finding))?;
+        shown.push(judged_shown_key(own, finding))?;
     }
-    Ok(parts)
+    Ok(shown)
 }
 
 /// A key with its history, and what was found in it.
-fn judged_part(own: KeyHistory, finding: KeyFinding) -> KeyPart
+fn judged_shown_key(own: KeyHistory, finding: KeyFinding) -> ShownKey
     ensures key { result.key ≡ own.key }
     ensures history { result.history ≡ own.history }
     ensures found { result.found ≡ Some finding.found }
 {
-    KeyPart {
+    ShownKey {
         key: own.key,
         history: own.history,
         found: Some(finding.found),
@@ -115,33 +117,35 @@ fn judged_part(own: KeyHistory, finding: KeyFinding) -> KeyPart
 }
 
 /// Each key with its history.
-fn unjudged_parts(alloc: Global, history: &[Op]) -> Result<Vec<KeyPart>, KeysError>
+fn unjudged_shown_keys(alloc: Global, history: &[Op]) -> Result<Vec<ShownKey>, KeysError>
     ensures { MatchResult result
-        (λ parts. AreParts (operations history.now) None parts.items)
-        (RefusesSplit (operations history.now)) }
+        (λ shown. AreShownKeys (operations history.now) None shown.items)
+        (RefusesKeySplit (operations history.now)) }
 {
     let histories = histories_by_key(alloc, history)?;
-    let mut parts = Vec::with_capacity(alloc, histories.len())?;
+    let mut shown = Vec::with_capacity(alloc, histories.len())?;
     for own in histories {
-        parts.push(KeyPart {
+        shown.push(ShownKey {
             key: own.key,
             history: own.history,
             found: None,
         })?;
     }
-    Ok(parts)
+    Ok(shown)
 }
 
-/// Where the section of a part stands.
-fn rank_of(part: &KeyPart) -> u8
-    ensures { result ≡ rule.rank_of part.now.found }
+/// Where the section of one stands.
+fn section_rank(one: &ShownKey) -> u8
+    ensures { result ≡ rule.section_rank one.now.found }
 {
-    match &part.found {
+    match &one.found {
         Some(found) => rank_of_verdict(found.finding.verdict()),
         None => 0,
     }
 }
 
+/// Where the section of a key with this verdict stands: first the not valid, then the unknown, last
+/// the valid.
 fn rank_of_verdict(verdict: Verdict) -> u8
     ensures { result ≡ rule.rank_of_verdict verdict }
 {
@@ -152,18 +156,19 @@ fn rank_of_verdict(verdict: Verdict) -> u8
     }
 }
 
-fn compare_parts(a: &KeyPart, b: &KeyPart) -> Ordering
-    ensures { is_lt result ≡ part_before a.now b.now }
+/// How two keys compare by where their sections stand.
+fn compare_shown(a: &ShownKey, b: &ShownKey) -> Ordering
+    ensures { is_lt result ≡ is_shown_before a.now b.now }
 {
-    rank_of(a).cmp(&rank_of(b))
+    section_rank(a).cmp(&section_rank(b))
 }
 
-/// The parts as their sections stand.
-fn sorted(mut parts: Vec<KeyPart>) -> Result<Vec<KeyPart>, AllocError>
-    ensures { IfOk result (λ sorted. sorted.items ≡ in_order part_before parts.items) }
+/// The shown as their sections stand.
+fn sorted(mut shown: Vec<ShownKey>) -> Result<Vec<ShownKey>, AllocError>
+    ensures { IfOk result (λ sorted. sorted.items ≡ in_order is_shown_before shown.items) }
 {
-    parts.sort_by(compare_parts)?;
-    Ok(parts)
+    shown.sort_by(compare_shown)?;
+    Ok(shown)
 }
 
 /// What a heading says of what was found.
@@ -176,6 +181,7 @@ fn found_text(found: Option<&Found>) -> &'static [u8]
     }
 }
 
+/// What a heading says of a verdict.
 fn verdict_text(verdict: Verdict) -> &'static [u8]
     ensures { result.now ≡ rule.verdict_text verdict }
 {
@@ -187,36 +193,37 @@ fn verdict_text(verdict: Verdict) -> &'static [u8]
 }
 
 /// The heading of a section.
-fn heading_of(alloc: Global, part: &KeyPart) -> Result<Vec<u8>, AllocError>
-    ensures { IfOk result (λ heading. heading.items ≡ rule.heading_of (key_of part.now)) }
+fn heading_of(alloc: Global, one: &ShownKey) -> Result<Vec<u8>, AllocError>
+    ensures { IfOk result (λ heading. heading.items ≡ rule.heading_of (key_and_found one.now)) }
 {
     let mut heading = Vec::from_slice(alloc, b"Key ")?;
-    if write(&part.key, &mut heading).is_err() {
+    if write(&one.key, &mut heading).is_err() {
         return Err(AllocError);
     }
-    heading.extend_from_slice(found_text(part.found.as_ref()))?;
+    heading.extend_from_slice(found_text(one.found.as_ref()))?;
     Ok(heading)
 }
 
-/// The section of a part.
-fn section_of_part(alloc: Global, part: KeyPart, choice: Choice) -> Result<Section, AllocError>
-    ensures { IfOk result (IsSectionOfPart choice part) }
+/// The section of one.
+fn section_of_shown(alloc: Global, one: ShownKey, choice: Choice) -> Result<Section, AllocError>
+    ensures { IfOk result (IsSectionOfShown choice one) }
 {
-    let heading = heading_of(alloc, &part)?;
-    section_of(alloc, heading, part.history, part.found.as_ref(), choice)
+    let heading = heading_of(alloc, &one)?;
+    section_of(alloc, heading, one.history, one.found.as_ref(), choice)
 }
 
-/// The sections of parts, one behind another.
-fn sections_of_parts(
+/// The sections of shown, one behind another.
+fn sections_of_shown(
     alloc: Global,
-    parts: Vec<KeyPart>,
+    shown: Vec<ShownKey>,
     choice: Choice,
 ) -> Result<Vec<Section>, AllocError>
-    ensures { IfOk result (λ sections. AllZip (IsSectionOfPart choice) parts.items sections.items) }
+    ensures { IfOk result
+        (λ sections. AllZip (IsSectionOfShown choice) shown.items sections.items) }
 {
-    let mut sections = Vec::with_capacity(alloc, parts.len())?;
-    for part in parts {
-        sections.push(section_of_part(alloc, part, choice)?)?;
+    let mut sections = Vec::with_capacity(alloc, shown.len())?;
+    for one in shown {
+        sections.push(section_of_shown(alloc, one, choice)?)?;
     }
     Ok(sections)
 }

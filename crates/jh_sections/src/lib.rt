@@ -3,11 +3,11 @@
 #![tactic(auto)]
 
 mod key_sections;
-mod parts;
+mod rest;
 mod section;
 mod window;
 
 pub use key_sections::sections_of_keys;
-pub use parts::{Parts, history_and_rest, read_parts};
+pub use rest::{HistoryAndRest, history_and_rest, read_history_and_rest};
 pub use section::section_of;
 pub use window::{BEFORE, Choice, MAX_SHOWN, SHOWN_AROUND};

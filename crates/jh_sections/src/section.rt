@@ -48,7 +48,7 @@ fn focus_in(alloc: Global, history: &[Op], found: &Found) -> Result<Option<usize
 fn window_around(alloc: Global, history: &[Op], found: Option<&Found>) -> Result<Window, AllocError>
     ensures { IfOk result (λ window. (focus : Option ℕ)
         × IsFocus (operations history.now) (option_copied found.entry) focus
-        × (window ≡ windows.around focus (length history.now))) }
+        × (window ≡ windows.focus_window focus (length history.now))) }
 {
     let focus = match found {
         Some(found) => focus_in(alloc, history, found)?,

@@ -32,7 +32,7 @@ pub(crate) fn is_open(choice: Choice, total: usize) -> bool
 
 /// The records that are chosen, or all.
 pub(crate) fn chosen(choice: Choice, total: usize) -> Window
-    ensures { result ≡ rule.chosen choice total }
+    ensures { result ≡ rule.chosen_window choice total }
 {
     Window {
         from: choice.from.unwrap_or(0).min(total),
@@ -42,7 +42,7 @@ pub(crate) fn chosen(choice: Choice, total: usize) -> Window
 
 /// The records around an index, or the first.
 pub(crate) fn around(focus: Option<usize>, total: usize) -> Window
-    ensures { result ≡ rule.around focus total }
+    ensures { result ≡ rule.focus_window focus total }
 {
     let from = focus.unwrap_or(0).saturating_sub(BEFORE);
     Window {
@@ -63,7 +63,7 @@ fn is_pointer(note: Note) -> bool
 
 /// The index at which a call ends.
 fn ends_at(call: Call) -> usize
-    ensures { result ≡ lanes.ends_at call }
+    ensures { result ≡ lanes.call_end call }
 {
     call.completion.unwrap_or(call.invoke)
 }
@@ -77,7 +77,7 @@ fn first_pointer(marks: &[Mark]) -> Option<&Mark>
 
 /// The index at which a bar ends, if there is one.
 fn end_at(bars: &[Bar], number: usize) -> Option<usize>
-    ensures { result ≡ option_map (λ bar. lanes.ends_at bar.call) (slice_get bars.now number) }
+    ensures { result ≡ option_map (λ bar. lanes.call_end bar.call) (slice_get bars.now number) }
 {
     match bars.get(number) {
         Some(bar) => Some(ends_at(bar.call)),

@@ -4,7 +4,7 @@ use Rattle.std.proofs.lemmas.Option.{same_Some}
 use Rattle.toml.specs.Data.{Data, Members, as_str}
 use Rattle.jh_edn.specs.Edn.{Edn}
 use Rattle.jh_edn.specs.Spelling.{SpellsAll, Reads, NothingReads, IsGap}
-use Rattle.jh_edn.proofs.Facts.{made, no_gap, one_next}
+use Rattle.jh_edn.proofs.CitedLemmas.{made, no_gap, one_next}
 use Rattle.std.specs.declared.alloc.AllocError.{AllocError}
 use Rattle.std.specs.Result.{IfOk}
 use Rattle.std.specs.Option.{MatchOption, IfSome, IfNone, is_some}
@@ -15,7 +15,7 @@ use Rattle.jh_edn.specs.declared.value.Value.{Value}
 use Rattle.jh_settings.specs.Inside.{IsNoElement, IsElementIn, IsEntryIn}
 use Rattle.jh_settings.specs.Parsed.{parsed_entry}
 use Rattle.jh_simnode.specs.declared.schedule.Entry.{Entry}
-use Rattle.jh_settings.specs.Keys.{value_under}
+use Rattle.jh_settings.specs.Keys.{data_under}
 use Rattle.jh_settings.specs.Kinds.{IsElement, HoldsElement}
 use Rattle.jh_settings.specs.declared.keys.Key.{Key}
 
@@ -61,15 +61,15 @@ pub entry_from : (names : List (List ℕ)) (value : Data) (x : Edn) → IsElemen
 entry_from names value x is (Ok None) none = λ entry h.
     let same : x ≡ h.0 = element_once value x h.0 is h.1 in
     none_not entry (none ∙ ap (parsed_entry names) same ∙ h.2)
-entry_from names value x is (Ok (Some entry)) told = (x, is, sym told)
+entry_from names value x is (Ok (Some entry)) parsed = (x, is, sym parsed)
 entry_from names value x is (Err e) h = tt
 
 -- a key under which there is nothing holds no element
-pub nothing_held : (key : Key) (document : Members) → value_under key document ≡ None → ((x : Edn) × HoldsElement key document x) → ⊥
+pub nothing_held : (key : Key) (document : Members) → data_under key document ≡ None → ((x : Edn) × HoldsElement key document x) → ⊥
 nothing_held key document none h = none_not h.1.0 (sym none ∙ h.1.1)
 
 -- the value under a key is no element
-pub none_held : (key : Key) (document : Members) (value : Data) → value_under key document ≡ Some value → ((x : Edn) → IsElement value x → ⊥) → ((x : Edn) × HoldsElement key document x) → ⊥
+pub none_held : (key : Key) (document : Members) (value : Data) → data_under key document ≡ Some value → ((x : Edn) → IsElement value x → ⊥) → ((x : Edn) × HoldsElement key document x) → ⊥
 none_held key document value is none h =
     let same : h.1.0 ≡ value = same_Some h.1.0 value (sym h.1.1 ∙ is) in
     none h.0 (subst (λ v. IsElement v h.0) same h.1.2)

@@ -5,59 +5,59 @@ use Rattle.toml.specs.Data.{Data, Items, no_items, item}
 use Rattle.toml.specs.View.{view, items_view}
 use Rattle.toml.specs.declared.value.Value.{Value}
 use Rattle.toml.proofs.Views.{items_view-drop}
-use Rattle.jh_settings.specs.Parsed.{TellsEntry, TellEntries, TellAll}
+use Rattle.jh_settings.specs.Parsed.{IsParsedEntry, AreParsedEntries, AreFewParsedEntries}
 use Rattle.jh_simnode.specs.declared.schedule.Entry.{Entry}
 
--- so many values are told, by these entries
-pub record Told (names : List (List ℕ)) (values : List Value) (count : ℕ) (entries : List Entry) : Type 0 where
-  pub before : (rest : List Entry) → TellEntries names (items_view (drop count values)) rest → TellEntries names (items_view values) (entries ++ rest)
-  pub behind : (all : List Entry) → TellEntries names (items_view values) all → (rest : List Entry) × TellEntries names (items_view (drop count values)) rest
+-- so many values are parsed, by these entries
+pub record Parsed (names : List (List ℕ)) (values : List Value) (count : ℕ) (entries : List Entry) : Type 0 where
+  pub before : (rest : List Entry) → AreParsedEntries names (items_view (drop count values)) rest → AreParsedEntries names (items_view values) (entries ++ rest)
+  pub behind : (all : List Entry) → AreParsedEntries names (items_view values) all → (rest : List Entry) × AreParsedEntries names (items_view (drop count values)) rest
 
-pub none_told : (names : List (List ℕ)) (values : List Value) → Told names values 0 []
-none_told names values = record { before = λ rest h. h; behind = λ all h. (all, h) }
+pub none_parsed : (names : List (List ℕ)) (values : List Value) → Parsed names values 0 []
+none_parsed names values = record { before = λ rest h. h; behind = λ all h. (all, h) }
 
-first_told : (names : List (List ℕ)) (value : Data) (values : Items) (entries : List Entry) → TellEntries names (item value values) entries → (entry : Entry) × (rest : List Entry) × TellsEntry names value entry × TellEntries names values rest
-first_told names value values [] h = absurd h
-first_told names value values (entry ∷ rest) h = (entry, rest, h.0, h.1)
+first_parsed : (names : List (List ℕ)) (value : Data) (values : Items) (entries : List Entry) → AreParsedEntries names (item value values) entries → (entry : Entry) × (rest : List Entry) × IsParsedEntry names value entry × AreParsedEntries names values rest
+first_parsed names value values [] h = absurd h
+first_parsed names value values (entry ∷ rest) h = (entry, rest, h.0, h.1)
 
-pub one_told : (names : List (List ℕ)) (values : List Value) (count : ℕ) (entries : List Entry) (value : Value) (entry : Entry) → Told names values count entries
-    → count < length values → value ≡ get_or values count value → TellsEntry names (view value) entry → Told names values (count + 1) (entries ++ entry ∷ [])
-one_told names values count entries value entry told within at is =
+pub one_parsed : (names : List (List ℕ)) (values : List Value) (count : ℕ) (entries : List Entry) (value : Value) (entry : Entry) → Parsed names values count entries
+    → count < length values → value ≡ get_or values count value → IsParsedEntry names (view value) entry → Parsed names values (count + 1) (entries ++ entry ∷ [])
+one_parsed names values count entries value entry parsed within at is =
     let here : items_view (drop count values) ≡ item (view value) (items_view (drop (count + 1) values)) =
     items_view-drop values count value within ∙ ap (λ v. item (view v) (items_view (drop (count + 1) values))) (sym at) in
     record {
       before = λ rest h.
-          subst (TellEntries names (items_view values)) (sym (append_assoc entries (entry ∷ []) rest))
-          (told.before (entry ∷ rest) (subst (λ items. TellEntries names items (entry ∷ rest)) (sym here) (is, h)));
+          subst (AreParsedEntries names (items_view values)) (sym (append_assoc entries (entry ∷ []) rest))
+          (parsed.before (entry ∷ rest) (subst (λ items. AreParsedEntries names items (entry ∷ rest)) (sym here) (is, h)));
       behind = λ all h.
-          let left = told.behind all h in
-          let first = first_told names (view value) (items_view (drop (count + 1) values)) left.0 (subst (λ items. TellEntries names items left.0) here left.1) in
+          let left = parsed.behind all h in
+          let first = first_parsed names (view value) (items_view (drop (count + 1) values)) left.0 (subst (λ items. AreParsedEntries names items left.0) here left.1) in
           (first.1, first.3);
     }
 
 -- no entries tell all values where one tells none
-pub not_told : (names : List (List ℕ)) (values : List Value) (count : ℕ) (entries : List Entry) (value : Value) → Told names values count entries
-    → count < length values → value ≡ get_or values count value → ((entry : Entry) → TellsEntry names (view value) entry → ⊥) → ((all : List Entry) × TellAll names (items_view values) all) → ⊥
-not_told names values count entries value told within at none all =
+pub not_parsed : (names : List (List ℕ)) (values : List Value) (count : ℕ) (entries : List Entry) (value : Value) → Parsed names values count entries
+    → count < length values → value ≡ get_or values count value → ((entry : Entry) → IsParsedEntry names (view value) entry → ⊥) → ((all : List Entry) × AreFewParsedEntries names (items_view values) all) → ⊥
+not_parsed names values count entries value parsed within at none all =
     let here : items_view (drop count values) ≡ item (view value) (items_view (drop (count + 1) values)) =
     items_view-drop values count value within ∙ ap (λ v. item (view v) (items_view (drop (count + 1) values))) (sym at) in
-    let left = told.behind all.0 all.1.0 in
-    let first = first_told names (view value) (items_view (drop (count + 1) values)) left.0 (subst (λ items. TellEntries names items left.0) here left.1) in
+    let left = parsed.behind all.0 all.1.0 in
+    let first = first_parsed names (view value) (items_view (drop (count + 1) values)) left.0 (subst (λ items. AreParsedEntries names items left.0) here left.1) in
     none first.0 first.2
 
 -- there are as many as values
-count_told : (names : List (List ℕ)) (values : List Value) (entries : List Entry) → TellEntries names (items_view values) entries → length entries ≡ length values
-count_told names [] [] h = refl
-count_told names [] (entry ∷ entries) h = absurd h
-count_told names (value ∷ values) [] h = absurd h
-count_told names (value ∷ values) (entry ∷ entries) h = ap suc (count_told names values entries h.1)
+count_parsed : (names : List (List ℕ)) (values : List Value) (entries : List Entry) → AreParsedEntries names (items_view values) entries → length entries ≡ length values
+count_parsed names [] [] h = refl
+count_parsed names [] (entry ∷ entries) h = absurd h
+count_parsed names (value ∷ values) [] h = absurd h
+count_parsed names (value ∷ values) (entry ∷ entries) h = ap suc (count_parsed names values entries h.1)
 
-pub all_told : (names : List (List ℕ)) (values : List Value) (count : ℕ) (entries : List Entry) → Told names values count entries → length values ≤ count → length values ≤ 1024 → TellAll names (items_view values) entries
-all_told names values count entries told over few =
+pub all_parsed : (names : List (List ℕ)) (values : List Value) (count : ℕ) (entries : List Entry) → Parsed names values count entries → length values ≤ count → length values ≤ 1024 → AreFewParsedEntries names (items_view values) entries
+all_parsed names values count entries parsed over few =
     let none : items_view (drop count values) ≡ no_items = ap items_view (drop_all count values over) in
-    let all : TellEntries names (items_view values) (entries ++ []) = told.before [] (subst (λ items. TellEntries names items []) (sym none) tt) in
-    let is = subst (TellEntries names (items_view values)) (append-nil entries) all in
-    (is, omega (arith, count_told names values entries is))
+    let all : AreParsedEntries names (items_view values) (entries ++ []) = parsed.before [] (subst (λ items. AreParsedEntries names items []) (sym none) tt) in
+    let is = subst (AreParsedEntries names (items_view values)) (append-nil entries) all in
+    (is, omega (arith, count_parsed names values entries is))
 
-pub too_many : (names : List (List ℕ)) (values : List Value) → 1024 < length values → ((all : List Entry) × TellAll names (items_view values) all) → ⊥
-too_many names values many all = omega (arith, count_told names values all.0 all.1.0, all.1.1)
+pub too_many : (names : List (List ℕ)) (values : List Value) → 1024 < length values → ((all : List Entry) × AreFewParsedEntries names (items_view values) all) → ⊥
+too_many names values many all = omega (arith, count_parsed names values all.0 all.1.0, all.1.1)

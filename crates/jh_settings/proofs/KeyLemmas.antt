@@ -13,13 +13,13 @@ use Rattle.std.specs.Ordering.{nat_cmp, ordering_reverse, is_lt}
 use Rattle.std.specs.String.{string_bytes, string_cmp}
 use Rattle.toml.proofs.Views.{Entry}
 use Rattle.toml.specs.View.{members_view}
-use Rattle.jh_settings.specs.Keys.{words_in, is_known, IsFirstUnknown}
+use Rattle.jh_settings.specs.Keys.{key_names_in, is_key_name, IsFirstUnknown}
 
 abbrev pub Text : Type 0
 Text = String Global
 
 abbrev pub known_text : Text → Bool
-known_text k = is_known (string_bytes k)
+known_text k = is_key_name (string_bytes k)
 
 -- these keys are left, and those before them are known
 abbrev pub Passed : List Text → List Text → Type 0
@@ -35,18 +35,18 @@ one_passed all k rest p known = (
   list_all-append known_text p.0 (k ∷ []) ∙ and_from (list_all known_text p.0) (list_all known_text (k ∷ [])) p.2 (rw known refl),
 )
 
-pub words_are : (es : List Entry) → words_in (members_view es) ≡ map string_bytes (keys_of es)
-words_are [] = refl
-words_are (e ∷ es) = ap (λ (ws : List (List ℕ)). string_bytes e.0 ∷ ws) (words_are es)
+pub names_are : (es : List Entry) → key_names_in (members_view es) ≡ map string_bytes (keys_of es)
+names_are [] = refl
+names_are (e ∷ es) = ap (λ (ws : List (List ℕ)). string_bytes e.0 ∷ ws) (names_are es)
 
-all_text_known : (ks : List Text) → list_all known_text ks ≡ list_all is_known (map string_bytes ks)
+all_text_known : (ks : List Text) → list_all known_text ks ≡ list_all is_key_name (map string_bytes ks)
 all_text_known [] = refl
 all_text_known (k ∷ ks) = rw (all_text_known ks) refl
 
-pub all_known : (es : List Entry) → Passed (keys_of es) [] → list_all is_known (words_in (members_view es)) ≡ true
+pub all_known : (es : List Entry) → Passed (keys_of es) [] → list_all is_key_name (key_names_in (members_view es)) ≡ true
 all_known es p =
     let all : keys_of es ≡ p.0 = p.1 ∙ append-nil p.0 in
-    ap (list_all is_known) (words_are es) ∙ sym (all_text_known (keys_of es)) ∙ ap (list_all known_text) all ∙ p.2
+    ap (list_all is_key_name) (names_are es) ∙ sym (all_text_known (keys_of es)) ∙ ap (list_all known_text) all ∙ p.2
 
 not_both : (o : Ordering) → o ≡ Less → o ≡ Greater → ⊥
 not_both o less greater = true≢false (ap is_lt (sym less ∙ greater))
@@ -75,14 +75,14 @@ at_place front k rest known ordered i within unknown less =
       ]
     ]
 
-pub first_unknown : (es : List Entry) (k : Text) (rest : List Text) → Passed (keys_of es) (k ∷ rest) → IsStrictlySortedBy string_cmp (keys_of es) → is_known (string_bytes k) ≡ false → IsFirstUnknown (members_view es) (string_bytes k)
+pub first_unknown : (es : List Entry) (k : Text) (rest : List Text) → Passed (keys_of es) (k ∷ rest) → IsStrictlySortedBy string_cmp (keys_of es) → is_key_name (string_bytes k) ≡ false → IsFirstUnknown (members_view es) (string_bytes k)
 first_unknown es k rest p ordered unknown =
     let all = p.0 ++ k ∷ rest in
-    let words : words_in (members_view es) ≡ map string_bytes all = words_are es ∙ ap (map string_bytes) p.1 in
+    let names : key_names_in (members_view es) ≡ map string_bytes all = names_are es ∙ ap (map string_bytes) p.1 in
     let ordered : IsStrictlySortedBy string_cmp all = subst (IsStrictlySortedBy string_cmp) p.1 ordered in
-    let count : length (words_in (members_view es)) ≡ length all = ap length words ∙ length-map all (string_bytes {Z = Global}) in
-    let at : (i : ℕ) (d : List ℕ) → i < length all → get_or (words_in (members_view es)) i d ≡ string_bytes (get_or all i k) =
-    λ i d h. ap (λ ws. get_or ws i d) words ∙ get_or-map string_bytes all i k d h in
+    let count : length (key_names_in (members_view es)) ≡ length all = ap length names ∙ length-map all (string_bytes {Z = Global}) in
+    let at : (i : ℕ) (d : List ℕ) → i < length all → get_or (key_names_in (members_view es)) i d ≡ string_bytes (get_or all i k) =
+    λ i d h. ap (λ ws. get_or ws i d) names ∙ get_or-map string_bytes all i k d h in
     let within : length p.0 < length all = omega (arith, length-append p.0 (k ∷ rest)) in
     let here : get_or all (length p.0) k ≡ k = ap (λ n. get_or all n k) (omega arith) ∙ get_or-append-add p.0 (k ∷ rest) 0 k in
     record {
@@ -90,5 +90,5 @@ first_unknown es k rest p ordered unknown =
       unknown = unknown;
       first = λ other c not_known less.
           let is : string_bytes (get_or all c.0 k) ≡ other = sym (at c.0 other (omega (arith, count))) ∙ c.2 in
-          at_place p.0 k rest p.2 ordered c.0 (omega (arith, count)) (ap is_known is ∙ not_known) (subst (λ w. slice_cmp nat_cmp w (string_bytes k) ≡ Less) (sym is) less);
+          at_place p.0 k rest p.2 ordered c.0 (omega (arith, count)) (ap is_key_name is ∙ not_known) (subst (λ w. slice_cmp nat_cmp w (string_bytes k) ≡ Less) (sym is) less);
     }

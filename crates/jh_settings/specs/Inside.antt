@@ -1,5 +1,6 @@
 -- What the parts of the code say to each other.
-use Rattle.std.specs.Prelude.{◌≡◌, ℕ, List, [], ◌∷◌, Option, Some, None, Result, MatchResult, MatchOption}
+use Rattle.std.specs.Prelude.{◌≡◌, ℕ, List, [], ◌∷◌, Option, Some, None, Result, MatchResult}
+use Rattle.std.specs.Prelude.{MatchOption}
 use Rattle.toml.specs.Data.{Data, Members}
 use Rattle.jh_edn.specs.Edn.{Edn}
 use Rattle.jh_edn.specs.Spelling.{SpellsAll}
@@ -9,22 +10,27 @@ use Rattle.jh_env.specs.declared.texts.EnvTextError.{EnvTextError}
 use Rattle.jh_settings.specs.declared.keys.Key.{Key}
 use Rattle.jh_simnode.specs.declared.schedule.Entry.{Entry}
 use Rattle.jh_settings.specs.declared.error.SettingsError.{SettingsError}
-use Rattle.jh_settings.specs.declared.error.SettingsError.TheVariants.{NotToml, Unknown, Missing, BadValue, OutOfMemory}
+use Rattle.jh_settings.specs.declared.error.SettingsError.TheVariants.{NotToml, Unknown, Missing}
+use Rattle.jh_settings.specs.declared.error.SettingsError.TheVariants.{BadValue, OutOfMemory}
 use Rattle.jh_settings.specs.Kinds.{IsElement}
-use Rattle.jh_settings.specs.Parsed.{TellsEntry, TellsStart, parsed_store, parsed_workload, TellsGenerator, parsed_clients, parsed_ops, parsed_mode, parsed_volatile, parsed_initial, parsed_tick_every, parsed_rows, parsed_seed, parsed_budget}
-use Rattle.jh_settings.specs.Refusals.{IsFirstBad}
+use Rattle.jh_settings.specs.Parsed.{IsParsedEntry, IsParsedStart, parsed_store, parsed_workload}
+use Rattle.jh_settings.specs.Parsed.{IsParsedGenerator, parsed_clients, parsed_ops, parsed_mode}
+use Rattle.jh_settings.specs.Parsed.{parsed_volatile, parsed_initial, parsed_tick_every}
+use Rattle.jh_settings.specs.Parsed.{parsed_rows, parsed_seed, parsed_budget}
+use Rattle.jh_settings.specs.Refusals.{IsFirstBadKey}
 use Rattle.jh_settings.specs.Settings.{IsBadValue}
 use Rattle.jh_settings.specs.Keys.{IsDocument, HasKnownKeys, IsFirstUnknown, first_missing}
 use Rattle.jh_settings.specs.declared.settings.Cluster.{Cluster}
 use Rattle.jh_settings.specs.declared.settings.Load.{Load}
 use Rattle.jh_settings.specs.declared.settings.Limits.{Limits}
 use Rattle.jh_gen.specs.View.{generator_of}
-use Rattle.jh_simnode.specs.Plans.{PlanValue, plan, RefusesPlan}
+use Rattle.jh_simnode.specs.Plans.{PlanValue, RefusesPlan}
 use Rattle.jh_simnode.specs.declared.plan.PlanError.{PlanError}
 
--- what is told, or a bad value under the key
+-- what is parsed, or a bad value under the key
 abbrev pub IsValueParsed : {A : Type 0} → Result A SettingsError → Key → Option A → Type 0
-IsValueParsed answer key told = MatchResult answer (λ x. told ≡ Some x) (λ e. (e ≡ BadValue key) × (told ≡ None))
+IsValueParsed answer key parsed =
+    MatchResult answer (λ x. parsed ≡ Some x) (λ e. (e ≡ BadValue key) × (parsed ≡ None))
 
 -- such a value is bad under the key, or memory was refused
 abbrev pub RefusesValue : Type 0 → Key → SettingsError → Type 0
@@ -33,10 +39,10 @@ RefusesValue Good key OutOfMemory = Unit {0}
 RefusesValue Good key _ = ⊥
 
 -- one of these keys is the first with a bad value, or memory was refused
-abbrev pub Refuses : Members → List Key → SettingsError → Type 0
-Refuses document some (BadValue key) = IsFirstBad document some key
-Refuses document some OutOfMemory = Unit {0}
-Refuses document some _ = ⊥
+abbrev pub RefusesKeyValues : Members → List Key → SettingsError → Type 0
+RefusesKeyValues document some (BadValue key) = IsFirstBadKey document some key
+RefusesKeyValues document some OutOfMemory = Unit {0}
+RefusesKeyValues document some _ = ⊥
 
 -- no value is all that the text spells
 abbrev pub IsNoElement : List ℕ → Type 0
@@ -44,11 +50,15 @@ IsNoElement text = (x : Edn) → SpellsAll (x ∷ []) text → ⊥
 
 -- what is found is the one element that a value, which is a text, spells
 abbrev pub IsElementIn : Data → Option Value → Type 0
-IsElementIn value found = MatchOption found ((x : Edn) → IsElement value x → ⊥) (λ element. IsElement value (view element))
+IsElementIn value found =
+    MatchOption found ((x : Edn) → IsElement value x → ⊥)
+    (λ element. IsElement value (view element))
 
--- what is found is the entry that a value tells
+-- what is found is the entry that a value means
 abbrev pub IsEntryIn : List (List ℕ) → Data → Option Entry → Type 0
-IsEntryIn names value found = MatchOption found ((entry : Entry) → TellsEntry names value entry → ⊥) (TellsEntry names value)
+IsEntryIn names value found =
+    MatchOption found ((entry : Entry) → IsParsedEntry names value entry → ⊥)
+    (IsParsedEntry names value)
 
 -- what a refusal of the environment makes of the settings
 abbrev pub start_refusal : EnvTextError → SettingsError
@@ -59,16 +69,16 @@ start_refusal _ = BadValue Key.Start
 abbrev pub cluster_keys : List Key
 cluster_keys = Key.Start ∷ Key.Store ∷ Key.Workload ∷ Key.Generator ∷ []
 
-pub record TellsCluster (document : Members) (cluster : Cluster) : Type 0 where
-  pub start : TellsStart document cluster.environment
+pub record IsParsedCluster (document : Members) (cluster : Cluster) : Type 0 where
+  pub start : IsParsedStart document cluster.environment
   pub store : parsed_store document ≡ Some cluster.store
   pub workload : parsed_workload document ≡ Some cluster.workload
-  pub generator : TellsGenerator document (generator_of cluster.generator)
+  pub generator : IsParsedGenerator document (generator_of cluster.generator)
 
 abbrev pub load_keys : List Key
 load_keys = Key.Clients ∷ Key.Ops ∷ Key.Mode ∷ Key.Volatile ∷ Key.Initial ∷ []
 
-pub record TellsLoad (document : Members) (load : Load) : Type 0 where
+pub record IsParsedLoad (document : Members) (load : Load) : Type 0 where
   pub clients : parsed_clients document ≡ Some load.clients
   pub ops : parsed_ops document ≡ Some load.ops
   pub mode : parsed_mode document ≡ Some load.mode
@@ -78,7 +88,7 @@ pub record TellsLoad (document : Members) (load : Load) : Type 0 where
 abbrev pub limit_keys : List Key
 limit_keys = Key.TickEvery ∷ Key.Rows ∷ Key.Seed ∷ Key.Budget ∷ []
 
-pub record TellsLimits (document : Members) (limits : Limits) : Type 0 where
+pub record AreParsedLimits (document : Members) (limits : Limits) : Type 0 where
   pub tick_every : parsed_tick_every document ≡ Some limits.tick_every
   pub rows : parsed_rows document ≡ Some limits.rows
   pub seed : parsed_seed document ≡ Some limits.seed
@@ -91,17 +101,18 @@ RefusesBytes bytes OutOfMemory = Unit {0}
 RefusesBytes bytes _ = ⊥
 
 -- why keys are refused
-abbrev pub RefusesKeys : Members → SettingsError → Type 0
-RefusesKeys document (Unknown word) = IsFirstUnknown document word
-RefusesKeys document (Missing key) = HasKnownKeys document × (first_missing document ≡ Some key)
-RefusesKeys document OutOfMemory = Unit {0}
-RefusesKeys document _ = ⊥
+abbrev pub RefusesDocumentKeys : Members → SettingsError → Type 0
+RefusesDocumentKeys document (Unknown name) = IsFirstUnknown document name
+RefusesDocumentKeys document (Missing key) =
+    HasKnownKeys document × (first_missing document ≡ Some key)
+RefusesDocumentKeys document OutOfMemory = Unit {0}
+RefusesDocumentKeys document _ = ⊥
 
 -- why values are refused
-abbrev pub RefusesValues : Members → SettingsError → Type 0
-RefusesValues document (BadValue key) = IsBadValue document key
-RefusesValues document OutOfMemory = Unit {0}
-RefusesValues document _ = ⊥
+abbrev pub RefusesDocumentValues : Members → SettingsError → Type 0
+RefusesDocumentValues document (BadValue key) = IsBadValue document key
+RefusesDocumentValues document OutOfMemory = Unit {0}
+RefusesDocumentValues document _ = ⊥
 
 -- what a refusal of the plan makes of the settings
 abbrev pub plan_refusal : PlanError → SettingsError
@@ -114,8 +125,23 @@ plan_refusal PlanError.OutOfMemory = OutOfMemory
 
 abbrev pub plan_with : Cluster → Load → Limits → List Entry → PlanValue
 plan_with cluster load limits schedule =
-    plan cluster.environment cluster.store load.volatile cluster.workload load.initial load.clients load.ops
-    (generator_of cluster.generator) schedule limits.tick_every limits.rows limits.seed
+    record {
+      env = cluster.environment;
+      settings =
+          record {
+            store = cluster.store;
+            volatile = load.volatile;
+            workload = cluster.workload;
+            initial = load.initial;
+          };
+      clients = load.clients;
+      ops = load.ops;
+      generator = generator_of cluster.generator;
+      schedule = schedule;
+      tick_every = limits.tick_every;
+      rows = limits.rows;
+      seed = limits.seed;
+    }
 
 abbrev pub RefusesWith : PlanValue → SettingsError → Type 0
 RefusesWith plan e = (error : PlanError) × RefusesPlan plan error × (e ≡ plan_refusal error)

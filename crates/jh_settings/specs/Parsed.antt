@@ -1,6 +1,8 @@
--- What each setting tells, key by key (this project's own). A new setting is a new definition here, a key in Keys and a line of
--- `IsGood`.
-use Rattle.std.specs.Prelude.{◌≡◌, ℕ, ◌≤◌, ℤ, pos, Bool, false, List, [], ◌∷◌, length, codes, nat_le, if◌then◌else◌, Option, Some, None, option_map, option_and_then, Result, Ok, Err}
+-- What each setting tells, key by key (this project's own). A new setting is a new definition here,
+-- a key in Keys and a line of `IsGood`.
+use Rattle.std.specs.Prelude.{◌≡◌, ℕ, ◌≤◌, ℤ, pos, Bool, false, List, [], ◌∷◌, length, codes}
+use Rattle.std.specs.Prelude.{nat_le, if◌then◌else◌, Option, Some, None, option_map}
+use Rattle.std.specs.Prelude.{option_and_then, Result, Ok, Err}
 use Rattle.std.specs.Str.{bytes_eq}
 use Rattle.toml.specs.Data.{Data, array, Items, no_items, item, Members, as_bool, as_integer}
 use Rattle.jh_edn.specs.Edn.{Edn, int, elements_of}
@@ -11,62 +13,61 @@ use Rattle.jh_nemesis.specs.declared.steps.Step.{Step}
 use Rattle.jh_ops.specs.declared.call.Workload.{Workload}
 use Rattle.jh_gen.specs.Generator.{Generator}
 use Rattle.jh_gen.specs.GeneratorText.{parsed_generator}
-use Rattle.jh_simnode.specs.Plans.{max_ops}
+use Rattle.jh_ops.specs.Requests.{workload_named, max_calls_of}
 use Rattle.jh_simnode.specs.declared.settings.Store.{Store}
 use Rattle.jh_simnode.specs.declared.schedule.Entry.{Entry}
 use Rattle.jh_settings.specs.declared.keys.Key.{Key}
-use Rattle.jh_settings.specs.declared.words.Mode.{Mode}
-use Rattle.jh_settings.specs.Keys.{value_under}
-use Rattle.jh_settings.specs.Kinds.{needed, or_default, word_in, word_under, whole_in, IsElement, HoldsElement}
+use Rattle.jh_settings.specs.declared.choices.Mode.{Mode}
+use Rattle.jh_settings.specs.Keys.{data_under}
+use Rattle.jh_settings.specs.Kinds.{needed_value, value_or_default, choice_in, choice_under}
+use Rattle.jh_settings.specs.Kinds.{whole_number_in, IsElement, HoldsElement}
 
 -- an environment on which no fault is laid
-abbrev pub TellsStart : Members → EnvValue → Type 0
-TellsStart document env = (x : Edn) × HoldsElement Key.Start document x × IsTextOf x env.names env.start × StandsFor env []
+abbrev pub IsParsedStart : Members → EnvValue → Type 0
+IsParsedStart document env =
+    (x : Edn) × HoldsElement Key.Start document x × IsTextOf x env.names env.start
+    × StandsFor env []
 
 abbrev pub store_of : List ℕ → Option Store
-store_of word =
-    if bytes_eq word (codes "quorum") then Some Store.Quorum
-    else if bytes_eq word (codes "lww") then Some Store.Lww
-    else if bytes_eq word (codes "local") then Some Store.Local
+store_of choice =
+    if bytes_eq choice (codes "quorum") then Some Store.Quorum
+    else if bytes_eq choice (codes "lww") then Some Store.Lww
+    else if bytes_eq choice (codes "local") then Some Store.Local
     else None
 
 abbrev pub parsed_store : Members → Option Store
-parsed_store document = word_under store_of Key.Store document
-
-abbrev pub workload_of : List ℕ → Option Workload
-workload_of word =
-    if bytes_eq word (codes "register") then Some Workload.Register
-    else if bytes_eq word (codes "counter") then Some Workload.Counter
-    else if bytes_eq word (codes "set") then Some Workload.Set
-    else if bytes_eq word (codes "unique-ids") then Some Workload.Ids
-    else None
+parsed_store document = choice_under store_of Key.Store document
 
 abbrev pub parsed_workload : Members → Option Workload
-parsed_workload document = word_under workload_of Key.Workload document
+parsed_workload document = choice_under workload_named Key.Workload document
 
-abbrev pub TellsGenerator : Members → Generator → Type 0
-TellsGenerator document g = (x : Edn) × HoldsElement Key.Generator document x × (parsed_generator x ≡ Some g)
+abbrev pub IsParsedGenerator : Members → Generator → Type 0
+IsParsedGenerator document g =
+    (x : Edn) × HoldsElement Key.Generator document x × (parsed_generator x ≡ Some g)
 
 abbrev pub parsed_clients : Members → Option ℕ
-parsed_clients document = needed (whole_in 1 16) Key.Clients document
+parsed_clients document = needed_value (whole_number_in 1 16) Key.Clients document
 
 -- how many calls: a set may have fewer than the others
 abbrev pub parsed_ops : Members → Option ℕ
-parsed_ops document = option_and_then (λ workload. needed (whole_in 1 (max_ops workload)) Key.Ops document) (parsed_workload document)
+parsed_ops document =
+    option_and_then
+    (λ workload. needed_value (whole_number_in 1 (max_calls_of workload)) Key.Ops document)
+    (parsed_workload document)
 
 -- the mode of this name
 abbrev pub mode_of : List ℕ → Option Mode
-mode_of word =
-    if bytes_eq word (codes "threads") then Some Mode.Threads
-    else if bytes_eq word (codes "serial") then Some Mode.Serial
+mode_of choice =
+    if bytes_eq choice (codes "threads") then Some Mode.Threads
+    else if bytes_eq choice (codes "serial") then Some Mode.Serial
     else None
 
 -- how the run goes: on threads by default
 abbrev pub parsed_mode : Members → Option Mode
-parsed_mode document = or_default Mode.Threads (word_in mode_of) Key.Mode document
+parsed_mode document = value_or_default Mode.Threads (choice_in mode_of) Key.Mode document
 
 abbrev pub parsed_volatile : Members → Option Bool
-parsed_volatile document = or_default false as_bool Key.Volatile document
+parsed_volatile document = value_or_default false as_bool Key.Volatile document
 
 -- what a register holds at first: an integer, or nothing; of another workload it may not be said
 abbrev pub initial_of : Workload → Option Data → Option (Option ℤ)
@@ -75,19 +76,21 @@ initial_of Workload.Register (Some value) = option_map Some (as_integer value)
 initial_of _ (Some value) = None
 
 abbrev pub parsed_initial : Members → Option (Option ℤ)
-parsed_initial document = option_and_then (λ workload. initial_of workload (value_under Key.Initial document)) (parsed_workload document)
+parsed_initial document =
+    option_and_then (λ workload. initial_of workload (data_under Key.Initial document))
+    (parsed_workload document)
 
 abbrev pub parsed_tick_every : Members → Option ℕ
-parsed_tick_every document = or_default 0 (whole_in 0 10000) Key.TickEvery document
+parsed_tick_every document = value_or_default 0 (whole_number_in 0 10000) Key.TickEvery document
 
 abbrev pub parsed_rows : Members → Option ℕ
-parsed_rows document = or_default 4096 (whole_in 1 65536) Key.Rows document
+parsed_rows document = value_or_default 4096 (whole_number_in 1 65536) Key.Rows document
 
 abbrev pub parsed_seed : Members → Option ℕ
-parsed_seed document = or_default 0 (whole_in 0 9223372036854775807) Key.Seed document
+parsed_seed document = value_or_default 0 (whole_number_in 0 9223372036854775807) Key.Seed document
 
 abbrev pub parsed_budget : Members → Option ℕ
-parsed_budget document = or_default 100000 (whole_in 0 10000000) Key.Budget document
+parsed_budget document = value_or_default 100000 (whole_number_in 0 10000000) Key.Budget document
 
 -- after how many calls a step is due: from 0 to 10,000
 abbrev pub due_of : ℤ → Option ℕ
@@ -100,32 +103,37 @@ entry_at at (Ok step) = Some (record { at = at; step = step })
 entry_at at (Err refusal) = None
 
 -- AT and STEP, over nodes with these names
-abbrev pub entry_in : List (List ℕ) → List Edn → Option Entry
-entry_in names (int z ∷ step ∷ []) = option_and_then (λ at. entry_at at (parsed_step names step)) (due_of z)
-entry_in names _ = None
+abbrev pub entry_of_elements : List (List ℕ) → List Edn → Option Entry
+entry_of_elements names (int z ∷ step ∷ []) =
+    option_and_then (λ at. entry_at at (parsed_step names step)) (due_of z)
+entry_of_elements names _ = None
 
--- the entry that a value tells: a vector or a list of the two
+-- the entry that a value means: a vector or a list of the two
 abbrev pub parsed_entry : List (List ℕ) → Edn → Option Entry
-parsed_entry names x = option_and_then (entry_in names) (elements_of x)
+parsed_entry names x = option_and_then (entry_of_elements names) (elements_of x)
 
-abbrev pub TellsEntry : List (List ℕ) → Data → Entry → Type 0
-TellsEntry names value entry = (x : Edn) × IsElement value x × (parsed_entry names x ≡ Some entry)
+abbrev pub IsParsedEntry : List (List ℕ) → Data → Entry → Type 0
+IsParsedEntry names value entry =
+    (x : Edn) × IsElement value x × (parsed_entry names x ≡ Some entry)
 
 -- each value tells an entry, in order
-abbrev pub TellEntries : List (List ℕ) → Items → List Entry → Type 0
-TellEntries names no_items [] = Unit {0}
-TellEntries names (item value values) (entry ∷ entries) = TellsEntry names value entry × TellEntries names values entries
-TellEntries names _ _ = ⊥
+abbrev pub AreParsedEntries : List (List ℕ) → Items → List Entry → Type 0
+AreParsedEntries names no_items [] = Unit {0}
+AreParsedEntries names (item value values) (entry ∷ entries) =
+    IsParsedEntry names value entry × AreParsedEntries names values entries
+AreParsedEntries names _ _ = ⊥
 
 -- and there are at most 1,024
-abbrev pub TellAll : List (List ℕ) → Items → List Entry → Type 0
-TellAll names values entries = TellEntries names values entries × (length entries ≤ 1024)
+abbrev pub AreFewParsedEntries : List (List ℕ) → Items → List Entry → Type 0
+AreFewParsedEntries names values entries =
+    AreParsedEntries names values entries × (length entries ≤ 1024)
 
 -- none by default
-abbrev pub ScheduleOf : List (List ℕ) → Option Data → List Entry → Type 0
-ScheduleOf names None entries = entries ≡ []
-ScheduleOf names (Some (array values)) entries = TellAll names values entries
-ScheduleOf names (Some _) entries = ⊥
+abbrev pub IsScheduleValue : List (List ℕ) → Option Data → List Entry → Type 0
+IsScheduleValue names None entries = entries ≡ []
+IsScheduleValue names (Some (array values)) entries = AreFewParsedEntries names values entries
+IsScheduleValue names (Some _) entries = ⊥
 
-abbrev pub TellsSchedule : List (List ℕ) → Members → List Entry → Type 0
-TellsSchedule names document entries = ScheduleOf names (value_under Key.Schedule document) entries
+abbrev pub IsParsedSchedule : List (List ℕ) → Members → List Entry → Type 0
+IsParsedSchedule names document entries =
+    IsScheduleValue names (data_under Key.Schedule document) entries

@@ -1,4 +1,4 @@
--- The settings that a document tells, and why one is refused (this project's own).
+-- The settings that a document means, and why one is refused (this project's own).
 use Rattle.std.specs.Prelude.{◌≡◌, ◌⊎◌, ℕ, true, List, Some, None}
 use Rattle.toml.specs.Data.{Members}
 use Rattle.jh_ops.specs.declared.call.Workload.{Workload}
@@ -6,20 +6,25 @@ use Rattle.jh_gen.specs.Generator.{Generator}
 use Rattle.jh_gen.specs.Suits.{suits}
 use Rattle.jh_simnode.specs.Plans.{PlanValue, IsFit}
 use Rattle.jh_settings.specs.declared.error.SettingsError.{SettingsError}
-use Rattle.jh_settings.specs.declared.error.SettingsError.TheVariants.{NotToml, Unknown, Missing, BadValue, OutOfMemory}
+use Rattle.jh_settings.specs.declared.error.SettingsError.TheVariants.{NotToml, Unknown, Missing}
+use Rattle.jh_settings.specs.declared.error.SettingsError.TheVariants.{BadValue, OutOfMemory}
 use Rattle.jh_settings.specs.declared.keys.Key.{Key}
-use Rattle.jh_settings.specs.declared.words.Mode.{Mode}
+use Rattle.jh_settings.specs.declared.choices.Mode.{Mode}
 use Rattle.jh_settings.specs.Keys.{IsDocument, HasKnownKeys, IsFirstUnknown, first_missing, keys}
-use Rattle.jh_settings.specs.Parsed.{TellsStart, parsed_store, parsed_workload, TellsGenerator, parsed_clients, parsed_ops, parsed_mode, parsed_volatile, parsed_initial, parsed_tick_every, parsed_rows, parsed_seed, parsed_budget, TellsSchedule}
-use Rattle.jh_settings.specs.Refusals.{AreGood, IsFirstBad}
+use Rattle.jh_settings.specs.Parsed.{IsParsedStart, parsed_store, parsed_workload}
+use Rattle.jh_settings.specs.Parsed.{IsParsedGenerator, parsed_clients, parsed_ops, parsed_mode}
+use Rattle.jh_settings.specs.Parsed.{parsed_volatile, parsed_initial, parsed_tick_every}
+use Rattle.jh_settings.specs.Parsed.{parsed_rows, parsed_seed, parsed_budget, IsParsedSchedule}
+use Rattle.jh_settings.specs.Refusals.{AreGood, IsFirstBadKey}
 
 -- a document tells this plan, in which mode it is run, and how many tries a judgement has
-pub record AreSettings (document : Members) (plan : PlanValue) (run_mode : Mode) (tries : ℕ) : Type 0 where
+pub record AreSettings (document : Members) (plan : PlanValue) (run_mode : Mode)
+    (tries : ℕ) : Type 0 where
   pub known : HasKnownKeys document
-  pub start : TellsStart document plan.env
+  pub start : IsParsedStart document plan.env
   pub store : parsed_store document ≡ Some plan.settings.store
   pub workload : parsed_workload document ≡ Some plan.settings.workload
-  pub generator : TellsGenerator document plan.generator
+  pub generator : IsParsedGenerator document plan.generator
   pub clients : parsed_clients document ≡ Some plan.clients
   pub ops : parsed_ops document ≡ Some plan.ops
   pub mode : parsed_mode document ≡ Some run_mode
@@ -29,7 +34,7 @@ pub record AreSettings (document : Members) (plan : PlanValue) (run_mode : Mode)
   pub rows : parsed_rows document ≡ Some plan.rows
   pub seed : parsed_seed document ≡ Some plan.seed
   pub budget : parsed_budget document ≡ Some tries
-  pub schedule : TellsSchedule plan.env.names document plan.schedule
+  pub schedule : IsParsedSchedule plan.env.names document plan.schedule
   pub fit : IsFit plan
 
 -- the settings that bytes spell
@@ -37,26 +42,33 @@ abbrev pub AreSettingsOf : List ℕ → PlanValue → Mode → ℕ → Type 0
 AreSettingsOf bytes plan mode tries =
     (document : Members) × IsDocument bytes document × AreSettings document plan mode tries
 
--- each value is good by itself, but the generator does not suit the workload and the number of clients
+-- each value is good by itself, but the generator does not suit the workload and the number of
+-- clients
 abbrev pub IsUnsuited : Members → Type 0
 IsUnsuited document =
-    (workload : Workload) × (clients : ℕ) × (g : Generator) × AreGood document keys × (parsed_workload document ≡ Some workload)
-    × (parsed_clients document ≡ Some clients) × TellsGenerator document g × (suits workload clients g ≡ true → ⊥)
+    (workload : Workload) × (clients : ℕ) × (g : Generator) × AreGood document keys
+    × (parsed_workload document ≡ Some workload)
+    × (parsed_clients document ≡ Some clients) × IsParsedGenerator document g
+    × (suits workload clients g ≡ true → ⊥)
 
 -- the first value that is bad by itself, and then the generator
 abbrev pub IsBadValue : Members → Key → Type 0
-IsBadValue document key = IsFirstBad document keys key ⊎ ((key ≡ Key.Generator) × IsUnsuited document)
+IsBadValue document key =
+    IsFirstBadKey document keys key ⊎ ((key ≡ Key.Generator) × IsUnsuited document)
 
 -- why a document is refused: an unknown key, then a missing one, then a bad value
 abbrev pub RefusesDocument : Members → SettingsError → Type 0
 RefusesDocument document NotToml = ⊥
-RefusesDocument document (Unknown word) = IsFirstUnknown document word
+RefusesDocument document (Unknown choice) = IsFirstUnknown document choice
 RefusesDocument document (Missing key) = HasKnownKeys document × (first_missing document ≡ Some key)
-RefusesDocument document (BadValue key) = HasKnownKeys document × (first_missing document ≡ None) × IsBadValue document key
+RefusesDocument document (BadValue key) =
+    HasKnownKeys document × (first_missing document ≡ None) × IsBadValue document key
 RefusesDocument document OutOfMemory = Unit {0}
 
--- why bytes are refused: they spell no document, or that is refused; memory may be refused for any bytes
+-- why bytes are refused: they spell no document, or that is refused; memory may be refused for any
+-- bytes
 abbrev pub RefusesSettings : List ℕ → SettingsError → Type 0
 RefusesSettings bytes NotToml = (document : Members) → IsDocument bytes document → ⊥
 RefusesSettings bytes OutOfMemory = Unit {0}
-RefusesSettings bytes e = (document : Members) × IsDocument bytes document × RefusesDocument document e
+RefusesSettings bytes e =
+    (document : Members) × IsDocument bytes document × RefusesDocument document e

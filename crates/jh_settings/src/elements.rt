@@ -1,4 +1,5 @@
-//! Settings whose values are texts of EDN: the start, the generator and the entries of the schedule.
+//! Settings whose values are texts of EDN: the start, the generator and the entries of the
+//! schedule.
 
 ghost use Rattle.std.specs.Prelude.{◌≡◌, ◌≢◌, List, [], ◌∷◌, drop, length, All};
 ghost use Rattle.std.specs.Prelude.{IfOk, IfSome, MatchBool, MatchOption, MatchResult};
@@ -17,7 +18,8 @@ ghost use Rattle.jh_settings.specs.Inside.{IsElementIn, IsEntryIn, IsNoElement, 
 ghost use Rattle.jh_settings.specs.Inside.{start_refusal};
 ghost use Rattle.jh_settings.specs.Kinds.{HoldsElement};
 ghost use Rattle.jh_settings.specs.Parsed as rule;
-ghost use Rattle.jh_settings.specs.Parsed.{TellAll, TellsGenerator, TellsSchedule, TellsStart};
+ghost use Rattle.jh_settings.specs.Parsed.{AreFewParsedEntries, IsParsedGenerator};
+ghost use Rattle.jh_settings.specs.Parsed.{IsParsedSchedule, IsParsedStart};
 
 use crate::error::SettingsError;
 use crate::keys::Key;
@@ -33,9 +35,10 @@ use toml::Table;
 /// The latest moment at which a step is due, in answered client calls.
 const LATEST: u32 = 10_000;
 
-// Passes want of memory on.
+/// Passes want of memory on.
 fn unless_memory(error: EdnError) -> Result<(), AllocError>
-    ensures { MatchResult result (λ _. error ≢ EdnError.OutOfMemory) (λ _. error ≡ EdnError.OutOfMemory) }
+    ensures { MatchResult result (λ _. error ≢ EdnError.OutOfMemory)
+        (λ _. error ≡ EdnError.OutOfMemory) }
 {
     match error {
         EdnError::OutOfMemory => Err(AllocError),
@@ -43,7 +46,7 @@ fn unless_memory(error: EdnError) -> Result<(), AllocError>
     }
 }
 
-// The element that a text begins with, behind a gap, and the place behind it.
+/// The element that a text begins with, behind a gap, and the place behind it.
 fn first_element(alloc: Global, text: &str) -> Result<Option<(Value, usize)>, AllocError>
     ensures element { IfOk result (λ found. MatchOption found
         (IsNoElement text.now)
@@ -59,10 +62,11 @@ fn first_element(alloc: Global, text: &str) -> Result<Option<(Value, usize)>, Al
     }
 }
 
-// Whether only a gap stands from there on.
+/// Whether only a gap stands from there on.
 fn ends_at(alloc: Global, text: &str, at: usize) -> Result<bool, AllocError>
     requires { IsCharBoundary text.now at }
-    ensures { IfOk result (λ ends. MatchBool ends (IsGap (drop at text.now)) (IsGap (drop at text.now) → ⊥)) }
+    ensures { IfOk result
+        (λ ends. MatchBool ends (IsGap (drop at text.now)) (IsGap (drop at text.now) → ⊥)) }
 {
     match read_one(alloc, text, at) {
         Ok(found) => Ok(found.is_none()),
@@ -73,7 +77,7 @@ fn ends_at(alloc: Global, text: &str, at: usize) -> Result<bool, AllocError>
     }
 }
 
-// The one element that a text spells, with gaps around it.
+/// The one element that a text spells, with gaps around it.
 fn only_element(alloc: Global, text: &str) -> Result<Option<Value>, AllocError>
     ensures { IfOk result (λ found. MatchOption found
         (IsNoElement text.now)
@@ -89,7 +93,7 @@ fn only_element(alloc: Global, text: &str) -> Result<Option<Value>, AllocError>
     }
 }
 
-// The one element that a value, which is a text, spells.
+/// The one element that a value, which is a text, spells.
 fn element_in(alloc: Global, value: &toml::Value) -> Result<Option<Value>, AllocError>
     ensures { IfOk result (IsElementIn (toml.view value.now)) }
 {
@@ -99,7 +103,7 @@ fn element_in(alloc: Global, value: &toml::Value) -> Result<Option<Value>, Alloc
     }
 }
 
-// The one element under a key.
+/// The one element under a key.
 fn element_under(alloc: Global, table: &Table, key: Key) -> Result<Value, SettingsError>
     ensures { MatchResult result
         (λ element. HoldsElement key (table_view table.now) (view element))
@@ -114,6 +118,7 @@ fn element_under(alloc: Global, table: &Table, key: Key) -> Result<Value, Settin
     }
 }
 
+/// What a refusal of the environment's text means to the settings.
 fn start_error(error: EnvTextError) -> SettingsError
     ensures { result ≡ start_refusal error }
 {
@@ -126,8 +131,8 @@ fn start_error(error: EnvTextError) -> SettingsError
 /// The environment under `start`.
 pub(crate) fn start_under(alloc: Global, table: &Table) -> Result<Env, SettingsError>
     ensures { MatchResult result
-        (TellsStart (table_view table.now))
-        (RefusesValue ((env : EnvValue) × TellsStart (table_view table.now) env) Key.Start) }
+        (IsParsedStart (table_view table.now))
+        (RefusesValue ((env : EnvValue) × IsParsedStart (table_view table.now) env) Key.Start) }
 {
     let element = element_under(alloc, table, Key::Start)?;
     match env_of_value(alloc, &element) {
@@ -139,8 +144,8 @@ pub(crate) fn start_under(alloc: Global, table: &Table) -> Result<Env, SettingsE
 /// The generator under `generator`.
 pub(crate) fn generator_under(alloc: Global, table: &Table) -> Result<Gen, SettingsError>
     ensures { MatchResult result
-        (λ source. TellsGenerator (table_view table.now) (generator_of source))
-        (RefusesValue ((g : Generator) × TellsGenerator (table_view table.now) g) Key.Generator) }
+        (λ source. IsParsedGenerator (table_view table.now) (generator_of source))
+        (RefusesValue ((g : Generator) × IsParsedGenerator (table_view table.now) g) Key.Generator) }
 {
     let element = element_under(alloc, table, Key::Generator)?;
     match gen_of_value(alloc, &element) {
@@ -150,6 +155,7 @@ pub(crate) fn generator_under(alloc: Global, table: &Table) -> Result<Gen, Setti
     }
 }
 
+/// After how many answered client calls a step is due: from 0 to 10,000, and no other number.
 fn due_of(at: i64) -> Option<u32>
     ensures { result ≡ rule.due_of at }
 {
@@ -159,10 +165,11 @@ fn due_of(at: i64) -> Option<u32>
     }
 }
 
-// The entry that an element tells.
+/// The entry that an element means.
 fn parsed_entry(alloc: Global, nodes: &Nodes, element: &Value) -> Result<Option<Entry>, AllocError>
-    ensures told { IfOk result (λ entry. entry ≡ rule.parsed_entry nodes.now (view element.now)) }
-    ensures fits { IfOk result (λ found. IfSome found (λ entry. FitsNodes (length nodes.now) entry.step)) }
+    ensures parsed { IfOk result (λ entry. entry ≡ rule.parsed_entry nodes.now (view element.now)) }
+    ensures fits { IfOk result
+        (λ found. IfSome found (λ entry. FitsNodes (length nodes.now) entry.step)) }
 {
     let Some([Value::Int(at), step]) = element.elements() else {
         return Ok(None);
@@ -177,10 +184,11 @@ fn parsed_entry(alloc: Global, nodes: &Nodes, element: &Value) -> Result<Option<
     }
 }
 
-// The entry that a value, which is a text, tells.
+/// The entry that a value, which is a text, tells.
 fn entry_of(alloc: Global, nodes: &Nodes, value: &toml::Value) -> Result<Option<Entry>, AllocError>
-    ensures told { IfOk result (IsEntryIn nodes.now (toml.view value.now)) }
-    ensures fits { IfOk result (λ found. IfSome found (λ entry. FitsNodes (length nodes.now) entry.step)) }
+    ensures parsed { IfOk result (IsEntryIn nodes.now (toml.view value.now)) }
+    ensures fits { IfOk result
+        (λ found. IfSome found (λ entry. FitsNodes (length nodes.now) entry.step)) }
 {
     match element_in(alloc, value)? {
         Some(element) => parsed_entry(alloc, nodes, &element),
@@ -188,17 +196,18 @@ fn entry_of(alloc: Global, nodes: &Nodes, value: &toml::Value) -> Result<Option<
     }
 }
 
-// The entries that these values tell.
+/// The entries that these values mean.
 fn entries_in(
     alloc: Global,
     values: &[toml::Value],
     nodes: &Nodes,
 ) -> Result<Vec<Entry>, SettingsError>
-    ensures told { MatchResult result
-        (λ entries. TellAll nodes.now (toml.items_view values.now) entries.items)
+    ensures parsed { MatchResult result
+        (λ entries. AreFewParsedEntries nodes.now (toml.items_view values.now) entries.items)
         (RefusesValue ((entries : List Entry)
-        × TellAll nodes.now (toml.items_view values.now) entries) Key.Schedule) }
-    ensures fit { IfOk result (λ entries. All (λ entry. FitsNodes (length nodes.now) entry.step) entries.items) }
+        × AreFewParsedEntries nodes.now (toml.items_view values.now) entries) Key.Schedule) }
+    ensures fit { IfOk result
+        (λ entries. All (λ entry. FitsNodes (length nodes.now) entry.step) entries.items) }
 {
     if values.len() > MAX_ENTRIES {
         return Err(SettingsError::BadValue(Key::Schedule));
@@ -213,13 +222,14 @@ fn entries_in(
     Ok(entries)
 }
 
-// The entries under `schedule`, over the nodes of the start.
+/// The entries under `schedule`, over the nodes of the start.
 fn entries_under(alloc: Global, table: &Table, nodes: &Nodes) -> Result<Vec<Entry>, SettingsError>
-    ensures told { MatchResult result
-        (λ entries. TellsSchedule nodes.now (table_view table.now) entries.items)
+    ensures parsed { MatchResult result
+        (λ entries. IsParsedSchedule nodes.now (table_view table.now) entries.items)
         (RefusesValue ((entries : List Entry)
-        × TellsSchedule nodes.now (table_view table.now) entries) Key.Schedule) }
-    ensures fit { IfOk result (λ entries. All (λ entry. FitsNodes (length nodes.now) entry.step) entries.items) }
+        × IsParsedSchedule nodes.now (table_view table.now) entries) Key.Schedule) }
+    ensures fit { IfOk result
+        (λ entries. All (λ entry. FitsNodes (length nodes.now) entry.step) entries.items) }
 {
     match value_under(table, Key::Schedule) {
         Some(toml::Value::Array(values)) => entries_in(alloc, values.as_slice(), nodes),
@@ -234,11 +244,12 @@ pub(crate) fn schedule_under(
     table: &Table,
     nodes: &Nodes,
 ) -> Result<Schedule, SettingsError>
-    ensures told { MatchResult result
-        (TellsSchedule nodes.now (table_view table.now))
+    ensures parsed { MatchResult result
+        (IsParsedSchedule nodes.now (table_view table.now))
         (RefusesValue ((entries : List Entry)
-        × TellsSchedule nodes.now (table_view table.now) entries) Key.Schedule) }
-    ensures fit { IfOk result (λ schedule. All (λ entry. FitsNodes (length nodes.now) entry.step) schedule) }
+        × IsParsedSchedule nodes.now (table_view table.now) entries) Key.Schedule) }
+    ensures fit { IfOk result
+        (λ schedule. All (λ entry. FitsNodes (length nodes.now) entry.step) schedule) }
 {
     let entries = entries_under(alloc, table, nodes)?;
     match Schedule::of(entries) {

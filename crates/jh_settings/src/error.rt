@@ -14,8 +14,9 @@ const MAX_SHOWN: usize = 200;
 
 /// The text of a key that no setting has. A contract sees its bytes, which are UTF-8.
 ///
-/// It is shown on one line: control characters are written as `\u{..}`, with their number in hexadecimal
-/// digits, and all others as they are. A key of more than 200 bytes is shown by how many bytes it has.
+/// It is shown on one line: control characters are written as `\u{..}`, with their number in
+/// hexadecimal digits, and all others as they are. A key of more than 200 bytes is shown by how
+/// many bytes it has.
 #[derive(Debug, Drop)]
 pub struct KeyText {
     text: String,
@@ -31,6 +32,7 @@ impl Model for KeyText {
 }
 
 impl KeyText {
+    /// The key of this text.
     pub(crate) fn of(alloc: Global, text: &str) -> Result<KeyText, AllocError>
         ensures { IfOk result (λ key. key ≡ text.now) }
     {
@@ -55,7 +57,7 @@ impl Display for Shown {
     ghost use Rattle.std.specs.Prelude.{Some};
     ghost use Rattle.jh_settings.specs.Shown.{shown_character};
 
-    ghost output = { λ shown. Some (shown_character shown.0) };
+    ghost output = { λ shown_key. Some (shown_character shown_key.0) };
 
     fn fmt<W: Write>(&self, f: &mut Formatter<W>) -> fmt::Result {
         let Shown(character) = *self;
@@ -75,9 +77,9 @@ struct OnOneLine<'a>(&'a String);
 impl Display for OnOneLine<'_> {
     ghost use Rattle.std.specs.Prelude.{Some};
     ghost use Rattle.std.specs.String.{string_bytes};
-    ghost use Rattle.jh_settings.specs.Shown.{on_one_line};
+    ghost use Rattle.jh_settings.specs.Shown.{one_line_text};
 
-    ghost output = { λ line. Some (on_one_line (string_bytes line.0.now)) };
+    ghost output = { λ line. Some (one_line_text (string_bytes line.0.now)) };
 
     fn fmt<W: Write>(&self, f: &mut Formatter<W>) -> fmt::Result {
         let OnOneLine(text) = *self;
@@ -90,9 +92,9 @@ impl Display for OnOneLine<'_> {
 
 impl Display for KeyText {
     ghost use Rattle.std.specs.Prelude.{Some};
-    ghost use Rattle.jh_settings.specs.Shown.{shown};
+    ghost use Rattle.jh_settings.specs.Shown.{shown_key};
 
-    ghost output = { λ key. Some (shown key) };
+    ghost output = { λ key. Some (shown_key key) };
 
     fn fmt<W: Write>(&self, f: &mut Formatter<W>) -> fmt::Result {
         let bytes = self.text.len();
@@ -104,7 +106,7 @@ impl Display for KeyText {
     }
 }
 
-/// Why settings are refused. The first that applies is told, in the order of the variants.
+/// Why settings are refused. The first that applies is given, in the order of the variants.
 #[derive(Debug, Drop, Error)]
 pub enum SettingsError {
     /// The bytes are not UTF-8, or spell no TOML document.

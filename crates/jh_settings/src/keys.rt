@@ -1,9 +1,10 @@
-//! The keys of the settings. `specs/Keys.antt` has them in their order, and says which keys a document has.
+//! The keys of the settings. `specs/Keys.antt` has them in their order, and says which keys a
+//! document has.
 
-ghost use Rattle.std.specs.Prelude.{◌≡◌, IfSome, IfNone, MatchOption};
+ghost use Rattle.std.specs.Prelude.{◌≡◌, MatchOption};
 ghost use Rattle.toml.specs.View.{table_view};
 ghost use Rattle.jh_settings.specs.Keys as rule;
-ghost use Rattle.jh_settings.specs.Keys.{HasKnownKeys, IsFirstUnknown, word_of, keys, needed_keys};
+ghost use Rattle.jh_settings.specs.Keys.{HasKnownKeys, IsFirstUnknown, key_name, keys};
 
 use crate::table::value_under;
 use std::fmt::{self, Display, Formatter, Write};
@@ -59,7 +60,7 @@ const NEEDED: [Key; 6] = [
 impl Key {
     /// The key, as a document has it.
     pub fn as_str(self) -> &'static str
-        ensures { result.now ≡ word_of self }
+        ensures { result.now ≡ key_name self }
     {
         match self {
             Key::Start => "start",
@@ -82,27 +83,28 @@ impl Key {
 
 impl Display for Key {
     ghost use Rattle.std.specs.Prelude.{Some};
-    ghost use Rattle.jh_settings.specs.Keys.{word_of};
+    ghost use Rattle.jh_settings.specs.Keys.{key_name};
 
-    ghost output = { λ key. Some (word_of key) };
+    ghost output = { λ key. Some (key_name key) };
 
     fn fmt<W: Write>(&self, f: &mut Formatter<W>) -> fmt::Result {
         f.write_str(self.as_str())
     }
 }
 
-#[tactic(auto, unfolding(crate::specs::Keys::is_known))]
-fn is_known(word: &str) -> bool
-    ensures { result ≡ rule.is_known word.now }
+/// Whether a key of the settings has this name.
+#[tactic(auto, unfolding(crate::specs::Keys::is_key_name))]
+fn is_known(name: &str) -> bool
+    ensures { result ≡ rule.is_key_name name.now }
 {
-    KEYS.iter().any(|key| word == key.as_str())
+    KEYS.iter().any(|key| name == key.as_str())
 }
 
 /// The first key, in byte order, that no setting has.
 pub(crate) fn first_unknown(table: &Table) -> Option<&str>
     ensures { MatchOption result
         (HasKnownKeys (table_view table.now))
-        (λ word. IsFirstUnknown (table_view table.now) word.now) }
+        (λ name. IsFirstUnknown (table_view table.now) name.now) }
 {
     for key in table.keys() {
         if !is_known(key.as_str()) {
@@ -112,6 +114,7 @@ pub(crate) fn first_unknown(table: &Table) -> Option<&str>
     None
 }
 
+/// Whether nothing stands under a key.
 fn is_missing(table: &Table, key: Key) -> bool
     ensures { result ≡ rule.is_missing (table_view table.now) key }
 {

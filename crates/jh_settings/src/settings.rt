@@ -1,27 +1,30 @@
-//! The settings of a run. `specs/Settings.antt` says which settings a document tells, and why others are
-//! refused.
+//! The settings of a run. `specs/Settings.antt` says which settings a document tells, and why
+//! others are refused.
 
 ghost use Rattle.std.specs.Prelude.{◌≡◌, Some, None, [], MatchResult};
 ghost use Rattle.toml.specs.View.{table_view};
 ghost use Rattle.jh_env.specs.Overlay.{StandsFor};
 ghost use Rattle.jh_simnode.specs.Plans.{IsFit};
-ghost use Rattle.jh_settings.specs.Inside.{Refuses, RefusesBytes, RefusesKeys, RefusesValues};
-ghost use Rattle.jh_settings.specs.Inside.{RefusesWith, TellsCluster, TellsLimits, TellsLoad};
-ghost use Rattle.jh_settings.specs.Inside.{cluster_keys, limit_keys, load_keys, plan_refusal, plan_with};
+ghost use Rattle.jh_settings.specs.Inside.{RefusesKeyValues, RefusesBytes, RefusesDocumentKeys};
+ghost use Rattle.jh_settings.specs.Inside.{RefusesDocumentValues};
+ghost use Rattle.jh_settings.specs.Inside.{RefusesWith, IsParsedCluster, AreParsedLimits};
+ghost use Rattle.jh_settings.specs.Inside.{IsParsedLoad};
+ghost use Rattle.jh_settings.specs.Inside.{cluster_keys, limit_keys, load_keys, plan_refusal};
+ghost use Rattle.jh_settings.specs.Inside.{plan_with};
 ghost use Rattle.jh_settings.specs.Keys as rule;
 ghost use Rattle.jh_settings.specs.Keys.{HasKnownKeys, IsDocument};
 ghost use Rattle.jh_settings.specs.Settings.{AreSettings, AreSettingsOf, RefusesSettings};
 ghost use Rattle.jh_settings.specs.Parsed.{parsed_workload};
 
+use crate::choices::{Mode, initial_under, mode_under, store_under, workload_under};
 use crate::elements::{generator_under, schedule_under, start_under};
 use crate::error::{KeyText, SettingsError};
 use crate::keys::{Key, first_missing, first_unknown};
 use crate::table::{number_or, number_under, truth_or};
-use crate::words::{Mode, initial_under, max_ops, mode_under, store_under, workload_under};
 use jh_env::Env;
 use jh_gen::{Gen, MAX_CLIENTS};
 use jh_ops::Workload;
-use jh_simnode::{MAX_ROWS, Plan, PlanError, Schedule, Store};
+use jh_simnode::{MAX_ROWS, Plan, PlanData, PlanError, Schedule, Settings, Store};
 use std::alloc::Global;
 use toml::Table;
 
@@ -68,10 +71,11 @@ pub(crate) struct Limits {
     budget: u64,
 }
 
+/// The cluster that a table means, under `start`, `store`, `workload` and `generator`.
 fn cluster_of(alloc: Global, table: &Table) -> Result<Cluster, SettingsError>
     ensures { MatchResult result
-        (TellsCluster (table_view table.now))
-        (Refuses (table_view table.now) cluster_keys) }
+        (IsParsedCluster (table_view table.now))
+        (RefusesKeyValues (table_view table.now) cluster_keys) }
 {
     let environment = start_under(alloc, table)?;
     let store = store_under(table)?;
@@ -85,14 +89,15 @@ fn cluster_of(alloc: Global, table: &Table) -> Result<Cluster, SettingsError>
     })
 }
 
+/// The load that a table means, under `clients`, `ops`, `mode`, `volatile` and `initial`.
 fn load_of(table: &Table, workload: Workload) -> Result<Load, SettingsError>
     requires { parsed_workload (table_view table.now) ≡ Some workload }
     ensures { MatchResult result
-        (TellsLoad (table_view table.now))
-        (Refuses (table_view table.now) load_keys) }
+        (IsParsedLoad (table_view table.now))
+        (RefusesKeyValues (table_view table.now) load_keys) }
 {
     let clients = number_under(table, Key::Clients, 1, u64::from(MAX_CLIENTS))?;
-    let ops = number_under(table, Key::Ops, 1, max_ops(workload))?;
+    let ops = number_under(table, Key::Ops, 1, u64::from(workload.max_calls()))?;
     let mode = mode_under(table)?;
     let volatile = truth_or(table, Key::Volatile, false)?;
     let initial = initial_under(table, workload)?;
@@ -105,10 +110,11 @@ fn load_of(table: &Table, workload: Workload) -> Result<Load, SettingsError>
     })
 }
 
+/// The limits that a table means; one whose key does not stand there has its default.
 fn limits_of(table: &Table) -> Result<Limits, SettingsError>
     ensures { MatchResult result
-        (TellsLimits (table_view table.now))
-        (Refuses (table_view table.now) limit_keys) }
+        (AreParsedLimits (table_view table.now))
+        (RefusesKeyValues (table_view table.now) limit_keys) }
 {
     let tick_every = number_or(table, Key::TickEvery, 0, 0, MAX_TICK_EVERY)?;
     let rows = number_or(table, Key::Rows, 4_096, 1, u64::from(MAX_ROWS))?;
@@ -122,7 +128,7 @@ fn limits_of(table: &Table) -> Result<Limits, SettingsError>
     })
 }
 
-// What the refusal of a plan means, whose parts are good by themselves.
+/// What the refusal of a plan means, whose parts are good by themselves.
 fn plan_error(error: PlanError) -> SettingsError
     ensures { result ≡ plan_refusal error }
 {
@@ -136,7 +142,7 @@ fn plan_error(error: PlanError) -> SettingsError
     }
 }
 
-// The settings of these parts.
+/// The settings of these parts.
 fn settings_with(
     alloc: Global,
     cluster: Cluster,
@@ -156,21 +162,23 @@ fn settings_with(
         workload,
         generator,
     } = cluster;
-    match Plan::new(
-        alloc,
+    let fields = PlanData {
         environment,
-        store,
-        load.volatile,
-        workload,
-        load.initial,
-        load.clients,
-        load.ops,
+        settings: Settings {
+            store,
+            volatile: load.volatile,
+            workload,
+            initial: load.initial,
+        },
+        clients: load.clients,
+        ops: load.ops,
         generator,
         schedule,
-        limits.tick_every,
-        limits.rows,
-        limits.seed,
-    ) {
+        tick_every: limits.tick_every,
+        rows: limits.rows,
+        seed: limits.seed,
+    };
+    match Plan::new(alloc, fields) {
         Ok(plan) => Ok(RunSettings {
             plan,
             mode: load.mode,
@@ -180,12 +188,12 @@ fn settings_with(
     }
 }
 
-// The settings that the values of a table tell.
+/// The settings that the values of a table tell.
 fn settings_in(alloc: Global, table: &Table) -> Result<RunSettings, SettingsError>
     requires { HasKnownKeys (table_view table.now) }
     ensures { MatchResult result
         (λ settings. AreSettings (table_view table.now) settings.plan settings.mode settings.budget)
-        (RefusesValues (table_view table.now)) }
+        (RefusesDocumentValues (table_view table.now)) }
 {
     let cluster = cluster_of(alloc, table)?;
     let load = load_of(table, cluster.workload)?;
@@ -194,6 +202,7 @@ fn settings_in(alloc: Global, table: &Table) -> Result<RunSettings, SettingsErro
     settings_with(alloc, cluster, load, limits, schedule)
 }
 
+/// The table that bytes mean, a TOML document in UTF-8.
 fn table_of(alloc: Global, bytes: &[u8]) -> Result<Table, SettingsError>
     ensures { MatchResult result
         (λ table. IsDocument bytes.now (table_view table))
@@ -211,14 +220,15 @@ fn table_of(alloc: Global, bytes: &[u8]) -> Result<Table, SettingsError>
     }
 }
 
-// Looks at the keys of a table alone.
+/// Looks at the keys of a table alone.
 fn judge_keys(alloc: Global, table: &Table) -> Result<(), SettingsError>
     ensures { MatchResult result
-        (λ _. HasKnownKeys (table_view table.now) × (rule.first_missing (table_view table.now) ≡ None))
-        (RefusesKeys (table_view table.now)) }
+        (λ _. HasKnownKeys (table_view table.now)
+        × (rule.first_missing (table_view table.now) ≡ None))
+        (RefusesDocumentKeys (table_view table.now)) }
 {
-    if let Some(word) = first_unknown(table) {
-        return Err(SettingsError::Unknown(KeyText::of(alloc, word)?));
+    if let Some(name) = first_unknown(table) {
+        return Err(SettingsError::Unknown(KeyText::of(alloc, name)?));
     }
     match first_missing(table) {
         Some(key) => Err(SettingsError::Missing(key)),
@@ -226,14 +236,15 @@ fn judge_keys(alloc: Global, table: &Table) -> Result<(), SettingsError>
     }
 }
 
-/// The settings that bytes tell, a TOML document in UTF-8. A missing mode means `Mode::Threads`.
+/// The settings that bytes mean, a TOML document in UTF-8. A missing mode means `Mode::Threads`.
 ///
 /// Takes time and memory in proportion to the bytes.
 ///
-/// Errors, in this order: `NotToml`; `Unknown` with the first key, in byte order, that no setting has;
-/// `Missing` with the first needed key that does not stand there; `BadValue` with the first key, in the order
-/// of `Key`, whose value is bad by itself, and then with `Generator` where it does not suit the workload and
-/// the number of clients (`Gen::suits`); `OutOfMemory` where memory was refused before another error was found.
+/// Errors, in this order: `NotToml`; `Unknown` with the first key, in byte order, that no setting
+/// has; `Missing` with the first needed key that does not stand there; `BadValue` with the first
+/// key, in the order of `Key`, whose value is bad by itself, and then with `Generator` where it
+/// does not suit the workload and the number of clients (`Gen::suits`); `OutOfMemory` where memory
+/// was refused before another error was found.
 pub fn settings_of(alloc: Global, bytes: &[u8]) -> Result<RunSettings, SettingsError>
     ensures { MatchResult result
         (λ settings. AreSettingsOf bytes.now settings.plan settings.mode settings.budget)

@@ -1,14 +1,15 @@
 //! Reading the values of a TOML table. `specs/Kinds.antt` says what each kind of value may be.
 //!
-//! Each reader answers what the value under its key tells, and `BadValue` with that key where it tells
-//! nothing.
+//! Each reader answers what the value under its key tells, and `BadValue` with that key where it
+//! tells nothing.
 
-ghost use Rattle.std.specs.Prelude.{◌≡◌, ◌≤◌, option_map, IfSome, IfOk, MatchResult};
+ghost use Rattle.std.specs.Prelude.{◌≡◌, ◌≤◌, option_map, IfSome, IfOk};
 ghost use Rattle.toml.specs.Data.{as_bool};
 ghost use Rattle.toml.specs.View.{table_view, view};
 ghost use Rattle.jh_settings.specs.Inside.{IsValueParsed};
-ghost use Rattle.jh_settings.specs.Keys.{value_under};
-ghost use Rattle.jh_settings.specs.Kinds.{needed, or_default, text_under, whole_in};
+ghost use Rattle.jh_settings.specs.Keys.{data_under};
+ghost use Rattle.jh_settings.specs.Kinds.{needed_value, value_or_default, text_under};
+ghost use Rattle.jh_settings.specs.Kinds.{whole_number_in};
 
 use crate::error::SettingsError;
 use crate::keys::Key;
@@ -16,7 +17,7 @@ use toml::{Table, Value};
 
 /// The value under a key.
 pub(crate) fn value_under<'a>(table: &'a Table, key: Key) -> Option<&'a Value>
-    ensures { option_map (λ value. view value.now) result ≡ value_under key (table_view table.now) }
+    ensures { option_map (λ value. view value.now) result ≡ data_under key (table_view table.now) }
 {
     table.get(key.as_str())
 }
@@ -31,9 +32,9 @@ pub(crate) fn text_under<'a>(table: &'a Table, key: Key) -> Option<&'a str>
     }
 }
 
-// The number, where it is from the least to the most.
+/// The number, where it is from the least to the most.
 fn whole_in(value: &Value, least: u64, most: u64) -> Option<u64>
-    ensures number { result ≡ whole_in least most (view value.now) }
+    ensures number { result ≡ whole_number_in least most (view value.now) }
     ensures within { IfSome result (λ number. number ≤ most) }
 {
     let number = u64::try_from(value.as_integer()?).ok()?;
@@ -51,7 +52,8 @@ pub(crate) fn number_under(
     least: u64,
     most: u64,
 ) -> Result<u64, SettingsError>
-    ensures told { IsValueParsed result key (needed (whole_in least most) key (table_view table.now)) }
+    ensures parsed { IsValueParsed result key
+        (needed_value (whole_number_in least most) key (table_view table.now)) }
     ensures within { IfOk result (λ number. number ≤ most) }
 {
     let Some(value) = value_under(table, key) else {
@@ -72,7 +74,8 @@ pub(crate) fn number_or(
     most: u64,
 ) -> Result<u64, SettingsError>
     requires { default ≤ most }
-    ensures told { IsValueParsed result key (or_default default (whole_in least most) key (table_view table.now)) }
+    ensures parsed { IsValueParsed result key
+        (value_or_default default (whole_number_in least most) key (table_view table.now)) }
     ensures within { IfOk result (λ number. number ≤ most) }
 {
     let Some(value) = value_under(table, key) else {
@@ -86,7 +89,8 @@ pub(crate) fn number_or(
 
 /// The truth value under a key, and a default where nothing stands there.
 pub(crate) fn truth_or(table: &Table, key: Key, default: bool) -> Result<bool, SettingsError>
-    ensures { IsValueParsed result key (or_default default as_bool key (table_view table.now)) }
+    ensures { IsValueParsed result key
+        (value_or_default default as_bool key (table_view table.now)) }
 {
     let Some(value) = value_under(table, key) else {
         return Ok(default);

@@ -6,7 +6,7 @@ use Rattle.std.specs.Prelude.{Bool, false, Option, Some}
 use Rattle.jh_simnode.specs.declared.schedule.Entry.{Entry}
 use Rattle.jh_shrink.specs.declared.shrinking.Halt.{Halt}
 use Rattle.jh_shrink.specs.Shrunk.{IsSubsequence, IsFailing, NeedsEach}
-use Rattle.jh_shrink.specs.ShrinkingInside.{Halts, NeedsThose}
+use Rattle.jh_shrink.specs.ShrinkingInside.{HaltsWork, NeedsThose}
 
 pub sub_self : {X : Type 0} (xs : List X) → IsSubsequence xs xs
 sub_self [] = tt
@@ -39,7 +39,7 @@ sub_cut (x ∷ xs) (suc i) (suc j) le = inl (refl, sub_cut xs i j (omega (arith,
 -- ---- what is known of a part is known of the whole
 
 pub halts_of : (A : List Entry → Option Bool → Type 0) (given part : List Entry) (halt : Halt) → IsSubsequence part given
-    → Halts A part halt → Halts A given halt
+    → HaltsWork A part halt → HaltsWork A given halt
 halts_of A given part Halt.Judge sub h = (h.0, sub_trans h.0 part given h.1 sub, h.2)
 halts_of A given part Halt.Budget sub h = tt
 halts_of A given part Halt.OutOfMemory sub h = tt

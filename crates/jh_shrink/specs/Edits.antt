@@ -1,9 +1,11 @@
--- A schedule under edits (this project's own): what an edit makes of it, and what undo and redo bring back.
+-- A schedule under edits (this project's own): what an edit makes of it, and what undo and redo
+-- bring back.
 use Rattle.std.specs.Prelude.{ℕ, ◌<◌, ◌≤◌, List, [], ◌∷◌, length}
 use Rattle.jh_simnode.specs.declared.schedule.Entry.{Entry}
 use Rattle.jh_simnode.specs.Limits.{max_entries}
 use Rattle.jh_shrink.specs.declared.editor.EditError.{EditError}
-use Rattle.jh_shrink.specs.declared.editor.EditError.TheVariants.{BadPlace, TooManyEdits, OutOfMemory}
+use Rattle.jh_shrink.specs.declared.editor.EditError.TheVariants.{BadPlace, TooManyEdits}
+use Rattle.jh_shrink.specs.declared.editor.EditError.TheVariants.{OutOfMemory}
 use Rattle.jh_shrink.specs.declared.editor.InsertError.{InsertError}
 use Rattle.jh_shrink.specs.declared.editor.InsertError.TheVariants as Insert
 
@@ -22,21 +24,23 @@ abbrev pub state_after_edit : EditState → List Entry → EditState
 state_after_edit s next = record { past = s.now ∷ s.past; now = next; future = [] }
 
 -- back to the latest of these before: what was now is the latest that is undone
-abbrev pub back_to : EditState → List (List Entry) → EditState
-back_to s [] = s
-back_to s (schedule ∷ before) = record { past = before; now = schedule; future = s.now ∷ s.future }
+abbrev pub edit_state_back : EditState → List (List Entry) → EditState
+edit_state_back s [] = s
+edit_state_back s (schedule ∷ before) =
+    record { past = before; now = schedule; future = s.now ∷ s.future }
 
 -- forth to the latest of these that are undone: what was now is the latest of the past
-abbrev pub forth_to : EditState → List (List Entry) → EditState
-forth_to s [] = s
-forth_to s (schedule ∷ after) = record { past = s.now ∷ s.past; now = schedule; future = after }
+abbrev pub edit_state_forth : EditState → List (List Entry) → EditState
+edit_state_forth s [] = s
+edit_state_forth s (schedule ∷ after) =
+    record { past = s.now ∷ s.past; now = schedule; future = after }
 
 -- the state after an undo, and after a redo
-abbrev pub undone : EditState → EditState
-undone s = back_to s s.past
+abbrev pub edit_state_after_undo : EditState → EditState
+edit_state_after_undo s = edit_state_back s s.past
 
-abbrev pub redone : EditState → EditState
-redone s = forth_to s s.future
+abbrev pub edit_state_after_redo : EditState → EditState
+edit_state_after_redo s = edit_state_forth s s.future
 
 -- how many edits are kept, at most
 abbrev pub max_edits : ℕ
@@ -54,7 +58,8 @@ MayEdit s place = (place < length s.now) × HasRoom s
 abbrev pub MayInsert : EditState → ℕ → Type 0
 MayInsert s place = (place ≤ length s.now) × (length s.now < max_entries) × HasRoom s
 
--- why the entry at a place is not edited: the first refusal that applies, or memory was refused where it may be
+-- why the entry at a place is not edited: the first refusal that applies, or memory was refused
+-- where it may be
 abbrev pub RefusesEdit : EditState → ℕ → EditError → Type 0
 RefusesEdit s place BadPlace = length s.now ≤ place
 RefusesEdit s place TooManyEdits = (place < length s.now) × (max_edits ≤ length s.past)

@@ -1,7 +1,9 @@
--- What is left of a failing schedule when entries are taken out (this project's own). That no single entry can be
--- spared is what Zeller and Hildebrandt call 1-minimal ("Simplifying and Isolating Failure-Inducing Input", 2002).
--- `Answers` stands for what a judge answered of a schedule: that it fails, that it passes, or nothing.
-use Rattle.std.specs.Prelude.{◌≡◌, ℕ, ◌<◌, ◌⊎◌, Bool, true, false, List, [], ◌∷◌, length, Option, Some, None, ⊤}
+-- What is left of a failing schedule when entries are taken out (this project's own). That no
+-- single entry can be spared is what Zeller and Hildebrandt call 1-minimal ("Simplifying and
+-- Isolating Failure-Inducing Input", 2002). `Answers` stands for what a judge answered of a
+-- schedule: that it fails, that it passes, or nothing.
+use Rattle.std.specs.Prelude.{◌≡◌, ℕ, ◌<◌, ◌⊎◌, Bool, true, false, List, [], ◌∷◌, length, Option}
+use Rattle.std.specs.Prelude.{Some, None, ⊤}
 use Rattle.std.specs.List.{remove}
 use Rattle.jh_simnode.specs.declared.schedule.Entry.{Entry}
 use Rattle.jh_shrink.specs.declared.shrinking.Shrunk.{Shrunk}
@@ -21,15 +23,19 @@ IsFailing Answers given schedule = IsSubsequence schedule given × Answers sched
 
 -- it passes without any one of its entries
 abbrev pub NeedsEach : (List Entry → Option Bool → Type 0) → List Entry → Type 0
-NeedsEach Answers schedule = (place : ℕ) → place < length schedule → Answers (remove schedule place) (Some false)
+NeedsEach Answers schedule =
+    (place : ℕ) → place < length schedule → Answers (remove schedule place) (Some false)
 
 -- the schedule is what it is called
 abbrev pub IsShrunk : (List Entry → Option Bool → Type 0) → List Entry → Shrunk → Type 0
-IsShrunk Answers given (Minimal schedule) = IsFailing Answers given schedule × NeedsEach Answers schedule
+IsShrunk Answers given (Minimal schedule) =
+    IsFailing Answers given schedule × NeedsEach Answers schedule
 IsShrunk Answers given (Budget schedule) = (schedule ≡ given) ⊎ IsFailing Answers given schedule
 IsShrunk Answers given (NotFailing schedule) = (schedule ≡ given) × Answers schedule (Some false)
 
--- why a schedule is not made small: the judge had no answer to what was left of it, or memory was refused
+-- why a schedule is not made small: the judge had no answer to what was left of it, or memory was
+-- refused
 abbrev pub RefusesShrink : (List Entry → Option Bool → Type 0) → List Entry → ShrinkError → Type 0
-RefusesShrink Answers given Judge = (schedule : List Entry) × IsSubsequence schedule given × Answers schedule None
+RefusesShrink Answers given Judge =
+    (schedule : List Entry) × IsSubsequence schedule given × Answers schedule None
 RefusesShrink Answers given OutOfMemory = ⊤

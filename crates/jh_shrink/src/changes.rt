@@ -1,10 +1,10 @@
-//! The changes that an editor makes. Each gives the one that takes it back, so that undo and redo are one thing.
-//! `specs/ChangesInside.antt` says what a change makes of the entries.
+//! The changes that an editor makes. Each gives the one that takes it back, so that undo and redo
+//! are one thing. `specs/ChangesInside.antt` says what a change makes of the entries.
 
-ghost use Rattle.std.specs.Prelude.{◌≡◌, ◌≤◌, ◌<◌, length};
+ghost use Rattle.std.specs.Prelude.{◌≡◌, ◌≤◌, ◌<◌};
 ghost use Rattle.std.specs.Vec.{vec_capacity};
 ghost use Rattle.jh_simnode.specs.Limits.{max_entries};
-ghost use Rattle.jh_shrink.specs.ChangesInside.{changed, back_from, Fits};
+ghost use Rattle.jh_shrink.specs.ChangesInside.{entries_after_change, IsChangeBack, Fits};
 
 use jh_simnode::Entry;
 use std::mem;
@@ -24,8 +24,8 @@ pub(crate) enum Change {
 pub(crate) fn make(entries: &mut Vec<Entry>, change: Change) -> Change
     requires fits { Fits change entries.old.items }
     requires room { max_entries ≤ vec_capacity entries.old }
-    ensures changed { entries.new.items ≡ changed change entries.old.items }
-    ensures back { back_from change entries.old.items result }
+    ensures changed { entries.new.items ≡ entries_after_change change entries.old.items }
+    ensures back { IsChangeBack change entries.old.items result }
     ensures room { max_entries ≤ vec_capacity entries.new }
 {
     match change {

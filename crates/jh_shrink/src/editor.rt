@@ -1,10 +1,14 @@
-//! A schedule under edits that can be undone. `specs/Edits.antt` says what an edit, an undo and a redo make of it.
+//! A schedule under edits that can be undone. `specs/Edits.antt` says what an edit, an undo and a
+//! redo make of it.
 
-ghost use Rattle.std.specs.Prelude.{◌≡◌, ◌↔◌, ◌≤◌, [], length, slice_set, IfOk, IsErr, IsTrue, MatchResult, OnErr, OnOk};
+ghost use Rattle.std.specs.Prelude.{◌≡◌, ◌↔◌, ◌≤◌, [], length, slice_set, IfOk, IsErr, IsTrue};
+ghost use Rattle.std.specs.Prelude.{MatchResult, OnErr, OnOk};
 ghost use Rattle.std.specs.List.{insert, remove};
 ghost use Rattle.jh_simnode.specs.Limits.{max_entries};
-ghost use Rattle.jh_shrink.specs.Edits.{state_after_edit, redone, undone, state_before_edits, HasRoom, MayEdit, MayInsert, RefusesEdit, RefusesInsert};
-ghost use Rattle.jh_shrink.specs.ChangesInside.{changed, Fits};
+ghost use Rattle.jh_shrink.specs.Edits.{state_after_edit, edit_state_after_redo};
+ghost use Rattle.jh_shrink.specs.Edits.{edit_state_after_undo, state_before_edits, HasRoom};
+ghost use Rattle.jh_shrink.specs.Edits.{MayEdit, MayInsert, RefusesEdit, RefusesInsert};
+ghost use Rattle.jh_shrink.specs.ChangesInside.{entries_after_change, Fits};
 
 use crate::changes::{Change, make};
 use jh_simnode::{Entry, MAX_ENTRIES, Schedule};
@@ -76,7 +80,8 @@ pub struct NothingToUndo;
 #[error("nothing to redo")]
 pub struct NothingToRedo;
 
-/// A schedule, and its edits back and forth. A contract sees the schedule now and at the moments before and after.
+/// A schedule, and its edits back and forth. A contract sees the schedule now and at the moments
+/// before and after.
 #[derive(Debug, Drop)]
 pub struct Editor {
     entries: Vec<Entry>,
@@ -90,11 +95,11 @@ impl Model for Editor {
 
     ghost Value = { EditState };
 
-    ghost use Rattle.jh_shrink.specs.ChangesInside.{state_of, IsSound};
+    ghost use Rattle.jh_shrink.specs.ChangesInside.{edit_state_of, IsSoundEditor};
 
-    ghost view = { state_of };
+    ghost view = { edit_state_of };
 
-    ghost invariant = { IsSound };
+    ghost invariant = { IsSoundEditor };
 }
 
 impl Editor {
@@ -153,7 +158,8 @@ impl Editor {
 
     /// Whether an entry may be put in at a place, if there is memory.
     fn check_insert(&self, place: usize) -> Result<(), InsertError>
-        ensures { MatchResult result (λ _. MayInsert self.now place) (RefusesInsert self.now place) }
+        ensures { MatchResult result (λ _. MayInsert self.now place)
+            (RefusesInsert self.now place) }
     {
         if place > self.entries.len() {
             return Err(InsertError::BadPlace);
@@ -170,7 +176,8 @@ impl Editor {
     /// Makes a change. All memory is taken first, that of its undo and redo too.
     fn edit(&mut self, change: Change) -> Result<(), AllocError>
         requires { Fits change self.old.now }
-        ensures edited { OnOk result (self.new ≡ state_after_edit self.old (changed change self.old.now)) }
+        ensures edited { OnOk result
+            (self.new ≡ state_after_edit self.old (entries_after_change change self.old.now)) }
         ensures unchanged { OnErr result (self.new ≡ self.old) }
     {
         let Editor {
@@ -187,11 +194,12 @@ impl Editor {
 
     /// Takes the entry at a place out.
     ///
-    /// Errors, which change nothing: `BadPlace` where no entry stands there; `TooManyEdits` where 4,096 edits lie in the
-    /// past; `OutOfMemory`.
+    /// Errors, which change nothing: `BadPlace` where no entry stands there; `TooManyEdits` where
+    /// 4,096 edits lie in the past; `OutOfMemory`.
     pub fn delete(&mut self, place: usize) -> Result<(), EditError>
         ensures answer { MatchResult result
-            (λ _. MayEdit self.old place × (self.new ≡ state_after_edit self.old (remove self.old.now place)))
+            (λ _. MayEdit self.old place
+            × (self.new ≡ state_after_edit self.old (remove self.old.now place)))
             (λ e. (self.new ≡ self.old) × RefusesEdit self.old place e) }
     {
         self.check(place)?;
@@ -201,11 +209,13 @@ impl Editor {
 
     /// Puts an entry in at a place, or at the end. Those from there on stand one place higher.
     ///
-    /// Errors, which change nothing: `BadPlace` where the place is above the length; `TooLong` where there are 1,024
-    /// entries; `TooManyEdits` where 4,096 edits lie in the past; `OutOfMemory`.
+    /// Errors, which change nothing: `BadPlace` where the place is above the length; `TooLong`
+    /// where there are 1,024 entries; `TooManyEdits` where 4,096 edits lie in the past;
+    /// `OutOfMemory`.
     pub fn insert(&mut self, place: usize, entry: Entry) -> Result<(), InsertError>
         ensures answer { MatchResult result
-            (λ _. MayInsert self.old place × (self.new ≡ state_after_edit self.old (insert self.old.now place entry)))
+            (λ _. MayInsert self.old place
+            × (self.new ≡ state_after_edit self.old (insert self.old.now place entry)))
             (λ e. (self.new ≡ self.old) × RefusesInsert self.old place e) }
     {
         self.check_insert(place)?;
@@ -215,11 +225,12 @@ impl Editor {
 
     /// Puts an entry in the place of another.
     ///
-    /// Errors, which change nothing: `BadPlace` where no entry stands there; `TooManyEdits` where 4,096 edits lie in the
-    /// past; `OutOfMemory`.
+    /// Errors, which change nothing: `BadPlace` where no entry stands there; `TooManyEdits` where
+    /// 4,096 edits lie in the past; `OutOfMemory`.
     pub fn replace(&mut self, place: usize, entry: Entry) -> Result<(), EditError>
         ensures answer { MatchResult result
-            (λ _. MayEdit self.old place × (self.new ≡ state_after_edit self.old (slice_set self.old.now place entry)))
+            (λ _. MayEdit self.old place
+            × (self.new ≡ state_after_edit self.old (slice_set self.old.now place entry)))
             (λ e. (self.new ≡ self.old) × RefusesEdit self.old place e) }
     {
         self.check(place)?;
@@ -231,7 +242,7 @@ impl Editor {
     ///
     /// Error, which changes nothing: no edit lies in the past.
     pub fn undo(&mut self) -> Result<(), NothingToUndo>
-        ensures undone { self.new ≡ undone self.old }
+        ensures undone { self.new ≡ edit_state_after_undo self.old }
         ensures refused { IsErr result ↔ (self.old.past ≡ []) }
     {
         let Some(change) = self.past.pop() else {
@@ -246,7 +257,7 @@ impl Editor {
     ///
     /// Error, which changes nothing: no edit was undone since the last one.
     pub fn redo(&mut self) -> Result<(), NothingToRedo>
-        ensures redone { self.new ≡ redone self.old }
+        ensures redone { self.new ≡ edit_state_after_redo self.old }
         ensures refused { IsErr result ↔ (self.old.future ≡ []) }
     {
         let Some(change) = self.future.pop() else {

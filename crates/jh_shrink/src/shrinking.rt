@@ -1,11 +1,13 @@
-//! Takes entries out of a schedule that fails, as long as it fails still. `specs/Shrunk.antt` says what is left.
+//! Takes entries out of a schedule that fails, as long as it fails still. `specs/Shrunk.antt` says
+//! what is left.
 
-ghost use Rattle.std.specs.Prelude.{◌≡◌, ◌≤◌, ◌<◌, Some, false, true, length, IfErr, IfOk, MatchResult, OnOk, ◌+◌, ◌-◌};
+ghost use Rattle.std.specs.Prelude.{◌≡◌, ◌≤◌, ◌<◌, Some, false, true, length, IfErr, IfOk};
+ghost use Rattle.std.specs.Prelude.{MatchResult, OnOk, ◌+◌, ◌-◌};
 ghost use Rattle.std.specs.List.{remove_range};
 ghost use Rattle.std.specs.Fn.{FnReturnsAt};
 ghost use Rattle.jh_simnode.specs.Limits.{max_entries};
 ghost use Rattle.jh_shrink.specs.Shrunk.{IsFailing, IsShrunk, NeedsEach, RefusesShrink};
-ghost use Rattle.jh_shrink.specs.ShrinkingInside.{Halts};
+ghost use Rattle.jh_shrink.specs.ShrinkingInside.{HaltsWork};
 
 use jh_simnode::Schedule;
 use std::alloc::{AllocError, Global};
@@ -16,7 +18,8 @@ use thiserror::Error;
 pub enum Shrunk {
     /// It fails, and passes without any one of its entries.
     Minimal(Schedule),
-    /// The smallest one that fails, when the judge had been asked as often as it might; or the given one.
+    /// The smallest one that fails, when the judge had been asked as often as it might; or the
+    /// given one.
     Budget(Schedule),
     /// The given one, which passes.
     NotFailing(Schedule),
@@ -34,7 +37,8 @@ pub enum ShrinkError {
 
 /// Who is told how far the work is.
 pub trait Observer {
-    /// The judge is asked for this time, counted from 1, and so many entries are left of the smallest schedule that fails.
+    /// The judge is asked for this time, counted from 1, and so many entries are left of the
+    /// smallest schedule that fails.
     fn see(&mut self, entries: usize, calls: u64);
 }
 
@@ -85,7 +89,7 @@ fn ask<F: Fn(&Schedule) -> Option<bool>, O: Observer>(
     requires { F.IsAlwaysCallable judge.now }
     ensures { MatchResult result
         (λ fails. FnReturnsAt F.Fn judge.now schedule.now (Some fails))
-        (Halts (FnReturnsAt F.Fn judge.now) schedule.now) }
+        (HaltsWork (FnReturnsAt F.Fn judge.now) schedule.now) }
 {
     if meter.calls >= meter.budget {
         return Err(Halt::Budget);
@@ -98,7 +102,8 @@ fn ask<F: Fn(&Schedule) -> Option<bool>, O: Observer>(
     }
 }
 
-/// Takes out the entries from a place on and below another, if the schedule fails without them. Says whether it did.
+/// Takes out the entries from a place on and below another, if the schedule fails without them.
+/// Says whether it did.
 fn spare<F: Fn(&Schedule) -> Option<bool>, O: Observer>(
     alloc: Global,
     judge: &F,
@@ -111,10 +116,11 @@ fn spare<F: Fn(&Schedule) -> Option<bool>, O: Observer>(
     requires part { (from < to) × (to ≤ length schedule.old) }
     requires failing { FnReturnsAt F.Fn judge.now schedule.old (Some true) }
     ensures failing { IsFailing (FnReturnsAt F.Fn judge.now) schedule.old schedule.new }
-    ensures spared { IfOk result (λ spared. spared ≡ true → length schedule.new + (to - from) ≡ length schedule.old) }
+    ensures spared { IfOk result
+        (λ spared. spared ≡ true → length schedule.new + (to - from) ≡ length schedule.old) }
     ensures needed { IfOk result (λ spared. spared ≡ false → (schedule.new ≡ schedule.old)
         × FnReturnsAt F.Fn judge.now (remove_range schedule.old from to) (Some false)) }
-    ensures halted { IfErr result (Halts (FnReturnsAt F.Fn judge.now) schedule.old) }
+    ensures halted { IfErr result (HaltsWork (FnReturnsAt F.Fn judge.now) schedule.old) }
 {
     let rest = schedule.copy_without(alloc, from, to)?;
     if !ask(judge, meter, &rest, schedule.entries().len())? {
@@ -124,8 +130,8 @@ fn spare<F: Fn(&Schedule) -> Option<bool>, O: Observer>(
     Ok(true)
 }
 
-/// Takes out each part of so many entries without which the schedule fails, from the first part on. Says whether it took
-/// one out.
+/// Takes out each part of so many entries without which the schedule fails, from the first part on.
+/// Says whether it took one out.
 fn pass<F: Fn(&Schedule) -> Option<bool>, O: Observer>(
     alloc: Global,
     judge: &F,
@@ -137,10 +143,12 @@ fn pass<F: Fn(&Schedule) -> Option<bool>, O: Observer>(
     requires size { (1 ≤ size) × (size ≤ max_entries) }
     requires failing { FnReturnsAt F.Fn judge.now schedule.old (Some true) }
     ensures failing { IsFailing (FnReturnsAt F.Fn judge.now) schedule.old schedule.new }
-    ensures fewer { IfOk result (λ spared. spared ≡ true → length schedule.new < length schedule.old) }
+    ensures fewer { IfOk result
+        (λ spared. spared ≡ true → length schedule.new < length schedule.old) }
     ensures same { IfOk result (λ spared. spared ≡ false → schedule.new ≡ schedule.old) }
-    ensures needed { IfOk result (λ spared. spared ≡ false → size ≡ 1 → NeedsEach (FnReturnsAt F.Fn judge.now) schedule.new) }
-    ensures halted { IfErr result (Halts (FnReturnsAt F.Fn judge.now) schedule.old) }
+    ensures needed { IfOk result
+        (λ spared. spared ≡ false → size ≡ 1 → NeedsEach (FnReturnsAt F.Fn judge.now) schedule.new) }
+    ensures halted { IfErr result (HaltsWork (FnReturnsAt F.Fn judge.now) schedule.old) }
 {
     let mut place = 0;
     let mut spared = false;
@@ -166,7 +174,7 @@ fn reduce<F: Fn(&Schedule) -> Option<bool>, O: Observer>(
     requires failing { FnReturnsAt F.Fn judge.now schedule.old (Some true) }
     ensures failing { IsFailing (FnReturnsAt F.Fn judge.now) schedule.old schedule.new }
     ensures minimal { OnOk result (NeedsEach (FnReturnsAt F.Fn judge.now) schedule.new) }
-    ensures halted { IfErr result (Halts (FnReturnsAt F.Fn judge.now) schedule.old) }
+    ensures halted { IfErr result (HaltsWork (FnReturnsAt F.Fn judge.now) schedule.old) }
 {
     let mut size = schedule.entries().len().div_ceil(2).max(1);
     while pass(alloc, judge, meter, schedule, size)? || size > 1 {
@@ -177,10 +185,11 @@ fn reduce<F: Fn(&Schedule) -> Option<bool>, O: Observer>(
 
 /// Makes a schedule that fails small, and tells an observer how far it is.
 ///
-/// It takes out halves of the entries, then quarters, and so on to single entries, as long as what is left fails still,
-/// and ends once the judge said of each single entry that the schedule passes without it. So it asks about twice the
-/// number of entries that matter for each halving, and no more than the square of the number of entries. Fewer entries
-/// than those of `Minimal` may fail where several are taken out at once.
+/// It takes out halves of the entries, then quarters, and so on to single entries, as long as what
+/// is left fails still, and ends once the judge said of each single entry that the schedule passes
+/// without it. So it asks about twice the number of entries that matter for each halving, and no
+/// more than the square of the number of entries. Fewer entries than those of `Minimal` may fail
+/// where several are taken out at once.
 ///
 /// Errors: `Judge` where the judge had no answer; `OutOfMemory`.
 pub fn shrink_observed<F: Fn(&Schedule) -> Option<bool>, O: Observer>(

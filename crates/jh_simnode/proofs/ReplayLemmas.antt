@@ -4,22 +4,22 @@ use Rattle.std.proofs.lemmas.List.{take_more}
 use Rattle.jh_simnode.specs.declared.events.Event.{Event}
 use Rattle.jh_simnode.specs.declared.events.WorldError.{WorldError}
 use Rattle.jh_simnode.specs.declared.events.WorldError.TheVariants.{UnknownNode, TooManyEvents, OutOfMemory}
-use Rattle.jh_simnode.specs.Events.{Setup, Moment, opening, faults_after, next, after_all}
+use Rattle.jh_simnode.specs.Events.{Setup, Moment, opening, faults_after, moment_after, moment_after_all}
 use Rattle.jh_simnode.specs.Laws.{state_at}
 use Rattle.jh_simnode.specs.Replay.{RefusesEvent, RefusesReplay}
-use Rattle.jh_simnode.proofs.Journals.{after_all_push}
-use Rattle.jh_simnode.proofs.StepLemmas.{state_after_names}
+use Rattle.jh_simnode.proofs.JournalLemmas.{after_all_push}
+use Rattle.jh_nemesis.proofs.StepLemmas.{state_after_names}
 
 pub state_more : (u : Setup) (journal : List Event) (i : ℕ) (d : Event) → i < length journal
     → state_at u (take (i + 1) journal) ≡ faults_after (state_at u (take i journal)) (get_or journal i d)
 state_more u journal i d low =
     ap (state_at u) (take_more journal i d low) ∙ ap (λ (m : Moment). m.faults) (after_all_push u (opening u) (take i journal) (get_or journal i d))
 
-names_after : (u : Setup) (m : Moment) (es : List Event) → (after_all u m es).faults.names ≡ m.faults.names
+names_after : (u : Setup) (m : Moment) (es : List Event) → (moment_after_all u m es).faults.names ≡ m.faults.names
 names_after u m [] = refl
-names_after u m (Event.Call process node request draw reply ∷ es) = names_after u (next u m (Event.Call process node request draw reply)) es
-names_after u m (Event.Step step answer ∷ es) = names_after u (next u m (Event.Step step answer)) es ∙ state_after_names m.faults step
-names_after u m (Event.Tick ∷ es) = names_after u (next u m Event.Tick) es
+names_after u m (Event.Call process node request draw reply ∷ es) = names_after u (moment_after u m (Event.Call process node request draw reply)) es
+names_after u m (Event.Step step answer ∷ es) = names_after u (moment_after u m (Event.Step step answer)) es ∙ state_after_names m.faults step
+names_after u m (Event.Tick ∷ es) = names_after u (moment_after u m Event.Tick) es
 
 -- a journal keeps the nodes
 pub names_at : (u : Setup) (journal : List Event) → (state_at u journal).names ≡ u.names

@@ -1,6 +1,7 @@
--- What a request does to the contents of a replica: the objects that Jepsen's pages on checkers name, a register, a
--- counter, a set and ids.
-use Rattle.std.specs.Prelude.{ℤ, pos, negsuc, ◌+ℤ◌, ◌^◌, Bool, List, [], ◌∷◌, Option, Some, None, nat_lt, int_lt, if◌then◌else◌}
+-- What a request does to the contents of a replica: the objects that Jepsen's pages on checkers
+-- name, a register, a counter, a set and ids.
+use Rattle.std.specs.Prelude.{ℤ, pos, negsuc, ◌+ℤ◌, ◌^◌, Bool, List, [], ◌∷◌, Option, Some, None}
+use Rattle.std.specs.Prelude.{nat_lt, int_lt, if◌then◌else◌}
 use Rattle.std.specs.Ordering.{int_eq}
 use Rattle.jh_ops.specs.declared.call.Request.{Request}
 use Rattle.jh_ops.specs.declared.call.Request.TheVariants.{Read, Write, Cas, Add, Generate}
@@ -16,37 +17,39 @@ is_small (pos n) = nat_lt n (2 ^ 63)
 is_small (negsuc n) = nat_lt n (2 ^ 63)
 
 -- the number at its place in an ascending list, once
-abbrev pub put_in : ℤ → List ℤ → List ℤ
-put_in v [] = v ∷ []
-put_in v (x ∷ xs) = if int_lt v x then v ∷ x ∷ xs else (if int_eq v x then x ∷ xs else x ∷ put_in v xs)
+abbrev pub numbers_with : ℤ → List ℤ → List ℤ
+numbers_with v [] = v ∷ []
+numbers_with v (x ∷ xs) =
+    if int_lt v x then v ∷ x ∷ xs else (if int_eq v x then x ∷ xs else x ∷ numbers_with v xs)
 
 -- these contents are held now, and nothing was got
-abbrev pub wrote : Contents → Option Change
-wrote c = Some (record { got = Got.Nothing; after = c })
+abbrev pub written_change : Contents → Option Change
+written_change c = Some (record { got = Got.Nothing; after = c })
 
 -- what a compare-and-set of these two numbers makes of a register
-abbrev pub after_cas : ℤ → ℤ → Option ℤ → Option Change
-after_cas a b None = None
-after_cas a b (Some x) = if int_eq x a then wrote (One (Some b)) else None
+abbrev pub cas_change : ℤ → ℤ → Option ℤ → Option Change
+cas_change a b None = None
+cas_change a b (Some x) = if int_eq x a then written_change (One (Some b)) else None
 
 -- what an addition makes of a counter
-abbrev pub after_add : ℤ → Option ℤ → Option Change
-after_add v None = None
-after_add v (Some x) = if is_small (x +ℤ v) then wrote (One (Some (x +ℤ v))) else None
+abbrev pub add_change : ℤ → Option ℤ → Option Change
+add_change v None = None
+add_change v (Some x) = if is_small (x +ℤ v) then written_change (One (Some (x +ℤ v))) else None
 
 -- a new id is the number that is held; the next is held after it
-abbrev pub after_generate : Option ℤ → Option Change
-after_generate None = None
-after_generate (Some x) =
-    if is_small (x +ℤ pos 1) then Some (record { got = Got.One (Some x); after = One (Some (x +ℤ pos 1)) }) else None
+abbrev pub generate_change : Option ℤ → Option Change
+generate_change None = None
+generate_change (Some x) =
+    if is_small (x +ℤ pos 1)
+    then Some (record { got = Got.One (Some x); after = One (Some (x +ℤ pos 1)) }) else None
 
 -- what a request makes of contents, where it doesn't fail
 abbrev pub effect : Request → Contents → Option Change
 effect Read c = Some (record { got = got_of c; after = c })
-effect (Write v) c = wrote (One (Some v))
-effect (Cas a b) (One x) = after_cas a b x
+effect (Write v) c = written_change (One (Some v))
+effect (Cas a b) (One x) = cas_change a b x
 effect (Cas a b) (Many xs) = None
-effect (Add v) (One x) = after_add v x
-effect (Add v) (Many xs) = wrote (Many (put_in v xs))
-effect Generate (One x) = after_generate x
+effect (Add v) (One x) = add_change v x
+effect (Add v) (Many xs) = written_change (Many (numbers_with v xs))
+effect Generate (One x) = generate_change x
 effect Generate (Many xs) = None

@@ -1,5 +1,5 @@
--- What happens in a world, one event after another: where it stands after each, and which events are due (this
--- project's own).
+-- What happens in a world, one event after another: where it stands after each, and which events
+-- are due (this project's own).
 use Rattle.std.specs.Prelude.{◌≡◌, ℕ, ◌+◌, ◌<◌, ◌≤◌, List, [], ◌∷◌, ◌++◌, length, replicate}
 use Rattle.jh_env.specs.Cells.{Table}
 use Rattle.jh_env.specs.Overlay.{EnvValue, work_of}
@@ -9,11 +9,13 @@ use Rattle.jh_simnode.specs.declared.settings.Settings.{Settings}
 use Rattle.jh_simnode.specs.declared.replicas.Replica.{Replica}
 use Rattle.jh_simnode.specs.declared.events.Event.{Event}
 use Rattle.jh_simnode.specs.declared.events.WorldError.{WorldError}
-use Rattle.jh_simnode.specs.declared.events.WorldError.TheVariants.{UnknownNode, TooManyEvents, OutOfMemory}
+use Rattle.jh_simnode.specs.declared.events.WorldError.TheVariants.{UnknownNode, TooManyEvents}
+use Rattle.jh_simnode.specs.declared.events.WorldError.TheVariants.{OutOfMemory}
 use Rattle.jh_simnode.specs.Limits.{max_events}
 use Rattle.jh_simnode.specs.Replicas.{first_replica}
 use Rattle.jh_simnode.specs.Reach.{Cells, cells_over}
-use Rattle.jh_simnode.specs.Stores.{serve, replicas_after_tick, dead, replicas_after_kills, version_at}
+use Rattle.jh_simnode.specs.Stores.{reply_to, replicas_after_tick, killed_flags}
+use Rattle.jh_simnode.specs.Stores.{replicas_after_kills, version_at}
 
 -- what a world keeps for good: the nodes, their starting cells, and the settings
 pub record Setup : Type 0 where
@@ -21,7 +23,8 @@ pub record Setup : Type 0 where
   pub start : Table
   pub settings : Settings
 
--- where a world stands: the number of events so far, the faults with their past and future, and the replicas
+-- where a world stands: the number of events so far, the faults with their past and future, and the
+-- replicas
 pub record Moment : Type 0 where
   pub number : ℕ
   pub faults : State
@@ -52,49 +55,60 @@ faults_after s Event.Tick = s
 -- the replicas after an event
 abbrev pub replicas_after : Setup → Moment → Event → List Replica
 replicas_after u m (Event.Call process node request draw reply) =
-    (serve u.settings (env_of m.faults) m.replicas m.number node request draw).replicas
+    (reply_to u.settings (env_of m.faults) m.replicas m.number node request draw).replicas
 replicas_after u m (Event.Step step answer) =
-    replicas_after_kills u.settings (dead (env_of m.faults) (length u.names)) (env_of (state_after m.faults step))
+    replicas_after_kills u.settings (killed_flags (env_of m.faults) (length u.names))
+    (env_of (state_after m.faults step))
     m.replicas
 replicas_after u m Event.Tick = replicas_after_tick u.settings.store (env_of m.faults) m.replicas
 
 -- the moment after an event
-abbrev pub next : Setup → Moment → Event → Moment
-next u m e = record { number = m.number + 1; faults = faults_after m.faults e; replicas = replicas_after u m e }
+abbrev pub moment_after : Setup → Moment → Event → Moment
+moment_after u m e =
+    record {
+      number = m.number
+          + 1;
+      faults = faults_after m.faults e;
+      replicas = replicas_after u m e;
+    }
 
 -- the moment after these events one after another
-abbrev pub after_all : Setup → Moment → List Event → Moment
-after_all u m [] = m
-after_all u m (e ∷ es) = after_all u (next u m e) es
+abbrev pub moment_after_all : Setup → Moment → List Event → Moment
+moment_after_all u m [] = m
+moment_after_all u m (e ∷ es) = moment_after_all u (moment_after u m e) es
 
 -- the moment after a journal
 abbrev pub moment_at : Setup → List Event → Moment
-moment_at u journal = after_all u (opening u) journal
+moment_at u journal = moment_after_all u (opening u) journal
 
 -- the answer or the reply is the one that is due, and the nodes named are there
 abbrev pub IsDue : Setup → Moment → Event → Type 0
 IsDue u m (Event.Call process node request draw reply) =
-    (node < length u.names) × (reply ≡ (serve u.settings (env_of m.faults) m.replicas m.number node request draw).reply)
-IsDue u m (Event.Step step answer) = FitsNodes (length u.names) step × (answer ≡ answer_of m.faults step)
+    (node < length u.names)
+    × (reply ≡ (reply_to u.settings
+    (env_of m.faults) m.replicas m.number node request draw).reply)
+IsDue u m (Event.Step step answer) =
+    FitsNodes (length u.names) step × (answer ≡ answer_of m.faults step)
 IsDue u m Event.Tick = Unit {0}
 
 -- each of these events is the one that is due, one after another
 abbrev pub AreDue : Setup → Moment → List Event → Type 0
 AreDue u m [] = Unit {0}
-AreDue u m (e ∷ es) = IsDue u m e × AreDue u (next u m e) es
+AreDue u m (e ∷ es) = IsDue u m e × AreDue u (moment_after u m e) es
 
 -- each event of the journal is the one that is due at its place
 abbrev pub IsLegal : Setup → List Event → Type 0
 IsLegal u journal = AreDue u (opening u) journal
 
--- what callers see of a world: what it keeps for good, all that happened, and how often its environment was written
+-- what callers see of a world: what it keeps for good, all that happened, and how often its
+-- environment was written
 pub record WorldValue : Type 0 where
   pub setup : Setup
   pub journal : List Event
   pub work : ℕ
 
 -- nothing has happened in the world, over this environment, with these settings
-pub record IsNew (env : EnvValue) (chosen : Settings) (new : WorldValue) : Type 0 where
+pub record IsNewWorld (env : EnvValue) (chosen : Settings) (new : WorldValue) : Type 0 where
   pub journal : new.journal ≡ []
   pub names : new.setup.names ≡ env.names
   pub start : new.setup.start ≡ env.start
@@ -107,7 +121,8 @@ pub record AreTidy (count number : ℕ) (all : List Replica) : Type 0 where
   pub low : (place : ℕ) → version_at all place ≤ number
 
 -- the nemesis and the replicas of a world are those that its journal leads to
-pub record IsWorldOf (u : Setup) (state : State) (all : List Replica) (events : List Event) : Type 0 where
+pub record IsWorldOf (u : Setup) (state : State) (all : List Replica)
+    (events : List Event) : Type 0 where
   pub legal : IsLegal u events
   pub faults : state ≡ (moment_at u events).faults
   pub replicas : all ≡ (moment_at u events).replicas
@@ -115,7 +130,7 @@ pub record IsWorldOf (u : Setup) (state : State) (all : List Replica) (events : 
   pub few : length events ≤ max_events
 
 -- the event is the last, its number is told, and what the world keeps for good stays
-pub record Adds (old : WorldValue) (event : Event) (told : ℕ) (new : WorldValue) : Type 0 where
+pub record AddsEvent (old : WorldValue) (event : Event) (told : ℕ) (new : WorldValue) : Type 0 where
   pub number : told ≡ length old.journal
   pub setup : new.setup ≡ old.setup
   pub journal : new.journal ≡ old.journal ++ event ∷ []

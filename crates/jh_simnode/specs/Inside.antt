@@ -2,21 +2,29 @@
 use Rattle.jh_nemesis.specs.State.{State}
 use Rattle.jh_simnode.specs.declared.settings.Settings.{Settings}
 use Rattle.jh_simnode.specs.Events.{Setup, WorldValue, IsWorldOf}
-use Rattle.jh_simnode.specs.Plans.{PlanValue, IsKept}
+use Rattle.jh_simnode.specs.Plans.{PlanValue, IsKeptPlan}
 use Rattle.jh_simnode.specs.declared.plan.Plan.TheInside as plan
 use Rattle.jh_simnode.specs.declared.world.World.TheInside.{Inside}
 
 -- what a world keeps for good
-abbrev pub setup_of : State → Settings → Setup
-setup_of s settings = record { names = s.names; start = s.start; settings = settings }
+abbrev pub world_setup : State → Settings → Setup
+world_setup s settings = record { names = s.names; start = s.start; settings = settings }
 
 -- what callers see of what a world is made of
 abbrev pub world_of : Inside → WorldValue
-world_of a = record { setup = setup_of a.nemesis.state a.settings; journal = a.journal.items; work = a.nemesis.work }
+world_of a =
+    record {
+      setup = world_setup a.nemesis.state a.settings;
+      journal = a.journal.items;
+      work =
+          a.nemesis.work;
+    }
 
 -- what holds of every world
-abbrev pub IsSound : Inside → Type 0
-IsSound a = IsWorldOf (setup_of a.nemesis.state a.settings) a.nemesis.state a.replicas.items a.journal.items
+abbrev pub IsSoundWorld : Inside → Type 0
+IsSoundWorld a =
+    IsWorldOf (world_setup a.nemesis.state a.settings) a.nemesis.state a.replicas.items
+    a.journal.items
 
 -- what callers see of what a plan is made of
 abbrev pub plan_of : plan.Inside → PlanValue
@@ -34,4 +42,4 @@ plan_of a = record {
 
 -- what holds of every plan, as it is made
 abbrev pub IsKeptInside : plan.Inside → Type 0
-IsKeptInside a = IsKept (plan_of a)
+IsKeptInside a = IsKeptPlan (plan_of a)

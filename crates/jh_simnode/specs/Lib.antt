@@ -3,7 +3,7 @@ pub mod Replicas
 pub mod Effects
 pub mod Reach
 pub mod Stores
-pub mod Outcomes
+pub mod TakingInside
 pub mod Events
 pub mod Plans
 pub mod Counts

@@ -1,21 +1,22 @@
 -- What the plan of a run says, and which plans can be run (this project's own).
-use Rattle.std.specs.Prelude.{◌≡◌, ℕ, ◌≤◌, ℤ, Bool, true, List, [], length, All, Option}
+use Rattle.std.specs.Prelude.{◌≡◌, ℕ, ◌≤◌, true, List, [], length, All}
 use Rattle.jh_env.specs.Overlay.{EnvValue, StandsFor}
 use Rattle.jh_nemesis.specs.Steps.{FitsNodes}
-use Rattle.jh_ops.specs.declared.call.Workload.{Workload}
-use Rattle.jh_ops.specs.declared.call.Workload.TheVariants.{Set}
 use Rattle.jh_gen.specs.Generator.{Generator}
 use Rattle.jh_gen.specs.Suits.{suits}
+use Rattle.jh_gen.specs.View.{generator_of}
+use Rattle.jh_ops.specs.Requests.{max_calls_of}
 use Rattle.jh_simnode.specs.declared.settings.Settings.{Settings}
-use Rattle.jh_simnode.specs.declared.settings.Store.{Store}
 use Rattle.jh_simnode.specs.declared.schedule.Entry.{Entry}
 use Rattle.jh_simnode.specs.Limits.{max_entries, max_rows}
+use Rattle.jh_simnode.specs.declared.plan.PlanData.{PlanData}
 use Rattle.jh_simnode.specs.declared.plan.PlanError.{PlanError}
-use Rattle.jh_simnode.specs.declared.plan.PlanError.TheVariants.{BadClients, BadOps, BadRows, BadGenerator, BadStep, OutOfMemory}
+use Rattle.jh_simnode.specs.declared.plan.PlanError.TheVariants.{BadClients, BadOps, BadRows}
+use Rattle.jh_simnode.specs.declared.plan.PlanError.TheVariants.{BadGenerator, BadStep, OutOfMemory}
 
--- an environment at its start, the store with its workload, so many client threads that make so many calls of a
--- generator, the steps of the nemesis, after how many of its calls a thread ticks, the rows of the log of a run on
--- threads, and the seed of the words
+-- an environment at its start, the store with its workload, so many client threads that make so
+-- many calls of a generator, the steps of the nemesis, after how many of its calls a thread ticks,
+-- the rows of the log of a run on threads, and the seed of the random numbers
 pub record PlanValue : Type 0 where
   pub env : EnvValue
   pub settings : Settings
@@ -27,45 +28,32 @@ pub record PlanValue : Type 0 where
   pub rows : ℕ
   pub seed : ℕ
 
--- the plan of these parts, in the order in which a plan is made
-abbrev pub plan : EnvValue → Store → Bool → Workload → Option ℤ → ℕ → ℕ → Generator → List Entry → ℕ → ℕ → ℕ
-    → PlanValue
-plan env store volatile workload initial clients ops generator schedule tick_every rows seed =
+-- the plan that is made of this data
+abbrev pub plan_of_data : PlanData → PlanValue
+plan_of_data fields =
     record {
-      env = env;
-      settings = record { store = store; volatile = volatile; workload = workload; initial = initial };
-      clients = clients;
-      ops = ops;
-      generator = generator;
-      schedule = schedule;
-      tick_every = tick_every;
-      rows = rows;
-      seed = seed;
+      env = fields.environment;
+      settings = fields.settings;
+      clients = fields.clients;
+      ops = fields.ops;
+      generator = generator_of fields.generator;
+      schedule = fields.schedule;
+      tick_every = fields.tick_every;
+      rows = fields.rows;
+      seed = fields.seed;
     }
 
 -- the plan with another schedule, all else being the same
-abbrev pub with_schedule : PlanValue → List Entry → PlanValue
-with_schedule p schedule =
-    plan p.env p.settings.store p.settings.volatile p.settings.workload p.settings.initial p.clients p.ops p.generator
-    schedule p.tick_every p.rows p.seed
-
--- a plan of those parts for which one can be refused
-abbrev pub judged : EnvValue → Settings → ℕ → ℕ → Generator → List Entry → ℕ → PlanValue
-judged env settings clients ops generator schedule rows =
-    plan env settings.store settings.volatile settings.workload settings.initial clients ops generator schedule 0 rows 0
+abbrev pub plan_with_schedule : PlanValue → List Entry → PlanValue
+plan_with_schedule p schedule = record p { schedule = schedule }
 
 -- from 1 to 16 client threads
 abbrev pub HasClients : PlanValue → Type 0
 HasClients p = (1 ≤ p.clients) × (p.clients ≤ 16)
 
--- how many calls a run of a workload may make; a read of a set tells all its elements
-abbrev pub max_ops : Workload → ℕ
-max_ops Set = 1000
-max_ops _ = 10000
-
 -- how many calls are allowed
 abbrev pub HasOps : PlanValue → Type 0
-HasOps p = (1 ≤ p.ops) × (p.ops ≤ max_ops p.settings.workload)
+HasOps p = (1 ≤ p.ops) × (p.ops ≤ max_calls_of p.settings.workload)
 
 -- how many rows are allowed
 abbrev pub HasRows : PlanValue → Type 0
@@ -98,12 +86,12 @@ RefusesPlan p OutOfMemory = IsFit p
 
 -- why a plan takes no other schedule; its other parts are right
 abbrev pub RefusesSchedule : PlanValue → List Entry → PlanError → Type 0
-RefusesSchedule p schedule BadStep = HasSteps (with_schedule p schedule) → ⊥
-RefusesSchedule p schedule OutOfMemory = HasSteps (with_schedule p schedule)
+RefusesSchedule p schedule BadStep = HasSteps (plan_with_schedule p schedule) → ⊥
+RefusesSchedule p schedule OutOfMemory = HasSteps (plan_with_schedule p schedule)
 RefusesSchedule p schedule _ = ⊥
 
 -- what holds of every plan
-pub record IsKept (p : PlanValue) : Type 0 where
+pub record IsKeptPlan (p : PlanValue) : Type 0 where
   pub fit : IsFit p
   pub calm : StandsFor p.env []
   pub few : length p.schedule ≤ max_entries

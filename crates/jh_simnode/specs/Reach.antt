@@ -1,5 +1,6 @@
 -- Whom a call of a node reaches, and whom it hears in time (this project's own).
-use Rattle.std.specs.Prelude.{ℕ, zero, suc, ◌+◌, ◌%◌, ◌==◌, ◌&&◌, ◌||◌, Bool, true, false, not, List, [], ◌∷◌, ◌++◌, Option, Some, None, nat_le, filter, option_map}
+use Rattle.std.specs.Prelude.{ℕ, zero, suc, ◌+◌, ◌%◌, ◌==◌, ◌&&◌, ◌||◌, Bool, true, false, not}
+use Rattle.std.specs.Prelude.{List, [], ◌∷◌, ◌++◌, Option, Some, None, nat_le, filter, option_map}
 use Rattle.jh_env.specs.Cells.{Life}
 use Rattle.jh_env.specs.Cells.{Running, Paused, Killed}
 use Rattle.jh_env.specs.Cells.{Link}
@@ -8,14 +9,15 @@ use Rattle.jh_env.specs.Faults.{FaultValue}
 use Rattle.jh_env.specs.Cells.{Table, link_at, node_at}
 use Rattle.jh_env.specs.Overlay.{EnvValue, link_over, node_over}
 
--- an environment as a client meets it: the link between two places, and the node at a place, where there is one
+-- an environment as a client meets it: the link between two places, and the node at a place, where
+-- there is one
 pub record Cells : Type 0 where
   pub link : ℕ → ℕ → Option Link
   pub node : ℕ → Option NodeCell
 
 -- an environment as it is now
-abbrev pub cells_of : EnvValue → Cells
-cells_of env = record { link = link_at env.cells; node = node_at env.cells }
+abbrev pub env_cells : EnvValue → Cells
+env_cells env = record { link = link_at env.cells; node = node_at env.cells }
 
 -- what faults make of starting cells
 abbrev pub cells_over : Table → List FaultValue → Cells
@@ -37,14 +39,14 @@ is_dead Paused = false
 is_dead Killed = true
 
 -- there is such a node, and it runs
-abbrev pub runs : Option NodeCell → Bool
-runs None = false
-runs (Some n) = is_running n.process
+abbrev pub is_node_running : Option NodeCell → Bool
+is_node_running None = false
+is_node_running (Some n) = is_running n.process
 
 -- there is such a node, and it is killed
-abbrev pub is_killed : Option NodeCell → Bool
-is_killed None = false
-is_killed (Some n) = is_dead n.process
+abbrev pub is_node_killed : Option NodeCell → Bool
+is_node_killed None = false
+is_node_killed (Some n) = is_dead n.process
 
 -- the link is there, uncut, and doesn't lose a call of this draw
 abbrev pub carries : ℕ → Option Link → Bool
@@ -57,15 +59,16 @@ delay_of None = 0
 delay_of (Some l) = l.delay
 
 -- the places below a number, in order
-abbrev pub places : ℕ → List ℕ
-places zero = []
-places (suc n) = places n ++ n ∷ []
+abbrev pub ordered_places : ℕ → List ℕ
+ordered_places zero = []
+ordered_places (suc n) = ordered_places n ++ n ∷ []
 
 -- a call of a node reaches another, and its answer comes back
 abbrev pub is_reached : Cells → ℕ → ℕ → ℕ → Bool
 is_reached env draw node other =
     (other == node)
-    || (runs (env.node other) && (carries draw (env.link node other) && carries draw (env.link other node)))
+    || (is_node_running (env.node other)
+    && (carries draw (env.link node other) && carries draw (env.link other node)))
 
 -- it comes back in time
 abbrev pub is_timely : Cells → ℕ → ℕ → Bool
@@ -74,7 +77,7 @@ is_timely env node other =
 
 -- the nodes, of so many, that a call of a node reaches, and those that respond in time
 abbrev pub reached_nodes : Cells → ℕ → ℕ → ℕ → List ℕ
-reached_nodes env count draw node = filter (is_reached env draw node) (places count)
+reached_nodes env count draw node = filter (is_reached env draw node) (ordered_places count)
 
 abbrev pub responding_nodes : Cells → ℕ → List ℕ → List ℕ
 responding_nodes env node reached = filter (is_timely env node) reached

@@ -3,7 +3,8 @@ use Rattle.std.specs.Prelude.{ℕ, List, All, ⊤}
 use Rattle.jh_nemesis.specs.Steps.{FitsNodes}
 use Rattle.jh_simnode.specs.declared.events.Event.{Event}
 use Rattle.jh_simnode.specs.declared.events.WorldError.{WorldError}
-use Rattle.jh_simnode.specs.declared.events.WorldError.TheVariants.{UnknownNode, TooManyEvents, OutOfMemory}
+use Rattle.jh_simnode.specs.declared.events.WorldError.TheVariants.{UnknownNode, TooManyEvents}
+use Rattle.jh_simnode.specs.declared.events.WorldError.TheVariants.{OutOfMemory}
 
 -- each node that an event's fault names is one of so many
 abbrev pub FitsEvent : ℕ → Event → Type 0

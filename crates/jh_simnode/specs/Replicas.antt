@@ -1,5 +1,7 @@
--- What a node keeps of the database: a mark that says how new it is, and the contents (this project's own).
-use Rattle.std.specs.Prelude.{ℕ, ℤ, pos, ◌&&◌, ◌||◌, Bool, true, false, List, [], Option, Some, None, nat_lt, int_lt, slice_index_or}
+-- What a node keeps of the database: a mark that says how new it is, and the contents (this
+-- project's own).
+use Rattle.std.specs.Prelude.{ℕ, ℤ, pos, ◌&&◌, ◌||◌, Bool, true, false, List, [], Option, Some}
+use Rattle.std.specs.Prelude.{None, nat_lt, int_lt, slice_index_or}
 use Rattle.std.specs.Ordering.{int_eq}
 use Rattle.jh_ops.specs.declared.call.Workload.{Workload}
 use Rattle.jh_ops.specs.declared.call.Workload.TheVariants.{Register, Counter, Set, Ids}
@@ -45,12 +47,13 @@ is_lower First (Stamp at place) = true
 is_lower (Version v) m = false
 is_lower (Stamp at place) First = false
 is_lower (Stamp at place) (Version v) = false
-is_lower (Stamp at place) (Stamp at' place') = int_lt at at' || (int_eq at at' && nat_lt place place')
+is_lower (Stamp at place) (Stamp at' place') =
+    int_lt at at' || (int_eq at at' && nat_lt place place')
 
 -- what stands for the replica of a place that isn't there
-abbrev pub blank : Replica
-blank = record { mark = First; contents = One None }
+abbrev pub blank_replica : Replica
+blank_replica = record { mark = First; contents = One None }
 
 -- the replica of the node at a place
 abbrev pub replica_at : List Replica → ℕ → Replica
-replica_at replicas place = slice_index_or replicas place blank
+replica_at replicas place = slice_index_or replicas place blank_replica

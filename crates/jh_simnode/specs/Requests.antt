@@ -12,9 +12,9 @@ only_asks (Add v) = false
 only_asks Generate = true
 
 -- it reads
-abbrev pub is_read : Request → Bool
-is_read Read = true
-is_read (Write v) = false
-is_read (Cas a b) = false
-is_read (Add v) = false
-is_read Generate = false
+abbrev pub is_read_request : Request → Bool
+is_read_request Read = true
+is_read_request (Write v) = false
+is_read_request (Cas a b) = false
+is_read_request (Add v) = false
+is_read_request Generate = false

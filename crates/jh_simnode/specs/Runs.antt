@@ -1,9 +1,11 @@
--- What a serial run is: the calls of a generator, the steps of a schedule and the ticks of a store, one after the
--- other (jepsen.generator: threads ask for operations, and a thread whose process crashed goes on as another; turns,
--- words, when a step is due and ticks are this project's own).
+-- What a serial run is: the calls of a generator, the steps of a schedule and the ticks of a store,
+-- one after the other (jepsen.generator: threads ask for operations, and a thread whose process
+-- crashed goes on as another; turns, words, when a step is due and ticks are this project's own).
 --
 -- Nothing here computes a reply or an answer: that the journal is legal says what they are.
-use Rattle.std.specs.Prelude.{◌≡◌, ℕ, zero, suc, ◌+◌, ◌%◌, ◌≤◌, ◌==◌, ◌||◌, ◌&&◌, not, Bool, true, false, List, [], ◌∷◌, ◌++◌, length, nat_le, Option, Some, None, slice_get, replicate, if◌then◌else◌}
+use Rattle.std.specs.Prelude.{◌≡◌, ℕ, zero, suc, ◌+◌, ◌%◌, ◌≤◌, ◌==◌, ◌||◌, ◌&&◌, not, Bool, true}
+use Rattle.std.specs.Prelude.{false, List, [], ◌∷◌, ◌++◌, length, nat_le, Option, Some, None}
+use Rattle.std.specs.Prelude.{slice_get, replicate, if◌then◌else◌}
 use Rattle.rand_pcg.specs.Lcg.{Lcg, started, increment_of}
 use Rattle.rand_pcg.specs.Pcg.{pcg64, multiplier_128}
 use Rattle.jh_ops.specs.declared.call.Call.TheVariants as call
@@ -12,7 +14,7 @@ use Rattle.jh_ops.specs.Operation.{Operation}
 use Rattle.jh_gen.specs.Generator.{Generator, limit, clients}
 use Rattle.jh_gen.specs.Tally.{Path, Tally}
 use Rattle.jh_gen.specs.Scope.{Question}
-use Rattle.jh_gen.specs.Offers.{spent, offer, Offer}
+use Rattle.jh_gen.specs.Offers.{is_exhausted, offer, Offer}
 use Rattle.jh_gen.specs.DriverState.{all_seats}
 use Rattle.jh_nemesis.specs.declared.steps.StepAnswer.{StepAnswer}
 use Rattle.jh_simnode.specs.declared.replicas.Reply.{Reply}
@@ -21,9 +23,10 @@ use Rattle.jh_simnode.specs.declared.events.WorldError.TheVariants as world
 use Rattle.jh_simnode.specs.declared.schedule.Entry.{Entry}
 use Rattle.jh_simnode.specs.declared.serial.RunError.{RunError}
 use Rattle.jh_simnode.specs.declared.serial.RunError.TheVariants as error
-use Rattle.jh_simnode.specs.Counts.{answered, applied, calls_by, process_after, last}
+use Rattle.jh_simnode.specs.Counts.{answered_count, applied_count, calls_by, process_after}
+use Rattle.jh_simnode.specs.Counts.{last_event}
 use Rattle.jh_simnode.specs.Events.{Setup, IsLegal}
-use Rattle.jh_simnode.specs.Histories.{history_of}
+use Rattle.jh_simnode.specs.Histories.{journal_history}
 use Rattle.jh_simnode.specs.Plans.{PlanValue}
 
 -- the world of a plan
@@ -35,16 +38,16 @@ abbrev pub run_generator : PlanValue → Generator
 run_generator p = clients (limit p.ops p.generator)
 
 -- the source of words that a seed makes (O'Neill's PCG XSL RR 128/64), after so many words
-unfoldable pub words_after : ℕ → ℕ → Lcg
-words_after seed zero = started 128 multiplier_128 seed (increment_of 128 0)
-words_after seed (suc n) = (pcg64 (words_after seed n)).1
+unfoldable pub random_numbers_after : ℕ → ℕ → Lcg
+random_numbers_after seed zero = started 128 multiplier_128 seed (increment_of 128 0)
+random_numbers_after seed (suc n) = (pcg64 (random_numbers_after seed n)).1
 
--- the word with this number, from 0
-abbrev pub word : ℕ → ℕ → ℕ
-word seed n = (pcg64 (words_after seed n)).0
+-- the random number with this index, from 0
+abbrev pub random_number_at : ℕ → ℕ → ℕ
+random_number_at seed n = (pcg64 (random_numbers_after seed n)).0
 
--- Where the turns of a run stand, beside its journal: the calls that the generator gave, how many asks were made, how
--- many of the last ones got nothing, and whether the calls have ended.
+-- Where the turns of a run stand, beside its journal: the calls that the generator gave, how many
+-- asks were made, how many of the last ones got nothing, and whether the calls have ended.
 pub record Turns : Type 0 where
   pub tally : Tally
   pub asks : ℕ
@@ -59,15 +62,15 @@ first_turns = record { tally = []; asks = 0; waits = 0; has_ended = false }
 abbrev pub thread_of : PlanValue → Turns → ℕ
 thread_of p r = r.asks % p.clients
 
--- Each ask takes a word, and each call one more.
-abbrev pub words_taken : Turns → List Event → ℕ
-words_taken r journal = r.asks + answered journal
+-- Each ask takes a random number, and each call one more.
+abbrev pub numbers_taken : Turns → List Event → ℕ
+numbers_taken r journal = r.asks + answered_count journal
 
 -- nobody has an operation outstanding
-abbrev pub question : PlanValue → Turns → List Event → Question
-question p r journal = record {
+abbrev pub turn_question : PlanValue → Turns → List Event → Question
+turn_question p r journal = record {
   seat = thread_of p r + 1;
-  word = word p.seed (words_taken r journal);
+  random_number = random_number_at p.seed (numbers_taken r journal);
   busy = replicate (p.clients + 1) false;
 }
 
@@ -92,10 +95,10 @@ ticks_after p journal (Some (Event.Call process node request draw reply)) =
 ticks_after p journal (Some (Event.Step step answer)) = false
 ticks_after p journal (Some Event.Tick) = false
 
--- An entry is due once those before it were applied and as many calls were answered as it says, or the calls have
--- ended.
+-- An entry is due once those before it were applied and as many calls were answered as it says, or
+-- the calls have ended.
 abbrev pub is_due : Turns → List Event → Entry → Bool
-is_due r journal entry = r.has_ended || nat_le entry.at (answered journal)
+is_due r journal entry = r.has_ended || nat_le entry.at (answered_count journal)
 
 -- the move of an offer; the generator of a plan has no calls of the nemesis
 abbrev pub move_offered : Offer → Move
@@ -106,49 +109,55 @@ move_offered (Some (path, call.Step entry)) = Ends
 -- the move of the thread whose turn it is
 abbrev pub ask_move : PlanValue → Turns → List Event → Move
 ask_move p r journal =
-    if spent (run_generator p) r.tally (all_seats p.clients) then Ends
-    else move_offered (offer (run_generator p) r.tally (all_seats p.clients) (question p r journal))
+    if is_exhausted (run_generator p) r.tally (all_seats p.clients) then Ends
+    else move_offered
+    (offer (run_generator p) r.tally (all_seats p.clients) (turn_question p r journal))
 
 -- the calls have ended, or each thread in a round got nothing
 abbrev pub turn_move : PlanValue → Turns → List Event → Move
-turn_move p r journal = if r.has_ended || nat_le p.clients r.waits then Rests else ask_move p r journal
+turn_move p r journal =
+    if r.has_ended || nat_le p.clients r.waits then Rests else ask_move p r journal
 
 -- the next entry if it is due, else the next turn
 abbrev pub entry_move : PlanValue → Turns → List Event → Option Entry → Move
 entry_move p r journal None = turn_move p r journal
-entry_move p r journal (Some entry) = if is_due r journal entry then Applies entry else turn_move p r journal
+entry_move p r journal (Some entry) =
+    if is_due r journal entry then Applies entry else turn_move p r journal
 
 -- a tick that is due, then an entry that is due, then the next ask
 abbrev pub move_of : PlanValue → Turns → List Event → Move
 move_of p r journal =
-    if ticks_after p journal (last journal) then Ticks
-    else entry_move p r journal (slice_get p.schedule (applied journal))
+    if ticks_after p journal (last_event journal) then Ticks
+    else entry_move p r journal (slice_get p.schedule (applied_count journal))
 
 -- the turns after an ask that got nothing, after a call by this path, and after the end
-abbrev pub waited : Turns → Turns
-waited r = record r { asks = r.asks + 1; waits = r.waits + 1 }
+abbrev pub turns_after_wait : Turns → Turns
+turns_after_wait r = record r { asks = r.asks + 1; waits = r.waits + 1 }
 
-abbrev pub called : Turns → Path → Turns
-called r path = record r { tally = path ∷ r.tally; asks = r.asks + 1; waits = 0 }
+abbrev pub turns_after_call : Turns → Path → Turns
+turns_after_call r path = record r { tally = path ∷ r.tally; asks = r.asks + 1; waits = 0 }
 
-abbrev pub ended : Turns → Turns
-ended r = record r { asks = r.asks + 1; has_ended = true }
+abbrev pub turns_after_end : Turns → Turns
+turns_after_end r = record r { asks = r.asks + 1; has_ended = true }
 
--- the event of a thread's call: of the node at the thread's number, around, with the next word as its draw
+-- the event of a thread's call: of the node at the thread's number, around, with the next random
+-- number as its draw
 abbrev pub call_event : PlanValue → Turns → List Event → Request → Reply → Event
 call_event p r journal request reply =
-    Event.Call (process_after p.clients (thread_of p r) journal) (thread_of p r % length p.env.names) request
-    (word p.seed (words_taken r journal + 1)) reply
+    Event.Call (process_after p.clients (thread_of p r) journal)
+    (thread_of p r % length p.env.names) request
+    (random_number_at p.seed (numbers_taken r journal + 1)) reply
 
 -- what comes of a move
 abbrev pub Comes : PlanValue → Turns → List Event → Turns → List Event → Move → Type 0
 Comes p r journal r' journal' Ticks = (r' ≡ r) × (journal' ≡ journal ++ Event.Tick ∷ [])
 Comes p r journal r' journal' (Applies entry) =
     (r' ≡ r) × ((answer : StepAnswer) × (journal' ≡ journal ++ Event.Step entry.step answer ∷ []))
-Comes p r journal r' journal' Waits = (r' ≡ waited r) × (journal' ≡ journal)
+Comes p r journal r' journal' Waits = (r' ≡ turns_after_wait r) × (journal' ≡ journal)
 Comes p r journal r' journal' (Calls path request) =
-    (r' ≡ called r path) × ((reply : Reply) × (journal' ≡ journal ++ call_event p r journal request reply ∷ []))
-Comes p r journal r' journal' Ends = (r' ≡ ended r) × (journal' ≡ journal)
+    (r' ≡ turns_after_call r path)
+    × ((reply : Reply) × (journal' ≡ journal ++ call_event p r journal request reply ∷ []))
+Comes p r journal r' journal' Ends = (r' ≡ turns_after_end r) × (journal' ≡ journal)
 Comes p r journal r' journal' Rests = ⊥
 
 -- so many moves lead to there
@@ -159,31 +168,35 @@ Reaches p (suc n) r' journal' =
     × (Reaches p n r journal × Comes p r journal r' journal' (move_of p r journal)))
 
 -- the turns and the journal to which some moves may lead
-abbrev pub Runs : PlanValue → Turns → List Event → Type 0
-Runs p r journal = (moves : ℕ) × Reaches p moves r journal
+abbrev pub IsReachable : PlanValue → Turns → List Event → Type 0
+IsReachable p r journal = (moves : ℕ) × Reaches p moves r journal
 
 -- where the turns and the journal of a run have come to
-pub record Reached (p : PlanValue) (r : Turns) (journal : List Event) : Type 0 where
-  pub run : Runs p r journal
+pub record RunReaches (p : PlanValue) (r : Turns) (journal : List Event) : Type 0 where
+  pub run : IsReachable p r journal
   pub legal : IsLegal (setup_of p) journal
 
 -- a whole serial run: its calls have ended, no move is left, and its history is that of its journal
-pub record Serial (p : PlanValue) (journal : List Event) (history : List Operation) : Type 0 where
+pub record IsSerialRun (p : PlanValue) (journal : List Event)
+    (history : List Operation) : Type 0 where
   pub turns : Turns
-  pub reached : Reached p turns journal
+  pub reached : RunReaches p turns journal
   pub ended : turns.has_ended ≡ true
   pub over : move_of p turns journal ≡ Rests
-  pub told : history ≡ history_of journal
+  pub told : history ≡ journal_history journal
 
--- why a run of a plan is not completed: no thread got a call in a whole round, or memory was refused
+-- why a run of a plan is not completed: no thread got a call in a whole round, or memory was
+-- refused
 abbrev pub Stops : PlanValue → RunError → Type 0
-Stops p error.Stuck = (r : Turns) × (journal : List Event) × Reached p r journal × (p.clients ≤ r.waits)
+Stops p error.Stuck =
+    (r : Turns) × (journal : List Event) × RunReaches p r journal × (p.clients ≤ r.waits)
 Stops p error.OutOfMemory = Unit {0}
 Stops p (error.World world.OutOfMemory) = Unit {0}
 Stops p (error.World refusal) = ⊥
 
 -- a plan has one run and one history at most
-abbrev pub OneRun : Type 0
-OneRun =
-    (p : PlanValue) (ja jb : List Event) (ha hb : List Operation) → Serial p ja ha → Serial p jb hb
+abbrev pub HasOneRun : Type 0
+HasOneRun =
+    (p : PlanValue) (ja jb : List Event) (ha hb : List Operation) → IsSerialRun p ja ha
+    → IsSerialRun p jb hb
     → (ja ≡ jb) × (ha ≡ hb)

@@ -1,7 +1,9 @@
 //! What a request does to the contents of a replica. `specs/Effects.antt` has the rule.
 
-ghost use Rattle.std.specs.Prelude.{◌≡◌, ◌≤◌, Some, None, ℤ, List, IfOk, MatchOption, length, take, drop, ◌++◌, ◌∷◌};
-ghost use Rattle.jh_simnode.specs.Effects.{effect, wrote, put_in, after_cas, after_add, after_generate};
+ghost use Rattle.std.specs.Prelude.{◌≡◌, ◌≤◌, Some, None, IfOk, MatchOption, length, take, drop};
+ghost use Rattle.std.specs.Prelude.{◌++◌, ◌∷◌};
+ghost use Rattle.jh_simnode.specs.Effects.{effect, written_change, numbers_with, cas_change};
+ghost use Rattle.jh_simnode.specs.Effects.{add_change, generate_change};
 ghost use Rattle.jh_ops.specs.declared.call.Request.TheVariants.{Read, Write, Cas, Add, Generate};
 
 use crate::replicas::{Contents, Got, Numbers};
@@ -17,9 +19,10 @@ pub(crate) struct Change {
 
 /// The place of a number among ascending ones, where it is not one of them.
 fn place_of_new(numbers: &[i64], value: i64) -> Option<usize>
-    ensures { MatchOption result (put_in value numbers.now ≡ numbers.now)
+    ensures { MatchOption result (numbers_with value numbers.now ≡ numbers.now)
         (λ place. (place ≤ length numbers.now)
-        × (take place numbers.now ++ value ∷ drop place numbers.now ≡ put_in value numbers.now)) }
+        × (take place numbers.now ++ value
+        ∷ drop place numbers.now ≡ numbers_with value numbers.now)) }
 {
     let mut place = 0;
     for number in numbers {
@@ -33,7 +36,7 @@ fn place_of_new(numbers: &[i64], value: i64) -> Option<usize>
 
 /// The number at its place among ascending numbers, once.
 fn put_in(alloc: Global, numbers: &Numbers, value: i64) -> Result<Numbers, AllocError>
-    ensures { IfOk result (λ all. all ≡ put_in value numbers.now) }
+    ensures { IfOk result (λ all. all ≡ numbers_with value numbers.now) }
 {
     let mut all = numbers.copy(alloc)?;
     if let Some(place) = place_of_new(numbers.as_slice(), value) {
@@ -44,7 +47,7 @@ fn put_in(alloc: Global, numbers: &Numbers, value: i64) -> Result<Numbers, Alloc
 
 /// A change that got nothing.
 fn wrote(after: Contents) -> Option<Change>
-    ensures { result ≡ wrote after }
+    ensures { result ≡ written_change after }
 {
     Some(Change {
         got: Got::Nothing,
@@ -54,7 +57,7 @@ fn wrote(after: Contents) -> Option<Change>
 
 /// What a compare-and-set makes of a register.
 fn cas(from: i64, to: i64, value: Option<i64>) -> Option<Change>
-    ensures { result ≡ after_cas from to value }
+    ensures { result ≡ cas_change from to value }
 {
     match value {
         Some(current) => {
@@ -70,7 +73,7 @@ fn cas(from: i64, to: i64, value: Option<i64>) -> Option<Change>
 
 /// What an addition makes of a counter.
 fn add(amount: i64, value: Option<i64>) -> Option<Change>
-    ensures { result ≡ after_add amount value }
+    ensures { result ≡ add_change amount value }
 {
     match value {
         Some(current) => match current.checked_add(amount) {
@@ -83,7 +86,7 @@ fn add(amount: i64, value: Option<i64>) -> Option<Change>
 
 /// What the next number makes of the numbers that are left.
 fn generate(value: Option<i64>) -> Option<Change>
-    ensures { result ≡ after_generate value }
+    ensures { result ≡ generate_change value }
 {
     match value {
         Some(current) => match current.checked_add(1) {

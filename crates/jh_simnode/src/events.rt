@@ -1,4 +1,5 @@
-//! What happens in a world, and why a world refuses it. `specs/Events.antt` says which events are due.
+//! What happens in a world, and why a world refuses it. `specs/Events.antt` says which events are
+//! due.
 
 ghost use Rattle.std.specs.Prelude.{◌≡◌, ◌↔◌, length, IfOk, IsTrue};
 ghost use Rattle.jh_nemesis.specs.Steps.{FitsNodes};

@@ -1,29 +1,28 @@
 //! The history that the journal of a run tells. `specs/Histories.antt` has the rule.
 
-ghost use Rattle.std.specs.Prelude.{◌≡◌, ◌≤◌, ◌<◌, ◌+◌, ◌*◌, ◌^◌, ◌++◌, ◌∷◌, [], length, IfOk, OnOk, pos};
+ghost use Rattle.std.specs.Prelude.{◌≡◌, ◌≤◌, ◌<◌, ◌+◌, ◌*◌, ◌^◌, ◌++◌, ◌∷◌, [], length, IfOk};
+ghost use Rattle.std.specs.Prelude.{OnOk, pos};
 ghost use Rattle.jh_edn.specs.Edn.{keyword};
 ghost use Rattle.jh_edn.specs.View.{view};
 ghost use Rattle.jh_ops.specs.Operation.{operation, operations};
-ghost use Rattle.jh_ops.specs.Words.{Several, content_value, event_part};
+ghost use Rattle.jh_ops.specs.Words.{Several, content_value, pairs_of_event};
 ghost use Rattle.jh_simnode.specs.Histories as rule;
 ghost use Rattle.jh_simnode.specs.Limits.{max_events};
-ghost use Rattle.jh_simnode.specs.Histories.{answered_by, asked_with, at_place, begun, completed, invoked, replied_with, told_with};
+ghost use Rattle.jh_simnode.specs.Histories.{placed_entry_completion, asked_content};
+ghost use Rattle.jh_simnode.specs.Histories.{placed_operation, placed_entry_invocation};
+ghost use Rattle.jh_simnode.specs.Histories.{placed_completion, placed_invocation, replied_content};
+ghost use Rattle.jh_simnode.specs.Histories.{got_content};
 
 use crate::events::Event;
 use crate::replicas::{Got, Reply};
-use jh_edn::{Pairs, Text, Value, Values};
+use jh_edn::{Pairs, Value, Values};
 use jh_nemesis::StepAnswer;
 use jh_ops::{Kind, Op, Process, Request};
 use std::alloc::{AllocError, Global};
 
-fn keyword(alloc: Global, name: &str) -> Result<Value, AllocError>
-    ensures { IfOk result (λ value. view value ≡ keyword name.now) }
-{
-    Ok(Value::Keyword(Text::of(alloc, name)?))
-}
-
-fn name_of(request: Request) -> &'static str
-    ensures { result.now ≡ rule.name_of request }
+/// The name by which a request is recorded, under `:f`.
+fn request_name(request: Request) -> &'static str
+    ensures { result.now ≡ rule.request_name request }
 {
     match request {
         Request::Read => "read",
@@ -35,8 +34,8 @@ fn name_of(request: Request) -> &'static str
 }
 
 /// How a completion with this reply is recorded.
-pub fn kind_of(reply: &Reply) -> Kind
-    ensures { result ≡ rule.kind_of reply.now }
+pub fn completion_kind(reply: &Reply) -> Kind
+    ensures { result ≡ rule.completion_kind reply.now }
 {
     match reply {
         Reply::Ok(_) => Kind::Ok,
@@ -61,6 +60,7 @@ pub fn code_of(answer: StepAnswer) -> i64
     }
 }
 
+/// The vector of these numbers.
 fn vector_of(alloc: Global, numbers: &[i64]) -> Result<Value, AllocError>
     ensures { IfOk result (λ value. view value ≡ content_value (Several numbers.now)) }
 {
@@ -73,7 +73,7 @@ fn vector_of(alloc: Global, numbers: &[i64]) -> Result<Value, AllocError>
 
 /// The value that a request asks with.
 fn value_asked(alloc: Global, request: Request) -> Result<Value, AllocError>
-    ensures { IfOk result (λ value. view value ≡ content_value (asked_with request)) }
+    ensures { IfOk result (λ value. view value ≡ content_value (asked_content request)) }
 {
     match request {
         Request::Read | Request::Generate => Ok(Value::Nil),
@@ -85,7 +85,7 @@ fn value_asked(alloc: Global, request: Request) -> Result<Value, AllocError>
 
 /// The value that is told of a request that was done.
 fn value_got(alloc: Global, request: Request, got: &Got) -> Result<Value, AllocError>
-    ensures { IfOk result (λ value. view value ≡ content_value (told_with request got.now)) }
+    ensures { IfOk result (λ value. view value ≡ content_value (got_content request got.now)) }
 {
     match got {
         Got::Nothing => value_asked(alloc, request),
@@ -95,8 +95,10 @@ fn value_got(alloc: Global, request: Request, got: &Got) -> Result<Value, AllocE
     }
 }
 
+/// The value of the completion of a request with this reply.
 fn value_replied(alloc: Global, request: Request, reply: &Reply) -> Result<Value, AllocError>
-    ensures { IfOk result (λ value. view value ≡ content_value (replied_with request reply.now)) }
+    ensures { IfOk result
+        (λ value. view value ≡ content_value (replied_content request reply.now)) }
 {
     match reply {
         Reply::Ok(got) => value_got(alloc, request, got),
@@ -104,13 +106,15 @@ fn value_replied(alloc: Global, request: Request, reply: &Reply) -> Result<Value
     }
 }
 
+/// The pair of `:event` with the number of the event that an operation names, or no pair where it
+/// names none.
 fn event_pairs(alloc: Global, event: Option<u64>) -> Result<Pairs, AllocError>
     requires { rule.HasSmallEvent event }
-    ensures { IfOk result (λ pairs. pairs ≡ event_part event) }
+    ensures { IfOk result (λ pairs. pairs ≡ pairs_of_event event) }
 {
     let mut pairs = Vec::new(alloc);
     if let Some(number) = event {
-        pairs.push((keyword(alloc, "event")?, Value::Int(number as i64)))?;
+        pairs.push((Value::keyword(alloc, "event")?, Value::Int(number as i64)))?;
     }
     Ok(Pairs::of(pairs))
 }
@@ -121,7 +125,7 @@ pub fn invocation(alloc: Global, process: u64, request: Request) -> Result<Op, A
 {
     Ok(Op {
         kind: Kind::Invoke,
-        f: keyword(alloc, name_of(request))?,
+        f: Value::keyword(alloc, request_name(request))?,
         value: value_asked(alloc, request)?,
         process: Process::Client(process),
         time: None,
@@ -130,8 +134,8 @@ pub fn invocation(alloc: Global, process: u64, request: Request) -> Result<Op, A
     })
 }
 
-/// The operation in which a client's process tells the reply to a request, by the event of this number, in no history
-/// yet.
+/// The operation in which a client's process tells the reply to a request, by the event of this
+/// number, in no history yet.
 pub fn completion(
     alloc: Global,
     number: u64,
@@ -143,8 +147,8 @@ pub fn completion(
     ensures { IfOk result (λ op. operation op ≡ rule.completion number process request reply.now) }
 {
     Ok(Op {
-        kind: kind_of(reply),
-        f: keyword(alloc, name_of(request))?,
+        kind: completion_kind(reply),
+        f: Value::keyword(alloc, request_name(request))?,
         value: value_replied(alloc, request, reply)?,
         process: Process::Client(process),
         time: None,
@@ -154,13 +158,13 @@ pub fn completion(
 }
 
 /// The operation of an entry of the schedule before the nemesis takes its step, in no history yet.
-pub fn entry_begun(alloc: Global, entry: u64) -> Result<Op, AllocError>
+pub fn entry_invocation(alloc: Global, entry: u64) -> Result<Op, AllocError>
     requires { entry < 2 ^ 63 }
-    ensures { IfOk result (λ op. operation op ≡ rule.entry_begun entry) }
+    ensures { IfOk result (λ op. operation op ≡ rule.entry_invocation entry) }
 {
     Ok(Op {
         kind: Kind::Info,
-        f: keyword(alloc, "step")?,
+        f: Value::keyword(alloc, "step")?,
         value: Value::Int(entry as i64),
         process: Process::Nemesis,
         time: None,
@@ -169,9 +173,9 @@ pub fn entry_begun(alloc: Global, entry: u64) -> Result<Op, AllocError>
     })
 }
 
-/// The operation of an entry of the schedule once its step was answered, by the event of this number, in no history
-/// yet.
-pub fn entry_ended(
+/// The operation of an entry of the schedule once its step was answered, by the event of this
+/// number, in no history yet.
+pub fn entry_completion(
     alloc: Global,
     number: u64,
     entry: u64,
@@ -179,11 +183,11 @@ pub fn entry_ended(
 ) -> Result<Op, AllocError>
     requires number { number < 2 ^ 63 }
     requires entry { entry < 2 ^ 63 }
-    ensures { IfOk result (λ op. operation op ≡ rule.entry_ended number entry answer) }
+    ensures { IfOk result (λ op. operation op ≡ rule.entry_completion number entry answer) }
 {
     Ok(Op {
         kind: Kind::Info,
-        f: keyword(alloc, "step")?,
+        f: Value::keyword(alloc, "step")?,
         value: vector_of(alloc, &[entry as i64, code_of(answer)])?,
         process: Process::Nemesis,
         time: None,
@@ -196,7 +200,7 @@ pub fn entry_ended(
 pub fn push_placed(history: &mut Vec<Op>, op: Op) -> Result<(), AllocError>
     requires { length history.old.items < 2 ^ 63 }
     ensures { OnOk result (operations history.new.items ≡ operations history.old.items
-        ++ at_place (length history.old.items) (operation op) ∷ []) }
+        ++ placed_operation (length history.old.items) (operation op) ∷ []) }
 {
     let index = Some(history.len() as i64);
     history.push(Op { index, ..op })?;
@@ -214,8 +218,8 @@ fn push_call(
 ) -> Result<(), AllocError>
     requires { (length history.old.items ≤ 2 * max_events) × (number ≤ max_events) }
     ensures { OnOk result (operations history.new.items ≡ operations history.old.items
-        ++ invoked (length history.old.items) process request
-        ∷ completed (length history.old.items + 1) number process request reply.now ∷ []) }
+        ++ placed_invocation (length history.old.items) process request
+        ∷ placed_completion (length history.old.items + 1) number process request reply.now ∷ []) }
 {
     push_placed(history, invocation(alloc, process, request)?)?;
     push_placed(history, completion(alloc, number, process, request, reply)?)
@@ -229,20 +233,21 @@ fn push_step(
     entry: u64,
     answer: StepAnswer,
 ) -> Result<(), AllocError>
-    requires { (length history.old.items ≤ 2 * max_events) × (number ≤ max_events) × (entry ≤ max_events) }
+    requires { (length history.old.items ≤ 2 * max_events) × (number ≤ max_events)
+        × (entry ≤ max_events) }
     ensures { OnOk result (operations history.new.items ≡ operations history.old.items
-        ++ begun (length history.old.items) entry
-        ∷ answered_by (length history.old.items + 1) number entry answer ∷ []) }
+        ++ placed_entry_invocation (length history.old.items) entry
+        ∷ placed_entry_completion (length history.old.items + 1) number entry answer ∷ []) }
 {
-    push_placed(history, entry_begun(alloc, entry)?)?;
-    push_placed(history, entry_ended(alloc, number, entry, answer)?)
+    push_placed(history, entry_invocation(alloc, entry)?)?;
+    push_placed(history, entry_completion(alloc, number, entry, answer)?)
 }
 
-/// The history of a journal: two operations for each call and each step, and none for a tick. Takes time linear in what
-/// the journal holds.
-pub(crate) fn history_of(alloc: Global, journal: &[Event]) -> Result<Vec<Op>, AllocError>
+/// The history of a journal: two operations for each call and each step, and none for a tick. Takes
+/// time linear in what the journal holds.
+pub(crate) fn journal_history(alloc: Global, journal: &[Event]) -> Result<Vec<Op>, AllocError>
     requires { length journal.now ≤ max_events }
-    ensures { IfOk result (λ history. operations history.items ≡ rule.history_of journal.now) }
+    ensures { IfOk result (λ history. operations history.items ≡ rule.journal_history journal.now) }
 {
     let mut history = Vec::new(alloc);
     let mut number = 0;

@@ -1,5 +1,6 @@
-//! A simulated cluster: replicas of a database on the nodes of an environment, kept by one of three stores, under the faults of a
-//! nemesis. A world has a journal of all that happened, and stands where its journal leads to.
+//! A simulated cluster: replicas of a database on the nodes of an environment, kept by one of three
+//! stores, under the faults of a nemesis. A world has a journal of all that happened, and stands
+//! where its journal leads to.
 #![tactic(auto)]
 
 mod effects;
@@ -20,14 +21,15 @@ mod world;
 
 pub use events::{Event, MAX_EVENTS, WorldError};
 pub use history::{
-    code_of, completion, entry_begun, entry_ended, invocation, kind_of, push_placed,
+    code_of, completion, completion_kind, entry_completion, entry_invocation, invocation,
+    push_placed,
 };
 pub use laws::{limits, world_laws};
-pub use plan::{MAX_ROWS, Plan, PlanError};
+pub use plan::{MAX_ROWS, Plan, PlanData, PlanError};
 pub use replay::nemesis_after;
 pub use replicas::{Contents, Got, Mark, Numbers, Replica, Reply};
 pub use schedule::{Entry, MAX_ENTRIES, Schedule, TooLong};
 pub use serial::{RunError, one_run, run_serial, world_of};
 pub use settings::{Settings, Store};
-pub use turns::{driver_of, ended_of, node_of, ticks_at};
+pub use turns::{driver_of, node_of, reply_ending, ticks_at};
 pub use world::World;

@@ -1,11 +1,12 @@
-//! What a run does. `specs/Plans.antt` says which plans can be run; a new part is a field here and of `PlanValue` there.
+//! What a run does. `specs/Plans.antt` says which plans can be run; a new part is a field here and
+//! of `PlanValue` there.
 
-ghost use Rattle.std.specs.Prelude.{◌≡◌, ◌↔◌, ◌≤◌, ◌<◌, [], All, IsTrue, MatchResult, length};
+ghost use Rattle.std.specs.Prelude.{◌≡◌, ◌↔◌, ◌<◌, [], All, IsTrue, MatchResult, length};
 ghost use Rattle.jh_env.specs.Overlay.{StandsFor};
 ghost use Rattle.jh_nemesis.specs.Steps.{FitsNodes};
 ghost use Rattle.jh_gen.specs.View.{generator_of};
 ghost use Rattle.jh_simnode.specs.Plans as rule;
-ghost use Rattle.jh_simnode.specs.Plans.{IsFit, IsKept, RefusesPlan, RefusesSchedule};
+ghost use Rattle.jh_simnode.specs.Plans.{IsFit, IsKeptPlan, RefusesPlan, RefusesSchedule};
 ghost use Rattle.jh_simnode.specs.declared.plan.PlanError.TheVariants.{OutOfMemory};
 
 use crate::events::fits;
@@ -21,8 +22,8 @@ use thiserror::Error;
 /// The most rows of the log of a run on threads.
 pub const MAX_ROWS: u32 = 65_536;
 
-/// What a run does: on which environment and store, by how many clients, which calls, which steps of the nemesis. A
-/// contract sees its parts, which are those that it was made of.
+/// What a run does: on which environment and store, by how many clients, which calls, which steps
+/// of the nemesis. A contract sees its parts, which are those that it was made of.
 #[derive(Debug, Drop)]
 pub struct Plan {
     environment: Env,
@@ -86,19 +87,10 @@ impl From<AllocError> for PlanError {
     }
 }
 
-/// How many calls a run of the workload may make.
-fn max_ops(workload: Workload) -> u32
-    ensures { result ≡ rule.max_ops workload }
-{
-    match workload {
-        Workload::Set => 1_000,
-        Workload::Register | Workload::Counter | Workload::Ids => 10_000,
-    }
-}
-
 /// Whether each node that a fault of the schedule names is in the environment.
 fn all_fit(schedule: &[Entry], environment: &Env) -> bool
-    ensures { IsTrue result ↔ All (λ entry. FitsNodes (length environment.now.names) entry.step) schedule.now }
+    ensures { IsTrue result
+        ↔ All (λ entry. FitsNodes (length environment.now.names) entry.step) schedule.now }
 {
     for entry in schedule {
         if !fits(&entry.step, environment) {
@@ -108,53 +100,44 @@ fn all_fit(schedule: &[Entry], environment: &Env) -> bool
     true
 }
 
+/// What a plan is made of.
+#[derive(Drop)]
+pub struct PlanData {
+    /// The environment, on which no fault is laid.
+    pub environment: Env,
+    pub settings: Settings,
+    /// How many client threads make calls: 1 to 16.
+    pub clients: u32,
+    /// How many calls are made: 1 to `Workload::max_calls`.
+    pub ops: u32,
+    /// Where the calls come from.
+    pub generator: Gen,
+    /// The steps of the nemesis.
+    pub schedule: Schedule,
+    /// After how many of its calls each client thread makes a tick; none is made where that is 0.
+    pub tick_every: u32,
+    /// The size of the log of a run on threads: 1 to 65,536 rows.
+    pub rows: u32,
+    /// The seed of the random numbers.
+    pub seed: u64,
+}
+
 impl Plan {
-    /// The plan of these parts. The environment has no fault laid on it. `initial` is what a register holds at first and
-    /// matters to no other workload; each client thread makes a tick after every `tick_every` of its calls, and none
-    /// where that is 0; `rows` is the size of the log of a run on threads. Memory is taken for the place of the generator.
+    /// The plan of this data. Memory is taken for the place of the generator.
     ///
-    /// Errors, in this order: `BadClients` where there are not 1 to 16; `BadOps` where `ops` is not from 1 to 10,000, or
-    /// to 1,000 for a set; `BadRows` where there are not 1 to 65,536; `BadGenerator` where the generator does not suit
-    /// the workload and the number of clients (`Gen::suits`); `BadStep` where a fault of the schedule names a node that
-    /// is not in the environment; `OutOfMemory`.
-    pub fn new(
-        alloc: Global,
-        environment: Env,
-        store: Store,
-        volatile: bool,
-        workload: Workload,
-        initial: Option<i64>,
-        clients: u32,
-        ops: u32,
-        generator: Gen,
-        schedule: Schedule,
-        tick_every: u32,
-        rows: u32,
-        seed: u64,
-    ) -> Result<Plan, PlanError>
-        requires { StandsFor environment [] }
+    /// Errors, in this order: `BadClients` where there are not 1 to 16; `BadOps` where `ops` is not
+    /// from 1 to 10,000, or to 1,000 for a set; `BadRows` where there are not 1 to 65,536;
+    /// `BadGenerator` where the generator does not suit the workload and the number of clients
+    /// (`Gen::suits`); `BadStep` where a fault of the schedule names a node that is not in the
+    /// environment; `OutOfMemory`.
+    pub fn new(alloc: Global, fields: PlanData) -> Result<Plan, PlanError>
+        requires { StandsFor fields.environment [] }
         ensures { MatchResult result
-            (λ plan. (plan ≡ rule.plan environment store volatile workload initial clients ops (generator_of generator) schedule tick_every rows seed)
-            × IsFit plan)
-            (RefusesPlan (rule.plan environment store volatile workload initial clients ops (generator_of generator) schedule tick_every rows seed)) }
+            (λ plan. (plan ≡ rule.plan_of_data fields) × IsFit plan)
+            (RefusesPlan (rule.plan_of_data fields)) }
     {
-        let settings = Settings {
-            store,
-            volatile,
-            workload,
-            initial,
-        };
-        Plan::judge(
-            &environment,
-            &settings,
-            clients,
-            ops,
-            &generator,
-            &schedule,
-            rows,
-        )?;
-        let generator = Inner::of(alloc, generator)?;
-        Ok(Plan {
+        Plan::judge(&fields)?;
+        let PlanData {
             environment,
             settings,
             clients,
@@ -164,36 +147,44 @@ impl Plan {
             tick_every,
             rows,
             seed,
-        })
+        } = fields;
+        let generator = Inner::of(alloc, generator)?;
+        let plan = Plan {
+            environment,
+            settings,
+            clients,
+            ops,
+            generator,
+            schedule,
+            tick_every,
+            rows,
+            seed,
+        };
+        Ok(plan)
     }
 
-    /// Refuses what no plan is made of; the other parts of a plan play no part in that.
-    fn judge(
-        environment: &Env,
-        settings: &Settings,
-        clients: u32,
-        ops: u32,
-        generator: &Gen,
-        schedule: &Schedule,
-        rows: u32,
-    ) -> Result<(), PlanError>
+    /// Refuses data of which no plan is made.
+    fn judge(fields: &PlanData) -> Result<(), PlanError>
         ensures { MatchResult result
-            (λ _. IsFit (rule.judged environment.now settings.now clients ops (generator_of generator.now) schedule.now rows))
-            (RefusesPlan (rule.judged environment.now settings.now clients ops (generator_of generator.now) schedule.now rows)) }
+            (λ _. IsFit (rule.plan_of_data fields.now))
+            (RefusesPlan (rule.plan_of_data fields.now)) }
     {
-        if clients < 1 || clients > MAX_CLIENTS {
+        if fields.clients < 1 || fields.clients > MAX_CLIENTS {
             return Err(PlanError::BadClients);
         }
-        if ops < 1 || ops > max_ops(settings.workload) {
+        if fields.ops < 1 || fields.ops > fields.settings.workload.max_calls() {
             return Err(PlanError::BadOps);
         }
-        if rows < 1 || rows > MAX_ROWS {
+        if fields.rows < 1 || fields.rows > MAX_ROWS {
             return Err(PlanError::BadRows);
         }
-        if !generator.suits(settings.workload, clients) {
+        if !fields
+            .generator
+            .suits(fields.settings.workload, fields.clients)
+        {
             return Err(PlanError::BadGenerator);
         }
-        if !all_fit(schedule.entries(), environment) {
+        if !all_fit(fields.schedule.entries(), &fields.environment) {
             return Err(PlanError::BadStep);
         }
         Ok(())
@@ -201,10 +192,11 @@ impl Plan {
 
     /// The plan with another schedule, all else being the same.
     ///
-    /// Errors: `BadStep` where a fault of the schedule names a node that is not in the environment; `OutOfMemory`.
+    /// Errors: `BadStep` where a fault of the schedule names a node that is not in the environment;
+    /// `OutOfMemory`.
     pub fn with_schedule(&self, alloc: Global, schedule: Schedule) -> Result<Plan, PlanError>
         ensures { MatchResult result
-            (λ plan. plan ≡ rule.with_schedule self.now schedule)
+            (λ plan. plan ≡ rule.plan_with_schedule self.now schedule)
             (RefusesSchedule self.now schedule) }
     {
         if !all_fit(schedule.entries(), self.environment()) {
@@ -232,6 +224,7 @@ impl Plan {
         &self.environment
     }
 
+    /// How the nodes keep their replicas together.
     pub fn store(&self) -> Store
         ensures { result ≡ self.now.settings.store }
     {
@@ -245,6 +238,7 @@ impl Plan {
         self.settings.volatile
     }
 
+    /// What the run asks the database to be.
     pub fn workload(&self) -> Workload
         ensures { result ≡ self.now.settings.workload }
     {
@@ -262,7 +256,7 @@ impl Plan {
     pub fn clients(&self) -> u32
         ensures clients { result ≡ self.now.clients }
         ensures few { rule.HasClients self.now }
-        ensures kept { IsKept self.now }
+        ensures kept { IsKeptPlan self.now }
     {
         self.clients
     }
@@ -275,6 +269,7 @@ impl Plan {
         self.ops
     }
 
+    /// Where the calls come from.
     pub fn generator(&self) -> &Gen
         ensures generator { generator_of result.now ≡ self.now.generator }
         ensures suits { rule.HasGenerator self.now }
@@ -282,6 +277,7 @@ impl Plan {
         self.generator.as_gen()
     }
 
+    /// The steps of the nemesis, and when each is due.
     pub fn schedule(&self) -> &Schedule
         ensures schedule { result.now ≡ self.now.schedule }
         ensures steps { rule.HasSteps self.now }
@@ -304,7 +300,7 @@ impl Plan {
         self.rows
     }
 
-    /// The seed of the words by which mixtures choose and messages are lost.
+    /// The seed of the random numbers by which mixtures choose and messages are lost.
     pub fn seed(&self) -> u64
         ensures { result ≡ self.now.seed }
     {

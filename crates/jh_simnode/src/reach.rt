@@ -1,20 +1,21 @@
 //! Whom a call of a node reaches. `specs/Reach.antt` has the rule.
 
-ghost use Rattle.std.specs.Prelude.{◌≡◌, ◌<◌, ◌≤◌, length, IfOk, take};
+ghost use Rattle.std.specs.Prelude.{◌≡◌, ◌<◌, ◌≤◌, length};
 ghost use Rattle.std.specs.List.{All};
-ghost use Rattle.jh_simnode.specs.Reach.{cells_of, runs, is_killed, is_reached, is_timely, reached_nodes, responding_nodes, places, carries, delay_of};
-ghost use Rattle.jh_simnode.specs.Stores.{dead, is_open};
+ghost use Rattle.jh_simnode.specs.Reach.{env_cells, is_node_running, is_node_killed, is_reached};
+ghost use Rattle.jh_simnode.specs.Reach.{is_timely, reached_nodes, responding_nodes, carries};
+ghost use Rattle.jh_simnode.specs.Reach.{delay_of};
+ghost use Rattle.jh_simnode.specs.Stores.{is_uncut};
 
 use arrayvec::ArrayVec;
 use jh_env::{Env, Life, Link, Node};
-use std::alloc::{AllocError, Global};
 
 /// Places of nodes, in order.
 pub(crate) type NodePlaces = ArrayVec<usize, 64>;
 
 /// Whether a node runs.
-pub(crate) fn is_up(env: &Env, node: Node) -> bool
-    ensures { result ≡ runs ((cells_of env.now).node node) }
+pub(crate) fn is_node_running(env: &Env, node: Node) -> bool
+    ensures { result ≡ is_node_running ((env_cells env.now).node node) }
 {
     match env.node(node) {
         Some(cell) => cell.process == Life::Running,
@@ -23,8 +24,8 @@ pub(crate) fn is_up(env: &Env, node: Node) -> bool
 }
 
 /// Whether a node is killed.
-pub(crate) fn is_down(env: &Env, node: Node) -> bool
-    ensures { result ≡ is_killed ((cells_of env.now).node node) }
+pub(crate) fn is_node_killed(env: &Env, node: Node) -> bool
+    ensures { result ≡ is_node_killed ((env_cells env.now).node node) }
 {
     match env.node(node) {
         Some(cell) => cell.process == Life::Killed,
@@ -44,7 +45,7 @@ fn is_carried(link: Option<Link>, draw: u64) -> bool
 
 /// Whether the link is there and uncut.
 pub(crate) fn is_open(link: Option<Link>) -> bool
-    ensures { result ≡ is_open link }
+    ensures { result ≡ is_uncut link }
 {
     match link {
         Some(link) => !link.cut,
@@ -64,20 +65,20 @@ fn delay_on(link: Option<Link>) -> u64
 
 /// Whether a call of a node reaches another, and its answer comes back.
 fn is_reached(env: &Env, draw: u64, node: Node, other: Node) -> bool
-    ensures { result ≡ is_reached (cells_of env.now) draw node other }
+    ensures { result ≡ is_reached (env_cells env.now) draw node other }
 {
     if other.place() == node.place() {
         return true;
     }
-    is_up(env, other)
+    is_node_running(env, other)
         && is_carried(env.link(node, other), draw)
         && is_carried(env.link(other, node), draw)
 }
 
 /// Whether a call of a node reaches the node at a place.
-fn touches(env: &Env, draw: u64, node: Node, place: usize) -> bool
+fn reaches_place(env: &Env, draw: u64, node: Node, place: usize) -> bool
     requires { place < length env.now.names }
-    ensures { result ≡ is_reached (cells_of env.now) draw node place }
+    ensures { result ≡ is_reached (env_cells env.now) draw node place }
 {
     let _count = env.nodes().len();
     match env.nodes().at(place as u8) {
@@ -87,14 +88,15 @@ fn touches(env: &Env, draw: u64, node: Node, place: usize) -> bool
 }
 
 /// The nodes that a call of a node reaches.
-#[tactic(auto, using(crate::proofs::Places::filter_places_kept, crate::proofs::Places::filter_places_dropped, crate::proofs::Places::filter_below))]
+#[tactic(auto, using(crate::proofs::PlaceLemmas::filter_places_kept, crate::proofs::PlaceLemmas::filter_places_dropped, crate::proofs::PlaceLemmas::filter_below))]
 pub(crate) fn reached_nodes(env: &Env, draw: u64, node: Node) -> NodePlaces
-    ensures places { result.items ≡ reached_nodes (cells_of env.now) (length env.now.names) draw node }
+    ensures places { result.items
+        ≡ reached_nodes (env_cells env.now) (length env.now.names) draw node }
     ensures known { All (λ p. p < length env.now.names) result.items }
 {
     let mut these = NodePlaces::new();
     for place in 0..env.nodes().len() {
-        if touches(env, draw, node, place) {
+        if reaches_place(env, draw, node, place) {
             these.push(place);
         }
     }
@@ -103,7 +105,7 @@ pub(crate) fn reached_nodes(env: &Env, draw: u64, node: Node) -> NodePlaces
 
 /// Whether a node that was reached responds in time.
 fn is_timely(env: &Env, node: Node, other: Node) -> bool
-    ensures { result ≡ is_timely (cells_of env.now) node other }
+    ensures { result ≡ is_timely (env_cells env.now) node other }
 {
     if other.place() == node.place() {
         return true;
@@ -114,7 +116,7 @@ fn is_timely(env: &Env, node: Node, other: Node) -> bool
 /// Whether the answer of the node at a place comes in time.
 fn comes_in_time(env: &Env, node: Node, place: usize) -> bool
     requires { place < length env.now.names }
-    ensures { result ≡ is_timely (cells_of env.now) node place }
+    ensures { result ≡ is_timely (env_cells env.now) node place }
 {
     let _count = env.nodes().len();
     match env.nodes().at(place as u8) {
@@ -127,7 +129,7 @@ fn comes_in_time(env: &Env, node: Node, place: usize) -> bool
 pub(crate) fn responding_nodes(env: &Env, node: Node, reached: &[usize]) -> NodePlaces
     requires known { All (λ p. p < length env.now.names) reached.now }
     requires few { length reached.now ≤ 64 }
-    ensures places { result.items ≡ responding_nodes (cells_of env.now) node reached.now }
+    ensures places { result.items ≡ responding_nodes (env_cells env.now) node reached.now }
     ensures known { All (λ p. p < length env.now.names) result.items }
 {
     let mut these = NodePlaces::new();

@@ -1,4 +1,5 @@
-//! The faults that a journal leads to, by its steps alone. `specs/Replay.antt` says why a journal is refused.
+//! The faults that a journal leads to, by its steps alone. `specs/Replay.antt` says why a journal
+//! is refused.
 
 ghost use Rattle.std.specs.Prelude.{◌≡◌, All, length, IfOk, IfErr, OnOk};
 ghost use Rattle.jh_simnode.specs.Events.{faults_after};
@@ -27,14 +28,16 @@ fn apply_event(alloc: Global, nemesis: &mut Nemesis, event: &Event) -> Result<()
     Ok(())
 }
 
-/// The nemesis to which the steps of a journal were applied, in order, from the environment of a plan on. Calls and ticks
-/// are left out, and the answers in the journal are not looked at.
+/// The nemesis to which the steps of a journal were applied, in order, from the environment of a
+/// plan on. Calls and ticks are left out, and the answers in the journal are not looked at.
 ///
 /// Takes time for each event, and for what the steps' faults name.
 ///
-/// Errors: `UnknownNode` where the fault of a step names a node that is not in the environment; `OutOfMemory`.
+/// Errors: `UnknownNode` where the fault of a step names a node that is not in the environment;
+/// `OutOfMemory`.
 pub fn nemesis_after(alloc: Global, plan: &Plan, journal: &[Event]) -> Result<Nemesis, WorldError>
-    ensures state { IfOk result (λ nemesis. nemesis.state ≡ state_at (setup_of plan.now) journal.now) }
+    ensures state { IfOk result
+        (λ nemesis. nemesis.state ≡ state_at (setup_of plan.now) journal.now) }
     ensures fits { OnOk result (All (FitsEvent (length plan.now.env.names)) journal.now) }
     ensures refused { IfErr result (RefusesReplay (length plan.now.env.names) journal.now) }
 {

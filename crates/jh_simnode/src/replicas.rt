@@ -1,7 +1,9 @@
-//! What nodes keep of the database, and what they answer. `specs/Replicas.antt` has the rules of marks and of first replicas.
+//! What nodes keep of the database, and what they answer. `specs/Replicas.antt` has the rules of
+//! marks and of first replicas.
 
-ghost use Rattle.std.specs.Prelude.{◌≡◌, ℕ, List, [], length, IfOk, slice_index_or, replicate};
-ghost use Rattle.jh_simnode.specs.Replicas.{first_contents, first_replica, is_lower, version, got_of};
+ghost use Rattle.std.specs.Prelude.{◌≡◌, List, [], IfOk, replicate};
+ghost use Rattle.jh_simnode.specs.Replicas.{first_contents, first_replica, is_lower, version};
+ghost use Rattle.jh_simnode.specs.Replicas.{got_of};
 
 use crate::settings::Settings;
 use jh_ops::Workload;
@@ -29,7 +31,8 @@ pub enum Contents {
     Many(Numbers),
 }
 
-/// What a request got: nothing, one value if there is one, or all elements of a set in ascending order.
+/// What a request got: nothing, one value if there is one, or all elements of a set in ascending
+/// order.
 #[derive(Debug, Drop)]
 pub enum Got {
     Nothing,
@@ -55,7 +58,8 @@ pub enum Mark {
     First,
     /// The number of changes, in a store of quorums.
     Version(u64),
-    /// The time of the last change, the event's number and the clock of its node together, and the place of that node.
+    /// The time of the last change, the event's number and the clock of its node together, and the
+    /// place of that node.
     Stamp(i128, u8),
 }
 
@@ -67,6 +71,7 @@ pub struct Replica {
 }
 
 impl Numbers {
+    /// No numbers. Takes no memory.
     pub(crate) fn new(alloc: Global) -> Numbers
         ensures { result ≡ [] }
     {
@@ -96,6 +101,7 @@ impl Numbers {
         self.items
     }
 
+    /// The same numbers once more.
     pub(crate) fn copy(&self, alloc: Global) -> Result<Numbers, AllocError>
         ensures { IfOk result (λ copy. copy ≡ self.now) }
     {
@@ -118,6 +124,7 @@ impl Contents {
         }
     }
 
+    /// The same contents once more.
     pub(crate) fn copy(&self, alloc: Global) -> Result<Contents, AllocError>
         ensures { IfOk result (λ copy. copy ≡ self.now) }
     {
@@ -139,6 +146,7 @@ impl Contents {
 }
 
 impl Got {
+    /// What was got, once more.
     pub(crate) fn copy(&self, alloc: Global) -> Result<Got, AllocError>
         ensures { IfOk result (λ copy. copy ≡ self.now) }
     {
@@ -151,6 +159,7 @@ impl Got {
 }
 
 impl Reply {
+    /// The same reply once more.
     pub(crate) fn copy(&self, alloc: Global) -> Result<Reply, AllocError>
         ensures { IfOk result (λ copy. copy ≡ self.now) }
     {
@@ -198,6 +207,7 @@ impl Replica {
         }
     }
 
+    /// The same replica once more.
     pub(crate) fn copy(&self, alloc: Global) -> Result<Replica, AllocError>
         ensures { IfOk result (λ copy. copy ≡ self.now) }
     {

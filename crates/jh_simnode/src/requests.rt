@@ -12,8 +12,9 @@ pub(crate) fn only_asks(request: Request) -> bool
     matches!(request, Request::Read | Request::Generate)
 }
 
-pub(crate) fn is_read(request: Request) -> bool
-    ensures { result ≡ rule.is_read request }
+/// Whether it is a read.
+pub(crate) fn is_read_request(request: Request) -> bool
+    ensures { result ≡ rule.is_read_request request }
 {
     matches!(request, Request::Read)
 }

@@ -12,7 +12,8 @@ use thiserror::Error;
 /// The most entries of a schedule.
 pub const MAX_ENTRIES: usize = 1_024;
 
-/// A step of the nemesis, and after how many answered client calls it is due. An entry waits for those before it.
+/// A step of the nemesis, and after how many answered client calls it is due. An entry waits for
+/// those before it.
 #[derive(Debug, Drop)]
 pub struct Entry {
     pub at: u32,
@@ -79,6 +80,7 @@ impl Schedule {
         Ok(Schedule { items })
     }
 
+    /// Its entries, in order.
     pub fn entries(&self) -> &[Entry]
         ensures entries { result.now ≡ self.now }
         ensures few { length self.now ≤ max_entries }

@@ -1,15 +1,15 @@
-//! Serial runs: a plan, one event after the other, on a world of its own. `specs/Runs.antt` says what a run is, `specs/Histories.antt`
-//! which history it tells.
+//! Serial runs: a plan, one event after the other, on a world of its own. `specs/Runs.antt` says
+//! what a run is, `specs/Histories.antt` which history it tells.
 
 ghost use Rattle.std.specs.Prelude.{◌≡◌, [], All, MatchResult, IfOk, IfErr, OnOk};
 ghost use Rattle.jh_ops.specs.Operation.{operations};
 ghost use Rattle.jh_ops.specs.OperationWritten.{IsWritable};
-ghost use Rattle.jh_simnode.specs.Plans.{IsFit, IsKept};
+ghost use Rattle.jh_simnode.specs.Plans.{IsFit, IsKeptPlan};
 ghost use Rattle.jh_simnode.specs.Running.{Halts, HasSmallProcess, IsOver};
-ghost use Rattle.jh_simnode.specs.Runs.{OneRun, Serial, Stops, setup_of};
+ghost use Rattle.jh_simnode.specs.Runs.{HasOneRun, IsSerialRun, Stops, setup_of};
 
 use crate::events::WorldError;
-use crate::history::history_of;
+use crate::history::journal_history;
 use crate::plan::Plan;
 use crate::turns::Run;
 use crate::world::World;
@@ -74,7 +74,7 @@ fn run_turns(alloc: Global, plan: &Plan, world: &mut World) -> Result<(), RunErr
     ensures setup { OnOk result (world.new.setup ≡ setup_of plan.now) }
     ensures small { OnOk result (All HasSmallProcess world.new.journal) }
     ensures stopped { IfErr result (Halts plan.now) }
-    ensures kept { IsKept plan.now }
+    ensures kept { IsKeptPlan plan.now }
 {
     let clients = plan.clients();
     let mut run = Run::new(alloc, plan)?;
@@ -91,26 +91,30 @@ fn run_turns(alloc: Global, plan: &Plan, world: &mut World) -> Result<(), RunErr
     }
 }
 
-/// A serial run of a plan: the world after it, and the history that it tells. The same plan gives the same run each time.
+/// A serial run of a plan: the world after it, and the history that it tells. The same plan gives
+/// the same run each time.
 ///
 /// Takes time for each call and step, and for what the generator is large.
 ///
-/// Errors: `Stuck` where in one round no thread got a call; `OutOfMemory`, or `World` with the same. A run never fills its world:
-/// it has at most two events for each call, and one for each entry of its schedule.
+/// Errors: `Stuck` where in one round no thread got a call; `OutOfMemory`, or `World` with the
+/// same. A run never fills its world: it has at most two events for each call, and one for each
+/// entry of its schedule.
 pub fn run_serial(alloc: Global, plan: &Plan) -> Result<(World, Vec<Op>), RunError>
     ensures judged { MatchResult result
-        (λ run. (run.0.setup ≡ setup_of plan.now) × Serial plan.now run.0.journal (operations run.1.items))
+        (λ run. (run.0.setup ≡ setup_of plan.now)
+        × IsSerialRun plan.now run.0.journal (operations run.1.items))
         (Stops plan.now) }
-    ensures writable { IfOk result (λ run. All (λ op. IsWritable op.process) (operations run.1.items)) }
+    ensures writable { IfOk result
+        (λ run. All (λ op. IsWritable op.process) (operations run.1.items)) }
     ensures fit { IfOk result (λ _. IsFit plan.now) }
 {
     let mut world = world_of(alloc, plan)?;
     run_turns(alloc, plan, &mut world)?;
-    let history = history_of(alloc, world.journal())?;
+    let history = journal_history(alloc, world.journal())?;
     Ok((world, history))
 }
 
 /// A law, on a function that does nothing: a plan has one run and one history at most.
 pub fn one_run()
-    ensures { OneRun }
+    ensures { HasOneRun }
 {}

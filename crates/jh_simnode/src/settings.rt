@@ -1,4 +1,5 @@
-//! How the nodes of a world keep a database. A new store is a case here and of the rules in `specs/Stores.antt`.
+//! How the nodes of a world keep a database. A new store is a case here and of the rules in
+//! `specs/Stores.antt`.
 
 use jh_ops::Workload;
 
@@ -7,7 +8,8 @@ use jh_ops::Workload;
 pub enum Store {
     /// A request is done by more than half of the nodes, or not at all.
     Quorum,
-    /// The last writer wins: each node answers from its own replica, and keeps the replica with the greatest stamp that it met.
+    /// The last writer wins: each node answers from its own replica, and keeps the replica with the
+    /// greatest stamp that it met.
     Lww,
     /// Each node has a replica of its own, of which no other node learns.
     Local,

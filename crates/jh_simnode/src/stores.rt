@@ -1,15 +1,26 @@
-//! What a node does with a request, and what nodes tell each other in a tick. `specs/Stores.antt` has the rule of each store.
+//! What a node does with a request, and what nodes tell each other in a tick. `specs/Stores.antt`
+//! has the rule of each store.
 
 ghost use Rattle.std.specs.Prelude.{◌≡◌, ℕ, pos, ◌+ℤ◌, ◌<◌, ◌≤◌, ◌&&◌, [], length, IfOk};
 ghost use Rattle.std.specs.List.{All};
-ghost use Rattle.jh_simnode.specs.Reach.{cells_of, is_killed, places, runs};
-ghost use Rattle.jh_simnode.specs.Outcomes.{Gives, AreTaken, AreSources, with_all, replicas_from};
-ghost use Rattle.jh_simnode.specs.Stores.{serve_local, serve_lww, serve_quorum, quorum_read, quorum_write, newest, newer_place, give_all, older, version_at, dead, replicas_after_tick, tell, tell_all, spread, is_open, replicas_after_kills, serve};
+ghost use Rattle.jh_simnode.specs.Reach.{env_cells, is_node_killed, ordered_places};
+ghost use Rattle.jh_simnode.specs.Reach.{is_node_running};
+ghost use Rattle.jh_simnode.specs.TakingInside.{GivesReply, AreTaken, AreSources};
+ghost use Rattle.jh_simnode.specs.TakingInside.{replicas_with_all, replicas_from};
+ghost use Rattle.jh_simnode.specs.Stores.{local_reply, lww_reply, quorum_reply, quorum_read};
+ghost use Rattle.jh_simnode.specs.Stores.{quorum_write, newest_place, newer_place};
+ghost use Rattle.jh_simnode.specs.Stores.{replicas_with_new_at, older_places, version_at};
+ghost use Rattle.jh_simnode.specs.Stores.{killed_flags, replicas_after_tick};
+ghost use Rattle.jh_simnode.specs.Stores.{replicas_after_sending, replicas_after_sending_all};
+ghost use Rattle.jh_simnode.specs.Stores.{replicas_after_spread, is_uncut, replicas_after_kills};
+ghost use Rattle.jh_simnode.specs.Stores.{reply_to};
 
 use crate::effects::effect;
-use crate::reach::{NodePlaces, is_down, is_open, is_up, reached_nodes, responding_nodes};
+use crate::reach::{
+    NodePlaces, is_node_killed, is_node_running, is_open, reached_nodes, responding_nodes,
+};
 use crate::replicas::{Mark, Replica, Reply};
-use crate::requests::{is_read, only_asks};
+use crate::requests::{is_read_request, only_asks};
 use crate::settings::{Settings, Store};
 use arrayvec::ArrayVec;
 use jh_env::{Env, Life, Node};
@@ -25,7 +36,7 @@ pub(crate) struct Taken {
 
 /// A reply, and the replicas that nodes take over with it, one for each node that changes its own.
 #[derive(Drop)]
-pub(crate) struct Outcome {
+pub(crate) struct ReplyAndTaken {
     pub(crate) reply: Reply,
     pub(crate) taken: Vec<Taken>,
 }
@@ -37,31 +48,32 @@ type Sources = ArrayVec<usize, 64>;
 pub(crate) type Flags = ArrayVec<bool, 64>;
 
 /// Whether the node at a place is killed.
-fn is_down_at(env: &Env, place: usize) -> bool
+fn is_killed_at(env: &Env, place: usize) -> bool
     requires { place < length env.now.names }
-    ensures { result ≡ is_killed ((cells_of env.now).node place) }
+    ensures { result ≡ is_node_killed ((env_cells env.now).node place) }
 {
     let _count = env.nodes().len();
     match env.nodes().at(place as u8) {
-        Some(node) => is_down(env, node),
+        Some(node) => is_node_killed(env, node),
         None => false,
     }
 }
 
 /// Which nodes are killed. Takes no memory.
-#[tactic(auto, using(crate::proofs::Places::map_places_more))]
-pub(crate) fn dead_nodes(env: &Env) -> Flags
-    ensures { result.items ≡ dead (cells_of env.now) (length env.now.names) }
+#[tactic(auto, using(crate::proofs::PlaceLemmas::map_places_more))]
+pub(crate) fn killed_nodes(env: &Env) -> Flags
+    ensures { result.items ≡ killed_flags (env_cells env.now) (length env.now.names) }
 {
     let mut all = Flags::new();
     for place in 0..env.nodes().len() {
-        all.push(is_down_at(env, place));
+        all.push(is_killed_at(env, place));
     }
     all
 }
 
-/// Makes the replica of each node that is killed now and wasn't before as it is at first, where the settings say so.
-#[tactic(auto, using(crate::proofs::Places::fold_places_more), unfolding(crate::specs::Stores::replicas_after_kills))]
+/// Makes the replica of each node that is killed now and wasn't before as it is at first, where the
+/// settings say so.
+#[tactic(auto, using(crate::proofs::PlaceLemmas::fold_places_more), unfolding(crate::specs::Stores::replicas_after_kills))]
 pub(crate) fn forget(
     alloc: Global,
     settings: &Settings,
@@ -71,13 +83,14 @@ pub(crate) fn forget(
 )
     requires before { length before.now ≡ length env.now.names }
     requires sized { length replicas.old ≡ length env.now.names }
-    ensures { replicas.new ≡ replicas_after_kills settings.now before.now (cells_of env.now) replicas.old }
+    ensures { replicas.new
+        ≡ replicas_after_kills settings.now before.now (env_cells env.now) replicas.old }
 {
     if !settings.volatile {
         return;
     }
     for place in 0..env.nodes().len() {
-        if is_down_at(env, place) && !before[place] {
+        if is_killed_at(env, place) && !before[place] {
             replicas[place] = Replica::first(alloc, settings);
         }
     }
@@ -87,7 +100,9 @@ pub(crate) fn forget(
 fn tells(env: &Env, from: usize, to: usize) -> bool
     requires from { from < length env.now.names }
     requires to { to < length env.now.names }
-    ensures { let cells = cells_of env.now in result ≡ ((runs (cells.node from) && runs (cells.node to)) && is_open (cells.link from to)) }
+    ensures { let cells = env_cells env.now in result
+        ≡ ((is_node_running (cells.node from) && is_node_running (cells.node to))
+        && is_uncut (cells.link from to)) }
 {
     let _count = env.nodes().len();
     let Some(source) = env.nodes().at(from as u8) else {
@@ -96,7 +111,9 @@ fn tells(env: &Env, from: usize, to: usize) -> bool
     let Some(target) = env.nodes().at(to as u8) else {
         return false;
     };
-    is_up(env, source) && is_up(env, target) && is_open(env.link(source, target))
+    is_node_running(env, source)
+        && is_node_running(env, target)
+        && is_open(env.link(source, target))
 }
 
 /// One node tells another what it has: the other takes it where its own stamp is lower.
@@ -105,7 +122,9 @@ fn tell(env: &Env, replicas: &[Replica], from: usize, sources: &mut [usize], to:
     requires to { to < length env.now.names }
     requires sized { length replicas.now ≡ length env.now.names }
     requires sources { AreSources (length env.now.names) sources.old }
-    ensures told { replicas_from replicas.now sources.new ≡ tell (cells_of env.now) from (replicas_from replicas.now sources.old) to }
+    ensures told { replicas_from replicas.now sources.new
+        ≡ replicas_after_sending (env_cells env.now) from
+        (replicas_from replicas.now sources.old) to }
     ensures sources { AreSources (length env.now.names) sources.new }
 {
     let source = sources[from];
@@ -115,12 +134,14 @@ fn tell(env: &Env, replicas: &[Replica], from: usize, sources: &mut [usize], to:
 }
 
 /// One node tells all what it has.
-#[tactic(auto, using(crate::proofs::Places::fold_places_more))]
+#[tactic(auto, using(crate::proofs::PlaceLemmas::fold_places_more))]
 fn tell_all(env: &Env, replicas: &[Replica], sources: &mut [usize], from: usize)
     requires from { from < length env.now.names }
     requires sized { length replicas.now ≡ length env.now.names }
     requires sources { AreSources (length env.now.names) sources.old }
-    ensures told { replicas_from replicas.now sources.new ≡ tell_all (cells_of env.now) (length env.now.names) (replicas_from replicas.now sources.old) from }
+    ensures told { replicas_from replicas.now sources.new
+        ≡ replicas_after_sending_all (env_cells env.now) (length env.now.names)
+        (replicas_from replicas.now sources.old) from }
     ensures sources { AreSources (length env.now.names) sources.new }
 {
     for to in 0..env.nodes().len() {
@@ -130,7 +151,7 @@ fn tell_all(env: &Env, replicas: &[Replica], sources: &mut [usize], from: usize)
 
 /// Each node's own place.
 fn own_sources(env: &Env) -> Sources
-    ensures { result.items ≡ places (length env.now.names) }
+    ensures { result.items ≡ ordered_places (length env.now.names) }
 {
     let mut sources = Sources::new();
     for place in 0..env.nodes().len() {
@@ -140,11 +161,11 @@ fn own_sources(env: &Env) -> Sources
 }
 
 /// All nodes tell all what they have.
-#[tactic(auto, using(crate::proofs::Places::fold_places_more))]
+#[tactic(auto, using(crate::proofs::PlaceLemmas::fold_places_more))]
 fn spread(env: &Env, replicas: &[Replica]) -> Sources
     requires sized { length replicas.now ≡ length env.now.names }
     ensures told { replicas_from replicas.now result.items
-        ≡ spread (cells_of env.now) (length env.now.names) replicas.now }
+        ≡ replicas_after_spread (env_cells env.now) (length env.now.names) replicas.now }
     ensures sources { AreSources (length env.now.names) result.items }
 {
     let mut sources = own_sources(env);
@@ -161,7 +182,8 @@ fn taken_from(
     sources: &[usize],
 ) -> Result<Vec<Taken>, AllocError>
     requires { AreSources (length replicas.now) sources.now }
-    ensures { IfOk result (λ taken. AreTaken replicas.now taken.items (replicas_from replicas.now sources.now)) }
+    ensures { IfOk result
+        (λ taken. AreTaken replicas.now taken.items (replicas_from replicas.now sources.now)) }
 {
     let mut taken = Vec::new(alloc);
     for place in 0..sources.len() {
@@ -174,7 +196,8 @@ fn taken_from(
     Ok(taken)
 }
 
-/// The replicas that nodes take over after they told each other what they have, if the store does so.
+/// The replicas that nodes take over after they told each other what they have, if the store does
+/// so.
 #[tactic(auto, unfolding(crate::specs::Stores::replicas_after_tick))]
 pub(crate) fn tick_replicas(
     alloc: Global,
@@ -184,7 +207,7 @@ pub(crate) fn tick_replicas(
 ) -> Result<Vec<Taken>, AllocError>
     requires sized { length replicas.now ≡ length env.now.names }
     ensures { IfOk result (λ taken. AreTaken replicas.now taken.items
-        (replicas_after_tick store (cells_of env.now) replicas.now)) }
+        (replicas_after_tick store (env_cells env.now) replicas.now)) }
 {
     match store {
         Store::Lww => {
@@ -199,7 +222,7 @@ pub(crate) fn tick_replicas(
 /// Takes over these replicas, each at its place.
 pub(crate) fn take_over(replicas: &mut Vec<Replica>, taken: Vec<Taken>)
     requires { All (λ t. t.place < length replicas.old.items) taken.items }
-    ensures { replicas.new.items ≡ with_all replicas.old.items taken.items }
+    ensures { replicas.new.items ≡ replicas_with_all replicas.old.items taken.items }
 {
     for one in taken {
         replicas[one.place] = one.replica;
@@ -214,7 +237,9 @@ fn give_all(
     these: &[usize],
 ) -> Result<Vec<Taken>, AllocError>
     requires { All (λ p. p < length replicas.now) these.now }
-    ensures { IfOk result (λ taken. AreTaken replicas.now taken.items (give_all new.now replicas.now these.now)) }
+    ensures { IfOk result
+        (λ taken. AreTaken replicas.now taken.items
+        (replicas_with_new_at new.now replicas.now these.now)) }
 {
     let mut taken = Vec::new(alloc);
     for place in these {
@@ -231,7 +256,7 @@ fn give_all(
 fn older(replicas: &[Replica], stamp: Mark, these: &[usize]) -> NodePlaces
     requires known { All (λ p. p < length replicas.now) these.now }
     requires few { length these.now ≤ 64 }
-    ensures places { result.items ≡ older replicas.now stamp these.now }
+    ensures places { result.items ≡ older_places replicas.now stamp these.now }
     ensures known { All (λ p. p < length replicas.now) result.items }
 {
     let mut those = NodePlaces::new();
@@ -261,7 +286,7 @@ fn newer_place(replicas: &[Replica], best: usize, place: usize) -> usize
 fn newest(replicas: &[Replica], these: &[usize]) -> usize
     requires known { All (λ p. p < length replicas.now) these.now }
     requires some { 0 < length replicas.now }
-    ensures value { result ≡ newest replicas.now these.now }
+    ensures value { result ≡ newest_place replicas.now these.now }
     ensures known { result < length replicas.now }
 {
     if these.is_empty() {
@@ -275,27 +300,29 @@ fn newest(replicas: &[Replica], these: &[usize]) -> usize
 }
 
 /// A reply with which no node takes over a replica.
-fn unchanged(alloc: Global, reply: Reply) -> Outcome
+fn unchanged(alloc: Global, reply: Reply) -> ReplyAndTaken
     ensures reply { result.reply ≡ reply }
     ensures taken { result.taken.items ≡ [] }
 {
-    Outcome {
+    ReplyAndTaken {
         reply,
         taken: Vec::new(alloc),
     }
 }
 
+/// What a node replies in a local store, and its own replica after a change.
 fn serve_local(
     alloc: Global,
     replicas: &[Replica],
     node: Node,
     request: Request,
-) -> Result<Outcome, AllocError>
+) -> Result<ReplyAndTaken, AllocError>
     requires { node < length replicas.now }
-    ensures { IfOk result (λ told. Gives replicas.now told (serve_local replicas.now node request)) }
+    ensures { IfOk result
+        (λ told. GivesReply replicas.now told (local_reply replicas.now node request)) }
 {
     let place = node.place() as usize;
-    if is_read(request) {
+    if is_read_request(request) {
         let got = replicas[place].contents.got(alloc)?;
         return Ok(unchanged(alloc, Reply::Ok(got)));
     }
@@ -307,7 +334,7 @@ fn serve_local(
             };
             let mut taken = Vec::new(alloc);
             taken.push(Taken { place, replica })?;
-            Ok(Outcome {
+            Ok(ReplyAndTaken {
                 reply: Reply::Ok(change.got),
                 taken,
             })
@@ -323,6 +350,7 @@ fn stamp_time(number: u64, clock: i64) -> i128
     number as i128 + clock as i128
 }
 
+/// What a node replies where the last writer wins, and what the nodes that it reaches take over.
 fn serve_lww(
     alloc: Global,
     env: &Env,
@@ -331,13 +359,15 @@ fn serve_lww(
     node: Node,
     request: Request,
     draw: u64,
-) -> Result<Outcome, AllocError>
+) -> Result<ReplyAndTaken, AllocError>
     requires known { node < length replicas.now }
     requires sized { length replicas.now ≡ length env.now.names }
-    ensures { IfOk result (λ told. Gives replicas.now told (serve_lww (cells_of env.now) replicas.now at node request draw)) }
+    ensures { IfOk result
+        (λ told. GivesReply replicas.now told
+        (lww_reply (env_cells env.now) replicas.now at node request draw)) }
 {
     let place = node.place() as usize;
-    if is_read(request) {
+    if is_read_request(request) {
         let got = replicas[place].contents.got(alloc)?;
         return Ok(unchanged(alloc, Reply::Ok(got)));
     }
@@ -349,7 +379,7 @@ fn serve_lww(
             };
             let these = older(replicas, new.mark, &reached_nodes(env, draw, node));
             let taken = give_all(alloc, replicas, &new, &these)?;
-            Ok(Outcome {
+            Ok(ReplyAndTaken {
                 reply: Reply::Ok(change.got),
                 taken,
             })
@@ -358,14 +388,16 @@ fn serve_lww(
     }
 }
 
+/// The reply to a read in a store of quorums; it fails where fewer than a majority respond.
 fn quorum_read(
     alloc: Global,
     replicas: &[Replica],
     answering: &[usize],
-) -> Result<Outcome, AllocError>
+) -> Result<ReplyAndTaken, AllocError>
     requires known { All (λ p. p < length replicas.now) answering.now }
     requires some { 0 < length replicas.now }
-    ensures { IfOk result (λ told. Gives replicas.now told (quorum_read replicas.now answering.now)) }
+    ensures { IfOk result
+        (λ told. GivesReply replicas.now told (quorum_read replicas.now answering.now)) }
 {
     if answering.len() < replicas.len() / 2 + 1 {
         return Ok(unchanged(alloc, Reply::Fail));
@@ -375,17 +407,21 @@ fn quorum_read(
     Ok(unchanged(alloc, Reply::Ok(got)))
 }
 
+/// The reply to a change in a store of quorums, and the new replica of each node reached. It fails
+/// where fewer than a majority are reached.
 fn quorum_write(
     alloc: Global,
     replicas: &[Replica],
     reached: &[usize],
     answering: usize,
     request: Request,
-) -> Result<Outcome, AllocError>
+) -> Result<ReplyAndTaken, AllocError>
     requires known { All (λ p. p < length replicas.now) reached.now }
     requires some { 0 < length replicas.now }
     requires low { (place : ℕ) → version_at replicas.now place < 65536 }
-    ensures { IfOk result (λ told. Gives replicas.now told (quorum_write replicas.now reached.now answering request)) }
+    ensures { IfOk result
+        (λ told. GivesReply replicas.now told
+        (quorum_write replicas.now reached.now answering request)) }
 {
     if reached.len() < replicas.len() / 2 + 1 {
         return Ok(unchanged(alloc, Reply::Fail));
@@ -403,12 +439,13 @@ fn quorum_write(
             } else {
                 Reply::Ok(change.got)
             };
-            Ok(Outcome { reply, taken })
+            Ok(ReplyAndTaken { reply, taken })
         }
         None => Ok(unchanged(alloc, Reply::Fail)),
     }
 }
 
+/// What a node replies in a store of quorums, and what the nodes that it reaches take over.
 fn serve_quorum(
     alloc: Global,
     env: &Env,
@@ -416,22 +453,24 @@ fn serve_quorum(
     node: Node,
     request: Request,
     draw: u64,
-) -> Result<Outcome, AllocError>
+) -> Result<ReplyAndTaken, AllocError>
     requires known { node < length replicas.now }
     requires sized { length replicas.now ≡ length env.now.names }
     requires low { (place : ℕ) → version_at replicas.now place < 65536 }
-    ensures { IfOk result (λ told. Gives replicas.now told (serve_quorum (cells_of env.now) replicas.now node request draw)) }
+    ensures { IfOk result
+        (λ told. GivesReply replicas.now told
+        (quorum_reply (env_cells env.now) replicas.now node request draw)) }
 {
     let reached = reached_nodes(env, draw, node);
     let answering = responding_nodes(env, node, &reached);
-    if is_read(request) {
+    if is_read_request(request) {
         return quorum_read(alloc, replicas, &answering);
     }
     quorum_write(alloc, replicas, &reached, answering.len(), request)
 }
 
 /// What a node replies to a request, and the replicas after it.
-#[tactic(auto, unfolding(crate::specs::Stores::serve))]
+#[tactic(auto, unfolding(crate::specs::Stores::reply_to))]
 pub(crate) fn serve(
     alloc: Global,
     settings: &Settings,
@@ -441,12 +480,14 @@ pub(crate) fn serve(
     node: Node,
     request: Request,
     draw: u64,
-) -> Result<Outcome, AllocError>
+) -> Result<ReplyAndTaken, AllocError>
     requires sized { length replicas.now ≡ length env.now.names }
     requires known { node < length replicas.now }
     requires low { (place : ℕ) → version_at replicas.now place ≤ number }
     requires few { number < 65536 }
-    ensures { IfOk result (λ told. Gives replicas.now told (serve settings.now (cells_of env.now) replicas.now number node request draw)) }
+    ensures { IfOk result
+        (λ told. GivesReply replicas.now told
+        (reply_to settings.now (env_cells env.now) replicas.now number node request draw)) }
 {
     if !request.is_of(settings.workload) {
         return Ok(unchanged(alloc, Reply::Fail));

@@ -1,12 +1,13 @@
-//! The turns of a serial run: who is asked, what comes of it, and which entries of the schedule are due. `specs/Runs.antt` has
-//! the rules, `specs/Running.antt` what holds between two turns.
+//! The turns of a serial run: who is asked, what comes of it, and which entries of the schedule are
+//! due. `specs/Runs.antt` has the rules, `specs/Running.antt` what holds between two turns.
 
-ghost use Rattle.std.specs.Prelude.{◌≡◌, ◌%◌, ◌<◌, ◌≤◌, List, length, IfOk, IfErr, OnOk, OnErr, false};
+ghost use Rattle.std.specs.Prelude.{◌≡◌, ◌%◌, ◌<◌, ◌≤◌, List, length, IfOk, IfErr, OnOk, false};
 ghost use Rattle.jh_simnode.specs.Limits.{max_events};
 ghost use Rattle.jh_simnode.specs.Runs as rule;
 ghost use Rattle.jh_simnode.specs.Runs.{Turns};
 ghost use Rattle.jh_simnode.specs.Running as running;
-ghost use Rattle.jh_simnode.specs.Running.{Asks, Halts, HasCalled, IsFirst, Keeps, MayCall, Settled, Stands};
+ghost use Rattle.jh_simnode.specs.Running.{Asks, Halts, HasReply, BeforeFirstTurn, MayCall};
+ghost use Rattle.jh_simnode.specs.Running.{NothingDue, BetweenTurns};
 ghost use Rattle.jh_simnode.specs.declared.events.Event.{Event};
 
 use crate::plan::Plan;
@@ -19,13 +20,13 @@ use jh_gen::{Driver, Ended, Gen, GenAnswer, Inner, Thread};
 use jh_ops::{Call, Process, Request};
 use rand_core::utils::NextWord;
 use rand_pcg::Lcg128Xsl64;
-use std::alloc::{AllocError, Global};
+use std::alloc::Global;
 
 /// Where a run stands, beside its world.
 #[derive(Drop)]
 pub(crate) struct Run {
     driver: Driver,
-    words: Lcg128Xsl64,
+    random_numbers: Lcg128Xsl64,
     /// How many calls of each client thread were answered, and of all.
     calls: Vec<u32>,
     answered: u32,
@@ -47,8 +48,8 @@ enum Asked {
 }
 
 /// How an operation with this reply ends.
-pub fn ended_of(reply: &Reply) -> Ended
-    ensures { result ≡ running.ended_of reply.now }
+pub fn reply_ending(reply: &Reply) -> Ended
+    ensures { result ≡ running.reply_ending reply.now }
 {
     match reply {
         Reply::Ok(_) => Ended::Ok,
@@ -59,7 +60,7 @@ pub fn ended_of(reply: &Reply) -> Ended
 
 /// The number of a client's process.
 fn number_of(process: Process) -> u64
-    ensures { result ≡ running.number_of process }
+    ensures { result ≡ running.process_number process }
 {
     match process {
         Process::Client(number) => number,
@@ -87,7 +88,8 @@ pub fn node_of(plan: &Plan, thread: u32) -> Node
     }
 }
 
-/// The driver of the plan's generator, cut off after as many calls as the plan has, for clients alone.
+/// The driver of the plan's generator, cut off after as many calls as the plan has, for clients
+/// alone.
 pub fn driver_of(alloc: Global, plan: &Plan) -> Result<Driver, RunError>
     ensures driver { IfOk result (running.IsFirstDriver plan.now) }
     ensures stopped { IfErr result (Halts plan.now) }
@@ -103,12 +105,12 @@ pub fn driver_of(alloc: Global, plan: &Plan) -> Result<Driver, RunError>
 impl Run {
     /// A run of a plan before its first turn.
     pub(crate) fn new(alloc: Global, plan: &Plan) -> Result<Run, RunError>
-        ensures first { IfOk result (IsFirst plan.now) }
+        ensures first { IfOk result (BeforeFirstTurn plan.now) }
         ensures stopped { IfErr result (Halts plan.now) }
     {
         Ok(Run {
             driver: driver_of(alloc, plan)?,
-            words: Lcg128Xsl64::new(u128::from(plan.seed()), 0),
+            random_numbers: Lcg128Xsl64::new(u128::from(plan.seed()), 0),
             calls: vec![in alloc; 0; plan.clients() as usize]?,
             answered: 0,
             applied: 0,
@@ -132,9 +134,10 @@ impl Run {
         plan: &Plan,
         world: &mut World,
     ) -> Result<(), RunError>
-        requires { Stands plan.now self.old world.old }
-        ensures settled { OnOk result (Settled plan.now self.new world.new) }
-        ensures turns { OnOk result ((self.new.waits ≡ self.old.waits) × (self.new.has_ended ≡ self.old.has_ended)) }
+        requires { BetweenTurns plan.now self.old world.old }
+        ensures settled { OnOk result (NothingDue plan.now self.new world.new) }
+        ensures turns { OnOk result
+            ((self.new.waits ≡ self.old.waits) × (self.new.has_ended ≡ self.old.has_ended)) }
         ensures grown { OnOk result (length world.old.journal ≤ length world.new.journal) }
         ensures stopped { IfErr result (Halts plan.now) }
     {
@@ -164,12 +167,13 @@ impl Run {
     /// Asks for the call of the thread whose turn it is.
     fn ask(&mut self, plan: &Plan, thread: u32) -> Asked
         requires { running.HasRoomToAsk self.old thread }
-        ensures { (r : Turns) (journal : List Event) → running.IsAsking plan.now r journal self.old thread
+        ensures { (r : Turns) (journal : List Event)
+            → running.IsAsking plan.now r journal self.old thread
             → Asks plan.now r journal result self.new }
     {
-        let word = self.words.next_word();
+        let random_number = self.random_numbers.next_word();
         self.asks += 1;
-        match self.driver.ask(Thread::Client(thread), word) {
+        match self.driver.ask(Thread::Client(thread), random_number) {
             Ok(GenAnswer::Call(process, Call::Client(request))) => {
                 Asked::Calls(number_of(process), request)
             }
@@ -199,16 +203,16 @@ impl Run {
         request: Request,
     ) -> Result<(), RunError>
         requires { MayCall plan.now self.old world.old thread process request }
-        ensures called { OnOk result (HasCalled plan.now self.new world.new thread) }
+        ensures called { OnOk result (HasReply plan.now self.new world.new thread) }
         ensures grown { OnOk result (length world.old.journal < length world.new.journal) }
         ensures turns { OnOk result ((self.new.waits ≡ 0) × (self.new.has_ended ≡ false)) }
         ensures stopped { IfErr result (Halts plan.now) }
     {
-        let draw = self.words.next_word();
+        let draw = self.random_numbers.next_word();
         let (_, reply) = world.call(process, node_of(plan, thread), request, draw)?;
         match self
             .driver
-            .complete(Thread::Client(thread), ended_of(&reply))
+            .complete(Thread::Client(thread), reply_ending(&reply))
         {
             Ok(()) => {}
             Err(_) => unreachable!(),
@@ -221,8 +225,8 @@ impl Run {
 
     /// Ticks where the thread's last call is followed by a tick.
     fn tick_if_due(&self, plan: &Plan, world: &mut World, thread: u32) -> Result<(), RunError>
-        requires { HasCalled plan.now self.now world.old thread }
-        ensures stands { OnOk result (Stands plan.now self.now world.new) }
+        requires { HasReply plan.now self.now world.old thread }
+        ensures stands { OnOk result (BetweenTurns plan.now self.now world.new) }
         ensures grown { OnOk result (length world.old.journal ≤ length world.new.journal) }
         ensures few { length world.old.journal ≤ max_events }
         ensures stopped { IfErr result (Halts plan.now) }
@@ -236,11 +240,11 @@ impl Run {
 
     /// Asks the next thread, and makes the call that it is given.
     pub(crate) fn take_turn(&mut self, plan: &Plan, world: &mut World) -> Result<(), RunError>
-        requires settled { Settled plan.now self.old world.old }
+        requires settled { NothingDue plan.now self.old world.old }
         requires going { self.old.has_ended ≡ false }
         requires patient { self.old.waits < plan.now.clients }
         requires crowd { plan.now.clients ≤ 16 }
-        ensures stands { OnOk result (Stands plan.now self.new world.new) }
+        ensures stands { OnOk result (BetweenTurns plan.now self.new world.new) }
         ensures falls { OnOk result (running.Falls self.old world.old self.new world.new) }
         ensures stopped { IfErr result (Halts plan.now) }
     {

@@ -1,26 +1,28 @@
-//! A world: one environment, one nemesis and one replica for each node, changed in place, with the journal of all that
-//! happened. `specs/Events.antt` recomputes where a world stands from its journal.
+//! A world: one environment, one nemesis and one replica for each node, changed in place, with the
+//! journal of all that happened. `specs/Events.antt` recomputes where a world stands from its
+//! journal.
 
-ghost use Rattle.std.specs.Prelude.{◌≡◌, ◌+◌, ◌<◌, ◌≤◌, [], length, IfOk, OnErr, MatchResult, replicate, ⊤};
+ghost use Rattle.std.specs.Prelude.{◌≡◌, ◌+◌, ◌<◌, ◌≤◌, [], length, IfOk, MatchResult, ⊤};
 ghost use Rattle.jh_env.specs.Overlay.{StandsFor};
 ghost use Rattle.jh_nemesis.specs.Steps.{FitsNodes};
 ghost use Rattle.jh_nemesis.specs.Work.{size_of_step};
-ghost use Rattle.jh_simnode.specs.Events.{Adds, Refuses, IsLegal, IsNew, moment_at};
+ghost use Rattle.jh_simnode.specs.Events.{AddsEvent, Refuses, IsLegal, IsNewWorld, moment_at};
 ghost use Rattle.jh_simnode.specs.Limits.{max_events};
 ghost use Rattle.jh_simnode.specs.declared.events.Event.TheVariants as Event;
 
 use crate::events::{Event, MAX_EVENTS, WorldError, fits};
 use crate::replicas::{Replica, Reply, first_replicas};
 use crate::settings::{Settings, Store};
-use crate::stores::{dead_nodes, forget, serve, take_over, tick_replicas};
+use crate::stores::{forget, killed_nodes, serve, take_over, tick_replicas};
 use jh_env::{Env, Node};
 use jh_nemesis::{Nemesis, Step, StepAnswer};
 use jh_ops::{Request, Workload};
 use std::alloc::{AllocError, Global};
 use std::marker::Model;
 
-/// An environment under faults, the replicas of a database on its nodes, and a journal of all that happened. A contract
-/// sees what the world keeps for good, its names, starting cells and settings, and the journal.
+/// An environment under faults, the replicas of a database on its nodes, and a journal of all that
+/// happened. A contract sees what the world keeps for good, its names, starting cells and settings,
+/// and the journal.
 #[derive(Debug, Drop)]
 pub struct World {
     alloc: Global,
@@ -35,16 +37,16 @@ impl Model for World {
 
     ghost Value = { WorldValue };
 
-    ghost use Rattle.jh_simnode.specs.Inside.{world_of, IsSound};
+    ghost use Rattle.jh_simnode.specs.Inside.{world_of, IsSoundWorld};
 
     ghost view = { world_of };
 
-    ghost invariant = { IsSound };
+    ghost invariant = { IsSoundWorld };
 }
 
 impl World {
-    /// A world in which nothing has happened, over an environment in which no fault is laid. `initial` is what a register
-    /// holds at first, and matters to no other workload.
+    /// A world in which nothing has happened, over an environment in which no fault is laid.
+    /// `initial` is what a register holds at first, and matters to no other workload.
     pub fn new(
         alloc: Global,
         env: Env,
@@ -54,7 +56,9 @@ impl World {
         initial: Option<i64>,
     ) -> Result<World, AllocError>
         requires { StandsFor env [] }
-        ensures { IfOk result (IsNew env (record { store = store; volatile = volatile; workload = workload; initial = initial })) }
+        ensures { IfOk result
+            (IsNewWorld env
+            (record { store = store; volatile = volatile; workload = workload; initial = initial })) }
     {
         let settings = Settings {
             store,
@@ -89,19 +93,22 @@ impl World {
         &self.nemesis
     }
 
-    /// The replicas of the database, one for each node by its place: those that the journal leads to.
+    /// The replicas of the database, one for each node by its place: those that the journal leads
+    /// to.
     pub fn replicas(&self) -> &[Replica]
         ensures { result.now ≡ (moment_at self.now.setup self.now.journal).replicas }
     {
         &self.replicas
     }
 
-    /// A client's call of a node. Answers the number of the event and the reply, which is the one that is due. `draw`
-    /// decides whether a message of the call is lost: on a link of loss n it is where draw mod 20 is below n.
+    /// A client's call of a node. Answers the number of the event and the reply, which is the one
+    /// that is due. `draw` decides whether a message of the call is lost: on a link of loss n it is
+    /// where draw mod 20 is below n.
     ///
     /// Takes time for the nodes, and for the replicas that it reads or changes.
     ///
-    /// Errors, which change nothing: `UnknownNode`; `TooManyEvents` after 65,536 events; `OutOfMemory`.
+    /// Errors, which change nothing: `UnknownNode`; `TooManyEvents` after 65,536 events;
+    /// `OutOfMemory`.
     pub fn call(
         &mut self,
         process: u64,
@@ -110,8 +117,10 @@ impl World {
         draw: u64,
     ) -> Result<(u64, Reply), WorldError>
         ensures added { MatchResult result
-            (λ told. Adds self.old (Event.Call process node request draw told.1) told.0 self.new)
-            (λ e. (self.new ≡ self.old) × Refuses (node < length self.old.setup.names) self.old.journal e) }
+            (λ told. AddsEvent self.old
+            (Event.Call process node request draw told.1) told.0 self.new)
+            (λ e. (self.new ≡ self.old)
+            × Refuses (node < length self.old.setup.names) self.old.journal e) }
         ensures work { self.new.work ≡ self.old.work }
     {
         if node.place() as usize >= self.replicas.len() {
@@ -144,17 +153,19 @@ impl World {
         Ok((number, reply))
     }
 
-    /// A step of the nemesis. Answers the number of the event and the answer of the nemesis; a step that it refuses is an
-    /// event too. Where the settings say so, a node that is killed by it loses its replica. A step back or forth takes
-    /// memory for its event only.
+    /// A step of the nemesis. Answers the number of the event and the answer of the nemesis; a step
+    /// that it refuses is an event too. Where the settings say so, a node that is killed by it
+    /// loses its replica. A step back or forth takes memory for its event only.
     ///
-    /// Errors, which change nothing: `UnknownNode` where the fault of a begin names one; `TooManyEvents` after 65,536
-    /// events; `OutOfMemory`.
+    /// Errors, which change nothing: `UnknownNode` where the fault of a begin names one;
+    /// `TooManyEvents` after 65,536 events; `OutOfMemory`.
     pub fn step(&mut self, step: Step) -> Result<(u64, StepAnswer), WorldError>
         ensures added { MatchResult result
-            (λ told. Adds self.old (Event.Step step told.1) told.0 self.new)
-            (λ e. (self.new ≡ self.old) × Refuses (FitsNodes (length self.old.setup.names) step) self.old.journal e) }
-        ensures work { self.new.work ≤ self.old.work + size_of_step (moment_at self.old.setup self.old.journal).faults step }
+            (λ told. AddsEvent self.old (Event.Step step told.1) told.0 self.new)
+            (λ e. (self.new ≡ self.old)
+            × Refuses (FitsNodes (length self.old.setup.names) step) self.old.journal e) }
+        ensures work { self.new.work
+            ≤ self.old.work + size_of_step (moment_at self.old.setup self.old.journal).faults step }
     {
         if !fits(&step, self.nemesis.env()) {
             return Err(WorldError::UnknownNode);
@@ -165,7 +176,7 @@ impl World {
         let number = self.journal.len() as u64;
         self.journal.reserve(1)?;
         let kept = step.copy(self.alloc)?;
-        let before = dead_nodes(self.nemesis.env());
+        let before = killed_nodes(self.nemesis.env());
         let answer = self.nemesis.apply(step)?;
         forget(
             self.alloc,
@@ -179,13 +190,13 @@ impl World {
         Ok((number, answer))
     }
 
-    /// A moment in which the nodes of a last-writer-wins store tell each other what they have. Answers the number of the
-    /// event.
+    /// A moment in which the nodes of a last-writer-wins store tell each other what they have.
+    /// Answers the number of the event.
     ///
     /// Errors, which change nothing: `TooManyEvents` after 65,536 events; `OutOfMemory`.
     pub fn tick(&mut self) -> Result<u64, WorldError>
         ensures added { MatchResult result
-            (λ told. Adds self.old Event.Tick told self.new)
+            (λ told. AddsEvent self.old Event.Tick told self.new)
             (λ e. (self.new ≡ self.old) × Refuses ⊤ self.old.journal e) }
         ensures work { self.new.work ≡ self.old.work }
     {

@@ -5,7 +5,7 @@
 use crate::held::{first_held, held_after};
 use crate::reach::{link, node_at, process, reached, responding};
 use jh_env::{Env, Life};
-use jh_ops::{Request, Workload};
+use jh_ops::Request;
 use jh_simnode::{Got, Reply, Settings, Store};
 use std::alloc::Global;
 
@@ -68,6 +68,7 @@ fn is_got(got: &Got, held: &[i64]) -> bool {
     }
 }
 
+/// A node's replica at first.
 fn first_replica(alloc: Global, settings: &Settings) -> Option<PlainReplica> {
     Some(PlainReplica {
         time: i128::MIN,
@@ -111,25 +112,30 @@ impl PlainCluster {
         })
     }
 
+    /// What the replica at a place holds.
     fn held(&self, place: usize) -> Option<&[i64]> {
         Some(self.replicas.get(place)?.held.as_slice())
     }
 
+    /// Whether these are more than half of the nodes.
     fn is_majority(&self, these: &[usize]) -> bool {
         these.len() > self.replicas.len() / 2
     }
 
+    /// Puts a new replica at a place: how new it is, and what it holds.
     fn keep(&mut self, place: usize, time: i128, by: usize, held: &[i64]) -> Option<()> {
         let held = held.to_vec(self.alloc).ok()?;
         *self.replicas.get_mut(place)? = PlainReplica { time, by, held };
         Some(())
     }
 
+    /// Whether the replica at a place is older than one of this time and node.
     fn is_older(&self, place: usize, time: i128, by: usize) -> Option<bool> {
         let replica = self.replicas.get(place)?;
         Some(replica.time < time || replica.time == time && replica.by < by)
     }
 
+    /// A read of the newest replica that responds; it fails where fewer than a majority respond.
     fn read_by_quorum(&self, asked: &Asked) -> Option<PlainReply> {
         if !self.is_majority(asked.responding.as_slice()) {
             return Some(PlainReply::Fail);
@@ -144,6 +150,8 @@ impl PlainCluster {
         held_after(self.alloc, workload, asked.request, self.held(place)?).ok()
     }
 
+    /// A change of the newest replica reached, which goes to all nodes reached. It fails where
+    /// fewer than a majority are reached.
     fn change_by_quorum(&mut self, asked: &Asked) -> Option<PlainReply> {
         if !self.is_majority(asked.reached.as_slice()) {
             return Some(PlainReply::Fail);
@@ -164,7 +172,8 @@ impl PlainCluster {
         }
     }
 
-    /// A change of a node's own replica, which goes to the nodes that are told of it and have an older one.
+    /// A change of a node's own replica, which goes to the nodes that are told of it and have an
+    /// older one.
     fn change_own(&mut self, asked: &Asked, time: i128, told: &[usize]) -> Option<PlainReply> {
         let Some(held) = self.after(asked, asked.at)? else {
             return Some(PlainReply::Fail);
@@ -178,6 +187,7 @@ impl PlainCluster {
         Some(reply)
     }
 
+    /// The reply of a node that runs, with its clock off by so much.
     fn serve_running(&mut self, asked: &Asked, clock: i64) -> Option<PlainReply> {
         match (self.settings.store, asked.request) {
             (Store::Quorum, Request::Read) => self.read_by_quorum(asked),
@@ -190,8 +200,8 @@ impl PlainCluster {
         }
     }
 
-    /// The reply to a request at the node of a place, which is the event of this number. `draw` is that of
-    /// `World::call`.
+    /// The reply to a request at the node of a place, which is the event of this number. `draw` is
+    /// that of `World::call`.
     pub fn serve(
         &mut self,
         env: &Env,
@@ -222,6 +232,8 @@ impl PlainCluster {
         self.serve_running(&asked, cell.clock)
     }
 
+    /// One node tells another what it has, where both run and the link is not cut: the other takes
+    /// it where its own is older.
     fn tell(&mut self, env: &Env, from: usize, to: usize) -> Option<()> {
         let is_running = process(env, from)? == Life::Running && process(env, to)? == Life::Running;
         if from == to || !is_running || link(env, from, to)?.cut {

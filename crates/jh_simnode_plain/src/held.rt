@@ -1,11 +1,12 @@
 //! What a replica holds, and what requests make of it.
 //!
-//! A replica holds a list of numbers: none or one of a register, one of a counter and of ids, all of a set, which
-//! ascend.
+//! A replica holds a list of numbers: none or one of a register, one of a counter and of ids, all
+//! of a set, which ascend.
 
 use jh_ops::{Request, Workload};
 use std::alloc::{AllocError, Global};
 
+/// One number alone.
 fn one(alloc: Global, value: i64) -> Result<Vec<i64>, AllocError> {
     Ok(vec![in alloc; value]?)
 }

@@ -1,5 +1,5 @@
-//! A plain slow cluster, and events that look random, which serve tests alone: `jh_simnode_tests` compares the worlds
-//! of `jh_simnode` with it.
+//! A plain slow cluster, and events that look random, which serve tests alone: `jh_simnode_tests`
+//! compares the worlds of `jh_simnode` with it.
 #![tactic(auto)]
 
 mod cluster;

@@ -7,10 +7,12 @@ use jh_nemesis::Step;
 use jh_ops::Request;
 use std::alloc::Global;
 
+/// A number from 0 to 4.
 fn small(random: &mut Random) -> i64 {
     i64::try_from(random.below(5)).unwrap_or(0)
 }
 
+/// An amount to add: mostly a small one, else the greatest or the least of all.
 fn amount(random: &mut Random) -> i64 {
     match random.below(12) {
         0 => i64::MAX,
@@ -72,7 +74,8 @@ fn fault_between(alloc: Global, env: &Env, kind: u64, link: (Node, Node)) -> Opt
     }
 }
 
-/// A delay that is fixed both ways: to none, to the most that is in time there and back, or to one more.
+/// A delay that is fixed both ways: to none, to the most that is in time there and back, or to one
+/// more.
 fn fix_between(alloc: Global, env: &Env, kind: u64, link: (Node, Node)) -> Option<Fault> {
     let ms = match kind {
         0 => 0,

@@ -24,6 +24,7 @@ fn carries(env: &Env, from: usize, to: usize, draw: u64) -> Option<bool> {
     Some(!link.cut && draw % 20 >= u64::from(link.loss))
 }
 
+/// Whether a request at one node reaches another by this draw; itself that node always reaches.
 fn is_reached(env: &Env, at: usize, other: usize, draw: u64) -> Option<bool> {
     if at == other {
         return Some(true);
@@ -32,6 +33,8 @@ fn is_reached(env: &Env, at: usize, other: usize, draw: u64) -> Option<bool> {
     Some(is_running && carries(env, at, other, draw)? && carries(env, other, at, draw)?)
 }
 
+/// Whether another node's answer to a request at one node comes in time; that node's own always
+/// does.
 fn is_responding(env: &Env, at: usize, other: usize) -> Option<bool> {
     if at == other {
         return Some(true);

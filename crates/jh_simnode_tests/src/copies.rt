@@ -2,8 +2,6 @@
 //!
 //! None is answered where memory was refused.
 
-ghost use Rattle.std.specs.Prelude.{◌≤◌, length};
-
 use crate::fixtures::{plan_of, value};
 use crate::plans::put_plan;
 use jh_simnode::{Entry, Numbers, Plan, PlanError, Schedule};

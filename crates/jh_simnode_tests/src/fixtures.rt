@@ -13,7 +13,7 @@ use jh_env::{Env, Nodes, env_of_value};
 use jh_gen::{Gen, gen_of_value};
 use jh_nemesis::step_of_value;
 use jh_ops::Workload;
-use jh_simnode::{Entry, Plan, PlanError, Schedule, Store, World};
+use jh_simnode::{Entry, Plan, PlanData, PlanError, Schedule, Settings, Store, World};
 use std::alloc::Global;
 
 /// The values of a text.
@@ -137,21 +137,23 @@ pub(crate) fn plan_of(alloc: Global, map: &Value) -> Option<Result<Plan, PlanErr
     let env = env_of(alloc, map)?;
     let generator = generator_of(alloc, map)?;
     let schedule = schedule_of(alloc, map)?;
-    Some(Plan::new(
-        alloc,
-        env,
-        store_of(map),
-        is_volatile(map),
-        workload_of(map),
-        integer(map, "initial"),
-        number(map, "clients", 1),
-        number(map, "ops", 1),
+    let fields = PlanData {
+        environment: env,
+        settings: Settings {
+            store: store_of(map),
+            volatile: is_volatile(map),
+            workload: workload_of(map),
+            initial: integer(map, "initial"),
+        },
+        clients: number(map, "clients", 1),
+        ops: number(map, "ops", 1),
         generator,
         schedule,
-        number(map, "tick-every", 0),
-        number(map, "rows", 1),
-        u64::from(number(map, "seed", 0)),
-    ))
+        tick_every: number(map, "tick-every", 0),
+        rows: number(map, "rows", 1),
+        seed: u64::from(number(map, "seed", 0)),
+    };
+    Some(Plan::new(alloc, fields))
 }
 
 /// The world of settings, in which nothing has happened.

@@ -9,13 +9,13 @@ use Rattle.std.specs.FinMap as map
 use Rattle.std.proofs.lemmas.List.{length-set, get_or-set_other, get_or-set_same, take-take, length-take-le}
 use Rattle.atomic_table.specs.Table.{step, Allows, keeps}
 use Rattle.atomic_table.proofs.Lists.{at_map}
-use Rattle.jh_slots.specs.Seats.{Mark, Words, Void, Claim, claim_at, after_end}
-use Rattle.jh_slots.specs.States.{IsSound, len_of}
-use Rattle.jh_slots.specs.Stored.{View, IsKept, IsStored, shown, mark_at, mark_of, status_of, status_at, place_at}
-use Rattle.jh_slots.specs.Steps.{Mine, knowing, Ends}
+use Rattle.jh_slots.specs.Seats.{Mark, Words, Void, Claim, claim_at, knowledge_after_end}
+use Rattle.jh_slots.specs.States.{IsSoundLog, len_of}
+use Rattle.jh_slots.specs.Stored.{View, IsTableKept, IsStored, shown_state, row_mark, mark_of, status_of, status_at, place_at}
+use Rattle.jh_slots.specs.Steps.{OwnView, view_knowing, Ends}
 use Rattle.jh_slots.proofs.MapLemmas.{gone, inserted, removed}
 use Rattle.jh_slots.proofs.WordLemmas.{seg_other}
-use Rattle.jh_slots.proofs.LookLemmas.{rebuild, lies_on, kept_mark}
+use Rattle.jh_slots.proofs.StepRuleLemmas.{rebuild, lies_on, kept_mark}
 use Rattle.jh_slots.proofs.WriteLemmas.{claim_is}
 
 -- the mark that a status makes of a claim's words is the one that it makes of the table's
@@ -43,13 +43,13 @@ module _ (cap : ℕ) (words : List ℕ) (views : List View) (id : ℕ) (v : View
   Now = set words At x
 
   abbrev New : View
-  New = knowing v (after_end f m v.knows)
+  New = view_knowing v (knowledge_after_end f m v.knows)
 
   abbrev Has : Type 0
   Has = map.get v.knows.claims f ≡ Some c
 
-  module _ (g : IsSound cap (shown cap words views)) (l : IsStored cap words views) (at : get_elem? views id ≡ some v) (has : Has) (fits : x ≤ 1 + 5 * c.rows) (is : mark_of x c.words ≡ Some m) where
-    known : get_elem? (shown cap words views).seats id ≡ some v.knows
+  module _ (g : IsSoundLog cap (shown_state cap words views)) (l : IsStored cap words views) (at : get_elem? views id ≡ some v) (has : Has) (fits : x ≤ 1 + 5 * c.rows) (is : mark_of x c.words ≡ Some m) where
+    known : get_elem? (shown_state cap words views).seats id ≡ some v.knows
     known = at_map (λ (u : View). u.knows) views id v at
 
     own : (1 ≤ c.rows) × (f + c.rows ≤ slice_index words 0) × (length c.words ≡ 5 * c.rows)
@@ -62,29 +62,29 @@ module _ (cap : ℕ) (words : List ℕ) (views : List View) (id : ℕ) (v : View
     end_status = let size = l.size in let o = own in let most : slice_index words 0 ≤ cap = g.next in get_or-set_same words At x 0 (omega arith)
 
     -- no other row's words reach a status
-    far : (r : ℕ) (y : Mark) → mark_at cap words r ≡ Some y → place_at r 0 + len_of y ≤ At
+    far : (r : ℕ) (y : Mark) → row_mark cap words r ≡ Some y → place_at r 0 + len_of y ≤ At
     far r y e = let h = g.marked r y e in let most : slice_index words 0 ≤ cap = g.next in let a : 5 * r + len_of y ≤ 5 * slice_index words 0 = h.1 in omega arith
 
-    pub end_else : (r : ℕ) → r ≢ f → mark_at cap Now r ≡ mark_at cap words r
+    pub end_else : (r : ℕ) → r ≢ f → row_mark cap Now r ≡ row_mark cap words r
     end_else r ne = kept_mark cap At x r words (λ e. ne (omega arith)) (λ y e. inr (far r y e)) (l.statuses r)
 
-    pub end_here : mark_at cap Now f ≡ Some m
+    pub end_here : row_mark cap Now f ≡ Some m
     end_here =
         let o = own in let most : slice_index words 0 ≤ cap = g.next in let len = own.2 in
         subst (λ n. mark_of n (drop (place_at f 0) Now) ≡ Some m) (sym end_status)
         (same_words (place_at f 0) x At x words c.words m (l.held id v f c at has) (omega arith) (omega arith) is)
 
     -- the row had no mark
-    unmarked : (y : Mark) → mark_at cap words f ≡ Some y → ⊥
+    unmarked : (y : Mark) → row_mark cap words f ≡ Some y → ⊥
     unmarked y e = let o = own in ⊎_elim (λ (h : f + c.rows ≤ f). omega arith) (λ (h : (f < f) × (5 * f + len_of y ≤ 5 * f)). let h0 = h.0 in omega arith) (g.clear id v.knows f c f y known has e)
 
-    end_grows : (r : ℕ) (y : Mark) → mark_at cap words r ≡ Some y → mark_at cap Now r ≡ Some y
-    end_grows r y e = end_else r (λ same. unmarked y (ap (mark_at cap words) (sym same) ∙ e)) ∙ e
+    end_grows : (r : ℕ) (y : Mark) → row_mark cap words r ≡ Some y → row_mark cap Now r ≡ Some y
+    end_grows r y e = end_else r (λ same. unmarked y (ap (row_mark cap words) (sym same) ∙ e)) ∙ e
 
-    end_marked : (r : ℕ) (y : Mark) → mark_at cap Now r ≡ Some y → ((r ≡ f) × (m ≡ y)) ⊎ (mark_at cap words r ≡ Some y)
+    end_marked : (r : ℕ) (y : Mark) → row_mark cap Now r ≡ Some y → ((r ≡ f) × (m ≡ y)) ⊎ (row_mark cap words r ≡ Some y)
     end_marked r y e =
         dite (ℕ_discrete r f)
-        (λ same. let h : Some m ≡ Some y = sym end_here ∙ (ap (mark_at cap Now) (sym same) ∙ e) in let is : m ≡ y = cc in inl (same, is))
+        (λ same. let h : Some m ≡ Some y = sym end_here ∙ (ap (row_mark cap Now) (sym same) ∙ e) in let is : m ≡ y = cc in inl (same, is))
         (λ ne. inr (sym (end_else r ne) ∙ e))
 
     end_claims : (h : ℕ) (d : Claim) → map.get New.knows.claims h ≡ Some d → map.get v.knows.claims h ≡ Some d
@@ -95,7 +95,7 @@ module _ (cap : ℕ) (words : List ℕ) (views : List View) (id : ℕ) (v : View
         let t = g.claims j u.knows h d (at_map (λ (u : View). u.knows) views j u e) is in let len = t.2 in let end = t.1 in let most : slice_index words 0 ≤ cap = g.next in
         seg_other (place_at h 0) (length d.words) At x words (inr (omega arith))
 
-    pub end_all : IsSound cap (shown cap Now (set views id New)) × IsStored cap Now (set views id New)
+    pub end_all : IsSoundLog cap (shown_state cap Now (set views id New)) × IsStored cap Now (set views id New)
     end_all =
         let next : slice_index Now 0 ≡ slice_index words 0 = end_next in
         let low : v.knows.low ≤ slice_index words 0 = g.low id v.knows known in
@@ -106,7 +106,7 @@ module _ (cap : ℕ) (words : List ℕ) (views : List View) (id : ℕ) (v : View
                 up = omega arith;
                 low = omega arith;
                 seen = λ r y e. ⊎_elim
-                    (λ (t : (r ≡ f) × (m ≡ y)). subst (λ (z : ℕ × Mark). mark_at cap Now z.0 ≡ Some z.1) (λ i. (sym t.0 i, t.1 i)) end_here)
+                    (λ (t : (r ≡ f) × (m ≡ y)). subst (λ (z : ℕ × Mark). row_mark cap Now z.0 ≡ Some z.1) (λ i. (sym t.0 i, t.1 i)) end_here)
                     (λ (t : (r ≢ f) × (map.get v.knows.seen r ≡ Some y)). end_grows r y (g.seen id v.knows r y known t.1))
                     (inserted v.knows.seen f r m y e);
                 grows = end_grows;
@@ -130,15 +130,15 @@ module _ (cap : ℕ) (words : List ℕ) (views : List View) (id : ℕ) (v : View
                 mine = λ h d e. held_far id v h d at (end_claims h d e) ∙ l.held id v h d at (end_claims h d e);
                 others = λ j u h d ne e is. held_far j u h d e is;
                 statuses = λ r y e. dite (ℕ_discrete r f)
-                    (λ same. let h : Some m ≡ Some y = sym end_here ∙ (ap (mark_at cap Now) (sym same) ∙ e) in let is : m ≡ y = cc in
+                    (λ same. let h : Some m ≡ Some y = sym end_here ∙ (ap (row_mark cap Now) (sym same) ∙ e) in let is : m ≡ y = cc in
                     ap (λ k. slice_index Now (status_at cap k)) same ∙ (end_status ∙ (st.0 ∙ ap status_of is)))
                     (λ ne. get_or-set_other words At (status_at cap r) x 0 (λ e. ne (omega arith)) ∙ l.statuses r y (sym (end_else r ne) ∙ e));
                 zeros = λ k a b. get_or-set_other words At (1 + k) x 0 (λ e. omega arith) ∙ l.zeros k (omega arith) b;
               }),
         )
 
-pub ends : (cap slots id f x : ℕ) (me : Mine) (c : Claim) (m : Mark) → me.0.live ≡ true → me.0.cap ≡ cap → map.get me.0.knows.claims f ≡ Some c → x ≤ 1 + 5 * c.rows → mark_of x c.words ≡ Some m
-    → Allows (IsKept cap) slots id me (status_at cap f) (λ _. x) (λ _. Ends (step slots (status_at cap f) x 0 none) me x)
+pub ends : (cap slots id f x : ℕ) (me : OwnView) (c : Claim) (m : Mark) → me.0.live ≡ true → me.0.cap ≡ cap → map.get me.0.knows.claims f ≡ Some c → x ≤ 1 + 5 * c.rows → mark_of x c.words ≡ Some m
+    → Allows (IsTableKept cap) slots id me (status_at cap f) (λ _. x) (λ _. Ends (step slots (status_at cap f) x 0 none) me x)
 ends cap slots id f x me c m live here has fits is s kept len at small =
     let v = me.0 in (
       New cap s.words s.views id v f x c m,
@@ -152,13 +152,13 @@ ends cap slots id f x me c m live here has fits is s kept len at small =
             let claim : claim_at v.knows h ≡ c = ap (claim_at v.knows) (sym one) ∙ claim_is v.knows f c has in
             let both : Some m ≡ Some y = sym is ∙ (ap (mark_of x) (ap (λ (d : Claim). d.words) (sym claim)) ∙ eq) in
             let same : m ≡ y = cc in
-            λ i. knowing v (after_end (one i) (same i) v.knows),
+            λ i. view_knowing v (knowledge_after_end (one i) (same i) v.knows),
       ),
     )
 
-pub ends_at : (cap slots id f x j : ℕ) (me : Mine) (c : Claim) (m : Mark) → j ≡ status_at cap f → me.0.live ≡ true → me.0.cap ≡ cap → map.get me.0.knows.claims f ≡ Some c → x ≤ 1 + 5 * c.rows → mark_of x c.words ≡ Some m
-    → Allows (IsKept cap) slots id me j (λ _. x) (λ _. Ends (step slots j x 0 none) me x)
-ends_at cap slots id f x j me c m e live here has fits is = subst (λ (k : ℕ). Allows (IsKept cap) slots id me k (λ _. x) (λ _. Ends (step slots k x 0 none) me x)) (sym e) (ends cap slots id f x me c m live here has fits is)
+pub ends_at : (cap slots id f x j : ℕ) (me : OwnView) (c : Claim) (m : Mark) → j ≡ status_at cap f → me.0.live ≡ true → me.0.cap ≡ cap → map.get me.0.knows.claims f ≡ Some c → x ≤ 1 + 5 * c.rows → mark_of x c.words ≡ Some m
+    → Allows (IsTableKept cap) slots id me j (λ _. x) (λ _. Ends (step slots j x 0 none) me x)
+ends_at cap slots id f x j me c m e live here has fits is = subst (λ (k : ℕ). Allows (IsTableKept cap) slots id me k (λ _. x) (λ _. Ends (step slots k x 0 none) me x)) (sym e) (ends cap slots id f x me c m live here has fits is)
 
 -- the status of a record
 pub mark_of-len : (len : ℕ) (ws : List ℕ) → 1 ≤ len → mark_of (len + 1) ws ≡ Some (Words (take len ws))

@@ -2,13 +2,13 @@ pub mod SoundLemmas
 pub mod OpeningLemmas
 pub mod WordLemmas
 pub mod MapLemmas
-pub mod LookLemmas
+pub mod StepRuleLemmas
 pub mod WriteLemmas
 pub mod EndLemmas
 pub mod LoadLemmas
 pub mod SeatLemmas
 pub mod ReadLemmas
 pub mod JoinLemmas
-pub mod TieLemmas
+pub mod JoinRuleLemmas
 pub mod LawLemmas
 pub mod CallerLemmas

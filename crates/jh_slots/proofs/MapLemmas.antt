@@ -6,7 +6,7 @@ use Rattle.std.specs.Ordering.{nat_cmp, eq_by_cmp}
 use Rattle.std.specs.Cmp.{nat_cmp_total, unsigned_tied}
 use Rattle.std.proofs.Common.{◌*◌, replicate, set}
 use Rattle.std.specs.Option.{unwrap_or}
-use Rattle.jh_slots.specs.Seats.{gather, Claim, Knowledge, Holds, after_claim, after_write, write_in, claim_at, no_claim}
+use Rattle.jh_slots.specs.Seats.{gathered_map, Claim, Knowledge, HoldsClaim, knowledge_after_claim, knowledge_after_write, written_claim, claim_at, no_claim}
 use mathlib.Core.Logic.{dite}
 use native.Mathlib.Decide.{ℕ_discrete}
 use Rattle.std.proofs.Common.{ne_eqb}
@@ -63,7 +63,7 @@ module _ {X : Type 0} where
       ap (cond (eq_by_cmp nat_cmp q e.0) (Some e.1)) (find_both q xs ys)
       ∙ elim (eq_by_cmp nat_cmp q e.0) as (λ b. cond b (Some e.1) (either_of (map.find nat_cmp q xs) (map.find nat_cmp q ys)) ≡ either_of (cond b (Some e.1) (map.find nat_cmp q xs)) (map.find nat_cmp q ys)) [ true ↦ refl | false ↦ refl ]
 
-  pub get_gather : (a b : Map X) (q : ℕ) → map.get (gather a b) q ≡ either_of (map.get a q) (map.get b q)
+  pub get_gather : (a b : Map X) (q : ℕ) → map.get (gathered_map a b) q ≡ either_of (map.get a q) (map.get b q)
   get_gather a b q = map.get-from_entries nat_cmp_total (map.entries a ++ map.entries b) q ∙ (find_both q (map.entries a) (map.entries b) ∙ λ i. either_of (sym (map.get-entries a q) i) (sym (map.get-entries b q) i))
 
   from_either : (o p : Option X) (x : X) → either_of o p ≡ Some x → (o ≡ Some x) ⊎ (p ≡ Some x)
@@ -71,18 +71,18 @@ module _ {X : Type 0} where
   from_either None p x e = inr e
 
   -- what is in the gathered map was in one of the two
-  pub of_gather : (a b : Map X) (q : ℕ) (x : X) → map.get (gather a b) q ≡ Some x → (map.get a q ≡ Some x) ⊎ (map.get b q ≡ Some x)
+  pub of_gather : (a b : Map X) (q : ℕ) (x : X) → map.get (gathered_map a b) q ≡ Some x → (map.get a q ≡ Some x) ⊎ (map.get b q ≡ Some x)
   of_gather a b q x e = from_either (map.get a q) (map.get b q) x (sym (get_gather a b q) ∙ e)
 
 pub nothing_at : {X : Type 0} (q : ℕ) (x : X) → map.get (map.empty {X = X} {R = nat_cmp}) q ≡ Some x → ⊥
 nothing_at {X} q x e = let n : map.get (map.empty {X = X} {R = nat_cmp}) q ≡ None = map.get-empty nat_cmp q in let h : None ≡ Some x = sym n ∙ e in absurd (cc)
 
 -- a claim is held once it is taken, and stays held when it is written
-pub holds_took : (v w : Knowledge) (f rows : ℕ) → w ≡ after_claim f rows v → Holds w f rows
+pub holds_took : (v w : Knowledge) (f rows : ℕ) → w ≡ knowledge_after_claim f rows v → HoldsClaim w f rows
 holds_took v w f rows e = (replicate (5 * rows) 0, ap (λ (x : Knowledge). map.get x.claims f) e ∙ get_new v.claims f (record { rows = rows; words = replicate (5 * rows) 0 }))
 
-pub holds_wrote : (v w : Knowledge) (f rows p x : ℕ) → w ≡ after_write f p x v → Holds v f rows → Holds w f rows
+pub holds_wrote : (v w : Knowledge) (f rows p x : ℕ) → w ≡ knowledge_after_write f p x v → HoldsClaim v f rows → HoldsClaim w f rows
 holds_wrote v w f rows p x e (ws, is) =
     let c : Claim = record { rows = rows; words = ws } in
     let at : claim_at v f ≡ c = ap (λ o. unwrap_or o no_claim) is in
-    (set ws p x, ap (λ (y : Knowledge). map.get y.claims f) e ∙ (get_new v.claims f (write_in (claim_at v f) p x) ∙ ap (λ (y : Claim). Some (write_in y p x)) at))
+    (set ws p x, ap (λ (y : Knowledge). map.get y.claims f) e ∙ (get_new v.claims f (written_claim (claim_at v f) p x) ∙ ap (λ (y : Claim). Some (written_claim y p x)) at))

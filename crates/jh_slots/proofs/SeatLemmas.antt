@@ -3,7 +3,7 @@ use Rattle.std.proofs.Common.{◌≡◌, ◌≢◌, ℕ, ◌+◌, ◌*◌, ◌<�
 use Rattle.std.specs.FinMap as map
 use Rattle.std.specs.Ordering.{nat_cmp}
 use Rattle.std.proofs.lemmas.List.{length-set}
-use Rattle.jh_slots.specs.Seats.{Mark, Claim, Knowledge, Holds, claim_at, after_look, after_claim, after_write, after_end, after_read, write_in, AreApart}
+use Rattle.jh_slots.specs.Seats.{Mark, Claim, Knowledge, HoldsClaim, claim_at, knowledge_after_look, knowledge_after_claim, knowledge_after_write, knowledge_after_end, knowledge_after_read, written_claim, AreClaimsApart}
 use Rattle.jh_slots.specs.Stored.{View, IsSeat, opening_view, copy_view, join_view}
 use Rattle.atomic_table.specs.Seated.{TableId}
 use mathlib.Core.Option.{none}
@@ -11,7 +11,7 @@ use Rattle.std.specs.Prelude.{◌==◌, MatchBool, Bool, false}
 use Rattle.std.proofs.Common.{◌-◌}
 use Rattle.std.proofs.lemmas.Bool.{eqb-true}
 use Rattle.atomic_table.specs.Table.{step}
-use Rattle.jh_slots.specs.Steps.{Mine, Takes, knowing, forgetting}
+use Rattle.jh_slots.specs.Steps.{OwnView, TakesRows, view_knowing, view_forgetting}
 use Rattle.jh_slots.proofs.MapLemmas.{inserted, removed, of_gather, nothing_at}
 use Rattle.jh_slots.proofs.WordLemmas.{zeros_len}
 use Rattle.jh_slots.proofs.WriteLemmas.{claim_is}
@@ -30,10 +30,10 @@ seat_opening cap le =
     }
 
 module _ (n : ℕ) (v : View) (s : IsSeat n v) where
-  pub seat_looked : (k : ℕ) → IsSeat n (knowing v (after_look k v.knows))
+  pub seat_looked : (k : ℕ) → IsSeat n (view_knowing v (knowledge_after_look k v.knows))
   seat_looked k = record { live = s.live; size = s.size; small = s.small; claims = s.claims; seen = s.seen }
 
-  pub seat_took : (first rows : ℕ) → 1 ≤ rows → first + rows ≤ v.cap → IsSeat n (knowing v (after_claim first rows v.knows))
+  pub seat_took : (first rows : ℕ) → 1 ≤ rows → first + rows ≤ v.cap → IsSeat n (view_knowing v (knowledge_after_claim first rows v.knows))
   seat_took first rows one fit =
       record {
         live = s.live;
@@ -48,7 +48,7 @@ module _ (n : ℕ) (v : View) (s : IsSeat n v) where
         seen = s.seen;
       }
 
-  pub seat_wrote : (f p x : ℕ) (c : Claim) → map.get v.knows.claims f ≡ Some c → IsSeat n (knowing v (after_write f p x v.knows))
+  pub seat_wrote : (f p x : ℕ) (c : Claim) → map.get v.knows.claims f ≡ Some c → IsSeat n (view_knowing v (knowledge_after_write f p x v.knows))
   seat_wrote f p x c has =
       let old = s.claims f c has in
       record {
@@ -56,22 +56,22 @@ module _ (n : ℕ) (v : View) (s : IsSeat n v) where
         size = s.size;
         small = s.small;
         claims = λ g d e. ⊎_elim
-            (λ (t : (g ≡ f) × (write_in (claim_at v.knows f) p x ≡ d)).
-            let is : write_in c p x ≡ d = ap (λ (y : Claim). write_in y p x) (sym (claim_is v.knows f c has)) ∙ t.1 in
+            (λ (t : (g ≡ f) × (written_claim (claim_at v.knows f) p x ≡ d)).
+            let is : written_claim c p x ≡ d = ap (λ (y : Claim). written_claim y p x) (sym (claim_is v.knows f c has)) ∙ t.1 in
             let k : c.rows ≡ d.rows = ap (λ (y : Claim). y.rows) is in let m : length (set c.words p x) ≡ length d.words = ap (λ (y : Claim). length y.words) is in let l : length (set c.words p x) ≡ length c.words = length-set c.words p x in let w = t.0 in
             (omega arith, omega arith, omega arith))
             (λ (t : (g ≢ f) × (map.get v.knows.claims g ≡ Some d)). s.claims g d t.1)
-            (inserted v.knows.claims f g (write_in (claim_at v.knows f) p x) d e);
+            (inserted v.knows.claims f g (written_claim (claim_at v.knows f) p x) d e);
         seen = s.seen;
       }
 
   seen_more : (r : ℕ) (m : Mark) → r < v.cap → (q : ℕ) (x : Mark) → map.get (map.insert v.knows.seen r m) q ≡ Some x → q < v.cap
   seen_more r m lt q x e = ⊎_elim (λ (t : (q ≡ r) × (m ≡ x)). let h = t.0 in omega arith) (λ (t : (q ≢ r) × (map.get v.knows.seen q ≡ Some x)). s.seen q x t.1) (inserted v.knows.seen r q m x e)
 
-  pub seat_ended : (f : ℕ) (m : Mark) → f < v.cap → IsSeat n (knowing v (after_end f m v.knows))
+  pub seat_ended : (f : ℕ) (m : Mark) → f < v.cap → IsSeat n (view_knowing v (knowledge_after_end f m v.knows))
   seat_ended f m lt = record { live = s.live; size = s.size; small = s.small; claims = λ g d e. s.claims g d (removed v.knows.claims f g d e).1; seen = seen_more f m lt }
 
-  pub seat_saw : (r : ℕ) (m : Mark) → r < v.cap → IsSeat n (knowing v (after_read r m v.knows))
+  pub seat_saw : (r : ℕ) (m : Mark) → r < v.cap → IsSeat n (view_knowing v (knowledge_after_read r m v.knows))
   seat_saw r m lt = record { live = s.live; size = s.size; small = s.small; claims = s.claims; seen = seen_more r m lt }
 
 -- the note and the events of a view may change it without a seat's facts
@@ -94,7 +94,7 @@ pub cap_is : (n rows : ℕ) (v : View) → IsSeat n v → n ≡ 1 + 6 * rows →
 cap_is n rows v s e = let size = s.size in omega arith
 
 -- a claim that the seat holds
-pub own_claim : (n rows : ℕ) (v : View) (k : Knowledge) (f r : ℕ) → IsSeat n v → n ≡ 1 + 6 * rows → v.knows ≡ k → Holds k f r
+pub own_claim : (n rows : ℕ) (v : View) (k : Knowledge) (f r : ℕ) → IsSeat n v → n ≡ 1 + 6 * rows → v.knows ≡ k → HoldsClaim k f r
     → (c : Claim) × (map.get v.knows.claims f ≡ Some c) × (c.rows ≡ r) × (1 ≤ r) × (f + r ≤ rows) × (length c.words ≡ 5 * r)
 own_claim n rows v k f r s e is (words, has) =
     let c : Claim = record { rows = r; words = words } in
@@ -104,22 +104,22 @@ own_claim n rows v k f r s e is (words, has) =
     (c, here, refl, h.0, omega arith, h.2)
 
 -- a seat after an exchange of the next free row
-pub takes_stay : (cap slots first rows n : ℕ) (me you : Mine) (t u : TableId) → me.1 ≡ [] → u ≡ t → IsSeat t.words me.0 → me.0.cap ≡ cap → 1 ≤ rows → first + rows ≤ cap
-    → Takes (step slots 0 first (first + rows) none) me n you → (you.1 ≡ []) × IsSeat u.words you.0
+pub takes_stay : (cap slots first rows n : ℕ) (me you : OwnView) (t u : TableId) → me.1 ≡ [] → u ≡ t → IsSeat t.words me.0 → me.0.cap ≡ cap → 1 ≤ rows → first + rows ≤ cap
+    → TakesRows (step slots 0 first (first + rows) none) me n you → (you.1 ≡ []) × IsSeat u.words you.0
 takes_stay cap slots first rows n me you t u empty table s here one fit e = cases (n == first) refl e.3
   where
-    cases : (b : Bool) → (n == first) ≡ b → MatchBool b ((you.0 ≡ knowing me.0 (after_claim n ((first + rows) - first) me.0.knows)) × ((r : ℕ) (m : Mark) → map.get me.0.knows.seen r ≡ Some m → r < n) × AreApart you.0.knows) (you.0 ≡ knowing me.0 (after_look n me.0.knows)) → (you.1 ≡ []) × IsSeat u.words you.0
+    cases : (b : Bool) → (n == first) ≡ b → MatchBool b ((you.0 ≡ view_knowing me.0 (knowledge_after_claim n ((first + rows) - first) me.0.knows)) × ((r : ℕ) (m : Mark) → map.get me.0.knows.seen r ≡ Some m → r < n) × AreClaimsApart you.0.knows) (you.0 ≡ view_knowing me.0 (knowledge_after_look n me.0.knows)) → (you.1 ≡ []) × IsSeat u.words you.0
     cases true is h =
         let same : n ≡ first = eqb-true n first is in
         let k : (first + rows) - first ≡ rows = omega arith in
-        let w : View = knowing me.0 (after_claim n rows me.0.knows) in
-        stays me.1 you.1 t u you.0 w empty e.0 table (h.0 ∙ ap (λ k. knowing me.0 (after_claim n k me.0.knows)) k) (seat_took t.words me.0 s n rows one (omega arith))
-    cases false is h = stays me.1 you.1 t u you.0 (knowing me.0 (after_look n me.0.knows)) empty e.0 table h (seat_looked t.words me.0 s n)
+        let w : View = view_knowing me.0 (knowledge_after_claim n rows me.0.knows) in
+        stays me.1 you.1 t u you.0 w empty e.0 table (h.0 ∙ ap (λ k. view_knowing me.0 (knowledge_after_claim n k me.0.knows)) k) (seat_took t.words me.0 s n rows one (omega arith))
+    cases false is h = stays me.1 you.1 t u you.0 (view_knowing me.0 (knowledge_after_look n me.0.knows)) empty e.0 table h (seat_looked t.words me.0 s n)
 
 pub seat_copied : (n : ℕ) (v : View) → IsSeat n v → IsSeat n (copy_view v)
 seat_copied n v s = record { live = s.live; size = s.size; small = s.small; claims = λ f c e. absurd (nothing_at f c e); seen = s.seen }
 
-pub seat_joined : (n : ℕ) (v w : View) → IsSeat n v → IsSeat n w → IsSeat n (forgetting (join_view v w))
+pub seat_joined : (n : ℕ) (v w : View) → IsSeat n v → IsSeat n w → IsSeat n (view_forgetting (join_view v w))
 seat_joined n v w s t =
     let a = s.size in let b = t.size in let same : w.cap ≡ v.cap = omega arith in
     record {

@@ -6,7 +6,7 @@ use lib.ListN.{get_elem?}
 use Rattle.std.specs.FinMap as map
 use Rattle.atomic_table.proofs.Lists.{at_set}
 use Rattle.jh_slots.specs.Seats.{Mark, Claim, Knowledge}
-use Rattle.jh_slots.specs.States.{State, IsSound, Moves, moved, len_of, IsClear}
+use Rattle.jh_slots.specs.States.{LogState, IsSoundLog, Moves, state_after_event, len_of, IsClear}
 
 pub each_set : (P : ℕ → Knowledge → Type 0) (l : List Knowledge) (i : ℕ) (w : Knowledge) → P i w → ((j : ℕ) (u : Knowledge) → get_elem? l j ≡ some u → P j u) → (j : ℕ) (u : Knowledge) → get_elem? (set l i w) j ≡ some u → P j u
 each_set P l i w mine others j u e =
@@ -16,10 +16,10 @@ each_set P l i w mine others j u e =
     (at_set l i j w u e)
 
 -- where a claim comes from: an old one of the seat, of as many rows, or it is the moving seat's and starts at the next free row
-abbrev Origin : State → ℕ → ℕ → ℕ → Claim → Type 0
+abbrev Origin : LogState → ℕ → ℕ → ℕ → Claim → Type 0
 Origin s i j f c = ((u : Knowledge) × (d : Claim) × (get_elem? s.seats j ≡ some u) × (map.get u.claims f ≡ Some d) × (d.rows ≡ c.rows)) ⊎ ((j ≡ i) × (f ≡ s.next))
 
-origin : (s : State) (i : ℕ) (v w : Knowledge) (next : ℕ) (marks : ℕ → Option Mark) → get_elem? s.seats i ≡ some v → Moves s v w next marks
+origin : (s : LogState) (i : ℕ) (v w : Knowledge) (next : ℕ) (marks : ℕ → Option Mark) → get_elem? s.seats i ≡ some v → Moves s v w next marks
     → (j : ℕ) (u : Knowledge) → get_elem? (set s.seats i w) j ≡ some u → (f : ℕ) (c : Claim) → map.get u.claims f ≡ Some c → Origin s i j f c
 origin s i v w next marks at m =
     each_set (λ j u. (f : ℕ) (c : Claim) → map.get u.claims f ≡ Some c → Origin s i j f c) s.seats i w
@@ -29,7 +29,7 @@ origin s i v w next marks at m =
     ((m.claims f c e).1))
     (λ j u e f c is. inl (u, c, e, is, refl))
 
-claims_of : (cap : ℕ) (s : State) (i : ℕ) (v w : Knowledge) (next : ℕ) (marks : ℕ → Option Mark) → IsSound cap s → get_elem? s.seats i ≡ some v → Moves s v w next marks
+claims_of : (cap : ℕ) (s : LogState) (i : ℕ) (v w : Knowledge) (next : ℕ) (marks : ℕ → Option Mark) → IsSoundLog cap s → get_elem? s.seats i ≡ some v → Moves s v w next marks
     → (f : ℕ) (c : Claim) → map.get w.claims f ≡ Some c → (1 ≤ c.rows) × (f + c.rows ≤ next) × (length c.words ≡ 5 * c.rows)
 claims_of cap s i v w next marks g at m f c e =
     let up = m.up in
@@ -42,7 +42,7 @@ claims_of cap s i v w next marks g at m f c e =
 abbrev Apart : ℕ → ℕ → ℕ → ℕ → Claim → Claim → Type 0
 Apart i j f g c d = ((i ≡ j) × (f ≡ g)) ⊎ ((f + c.rows ≤ g) ⊎ (g + d.rows ≤ f))
 
-apart_of : (cap : ℕ) (s : State) (i j k f h : ℕ) (c d : Claim) → IsSound cap s → Origin s i j f c → Origin s i k h d → Apart j k f h c d
+apart_of : (cap : ℕ) (s : LogState) (i j k f h : ℕ) (c d : Claim) → IsSoundLog cap s → Origin s i j f c → Origin s i k h d → Apart j k f h c d
 apart_of cap s i j k f h c d g (inl (u, c', at, is, same)) (inl (u', d', at', is', same')) =
     ⊎_elim (λ t. inl t)
     (λ o. ⊎_elim (λ (x : f + c'.rows ≤ h). inr (inl (omega arith))) (λ (y : h + d'.rows ≤ f). inr (inr (omega arith))) o)
@@ -51,7 +51,7 @@ apart_of cap s i j k f h c d g (inl (u, c', at, is, same)) (inr (_, y)) = let b 
 apart_of cap s i j k f h c d g (inr (_, y)) (inl (u, d', at, is, same)) = let b : h + d'.rows ≤ s.next = (g.claims k u h d' at is).1 in inr (inr (omega arith))
 apart_of cap s i j k f h c d g (inr (x, y)) (inr (x', y')) = inl (x ∙ sym x', y ∙ sym y')
 
-clear_of : (cap : ℕ) (s : State) (i : ℕ) (v w : Knowledge) (j f r : ℕ) (c : Claim) (m : Mark) → IsSound cap s → get_elem? s.seats i ≡ some v
+clear_of : (cap : ℕ) (s : LogState) (i : ℕ) (v w : Knowledge) (j f r : ℕ) (c : Claim) (m : Mark) → IsSoundLog cap s → get_elem? s.seats i ≡ some v
     → (j ≡ i → map.get w.claims f ≡ Some c) → Origin s i j f c
     → (s.marks r ≡ Some m) ⊎ ((d : Claim) × (map.get v.claims r ≡ Some d) × (len_of m ≤ 5 * d.rows) × (map.get w.claims r ≡ None)) → IsClear r m f c
 clear_of cap s i v w j f r c m g at own (inl (u, c', at', is, same)) (inl old) =
@@ -67,7 +67,7 @@ clear_of cap s i v w j f r c m g at own (inr (x, y)) (inr (d, has, small, gone))
     let one : 1 ≤ d.rows = (g.claims i v r d at has).0 in
     let b : r + d.rows ≤ s.next = (g.claims i v r d at has).1 in inr (omega arith, omega arith)
 
-pub good_moves : (cap : ℕ) (s : State) (i : ℕ) (v w : Knowledge) (next : ℕ) (marks : ℕ → Option Mark) → IsSound cap s → get_elem? s.seats i ≡ some v → Moves s v w next marks → next ≤ cap → IsSound cap (moved s i w next marks)
+pub good_moves : (cap : ℕ) (s : LogState) (i : ℕ) (v w : Knowledge) (next : ℕ) (marks : ℕ → Option Mark) → IsSoundLog cap s → get_elem? s.seats i ≡ some v → Moves s v w next marks → next ≤ cap → IsSoundLog cap (state_after_event s i w next marks)
 good_moves cap s i v w next marks g at m le =
     let come = origin s i v w next marks at m in
     record {

@@ -8,13 +8,13 @@ use Rattle.std.specs.FinMap as map
 use Rattle.std.proofs.lemmas.List.{length-set, get_or-set_other}
 use Rattle.atomic_table.specs.Table.{step, Allows, keeps}
 use Rattle.atomic_table.proofs.Lists.{at_map}
-use Rattle.jh_slots.specs.Seats.{Mark, Claim, Knowledge, claim_at, no_claim, write_in}
-use Rattle.jh_slots.specs.States.{IsSound, len_of}
-use Rattle.jh_slots.specs.Stored.{View, IsKept, IsStored, shown, mark_at, status_at, place_at}
-use Rattle.jh_slots.specs.Steps.{Mine, knowing, Writes}
+use Rattle.jh_slots.specs.Seats.{Mark, Claim, Knowledge, claim_at, no_claim, written_claim}
+use Rattle.jh_slots.specs.States.{IsSoundLog, len_of}
+use Rattle.jh_slots.specs.Stored.{View, IsTableKept, IsStored, shown_state, row_mark, status_at, place_at}
+use Rattle.jh_slots.specs.Steps.{OwnView, view_knowing, Writes}
 use Rattle.jh_slots.proofs.MapLemmas.{inserted}
 use Rattle.jh_slots.proofs.WordLemmas.{seg_other, seg_in}
-use Rattle.jh_slots.proofs.LookLemmas.{rebuild, lies_on, kept_mark}
+use Rattle.jh_slots.proofs.StepRuleLemmas.{rebuild, lies_on, kept_mark}
 
 pub claim_is : (v : Knowledge) (f : ℕ) (c : Claim) → map.get v.claims f ≡ Some c → claim_at v f ≡ c
 claim_is v f c e = ap (λ o. unwrap_or o no_claim) e
@@ -32,15 +32,15 @@ module _ (cap : ℕ) (words : List ℕ) (views : List View) (id : ℕ) (v : View
   Now = set words At x
 
   abbrev Put : Claim
-  Put = write_in c p x
+  Put = written_claim c p x
 
   abbrev New : View
-  New = knowing v (record { seen = v.knows.seen; low = v.knows.low; claims = map.insert v.knows.claims f Put })
+  New = view_knowing v (record { seen = v.knows.seen; low = v.knows.low; claims = map.insert v.knows.claims f Put })
 
   abbrev Has : Type 0
   Has = map.get v.knows.claims f ≡ Some c
 
-  put_mark : IsSound cap (shown cap words views) → IsStored cap words views → get_elem? views id ≡ some v → Has → p < 5 * c.rows → (r : ℕ) → mark_at cap Now r ≡ mark_at cap words r
+  put_mark : IsSoundLog cap (shown_state cap words views) → IsStored cap words views → get_elem? views id ≡ some v → Has → p < 5 * c.rows → (r : ℕ) → row_mark cap Now r ≡ row_mark cap words r
   put_mark g l at has lt r =
       let known = at_map (λ (u : View). u.knows) views id v at in
       let end : f + c.rows ≤ slice_index words 0 = (g.claims id v.knows f c known has).1 in
@@ -52,7 +52,7 @@ module _ (cap : ℕ) (words : List ℕ) (views : List View) (id : ℕ) (v : View
   put_next : slice_index Now 0 ≡ slice_index words 0
   put_next = get_or-set_other words At 0 x 0 (λ e. omega arith)
 
-  put_mine : IsSound cap (shown cap words views) → IsStored cap words views → get_elem? views id ≡ some v → Has → p < 5 * c.rows → (h : ℕ) (d : Claim) → map.get New.knows.claims h ≡ Some d → take (length d.words) (drop (place_at h 0) Now) ≡ d.words
+  put_mine : IsSoundLog cap (shown_state cap words views) → IsStored cap words views → get_elem? views id ≡ some v → Has → p < 5 * c.rows → (h : ℕ) (d : Claim) → map.get New.knows.claims h ≡ Some d → take (length d.words) (drop (place_at h 0) Now) ≡ d.words
   put_mine g l at has lt h d e =
       let known = at_map (λ (u : View). u.knows) views id v at in
       ⊎_elim
@@ -67,8 +67,8 @@ module _ (cap : ℕ) (words : List ℕ) (views : List View) (id : ℕ) (v : View
       ∙ l.held id v h d at t.1)
       (inserted v.knows.claims f h Put d e)
 
-  put : IsSound cap (shown cap words views) → IsStored cap words views → get_elem? views id ≡ some v → Has → p < 5 * c.rows
-      → IsSound cap (shown cap Now (set views id New)) × IsStored cap Now (set views id New)
+  put : IsSoundLog cap (shown_state cap words views) → IsStored cap words views → get_elem? views id ≡ some v → Has → p < 5 * c.rows
+      → IsSoundLog cap (shown_state cap Now (set views id New)) × IsStored cap Now (set views id New)
   put g l at has lt =
       let known = at_map (λ (u : View). u.knows) views id v at in
       let same = put_mark g l at has lt in
@@ -77,8 +77,8 @@ module _ (cap : ℕ) (words : List ℕ) (views : List View) (id : ℕ) (v : View
       let low : v.knows.low ≤ slice_index words 0 = g.low id v.knows known in
       let end : f + c.rows ≤ slice_index words 0 = own.1 in
       let most : slice_index words 0 ≤ cap = g.next in
-      let grows : (r : ℕ) (m : Mark) → mark_at cap words r ≡ Some m → mark_at cap Now r ≡ Some m = λ r m e. same r ∙ e in
-      let back : (r : ℕ) (m : Mark) → mark_at cap Now r ≡ Some m → mark_at cap words r ≡ Some m = λ r m e. sym (same r) ∙ e in (
+      let grows : (r : ℕ) (m : Mark) → row_mark cap words r ≡ Some m → row_mark cap Now r ≡ Some m = λ r m e. same r ∙ e in
+      let back : (r : ℕ) (m : Mark) → row_mark cap Now r ≡ Some m → row_mark cap words r ≡ Some m = λ r m e. sym (same r) ∙ e in (
         rebuild cap words Now views id v New g at
             (record {
               up = omega arith;
@@ -114,7 +114,7 @@ module _ (cap : ℕ) (words : List ℕ) (views : List View) (id : ℕ) (v : View
       )
 
   -- of the claims of one seat, a place is in one
-  one_claim : IsSound cap (shown cap words views) → get_elem? views id ≡ some v → Has → p < 5 * c.rows
+  one_claim : IsSoundLog cap (shown_state cap words views) → get_elem? views id ≡ some v → Has → p < 5 * c.rows
       → (g q : ℕ) (d : Claim) → map.get v.knows.claims g ≡ Some d → q < 5 * d.rows → place_at f p ≡ place_at g q → (f ≡ g) × (p ≡ q)
   one_claim g at has lt h q d is lt' same =
       let known = at_map (λ (u : View). u.knows) views id v at in
@@ -123,10 +123,10 @@ module _ (cap : ℕ) (words : List ℕ) (views : List View) (id : ℕ) (v : View
       (λ o. ⊎_elim (λ (x : f + c.rows ≤ h). absurd (omega arith)) (λ (y : h + d.rows ≤ f). absurd (omega arith)) o)
       (g.apart id id v.knows v.knows f h c d known known has is)
 
-pub writes : (cap slots id f p x : ℕ) (me : Mine) (c : Claim) → map.get me.0.knows.claims f ≡ Some c → p < 5 * c.rows → Allows (IsKept cap) slots id me (place_at f p) (λ _. x) (λ _. Writes (step slots (place_at f p) x 0 none) me x)
+pub writes : (cap slots id f p x : ℕ) (me : OwnView) (c : Claim) → map.get me.0.knows.claims f ≡ Some c → p < 5 * c.rows → Allows (IsTableKept cap) slots id me (place_at f p) (λ _. x) (λ _. Writes (step slots (place_at f p) x 0 none) me x)
 writes cap slots id f p x me c has lt s kept len at small =
     let v = me.0 in
-    let same : map.insert v.knows.claims f (write_in c p x) ≡ map.insert v.knows.claims f (write_in (claim_at v.knows f) p x) = ap (λ d. map.insert v.knows.claims f (write_in d p x)) (sym (claim_is v.knows f c has)) in (
+    let same : map.insert v.knows.claims f (written_claim c p x) ≡ map.insert v.knows.claims f (written_claim (claim_at v.knows f) p x) = ap (λ d. map.insert v.knows.claims f (written_claim d p x)) (sym (claim_is v.knows f c has)) in (
       New cap s.words s.views id v f p x c,
       keeps,
       tt,
@@ -135,6 +135,6 @@ writes cap slots id f p x me c has lt s kept len at small =
         refl,
         λ h q d is lt' e.
             let one = one_claim cap s.words s.views id v f p x c kept.0 at has lt h q d is lt' e in
-            λ i. knowing v (record { seen = v.knows.seen; low = v.knows.low; claims = subst (λ (y : ℕ × ℕ). map.insert v.knows.claims f (write_in c p x) ≡ map.insert v.knows.claims y.0 (write_in (claim_at v.knows y.0) y.1 x)) (λ i. (one.0 i, one.1 i)) same i }),
+            λ i. view_knowing v (record { seen = v.knows.seen; low = v.knows.low; claims = subst (λ (y : ℕ × ℕ). map.insert v.knows.claims f (written_claim c p x) ≡ map.insert v.knows.claims y.0 (written_claim (claim_at v.knows y.0) y.1 x)) (λ i. (one.0 i, one.1 i)) same i }),
       ),
     )

@@ -55,7 +55,8 @@ pub struct Receipt {
 /// What a read of a row found.
 #[derive(Clone, Copy, Debug, PartialEq, Eq)]
 pub enum Read {
-    /// The row was neither published nor voided so far, or it is not the first of its claim, or there is no such row.
+    /// The row was neither published nor voided so far, or it is not the first of its claim, or
+    /// there is no such row.
     Absent,
     /// Its claim was ended with nothing published.
     Void,

@@ -1,4 +1,5 @@
-//! A log of rows that threads share: each row is claimed, written and published once, and read by every seat alike.
+//! A log of rows that threads share: each row is claimed, written and published once, and read by
+//! every seat alike.
 //!
 //! No call waits, and none but [`Slots::new`] takes memory.
 #![tactic(auto)]

@@ -1,9 +1,13 @@
-//! A log of rows, its seats and their calls. `specs/Seats.antt` says what each call makes of what a seat knows,
-//! `specs/States.antt` what is true of the log and all its seats at every moment.
+//! A log of rows, its seats and their calls. `specs/Seats.antt` says what each call makes of what a
+//! seat knows, `specs/States.antt` what is true of the log and all its seats at every moment.
 
-ghost use Rattle.std.specs.Prelude.{◌≡◌, ℕ, ◌+◌, ◌*◌, ◌<◌, ◌≤◌, ◌==◌, IfOk, IfErr, MatchBool, MatchResult, List, [], ◌∷◌, length, take, drop, replicate, true, Some};
-ghost use Rattle.std.specs.FinMap as fin;
-ghost use Rattle.jh_slots.specs.Seats.{Mark, newcomer, after_look, after_claim, after_write, after_publish, after_void, after_split, after_join, Agree, Holds, AreApart, BeginsAbove};
+ghost use Rattle.std.specs.Prelude.{◌≡◌, ◌+◌, ◌*◌, ◌<◌, ◌≤◌, ◌==◌, IfOk, IfErr, MatchBool};
+ghost use Rattle.std.specs.Prelude.{MatchResult, [], take, replicate};
+ghost use Rattle.jh_slots.specs.Seats.{newcomer, knowledge_after_look, knowledge_after_claim};
+ghost use Rattle.jh_slots.specs.Seats.{knowledge_after_write, knowledge_after_publish};
+ghost use Rattle.jh_slots.specs.Seats.{knowledge_after_void, knowledge_after_split};
+ghost use Rattle.jh_slots.specs.Seats.{knowledge_after_join, Agree, HoldsClaim, AreClaimsApart};
+ghost use Rattle.jh_slots.specs.Seats.{BeginsAbove};
 ghost use Rattle.jh_slots.specs.Reading.{ReadsRow};
 ghost use Rattle.jh_slots.specs.Sizes.{IsSize, RefusesSize, max_claimed};
 
@@ -13,8 +17,8 @@ use atomic_table::Table;
 use std::alloc::{AllocError, Global};
 use std::marker::Model;
 
-/// A log of rows, each published or voided at most once. Threads share it by reference, and each has a seat of its own.
-/// A contract sees which table it is and the number of its rows.
+/// A log of rows, each published or voided at most once. Threads share it by reference, and each
+/// has a seat of its own. A contract sees which table it is and the number of its rows.
 #[derive(Drop)]
 pub struct Slots {
     table: Table<u8, View, usize, Law, Global>,
@@ -32,11 +36,14 @@ impl Model for Slots {
 
     ghost view = { λ s. record { table = s.table.shared.table_id; rows = s.rows } };
 
-    ghost invariant = { λ s. (s.table.shared.key ≡ s.rows) × (s.table.shared.table_id.words ≡ 1 + 6 * s.rows) × (s.rows ≤ 65536) };
+    ghost invariant = { λ s. (s.table.shared.key ≡ s.rows)
+        × (s.table.shared.table_id.words ≡ 1 + 6 * s.rows)
+        × (s.rows ≤ 65536) };
 }
 
-/// One thread's place at a log. A contract sees the log's table and what the seat knows: the marks of rows that it has
-/// seen, a number of rows that it knows to be taken, and its claims. A claim of a seat that is dropped stays claimed.
+/// One thread's place at a log. A contract sees the log's table and what the seat knows: the marks
+/// of rows that it has seen, a number of rows that it knows to be taken, and its claims. A claim of
+/// a seat that is dropped stays claimed.
 #[derive(Drop)]
 pub struct Seat {
     inner: atomic_table::Seat<u8, View>,
@@ -44,10 +51,10 @@ pub struct Seat {
 
 impl Model for Seat {
     ghost use Rattle.std.specs.Prelude.{◌≡◌, []};
-    ghost use Rattle.jh_slots.specs.Seats.{Seated};
+    ghost use Rattle.jh_slots.specs.Seats.{SeatValue};
     ghost use Rattle.jh_slots.specs.Codes.{seated_code};
 
-    ghost Value = { Seated };
+    ghost Value = { SeatValue };
 
     ghost coded = { seated_code };
 
@@ -58,25 +65,25 @@ impl Model for Seat {
     ghost invariant = { λ s. (s.inner.me.1 ≡ []) × IsSeat s.inner.table_id.words s.inner.me.0 };
 }
 
-/// Rows that a seat has claimed, one after the other. It can't be dropped: it ends in [`Slots::publish`] or
-/// [`Slots::void`]. A contract sees the first row and the number of rows.
+/// Rows that a seat has claimed, one after the other. It can't be dropped: it ends in
+/// [`Slots::publish`] or [`Slots::void`]. A contract sees the first row and the number of rows.
 pub struct Claim {
     first: u32,
     rows: u32,
 }
 
 impl Model for Claim {
-    ghost use Rattle.jh_slots.specs.Seats.{Claimed};
+    ghost use Rattle.jh_slots.specs.Seats.{ClaimValue};
     ghost use Rattle.jh_slots.specs.Codes.{claimed_code};
 
-    ghost Value = { Claimed };
+    ghost Value = { ClaimValue };
 
     ghost coded = { claimed_code };
 
     ghost view = { λ c. record { first = c.first; rows = c.rows } };
 }
 
-// So many words, each 0.
+/// So many words, each 0.
 fn zeros(alloc: Global, count: usize) -> Result<Vec<u64>, AllocError>
     ensures { IfOk result (λ words. words.items ≡ replicate count 0) }
 {
@@ -88,13 +95,14 @@ fn zeros(alloc: Global, count: usize) -> Result<Vec<u64>, AllocError>
 }
 
 impl Slots {
-    /// A log of rows that are all free, and its first seat, which knows nothing yet. `rows` is from 1 to
-    /// [`MAX_ROWS`].
+    /// A log of rows that are all free, and its first seat, which knows nothing yet. `rows` is from
+    /// 1 to [`MAX_ROWS`].
     ///
     /// Errors: `BadSize`; `OutOfMemory`.
     pub fn new(alloc: Global, rows: u32) -> Result<(Slots, Seat), SlotsError>
         ensures { MatchResult result
-            (λ r. IsSize rows × (r.0.rows ≡ rows) × (r.1.table ≡ r.0.table) × (r.1.knows ≡ newcomer))
+            (λ r. IsSize rows × (r.0.rows ≡ rows) × (r.1.table ≡ r.0.table)
+            × (r.1.knows ≡ newcomer))
             (RefusesSize rows) }
     {
         if rows == 0 || rows > MAX_ROWS {
@@ -106,12 +114,12 @@ impl Slots {
         Ok((Slots { table, rows }, Seat { inner }))
     }
 
-    /// Two seats of one: the second has seen what the first has, and the claims stay with the first. It always
-    /// succeeds so far; a split that fails hands the seat back as it was.
+    /// Two seats of one: the second has seen what the first has, and the claims stay with the
+    /// first. It always succeeds so far; a split that fails hands the seat back as it was.
     pub fn split(&self, seat: Seat) -> Result<(Seat, Seat), Seat>
         requires { seat.table ≡ self.now.table }
         ensures split { IfOk result (λ r. (r.0 ≡ seat) × (r.1.table ≡ seat.table)
-            × (r.1.knows ≡ after_split seat.knows)) }
+            × (r.1.knows ≡ knowledge_after_split seat.knows)) }
         ensures kept { IfErr result (λ s. s ≡ seat) }
     {
         let Seat { mut inner } = seat;
@@ -119,12 +127,12 @@ impl Slots {
         Ok((Seat { inner }, Seat { inner: other }))
     }
 
-    /// One seat of two: it has seen what either had and has the claims of both. On every row that both have seen they
-    /// agree, and their claims have no row in common.
+    /// One seat of two: it has seen what either had and has the claims of both. On every row that
+    /// both have seen they agree, and their claims have no row in common.
     pub fn join(&self, seat: Seat, other: Seat) -> Seat
         requires { (seat.table ≡ self.now.table) × (other.table ≡ self.now.table) }
         ensures table { result.table ≡ seat.table }
-        ensures joint { result.knows ≡ after_join seat.knows other.knows }
+        ensures joint { result.knows ≡ knowledge_after_join seat.knows other.knows }
         ensures agree { Agree seat.knows other.knows }
     {
         let Seat { mut inner } = seat;
@@ -134,25 +142,26 @@ impl Slots {
         Seat { inner }
     }
 
-    // The next free row.
+    /// The next free row.
     fn look(&self, seat: &mut Seat) -> u32
         requires { seat.old.table ≡ self.now.table }
         ensures table { seat.new.table ≡ seat.old.table }
-        ensures low { seat.new.knows ≡ after_look result seat.old.knows }
+        ensures low { seat.new.knows ≡ knowledge_after_look result seat.old.knows }
         ensures range { (seat.old.knows.low ≤ result) × (result ≤ self.now.rows) }
     {
         self.table.shared.load::<Look>(&mut seat.inner, 0) as u32
     }
 
-    // The next free row as it was. If it was `first`, the rows are now claimed.
+    /// The next free row as it was. If it was `first`, the rows are now claimed.
     fn take(&self, seat: &mut Seat, first: u32, rows: u32) -> u32
         requires own { seat.old.table ≡ self.now.table }
         requires fits { (1 ≤ rows) × (first + rows ≤ self.now.rows) }
         ensures table { seat.new.table ≡ seat.old.table }
         ensures range { (seat.old.knows.low ≤ result) × (result ≤ self.now.rows) }
         ensures taken { MatchBool (result == first)
-            ((seat.new.knows ≡ after_claim result rows seat.old.knows) × BeginsAbove seat.old.knows result × AreApart seat.new.knows)
-            (seat.new.knows ≡ after_look result seat.old.knows) }
+            ((seat.new.knows ≡ knowledge_after_claim result rows seat.old.knows)
+            × BeginsAbove seat.old.knows result × AreClaimsApart seat.new.knows)
+            (seat.new.knows ≡ knowledge_after_look result seat.old.knows) }
     {
         self.table.shared.compare_exchange::<Take>(
             &mut seat.inner,
@@ -162,21 +171,24 @@ impl Slots {
         ) as u32
     }
 
-    /// Claims consecutive rows, 1 to [`MAX_CLAIMED`](crate::MAX_CLAIMED) of them, whose words are 0 until they are
-    /// written. They lie above all rows that the seat has seen or claimed.
+    /// Claims consecutive rows, 1 to [`MAX_CLAIMED`](crate::MAX_CLAIMED) of them, whose words are 0
+    /// until they are written. They lie above all rows that the seat has seen or claimed.
     ///
-    /// Error: `Full` where fewer rows are left. The seat may then know more of the rows that are taken.
+    /// Error: `Full` where fewer rows are left. The seat may then know more of the rows that are
+    /// taken.
     pub fn claim(&self, seat: &mut Seat, rows: u32) -> Result<Claim, Full>
         requires own { seat.old.table ≡ self.now.table }
         requires rows { (1 ≤ rows) × (rows ≤ max_claimed) }
         ensures table { seat.new.table ≡ seat.old.table }
-        ensures claimed { IfOk result (λ c. seat.new.knows ≡ after_claim c.first rows seat.old.knows) }
+        ensures claimed { IfOk result
+            (λ c. seat.new.knows ≡ knowledge_after_claim c.first rows seat.old.knows) }
         ensures rows { IfOk result (λ c. (c.rows ≡ rows) × (c.first + rows ≤ self.now.rows)) }
-        ensures held { IfOk result (λ c. Holds seat.new.knows c.first c.rows) }
+        ensures held { IfOk result (λ c. HoldsClaim seat.new.knows c.first c.rows) }
         ensures above { IfOk result (λ c. BeginsAbove seat.old.knows c.first) }
-        ensures apart { IfOk result (λ _. AreApart seat.new.knows) }
+        ensures apart { IfOk result (λ _. AreClaimsApart seat.new.knows) }
         ensures full { IfErr result (λ _. self.now.rows < seat.new.knows.low + rows) }
-        ensures looked { IfErr result (λ _. seat.new.knows ≡ after_look seat.new.knows.low seat.old.knows) }
+        ensures looked { IfErr result
+            (λ _. seat.new.knows ≡ knowledge_after_look seat.new.knows.low seat.old.knows) }
         ensures rises { seat.old.knows.low ≤ seat.new.knows.low }
         ensures within { seat.new.knows.low ≤ self.now.rows }
     {
@@ -191,15 +203,17 @@ impl Slots {
         Err(Full)
     }
 
-    /// Writes one word of a claim, at a place below five times its rows. No seat sees it before the claim is published.
+    /// Writes one word of a claim, at a place below five times its rows. No seat sees it before the
+    /// claim is published.
     pub fn write(&self, seat: &mut Seat, claim: &mut Claim, place: usize, value: u64)
         requires own { seat.old.table ≡ self.now.table }
-        requires holds { Holds seat.old.knows claim.old.first claim.old.rows }
+        requires holds { HoldsClaim seat.old.knows claim.old.first claim.old.rows }
         requires place { place < 5 * claim.old.rows }
         ensures table { seat.new.table ≡ seat.old.table }
         ensures claim { claim.new ≡ claim.old }
-        ensures held { Holds seat.new.knows claim.new.first claim.new.rows }
-        ensures written { seat.new.knows ≡ after_write claim.old.first place value seat.old.knows }
+        ensures held { HoldsClaim seat.new.knows claim.new.first claim.new.rows }
+        ensures written { seat.new.knows
+            ≡ knowledge_after_write claim.old.first place value seat.old.knows }
     {
         self.table.shared.store::<Write>(
             &mut seat.inner,
@@ -208,14 +222,16 @@ impl Slots {
         );
     }
 
-    /// Publishes the first `len` words of a claim at its first row, and ends it. `len` is from 1 to five times the
-    /// claim's rows; words that were not written are 0. The claim's other rows are never free again.
+    /// Publishes the first `len` words of a claim at its first row, and ends it. `len` is from 1 to
+    /// five times the claim's rows; words that were not written are 0. The claim's other rows are
+    /// never free again.
     pub fn publish(&self, seat: &mut Seat, claim: Claim, len: usize) -> Receipt
         requires own { seat.old.table ≡ self.now.table }
-        requires holds { Holds seat.old.knows claim.first claim.rows }
+        requires holds { HoldsClaim seat.old.knows claim.first claim.rows }
         requires len { (1 ≤ len) × (len ≤ 5 * claim.rows) }
         ensures table { seat.new.table ≡ seat.old.table }
-        ensures published { seat.new.knows ≡ after_publish claim.first len seat.old.knows }
+        ensures published { seat.new.knows
+            ≡ knowledge_after_publish claim.first len seat.old.knows }
         ensures receipt { (result.row ≡ claim.first) × (result.len ≡ len) }
     {
         let Claim { first, rows: _ } = claim;
@@ -230,9 +246,9 @@ impl Slots {
     /// Ends a claim with nothing published. Its rows are never free again.
     pub fn void(&self, seat: &mut Seat, claim: Claim)
         requires own { seat.old.table ≡ self.now.table }
-        requires holds { Holds seat.old.knows claim.first claim.rows }
+        requires holds { HoldsClaim seat.old.knows claim.first claim.rows }
         ensures table { seat.new.table ≡ seat.old.table }
-        ensures voided { seat.new.knows ≡ after_void claim.first seat.old.knows }
+        ensures voided { seat.new.knows ≡ knowledge_after_void claim.first seat.old.knows }
     {
         let Claim { first, rows: _ } = claim;
         self.table
@@ -240,8 +256,9 @@ impl Slots {
             .store::<End>(&mut seat.inner, 1 + (5 * self.rows + first as usize), 1);
     }
 
-    /// Reads the record of a row into a buffer, whose further places stay as they are. A row that the seat has seen is
-    /// answered with the same mark again. `TooSmall` and `Absent` change neither the buffer nor what the seat has seen.
+    /// Reads the record of a row into a buffer, whose further places stay as they are. A row that
+    /// the seat has seen is answered with the same mark again. `TooSmall` and `Absent` change
+    /// neither the buffer nor what the seat has seen.
     pub fn read(&self, seat: &mut Seat, row: u32, buffer: &mut [u64]) -> Read
         requires { seat.old.table ≡ self.now.table }
         ensures table { seat.new.table ≡ seat.old.table }

@@ -1,13 +1,11 @@
-//! The rule of the table of words, and the kinds of atomic step: `Look` loads the next free row, `Take` exchanges it,
-//! `Write` stores a word of a claim, `End` the status of its first row, `Peek` loads a status, `Gather` a word of a
-//! record, `Recall` follows a join.
-
-ghost use Rattle.std.specs.Prelude.{◌≡◌, ℕ};
+//! The rule of the table of words, and the kinds of atomic step: `Look` loads the next free row,
+//! `Take` exchanges it, `Write` stores a word of a claim, `End` the status of its first row, `Peek`
+//! loads a status, `Gather` a word of a record, `Recall` follows a join.
 
 use atomic_table::{Join, Play, Split, TableRule};
 use std::marker::Model;
 
-// What a seat of the table knows. No value of it says anything.
+/// What a seat of the table knows. No value of it says anything.
 pub struct View {}
 
 impl Model for View {
@@ -21,16 +19,18 @@ impl Model for View {
     ghost view = { λ _. opening_view 0 };
 }
 
+/// The rule of the table: its words and what its seats know show a sound log.
 pub struct Law;
 
 impl TableRule<u8, View, usize> for Law {
-    ghost use Rattle.jh_slots.specs.Stored.{IsKept, opening_view};
+    ghost use Rattle.jh_slots.specs.Stored.{IsTableKept, opening_view};
 
-    ghost holds = { IsKept };
+    ghost holds = { IsTableKept };
 
     ghost first = { opening_view };
 }
 
+/// A load of the next free row.
 pub struct Look;
 
 impl Play<u8, View> for Look {
@@ -39,14 +39,16 @@ impl Play<u8, View> for Look {
     ghost then = { Looks };
 }
 
+/// An exchange of the next free row, which claims rows where it succeeds.
 pub struct Take;
 
 impl Play<u8, View> for Take {
-    ghost use Rattle.jh_slots.specs.Steps.{Takes};
+    ghost use Rattle.jh_slots.specs.Steps.{TakesRows};
 
-    ghost then = { Takes };
+    ghost then = { TakesRows };
 }
 
+/// A store of a word of a claim.
 pub struct Write;
 
 impl Play<u8, View> for Write {
@@ -55,6 +57,7 @@ impl Play<u8, View> for Write {
     ghost then = { Writes };
 }
 
+/// A store of the status of a claim's first row, which ends the claim.
 pub struct End;
 
 impl Play<u8, View> for End {
@@ -63,6 +66,7 @@ impl Play<u8, View> for End {
     ghost then = { Ends };
 }
 
+/// A load of the status of a row.
 pub struct Peek;
 
 impl Play<u8, View> for Peek {
@@ -71,6 +75,7 @@ impl Play<u8, View> for Peek {
     ghost then = { Peeks };
 }
 
+/// A load of the next word of a record that is read.
 pub struct Gather;
 
 impl Play<u8, View> for Gather {
@@ -79,6 +84,7 @@ impl Play<u8, View> for Gather {
     ghost then = { Gathers };
 }
 
+/// A load after a join, which shows that the two seats agreed.
 pub struct Recall;
 
 impl Play<u8, View> for Recall {
@@ -87,6 +93,7 @@ impl Play<u8, View> for Recall {
     ghost then = { Recalls };
 }
 
+/// The split of a seat: the new one has seen the same, and the claims stay with the old one.
 pub struct Copy;
 
 impl Split<View> for Copy {
@@ -97,6 +104,7 @@ impl Split<View> for Copy {
     ghost right = { copy_view };
 }
 
+/// The join of two seats into one.
 pub struct Unite;
 
 impl Join<View> for Unite {

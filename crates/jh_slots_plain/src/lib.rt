@@ -1,12 +1,14 @@
-//! A log of rows as a plain list of those that are not free any more. It serves tests alone: `jh_ops_tests` compares
-//! `jh_slots` with it.
+//! A log of rows as a plain list of those that are not free any more. It serves tests alone:
+//! `jh_ops_tests` compares `jh_slots` with it.
 //!
-//! On one thread each seat sees all that was published, so a seat has nothing of its own but its claims.
+//! On one thread each seat sees all that was published, so a seat has nothing of its own but its
+//! claims.
 #![tactic(auto)]
 
 use jh_slots::{ROW_WORDS, Read, Receipt};
 use std::alloc::{AllocError, Global};
 
+/// A row that is not free any more.
 #[derive(Drop)]
 enum Row {
     /// It shows nothing.

@@ -6,7 +6,7 @@ use Rattle.std.specs.List.{AllPairs, Contains}
 use Rattle.std.proofs.lemmas.Bool.{eq-eqb, eqb-true, false≢true, ltb-true, ltb-false}
 use Rattle.std.proofs.lemmas.Option.{none-some, same_Some, slice_get_within, slice_get-get_or}
 use Rattle.jh_tables.specs.declared.counted.FixEntry.{FixEntry}
-use Rattle.jh_tables.specs.Faults.{FaultValue, fix_parts}
+use Rattle.jh_tables.specs.Faults.{FaultValue, fix_value}
 use Rattle.jh_tables.specs.Faults.FaultValue.{Fix}
 use Rattle.jh_tables.specs.Standing.{AreEntries, AreInOrder, HaveOtherStamps, IsEntryOf}
 use Rattle.jh_tables.proofs.MiddleLemmas.{contains_middle, contains_with, middle_cases, pairs_middle, pairs_set}
@@ -43,10 +43,10 @@ module _ (n stamp : ℕ) (fault : FaultValue) (before after : List (ℕ × Fault
   ]
 
   -- a fault that is no fix stands for no entry
-  no_fix : fix_parts fault ≡ None → (s ms : ℕ) (links : List (ℕ × ℕ)) → ◌≡◌ {A = ℕ × FaultValue} (stamp, fault) (s, Fix ms links) → ⊥
-  no_fix none s ms links same = none-some (ms, links) (sym none ∙ ap (λ (x : ℕ × FaultValue). fix_parts x.1) same)
+  no_fix : fix_value fault ≡ None → (s ms : ℕ) (links : List (ℕ × ℕ)) → ◌≡◌ {A = ℕ × FaultValue} (stamp, fault) (s, Fix ms links) → ⊥
+  no_fix none s ms links same = none-some (ms, links) (sym none ∙ ap (λ (x : ℕ × FaultValue). fix_value x.1) same)
 
-  pub others_put : (entries : List (Option FixEntry)) → fix_parts fault ≡ None → AreEntries n entries (before ++ after) → AreEntries n entries (before ++ (stamp, fault) ∷ after)
+  pub others_put : (entries : List (Option FixEntry)) → fix_value fault ≡ None → AreEntries n entries (before ++ after) → AreEntries n entries (before ++ (stamp, fault) ∷ after)
   others_put entries none are = record {
     all = λ s ms links among. elim (middle_cases before after (stamp, fault) (s, Fix ms links) among)
         as (λ _. (entry : FixEntry) × Contains entries (Some entry) × IsEntryOf n s ms links entry) [
@@ -57,7 +57,7 @@ module _ (n stamp : ℕ) (fault : FaultValue) (before after : List (ℕ × Fault
     once = are.once;
   }
 
-  pub others_taken : (entries : List (Option FixEntry)) → fix_parts fault ≡ None → AreEntries n entries (before ++ (stamp, fault) ∷ after) → AreEntries n entries (before ++ after)
+  pub others_taken : (entries : List (Option FixEntry)) → fix_value fault ≡ None → AreEntries n entries (before ++ (stamp, fault) ∷ after) → AreEntries n entries (before ++ after)
   others_taken entries none are = record {
     all = λ s ms links among. are.all s ms links (contains_with before after (stamp, fault) (s, Fix ms links) among);
     only = λ entry among. let h = are.only entry among in elim (middle_cases before after (stamp, fault) (entry.stamp, Fix h.0 h.1) h.2)

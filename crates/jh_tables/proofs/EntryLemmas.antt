@@ -9,7 +9,7 @@ use Rattle.std.proofs.lemmas.List.Folds.{list_any_more}
 use Rattle.std.proofs.lemmas.List.Sums.{sum_by-cons}
 use Rattle.std.proofs.lemmas.List.Elements.{All-head, All-tail}
 use Rattle.std.proofs.lemmas.Nat.Bits.{bit_at-zero, bit_at_set_same, bit_at_set_other}
-use Rattle.jh_tables.specs.Faults.{names_link, same_link}
+use Rattle.jh_tables.specs.Faults.{names_link, is_same_link}
 use Rattle.jh_tables.specs.TurningInside.{AreMarked}
 use Rattle.jh_tables.specs.Tallies.{latest_fix}
 use Rattle.jh_tables.specs.declared.counted.FixEntry.{FixEntry}
@@ -45,7 +45,7 @@ mark_more links i old mid x h is p q size marked a b ha hb =
     let word = bit_or (get_or mid x.0 0) (1 * 2 ^ x.1 % 18446744073709551616) in
     let before = bit_at (get_or old a 0) b == 1 in
     let place : x.0 < length mid = rw size p in
-    rw (list_any_more (λ l. same_link l (a, b)) links i x h, ← is, ← or_assoc before (names_link (take i links) a b) (same_link x (a, b)), ← marked a b ha hb)
+    rw (list_any_more (λ l. is_same_link l (a, b)) links i x h, ← is, ← or_assoc before (names_link (take i links) a b) (is_same_link x (a, b)), ← marked a b ha hb)
     (elim (x.0 == a) as (λ s. (x.0 == a) ≡ s → (bit_at (get_or (set mid x.0 word) a 0) b == 1) ≡ ((bit_at (get_or mid a 0) b == 1) || (s && (x.1 == b)))) [
       | true ↦ λ s. rw (← eqb-true x.0 a s, get_or-set_same mid x.0 word 0 place) (bit_more (get_or mid x.0 0) x.1 b q)
       | false ↦ λ s.

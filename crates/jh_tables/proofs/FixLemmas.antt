@@ -8,7 +8,7 @@ use Rattle.std.proofs.lemmas.List.Elements.{Contains-push, Contains-push_cases, 
 use Rattle.jh_tables.specs.declared.counted.FixEntry.{FixEntry}
 use Rattle.jh_tables.specs.Faults.{FaultValue, names_link}
 use Rattle.jh_tables.specs.Faults.FaultValue.{Cut, Slow, Loss, Fix, Pause, Kill, Bump}
-use Rattle.jh_tables.specs.Overlay.{fixed_by}
+use Rattle.jh_tables.specs.Overlay.{delay_after_fault}
 use Rattle.jh_tables.specs.Tallies.{is_fixed_in, later_fix, latest_fix, delay_fixed}
 use Rattle.jh_tables.specs.Standing.{AreEntries, AreInOrder, faults_of}
 
@@ -100,7 +100,7 @@ in_order_tail : (x : ℕ × FaultValue) (xs : List (ℕ × FaultValue)) → AreI
 in_order_tail x xs h i j d p q = h (suc i) (suc j) d (omega (arith, p)) (omega (arith, q))
 
 unfixed : (a b delay stamp : ℕ) (fault : FaultValue) (rest : List (ℕ × FaultValue))
-    → EachFix (λ _ _ links. names_link links a b ≡ true → ⊥) ((stamp, fault) ∷ rest) → fixed_by a b delay fault ≡ delay
+    → EachFix (λ _ _ links. names_link links a b ≡ true → ⊥) ((stamp, fault) ∷ rest) → delay_after_fault a b delay fault ≡ delay
 unfixed a b delay stamp (Fix ms links) rest none = elim (names_link links a b) as (λ s. names_link links a b ≡ s → (if s then ms else delay) ≡ delay) [
   | true ↦ λ s. absurd (none stamp ms links (0, omega arith, refl) s)
   | false ↦ λ s. refl
@@ -114,19 +114,19 @@ unfixed a b delay stamp (Bump bumps) rest none = refl
 
 -- where no fix names the link, its delay stays
 delay_stays : (a b delay : ℕ) (stamped : List (ℕ × FaultValue)) → EachFix (λ _ _ links. names_link links a b ≡ true → ⊥) stamped
-    → fold (fixed_by a b) delay (faults_of stamped) ≡ delay
+    → fold (delay_after_fault a b) delay (faults_of stamped) ≡ delay
 delay_stays a b delay [] none = refl
 delay_stays a b delay (x ∷ xs) none =
-    let e : fixed_by a b delay x.1 ≡ delay = unfixed a b delay x.0 x.1 xs none in
-    ap (λ d. fold (fixed_by a b) d (faults_of xs)) e ∙ (delay_stays a b delay xs (each_tail (λ _ _ links. names_link links a b ≡ true → ⊥) x xs none))
+    let e : delay_after_fault a b delay x.1 ≡ delay = unfixed a b delay x.0 x.1 xs none in
+    ap (λ d. fold (delay_after_fault a b) d (faults_of xs)) e ∙ (delay_stays a b delay xs (each_tail (λ _ _ links. names_link links a b ≡ true → ⊥) x xs none))
 
 -- the last fix that names the link gives its delay
 delay_last : (a b delay : ℕ) (stamped : List (ℕ × FaultValue)) → AreInOrder stamped → (stamp ms : ℕ) (links : List (ℕ × ℕ)) (k : ℕ)
     → k < length stamped → get_or stamped k (stamp, Fix ms links) ≡ (stamp, Fix ms links) → names_link links a b ≡ true
-    → EachFix (λ s _ ls. names_link ls a b ≡ true → s ≤ stamp) stamped → fold (fixed_by a b) delay (faults_of stamped) ≡ ms
+    → EachFix (λ s _ ls. names_link ls a b ≡ true → s ≤ stamp) stamped → fold (delay_after_fault a b) delay (faults_of stamped) ≡ ms
 delay_last a b delay [] order stamp ms links k h at named all = absurd (omega (arith, h))
 delay_last a b delay (x ∷ xs) order stamp ms links zero h at named all =
-    let fixes : fixed_by a b delay x.1 ≡ ms = rw (ap (λ (y : ℕ × FaultValue). y.1) at, named) refl in
+    let fixes : delay_after_fault a b delay x.1 ≡ ms = rw (ap (λ (y : ℕ × FaultValue). y.1) at, named) refl in
     let stamps : x.0 ≡ stamp = ap (λ (y : ℕ × FaultValue). y.0) at in
     let none : EachFix (λ _ _ ls. names_link ls a b ≡ true → ⊥) xs = λ s m ls among named'.
     let before = each_tail (λ s' _ ls'. names_link ls' a b ≡ true → s' ≤ stamp) x xs all s m ls among named' in
@@ -134,16 +134,16 @@ delay_last a b delay (x ∷ xs) order stamp ms links zero h at named all =
     let here : get_or xs among.0 (s, Fix m ls) ≡ (s, Fix m ls) = among.2 in
     let rising : x.0 < s = subst (λ (y : ℕ × FaultValue). x.0 < y.0) here past in
     omega (arith, before, rising, stamps) in
-    ap (λ d. fold (fixed_by a b) d (faults_of xs)) fixes ∙ delay_stays a b ms xs none
+    ap (λ d. fold (delay_after_fault a b) d (faults_of xs)) fixes ∙ delay_stays a b ms xs none
 delay_last a b delay (x ∷ xs) order stamp ms links (suc k) h at named all =
-    delay_last a b (fixed_by a b delay x.1) xs (in_order_tail x xs order) stamp ms links k (omega (arith, h)) at named
+    delay_last a b (delay_after_fault a b delay x.1) xs (in_order_tail x xs order) stamp ms links k (omega (arith, h)) at named
     (each_tail (λ s _ ls. names_link ls a b ≡ true → s ≤ stamp) x xs all)
 
 -- the entries tell the delay that the faults fix
 pub delay_told : (n a b delay : ℕ) (entries : List (Option FixEntry)) (stamped : List (ℕ × FaultValue)) → a < n → b < n
-    → AreEntries n entries stamped → AreInOrder stamped → delay_fixed (latest_fix a b entries) delay ≡ fold (fixed_by a b) delay (faults_of stamped)
+    → AreEntries n entries stamped → AreInOrder stamped → delay_fixed (latest_fix a b entries) delay ≡ fold (delay_after_fault a b) delay (faults_of stamped)
 delay_told n a b delay entries stamped ha hb are order =
-    elim (latest_fix a b entries) as (λ o. IsLatest a b entries o → delay_fixed o delay ≡ fold (fixed_by a b) delay (faults_of stamped)) [
+    elim (latest_fix a b entries) as (λ o. IsLatest a b entries o → delay_fixed o delay ≡ fold (delay_after_fault a b) delay (faults_of stamped)) [
       | None ↦ λ latest. sym (delay_stays a b delay stamped (λ stamp ms links among named.
           let found = are.all stamp ms links among in
           latest found.0 found.1 (found.2.named a b ha hb ∙ named)))

@@ -11,7 +11,7 @@ use Rattle.jh_tables.specs.declared.cells.Link.{Link}
 use Rattle.jh_tables.specs.declared.cells.NodeCell.{NodeCell}
 use Rattle.jh_tables.specs.declared.counted.LinkTally.{LinkTally}
 use Rattle.jh_tables.specs.declared.counted.NodeTally.{NodeTally}
-use Rattle.jh_tables.specs.Cells.{calm, link_at, node_at}
+use Rattle.jh_tables.specs.Cells.{calm_link, link_at, node_at}
 use Rattle.jh_tables.specs.Faults.{FaultValue}
 use Rattle.jh_tables.specs.Overlay.{IsOverlay, link_over, node_over, cuts, kills, pauses, bump_by}
 use Rattle.jh_tables.specs.Tallies.{Tallies, calm_tally, running_tally, latest_fix, link_now, node_now, link_of_place, cells_now, cells_at_start}
@@ -28,13 +28,13 @@ same_node_cell p q c d e f = rw (e, f) refl
 
 -- the link from a to b is read off its tally
 pub link_read : (t : Tallies) → length t.links ≡ length t.nodes * length t.nodes → (a b : ℕ) → a < length t.nodes → b < length t.nodes
-    → get_or (cells_now t).links (a * length t.nodes + b) calm ≡ link_now (get_or t.links (a * length t.nodes + b) calm_tally) (latest_fix a b t.fixes)
+    → get_or (cells_now t).links (a * length t.nodes + b) calm_link ≡ link_now (get_or t.links (a * length t.nodes + b) calm_tally) (latest_fix a b t.fixes)
 link_read t square a b ha hb =
     let n = length t.nodes in
     let below : a * n + b < length t.links = rw square (mul-add-lt a n b n ha hb) in
     let here : link_of_place t n (a * n + b) ≡ link_now (get_or t.links (a * n + b) calm_tally) (latest_fix a b t.fixes) =
     rw (div-mul-add a n b hb, mod-mul-add a n b hb) refl in
-    get_or-map-range_with_len (link_of_place t n) 0 (length t.links) (a * n + b) (a * n + b) calm below (omega arith) ∙ here
+    get_or-map-range_with_len (link_of_place t n) 0 (length t.links) (a * n + b) (a * n + b) calm_link below (omega arith) ∙ here
 
 pub link_at_now : (t : Tallies) → length t.links ≡ length t.nodes * length t.nodes → (a b : ℕ) → a < length t.nodes → b < length t.nodes → (a == b) ≡ false
     → link_at (cells_now t) a b ≡ Some (link_now (get_or t.links (a * length t.nodes + b) calm_tally) (latest_fix a b t.fixes))
@@ -75,16 +75,16 @@ module _ (t : Tallies) (stamped : List (ℕ × FaultValue)) (are : AreTallies (l
     links = λ a b. rw (length-map t.nodes, length-map t.nodes)
         (elim (nat_lt a (length t.nodes) && (nat_lt b (length t.nodes) && not (a == b)))
         as (λ s. (nat_lt a (length t.nodes) && (nat_lt b (length t.nodes) && not (a == b))) ≡ s
-        → (if s then Some (get_or (cells_now t).links (a * length t.nodes + b) calm) else None)
-        ≡ option_map (link_over faults a b) (if s then Some (get_or (cells_at_start t).links (a * length t.nodes + b) calm) else None)) [
+        → (if s then Some (get_or (cells_now t).links (a * length t.nodes + b) calm_link) else None)
+        ≡ option_map (link_over faults a b) (if s then Some (get_or (cells_at_start t).links (a * length t.nodes + b) calm_link) else None)) [
           | true ↦ λ s.
               let n = length t.nodes in
               let parts = and_parts (nat_lt a n) (nat_lt b n && not (a == b)) s in
               let ha : a < n = ltb-true a n parts.0 in
               let hb : b < n = ltb-true b n (and_parts (nat_lt b n) (not (a == b)) parts.1).0 in
               let below : a * n + b < length t.links = rw square (mul-add-lt a n b n ha hb) in
-              let start : get_or (cells_at_start t).links (a * n + b) calm ≡ (get_or t.links (a * n + b) calm_tally).start =
-              get_or-map (λ (x : LinkTally). x.start) t.links (a * n + b) calm_tally calm below in
+              let start : get_or (cells_at_start t).links (a * n + b) calm_link ≡ (get_or t.links (a * n + b) calm_tally).start =
+              get_or-map (λ (x : LinkTally). x.start) t.links (a * n + b) calm_tally calm_link below in
               ap Some (link_read t square a b ha hb ∙ link_told a b ha hb ∙ ap (link_over faults a b) (sym start))
           | false ↦ λ s. refl
         ] refl);

@@ -11,7 +11,7 @@ use Rattle.std.proofs.lemmas.List.Sums.{sum_by-le}
 use Rattle.jh_tables.specs.declared.counted.FixEntry.{FixEntry}
 use Rattle.jh_tables.specs.declared.counted.LinkTally.{LinkTally}
 use Rattle.jh_tables.specs.declared.counted.NodeTally.{NodeTally}
-use Rattle.jh_tables.specs.Cells.{calm, running}
+use Rattle.jh_tables.specs.Cells.{calm_link, running_node}
 use Rattle.jh_tables.specs.Faults.{FaultValue, IsFault}
 use Rattle.jh_tables.specs.Overlay.{delay_by}
 use Rattle.jh_tables.specs.Tallies.{Tallies, calm_tally, running_tally, cells_at_start, delay_fixed, greatest_level, is_after, is_fixed_in, later_fix, latest_fix, level_held, link_now, node_now}
@@ -68,8 +68,8 @@ module _ (t : Tallies) (faults : List FaultValue) (are : AreTallies (length t.no
       let tally = get_or t.links k calm_tally in
       let below : k < length t.links = rw square (mul-add-lt a n b n ha hb) in
       let there : k < length (cells_at_start t).links = rw (length-map t.links (λ (x : LinkTally). x.start)) below in
-      let same : get_or (cells_at_start t).links k calm ≡ tally.start = get_or-map (λ (x : LinkTally). x.start) t.links k calm_tally calm below in
-      let start : IsStartingLink tally.start = subst IsStartingLink same (starting k calm there) in
+      let same : get_or (cells_at_start t).links k calm_link ≡ tally.start = get_or-map (λ (x : LinkTally). x.start) t.links k calm_tally calm_link below in
+      let start : IsStartingLink tally.start = subst IsStartingLink same (starting k calm_link there) in
       let fixed = fixed_short (latest_fix a b t.fixes) tally.start.delay (latest_short a b t.fixes None tt delays) start.0 in
       let slowed = sum_by-le (delay_by a b) 60000 faults (All-weaker IsFault (λ f. delay_by a b f ≤ 60000) (delay_at_most a b) faults right) in
       let many : length faults * 60000 ≤ 256 * 60000 = mul-le (length faults) 60000 256 60000 few (omega arith) in
@@ -84,8 +84,8 @@ module _ (t : Tallies) (faults : List FaultValue) (are : AreTallies (length t.no
   pub clock_at_start : All IsStartingNode (cells_at_start t).nodes → (a : ℕ) → a < length t.nodes → IsStartingNode (get_or t.nodes a running_tally).start
   clock_at_start starting a ha =
       let there : a < length (cells_at_start t).nodes = rw (length-map t.nodes (λ (x : NodeTally). x.start)) ha in
-      let same : get_or (cells_at_start t).nodes a running ≡ (get_or t.nodes a running_tally).start = get_or-map (λ (x : NodeTally). x.start) t.nodes a running_tally running ha in
-      subst IsStartingNode same (starting a running there)
+      let same : get_or (cells_at_start t).nodes a running_node ≡ (get_or t.nodes a running_tally).start = get_or-map (λ (x : NodeTally). x.start) t.nodes a running_tally running_node ha in
+      subst IsStartingNode same (starting a running_node there)
 
   pub node_in_range : All IsStartingNode (cells_at_start t).nodes → (a : ℕ) → a < length t.nodes → IsNodeInRange (node_now (get_or t.nodes a running_tally))
   node_in_range starting a ha =

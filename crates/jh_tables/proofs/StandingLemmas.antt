@@ -9,11 +9,11 @@ use Rattle.std.proofs.lemmas.List.Folds.{list_any_at}
 use Rattle.std.proofs.lemmas.List.Sums.{sum_by-set, count_by-le-length}
 use Rattle.jh_tables.specs.declared.counted.FixEntry.{FixEntry}
 use Rattle.jh_tables.specs.declared.turning.Turn.{Turn}
-use Rattle.jh_tables.specs.Faults.{FaultValue, fix_parts}
+use Rattle.jh_tables.specs.Faults.{FaultValue, fix_value}
 use Rattle.jh_tables.specs.Faults.FaultValue.{Cut, Slow, Loss, Fix, Pause, Kill, Bump}
 use Rattle.jh_tables.specs.Tallies.{Tallies}
 use Rattle.jh_tables.specs.Standing.{AreEntries, AreInOrder, AreTallies, faults_of, is_fix}
-use Rattle.jh_tables.specs.TurningInside.{AreEntriesTurned, CanTurnEntries, has_stamp, turned, one_if}
+use Rattle.jh_tables.specs.TurningInside.{AreEntriesTurned, CanTurnEntries, has_stamp, turned_number, one_if}
 use Rattle.jh_tables.proofs.MiddleLemmas.{contains_middle}
 use Rattle.jh_tables.proofs.EntriesLemmas.{others_put, others_taken, fix_put, fix_taken}
 use Rattle.jh_tables.proofs.TallyLemmas.{faults_from, faults_to, turned_zero}
@@ -38,7 +38,7 @@ faults_of_to Turn.Put before after fault = map-append (λ (s : ℕ × FaultValue
 faults_of_to Turn.Take before after fault = map-append (λ (s : ℕ × FaultValue). s.1) before after
 
 -- a fault with such parts is this fix
-fix_of_parts : (fault : FaultValue) (ms : ℕ) (links : List (ℕ × ℕ)) → fix_parts fault ≡ Some (ms, links) → fault ≡ Fix ms links
+fix_of_parts : (fault : FaultValue) (ms : ℕ) (links : List (ℕ × ℕ)) → fix_value fault ≡ Some (ms, links) → fault ≡ Fix ms links
 fix_of_parts (Fix m ls) ms links is = let parts = some_pair_parts m ms ls links is in rw (parts.0, parts.1) refl
 fix_of_parts (Cut ls) ms links is = absurd (none-some (ms, links) is)
 fix_of_parts (Slow m ls) ms links is = absurd (none-some (ms, links) is)
@@ -50,34 +50,34 @@ fix_of_parts (Bump bumps) ms links is = absurd (none-some (ms, links) is)
 fix_turned : (turn : Turn) (n stamp ms : ℕ) (links : List (ℕ × ℕ)) (before after : List (ℕ × FaultValue)) (old new : List (Option FixEntry))
     → n ≤ 64 → AreInOrder (before ++ (stamp, Fix ms links) ∷ after) → AreEntriesTurned turn stamp (Some (ms, links)) old new
     → AreEntries n old (stamped_from turn before (stamp, Fix ms links) after) → AreEntries n new (stamped_to turn before (stamp, Fix ms links) after)
-fix_turned Turn.Put n stamp ms links before after old new few order turned are =
-    rw turned.4 (fix_put n stamp ms links before after order old turned.0 turned.1 few turned.2 turned.3 are)
-fix_turned Turn.Take n stamp ms links before after old new few order turned are =
-    rw turned.4 (fix_taken n stamp ms links before after order old turned.0 turned.1 turned.2 turned.3 are)
+fix_turned Turn.Put n stamp ms links before after old new few order turned_number are =
+    rw turned_number.4 (fix_put n stamp ms links before after order old turned_number.0 turned_number.1 few turned_number.2 turned_number.3 are)
+fix_turned Turn.Take n stamp ms links before after old new few order turned_number are =
+    rw turned_number.4 (fix_taken n stamp ms links before after order old turned_number.0 turned_number.1 turned_number.2 turned_number.3 are)
 
 others_turned : (turn : Turn) (n stamp : ℕ) (fault : FaultValue) (before after : List (ℕ × FaultValue)) (entries : List (Option FixEntry))
-    → AreInOrder (before ++ (stamp, fault) ∷ after) → fix_parts fault ≡ None
+    → AreInOrder (before ++ (stamp, fault) ∷ after) → fix_value fault ≡ None
     → AreEntries n entries (stamped_from turn before (stamp, fault) after) → AreEntries n entries (stamped_to turn before (stamp, fault) after)
 others_turned Turn.Put n stamp fault before after entries order none are = others_put n stamp fault before after order entries none are
 others_turned Turn.Take n stamp fault before after entries order none are = others_taken n stamp fault before after order entries none are
 
 -- entries are turned as the faults are
 pub entries_turned : (turn : Turn) (n stamp : ℕ) (fault : FaultValue) (before after : List (ℕ × FaultValue)) (old new : List (Option FixEntry))
-    → n ≤ 64 → AreInOrder (before ++ (stamp, fault) ∷ after) → AreEntriesTurned turn stamp (fix_parts fault) old new
+    → n ≤ 64 → AreInOrder (before ++ (stamp, fault) ∷ after) → AreEntriesTurned turn stamp (fix_value fault) old new
     → AreEntries n old (stamped_from turn before (stamp, fault) after) → AreEntries n new (stamped_to turn before (stamp, fault) after)
-entries_turned turn n stamp fault before after old new few order turned are =
-    elim (fix_parts fault) as (λ o. fix_parts fault ≡ o → AreEntriesTurned turn stamp o old new → AreEntries n new (stamped_to turn before (stamp, fault) after)) [
+entries_turned turn n stamp fault before after old new few order turned_number are =
+    elim (fix_value fault) as (λ o. fix_value fault ≡ o → AreEntriesTurned turn stamp o old new → AreEntries n new (stamped_to turn before (stamp, fault) after)) [
       | None ↦ λ is same. rw same (others_turned turn n stamp fault before after old order is are)
       | Some fix ↦ λ is turned'.
           let e = fix_of_parts fault fix.0 fix.1 is in
           subst (λ f. AreInOrder (before ++ (stamp, f) ∷ after) → AreEntries n old (stamped_from turn before (stamp, f) after)
           → AreEntries n new (stamped_to turn before (stamp, f) after)) (sym e)
           (λ order' are'. fix_turned turn n stamp fix.0 fix.1 before after old new few order' turned' are') order are
-    ] refl turned
+    ] refl turned_number
 
 -- as many entries are in use as before, and one more or less for a fix
 parts_turned : (turn : Turn) (stamp : ℕ) (parts : Option (ℕ × List (ℕ × ℕ))) (old new : List (Option FixEntry)) → AreEntriesTurned turn stamp parts old new
-    → count_by is_some new ≡ turned turn (count_by is_some old) (one_if (is_some parts))
+    → count_by is_some new ≡ turned_number turn (count_by is_some old) (one_if (is_some parts))
 parts_turned turn stamp None old new are = rw are (sym (turned_zero turn (count_by is_some old)))
 parts_turned Turn.Put stamp (Some fix) old new are =
     let there = slice_get_within old are.0 None are.2 in
@@ -92,9 +92,9 @@ parts_turned Turn.Take stamp (Some fix) old new are =
     let some : f (get_or old are.0 None) ≡ 1 = rw was refl in
     rw are.4 (omega (arith, some, sum_by-set f old are.0 None None there))
 
-pub used_turned : (turn : Turn) (stamp : ℕ) (fault : FaultValue) (old new : List (Option FixEntry)) → AreEntriesTurned turn stamp (fix_parts fault) old new
-    → count_by is_some new ≡ turned turn (count_by is_some old) (one_if (is_fix fault))
-used_turned turn stamp fault = parts_turned turn stamp (fix_parts fault)
+pub used_turned : (turn : Turn) (stamp : ℕ) (fault : FaultValue) (old new : List (Option FixEntry)) → AreEntriesTurned turn stamp (fix_value fault) old new
+    → count_by is_some new ≡ turned_number turn (count_by is_some old) (one_if (is_fix fault))
+used_turned turn stamp fault = parts_turned turn stamp (fix_value fault)
 
 -- fewer than 256 faults leave an entry free
 room_to_put : (parts : Option (ℕ × List (ℕ × ℕ))) (stamp : ℕ) (entries : List (Option FixEntry)) → count_by is_some entries < length entries → CanTurnEntries Turn.Put stamp parts entries
@@ -102,15 +102,15 @@ room_to_put None stamp entries h = tt
 room_to_put (Some fix) stamp entries h = h
 
 pub entries_room : (n stamp : ℕ) (fault : FaultValue) (tallies : Tallies) (faults : List FaultValue) → length tallies.fixes ≡ 256 → length faults < 256
-    → AreTallies n tallies faults → CanTurnEntries Turn.Put stamp (fix_parts fault) tallies.fixes
+    → AreTallies n tallies faults → CanTurnEntries Turn.Put stamp (fix_value fault) tallies.fixes
 entries_room n stamp fault tallies faults long few are =
-    room_to_put (fix_parts fault) stamp tallies.fixes (omega (arith, long, few, are.fixes, count_by-le-length is_fix faults))
+    room_to_put (fix_value fault) stamp tallies.fixes (omega (arith, long, few, are.fixes, count_by-le-length is_fix faults))
 
 -- a fix that is put has its entry
 pub entry_there : (n stamp : ℕ) (fault : FaultValue) (before after : List (ℕ × FaultValue)) (entries : List (Option FixEntry))
-    → AreEntries n entries (before ++ (stamp, fault) ∷ after) → CanTurnEntries Turn.Take stamp (fix_parts fault) entries
+    → AreEntries n entries (before ++ (stamp, fault) ∷ after) → CanTurnEntries Turn.Take stamp (fix_value fault) entries
 entry_there n stamp fault before after entries are =
-    elim (fix_parts fault) as (λ o. fix_parts fault ≡ o → CanTurnEntries Turn.Take stamp o entries) [
+    elim (fix_value fault) as (λ o. fix_value fault ≡ o → CanTurnEntries Turn.Take stamp o entries) [
       | None ↦ λ is. tt
       | Some fix ↦ λ is.
           let same = fix_of_parts fault fix.0 fix.1 is in

@@ -11,9 +11,9 @@ use Rattle.jh_tables.specs.declared.counted.LinkTally.{LinkTally}
 use Rattle.jh_tables.specs.declared.counted.NodeTally.{NodeTally}
 use Rattle.jh_tables.specs.declared.cells.Link.{Link}
 use Rattle.jh_tables.specs.declared.cells.NodeCell.{NodeCell}
-use Rattle.jh_tables.specs.Cells.{calm, running}
+use Rattle.jh_tables.specs.Cells.{calm_link, running_node}
 use Rattle.jh_tables.specs.Faults.{IsFault, FitsCount}
-use Rattle.jh_tables.specs.Tallies.{Tallies, calm_tally, running_tally, cells_at_start, fresh, fresh_link, fresh_node}
+use Rattle.jh_tables.specs.Tallies.{Tallies, calm_tally, running_tally, cells_at_start, faultless_tallies, fresh_link, fresh_node}
 use Rattle.jh_tables.specs.Standing.{AreEntries, AreTallies, StandsAt}
 use Rattle.jh_tables.specs.TablesInside.{HasFixAmount}
 use Rattle.jh_tables.proofs.OverlayLemmas.{cells_told}
@@ -40,7 +40,7 @@ free_at (suc n) (suc i) d h = free_at n i d (omega (arith, h))
 
 module _ (links : List Link) (nodes : List NodeCell) (square : length links ≡ length nodes * length nodes) where
   abbrev t : Tallies
-  t = fresh links nodes
+  t = faultless_tallies links nodes
 
   pub fresh_square : length t.links ≡ length t.nodes * length t.nodes
   fresh_square = rw (length-map links fresh_link, length-map nodes fresh_node) square
@@ -53,11 +53,11 @@ module _ (links : List Link) (nodes : List NodeCell) (square : length links ≡ 
         let la : a < n = rw (length-map nodes fresh_node) at ha in
         let lb : b < n = rw (length-map nodes fresh_node) at hb in
         let below : a * n + b < length links = rw square (mul-add-lt a n b n la lb) in
-        rw (length-map nodes fresh_node, get_or-map fresh_link links (a * n + b) calm calm_tally below)
+        rw (length-map nodes fresh_node, get_or-map fresh_link links (a * n + b) calm_link calm_tally below)
         (record { cuts = refl; slowed = refl; levels = refl; losses = λ i h. zeros 20 i });
     nodes = λ a ha.
         let la : a < length nodes = rw (length-map nodes fresh_node) at ha in
-        rw (get_or-map fresh_node nodes a running running_tally la) (record { pauses = refl; kills = refl; bumped = refl });
+        rw (get_or-map fresh_node nodes a running_node running_tally la) (record { pauses = refl; kills = refl; bumped = refl });
     fixes = none_used 256;
   }
 

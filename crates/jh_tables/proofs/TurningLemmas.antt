@@ -15,7 +15,7 @@ use Rattle.jh_tables.specs.declared.counted.NodeTally.{NodeTally}
 use Rattle.jh_tables.specs.declared.faults.LinkFault.{LinkFault}
 use Rattle.jh_tables.specs.declared.turning.Turn.{Turn}
 use Rattle.jh_tables.specs.declared.faults.NodeFault.{NodeFault}
-use Rattle.jh_tables.specs.Faults.{names_link, names_node, same_link, same_node, AreApart, AreBumps}
+use Rattle.jh_tables.specs.Faults.{names_link, names_node, is_same_link, is_same_node, AreApart, AreBumps}
 use Rattle.jh_tables.specs.Faults.FaultValue.{Bump}
 use Rattle.jh_tables.specs.Overlay.{bump_by}
 use Rattle.jh_tables.specs.Tallies.{calm_tally, running_tally}
@@ -30,12 +30,12 @@ untouched turn fault links n old new a b laid p q h = rw h at (laid a b p q)
 
 -- one more of the links
 pub links_more : (turn : Turn) (fault : LinkFault) (links : List (ℕ × ℕ)) (i n : ℕ) (old mid : List LinkTally) (x : ℕ × ℕ) (y : LinkTally)
-    → i < length links → x ≡ get_or links i x → x.0 < n → x.1 < n → AreApart same_link links → length mid ≡ n * n
+    → i < length links → x ≡ get_or links i x → x.0 < n → x.1 < n → AreApart is_same_link links → length mid ≡ n * n
     → y ≡ named_link_turned turn fault (get_or mid (x.0 * n + x.1) calm_tally)
     → AreLinksTurned turn fault (take i links) n old mid → AreLinksTurned turn fault (take (i + 1) links) n old (set mid (x.0 * n + x.1) y)
 links_more turn fault links i n old mid x y h is p q apart size val laid a b ha hb =
-    rw (list_any_more (λ l. same_link l (a, b)) links i x h, ← is)
-    (elim (same_link x (a, b)) as (λ s. same_link x (a, b) ≡ s → get_or (set mid (x.0 * n + x.1) y) (a * n + b) calm_tally
+    rw (list_any_more (λ l. is_same_link l (a, b)) links i x h, ← is)
+    (elim (is_same_link x (a, b)) as (λ s. is_same_link x (a, b) ≡ s → get_or (set mid (x.0 * n + x.1) y) (a * n + b) calm_tally
     ≡ (if names_link (take i links) a b || s then named_link_turned turn fault (get_or old (a * n + b) calm_tally) else get_or old (a * n + b) calm_tally)) [
       | true ↦ λ s.
           let new : names_link (take i links) x.0 x.1 ≡ false = rw (← is) at (apart i x h) in
@@ -53,14 +53,14 @@ links_more turn fault links i n old mid x y h is p q apart size val laid a b ha 
 
 -- the next link's tally can be turned, since none before it is the same link
 pub can_turn_next : (turn : Turn) (fault : LinkFault) (links : List (ℕ × ℕ)) (i n : ℕ) (old mid : List LinkTally) (x : ℕ × ℕ)
-    → i < length links → x ≡ get_or links i x → x.0 < n → x.1 < n → AreApart same_link links
+    → i < length links → x ≡ get_or links i x → x.0 < n → x.1 < n → AreApart is_same_link links
     → AreLinksTurned turn fault (take i links) n old mid → CanTurnLinks turn fault links n old
     → CanTurnLink turn fault (get_or mid (x.0 * n + x.1) calm_tally)
 can_turn_next turn fault links i n old mid x h is p q apart laid room =
     let new : names_link (take i links) x.0 x.1 ≡ false = rw (← is) at (apart i x h) in
     let same = untouched turn fault (take i links) n old mid x.0 x.1 laid p q new in
-    let itself : same_link x (x.0, x.1) ≡ true = and_from (x.0 == x.0) (x.1 == x.1) (eq-eqb x.0 x.0 refl) (eq-eqb x.1 x.1 refl) in
-    let named : names_link links x.0 x.1 ≡ true = list_any_at (λ l. same_link l (x.0, x.1)) links i x h (rw (← is) itself) in
+    let itself : is_same_link x (x.0, x.1) ≡ true = and_from (x.0 == x.0) (x.1 == x.1) (eq-eqb x.0 x.0 refl) (eq-eqb x.1 x.1 refl) in
+    let named : names_link links x.0 x.1 ≡ true = list_any_at (λ l. is_same_link l (x.0, x.1)) links i x h (rw (← is) itself) in
     rw same (room x.0 x.1 p q named)
 
 -- one more node's tally is written
@@ -80,7 +80,7 @@ node_more before after old mid k y below size laid here others a ha =
 
 -- one more of the nodes
 pub nodes_more : (turn : Turn) (fault : NodeFault) (nodes : List ℕ) (i : ℕ) (old mid : List NodeTally) (x : ℕ) (y : NodeTally)
-    → i < length nodes → x ≡ get_or nodes i x → x < length old → AreApart same_node nodes → length mid ≡ length old
+    → i < length nodes → x ≡ get_or nodes i x → x < length old → AreApart is_same_node nodes → length mid ≡ length old
     → y ≡ named_node_turned turn fault (get_or mid x running_tally)
     → AreNodesTurned turn fault (take i nodes) old mid → AreNodesTurned turn fault (take (i + 1) nodes) old (set mid x y)
 nodes_more turn fault nodes i old mid x y h is below apart size val laid =
@@ -96,7 +96,7 @@ nodes_more turn fault nodes i old mid x y h is below apart size val laid =
 
 -- the next node's tally can be turned, since none before it is the same node
 pub can_turn_next_node : (turn : Turn) (fault : NodeFault) (nodes : List ℕ) (i : ℕ) (old mid : List NodeTally) (x : ℕ)
-    → i < length nodes → x ≡ get_or nodes i x → x < length old → AreApart same_node nodes
+    → i < length nodes → x ≡ get_or nodes i x → x < length old → AreApart is_same_node nodes
     → AreNodesTurned turn fault (take i nodes) old mid → CanTurnNodes turn fault nodes old → CanTurnNode turn fault (get_or mid x running_tally)
 can_turn_next_node turn fault nodes i old mid x h is below apart laid room =
     let new : names_node (take i nodes) x ≡ false = rw (← is) at (apart i x h) in

@@ -10,8 +10,8 @@ use Rattle.jh_tables.specs.declared.counted.FixEntry.{FixEntry}
 use Rattle.jh_tables.specs.declared.counted.LinkTally.{LinkTally}
 use Rattle.jh_tables.specs.declared.counted.NodeTally.{NodeTally}
 use Rattle.jh_tables.specs.declared.turning.Turn.{Turn}
-use Rattle.jh_tables.specs.Cells.{calm, running}
-use Rattle.jh_tables.specs.Faults.{FaultValue, IsFault, IsFixAmount, FitsCount, fix_parts}
+use Rattle.jh_tables.specs.Cells.{calm_link, running_node}
+use Rattle.jh_tables.specs.Faults.{FaultValue, IsFault, IsFixAmount, FitsCount, fix_value}
 use Rattle.jh_tables.specs.Faults.FaultValue.{Cut, Slow, Loss, Fix, Pause, Kill, Bump}
 use Rattle.jh_tables.specs.Tallies.{Tallies, calm_tally, running_tally, cells_now, cells_at_start}
 use Rattle.jh_tables.specs.Standing.{TablesValue, AreEntries, AreInOrder, AreTallies, StandsAt, faults_of}
@@ -44,17 +44,17 @@ module _ (turn : Turn) (fault : FaultValue) (old new : Tallies) (are : AreTurned
   pub start_stays : cells_at_start new ≡ cells_at_start old
   start_stays =
       let links : map (λ (t : LinkTally). t.start) new.links ≡ map (λ (t : LinkTally). t.start) old.links =
-      same_lists calm _ _ (length-map new.links (λ t. t.start) ∙ are.many_links ∙ sym (length-map old.links (λ t. t.start))) (λ k h.
+      same_lists calm_link _ _ (length-map new.links (λ t. t.start) ∙ are.many_links ∙ sym (length-map old.links (λ t. t.start))) (λ k h.
       let below : k < length new.links = rw (length-map new.links (λ t. t.start)) at h in
       let before : k < length old.links = rw (← are.many_links) below in
-      get_or-map (λ (t : LinkTally). t.start) new.links k calm_tally calm below ∙ link_starts k before
-      ∙ sym (get_or-map (λ (t : LinkTally). t.start) old.links k calm_tally calm before)) in
+      get_or-map (λ (t : LinkTally). t.start) new.links k calm_tally calm_link below ∙ link_starts k before
+      ∙ sym (get_or-map (λ (t : LinkTally). t.start) old.links k calm_tally calm_link before)) in
       let nodes : map (λ (t : NodeTally). t.start) new.nodes ≡ map (λ (t : NodeTally). t.start) old.nodes =
-      same_lists running _ _ (length-map new.nodes (λ t. t.start) ∙ are.many_nodes ∙ sym (length-map old.nodes (λ t. t.start))) (λ k h.
+      same_lists running_node _ _ (length-map new.nodes (λ t. t.start) ∙ are.many_nodes ∙ sym (length-map old.nodes (λ t. t.start))) (λ k h.
       let below : k < length new.nodes = rw (length-map new.nodes (λ t. t.start)) at h in
       let before : k < length old.nodes = rw (← are.many_nodes) below in
-      get_or-map (λ (t : NodeTally). t.start) new.nodes k running_tally running below ∙ ap (λ (t : NodeTally). t.start) (are.nodes k before)
-      ∙ sym (get_or-map (λ (t : NodeTally). t.start) old.nodes k running_tally running before)) in
+      get_or-map (λ (t : NodeTally). t.start) new.nodes k running_tally running_node below ∙ ap (λ (t : NodeTally). t.start) (are.nodes k before)
+      ∙ sym (get_or-map (λ (t : NodeTally). t.start) old.nodes k running_tally running_node before)) in
       rw (links, nodes) refl
 
   pub square_stays : length new.links ≡ length new.nodes * length new.nodes
@@ -68,7 +68,7 @@ order_turned Turn.Take before after fault order = pairs_without (λ x y. x.0 < y
 -- the tables stand for the faults that are left
 pub stands_turned : (turn : Turn) (stamp : ℕ) (fault : FaultValue) (before after : List (ℕ × FaultValue)) (old new : Tallies) (was laid : ℕ)
     → length old.nodes ≤ 64 → length old.links ≡ length old.nodes * length old.nodes → IsFault fault → FitsCount (length old.nodes) fault
-    → AreTurned turn fault old new → AreEntriesTurned turn stamp (fix_parts fault) old.fixes new.fixes
+    → AreTurned turn fault old new → AreEntriesTurned turn stamp (fix_value fault) old.fixes new.fixes
     → AreInOrder (before ++ (stamp, fault) ∷ after) → laid ≡ length (stamped_to turn before (stamp, fault) after)
     → StandsAt (tables_of old was) (stamped_from turn before (stamp, fault) after)
     → StandsAt (tables_of new laid) (stamped_to turn before (stamp, fault) after)
@@ -101,7 +101,7 @@ abbrev HasRightDelay : Option (ℕ × List (ℕ × ℕ)) → Type 0
 HasRightDelay None = ⊤
 HasRightDelay (Some fix) = IsFixAmount fix.0
 
-right_delay : (fault : FaultValue) → IsFault fault → HasRightDelay (fix_parts fault)
+right_delay : (fault : FaultValue) → IsFault fault → HasRightDelay (fix_value fault)
 right_delay (Fix ms links) right = right.0
 right_delay (Cut links) right = tt
 right_delay (Slow ms links) right = tt
@@ -118,8 +118,8 @@ entry_delays Turn.Take stamp (Some fix) old new right are all = rw are.4 (All-se
 
 -- entries in use keep delays that fixes may have
 pub delays_turned : (turn : Turn) (stamp : ℕ) (fault : FaultValue) (old new : List (Option FixEntry)) → IsFault fault
-    → AreEntriesTurned turn stamp (fix_parts fault) old new → All HasFixAmount old → All HasFixAmount new
-delays_turned turn stamp fault old new right = entry_delays turn stamp (fix_parts fault) old new (right_delay fault right)
+    → AreEntriesTurned turn stamp (fix_value fault) old new → All HasFixAmount old → All HasFixAmount new
+delays_turned turn stamp fault old new right = entry_delays turn stamp (fix_value fault) old new (right_delay fault right)
 
 -- what follows where tables stand for a fault among others
 module _ (stamp : ℕ) (fault : FaultValue) (before after : List (ℕ × FaultValue)) (t : Tallies) (laid : ℕ)

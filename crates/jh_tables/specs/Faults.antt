@@ -1,7 +1,9 @@
 -- Faults, as contracts see them (Jepsen's pages on nemeses and nets name cuts of links, slow and
 -- lossy links, paused and killed processes and bumped clocks; fixed delays and the amounts are this
 -- project's own).
-use Rattle.std.specs.Prelude.{◌≡◌, ◌≢◌, ℕ, ◌+◌, ◌-◌, ◌^◌, ◌==◌, ◌&&◌, ◌<◌, ◌≤◌, Bool, false, ℤ, pos, negsuc, ◌≤ℤ◌, List, length, take, slice_index_or, Option, Some, None, is_some, if◌then◌else◌}
+use Rattle.std.specs.Prelude.{◌≡◌, ◌≢◌, ℕ, ◌+◌, ◌-◌, ◌^◌, ◌==◌, ◌&&◌, ◌<◌, ◌≤◌, Bool, false, ℤ, pos}
+use Rattle.std.specs.Prelude.{negsuc, ◌≤ℤ◌, List, length, take, slice_index_or, Option, Some, None}
+use Rattle.std.specs.Prelude.{is_some, if◌then◌else◌}
 use Rattle.std.specs.List.{list_any, All}
 
 -- A link is the pair of its source's place and its destination's. Delays and bumps are in
@@ -16,24 +18,24 @@ pub data FaultValue : Type 0 where
   Bump : List (ℕ × ℤ) → FaultValue
 
 -- the two are one link
-abbrev pub same_link : (ℕ × ℕ) → (ℕ × ℕ) → Bool
-same_link k l = (k.0 == l.0) && (k.1 == l.1)
+abbrev pub is_same_link : (ℕ × ℕ) → (ℕ × ℕ) → Bool
+is_same_link k l = (k.0 == l.0) && (k.1 == l.1)
 
 -- the link from a to b is among these
 abbrev pub names_link : List (ℕ × ℕ) → ℕ → ℕ → Bool
-names_link links a b = list_any (λ l. same_link l (a, b)) links
+names_link links a b = list_any (λ l. is_same_link l (a, b)) links
 
 -- the two are one node
-abbrev pub same_node : ℕ → ℕ → Bool
-same_node a b = a == b
+abbrev pub is_same_node : ℕ → ℕ → Bool
+is_same_node a b = a == b
 
 -- the node is among these
 abbrev pub names_node : List ℕ → ℕ → Bool
 names_node nodes a = list_any (λ n. n == a) nodes
 
 -- the two bumps are of one node
-abbrev pub same_bumped : (ℕ × ℤ) → (ℕ × ℤ) → Bool
-same_bumped x y = x.0 == y.0
+abbrev pub is_same_bumped : (ℕ × ℤ) → (ℕ × ℤ) → Bool
+is_same_bumped x y = x.0 == y.0
 
 -- none is the same as one before it
 abbrev pub AreApart : {A : Type 0} → (A → A → Bool) → List A → Type 0
@@ -59,16 +61,16 @@ IsBumpAmount ms = (ms ≢ pos 0) × (negsuc (10 ^ 9 - 1) ≤ℤ ms) × (ms ≤�
 
 -- each bump is in its range, and no node is bumped twice
 abbrev pub AreBumps : List (ℕ × ℤ) → Type 0
-AreBumps bumps = All (λ b. IsBumpAmount b.1) bumps × AreApart same_bumped bumps
+AreBumps bumps = All (λ b. IsBumpAmount b.1) bumps × AreApart is_same_bumped bumps
 
 -- each link and node stands once, and amounts are in their ranges
 abbrev pub IsFault : FaultValue → Type 0
-IsFault (Cut links) = AreApart same_link links
-IsFault (Slow ms links) = IsSlowAmount ms × AreApart same_link links
-IsFault (Loss level links) = IsLossAmount level × AreApart same_link links
-IsFault (Fix ms links) = IsFixAmount ms × AreApart same_link links
-IsFault (Pause nodes) = AreApart same_node nodes
-IsFault (Kill nodes) = AreApart same_node nodes
+IsFault (Cut links) = AreApart is_same_link links
+IsFault (Slow ms links) = IsSlowAmount ms × AreApart is_same_link links
+IsFault (Loss level links) = IsLossAmount level × AreApart is_same_link links
+IsFault (Fix ms links) = IsFixAmount ms × AreApart is_same_link links
+IsFault (Pause nodes) = AreApart is_same_node nodes
+IsFault (Kill nodes) = AreApart is_same_node nodes
 IsFault (Bump bumps) = AreBumps bumps
 
 -- each link is between two of count nodes
@@ -86,25 +88,25 @@ FitsCount count (Kill nodes) = All (λ n. n < count) nodes
 FitsCount count (Bump nodes) = All (λ n. n.0 < count) nodes
 
 -- how many links or nodes the fault names
-abbrev pub named_by : FaultValue → ℕ
-named_by (Cut links) = length links
-named_by (Slow ms links) = length links
-named_by (Loss level links) = length links
-named_by (Fix ms links) = length links
-named_by (Pause nodes) = length nodes
-named_by (Kill nodes) = length nodes
-named_by (Bump bumps) = length bumps
+abbrev pub named_count : FaultValue → ℕ
+named_count (Cut links) = length links
+named_count (Slow ms links) = length links
+named_count (Loss level links) = length links
+named_count (Fix ms links) = length links
+named_count (Pause nodes) = length nodes
+named_count (Kill nodes) = length nodes
+named_count (Bump bumps) = length bumps
 
 -- a delay and the links for which it is fixed
-abbrev pub FixParts : Type 0
-FixParts = ℕ × List (ℕ × ℕ)
+abbrev pub FixValue : Type 0
+FixValue = ℕ × List (ℕ × ℕ)
 
 -- the delay that the fault fixes and its links, where it fixes any
-abbrev pub fix_parts : FaultValue → Option FixParts
-fix_parts (Fix ms links) = Some (ms, links)
-fix_parts _ = None
+abbrev pub fix_value : FaultValue → Option FixValue
+fix_value (Fix ms links) = Some (ms, links)
+fix_value _ = None
 
 -- the most cells that the fault may take: one for each link or node that it names, and for a fix
 -- one more
-abbrev pub size_of : FaultValue → ℕ
-size_of fault = named_by fault + (if is_some (fix_parts fault) then 1 else 0)
+abbrev pub fault_size : FaultValue → ℕ
+fault_size fault = named_count fault + (if is_some (fix_value fault) then 1 else 0)

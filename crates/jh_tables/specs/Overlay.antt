@@ -1,6 +1,7 @@
 -- What faults make of starting cells (this project's own), cell by cell, each over the whole list
 -- of faults, in order.
-use Rattle.std.specs.Prelude.{◌≡◌, ℕ, ◌+◌, ◌==◌, ◌||◌, Bool, true, false, ℤ, pos, ◌+ℤ◌, List, if◌then◌else◌, fold, max, option_map}
+use Rattle.std.specs.Prelude.{◌≡◌, ℕ, ◌+◌, ◌==◌, ◌||◌, Bool, true, false, ℤ, pos, ◌+ℤ◌, List}
+use Rattle.std.specs.Prelude.{if◌then◌else◌, fold, max, option_map}
 use Rattle.std.specs.List.{list_any, sum_by}
 use Rattle.jh_tables.specs.declared.cells.Life.{Life}
 use Rattle.jh_tables.specs.declared.cells.Life.TheVariants.{Running, Paused, Killed}
@@ -16,9 +17,9 @@ cuts a b (Cut links) = names_link links a b
 cuts a b _ = false
 
 -- the delay of the link from a to b that was this one, where the fault may fix another
-abbrev pub fixed_by : ℕ → ℕ → ℕ → FaultValue → ℕ
-fixed_by a b delay (Fix ms links) = if names_link links a b then ms else delay
-fixed_by a b delay _ = delay
+abbrev pub delay_after_fault : ℕ → ℕ → ℕ → FaultValue → ℕ
+delay_after_fault a b delay (Fix ms links) = if names_link links a b then ms else delay
+delay_after_fault a b delay _ = delay
 
 -- by how much the fault slows the link from a to b
 abbrev pub delay_by : ℕ → ℕ → FaultValue → ℕ
@@ -62,7 +63,7 @@ is_killed Killed = true
 abbrev pub link_over : List FaultValue → ℕ → ℕ → Link → Link
 link_over faults a b l = record {
   cut = l.cut || list_any (cuts a b) faults;
-  delay = fold (fixed_by a b) l.delay faults + sum_by (delay_by a b) faults;
+  delay = fold (delay_after_fault a b) l.delay faults + sum_by (delay_by a b) faults;
   loss = fold (λ m f. max m (loss_by a b f)) l.loss faults;
 }
 

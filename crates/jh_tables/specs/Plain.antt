@@ -7,19 +7,19 @@ use Rattle.jh_tables.specs.declared.faults.NodeFault.{NodeFault}
 use Rattle.jh_tables.specs.declared.faults.PlainFault.{PlainFault}
 
 -- a fault of links
-abbrev pub on_links : LinkFault → List (ℕ × ℕ) → FaultValue
-on_links LinkFault.Cut links = Cut links
-on_links (LinkFault.Slow ms) links = Slow ms links
-on_links (LinkFault.Loss level) links = Loss level links
-on_links (LinkFault.Fix ms) links = Fix ms links
+abbrev pub fault_on_links : LinkFault → List (ℕ × ℕ) → FaultValue
+fault_on_links LinkFault.Cut links = Cut links
+fault_on_links (LinkFault.Slow ms) links = Slow ms links
+fault_on_links (LinkFault.Loss level) links = Loss level links
+fault_on_links (LinkFault.Fix ms) links = Fix ms links
 
 -- a fault of nodes
-abbrev pub on_nodes : NodeFault → List ℕ → FaultValue
-on_nodes NodeFault.Pause nodes = Pause nodes
-on_nodes NodeFault.Kill nodes = Kill nodes
+abbrev pub fault_on_nodes : NodeFault → List ℕ → FaultValue
+fault_on_nodes NodeFault.Pause nodes = Pause nodes
+fault_on_nodes NodeFault.Kill nodes = Kill nodes
 
 -- the fault that plain data is
 abbrev pub fault_of : PlainFault → FaultValue
-fault_of (PlainFault.OnLinks fault links) = on_links fault links.items
-fault_of (PlainFault.OnNodes fault nodes) = on_nodes fault nodes.items
+fault_of (PlainFault.OnLinks fault links) = fault_on_links fault links.items
+fault_of (PlainFault.OnNodes fault nodes) = fault_on_nodes fault nodes.items
 fault_of (PlainFault.Bump bumps) = Bump bumps.items

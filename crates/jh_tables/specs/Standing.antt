@@ -1,5 +1,7 @@
 -- Which faults tables stand for (this project's own).
-use Rattle.std.specs.Prelude.{◌≡◌, ℕ, ◌+◌, ◌*◌, ◌==◌, ◌<◌, ◌≤◌, ◌++◌, ◌∷◌, Bool, ℤ, pos, ◌+ℤ◌, ◌≤ℤ◌, ◌^◌, List, length, map, fold, Option, Some, slice_index_or, is_some, ⊤}
+use Rattle.std.specs.Prelude.{◌≡◌, ℕ, ◌+◌, ◌*◌, ◌==◌, ◌<◌, ◌≤◌, ◌++◌, ◌∷◌, Bool, ℤ, pos, ◌+ℤ◌, ◌≤ℤ◌}
+use Rattle.std.specs.Prelude.{◌^◌, List, length, map, fold, Option, Some, slice_index_or, is_some}
+use Rattle.std.specs.Prelude.{⊤}
 use Rattle.std.specs.List.{All, AllPairs, Contains, sum_by, count_by}
 use Rattle.jh_tables.specs.declared.counted.LinkTally.{LinkTally}
 use Rattle.jh_tables.specs.declared.counted.NodeTally.{NodeTally}
@@ -7,7 +9,7 @@ use Rattle.jh_tables.specs.declared.counted.FixEntry.{FixEntry}
 use Rattle.jh_tables.specs.declared.cells.Link.{Link}
 use Rattle.jh_tables.specs.declared.cells.NodeCell.{NodeCell}
 use Rattle.jh_tables.specs.Cells.{Table}
-use Rattle.jh_tables.specs.Faults.{FaultValue, IsFault, FitsCount, fix_parts, names_link}
+use Rattle.jh_tables.specs.Faults.{FaultValue, IsFault, FitsCount, fix_value, names_link}
 use Rattle.jh_tables.specs.Faults.FaultValue.{Fix}
 use Rattle.jh_tables.specs.Overlay.{IsOverlay, cuts, delay_by, loss_by, pauses, kills, bump_by}
 use Rattle.jh_tables.specs.Tallies.{Tallies, is_fixed_in, link_tally, node_tally}
@@ -26,7 +28,7 @@ loses a b level fault = loss_by a b fault == level
 
 -- the fault fixes delays
 abbrev pub is_fix : FaultValue → Bool
-is_fix fault = is_some (fix_parts fault)
+is_fix fault = is_some (fix_value fault)
 
 -- the counts and the sum of the link from a to b are those of the faults
 pub record IsLinkTally (a b : ℕ) (faults : List FaultValue) (tally : LinkTally) : Type 0 where
@@ -79,8 +81,8 @@ AreInOrder stamped = AllPairs (λ x y. x.0 < y.0) stamped
 abbrev pub faults_of : List (ℕ × FaultValue) → List FaultValue
 faults_of stamped = map (λ s. s.1) stamped
 
--- the tables stand for these stamped faults: what they keep is kept of these, and the cells are what
--- these make of those at the start
+-- the tables stand for these stamped faults: what they keep is kept of these, and the cells are
+-- what these make of those at the start
 pub record StandsAt (tables : TablesValue) (stamped : List (ℕ × FaultValue)) : Type 0 where
   pub order : AreInOrder stamped
   pub laid : tables.laid ≡ length stamped
@@ -100,8 +102,8 @@ IsPut fault old new =
     (before after : List (ℕ × FaultValue)) → AreInOrder (before ++ fault ∷ after)
     → StandsAt old (before ++ after) → StandsAt new (before ++ fault ∷ after)
 
--- for every list of faults that has this one: the tables stood for it, and now for that list without
--- this fault
+-- for every list of faults that has this one: the tables stood for it, and now for that list
+-- without this fault
 abbrev pub IsTaken : ℕ × FaultValue → TablesValue → TablesValue → Type 0
 IsTaken fault old new =
     (before after : List (ℕ × FaultValue))
@@ -123,7 +125,8 @@ IsStartingNode n = IsWithin (10 ^ 12) n.clock
 abbrev pub max_put : ℕ
 max_put = 256
 
--- the most milliseconds by which a message is late: a minute at the start or of a fix, and one more for each fault
+-- the most milliseconds by which a message is late: a minute at the start or of a fix, and one more
+-- for each fault
 abbrev pub max_delay : ℕ
 max_delay = 60000 * 257
 

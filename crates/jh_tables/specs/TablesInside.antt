@@ -4,7 +4,8 @@ use Rattle.jh_tables.specs.declared.counted.FixEntry.{FixEntry}
 use Rattle.std.specs.List.{All}
 use Rattle.jh_tables.specs.Faults.{FaultValue, IsFixAmount}
 use Rattle.jh_tables.specs.Tallies.{cells_now, cells_at_start}
-use Rattle.jh_tables.specs.Standing.{TablesValue, AreTallies, IsStartingLink, IsStartingNode, max_put}
+use Rattle.jh_tables.specs.Standing.{TablesValue, AreTallies, IsStartingLink, IsStartingNode}
+use Rattle.jh_tables.specs.Standing.{max_put}
 use Rattle.jh_tables.specs.declared.tables.Tables.TheInside.{Inside}
 
 -- the cells that are read off the tallies, and how many faults are put

@@ -1,5 +1,7 @@
 -- What is kept of each link, node and fix (this project's own), and the cells that are read off it.
-use Rattle.std.specs.Prelude.{ℕ, ◌+◌, ◌*◌, ◌/◌, ◌%◌, ◌==◌, ◌||◌, ◌&&◌, Bool, true, pos, ◌+ℤ◌, List, [], length, map, max, if◌then◌else◌, nat_lt, fold, replicate, Option, Some, None, slice_index_or}
+use Rattle.std.specs.Prelude.{ℕ, ◌+◌, ◌*◌, ◌/◌, ◌%◌, ◌==◌, ◌||◌, ◌&&◌, Bool, true, pos, ◌+ℤ◌, List}
+use Rattle.std.specs.Prelude.{[], length, map, max, if◌then◌else◌, nat_lt, fold, replicate, Option}
+use Rattle.std.specs.Prelude.{Some, None, slice_index_or}
 use Rattle.std.specs.Int.{bit_at}
 use Rattle.std.specs.List.{range_with_len}
 use Rattle.jh_tables.specs.declared.cells.Life.TheVariants.{Running, Paused, Killed}
@@ -8,11 +10,12 @@ use Rattle.jh_tables.specs.declared.cells.NodeCell.{NodeCell}
 use Rattle.jh_tables.specs.declared.counted.LinkTally.{LinkTally}
 use Rattle.jh_tables.specs.declared.counted.NodeTally.{NodeTally}
 use Rattle.jh_tables.specs.declared.counted.FixEntry.{FixEntry}
-use Rattle.jh_tables.specs.Cells.{Table, calm, running}
+use Rattle.jh_tables.specs.Cells.{Table, calm_link, running_node}
 use Rattle.jh_tables.specs.Overlay.{is_paused, is_killed}
 
 -- The tally of the link from a to b of n nodes stands at a * n + b, that of a node at its place; an
--- entry holds a fix or is free; work is how often a count, a sum or an entry was written, up to 2^64 - 1.
+-- entry holds a fix or is free; work is how often a count, a sum or an entry was written, up to
+-- 2^64 - 1.
 pub record Tallies : Type 0 where
   pub links : List LinkTally
   pub nodes : List NodeTally
@@ -21,11 +24,11 @@ pub record Tallies : Type 0 where
 
 -- the tally of a link that starts calm
 abbrev pub calm_tally : LinkTally
-calm_tally = record { start = calm; cuts = 0; slowed = 0; losses = [] }
+calm_tally = record { start = calm_link; cuts = 0; slowed = 0; losses = [] }
 
 -- the tally of a node that starts running
 abbrev pub running_tally : NodeTally
-running_tally = record { start = running; pauses = 0; kills = 0; bumped = pos 0 }
+running_tally = record { start = running_node; pauses = 0; kills = 0; bumped = pos 0 }
 
 -- the tally of the link from a to b of n nodes
 abbrev pub link_tally : ℕ → List LinkTally → ℕ → ℕ → LinkTally
@@ -42,8 +45,8 @@ fresh_link link = record { start = link; cuts = 0; slowed = 0; losses = replicat
 abbrev pub fresh_node : NodeCell → NodeTally
 fresh_node node = record { start = node; pauses = 0; kills = 0; bumped = pos 0 }
 
-abbrev pub fresh : List Link → List NodeCell → Tallies
-fresh links nodes = record {
+abbrev pub faultless_tallies : List Link → List NodeCell → Tallies
+faultless_tallies links nodes = record {
   links = map fresh_link links;
   nodes = map fresh_node nodes;
   fixes = replicate 256 None;

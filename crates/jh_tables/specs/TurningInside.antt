@@ -1,5 +1,7 @@
 -- What putting a fault or taking it off changes (this project's own).
-use Rattle.std.specs.Prelude.{◌≡◌, ℕ, suc, zero, ◌+◌, ◌-◌, ◌^◌, ◌<◌, ◌≤◌, Bool, true, false, ℤ, ◌+ℤ◌, ◌-ℤ◌, List, length, min, if◌then◌else◌, slice_index_or, slice_set, slice_get, Option, Some, None, ◌==◌, ◌||◌, is_some, ⊤}
+use Rattle.std.specs.Prelude.{◌≡◌, ℕ, suc, zero, ◌+◌, ◌-◌, ◌^◌, ◌<◌, ◌≤◌, Bool, true, false, ℤ}
+use Rattle.std.specs.Prelude.{◌+ℤ◌, ◌-ℤ◌, List, length, min, if◌then◌else◌, slice_index_or}
+use Rattle.std.specs.Prelude.{slice_set, slice_get, Option, Some, None, ◌==◌, ◌||◌, is_some, ⊤}
 use Rattle.std.specs.List.{All, count_by, list_any}
 use Rattle.jh_tables.specs.Standing.{IsEntryOf, IsWithin, loses}
 use Rattle.std.specs.Int.{bit_at}
@@ -12,7 +14,7 @@ use Rattle.jh_tables.specs.declared.counted.NodeCount.{NodeCount}
 use Rattle.jh_tables.specs.declared.faults.LinkFault.{LinkFault}
 use Rattle.jh_tables.specs.declared.faults.NodeFault.{NodeFault}
 use Rattle.jh_tables.specs.declared.turning.Turn.{Turn}
-use Rattle.jh_tables.specs.Faults.{FaultValue, FixParts, names_link, names_node}
+use Rattle.jh_tables.specs.Faults.{FaultValue, FixValue, names_link, names_node}
 use Rattle.jh_tables.specs.Faults.FaultValue.{Bump}
 use Rattle.jh_tables.specs.Overlay.{cuts, delay_by, loss_by, pauses, kills, bump_by}
 use Rattle.jh_tables.specs.Tallies.{Tallies, calm_tally, link_tally, node_tally, running_tally}
@@ -30,8 +32,8 @@ IsThere t place (Cell.Node count) = place < length t.nodes
 IsThere t place (Cell.Fix entry) = place < length t.fixes
 
 -- one more, up to 2^64 - 1
-abbrev pub counted_on : ℕ → ℕ
-counted_on work = min (work + 1) (2 ^ 64 - 1)
+abbrev pub next_work : ℕ → ℕ
+next_work work = min (work + 1) (2 ^ 64 - 1)
 
 -- the tally of a link after one of its counts or sums is written
 abbrev pub link_written : LinkCount → LinkTally → LinkTally
@@ -46,22 +48,22 @@ node_written (NodeCount.Kills count) t = record t { kills = count }
 node_written (NodeCount.Bumped ms) t = record t { bumped = ms }
 
 -- the tallies after a count, a sum or an entry is written
-abbrev pub written : Tallies → ℕ → Cell → Tallies
-written t place (Cell.Link count) = record t {
+abbrev pub written_tallies : Tallies → ℕ → Cell → Tallies
+written_tallies t place (Cell.Link count) = record t {
   links = slice_set t.links place (link_written count (slice_index_or t.links place calm_tally));
-  work = counted_on t.work;
+  work = next_work t.work;
 }
-written t place (Cell.Node count) = record t {
+written_tallies t place (Cell.Node count) = record t {
   nodes = slice_set t.nodes place (node_written count (slice_index_or t.nodes place running_tally));
-  work = counted_on t.work;
+  work = next_work t.work;
 }
-written t place (Cell.Fix entry) =
-    record t { fixes = slice_set t.fixes place entry; work = counted_on t.work }
+written_tallies t place (Cell.Fix entry) =
+    record t { fixes = slice_set t.fixes place entry; work = next_work t.work }
 
 -- a number after a fault is put or taken that counts for so much in it
-abbrev pub turned : Turn → ℕ → ℕ → ℕ
-turned Turn.Put n amount = n + amount
-turned Turn.Take n amount = n - amount
+abbrev pub turned_number : Turn → ℕ → ℕ → ℕ
+turned_number Turn.Put n amount = n + amount
+turned_number Turn.Take n amount = n - amount
 
 -- the number stays in its range
 abbrev pub CanTurn : Turn → ℕ → ℕ → ℕ → Type 0
@@ -80,36 +82,37 @@ one_if does = if does then 1 else 0
 -- the counts of levels, after that of a level is turned; there is none for level 0
 abbrev pub losses_turned : Turn → List ℕ → ℕ → List ℕ
 losses_turned turn losses zero = losses
-losses_turned turn losses (suc i) = slice_set losses i (turned turn (slice_index_or losses i 0) 1)
+losses_turned turn losses (suc i) =
+    slice_set losses i (turned_number turn (slice_index_or losses i 0) 1)
 
 -- the tally of the link from a to b, after the fault is put or taken
 abbrev pub link_turned : Turn → FaultValue → ℕ → ℕ → LinkTally → LinkTally
 link_turned turn fault a b t = record t {
-  cuts = turned turn t.cuts (one_if (cuts a b fault));
-  slowed = turned turn t.slowed (delay_by a b fault);
+  cuts = turned_number turn t.cuts (one_if (cuts a b fault));
+  slowed = turned_number turn t.slowed (delay_by a b fault);
   losses = losses_turned turn t.losses (loss_by a b fault);
 }
 
 -- the tally of the node, after the fault is put or taken
 abbrev pub node_turned : Turn → FaultValue → ℕ → NodeTally → NodeTally
 node_turned turn fault a t = record t {
-  pauses = turned turn t.pauses (one_if (pauses a fault));
-  kills = turned turn t.kills (one_if (kills a fault));
+  pauses = turned_number turn t.pauses (one_if (pauses a fault));
+  kills = turned_number turn t.kills (one_if (kills a fault));
   bumped = int_turned turn t.bumped (bump_by a fault);
 }
 
 -- the tally of a link that the fault names
 abbrev pub named_link_turned : Turn → LinkFault → LinkTally → LinkTally
-named_link_turned turn LinkFault.Cut t = record t { cuts = turned turn t.cuts 1 }
-named_link_turned turn (LinkFault.Slow ms) t = record t { slowed = turned turn t.slowed ms }
+named_link_turned turn LinkFault.Cut t = record t { cuts = turned_number turn t.cuts 1 }
+named_link_turned turn (LinkFault.Slow ms) t = record t { slowed = turned_number turn t.slowed ms }
 named_link_turned turn (LinkFault.Loss level) t =
     record t { losses = losses_turned turn t.losses level }
 named_link_turned turn (LinkFault.Fix ms) t = t
 
 -- the tally of a node that the fault names
 abbrev pub named_node_turned : Turn → NodeFault → NodeTally → NodeTally
-named_node_turned turn NodeFault.Pause t = record t { pauses = turned turn t.pauses 1 }
-named_node_turned turn NodeFault.Kill t = record t { kills = turned turn t.kills 1 }
+named_node_turned turn NodeFault.Pause t = record t { pauses = turned_number turn t.pauses 1 }
+named_node_turned turn NodeFault.Kill t = record t { kills = turned_number turn t.kills 1 }
 
 -- the tally of a link that the fault names can be turned
 abbrev pub CanTurnLink : Turn → LinkFault → LinkTally → Type 0
@@ -150,7 +153,8 @@ abbrev pub AreNodesTurned : Turn → NodeFault → List ℕ → List NodeTally �
 AreNodesTurned turn fault nodes old new =
     (a : ℕ) → a < length old
     → node_tally new a
-    ≡ (if names_node nodes a then named_node_turned turn fault (node_tally old a) else node_tally old a)
+    ≡ (if names_node nodes a then named_node_turned turn fault (node_tally old a)
+    else node_tally old a)
 
 -- the clock of each node is turned by what the bumps move it
 abbrev pub AreClocksTurned : Turn → List (ℕ × ℤ) → List NodeTally → List NodeTally → Type 0
@@ -184,13 +188,13 @@ IsPlaceOfStamp stamp entries place =
 abbrev pub IsEntryPut : FixEntry → Tallies → Tallies → Type 0
 IsEntryPut fix old new =
     (place : ℕ) × (slice_get old.fixes place ≡ Some None)
-    × (new ≡ written old place (Cell.Fix (Some fix)))
+    × (new ≡ written_tallies old place (Cell.Fix (Some fix)))
 
 -- the entry with the stamp is free, and nothing else changes
 abbrev pub IsEntryTaken : ℕ → Tallies → Tallies → Type 0
 IsEntryTaken stamp old new =
     (place : ℕ) × (fix : FixEntry) × (slice_get old.fixes place ≡ Some (Some fix))
-    × (fix.stamp ≡ stamp) × (new ≡ written old place (Cell.Fix None))
+    × (fix.stamp ≡ stamp) × (new ≡ written_tallies old place (Cell.Fix None))
 
 -- the bits of these links are set too, and every other stays
 abbrev pub AreMarked : List (ℕ × ℕ) → List ℕ → List ℕ → Type 0
@@ -217,14 +221,14 @@ pub record CanTurnTallies (turn : Turn) (fault : FaultValue) (t : Tallies) : Typ
   pub clocks : All (λ n. IsWithin (2 ^ 61) n.bumped) t.nodes
 
 -- there is a free entry for a fix that is put, and one with the stamp where it is taken
-abbrev pub CanTurnEntries : Turn → ℕ → Option FixParts → List (Option FixEntry) → Type 0
+abbrev pub CanTurnEntries : Turn → ℕ → Option FixValue → List (Option FixEntry) → Type 0
 CanTurnEntries turn stamp None entries = ⊤
 CanTurnEntries Turn.Put stamp (Some fix) entries = count_by is_some entries < length entries
 CanTurnEntries Turn.Take stamp (Some fix) entries = list_any (has_stamp stamp) entries ≡ true
 
 -- an entry that was free holds the fix, or the one that held it is free
 abbrev pub AreEntriesTurned
-    : Turn → ℕ → Option FixParts → List (Option FixEntry) → List (Option FixEntry) → Type 0
+    : Turn → ℕ → Option FixValue → List (Option FixEntry) → List (Option FixEntry) → Type 0
 AreEntriesTurned turn stamp None old new = new ≡ old
 AreEntriesTurned Turn.Put stamp (Some fix) old new =
     (place : ℕ) × (entry : FixEntry) × (slice_get old place ≡ Some None)

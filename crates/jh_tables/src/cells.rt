@@ -1,7 +1,7 @@
 //! What a link and a node are like. `specs/Cells.antt` says where they stand in an environment.
 
 ghost use Rattle.std.specs.Prelude.{◌≡◌};
-ghost use Rattle.jh_tables.specs.Cells.{calm, running};
+ghost use Rattle.jh_tables.specs.Cells.{calm_link, running_node};
 
 /// What a node's process does.
 #[derive(Clone, Copy, Debug, PartialEq, Eq)]
@@ -34,7 +34,7 @@ pub struct NodeCell {
 impl Link {
     /// A link as it should be.
     pub fn calm() -> Link
-        ensures { result ≡ calm }
+        ensures { result ≡ calm_link }
     {
         Link {
             cut: false,
@@ -47,7 +47,7 @@ impl Link {
 impl NodeCell {
     /// A node as it should be.
     pub fn running() -> NodeCell
-        ensures { result ≡ running }
+        ensures { result ≡ running_node }
     {
         NodeCell {
             process: Life::Running,

@@ -1,10 +1,13 @@
-//! What is kept of links, nodes and fixes, and how often a part of it was written. Nothing outside of this file can
-//! write one without raising the count. `specs/Tallies.antt` says what stands where.
+//! What is kept of links, nodes and fixes, and how often a part of it was written. Nothing outside
+//! of this file can write one without raising the count. `specs/Tallies.antt` says what stands
+//! where.
 
-ghost use Rattle.std.specs.Prelude.{◌≡◌, ◌<◌, ◌≤◌, ◌*◌, length, is_some, map, replicate, slice_index_or, slice_set, IfOk, None};
+ghost use Rattle.std.specs.Prelude.{◌≡◌, ◌<◌, ◌≤◌, ◌*◌, length, is_some, map, replicate};
+ghost use Rattle.std.specs.Prelude.{slice_index_or, slice_set, IfOk, None};
 ghost use Rattle.std.specs.List.{count_by};
-ghost use Rattle.jh_tables.specs.Tallies.{calm_tally, fresh, fresh_link, fresh_node, running_tally};
-ghost use Rattle.jh_tables.specs.TurningInside.{written, IsThere};
+ghost use Rattle.jh_tables.specs.Tallies.{calm_tally, faultless_tallies, fresh_link, fresh_node};
+ghost use Rattle.jh_tables.specs.Tallies.{running_tally};
+ghost use Rattle.jh_tables.specs.TurningInside.{written_tallies, IsThere};
 
 use crate::cells::{Link, NodeCell};
 use std::alloc::{AllocError, Global};
@@ -73,7 +76,8 @@ pub enum NodeCount {
     Bumped(i64),
 }
 
-/// What is written: one count or sum of a link or of a node, or an entry for a fix, which is free or in use.
+/// What is written: one count or sum of a link or of a node, or an entry for a fix, which is free
+/// or in use.
 #[derive(Clone, Copy)]
 pub enum Cell {
     Link(LinkCount),
@@ -81,7 +85,8 @@ pub enum Cell {
     Fix(Option<FixEntry>),
 }
 
-/// Tallies, entries of fixes, and how often a count, a sum or an entry was written. A contract sees all of them.
+/// Tallies, entries of fixes, and how often a count, a sum or an entry was written. A contract sees
+/// all of them.
 #[derive(Debug, Drop)]
 pub struct Counted {
     links: Vec<LinkTally>,
@@ -99,12 +104,15 @@ impl Model for Counted {
 
     ghost Value = { Tallies };
 
-    ghost view = { λ a. record { links = a.links.items; nodes = a.nodes.items; fixes = a.fixes.items; work = a.work } };
+    ghost view = { λ a. record
+        { links = a.links.items; nodes = a.nodes.items; fixes = a.fixes.items; work = a.work } };
 
-    ghost invariant = { λ a. (length a.nodes.items ≤ 64) × (length a.links.items ≡ length a.nodes.items * length a.nodes.items) × (a.used ≡ count_by is_some a.fixes.items) };
+    ghost invariant = { λ a. (length a.nodes.items ≤ 64)
+        × (length a.links.items ≡ length a.nodes.items * length a.nodes.items)
+        × (a.used ≡ count_by is_some a.fixes.items) };
 }
 
-// A tally for each link, in which no fault counts.
+/// A tally for each link, in which no fault counts.
 fn link_tallies(alloc: Global, links: &[Link]) -> Result<Vec<LinkTally>, AllocError>
     ensures { IfOk result (λ tallies. tallies.items ≡ map fresh_link links.now) }
 {
@@ -120,7 +128,7 @@ fn link_tallies(alloc: Global, links: &[Link]) -> Result<Vec<LinkTally>, AllocEr
     Ok(tallies)
 }
 
-// A tally for each node, in which no fault counts.
+/// A tally for each node, in which no fault counts.
 fn node_tallies(alloc: Global, nodes: &[NodeCell]) -> Result<Vec<NodeTally>, AllocError>
     ensures { IfOk result (λ tallies. tallies.items ≡ map fresh_node nodes.now) }
 {
@@ -136,7 +144,7 @@ fn node_tallies(alloc: Global, nodes: &[NodeCell]) -> Result<Vec<NodeTally>, All
     Ok(tallies)
 }
 
-// As many entries as there is room for, all of them free.
+/// As many entries as there is room for, all of them free.
 fn free_entries(alloc: Global) -> Result<Vec<Option<FixEntry>>, AllocError>
     ensures { IfOk result (λ entries. entries.items ≡ replicate 256 None) }
 {
@@ -152,7 +160,7 @@ impl Counted {
     pub fn new(alloc: Global, links: &[Link], nodes: &[NodeCell]) -> Result<Counted, AllocError>
         requires few { length nodes.now ≤ 64 }
         requires square { length links.now ≡ length nodes.now * length nodes.now }
-        ensures { IfOk result (λ new. new ≡ fresh links.now nodes.now) }
+        ensures { IfOk result (λ new. new ≡ faultless_tallies links.now nodes.now) }
     {
         Ok(Counted {
             links: link_tallies(alloc, links)?,
@@ -222,7 +230,7 @@ impl Counted {
         self.work
     }
 
-    // Writes an entry over another, and counts those in use.
+    /// Writes an entry over another, and counts those in use.
     fn write_fix(&mut self, place: usize, entry: &Option<FixEntry>)
         requires { place < length self.old.fixes }
         ensures { self.new ≡ record self.old { fixes = slice_set self.old.fixes place entry.now } }
@@ -239,7 +247,7 @@ impl Counted {
     /// Writes one count, one sum or one entry, where it stands, and counts it.
     pub fn write(&mut self, place: usize, cell: &Cell)
         requires { IsThere self.old place cell.now }
-        ensures { self.new ≡ written self.old place cell.now }
+        ensures { self.new ≡ written_tallies self.old place cell.now }
     {
         match cell {
             Cell::Link(LinkCount::Cuts(count)) => self.links[place].cuts = *count,

@@ -1,20 +1,24 @@
-//! Entries of fixes: their bits, the latest one of a link, one that is put or taken. `specs/TurningInside.antt` says what
-//! each call changes, `specs/Tallies.antt` what the entries tell.
+//! Entries of fixes: their bits, the latest one of a link, one that is put or taken.
+//! `specs/TurningInside.antt` says what each call changes, `specs/Tallies.antt` what the entries
+//! tell.
 
-ghost use Rattle.std.specs.Prelude.{◌≡◌, ◌<◌, ◌≤◌, ◌+◌, length, is_some, true, false, slice_get, Some, None, MatchOption};
+ghost use Rattle.std.specs.Prelude.{◌≡◌, ◌<◌, ◌≤◌, ◌+◌, length, is_some, true, false, slice_get};
+ghost use Rattle.std.specs.Prelude.{Some, None, MatchOption};
 ghost use Rattle.std.specs.List.{All, count_by, list_any};
 ghost use Rattle.jh_tables.specs.Tallies.{is_after, is_fixed_in, later_fix, latest_fix};
-ghost use Rattle.jh_tables.specs.Faults.{AreKnownLinks, FitsCount, fix_parts};
+ghost use Rattle.jh_tables.specs.Faults.{AreKnownLinks, FitsCount, fix_value};
 ghost use Rattle.jh_tables.specs.Plain.{fault_of};
 ghost use Rattle.jh_tables.specs.Standing.{IsEntryOf, is_fix};
-ghost use Rattle.jh_tables.specs.TurningInside.{AreEntriesTurned, AreMarked, CanTurnEntries, IsEntryPut, IsEntryTaken, IsPlaceOfStamp, has_stamp, one_if};
+ghost use Rattle.jh_tables.specs.TurningInside.{AreEntriesTurned, AreMarked, CanTurnEntries};
+ghost use Rattle.jh_tables.specs.TurningInside.{IsEntryPut, IsEntryTaken, IsPlaceOfStamp};
+ghost use Rattle.jh_tables.specs.TurningInside.{has_stamp, one_if};
 
 use crate::counted::{Cell, Counted, FixEntry, MAX_NODES};
 use crate::faults::{LinkFault, PlainFault};
 use crate::nodes::Node;
 use crate::turning::Turn;
 
-// Whether the entry fixes the delay of a link.
+/// Whether the entry fixes the delay of a link.
 fn is_fixed_in(fix: &FixEntry, from: Node, to: Node) -> bool
     requires { (from < 64) × (to < 64) }
     ensures { result ≡ is_fixed_in fix.now from to }
@@ -22,7 +26,7 @@ fn is_fixed_in(fix: &FixEntry, from: Node, to: Node) -> bool
     fix.links[from.place() as usize] >> to.place() & 1 == 1
 }
 
-// Whether the stamp is above that of the latest fix so far.
+/// Whether the stamp is above that of the latest fix so far.
 fn is_after(stamp: u32, latest: Option<(u32, u64)>) -> bool
     ensures { result ≡ is_after stamp latest }
 {
@@ -32,7 +36,7 @@ fn is_after(stamp: u32, latest: Option<(u32, u64)>) -> bool
     }
 }
 
-// The latest fix of a link so far, after one more entry.
+/// The latest fix of a link so far, after one more entry.
 fn later_fix(
     from: Node,
     to: Node,
@@ -50,7 +54,7 @@ fn later_fix(
     }
 }
 
-// The stamp and the delay of the latest fix of a link among entries.
+/// The stamp and the delay of the latest fix of a link among entries.
 fn latest_among(entries: &[Option<FixEntry>], from: Node, to: Node) -> Option<(u32, u64)>
     requires { (from < 64) × (to < 64) }
     ensures { result ≡ latest_fix from to entries.now }
@@ -62,7 +66,7 @@ fn latest_among(entries: &[Option<FixEntry>], from: Node, to: Node) -> Option<(u
     latest
 }
 
-// The stamp and the delay of the latest fix of a link. No entry is looked at where none is in use.
+/// The stamp and the delay of the latest fix of a link. No entry is looked at where none is in use.
 pub(crate) fn latest_fix(counted: &Counted, from: Node, to: Node) -> Option<(u32, u64)>
     requires { (from < 64) × (to < 64) }
     ensures { result ≡ latest_fix from to counted.now.fixes }
@@ -73,7 +77,7 @@ pub(crate) fn latest_fix(counted: &Counted, from: Node, to: Node) -> Option<(u32
     latest_among(counted.fixes(), from, to)
 }
 
-// Sets the bits of these links: in the word of its source the bit of its destination.
+/// Sets the bits of these links: in the word of its source the bit of its destination.
 fn mark_links(words: &mut [u64; MAX_NODES], links: &[(Node, Node)])
     requires { AreKnownLinks 64 links.now }
     ensures { AreMarked links.now words.old words.new }
@@ -84,7 +88,7 @@ fn mark_links(words: &mut [u64; MAX_NODES], links: &[(Node, Node)])
     }
 }
 
-// The entry of a fix.
+/// The entry of a fix.
 fn entry_of(stamp: u32, ms: u64, links: &[(Node, Node)]) -> FixEntry
     requires { AreKnownLinks 64 links.now }
     ensures { IsEntryOf 64 stamp ms links.now result }
@@ -98,7 +102,7 @@ fn entry_of(stamp: u32, ms: u64, links: &[(Node, Node)]) -> FixEntry
     }
 }
 
-// Whether the entry is in use with this stamp.
+/// Whether the entry is in use with this stamp.
 fn is_of_stamp(entry: &Option<FixEntry>, stamp: u32) -> bool
     ensures { result ≡ has_stamp stamp entry.now }
 {
@@ -108,9 +112,10 @@ fn is_of_stamp(entry: &Option<FixEntry>, stamp: u32) -> bool
     }
 }
 
-// An entry that is free: the one at this place, or else the first.
+/// An entry that is free: the one at this place, or else the first.
 fn free_place(entries: &[Option<FixEntry>], likely: usize) -> Option<usize>
-    ensures { MatchOption result (All (λ e. is_some e ≡ true) entries.now) (λ place. slice_get entries.now place ≡ Some None) }
+    ensures { MatchOption result (All (λ e. is_some e ≡ true) entries.now)
+        (λ place. slice_get entries.now place ≡ Some None) }
 {
     match entries.get(likely) {
         Some(None) => Some(likely),
@@ -118,9 +123,10 @@ fn free_place(entries: &[Option<FixEntry>], likely: usize) -> Option<usize>
     }
 }
 
-// The entry with this stamp: the one at this place, or else the first.
+/// The entry with this stamp: the one at this place, or else the first.
 fn place_of_stamp(entries: &[Option<FixEntry>], likely: usize, stamp: u32) -> Option<usize>
-    ensures { MatchOption result (All (λ e. has_stamp stamp e ≡ false) entries.now) (IsPlaceOfStamp stamp entries.now) }
+    ensures { MatchOption result (All (λ e. has_stamp stamp e ≡ false) entries.now)
+        (IsPlaceOfStamp stamp entries.now) }
 {
     match entries.get(likely) {
         Some(entry) if is_of_stamp(entry, stamp) => Some(likely),
@@ -128,7 +134,8 @@ fn place_of_stamp(entries: &[Option<FixEntry>], likely: usize, stamp: u32) -> Op
     }
 }
 
-// Puts a fix in an entry that is free. Behind those in use one is, unless an earlier one was taken.
+/// Puts a fix in an entry that is free. Behind those in use one is, unless an earlier one was
+/// taken.
 fn put_fix(counted: &mut Counted, fix: FixEntry)
     requires { count_by is_some counted.old.fixes < length counted.old.fixes }
     ensures { IsEntryPut fix counted.old counted.new }
@@ -138,7 +145,7 @@ fn put_fix(counted: &mut Counted, fix: FixEntry)
     }
 }
 
-// Frees the entry with this stamp, which mostly is the one that was put last.
+/// Frees the entry with this stamp, which mostly is the one that was put last.
 fn take_fix(counted: &mut Counted, stamp: u32)
     requires { list_any (has_stamp stamp) counted.old.fixes ≡ true }
     ensures { IsEntryTaken stamp counted.old counted.new }
@@ -149,9 +156,10 @@ fn take_fix(counted: &mut Counted, stamp: u32)
     }
 }
 
-// The delay that a fault fixes and its links, where it fixes any.
+/// The delay that a fault fixes and its links, where it fixes any.
 fn fix_of(fault: &PlainFault) -> Option<(u64, &[(Node, Node)])>
-    ensures { MatchOption result (fix_parts (fault_of fault.now) ≡ None) (λ fix. fix_parts (fault_of fault.now) ≡ Some (fix.0, fix.1.now)) }
+    ensures { MatchOption result (fix_value (fault_of fault.now) ≡ None)
+        (λ fix. fix_value (fault_of fault.now) ≡ Some (fix.0, fix.1.now)) }
 {
     match fault {
         PlainFault::OnLinks(LinkFault::Fix(ms), links) => Some((*ms, links)),
@@ -159,12 +167,14 @@ fn fix_of(fault: &PlainFault) -> Option<(u64, &[(Node, Node)])>
     }
 }
 
-// Turns the entries of fixes.
+/// Turns the entries of fixes.
 pub(crate) fn turn_entries(counted: &mut Counted, turn: Turn, fault: &PlainFault, stamp: u32)
     requires fits { FitsCount 64 (fault_of fault.now) }
-    requires room { CanTurnEntries turn stamp (fix_parts (fault_of fault.now)) counted.old.fixes }
-    ensures turned { AreEntriesTurned turn stamp (fix_parts (fault_of fault.now)) counted.old.fixes counted.new.fixes }
-    ensures rest { (counted.new.links ≡ counted.old.links) × (counted.new.nodes ≡ counted.old.nodes) }
+    requires room { CanTurnEntries turn stamp (fix_value (fault_of fault.now)) counted.old.fixes }
+    ensures turned { AreEntriesTurned turn stamp
+        (fix_value (fault_of fault.now)) counted.old.fixes counted.new.fixes }
+    ensures rest { (counted.new.links ≡ counted.old.links)
+        × (counted.new.nodes ≡ counted.old.nodes) }
     ensures work { counted.new.work ≤ counted.old.work + one_if (is_fix (fault_of fault.now)) }
 {
     if let Some((ms, links)) = fix_of(fault) {

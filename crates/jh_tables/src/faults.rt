@@ -1,5 +1,6 @@
-//! Faults as plain data. `specs/Plain.antt` says which fault each is, `specs/Faults.antt` what holds of a right one, and
-//! `specs/Overlay.antt` what it does. A new kind of fault is a case of each, and of `tables.rt`.
+//! Faults as plain data. `specs/Plain.antt` says which fault each is, `specs/Faults.antt` what
+//! holds of a right one, and `specs/Overlay.antt` what it does. A new kind of fault is a case of
+//! each, and of `tables.rt`.
 
 use crate::nodes::Node;
 
@@ -23,7 +24,8 @@ pub enum NodeFault {
     Kill,
 }
 
-/// What a fault does, and to what. It is right where each link and node stands once and amounts are in their ranges.
+/// What a fault does, and to what. It is right where each link and node stands once and amounts are
+/// in their ranges.
 #[derive(Debug, Drop)]
 pub enum PlainFault {
     OnLinks(LinkFault, Vec<(Node, Node)>),

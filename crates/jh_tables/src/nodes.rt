@@ -21,7 +21,8 @@ impl Model for Node {
 }
 
 impl Node {
-    /// The node at a place, from 0. An environment need not have it: each call that takes a node says what it then does.
+    /// The node at a place, from 0. An environment need not have it: each call that takes a node
+    /// says what it then does.
     pub fn at(place: u8) -> Node
         ensures { result ≡ place }
     {

@@ -1,13 +1,14 @@
 //! The cells that are read off tallies. `specs/Tallies.antt` says which.
 
 ghost use Rattle.std.specs.Prelude.{◌≡◌, ◌<◌, ◌+◌, ◌^◌};
-ghost use Rattle.jh_tables.specs.Tallies.{delay_fixed, greatest_level, level_held, link_now, node_now};
+ghost use Rattle.jh_tables.specs.Tallies.{delay_fixed, greatest_level, level_held, link_now};
+ghost use Rattle.jh_tables.specs.Tallies.{node_now};
 ghost use Rattle.jh_tables.specs.Standing.{IsWithin};
 
 use crate::cells::{Life, Link, NodeCell};
 use crate::counted::{LEVELS, LinkTally, NodeTally};
 
-// The level at this place among the counts, where its count is not 0, and 0 otherwise.
+/// The level at this place among the counts, where its count is not 0, and 0 otherwise.
 fn level_held(losses: &[u16; LEVELS], place: usize) -> u8
     requires { place < 20 }
     ensures { result ≡ level_held losses.now place }
@@ -19,7 +20,7 @@ fn level_held(losses: &[u16; LEVELS], place: usize) -> u8
     }
 }
 
-// The greatest level of loss that is held, or else the one of the start.
+/// The greatest level of loss that is held, or else the one of the start.
 fn greatest_level(losses: &[u16; LEVELS], start: u8) -> u8
     ensures { result ≡ greatest_level losses.now start }
 {
@@ -30,7 +31,7 @@ fn greatest_level(losses: &[u16; LEVELS], start: u8) -> u8
     greatest
 }
 
-// The link that is read off a tally and the latest fix.
+/// The link that is read off a tally and the latest fix.
 pub(crate) fn link_now(tally: &LinkTally, fix: Option<(u32, u64)>) -> Link
     requires { delay_fixed fix tally.now.start.delay + tally.now.slowed < 2 ^ 64 }
     ensures { result ≡ link_now tally.now fix }
@@ -46,7 +47,7 @@ pub(crate) fn link_now(tally: &LinkTally, fix: Option<(u32, u64)>) -> Link
     }
 }
 
-// What the process does that is read off a tally.
+/// What the process does that is read off a tally.
 fn life_now(tally: &NodeTally) -> Life
     ensures { result ≡ (node_now tally.now).process }
 {
@@ -59,7 +60,7 @@ fn life_now(tally: &NodeTally) -> Life
     }
 }
 
-// The node that is read off a tally.
+/// The node that is read off a tally.
 pub(crate) fn node_now(tally: &NodeTally) -> NodeCell
     requires { IsWithin (2 ^ 61) tally.now.start.clock × IsWithin (2 ^ 61) tally.now.bumped }
     ensures { result ≡ node_now tally.now }

@@ -1,12 +1,16 @@
-//! Tables: faults are put on cells and taken off. `specs/Standing.antt` says which faults tables stand for.
+//! Tables: faults are put on cells and taken off. `specs/Standing.antt` says which faults tables
+//! stand for.
 
 ghost use Rattle.std.specs.Prelude.{◌≡◌, ◌<◌, ◌≤◌, ◌+◌, ◌*◌, [], length, IfOk, IfSome};
 ghost use Rattle.std.specs.List.{All};
-ghost use Rattle.jh_tables.specs.Faults.{size_of, FitsCount, IsFault, fix_parts};
+ghost use Rattle.jh_tables.specs.Faults.{fault_size, FitsCount, IsFault, fix_value};
 ghost use Rattle.jh_tables.specs.Plain.{fault_of};
 ghost use Rattle.jh_tables.specs.Cells.{link_at, node_at};
-ghost use Rattle.jh_tables.specs.Standing.{IsLinkInRange, IsNodeInRange, IsPut, IsStartingLink, IsStartingNode, IsTaken, StandsAt, StandsAtSome, max_put};
-ghost use Rattle.jh_tables.specs.TurningInside.{AreEntriesTurned, AreTurned, CanTurnEntries, CanTurnTallies};
+ghost use Rattle.jh_tables.specs.Standing.{IsLinkInRange, IsNodeInRange, IsPut, IsStartingLink};
+ghost use Rattle.jh_tables.specs.Standing.{IsStartingNode, IsTaken, StandsAt, StandsAtSome};
+ghost use Rattle.jh_tables.specs.Standing.{max_put};
+ghost use Rattle.jh_tables.specs.TurningInside.{AreEntriesTurned, AreTurned, CanTurnEntries};
+ghost use Rattle.jh_tables.specs.TurningInside.{CanTurnTallies};
 
 use crate::cells::{Link, NodeCell};
 use crate::counted::Counted;
@@ -41,14 +45,15 @@ impl Model for Tables {
 }
 
 impl Tables {
-    /// Tables of these cells, on which no fault is put: the link from a to b of n nodes at a * n + b, and each node at
-    /// its place. All the memory that they will need is taken here.
+    /// Tables of these cells, on which no fault is put: the link from a to b of n nodes at a * n +
+    /// b, and each node at its place. All the memory that they will need is taken here.
     pub fn start(alloc: Global, links: &[Link], nodes: &[NodeCell]) -> Result<Tables, AllocError>
         requires few { length nodes.now ≤ 64 }
         requires square { length links.now ≡ length nodes.now * length nodes.now }
         requires starting { All IsStartingLink links.now × All IsStartingNode nodes.now }
         ensures stands { IfOk result (λ tables. StandsAt tables []) }
-        ensures start { IfOk result (λ tables. tables.start ≡ record { links = links.now; nodes = nodes.now }) }
+        ensures start { IfOk result
+            (λ tables. tables.start ≡ record { links = links.now; nodes = nodes.now }) }
         ensures whole { IfOk result (λ tables. length tables.cells.nodes ≡ length nodes.now) }
         ensures work { IfOk result (λ tables. tables.tallies.work ≡ 0) }
     {
@@ -104,8 +109,9 @@ impl Tables {
         }
     }
 
-    /// Puts a fault on the cells, at the place of its stamp among those that are put. It takes no memory. At most one
-    /// cell is written for each link or node that the fault names, and one entry for a fix.
+    /// Puts a fault on the cells, at the place of its stamp among those that are put. It takes no
+    /// memory. At most one cell is written for each link or node that the fault names, and one
+    /// entry for a fix.
     pub fn put(&mut self, fault: &PlainFault, stamp: u32)
         requires fits { FitsCount (length self.old.start.nodes) (fault_of fault.now) }
         requires right { IsFault (fault_of fault.now) }
@@ -113,19 +119,22 @@ impl Tables {
         ensures stands { IsPut (stamp, fault_of fault.now) self.old self.new }
         ensures start { self.new.start ≡ self.old.start }
         ensures whole { length self.new.cells.nodes ≡ length self.old.cells.nodes }
-        ensures work { self.new.tallies.work ≤ self.old.tallies.work + size_of (fault_of fault.now) }
+        ensures work { self.new.tallies.work
+            ≤ self.old.tallies.work + fault_size (fault_of fault.now) }
     {
         turn_all(&mut self.counted, Turn::Put, fault, stamp);
         self.laid += 1;
     }
 
-    /// Takes a fault off the cells, which was put with this stamp. It takes no memory, and writes as much as `put`.
+    /// Takes a fault off the cells, which was put with this stamp. It takes no memory, and writes
+    /// as much as `put`.
     pub fn take(&mut self, fault: &PlainFault, stamp: u32)
         requires { StandsAtSome self.old (stamp, fault_of fault.now) }
         ensures stands { IsTaken (stamp, fault_of fault.now) self.old self.new }
         ensures start { self.new.start ≡ self.old.start }
         ensures whole { length self.new.cells.nodes ≡ length self.old.cells.nodes }
-        ensures work { self.new.tallies.work ≤ self.old.tallies.work + size_of (fault_of fault.now) }
+        ensures work { self.new.tallies.work
+            ≤ self.old.tallies.work + fault_size (fault_of fault.now) }
     {
         turn_all(&mut self.counted, Turn::Take, fault, stamp);
         self.laid -= 1;
@@ -146,16 +155,18 @@ impl Tables {
     }
 }
 
-// Turns all that a fault touches.
+/// Turns all that a fault touches.
 fn turn_all(counted: &mut Counted, turn: Turn, fault: &PlainFault, stamp: u32)
     requires fits { FitsCount (length counted.old.nodes) (fault_of fault.now) }
     requires few { length counted.old.nodes ≤ 64 }
     requires right { IsFault (fault_of fault.now) }
     requires room { CanTurnTallies turn (fault_of fault.now) counted.old }
-    requires entries { CanTurnEntries turn stamp (fix_parts (fault_of fault.now)) counted.old.fixes }
+    requires entries { CanTurnEntries turn stamp
+        (fix_value (fault_of fault.now)) counted.old.fixes }
     ensures turned { AreTurned turn (fault_of fault.now) counted.old counted.new }
-    ensures entries { AreEntriesTurned turn stamp (fix_parts (fault_of fault.now)) counted.old.fixes counted.new.fixes }
-    ensures work { counted.new.work ≤ counted.old.work + size_of (fault_of fault.now) }
+    ensures entries { AreEntriesTurned turn stamp
+        (fix_value (fault_of fault.now)) counted.old.fixes counted.new.fixes }
+    ensures work { counted.new.work ≤ counted.old.work + fault_size (fault_of fault.now) }
 {
     turn_tallies(counted, turn, fault);
     turn_entries(counted, turn, fault, stamp);

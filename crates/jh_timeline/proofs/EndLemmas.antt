@@ -11,8 +11,9 @@ use Rattle.std.specs.BTreeSet.{BTreeSet, contains}
 use Rattle.std.proofs.lemmas.Bool.Decides.{nat_tests}
 use Rattle.std.proofs.lemmas.List.{get_or_append_left}
 use Rattle.std.proofs.Math.Seq.{get_or-append_seam}
-use Rattle.jh_timeline.specs.LanesInside.{AreInOrder, Takes, AreHeld, AreKept, IsFirst, IsPopped, is_busy, pair_cmp, until_with}
-use Rattle.jh_timeline.proofs.LaneLemmas.{Laned, all_follow, all_snoc, any_default, laned_more}
+use Rattle.jh_timeline.specs.LanesInside.{AreCallsInOrder, TakesOrKeepsLane, AreHeld, AreKept, IsFirst, IsPopped, is_busy, pair_cmp, lane_ends_with}
+use Rattle.jh_timeline.proofs.LaneLemmas.{Laned, all_snoc}
+use Rattle.jh_timeline.proofs.CallOrderLemmas.{all_follow, any_default, laned_more}
 use Rattle.jh_timeline.specs.declared.lanes.Ends.{Ends}
 use Rattle.jh_timeline.specs.declared.picture.Bar.{Bar}
 use Rattle.jh_timeline.specs.declared.picture.Call.{Call}
@@ -234,7 +235,7 @@ longer_is false ends lane last is within =
     }
 
 pub kept_held : (ends next : Ends) (index lane last : ℕ) → lane ≤ length ends.until.items → AreKept ends index lane
-    → next.until.items ≡ until_with ends.until.items lane last → next.free ≡ ends.free → sets.Updates pair_cmp ends.busy next.busy (last, lane) true
+    → next.until.items ≡ lane_ends_with ends.until.items lane last → next.free ≡ ends.free → sets.Updates pair_cmp ends.busy next.busy (last, lane) true
     → AreKept next index (length next.until.items)
 kept_held ends next index lane last within kept grown free updates =
     let olds = ends.until.items in
@@ -286,15 +287,15 @@ pub record Going (held : BTreeMap ℕ ℕ) (ends : Ends) (bars : List Bar) (done
   pub kept : (index : ℕ) → All (λ bar. bar.call.invoke ≤ index) bars → AreKept ends index (length ends.until.items)
 
 -- lanes are kept at the next call
-pub going_here : (held : BTreeMap ℕ ℕ) (ends : Ends) (bars : List Bar) (calls : List Call) (k : ℕ) (d : Call) → AreInOrder calls → k < length calls
+pub going_here : (held : BTreeMap ℕ ℕ) (ends : Ends) (bars : List Bar) (calls : List Call) (k : ℕ) (d : Call) → AreCallsInOrder calls → k < length calls
     → Going held ends bars (take k calls) → AreKept ends (get_or calls k d).invoke (length ends.until.items)
 going_here held ends bars calls k d order below going =
     let call = get_or calls k d in
     let follows = all_follow calls bars k call order below (any_default calls k d call below) going.laned.calls in
     going.kept call.invoke (λ j e inside. let one = (follows j e inside).invoke in omega (arith, one))
 
-pub going_more : (old new : BTreeMap ℕ ℕ) (ends later : Ends) (bars grown : List Bar) (calls : List Call) (k lane : ℕ) (d : Call) → AreInOrder calls → k < length calls
-    → Takes old new ends.until.items later.until.items (get_or calls k d) lane → AreKept later (get_or calls k d).invoke (length later.until.items)
+pub going_more : (old new : BTreeMap ℕ ℕ) (ends later : Ends) (bars grown : List Bar) (calls : List Call) (k lane : ℕ) (d : Call) → AreCallsInOrder calls → k < length calls
+    → TakesOrKeepsLane old new ends.until.items later.until.items (get_or calls k d) lane → AreKept later (get_or calls k d).invoke (length later.until.items)
     → Going old ends bars (take k calls) → grown ≡ bars ++ record { call = get_or calls k d; lane = lane } ∷ [] → Going new later grown (take (k + 1) calls)
 going_more old new ends later bars grown calls k lane d order below takes kept going made =
     let bar : Bar = record { call = get_or calls k d; lane = lane } in

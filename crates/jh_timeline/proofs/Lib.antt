@@ -1,2 +1,5 @@
+mod CallLemmas
 mod LaneLemmas
+mod CallOrderLemmas
+mod LaneApartLemmas
 mod EndLemmas

@@ -1,11 +1,15 @@
 //! Which operations are drawn, and in which lanes. `specs/Lanes.antt` has the rule.
 
-ghost use Rattle.std.specs.Prelude.{◌≡◌, ◌==◌, ℕ, ◌<◌, ◌≤◌, [], ◌∷◌, ◌++◌, IfNone, IfOk, IfSome, OnOk, if◌then◌else◌, length, map};
+ghost use Rattle.std.specs.Prelude.{◌≡◌, ◌==◌, ℕ, ◌<◌, ◌≤◌, [], ◌∷◌, ◌++◌, IfNone, IfOk, IfSome};
+ghost use Rattle.std.specs.Prelude.{OnOk, if◌then◌else◌, length, map};
 ghost use Rattle.jh_ops.specs.Operation.{operations};
 ghost use Rattle.jh_timeline.specs.Lanes as rule;
-ghost use Rattle.jh_timeline.specs.Lanes.{AreBarsOf, AreKeptApart, AreLanesOf, TakeLanes, faults_in, lane_clients};
+ghost use Rattle.jh_timeline.specs.Lanes.{AreBarsOf, AreKeptApart, AreLanesOf, TakeLanes};
+ghost use Rattle.jh_timeline.specs.Lanes.{fault_indexes, lane_clients};
 ghost use Rattle.jh_timeline.specs.LanesInside as inside;
-ghost use Rattle.jh_timeline.specs.LanesInside.{AreHeld, AreInOrder, AreKept, IsFirst, IsPopped, Takes, new_calls, until_with};
+ghost use Rattle.jh_timeline.specs.LanesInside.{AreHeld, AreCallsInOrder, AreKept, IsFirst};
+ghost use Rattle.jh_timeline.specs.LanesInside.{IsPopped, TakesOrKeepsLane, new_calls};
+ghost use Rattle.jh_timeline.specs.LanesInside.{lane_ends_with};
 
 use crate::picture::{Bar, Call, Lane, Picture, Window};
 use jh_ops::{Kind, Op, Process};
@@ -63,7 +67,7 @@ fn call_with(client: u64, index: usize, behind: Option<Ahead>) -> Call
 
 /// Whether an index is in the window.
 fn is_within(window: Window, index: usize) -> bool
-    ensures { result ≡ rule.is_within window index }
+    ensures { result ≡ rule.is_in_window window index }
 {
     window.from <= index && index < window.to
 }
@@ -78,7 +82,7 @@ fn add_call(
     calls: &mut Vec<Call>,
 ) -> Result<(), AllocError>
     ensures { OnOk result (calls.new.items
-        ≡ calls.old.items ++ new_calls (rule.is_within window index) kind client index behind) }
+        ≡ calls.old.items ++ new_calls (rule.is_in_window window index) kind client index behind) }
 {
     match kind {
         Kind::Invoke => {
@@ -167,7 +171,7 @@ fn free_lane(ends: &mut Ends, index: usize) -> Result<usize, AllocError>
 /// Says up to which index a lane is held.
 fn set_until(until: &mut Vec<usize>, lane: usize, last: usize) -> Result<(), AllocError>
     requires { lane ≤ length until.old.items }
-    ensures { OnOk result (until.new.items ≡ until_with until.old.items lane last) }
+    ensures { OnOk result (until.new.items ≡ lane_ends_with until.old.items lane last) }
 {
     if lane < until.len() {
         until[lane] = last;
@@ -180,7 +184,8 @@ fn set_until(until: &mut Vec<usize>, lane: usize, last: usize) -> Result<(), All
 /// Holds a lane up to an index.
 fn hold(ends: &mut Ends, lane: usize, last: usize) -> Result<(), AllocError>
     requires { lane ≤ length ends.old.until.items }
-    ensures until { OnOk result (ends.new.until.items ≡ until_with ends.old.until.items lane last) }
+    ensures until { OnOk result
+        (ends.new.until.items ≡ lane_ends_with ends.old.until.items lane last) }
     ensures kept { OnOk result ((index : ℕ) → AreKept ends.old index lane
         → AreKept ends.new index (length ends.new.until.items)) }
 {
@@ -189,14 +194,16 @@ fn hold(ends: &mut Ends, lane: usize, last: usize) -> Result<(), AllocError>
     Ok(())
 }
 
-/// The lane of a call: the one that its process has, or else the first that is free at its invocation.
+/// The lane of a call: the one that its process has, or else the first that is free at its
+/// invocation.
 fn take_lane(
     call: &Call,
     held: &mut BTreeMap<u64, usize>,
     ends: &mut Ends,
 ) -> Result<usize, AllocError>
     requires { AreKept ends.old call.now.invoke (length ends.old.until.items) }
-    ensures takes { IfOk result (Takes held.old held.new ends.old.until.items ends.new.until.items call.now) }
+    ensures takes { IfOk result
+        (TakesOrKeepsLane held.old held.new ends.old.until.items ends.new.until.items call.now) }
     ensures kept { OnOk result (AreKept ends.new call.now.invoke (length ends.new.until.items)) }
 {
     let had = held.get(&call.client).copied();
@@ -213,7 +220,7 @@ fn take_lane(
 
 /// The bars of calls, each in its lane.
 fn bars_of(alloc: Global, calls: &[Call]) -> Result<Vec<Bar>, AllocError>
-    requires { AreInOrder calls.now }
+    requires { AreCallsInOrder calls.now }
     ensures calls { IfOk result (λ bars. map (λ bar. bar.call) bars.items ≡ calls.now) }
     ensures lanes { IfOk result (λ bars. TakeLanes [] bars.items) }
 {
@@ -252,7 +259,7 @@ fn is_fault(window: Window, index: usize, op: &Op) -> bool
 
 /// The indexes of the records of the nemesis in the window, in order.
 fn faults_in(alloc: Global, window: Window, history: &[Op]) -> Result<Vec<usize>, AllocError>
-    ensures { IfOk result (λ faults. faults.items ≡ rule.faults_in window history.now) }
+    ensures { IfOk result (λ faults. faults.items ≡ rule.fault_indexes window history.now) }
 {
     history
         .iter()
@@ -265,7 +272,8 @@ fn faults_in(alloc: Global, window: Window, history: &[Op]) -> Result<Vec<usize>
 /// Makes lanes up to one, with no process yet.
 fn make_lanes(alloc: Global, lanes: &mut Vec<Lane>, lane: usize) -> Result<(), AllocError>
     ensures made { OnOk result (lane < length lanes.new.items) }
-    ensures same { OnOk result ((other : ℕ) → lane_clients other lanes.new.items ≡ lane_clients other lanes.old.items) }
+    ensures same { OnOk result
+        ((other : ℕ) → lane_clients other lanes.new.items ≡ lane_clients other lanes.old.items) }
 {
     'missing: while lanes.len() <= lane {
         lanes.push(Lane {
@@ -304,18 +312,21 @@ fn lanes_of(alloc: Global, bars: &[Bar]) -> Result<Vec<Lane>, AllocError>
     Ok(lanes)
 }
 
-/// What is drawn of a history in a window. One bar for each invocation of a client, in order, each in the lane of its process: a
-/// process takes the first lane that is free at its first bar, and has it up to its last record in the whole history. The records of
-/// the nemesis. And the processes that each lane had, in order.
+/// What is drawn of a history in a window. One bar for each invocation of a client, in order, each
+/// in the lane of its process: a process takes the first lane that is free at its first bar, and
+/// has it up to its last record in the whole history. The records of the nemesis. And the processes
+/// that each lane had, in order.
 ///
-/// Any history has a picture: where a process has an invocation right behind another, the first has no completion. Takes O(n log n)
-/// for n records.
+/// Any history has a picture: where a process has an invocation right behind another, the first has
+/// no completion. Takes O(n log n) for n records.
 ///
 /// Errors: where memory runs out.
 pub fn picture_in(alloc: Global, window: Window, history: &[Op]) -> Result<Picture, AllocError>
-    ensures bars { IfOk result (λ picture. AreBarsOf window (operations history.now) picture.bars.items) }
+    ensures bars { IfOk result
+        (λ picture. AreBarsOf window (operations history.now) picture.bars.items) }
     ensures apart { IfOk result (λ picture. AreKeptApart picture.bars.items) }
-    ensures faults { IfOk result (λ picture. picture.faults.items ≡ faults_in window history.now) }
+    ensures faults { IfOk result
+        (λ picture. picture.faults.items ≡ fault_indexes window history.now) }
     ensures lanes { IfOk result (λ picture. AreLanesOf picture.bars.items picture.lanes.items) }
 {
     let bars = bars_in(alloc, window, history)?;

@@ -7,7 +7,8 @@ pub enum Note {
     Placed(usize),
     /// With its completion the history has no order any more.
     Stuck,
-    /// It is pending where the history is stuck, with its number in the order that is found up to there, if it has one.
+    /// It is pending where the history is stuck, with its number in the order that is found up to
+    /// there, if it has one.
     Pending(Option<usize>),
     /// It added an element that is lost.
     Lost,

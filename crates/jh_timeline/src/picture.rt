@@ -1,13 +1,15 @@
 //! What of a history is drawn.
 
-/// The records of a history that are drawn: those from the index `from` on and before the index `to`.
+/// The records of a history that are drawn: those from the index `from` on and before the index
+/// `to`.
 #[derive(Clone, Copy, Debug, PartialEq, Eq)]
 pub struct Window {
     pub from: usize,
     pub to: usize,
 }
 
-/// An operation of a client: an invocation, with its completion. Indexes count the records of the whole history from 0.
+/// An operation of a client: an invocation, with its completion. Indexes count the records of the
+/// whole history from 0.
 #[derive(Clone, Copy, Debug, PartialEq, Eq)]
 pub struct Call {
     /// Who did it.

@@ -1,5 +1,5 @@
 -- What a seat has seen of the rows, after one more was read.
-use Rattle.std.proofs.Common.{◌≡◌, ℕ, zero, suc, ◌+◌, ◌<◌, ◌≤◌, Bool, true, false, List, [], ◌∷◌, ◌++◌, length, filter, Some, None, refl, add-one, ap, sym, subst, ◌∙◌, arith, All}
+use Rattle.std.proofs.Common.{◌≡◌, ℕ, zero, suc, ◌+◌, ◌<◌, ◌≤◌, false, List, [], ◌∷◌, ◌++◌, length, filter, Some, None, refl, add-one, ap, sym, subst, ◌∙◌, arith, All}
 use Rattle.std.specs.Prelude.{Option, ℤ}
 use Rattle.std.specs.Option.{unwrap_or}
 use Rattle.std.specs.Int.{w64, cast_signed}
@@ -12,21 +12,21 @@ use Rattle.jh_ops.specs.declared.operation.Op.{Op}
 use Rattle.jh_ops.specs.Words.{IsRecordedAs, RefusesWords, heading}
 use Rattle.jh_ops.specs.declared.words.WordsError.{WordsError}
 use Rattle.jh_ops.specs.declared.words.WordsError.TheVariants.{BadWords, OutOfMemory, NotRecordable, TooSmall}
-use Rattle.jh_simnode.specs.Histories.{at_place}
-use Rattle.jh_simnode.specs.Reach.{places}
-use Rattle.jh_slots.specs.Seats.{Mark, Marks, Words, Void, Knowledge, after_read}
+use Rattle.jh_simnode.specs.Histories.{placed_operation}
+use Rattle.jh_simnode.specs.Reach.{ordered_places}
+use Rattle.jh_slots.specs.Seats.{Mark, Marks, Words, Void, Knowledge, knowledge_after_read}
 use Rattle.jh_slots.proofs.MapLemmas.{get_new, get_else}
 use Rattle.jh_workers.specs.Gather.{is_record, record_rows, IsBadMark, IsRecordOf, AreRecordsOf, RefusesGather, rows_of_log}
-use Rattle.jh_workers.specs.GatherInside.{IsFound, RefusesRecord, RefusesRow, refusal_of, with_found}
+use Rattle.jh_workers.specs.GatherInside.{IsFound, RefusesRecord, RefusesRow, gather_error, history_with_found}
 use Rattle.jh_workers.specs.declared.records.GatherError.{GatherError}
 use Rattle.jh_workers.specs.declared.records.GatherError.TheVariants as gather
 
 -- ---- a read of a row
 
-pub saw_at : (v w : Knowledge) (row : ℕ) (m : Mark) → w ≡ after_read row m v → map.get w.seen row ≡ Some m
+pub saw_at : (v w : Knowledge) (row : ℕ) (m : Mark) → w ≡ knowledge_after_read row m v → map.get w.seen row ≡ Some m
 saw_at v w row m e = ap (λ (y : Knowledge). map.get y.seen row) e ∙ get_new v.seen row m
 
-pub saw_below : (v w : Knowledge) (row : ℕ) (m : Mark) → w ≡ after_read row m v → (r : ℕ) → r < row → map.get w.seen r ≡ map.get v.seen r
+pub saw_below : (v w : Knowledge) (row : ℕ) (m : Mark) → w ≡ knowledge_after_read row m v → (r : ℕ) → r < row → map.get w.seen r ≡ map.get v.seen r
 saw_below v w row m e r low = ap (λ (y : Knowledge). map.get y.seen r) e ∙ get_else v.seen row r m (λ same. omega arith)
 
 -- the words of an operation are at most those of the rows of one claim
@@ -47,7 +47,7 @@ long_is_bad v w row len more same long m at =
     subst IsBadMark (sym found.1) (λ op is. let short = recorded_short op found.0 is in absurd (omega (arith, short, more, found.2)))
 
 -- words that tell no operation are bad
-pub refused_is_bad : (words : List ℕ) (row : ℕ) (e : WordsError) → RefusesWords words e → RefusesRow words row (refusal_of e row)
+pub refused_is_bad : (words : List ℕ) (row : ℕ) (e : WordsError) → RefusesWords words e → RefusesRow words row (gather_error e row)
 refused_is_bad words row BadWords refuses = (refl, λ op is. refuses is.0 is.1 is.3)
 refused_is_bad words row OutOfMemory refuses = tt
 refused_is_bad words row NotRecordable refuses = absurd refuses
@@ -69,13 +69,13 @@ AgreeBelow s t n = (r : ℕ) → r < n → map.get t r ≡ map.get s r
 pub rows_same : (s t : Marks) (n : ℕ) → AgreeBelow s t n → record_rows t n ≡ record_rows s n
 rows_same s t zero same = refl
 rows_same s t (suc n) same =
-    filter-append (λ r. is_record (map.get t r)) (places n) (n ∷ [])
+    filter-append (λ r. is_record (map.get t r)) (ordered_places n) (n ∷ [])
     ∙ ap (λ xs. xs ++ filter (λ r. is_record (map.get t r)) (n ∷ [])) (rows_same s t n (λ r low. same r (omega (arith, low))))
     ∙ ap (λ m. record_rows s n ++ filter (λ r. is_record m) (n ∷ [])) (same n (omega arith))
-    ∙ sym (filter-append (λ r. is_record (map.get s r)) (places n) (n ∷ []))
+    ∙ sym (filter-append (λ r. is_record (map.get s r)) (ordered_places n) (n ∷ []))
 
 rows_more : (t : Marks) (n : ℕ) → record_rows t (n + 1) ≡ record_rows t n ++ filter (λ r. is_record (map.get t r)) (n ∷ [])
-rows_more t n = ap (record_rows t) (add-one n) ∙ filter-append (λ r. is_record (map.get t r)) (places n) (n ∷ [])
+rows_more t n = ap (record_rows t) (add-one n) ∙ filter-append (λ r. is_record (map.get t r)) (ordered_places n) (n ∷ [])
 
 pub rows_with : (s t : Marks) (n : ℕ) (words : List ℕ) → AgreeBelow s t n → map.get t n ≡ Some (Words words) → record_rows t (n + 1) ≡ record_rows s n ++ n ∷ []
 rows_with s t n words same shown =
@@ -110,7 +110,7 @@ below_one s n (Some (Words ws)) rs all = below_append (suc n) rs n (below_more n
 pub rows_below : (s : Marks) (n : ℕ) → AreBelow n (record_rows s n)
 rows_below s zero = tt
 rows_below s (suc n) =
-    subst (AreBelow (suc n)) (sym (filter-append (λ r. is_record (map.get s r)) (places n) (n ∷ [])))
+    subst (AreBelow (suc n)) (sym (filter-append (λ r. is_record (map.get s r)) (ordered_places n) (n ∷ [])))
     (below_one s n (map.get s n) (record_rows s n) (rows_below s n))
 
 -- the operations are those that another seat has seen, which agrees
@@ -137,9 +137,9 @@ records_more s place (r ∷ rs) (x ∷ ops) row end op are at is =
 
 pub gathered_with : (s t : Marks) (n : ℕ) (words : List ℕ) (recorded : Operation) (history : List Operation) → AgreeBelow s t n
     → map.get t n ≡ Some (Words words) → IsRecordedAs recorded words → AreRecordsOf s 0 (record_rows s n) history
-    → AreRecordsOf t 0 (record_rows t (n + 1)) (history ++ at_place (length history) recorded ∷ [])
+    → AreRecordsOf t 0 (record_rows t (n + 1)) (history ++ placed_operation (length history) recorded ∷ [])
 gathered_with s t n words recorded history same shown is are =
-    let op = at_place (length history) recorded in
+    let op = placed_operation (length history) recorded in
     let before = records_same s t n 0 (record_rows s n) history same (rows_below s n) are in
     let new : IsRecordOf t (length history) n op = record { words = words; recorded = recorded; shown = shown; is = is; placed = refl } in
     subst (λ rows. AreRecordsOf t 0 rows (history ++ op ∷ [])) (sym (rows_with s t n words same shown))
@@ -153,7 +153,7 @@ gathered_without s t n history same none are =
 
 -- what was found in a row is added
 pub gathered_found : (s t : Marks) (n : ℕ) (found : Option Op) (history : List Operation) → AgreeBelow s t n → IsFound (map.get t n) found
-    → AreRecordsOf s 0 (record_rows s n) history → AreRecordsOf t 0 (record_rows t (n + 1)) (with_found history found)
+    → AreRecordsOf s 0 (record_rows s n) history → AreRecordsOf t 0 (record_rows t (n + 1)) (history_with_found history found)
 gathered_found s t n None history same is are = gathered_without s t n history same is are
 gathered_found s t n (Some op) history same is are = gathered_with s t n is.0 (operation op) history same is.1 is.2 are
 
@@ -176,7 +176,7 @@ recorded_writable : (op : Operation) (words : List ℕ) → IsRecordedAs op word
 recorded_writable op words is = subst (λ (o : Operation). IsWritable o.process) is.2 is.1.process
 
 pub writable_found : (mark : Option Mark) (found : Option Op) (history : List Operation) → IsFound mark found
-    → All (λ op. IsWritable op.process) history → All (λ op. IsWritable op.process) (with_found history found)
+    → All (λ op. IsWritable op.process) history → All (λ op. IsWritable op.process) (history_with_found history found)
 writable_found mark None history is all = all
 writable_found mark (Some op) history is all =
-    All-push (λ (o : Operation). IsWritable o.process) history (at_place (length history) (operation op)) all (recorded_writable (operation op) is.0 is.2)
+    All-push (λ (o : Operation). IsWritable o.process) history (placed_operation (length history) (operation op)) all (recorded_writable (operation op) is.0 is.2)

@@ -1,11 +1,12 @@
 -- The history that a seat has seen in the rows of a log (this project's own).
-use Rattle.std.specs.Prelude.{◌≡◌, ℕ, ◌+◌, ◌<◌, min, Bool, true, false, List, [], ◌∷◌, filter, Option, Some, None, ⊤}
+use Rattle.std.specs.Prelude.{◌≡◌, ℕ, ◌+◌, ◌<◌, min, Bool, true, false, List, [], ◌∷◌, filter}
+use Rattle.std.specs.Prelude.{Option, Some, None, ⊤}
 use Rattle.std.specs.FinMap as map
 use Rattle.jh_slots.specs.Seats.{Mark, Marks, Words, Void}
 use Rattle.jh_ops.specs.Operation.{Operation}
 use Rattle.jh_ops.specs.Words.{IsRecordedAs}
-use Rattle.jh_simnode.specs.Histories.{at_place}
-use Rattle.jh_simnode.specs.Reach.{places}
+use Rattle.jh_simnode.specs.Histories.{placed_operation}
+use Rattle.jh_simnode.specs.Reach.{ordered_places}
 use Rattle.jh_workers.specs.declared.records.GatherError.{GatherError}
 use Rattle.jh_workers.specs.declared.records.GatherError.TheVariants.{BadWords, OutOfMemory}
 
@@ -17,7 +18,7 @@ is_record (Some Void) = false
 
 -- the rows below a number in which a record was seen, in order
 abbrev pub record_rows : Marks → ℕ → List ℕ
-record_rows seen count = filter (λ row. is_record (map.get seen row)) (places count)
+record_rows seen count = filter (λ row. is_record (map.get seen row)) (ordered_places count)
 
 -- the row shows the record of an operation that stands at this place of a history
 pub record IsRecordOf (seen : Marks) (place row : ℕ) (op : Operation) : Type 0 where
@@ -25,19 +26,21 @@ pub record IsRecordOf (seen : Marks) (place row : ℕ) (op : Operation) : Type 0
   pub recorded : Operation
   pub shown : map.get seen row ≡ Some (Words words)
   pub is : IsRecordedAs recorded words
-  pub placed : op ≡ at_place place recorded
+  pub placed : op ≡ placed_operation place recorded
 
 -- each row shows the record of one operation, which stand one after another from a place on
 abbrev pub AreRecordsOf : Marks → ℕ → List ℕ → List Operation → Type 0
 AreRecordsOf seen place [] [] = ⊤
-AreRecordsOf seen place (row ∷ rows) (op ∷ ops) = IsRecordOf seen place row op × AreRecordsOf seen (place + 1) rows ops
+AreRecordsOf seen place (row ∷ rows) (op ∷ ops) =
+    IsRecordOf seen place row op × AreRecordsOf seen (place + 1) rows ops
 AreRecordsOf seen place _ _ = ⊥
 
 -- A log has at most 65,536 rows, so there are no others below a greater number.
 abbrev pub rows_of_log : ℕ → ℕ
 rows_of_log count = min count 65536
 
--- the history has the operations of the records below a number, in the order of their rows, and nothing else
+-- the history has the operations of the records below a number, in the order of their rows, and
+-- nothing else
 abbrev pub IsGathered : Marks → ℕ → List Operation → Type 0
 IsGathered seen count history = AreRecordsOf seen 0 (record_rows seen (rows_of_log count)) history
 
@@ -46,8 +49,8 @@ abbrev pub IsBadMark : Mark → Type 0
 IsBadMark (Words words) = (op : Operation) → IsRecordedAs op words → ⊥
 IsBadMark Void = ⊥
 
--- why no history is gathered: a row below the number has words of no operation, and the records below it are those of a
--- history; or memory
+-- why no history is gathered: a row below the number has words of no operation, and the records
+-- below it are those of a history; or memory
 abbrev pub RefusesGather : Marks → ℕ → GatherError → Type 0
 RefusesGather seen count (BadWords row) =
     (row < rows_of_log count) × ((history : List Operation) × IsGathered seen row history)

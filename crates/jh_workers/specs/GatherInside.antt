@@ -7,17 +7,17 @@ use Rattle.jh_ops.specs.Words.{IsRecordedAs}
 use Rattle.jh_ops.specs.declared.operation.Op.{Op}
 use Rattle.jh_ops.specs.declared.words.WordsError.{WordsError}
 use Rattle.jh_ops.specs.declared.words.WordsError.TheVariants as words
-use Rattle.jh_simnode.specs.Histories.{at_place}
+use Rattle.jh_simnode.specs.Histories.{placed_operation}
 use Rattle.jh_workers.specs.declared.records.GatherError.{GatherError}
 use Rattle.jh_workers.specs.declared.records.GatherError.TheVariants.{BadWords, OutOfMemory}
 use Rattle.jh_workers.specs.Gather.{IsBadMark, is_record}
 
 -- what a refusal of the words of a row means
-abbrev pub refusal_of : WordsError → ℕ → GatherError
-refusal_of words.NotRecordable row = BadWords row
-refusal_of words.TooSmall row = BadWords row
-refusal_of words.BadWords row = BadWords row
-refusal_of words.OutOfMemory row = OutOfMemory
+abbrev pub gather_error : WordsError → ℕ → GatherError
+gather_error words.NotRecordable row = BadWords row
+gather_error words.TooSmall row = BadWords row
+gather_error words.BadWords row = BadWords row
+gather_error words.OutOfMemory row = OutOfMemory
 
 -- the words of a row tell no operation, or memory was refused
 abbrev pub RefusesRow : List ℕ → ℕ → GatherError → Type 0
@@ -26,15 +26,18 @@ RefusesRow words row OutOfMemory = ⊤
 
 -- the row has words of no operation, or memory was refused
 abbrev pub RefusesRecord : Marks → ℕ → GatherError → Type 0
-RefusesRecord seen row (BadWords bad) = (bad ≡ row) × ((m : Mark) → map.get seen row ≡ Some m → IsBadMark m)
+RefusesRecord seen row (BadWords bad) =
+    (bad ≡ row) × ((m : Mark) → map.get seen row ≡ Some m → IsBadMark m)
 RefusesRecord seen row OutOfMemory = ⊤
 
 -- no record, or that of this operation
 abbrev pub IsFound : Option Mark → Option Op → Type 0
 IsFound mark None = is_record mark ≡ false
-IsFound mark (Some op) = (words : List ℕ) × (mark ≡ Some (Words words)) × IsRecordedAs (operation op) words
+IsFound mark (Some op) =
+    (words : List ℕ) × (mark ≡ Some (Words words)) × IsRecordedAs (operation op) words
 
 -- a history, and after it what was found
-abbrev pub with_found : List Operation → Option Op → List Operation
-with_found history None = history
-with_found history (Some op) = history ++ at_place (length history) (operation op) ∷ []
+abbrev pub history_with_found : List Operation → Option Op → List Operation
+history_with_found history None = history
+history_with_found history (Some op) =
+    history ++ placed_operation (length history) (operation op) ∷ []

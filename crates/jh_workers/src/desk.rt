@@ -1,7 +1,9 @@
-//! What the threads of a run share beside the world and the log, under one lock: the generator's driver, the number of
-//! answered client calls, and what went wrong. A thread that has nothing to do sleeps until it has changed.
+//! What the threads of a run share beside the world and the log, under one lock: the generator's
+//! driver, the number of answered client calls, and what went wrong. A thread that has nothing to
+//! do sleeps until it has changed.
 
-ghost use Rattle.std.specs.Prelude.{◌≡◌, ◌↔◌, ◌+◌, ◌≤◌, min, IsTrue, IsSome, MatchOption, Some, None, false, true};
+ghost use Rattle.std.specs.Prelude.{◌≡◌, ◌↔◌, ◌+◌, ◌≤◌, min, IsTrue, IsSome, MatchOption, Some};
+ghost use Rattle.std.specs.Prelude.{None, false, true};
 ghost use Rattle.jh_workers.specs.declared.desk.Turn.TheVariants.{Stop};
 
 use jh_gen::{Driver, Ended, GenAnswer, Thread};
@@ -23,7 +25,8 @@ pub enum RunError {
     /// The port refused a call, a step or a tick.
     #[error("{0}")]
     World(WorldError),
-    /// The port's journal was not empty at the start, or journal, history, shares and plan do not agree.
+    /// The port's journal was not empty at the start, or journal, history, shares and plan do not
+    /// agree.
     #[error("mismatch")]
     Mismatch,
     /// A thread, a seat or a share could not be had.
@@ -77,7 +80,8 @@ pub(crate) enum Turn {
     Call(u64, Request),
 }
 
-/// The driver, how many client calls were answered, whether all threads are there, and the first error.
+/// The driver, how many client calls were answered, whether all threads are there, and the first
+/// error.
 #[derive(Drop)]
 struct Desk {
     driver: Driver,
@@ -112,9 +116,11 @@ impl Desk {
 
     /// The run ends with an error. The first one stays.
     fn stop(&mut self, error: RunError)
-        ensures first { MatchOption self.old.error (self.new.error ≡ Some error) (λ first. self.new.error ≡ Some first) }
-        ensures others { (self.new.is_open ≡ self.old.is_open) × (self.new.answered ≡ self.old.answered)
-            × (self.new.driver ≡ self.old.driver) × (self.new.clients ≡ self.old.clients) }
+        ensures first { MatchOption self.old.error (self.new.error ≡ Some error)
+            (λ first. self.new.error ≡ Some first) }
+        ensures others { (self.new.is_open ≡ self.old.is_open)
+            × (self.new.answered ≡ self.old.answered) × (self.new.driver ≡ self.old.driver)
+            × (self.new.clients ≡ self.old.clients) }
     {
         if self.error.is_none() {
             self.error = Some(error);
@@ -173,7 +179,8 @@ impl Desk {
         let _ = self.driver.complete(Thread::Client(thread), ended);
     }
 
-    /// Whether an entry of the schedule is due: enough calls were answered, or the clients have ended.
+    /// Whether an entry of the schedule is due: enough calls were answered, or the clients have
+    /// ended.
     fn is_due(&mut self, at: u32) -> bool
         ensures error { self.new.error ≡ self.old.error }
         ensures waits { IsTrue result → self.old.is_open ≡ true }
@@ -252,8 +259,8 @@ impl Office {
         self.changed.notify_all();
     }
 
-    /// The next turn of a client thread. While there is nothing for it, it sleeps until the desk has changed, and asks
-    /// again with another random number.
+    /// The next turn of a client thread. While there is nothing for it, it sleeps until the desk
+    /// has changed, and asks again with another random number.
     pub(crate) fn next_turn<R: Wait>(
         &self,
         rt: &R,

@@ -1,9 +1,9 @@
-//! Runs on threads: client threads and one thread of the schedule over one locked world, their records in one log, and an
-//! outcome that is given only where the audit accepts it.
+//! Runs on threads: client threads and one thread of the schedule over one locked world, their
+//! records in one log, and an outcome that is given only where the audit accepts it.
 //!
-//! Nothing that changes is shared but the world under its lock, the log, and the desk under a second lock, which has the
-//! generator's driver. So all that an outcome promises is checked once the threads have ended, and rests on no schedule of
-//! theirs.
+//! Nothing that changes is shared but the world under its lock, the log, and the desk under a
+//! second lock, which has the generator's driver. So all that an outcome promises is checked once
+//! the threads have ended, and rests on no schedule of theirs.
 //!
 //! Calls that take the runtime may wait, and promise only if they return.
 #![tactic(auto)]

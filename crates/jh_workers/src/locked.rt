@@ -1,9 +1,10 @@
 //! A world behind a lock, whose journal is counted by the shares of those that call it.
 
-ghost use Rattle.std.specs.Prelude.{◌≡◌, ℕ, ◌+◌, ◌<◌, [], List, length, sum_by, IfOk, IfErr, IfSome, OnOk, OnErr, MatchResult, ⊤};
+ghost use Rattle.std.specs.Prelude.{◌≡◌, ◌+◌, ◌<◌, [], length, sum_by, IfOk, IfSome, OnOk, OnErr};
+ghost use Rattle.std.specs.Prelude.{MatchResult, ⊤};
 ghost use Rattle.jh_nemesis.specs.Steps.{FitsNodes};
 ghost use Rattle.jh_simnode.specs.Limits.{max_events};
-ghost use Rattle.jh_simnode.specs.Events.{Adds, Refuses, IsLegal};
+ghost use Rattle.jh_simnode.specs.Events.{AddsEvent, Refuses};
 ghost use Rattle.jh_simnode.specs.declared.events.Event.TheVariants as Event;
 ghost use Rattle.jh_workers.specs.Shown.{IsJournal};
 
@@ -19,7 +20,8 @@ use std::sync::{Mutex, Wait};
 /// The parts of a world's ledger, one for each share.
 const PARTS: u64 = 32;
 
-/// How many calls of a locked world were accepted from one thread. All shares together count the journal.
+/// How many calls of a locked world were accepted from one thread. All shares together count the
+/// journal.
 #[derive(Drop)]
 pub struct WorldShare<L: Ledger> {
     count: u64,
@@ -87,8 +89,10 @@ impl<L: Ledger> Counted<L> {
         draw: u64,
     ) -> Result<(u64, Reply), WorldError>
         ensures added { MatchResult result
-            (λ told. Adds self.old.world (Event.Call process node request draw told.1) told.0 self.new.world)
-            (λ e. (self.new.world ≡ self.old.world) × Refuses (node < length self.old.world.setup.names) self.old.world.journal e) }
+            (λ told. AddsEvent self.old.world
+            (Event.Call process node request draw told.1) told.0 self.new.world)
+            (λ e. (self.new.world ≡ self.old.world)
+            × Refuses (node < length self.old.world.setup.names) self.old.world.journal e) }
         ensures accepted { OnOk result (mine.new.count ≡ mine.old.count + 1) }
         ensures refused { OnErr result (mine.new.count ≡ mine.old.count) }
         ensures numbered { IfOk result (λ told. told.0 < max_events) }
@@ -113,7 +117,7 @@ impl<L: Ledger> Counted<L> {
         step: Step,
     ) -> Result<(u64, StepAnswer), WorldError>
         ensures added { MatchResult result
-            (λ told. Adds self.old.world (Event.Step step told.1) told.0 self.new.world)
+            (λ told. AddsEvent self.old.world (Event.Step step told.1) told.0 self.new.world)
             (λ e. (self.new.world ≡ self.old.world)
             × Refuses (FitsNodes (length self.old.world.setup.names) step) self.old.world.journal e) }
         ensures accepted { OnOk result (mine.new.count ≡ mine.old.count + 1) }
@@ -135,7 +139,7 @@ impl<L: Ledger> Counted<L> {
     /// `World::tick`, counted in a share.
     fn tick(&mut self, mine: &mut WorldShare<L>) -> Result<u64, WorldError>
         ensures added { MatchResult result
-            (λ told. Adds self.old.world Event.Tick told self.new.world)
+            (λ told. AddsEvent self.old.world Event.Tick told self.new.world)
             (λ e. (self.new.world ≡ self.old.world) × Refuses ⊤ self.old.world.journal e) }
         ensures accepted { OnOk result (mine.new.count ≡ mine.old.count + 1) }
         ensures refused { OnErr result (mine.new.count ≡ mine.old.count) }
@@ -155,7 +159,8 @@ impl<L: Ledger> Counted<L> {
     /// The world, once all shares are back.
     fn settle(self, shares: Vec<WorldShare<L>>) -> Option<World>
         requires { L.parts ≡ 32 }
-        ensures { IfSome result (λ world. length world.journal ≡ sum_by (λ share. share.count) shares.items) }
+        ensures { IfSome result
+            (λ world. length world.journal ≡ sum_by (λ share. share.count) shares.items) }
     {
         let Counted {
             world,
@@ -206,15 +211,16 @@ fn copy_of(alloc: Global, events: &[Event]) -> Result<Vec<Event>, AllocError>
     Ok(copy)
 }
 
-/// A world behind a lock. Whenever the lock is free, the world's journal is legal for its settings, and as long as all
-/// shares together have counted.
+/// A world behind a lock. Whenever the lock is free, the world's journal is legal for its settings,
+/// and as long as all shares together have counted.
 #[derive(Drop)]
 pub struct LockedWorld<L: Ledger> {
     inside: Mutex<Counted<L>>,
 }
 
 impl<L: Ledger> LockedWorld<L> {
-    /// The world behind a lock. Nothing has happened in it, and the blank has 32 parts, so there are as many shares.
+    /// The world behind a lock. Nothing has happened in it, and the blank has 32 parts, so there
+    /// are as many shares.
     pub fn new(world: World, blank: Blank) -> Self
         requires empty { world.journal ≡ [] }
         requires name { blank.name ≡ L.name }
@@ -232,11 +238,12 @@ impl<L: Ledger> LockedWorld<L> {
         }
     }
 
-    /// The world again, once all shares that were handed out are back: their counts sum to the length of its journal.
-    /// `None` where one is missing.
+    /// The world again, once all shares that were handed out are back: their counts sum to the
+    /// length of its journal. `None` where one is missing.
     pub fn settle(self, shares: Vec<WorldShare<L>>) -> Option<World>
         requires { L.parts ≡ 32 }
-        ensures { IfSome result (λ world. length world.journal ≡ sum_by ⟦<WorldShare<L> as Count>⟧.total shares.items) }
+        ensures { IfSome result
+            (λ world. length world.journal ≡ sum_by ⟦<WorldShare<L> as Count>⟧.total shares.items) }
     {
         let LockedWorld { inside } = self;
         inside.into_inner().settle(shares)

@@ -1,8 +1,8 @@
-//! The seats of a run's log, each known to be of that log. `specs/RecordsInside.antt` says what a seat has seen once it published a
-//! record.
+//! The seats of a run's log, each known to be of that log. `specs/RecordsInside.antt` says what a
+//! seat has seen once it published a record.
 
 ghost use Rattle.std.specs.Prelude.{◌≡◌, ◌+◌, ◌*◌, ◌<◌, ◌≤◌, All, IfOk, IfErr, OnOk, length};
-ghost use Rattle.jh_slots.specs.Seats.{Holds};
+ghost use Rattle.jh_slots.specs.Seats.{HoldsClaim};
 ghost use Rattle.jh_ops.specs.Operation.{operation, operations};
 ghost use Rattle.jh_ops.specs.OperationWritten.{IsWritable};
 ghost use Rattle.jh_workers.specs.Gather.{IsGathered};
@@ -74,7 +74,8 @@ impl<B: OfLog> Pass<B> {
     pub fn claim(&mut self, slots: &Slots, rows: u32) -> Result<Claim, Full>
         requires table { slots.now.table ≡ B.table }
         requires rows { (1 ≤ rows) × (rows ≤ 255) }
-        ensures held { IfOk result (λ claim. HoldsWords self.new.seat.knows claim.first claim.rows × (claim.rows ≡ rows)) }
+        ensures held { IfOk result
+            (λ claim. HoldsWords self.new.seat.knows claim.first claim.rows × (claim.rows ≡ rows)) }
         ensures seen { self.new.seat.knows.seen ≡ self.old.seat.knows.seen }
         ensures full { IfErr result (λ _. slots.now.rows < self.new.seat.knows.low + rows) }
     {
@@ -93,9 +94,11 @@ impl<B: OfLog> Pass<B> {
         op: &Op,
     ) -> Result<(), WordsError>
         requires table { slots.now.table ≡ B.table }
-        requires holds { HoldsWords self.old.seat.knows claim.first claim.rows × (claim.rows ≡ rows) }
+        requires holds { HoldsWords self.old.seat.knows claim.first claim.rows
+            × (claim.rows ≡ rows) }
         requires rows { rows ≤ 255 }
-        ensures { OnOk result (Publishes self.old.seat.knows.seen (operation op.now) self.new.seat.knows.seen) }
+        ensures { OnOk result
+            (Publishes self.old.seat.knows.seen (operation op.now) self.new.seat.knows.seen) }
     {
         let mut words = [0; MAX_WORDS];
         let room = ROW_WORDS * rows as usize;
@@ -128,7 +131,7 @@ impl<B: OfLog> Pass<B> {
     /// Leaves claimed rows with no record.
     pub fn void(&mut self, slots: &Slots, claim: Claim)
         requires table { slots.now.table ≡ B.table }
-        requires holds { Holds self.old.seat.knows claim.first claim.rows }
+        requires holds { HoldsClaim self.old.seat.knows claim.first claim.rows }
     {
         slots.void(&mut self.seat, claim);
     }
@@ -141,8 +144,10 @@ impl<B: OfLog> Pass<B> {
         rows: usize,
     ) -> Result<Vec<Op>, GatherError>
         requires { slots.now.table ≡ B.table }
-        ensures gathered { IfOk result (λ history. IsGathered self.new.seat.knows.seen rows (operations history.items)) }
-        ensures writable { IfOk result (λ history. All (λ op. IsWritable op.process) (operations history.items)) }
+        ensures gathered { IfOk result
+            (λ history. IsGathered self.new.seat.knows.seen rows (operations history.items)) }
+        ensures writable { IfOk result
+            (λ history. All (λ op. IsWritable op.process) (operations history.items)) }
     {
         gather(alloc, slots, &mut self.seat, rows)
     }

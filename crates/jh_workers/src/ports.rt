@@ -21,8 +21,8 @@ pub trait Count {
         ensures { result ≡ total self.now };
 }
 
-/// A world that several threads call. Each has a share of it, which every accepted call raises by one and a refused one
-/// by nothing. All calls may wait.
+/// A world that several threads call. Each has a share of it, which every accepted call raises by
+/// one and a refused one by nothing. All calls may wait.
 pub trait Port {
     /// A thread's own count.
     type Share: Count;

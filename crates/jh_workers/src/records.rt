@@ -1,12 +1,14 @@
 //! The history that a log's records make. `specs/Gather.antt` has the rule.
 
-ghost use Rattle.std.specs.Prelude.{◌≡◌, ◌<◌, ◌≤◌, ◌+◌, ◌^◌, ℕ, All, length, IfOk, IfErr, OnOk, MatchResult};
+ghost use Rattle.std.specs.Prelude.{◌≡◌, ◌<◌, ◌≤◌, ◌+◌, ◌^◌, ℕ, All, length, IfOk, IfErr, OnOk};
+ghost use Rattle.std.specs.Prelude.{MatchResult};
 ghost use Rattle.std.specs.FinMap as fin;
 ghost use Rattle.jh_ops.specs.Operation.{operation, operations};
 ghost use Rattle.jh_ops.specs.OperationWritten.{IsWritable};
 ghost use Rattle.jh_ops.specs.Words.{IsRecordedAs};
 ghost use Rattle.jh_workers.specs.Gather.{IsGathered, RefusesGather};
-ghost use Rattle.jh_workers.specs.GatherInside.{IsFound, RefusesRecord, RefusesRow, refusal_of, with_found};
+ghost use Rattle.jh_workers.specs.GatherInside.{IsFound, RefusesRecord, RefusesRow, gather_error};
+ghost use Rattle.jh_workers.specs.GatherInside.{history_with_found};
 
 use jh_ops::{Op, WordsError, of_words};
 use jh_simnode::push_placed;
@@ -40,7 +42,7 @@ impl From<AllocError> for GatherError {
 
 /// What a refusal of the words of a row means.
 fn refusal_of(error: WordsError, row: usize) -> GatherError
-    ensures { result ≡ refusal_of error row }
+    ensures { result ≡ gather_error error row }
 {
     match error {
         WordsError::OutOfMemory => GatherError::OutOfMemory,
@@ -52,7 +54,8 @@ fn refusal_of(error: WordsError, row: usize) -> GatherError
 
 /// The operation that the words of a row tell.
 fn operation_in(alloc: Global, words: &[u64], row: usize) -> Result<Op, GatherError>
-    ensures { MatchResult result (λ op. IsRecordedAs (operation op) words.now) (RefusesRow words.now row) }
+    ensures { MatchResult result (λ op. IsRecordedAs (operation op) words.now)
+        (RefusesRow words.now row) }
 {
     match of_words(alloc, words) {
         Ok(op) => Ok(op),
@@ -72,7 +75,8 @@ fn record_in(
     requires row { row < MAX_ROWS }
     ensures table { seat.new.table ≡ seat.old.table }
     ensures found { IfOk result (IsFound (fin.get seat.new.knows.seen row)) }
-    ensures others { (r : ℕ) → r < row → fin.get seat.new.knows.seen r ≡ fin.get seat.old.knows.seen r }
+    ensures others { (r : ℕ) → r < row
+        → fin.get seat.new.knows.seen r ≡ fin.get seat.old.knows.seen r }
     ensures refused { IfErr result (RefusesRecord seat.new.knows.seen row) }
 {
     match slots.read(seat, row, buffer.as_mut_slice()) {
@@ -89,7 +93,8 @@ fn record_in(
 /// Adds the operation that was found in a row, if there was one.
 fn push_found(history: &mut Vec<Op>, found: Option<Op>) -> Result<(), AllocError>
     requires { length history.old.items < 2 ^ 63 }
-    ensures added { OnOk result (operations history.new.items ≡ with_found (operations history.old.items) found) }
+    ensures added { OnOk result
+        (operations history.new.items ≡ history_with_found (operations history.old.items) found) }
     ensures few { OnOk result (length history.new.items ≤ length history.old.items + 1) }
 {
     match found {
@@ -98,14 +103,14 @@ fn push_found(history: &mut Vec<Op>, found: Option<Op>) -> Result<(), AllocError
     }
 }
 
-/// The history that the records below a row make: the operations of the rows that were published, in the order of the
-/// rows, each with its place under `:index`. Rows that are void or were not published so far are left out. A row that the
-/// seat saw before is read alike again.
+/// The history that the records below a row make: the operations of the rows that were published,
+/// in the order of the rows, each with its place under `:index`. Rows that are void or were not
+/// published so far are left out. A row that the seat saw before is read alike again.
 ///
 /// Takes time linear in the rows and in the words of their records.
 ///
-/// Errors, in the order of the rows: `BadWords` with the row, where it was published with words of no operation;
-/// `OutOfMemory`.
+/// Errors, in the order of the rows: `BadWords` with the row, where it was published with words of
+/// no operation; `OutOfMemory`.
 pub fn gather(
     alloc: Global,
     slots: &Slots,
@@ -114,8 +119,10 @@ pub fn gather(
 ) -> Result<Vec<Op>, GatherError>
     requires { seat.old.table ≡ slots.now.table }
     ensures table { seat.new.table ≡ seat.old.table }
-    ensures gathered { IfOk result (λ history. IsGathered seat.new.knows.seen rows (operations history.items)) }
-    ensures writable { IfOk result (λ history. All (λ op. IsWritable op.process) (operations history.items)) }
+    ensures gathered { IfOk result
+        (λ history. IsGathered seat.new.knows.seen rows (operations history.items)) }
+    ensures writable { IfOk result
+        (λ history. All (λ op. IsWritable op.process) (operations history.items)) }
     ensures refused { IfErr result (RefusesGather seat.new.knows.seen rows) }
 {
     let mut history = Vec::new(alloc);

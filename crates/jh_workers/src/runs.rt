@@ -1,6 +1,6 @@
 //! Runs of a plan over a port. All that an outcome promises is checked once its threads have ended.
 
-ghost use Rattle.std.specs.Prelude.{◌≡◌, ℕ, All, IfOk, IfSome, length, sum_by};
+ghost use Rattle.std.specs.Prelude.{◌≡◌, All, IfOk, IfSome, length, sum_by};
 ghost use Rattle.std.specs.Thread.{IsSend, IsSync};
 ghost use Rattle.jh_ops.specs.Operation.{operations};
 ghost use Rattle.jh_ops.specs.OperationWritten.{IsWritable};
@@ -25,7 +25,8 @@ use std::sync::Wait;
 use std::thread;
 use std::thread::Threads;
 
-/// What a run gave: the history that its threads recorded, the port's journal, and the threads' shares of it.
+/// What a run gave: the history that its threads recorded, the port's journal, and the threads'
+/// shares of it.
 #[derive(Drop)]
 pub struct Outcome<S> {
     pub history: Vec<Op>,
@@ -51,9 +52,11 @@ fn judged<S: Count + Drop>(
     journal: Vec<Event>,
     shares: Vec<S>,
 ) -> Result<Outcome<S>, RunError>
-    ensures same { IfOk result (λ o. (o.history ≡ history) × (o.journal ≡ journal) × (o.shares ≡ shares)) }
+    ensures same { IfOk result
+        (λ o. (o.history ≡ history) × (o.journal ≡ journal) × (o.shares ≡ shares)) }
     ensures audited { IfOk result (λ o. IsAudited o.journal.items (operations o.history.items)) }
-    ensures planned { IfOk result (λ o. FollowsPlan plan.now o.journal.items (operations o.history.items)) }
+    ensures planned { IfOk result
+        (λ o. FollowsPlan plan.now o.journal.items (operations o.history.items)) }
     ensures counted { IfOk result (λ o. sum_by S.total o.shares.items ≡ length o.journal.items) }
 {
     let Some(sum) = sum_of(&shares) else {
@@ -105,13 +108,14 @@ where
     Ok((own, posts))
 }
 
-/// What several threads share, and what each does. The office is a type parameter beside the site, so that each is shown by
-/// itself to be safe to share.
+/// What several threads share, and what each does. The office is a type parameter beside the site,
+/// so that each is shown by itself to be safe to share.
 trait Work<O, T> {
     /// What the thread of this number does, and what it gives back.
     fn work_at<R: Wait>(&self, rt: &R, office: &O, thread: u32, post: T) -> T;
 
-    /// Lets the work begin, once all threads are there, or ends it with an error where one could not be had.
+    /// Lets the work begin, once all threads are there, or ends it with an error where one could
+    /// not be had.
     fn begin<R: Wait>(&self, rt: &R, office: &O, error: Option<RunError>);
 }
 
@@ -134,7 +138,8 @@ impl<B: OfLog, P: Port> Work<Office, Post<B, P::Share>> for Site<'_, B, P> {
     }
 }
 
-/// Each post on a thread of its own, until all have ended. The posts come back, or an error where one was lost.
+/// Each post on a thread of its own, until all have ended. The posts come back, or an error where
+/// one was lost.
 fn work_all<S: Work<O, T> + Sync, O: Sync, T: Send + Drop, R: Threads + Wait + Sync>(
     rt: &R,
     alloc: Global,
@@ -246,11 +251,15 @@ where
     requires slots { slots.now.table ≡ B.table }
     requires seat { seat.table ≡ B.table }
     ensures audited { IfOk result (λ o. IsAudited o.journal.items (operations o.history.items)) }
-    ensures planned { IfOk result (λ o. FollowsPlan plan.now o.journal.items (operations o.history.items)) }
-    ensures counted { IfOk result (λ o. sum_by P.Share.total o.shares.items ≡ length o.journal.items) }
+    ensures planned { IfOk result
+        (λ o. FollowsPlan plan.now o.journal.items (operations o.history.items)) }
+    ensures counted { IfOk result
+        (λ o. sum_by P.Share.total o.shares.items ≡ length o.journal.items) }
     ensures shown { IfOk result (λ o. P.shows port.now o.journal.items) }
-    ensures gathered { IfOk result (λ o. (seen : Marks) × IsGathered seen plan.now.rows (operations o.history.items)) }
-    ensures writable { IfOk result (λ o. All (λ op. IsWritable op.process) (operations o.history.items)) }
+    ensures gathered { IfOk result
+        (λ o. (seen : Marks) × IsGathered seen plan.now.rows (operations o.history.items)) }
+    ensures writable { IfOk result
+        (λ o. All (λ op. IsWritable op.process) (operations o.history.items)) }
 {
     let own = Pass::<B>::new(seat);
     let (mut pass, shares) = worked::<B, P, R>(rt, alloc, plan, port, slots, own)?;
@@ -263,20 +272,22 @@ where
     judged(plan, history, journal, shares)
 }
 
-/// Runs a plan over a port, each client and the schedule on a thread of its own. All threads have ended when it returns.
+/// Runs a plan over a port, each client and the schedule on a thread of its own. All threads have
+/// ended when it returns.
 ///
-/// An outcome is given only where its history and its journal tell the same (`audit`), the shares of the threads together
-/// count the journal, and the plan was kept (`follows_plan`). The history is that of `gather`, and the journal one that the
-/// port may show. The same plan may give another history each time. The calls of the clients are not said to be a whole
-/// trace of the generator, and that threads run at once is shown by a test.
+/// An outcome is given only where its history and its journal tell the same (`audit`), the shares
+/// of the threads together count the journal, and the plan was kept (`follows_plan`). The history
+/// is that of `gather`, and the journal one that the port may show. The same plan may give another
+/// history each time. The calls of the clients are not said to be a whole trace of the generator,
+/// and that threads run at once is shown by a test.
 ///
-/// May wait, and promises only if it returns. A thread that has nothing to do sleeps. A port keeps the events of a run
-/// that failed.
+/// May wait, and promises only if it returns. A thread that has nothing to do sleeps. A port keeps
+/// the events of a run that failed.
 ///
-/// Errors: `Mismatch` where the journal was not empty at the start; `Thread` where a seat, a share or a thread could not
-/// be had; then the first of the threads' errors: `HistoryFull` where the log has too few rows, `World` where the port
-/// refused a call, a step or a tick, `OutOfMemory`; at last `Mismatch` where what the threads did does not agree.
-/// `OutOfMemory` may come at any moment.
+/// Errors: `Mismatch` where the journal was not empty at the start; `Thread` where a seat, a share
+/// or a thread could not be had; then the first of the threads' errors: `HistoryFull` where the log
+/// has too few rows, `World` where the port refused a call, a step or a tick, `OutOfMemory`; at
+/// last `Mismatch` where what the threads did does not agree. `OutOfMemory` may come at any moment.
 pub fn run<P: Port + Sync, R: Threads + Wait + Sync>(
     rt: &R,
     alloc: Global,
@@ -286,11 +297,15 @@ pub fn run<P: Port + Sync, R: Threads + Wait + Sync>(
 where
     P::Share: Send + Drop,
     ensures audited { IfOk result (λ o. IsAudited o.journal.items (operations o.history.items)) }
-    ensures planned { IfOk result (λ o. FollowsPlan plan.now o.journal.items (operations o.history.items)) }
-    ensures counted { IfOk result (λ o. sum_by P.Share.total o.shares.items ≡ length o.journal.items) }
+    ensures planned { IfOk result
+        (λ o. FollowsPlan plan.now o.journal.items (operations o.history.items)) }
+    ensures counted { IfOk result
+        (λ o. sum_by P.Share.total o.shares.items ≡ length o.journal.items) }
     ensures shown { IfOk result (λ o. P.shows port.now o.journal.items) }
-    ensures gathered { IfOk result (λ o. (seen : Marks) × IsGathered seen plan.now.rows (operations o.history.items)) }
-    ensures writable { IfOk result (λ o. All (λ op. IsWritable op.process) (operations o.history.items)) }
+    ensures gathered { IfOk result
+        (λ o. (seen : Marks) × IsGathered seen plan.now.rows (operations o.history.items)) }
+    ensures writable { IfOk result
+        (λ o. All (λ op. IsWritable op.process) (operations o.history.items)) }
 {
     if !port.events(rt, alloc)?.is_empty() {
         return Err(RunError::Mismatch);

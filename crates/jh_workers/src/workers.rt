@@ -1,7 +1,8 @@
-//! What the threads of a run do: client threads make calls, one more thread applies the schedule. Each call and each step
-//! stands between two records.
+//! What the threads of a run do: client threads make calls, one more thread applies the schedule.
+//! Each call and each step stands between two records.
 
-ghost use Rattle.std.specs.Prelude.{◌≡◌, ℕ, ◌+◌, ◌*◌, ◌<◌, ◌≤◌, ◌^◌, if◌then◌else◌, min, OnOk, IfOk};
+ghost use Rattle.std.specs.Prelude.{◌≡◌, ℕ, ◌+◌, ◌*◌, ◌<◌, ◌≤◌, ◌^◌, if◌then◌else◌, min, OnOk};
+ghost use Rattle.std.specs.Prelude.{IfOk};
 ghost use Rattle.jh_nemesis.specs.declared.steps.StepAnswer.{StepAnswer};
 ghost use Rattle.jh_ops.specs.Operation.{operation};
 ghost use Rattle.jh_simnode.specs.declared.replicas.Reply.{Reply};
@@ -20,8 +21,8 @@ use jh_gen::Ended;
 use jh_nemesis::StepAnswer;
 use jh_ops::{Op, Request};
 use jh_simnode::{
-    Entry, Got, Plan, Reply, completion, ended_of, entry_begun, entry_ended, invocation, node_of,
-    ticks_at,
+    Entry, Got, Plan, Reply, completion, entry_completion, entry_invocation, invocation, node_of,
+    reply_ending, ticks_at,
 };
 use jh_slots::{Claim, MAX_CLAIMED, ROW_WORDS, Slots};
 use rand_core::utils::NextWord;
@@ -49,8 +50,8 @@ pub(crate) struct Post<B: OfLog, S> {
 }
 
 /// How many integers the completion of a request tells.
-fn integers_told(request: Request, reply: &Reply) -> usize
-    ensures { result ≡ records.integers_told request reply.now }
+fn integers_written(request: Request, reply: &Reply) -> usize
+    ensures { result ≡ records.integers_written request reply.now }
 {
     match (request, reply) {
         (_, Reply::Ok(Got::Many(numbers))) => numbers.as_slice().len(),
@@ -59,18 +60,20 @@ fn integers_told(request: Request, reply: &Reply) -> usize
     }
 }
 
-/// How many rows the completion of a request takes: five words a row, of which three come before the integers.
-fn rows_told(request: Request, reply: &Reply) -> u32
+/// How many rows the completion of a request takes: five words a row, of which three come before
+/// the integers.
+fn rows_written(request: Request, reply: &Reply) -> u32
     ensures within { (1 ≤ result) × (result ≤ 255) }
-    ensures enough { min (3 + records.integers_told request reply.now) 1275 ≤ 5 * result }
-    ensures least { 5 * result < min (3 + records.integers_told request reply.now) 1275 + 5 }
+    ensures enough { min (3 + records.integers_written request reply.now) 1275 ≤ 5 * result }
+    ensures least { 5 * result < min (3 + records.integers_written request reply.now) 1275 + 5 }
 {
     let most = MAX_CLAIMED as usize * ROW_WORDS - 3;
-    let words = 3 + integers_told(request, reply).min(most);
+    let words = 3 + integers_written(request, reply).min(most);
     words.div_ceil(ROW_WORDS) as u32
 }
 
-/// Publishes the operation that was made for claimed rows. Where memory did not suffice to make it, the rows are voided.
+/// Publishes the operation that was made for claimed rows. Where memory did not suffice to make it,
+/// the rows are voided.
 fn publish<B: OfLog, P: Port>(
     site: &Site<'_, B, P>,
     pass: &mut Pass<B>,
@@ -100,7 +103,9 @@ fn record_invocation<B: OfLog, P: Port>(
     process: u64,
     request: Request,
 ) -> Result<(), RunError>
-    ensures { OnOk result (Publishes pass.old.seat.knows.seen (rule.invocation process request) pass.new.seat.knows.seen) }
+    ensures { OnOk result
+        (Publishes pass.old.seat.knows.seen
+        (rule.invocation process request) pass.new.seat.knows.seen) }
 {
     let claim = pass.claim(site.slots, 1)?;
     let made = invocation(site.alloc, process, request);
@@ -120,7 +125,7 @@ fn record_completion<B: OfLog, P: Port>(
     ensures { OnOk result (Publishes pass.old.seat.knows.seen
         (rule.completion number process request reply.now) pass.new.seat.knows.seen) }
 {
-    let rows = rows_told(request, reply);
+    let rows = rows_written(request, reply);
     let claim = pass.claim(site.slots, rows)?;
     let made = completion(site.alloc, number, process, request, reply);
     publish(site, pass, claim, rows, made)
@@ -133,10 +138,11 @@ fn record_begin<B: OfLog, P: Port>(
     entry: u64,
 ) -> Result<(), RunError>
     requires { entry < 2 ^ 63 }
-    ensures { OnOk result (Publishes pass.old.seat.knows.seen (rule.entry_begun entry) pass.new.seat.knows.seen) }
+    ensures { OnOk result
+        (Publishes pass.old.seat.knows.seen (rule.entry_invocation entry) pass.new.seat.knows.seen) }
 {
     let claim = pass.claim(site.slots, 1)?;
-    let made = entry_begun(site.alloc, entry);
+    let made = entry_invocation(site.alloc, entry);
     publish(site, pass, claim, 1, made)
 }
 
@@ -151,10 +157,10 @@ fn record_end<B: OfLog, P: Port>(
     requires number { number < 2 ^ 63 }
     requires entry { entry < 2 ^ 63 }
     ensures { OnOk result (Publishes pass.old.seat.knows.seen
-        (rule.entry_ended number entry answer) pass.new.seat.knows.seen) }
+        (rule.entry_completion number entry answer) pass.new.seat.knows.seen) }
 {
     let claim = pass.claim(site.slots, 1)?;
-    let made = entry_ended(site.alloc, number, entry, answer);
+    let made = entry_completion(site.alloc, number, entry, answer);
     publish(site, pass, claim, 1, made)
 }
 
@@ -176,7 +182,8 @@ fn serve<B: OfLog, P: Port, R: Wait>(
     asked: Asked,
 ) -> Result<Ended, RunError>
     ensures called { OnOk result (P.Share.total post.new.share ≡ P.Share.total post.old.share + 1) }
-    ensures recorded { IfOk result (λ ended. (reply : Reply) × (number : ℕ) × (ended ≡ running.ended_of reply)
+    ensures recorded { IfOk result
+        (λ ended. (reply : Reply) × (number : ℕ) × (ended ≡ running.reply_ending reply)
         × PublishesBoth post.old.pass.seat.knows.seen (rule.invocation asked.process asked.request)
         (rule.completion number asked.process asked.request reply) post.new.pass.seat.knows.seen) }
 {
@@ -192,7 +199,7 @@ fn serve<B: OfLog, P: Port, R: Wait>(
         .call(rt, &mut post.share, process, node, request, draw)?;
     office.count_answer(rt);
     record_completion(site, &mut post.pass, number, process, request, &reply)?;
-    Ok(ended_of(&reply))
+    Ok(reply_ending(&reply))
 }
 
 /// An entry of the schedule, its step between its two records.
@@ -206,8 +213,8 @@ fn apply_entry<B: OfLog, P: Port, R: Wait>(
     requires { number < 2 ^ 63 }
     ensures called { OnOk result (P.Share.total post.new.share ≡ P.Share.total post.old.share + 1) }
     ensures recorded { OnOk result ((answer : StepAnswer) × (event : ℕ)
-        × PublishesBoth post.old.pass.seat.knows.seen (rule.entry_begun number)
-        (rule.entry_ended event number answer) post.new.pass.seat.knows.seen) }
+        × PublishesBoth post.old.pass.seat.knows.seen (rule.entry_invocation number)
+        (rule.entry_completion event number answer) post.new.pass.seat.knows.seen) }
 {
     let step = entry.step.copy(site.alloc)?;
     record_begin(site, &mut post.pass, number)?;
@@ -264,7 +271,8 @@ fn work_as_client<B: OfLog, P: Port, R: Wait>(
     Ok(())
 }
 
-/// The thread of the schedule: its entries in order, each once it is due, unless the run is stopped.
+/// The thread of the schedule: its entries in order, each once it is due, unless the run is
+/// stopped.
 fn work_on_schedule<B: OfLog, P: Port, R: Wait>(
     rt: &R,
     site: &Site<'_, B, P>,

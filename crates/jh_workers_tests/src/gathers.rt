@@ -2,7 +2,7 @@
 //!
 //! None is answered where memory was refused.
 
-ghost use Rattle.std.specs.Prelude.{◌≡◌, ◌≤◌, length, IfOk, IfSome};
+ghost use Rattle.std.specs.Prelude.{◌≡◌, ◌≤◌, length, IfSome};
 
 use crate::texts::history_text;
 use jh_edn::read_all;

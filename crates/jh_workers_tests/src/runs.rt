@@ -9,7 +9,7 @@ use jh_ops::Op;
 use jh_settings::settings_of;
 use jh_simnode::{Event, Plan, World, WorldError, world_of};
 use jh_workers::{LockedWorld, Outcome, Port, RunError, run};
-use std::alloc::{AllocError, Global};
+use std::alloc::Global;
 use std::marker::Brand;
 use std::sync::Wait;
 use std::sync::ledger::{Blank, Ledger};

@@ -1,7 +1,7 @@
 use Rattle.std.proofs.Common.{◌<◌, ◌≤◌, ◌⊎◌, inl, inr, length, get_or, sym, subst, ◌∙◌, arith, rules}
 use Rattle.jh_edn.specs.Edn.{size_of, size_list, size_pairs}
 use Rattle.jh_edn.specs.View.{view, views}
-use Rattle.jh_edn.proofs.Comparing.{item_smaller, pair_smaller, items_end, pairs_end}
+use Rattle.jh_edn.proofs.CompareLemmas.{item_smaller, pair_smaller, items_end, pairs_end}
 use Rattle.jh_edn.proofs.+compare.Goals as goal
 use Rattle.jh_edn.proofs.+compare.Goals.{order::compare_items-then-loop-at-test+else-at-ys, order::compare_items-else-loop-at-test, order::compare_pairs-then-loop-at-test+else-at-qs, order::compare_pairs-else-loop-at-test}
 

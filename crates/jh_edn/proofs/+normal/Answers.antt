@@ -8,7 +8,7 @@ use Rattle.jh_edn.specs.Normal.{normal}
 use Rattle.jh_edn.specs.Order.{in_order, is_below, has_key_below}
 use Rattle.jh_edn.specs.View.{view, view_pair}
 use Rattle.jh_edn.specs.declared.value.Value.{Value}
-use Rattle.jh_edn.proofs.NormalLists.{normal_list_push, normal_pairs_push, held_below, held_key_below, sorted_items, sorted_pairs}
+use Rattle.jh_edn.proofs.NormalListLemmas.{normal_list_push, normal_pairs_push, held_below, held_key_below, sorted_items, sorted_pairs}
 use Rattle.jh_edn.proofs.OrderLemmas.{edn_total}
 use Rattle.jh_edn.proofs.+normal.Goals as goal
 

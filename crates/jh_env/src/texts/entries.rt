@@ -1,4 +1,5 @@
-//! Entries of an environment's text, one by one. `specs/Text.antt` says which value spells which entry.
+//! Entries of an environment's text, one by one. `specs/Text.antt` says which value spells which
+//! entry.
 
 ghost use Rattle.std.specs.Prelude.{◌≡◌, option_map};
 ghost use Rattle.jh_edn.specs.View.{view, views};
@@ -73,6 +74,7 @@ impl Section {
         self.entry_of(value.elements()?)
     }
 
+    /// The entry that the elements of a value spell under this key.
     fn entry_of(self, elements: &[Value]) -> Option<Entry<'_>>
         ensures { option_map entry_parsed result ≡ text.entry_of self (views elements.now) }
     {

@@ -1,32 +1,28 @@
-//! The shape of an environment's text: its keys, its names and its entries. `specs/Text.antt` says what they are.
+//! The shape of an environment's text: its keys, its names and its entries. `specs/Text.antt` says
+//! what they are.
 
-ghost use Rattle.std.specs.Prelude.{◌≡◌, ◌∷◌, map, find, bytes_eq, option_map, option_copied, MatchResult, string_bytes};
+ghost use Rattle.std.specs.Prelude.{◌≡◌, ◌∷◌, map, find, bytes_eq, option_map, option_copied};
+ghost use Rattle.std.specs.Prelude.{MatchResult};
 ghost use Rattle.std.specs.List.{list_any, list_all};
-ghost use Rattle.jh_edn.specs.View.{view, views, view_pair, view_pairs};
+ghost use Rattle.jh_edn.specs.Edn.{is_keyword, value_under};
+ghost use Rattle.jh_edn.specs.View.{view, view_pair, view_pairs};
 ghost use Rattle.jh_env.specs.Text as text;
 ghost use Rattle.jh_env.specs.Text.{nodes_keyword, sections};
-ghost use Rattle.jh_env.specs.TextInside.{entries_parsed, with_front, RefusesShape};
+ghost use Rattle.jh_env.specs.TextInside.{entries_parsed, list_with_front, RefusesShape};
 
 use super::EnvTextError;
 use super::entries::{Entry, SECTIONS, Section};
 use jh_edn::Value;
 use std::alloc::Global;
 
-fn is_keyword(value: &Value, name: &str) -> bool
-    ensures { result ≡ text.is_keyword name.now (view value.now) }
-{
-    match value {
-        Value::Keyword(text) => text.as_str() == name,
-        _ => false,
-    }
-}
-
+/// Whether one of the six keys has this name.
 fn is_known_keyword(name: &str) -> bool
     ensures { result ≡ list_any (bytes_eq name.now) (nodes_keyword ∷ map text.keyword_of sections) }
 {
     matches!(name, "nodes" | "cut" | "slow" | "loss" | "down" | "clock")
 }
 
+/// Whether the key of the pair is one of the six.
 fn has_known_key(pair: &(Value, Value)) -> bool
     ensures { result ≡ text.has_known_key (view_pair pair.now) }
 {
@@ -36,21 +32,23 @@ fn has_known_key(pair: &(Value, Value)) -> bool
     }
 }
 
+/// Whether the key of each pair is one of the six.
 fn have_known_keys(pairs: &[(Value, Value)]) -> bool
     ensures { result ≡ list_all (λ pair. text.has_known_key (view_pair pair)) pairs.now }
 {
     pairs.iter().all(|pair| has_known_key(pair))
 }
 
+/// The first pair whose key is the keyword of this name.
 fn find_pair<'a>(name: &str, pairs: &'a [(Value, Value)]) -> Option<&'a (Value, Value)>
-    ensures { option_copied result ≡ find (λ pair. text.is_keyword name.now (view pair.0)) pairs.now }
+    ensures { option_copied result ≡ find (λ pair. is_keyword name.now (view pair.0)) pairs.now }
 {
-    pairs.iter().find(|pair| is_keyword(&pair.0, name))
+    pairs.iter().find(|pair| pair.0.is_keyword(name))
 }
 
 /// The value under a keyword: that of the first pair with it.
 fn value_under<'a>(name: &str, pairs: &'a [(Value, Value)]) -> Option<&'a Value>
-    ensures { option_map (λ v. view v.now) result ≡ text.value_under name.now (view_pairs pairs.now) }
+    ensures { option_map (λ v. view v.now) result ≡ value_under name.now (view_pairs pairs.now) }
 {
     let pair = find_pair(name, pairs)?;
     Some(&pair.1)
@@ -59,8 +57,9 @@ fn value_under<'a>(name: &str, pairs: &'a [(Value, Value)]) -> Option<&'a Value>
 /// The value of `:nodes` and all pairs of a map that has no unknown key.
 pub fn keys_of(value: &Value) -> Result<(&Value, &[(Value, Value)]), EnvTextError>
     ensures { MatchResult result
-        (λ keys. text.keys_of (view value.now) ≡ Ok (record { nodes = view keys.0.now; pairs = view_pairs keys.1.now }))
-        (λ e. text.keys_of (view value.now) ≡ Err e) }
+        (λ keys. text.text_keys (view value.now)
+        ≡ Ok (record { nodes = view keys.0.now; pairs = view_pairs keys.1.now }))
+        (λ e. text.text_keys (view value.now) ≡ Err e) }
 {
     let Value::Map(pairs) = value else {
         return Err(EnvTextError::NotMap);
@@ -105,13 +104,16 @@ pub fn all_entries(alloc: Global, pairs: &[(Value, Value)]) -> Result<Vec<Entry<
     Ok(entries)
 }
 
+/// Appends the entries of a section; a missing key means none.
 fn push_section<'a>(
     section: Section,
     pairs: &'a [(Value, Value)],
     entries: &mut Vec<Entry<'a>>,
 ) -> Result<(), EnvTextError>
     ensures { MatchResult result
-        (λ _. with_front (entries_parsed entries.old.items) (text.entries_under (view_pairs pairs.now) section) ≡ Some (entries_parsed entries.new.items))
+        (λ _. list_with_front (entries_parsed entries.old.items)
+        (text.entries_under (view_pairs pairs.now) section)
+        ≡ Some (entries_parsed entries.new.items))
         (RefusesShape (text.entries_under (view_pairs pairs.now) section)) }
 {
     match value_under(section.keyword(), pairs) {
@@ -120,13 +122,15 @@ fn push_section<'a>(
     }
 }
 
+/// Appends the entries of the value under the key of a section.
 fn push_entries<'a>(
     section: Section,
     value: &'a Value,
     entries: &mut Vec<Entry<'a>>,
 ) -> Result<(), EnvTextError>
     ensures { MatchResult result
-        (λ _. with_front (entries_parsed entries.old.items) (text.entries_of section (view value.now)) ≡ Some (entries_parsed entries.new.items))
+        (λ _. list_with_front (entries_parsed entries.old.items)
+        (text.entries_of section (view value.now)) ≡ Some (entries_parsed entries.new.items))
         (RefusesShape (text.entries_of section (view value.now))) }
 {
     let elements = value.elements().ok_or(EnvTextError::BadEntry)?;

@@ -1,5 +1,5 @@
-//! The cells that entries tell, set one entry after another. `specs/TextCells.antt` says what they tell, and
-//! `specs/TextErrors.antt` which entry is in error.
+//! The cells that entries tell, set one entry after another. `specs/TextCells.antt` says what they
+//! tell, and `specs/TextErrors.antt` which entry is in error.
 
 ghost use Rattle.std.specs.Prelude.{◌≡◌, Some, None, MatchResult, if◌then◌else◌};
 ghost use Rattle.std.specs.List.{list_any};
@@ -8,7 +8,8 @@ ghost use Rattle.jh_env.specs.Text.{OfLink, OfNode};
 ghost use Rattle.jh_env.specs.TextCells.{AreCellsOf, link_with, node_with};
 ghost use Rattle.jh_env.specs.TextErrors as rule;
 ghost use Rattle.jh_env.specs.TextErrors.{place_of, entry_error, AreSound, HasEntryError};
-ghost use Rattle.jh_env.specs.TextInside.{entry_parsed, entries_parsed, fits_link, AreStarting, SetsEntry};
+ghost use Rattle.jh_env.specs.TextInside.{entry_parsed, entries_parsed, fits_link, AreStarting};
+ghost use Rattle.jh_env.specs.TextInside.{SetsEntry};
 
 use super::EnvTextError;
 use super::entries::{Entry, LinkChange, NodeChange};
@@ -16,6 +17,7 @@ use crate::names::Nodes;
 use crate::starting::Start;
 use jh_tables::{Life, Link, Node, NodeCell};
 
+/// The node of this name, or `UnknownNode`.
 fn find(nodes: &Nodes, name: &str) -> Result<Node, EnvTextError>
     ensures { MatchResult result
         (λ node. place_of nodes.now name.now ≡ Some node)
@@ -42,8 +44,9 @@ impl LinkChange {
         })
     }
 
+    /// Whether both stand under one key.
     fn has_key_of(self, other: LinkChange) -> bool
-        ensures { result ≡ rule.same_link_key self other }
+        ensures { result ≡ rule.is_same_link_key self other }
     {
         matches!(
             (self, other),
@@ -72,8 +75,9 @@ impl NodeChange {
         }
     }
 
+    /// Whether both stand under one key: `:clock`, or `:down`.
     fn has_key_of(self, other: NodeChange) -> bool
-        ensures { result ≡ rule.same_node_key self other }
+        ensures { result ≡ rule.is_same_node_key self other }
     {
         match (self, other) {
             (NodeChange::Clock(_), NodeChange::Clock(_)) => true,
@@ -96,12 +100,15 @@ fn repeats(entry: &Entry, other: &Entry) -> bool
     }
 }
 
+/// Whether an entry before names the same link or node under one key.
 fn is_repeated(before: &[Entry], entry: &Entry) -> bool
-    ensures { result ≡ list_any (λ other. rule.repeats (entry_parsed entry.now) (entry_parsed other)) before.now }
+    ensures { result
+        ≡ list_any (λ other. rule.repeats (entry_parsed entry.now) (entry_parsed other)) before.now }
 {
     before.iter().any(|other| repeats(entry, other))
 }
 
+/// Sets a link to what its entry means, or finds the error of the entry.
 fn set_link(start: &mut Start, from: &str, to: &str, change: LinkChange) -> Result<(), EnvTextError>
     requires { AreStarting start.old }
     ensures { MatchResult result
@@ -121,6 +128,7 @@ fn set_link(start: &mut Start, from: &str, to: &str, change: LinkChange) -> Resu
     Ok(())
 }
 
+/// Sets a node to what its entry means, or finds the error of the entry.
 fn set_node(start: &mut Start, name: &str, change: NodeChange) -> Result<(), EnvTextError>
     requires { AreStarting start.old }
     ensures { MatchResult result
@@ -136,6 +144,7 @@ fn set_node(start: &mut Start, name: &str, change: NodeChange) -> Result<(), Env
     Ok(())
 }
 
+/// Sets the link or the node of an entry, or finds the error of the entry.
 fn set_entry(start: &mut Start, entry: &Entry) -> Result<(), EnvTextError>
     requires { AreStarting start.old }
     ensures { MatchResult result

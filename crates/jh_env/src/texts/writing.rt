@@ -1,6 +1,7 @@
 //! The text of an environment, written. `specs/TextWritten.antt` says what is written, and how.
 
-ghost use Rattle.std.specs.Prelude.{◌≡◌, ◌∷◌, ◌++◌, length, map, option_map, filter_map, flat_map, slice_get, IfOk, OnOk};
+ghost use Rattle.std.specs.Prelude.{◌≡◌, ◌∷◌, ◌++◌, length, map, option_map, filter_map, flat_map};
+ghost use Rattle.std.specs.Prelude.{slice_get, IfOk, OnOk};
 ghost use Rattle.std.specs.List.{range_with_len};
 ghost use Rattle.jh_edn.specs.Edn.{str, keyword, vector, items_of};
 ghost use Rattle.jh_edn.specs.View.{view, views, view_pair, view_pairs};
@@ -19,9 +20,9 @@ use std::alloc::{AllocError, Global};
 
 impl Section {
     /// What a link is said to be under this key.
-    fn link_part(self, link: Link) -> Option<LinkChange>
+    fn link_change(self, link: Link) -> Option<LinkChange>
         requires { IsLinkInRange link }
-        ensures { result ≡ text.link_part self link }
+        ensures { result ≡ text.link_change self link }
     {
         match self {
             Section::Cut if link.cut => Some(LinkChange::Cut),
@@ -32,8 +33,8 @@ impl Section {
     }
 
     /// What a node is said to be under this key.
-    fn node_part(self, cell: NodeCell) -> Option<NodeChange>
-        ensures { result ≡ text.node_part self cell }
+    fn node_change(self, cell: NodeCell) -> Option<NodeChange>
+        ensures { result ≡ text.node_change self cell }
     {
         match (self, cell.process) {
             (Section::Down, Life::Paused) => Some(NodeChange::Pause),
@@ -44,23 +45,26 @@ impl Section {
     }
 }
 
+/// The entry of a link under this key, if there is one.
 fn link_entry(env: &Env, section: Section, from: Node, to: Node) -> Option<Entry<'_>>
     ensures { option_map entry_parsed result ≡ text.link_entry env.now section from to }
 {
     let source = env.nodes().name(from)?;
     let destination = env.nodes().name(to)?;
     let link = env.link(from, to)?;
-    Some(Entry::Link(source, destination, section.link_part(link)?))
+    Some(Entry::Link(source, destination, section.link_change(link)?))
 }
 
+/// The entry of a node under this key, if there is one.
 fn node_entry(env: &Env, section: Section, node: Node) -> Option<Entry<'_>>
     ensures { option_map entry_parsed result ≡ text.node_entry env.now section node }
 {
     let name = env.nodes().name(node)?;
     let cell = env.node(node)?;
-    Some(Entry::Node(name, section.node_part(cell)?))
+    Some(Entry::Node(name, section.node_change(cell)?))
 }
 
+/// Appends the entries of the links from one node to these.
 fn push_links_from<'a>(
     env: &'a Env,
     section: Section,
@@ -69,7 +73,8 @@ fn push_links_from<'a>(
     entries: &mut Vec<Entry<'a>>,
 ) -> Result<(), AllocError>
     ensures { OnOk result (entries_parsed entries.new.items
-        ≡ entries_parsed entries.old.items ++ filter_map (text.link_entry env.now section from) nodes.now) }
+        ≡ entries_parsed entries.old.items
+        ++ filter_map (text.link_entry env.now section from) nodes.now) }
 {
     for to in nodes {
         if let Some(entry) = link_entry(env, section, from, *to) {
@@ -79,6 +84,7 @@ fn push_links_from<'a>(
     Ok(())
 }
 
+/// Appends the entries of the links between these nodes, by source and then by destination.
 fn push_links<'a>(
     env: &'a Env,
     section: Section,
@@ -86,7 +92,8 @@ fn push_links<'a>(
     entries: &mut Vec<Entry<'a>>,
 ) -> Result<(), AllocError>
     ensures { OnOk result (entries_parsed entries.new.items
-        ≡ entries_parsed entries.old.items ++ flat_map (λ from. filter_map (text.link_entry env.now section from) nodes.now) nodes.now) }
+        ≡ entries_parsed entries.old.items
+        ++ flat_map (λ from. filter_map (text.link_entry env.now section from) nodes.now) nodes.now) }
 {
     for from in nodes {
         push_links_from(env, section, *from, nodes, entries)?;
@@ -94,6 +101,7 @@ fn push_links<'a>(
     Ok(())
 }
 
+/// Appends the entries of these nodes.
 fn push_nodes<'a>(
     env: &'a Env,
     section: Section,
@@ -101,7 +109,8 @@ fn push_nodes<'a>(
     entries: &mut Vec<Entry<'a>>,
 ) -> Result<(), AllocError>
     ensures { OnOk result (entries_parsed entries.new.items
-        ≡ entries_parsed entries.old.items ++ filter_map (text.node_entry env.now section) nodes.now) }
+        ≡ entries_parsed entries.old.items
+        ++ filter_map (text.node_entry env.now section) nodes.now) }
 {
     for node in nodes {
         if let Some(entry) = node_entry(env, section, *node) {
@@ -111,6 +120,7 @@ fn push_nodes<'a>(
     Ok(())
 }
 
+/// All nodes, by place.
 fn all_nodes(alloc: Global, nodes: &Nodes) -> Result<Vec<Node>, AllocError>
     ensures { IfOk result (λ all. all.items ≡ range_with_len 0 (length nodes.now)) }
 {
@@ -125,7 +135,8 @@ fn all_nodes(alloc: Global, nodes: &Nodes) -> Result<Vec<Node>, AllocError>
 
 /// The entries under a key: by source and then by destination, or by node.
 fn entries_of(alloc: Global, env: &Env, section: Section) -> Result<Vec<Entry<'_>>, AllocError>
-    ensures { IfOk result (λ entries. entries_parsed entries.items ≡ text.entries_written env.now section) }
+    ensures { IfOk result
+        (λ entries. entries_parsed entries.items ≡ text.entries_written env.now section) }
 {
     let nodes = all_nodes(alloc, env.nodes())?;
     let mut entries = Vec::new(alloc);
@@ -136,18 +147,14 @@ fn entries_of(alloc: Global, env: &Env, section: Section) -> Result<Vec<Entry<'_
     Ok(entries)
 }
 
+/// The string with this text.
 pub fn string(alloc: Global, text: &str) -> Result<Value, AllocError>
     ensures { IfOk result (λ value. view value ≡ str text.now) }
 {
     Ok(Value::Str(Text::of(alloc, text)?))
 }
 
-pub fn keyword(alloc: Global, name: &str) -> Result<Value, AllocError>
-    ensures { IfOk result (λ value. view value ≡ keyword name.now) }
-{
-    Ok(Value::Keyword(Text::of(alloc, name)?))
-}
-
+/// The value that spells an entry.
 fn entry_value(alloc: Global, entry: &Entry) -> Result<Value, AllocError>
     ensures { IfOk result (λ value. view value ≡ edn_of_entry (entry_parsed entry.now)) }
 {
@@ -165,8 +172,8 @@ fn entry_value(alloc: Global, entry: &Entry) -> Result<Value, AllocError>
         Entry::Node(name, says) => {
             values.push(string(alloc, name)?)?;
             values.push(match says {
-                NodeChange::Pause => keyword(alloc, "paused")?,
-                NodeChange::Kill => keyword(alloc, "killed")?,
+                NodeChange::Pause => Value::keyword(alloc, "paused")?,
+                NodeChange::Kill => Value::keyword(alloc, "killed")?,
                 NodeChange::Clock(ms) => Value::Int(ms),
             })?;
         }
@@ -174,8 +181,10 @@ fn entry_value(alloc: Global, entry: &Entry) -> Result<Value, AllocError>
     Ok(Value::Vector(Values::of(values)))
 }
 
+/// The values that spell the entries, one by one.
 fn entry_values(alloc: Global, entries: &[Entry]) -> Result<Vec<Value>, AllocError>
-    ensures { IfOk result (λ values. views values.items ≡ map edn_of_entry (entries_parsed entries.now)) }
+    ensures { IfOk result
+        (λ values. views values.items ≡ map edn_of_entry (entries_parsed entries.now)) }
 {
     let mut values = Vec::new(alloc);
     for entry in entries {
@@ -184,23 +193,26 @@ fn entry_values(alloc: Global, entries: &[Entry]) -> Result<Vec<Value>, AllocErr
     Ok(values)
 }
 
+/// A key with its entries.
 fn section_pair(alloc: Global, env: &Env, section: Section) -> Result<(Value, Value), AllocError>
     ensures { IfOk result (λ pair. view_pair pair ≡ text.section_pair env.now section) }
 {
     let entries = entries_of(alloc, env, section)?;
     let values = entry_values(alloc, &entries)?;
     Ok((
-        keyword(alloc, section.keyword())?,
+        Value::keyword(alloc, section.keyword())?,
         Value::Vector(Values::of(values)),
     ))
 }
 
+/// The name of the node at this place.
 fn name_at(nodes: &Nodes, place: u8) -> Option<&str>
     ensures { option_map (λ s. s.now) result ≡ slice_get nodes.now place }
 {
     nodes.name(nodes.at(place)?)
 }
 
+/// The vector of all names, by place.
 fn names_value(alloc: Global, nodes: &Nodes) -> Result<Value, AllocError>
     ensures { IfOk result (λ value. view value ≡ vector (items_of (map str nodes.now))) }
 {
@@ -216,10 +228,14 @@ fn names_value(alloc: Global, nodes: &Nodes) -> Result<Value, AllocError>
 /// All pairs of the text: the names, then the sections in order.
 pub fn pairs_of(alloc: Global, env: &Env) -> Result<Vec<(Value, Value)>, AllocError>
     ensures { IfOk result (λ pairs. view_pairs pairs.items
-        ≡ (keyword nodes_keyword, vector (items_of (map str env.now.names))) ∷ map (text.section_pair env.now) sections) }
+        ≡ (keyword nodes_keyword, vector (items_of (map str env.now.names)))
+        ∷ map (text.section_pair env.now) sections) }
 {
     let mut pairs = Vec::new(alloc);
-    pairs.push((keyword(alloc, "nodes")?, names_value(alloc, env.nodes())?))?;
+    pairs.push((
+        Value::keyword(alloc, "nodes")?,
+        names_value(alloc, env.nodes())?,
+    ))?;
     for section in SECTIONS {
         pairs.push(section_pair(alloc, env, section)?)?;
     }

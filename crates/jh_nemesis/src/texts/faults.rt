@@ -1,12 +1,14 @@
-//! Faults as EDN values: which fault is told. `specs/FaultText.antt` has the rule, case by case.
+//! Faults as EDN values: which fault is parsed. `specs/FaultText.antt` has the rule, case by case.
 
-ghost use Rattle.std.specs.Prelude.{◌≡◌, ◌==◌, [], Some, IfOk, MatchResult, length, is_some, is_none, true};
+ghost use Rattle.std.specs.Prelude.{◌≡◌, ◌==◌, [], Some, IfOk, MatchResult, length, is_some};
+ghost use Rattle.std.specs.Prelude.{is_none, true};
 ghost use Rattle.std.specs.List.{filter_map, list_all, list_any};
 ghost use Rattle.jh_edn.specs.View.{view, views, view_pair, view_pairs};
 ghost use Rattle.jh_env.specs.Faults.{FitsCount, AreLinksOf, RefusesNodes, is_self_link};
 ghost use Rattle.jh_nemesis.specs.FaultText as rule;
-ghost use Rattle.jh_nemesis.specs.FaultText.{IsPartParsed, IsRingOverAll, parsed_fault, parsed_links, parsed_nodes, parsed_bumps};
-ghost use Rattle.jh_nemesis.specs.ShapeInside.{said};
+ghost use Rattle.jh_nemesis.specs.FaultText.{IsParsedAs, IsRingOverAll, parsed_fault, parsed_links};
+ghost use Rattle.jh_nemesis.specs.FaultText.{parsed_nodes, parsed_bumps};
+ghost use Rattle.jh_nemesis.specs.ShapeInside.{shape_spelling};
 
 use super::StepTextError;
 use super::named::{named_fault, split_fault};
@@ -15,7 +17,7 @@ use jh_edn::Value;
 use jh_env::{Fault, FaultError, MAX_BUMPED, MAX_FIXED, MAX_LOSS, MAX_SLOWED, Node, Nodes};
 use std::alloc::{AllocError, Global};
 
-// The nodes of a link, where both are known.
+/// The nodes of a link, where both are known.
 fn ends_of(nodes: &Nodes, link: &Value) -> Option<(Node, Node)>
     ensures { result ≡ rule.ends_of nodes.now (view link.now) }
 {
@@ -23,12 +25,14 @@ fn ends_of(nodes: &Nodes, link: &Value) -> Option<(Node, Node)>
     Some((nodes.find(source)?, nodes.find(destination)?))
 }
 
-fn node_of(nodes: &Nodes, node: &Value) -> Option<Node>
-    ensures { result ≡ rule.node_of nodes.now (view node.now) }
+/// The node that is named, where it is known.
+fn named_node(nodes: &Nodes, node: &Value) -> Option<Node>
+    ensures { result ≡ rule.named_node nodes.now (view node.now) }
 {
     nodes.find(node_name(node)?)
 }
 
+/// The node of a bump, where it is known, and by how much its clock is moved.
 fn bump_of(nodes: &Nodes, bump: &(Value, Value)) -> Option<(Node, i64)>
     ensures { result ≡ rule.bump_of nodes.now (view_pair bump.now) }
 {
@@ -36,28 +40,31 @@ fn bump_of(nodes: &Nodes, bump: &(Value, Value)) -> Option<(Node, i64)>
     Some((nodes.find(name)?, ms))
 }
 
-// Whether one of the links names a node that is unknown.
+/// Whether one of the links names a node that is unknown.
 fn is_any_end_unknown(nodes: &Nodes, links: &[Value]) -> bool
     ensures { result ≡ list_any (λ l. is_none (rule.ends_of nodes.now (view l))) links.now }
 {
     links.iter().any(|link| ends_of(nodes, link).is_none())
 }
 
+/// Whether one of the values names no known node.
 fn is_any_node_unknown(nodes: &Nodes, named: &[Value]) -> bool
-    ensures { result ≡ list_any (λ n. is_none (rule.node_of nodes.now (view n))) named.now }
+    ensures { result ≡ list_any (λ n. is_none (rule.named_node nodes.now (view n))) named.now }
 {
-    named.iter().any(|node| node_of(nodes, node).is_none())
+    named.iter().any(|node| named_node(nodes, node).is_none())
 }
 
+/// Whether one of the bumps names no known node.
 fn is_any_bump_unknown(nodes: &Nodes, bumps: &[(Value, Value)]) -> bool
     ensures { result ≡ list_any (λ b. is_none (rule.bump_of nodes.now (view_pair b))) bumps.now }
 {
     bumps.iter().any(|bump| bump_of(nodes, bump).is_none())
 }
 
-// Whether one of the links goes from a node to itself.
+/// Whether one of the links goes from a node to itself.
 fn is_any_self(nodes: &Nodes, links: &[Value]) -> bool
-    ensures { result ≡ list_any is_self_link (filter_map (λ l. rule.ends_of nodes.now (view l)) links.now) }
+    ensures { result
+        ≡ list_any is_self_link (filter_map (λ l. rule.ends_of nodes.now (view l)) links.now) }
 {
     links
         .iter()
@@ -65,9 +72,10 @@ fn is_any_self(nodes: &Nodes, links: &[Value]) -> bool
         .any(|(source, destination)| source == destination)
 }
 
-// The nodes of the links, of those whose nodes are known.
+/// The nodes of the links, of those whose nodes are known.
 fn all_ends(alloc: Global, nodes: &Nodes, links: &[Value]) -> Result<Vec<(Node, Node)>, AllocError>
-    ensures { IfOk result (λ ends. ends.items ≡ filter_map (λ l. rule.ends_of nodes.now (view l)) links.now) }
+    ensures { IfOk result
+        (λ ends. ends.items ≡ filter_map (λ l. rule.ends_of nodes.now (view l)) links.now) }
 {
     links
         .iter()
@@ -75,21 +83,25 @@ fn all_ends(alloc: Global, nodes: &Nodes, links: &[Value]) -> Result<Vec<(Node, 
         .collect(alloc)
 }
 
+/// The nodes that are named, of those that are known.
 fn all_nodes(alloc: Global, nodes: &Nodes, named: &[Value]) -> Result<Vec<Node>, AllocError>
-    ensures { IfOk result (λ all. all.items ≡ filter_map (λ n. rule.node_of nodes.now (view n)) named.now) }
+    ensures { IfOk result
+        (λ all. all.items ≡ filter_map (λ n. rule.named_node nodes.now (view n)) named.now) }
 {
     named
         .iter()
-        .filter_map(|node| node_of(nodes, node))
+        .filter_map(|node| named_node(nodes, node))
         .collect(alloc)
 }
 
+/// The bumps, of those whose nodes are known.
 fn all_bumps(
     alloc: Global,
     nodes: &Nodes,
     bumps: &[(Value, Value)],
 ) -> Result<Vec<(Node, i64)>, AllocError>
-    ensures { IfOk result (λ all. all.items ≡ filter_map (λ b. rule.bump_of nodes.now (view_pair b)) bumps.now) }
+    ensures { IfOk result
+        (λ all. all.items ≡ filter_map (λ b. rule.bump_of nodes.now (view_pair b)) bumps.now) }
 {
     bumps
         .iter()
@@ -97,7 +109,7 @@ fn all_bumps(
         .collect(alloc)
 }
 
-// Whether the amount is in its range.
+/// Whether the amount is in its range.
 fn is_right(effect: OnLinks) -> bool
     ensures { result ≡ is_some (rule.links_fault effect []) }
 {
@@ -109,14 +121,18 @@ fn is_right(effect: OnLinks) -> bool
     }
 }
 
+/// Whether the amount of a bump is in its range.
 fn is_bump_amount(ms: i64) -> bool
     ensures { result ≡ rule.is_bump_amount ms }
 {
     ms != 0 && -MAX_BUMPED <= ms && ms <= MAX_BUMPED
 }
 
+/// Whether the amount of each bump is in its range, of those whose nodes are known.
 fn are_bump_amounts(nodes: &Nodes, bumps: &[(Value, Value)]) -> bool
-    ensures { result ≡ list_all (λ b. rule.is_bump_amount b.1) (filter_map (λ b. rule.bump_of nodes.now (view_pair b)) bumps.now) }
+    ensures { result
+        ≡ list_all (λ b. rule.is_bump_amount b.1)
+        (filter_map (λ b. rule.bump_of nodes.now (view_pair b)) bumps.now) }
 {
     bumps
         .iter()
@@ -124,9 +140,11 @@ fn are_bump_amounts(nodes: &Nodes, bumps: &[(Value, Value)]) -> bool
         .all(|(_, ms)| is_bump_amount(ms))
 }
 
-// Whether one of these bumps the node.
+/// Whether one of these bumps the node.
 fn is_bumped(nodes: &Nodes, bumps: &[(Value, Value)], node: Node) -> bool
-    ensures { result ≡ list_any (λ b. b.0 == node) (filter_map (λ b. rule.bump_of nodes.now (view_pair b)) bumps.now) }
+    ensures { result
+        ≡ list_any (λ b. b.0 == node)
+        (filter_map (λ b. rule.bump_of nodes.now (view_pair b)) bumps.now) }
 {
     bumps
         .iter()
@@ -134,10 +152,12 @@ fn is_bumped(nodes: &Nodes, bumps: &[(Value, Value)], node: Node) -> bool
         .any(|(other, _)| other == node)
 }
 
-// Whether no node is bumped twice. The first repeat ends the search, so each bump is compared with at most as
-// many as there are nodes.
+/// Whether no node is bumped twice. The first repeat ends the search, so each bump is compared with
+/// at most as many as there are nodes.
 fn are_apart(nodes: &Nodes, bumps: &[(Value, Value)]) -> bool
-    ensures { result ≡ rule.are_apart_after [] (filter_map (λ b. rule.bump_of nodes.now (view_pair b)) bumps.now) }
+    ensures { result
+        ≡ rule.are_apart_after []
+        (filter_map (λ b. rule.bump_of nodes.now (view_pair b)) bumps.now) }
 {
     for place in 0..bumps.len() {
         if let Some(bump) = bump_of(nodes, &bumps[place]) {
@@ -149,7 +169,7 @@ fn are_apart(nodes: &Nodes, bumps: &[(Value, Value)]) -> bool
     true
 }
 
-// The fault on these links. An amount that does not fit its type becomes one that is out of range.
+/// The fault on these links. An amount that does not fit its type becomes one that is out of range.
 fn links_fault(
     alloc: Global,
     nodes: &Nodes,
@@ -158,7 +178,8 @@ fn links_fault(
 ) -> Result<Fault, FaultError>
     ensures made { MatchResult result
         (λ fault. rule.links_fault effect ends.now ≡ Some fault)
-        (λ e. AreLinksOf (length nodes.now) ends.now → is_some (rule.links_fault effect []) ≡ true → e ≡ FaultError.OutOfMemory) }
+        (λ e. AreLinksOf (length nodes.now) ends.now → is_some (rule.links_fault effect []) ≡ true
+        → e ≡ FaultError.OutOfMemory) }
     ensures fits { IfOk result (FitsCount (length nodes.now)) }
 {
     match effect {
@@ -169,6 +190,7 @@ fn links_fault(
     }
 }
 
+/// The fault on these nodes.
 fn nodes_fault(
     alloc: Global,
     nodes: &Nodes,
@@ -186,14 +208,14 @@ fn nodes_fault(
     }
 }
 
-// All is judged before memory is asked for.
+/// All is judged before memory is asked for.
 fn on_links(
     alloc: Global,
     nodes: &Nodes,
     effect: OnLinks,
     links: &[Value],
 ) -> Result<Fault, StepTextError>
-    ensures told { IsPartParsed result (parsed_links nodes.now effect (views links.now)) }
+    ensures parsed { IsParsedAs result (parsed_links nodes.now effect (views links.now)) }
     ensures fits { IfOk result (FitsCount (length nodes.now)) }
 {
     if is_any_end_unknown(nodes, links) {
@@ -214,13 +236,14 @@ fn on_links(
     }
 }
 
+/// The fault on the nodes that are named, or why it is refused.
 fn on_nodes(
     alloc: Global,
     nodes: &Nodes,
     effect: OnNodes,
     named: &[Value],
 ) -> Result<Fault, StepTextError>
-    ensures told { IsPartParsed result (parsed_nodes nodes.now effect (views named.now)) }
+    ensures parsed { IsParsedAs result (parsed_nodes nodes.now effect (views named.now)) }
     ensures fits { IfOk result (FitsCount (length nodes.now)) }
 {
     if is_any_node_unknown(nodes, named) {
@@ -235,8 +258,9 @@ fn on_nodes(
     }
 }
 
+/// The fault of these bumps, or why it is refused.
 fn of_bumps(alloc: Global, nodes: &Nodes, bumps: &[(Value, Value)]) -> Result<Fault, StepTextError>
-    ensures told { IsPartParsed result (parsed_bumps nodes.now (view_pairs bumps.now)) }
+    ensures parsed { IsParsedAs result (parsed_bumps nodes.now (view_pairs bumps.now)) }
     ensures fits { IfOk result (FitsCount (length nodes.now)) }
 {
     if is_any_bump_unknown(nodes, bumps) {
@@ -256,8 +280,9 @@ fn of_bumps(alloc: Global, nodes: &Nodes, bumps: &[(Value, Value)]) -> Result<Fa
 
 /// The fault of this shape, if its nodes are known and its amounts are in their ranges.
 pub fn fault_of(alloc: Global, nodes: &Nodes, shape: Shape) -> Result<Fault, StepTextError>
-    ensures told { IsPartParsed result (parsed_fault nodes.now (said shape.entry)) }
-    ensures ring { IfOk result (λ _. IsRingOverAll (length nodes.now) (Some (said shape.entry))) }
+    ensures parsed { IsParsedAs result (parsed_fault nodes.now (shape_spelling shape.entry)) }
+    ensures ring { IfOk result
+        (λ _. IsRingOverAll (length nodes.now) (Some (shape_spelling shape.entry))) }
     ensures fits { IfOk result (FitsCount (length nodes.now)) }
 {
     match shape {

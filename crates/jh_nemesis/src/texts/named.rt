@@ -1,8 +1,10 @@
-//! Faults that are named by a grudge over all nodes. `specs/NamedFaults.antt` says which links each cuts.
+//! Faults that are named by a grudge over all nodes. `specs/NamedFaults.antt` says which links each
+//! cuts.
 
-ghost use Rattle.std.specs.Prelude.{◌≡◌, ◌<◌, IfOk, IfSome, IsPermutation, IsSome, MatchOption, MatchResult, None, Some, length};
+ghost use Rattle.std.specs.Prelude.{◌≡◌, ◌<◌, IfOk, IfSome, IsPermutation, IsSome, MatchOption};
+ghost use Rattle.std.specs.Prelude.{MatchResult, None, Some, length};
 ghost use Rattle.jh_env.specs.Faults.{FitsCount};
-ghost use Rattle.jh_nemesis.specs.FaultText.{IsPartParsed, cut_of, parsed_named, parsed_split};
+ghost use Rattle.jh_nemesis.specs.FaultText.{IsParsedAs, cut_of, parsed_named, parsed_split};
 ghost use Rattle.jh_nemesis.specs.declared.texts.StepTextError.TheVariants.{OutOfMemory};
 ghost use Rattle.jh_nemesis.specs.NamedFaults.{
   AreLinksAmong,
@@ -12,7 +14,7 @@ ghost use Rattle.jh_nemesis.specs.NamedFaults.{
   links_that,
   named_links,
   seeded_order,
-  places,
+  node_places,
   ring_links,
   touches,
 };
@@ -26,15 +28,16 @@ use rand::seq::SliceRandom;
 use rand_pcg::Lcg64Xsh32;
 use std::alloc::{AllocError, Global};
 
+/// How many nodes there are.
 fn count(nodes: &Nodes) -> u8
     ensures { result ≡ length nodes.now }
 {
     nodes.len() as u8
 }
 
-// The places of all nodes, in order.
+/// The places of all nodes, in order.
 fn all_places(alloc: Global, nodes: &Nodes) -> Result<Vec<u8>, AllocError>
-    ensures { IfOk result (λ all. all.items ≡ places (length nodes.now)) }
+    ensures { IfOk result (λ all. all.items ≡ node_places (length nodes.now)) }
 {
     let mut all = Vec::new(alloc);
     for place in 0..count(nodes) {
@@ -43,19 +46,22 @@ fn all_places(alloc: Global, nodes: &Nodes) -> Result<Vec<u8>, AllocError>
     Ok(all)
 }
 
-/// The places of all nodes in the order in which `[:ring SEED]` lays its ring: shuffled by `rand`'s `shuffle` with the
-/// `Lcg64Xsh32` of `rand_pcg` that the seed makes, so that a seed always gives the same order.
+/// The places of all nodes in the order in which `[:ring SEED]` lays its ring: shuffled by `rand`'s
+/// `shuffle` with the `Lcg64Xsh32` of `rand_pcg` that the seed makes, so that a seed always gives
+/// the same order.
 pub fn ring_order(alloc: Global, nodes: &Nodes, seed: u64) -> Result<Vec<u8>, AllocError>
     ensures order { IfOk result (λ all. all.items ≡ seeded_order seed (length nodes.now)) }
-    ensures all { IfOk result (λ all. IsPermutation (places (length nodes.now)) all.items) }
+    ensures all { IfOk result (λ all. IsPermutation (node_places (length nodes.now)) all.items) }
 {
     let mut order = all_places(alloc, nodes)?;
     order.shuffle(&mut Lcg64Xsh32::seed_from_u64(seed));
     Ok(order)
 }
 
+/// The grudge that parts the nodes into halves.
 fn halves(alloc: Global, nodes: &Nodes) -> Result<Grudge, AllocError>
-    ensures links { IfOk result (λ grudge. grudge ≡ links_that (crosses_halves (length nodes.now)) (length nodes.now)) }
+    ensures links { IfOk result
+        (λ grudge. grudge ≡ links_that (crosses_halves (length nodes.now)) (length nodes.now)) }
     ensures among { IfOk result (AreLinksAmong (length nodes.now)) }
 {
     let all = all_places(alloc, nodes)?;
@@ -65,6 +71,7 @@ fn halves(alloc: Global, nodes: &Nodes) -> Result<Grudge, AllocError>
     complete_grudge(alloc, &[first, second])
 }
 
+/// The grudge that parts one node from all others.
 fn split_off(alloc: Global, nodes: &Nodes, loner: Node) -> Result<Grudge, AllocError>
     requires { loner < length nodes.now }
     ensures links { IfOk result (λ grudge. grudge ≡ links_that (touches loner) (length nodes.now)) }
@@ -78,48 +85,55 @@ fn split_off(alloc: Global, nodes: &Nodes, loner: Node) -> Result<Grudge, AllocE
     }
 }
 
+/// The grudge between both sides of the bridge, which is the first node of the second half.
 fn around_bridge(alloc: Global, nodes: &Nodes) -> Result<Grudge, AllocError>
-    ensures links { IfOk result (λ grudge. grudge ≡ links_that (crosses_bridge (length nodes.now)) (length nodes.now)) }
+    ensures links { IfOk result
+        (λ grudge. grudge ≡ links_that (crosses_bridge (length nodes.now)) (length nodes.now)) }
     ensures among { IfOk result (AreLinksAmong (length nodes.now)) }
 {
     let all = all_places(alloc, nodes)?;
     bridge(alloc, &all)
 }
 
-// A ring over all nodes in this order.
+/// A ring over all nodes in this order.
 fn ring(alloc: Global, nodes: &Nodes, order: &[u8]) -> Result<Grudge, AllocError>
-    requires { IsPermutation (places (length nodes.now)) order.now }
+    requires { IsPermutation (node_places (length nodes.now)) order.now }
     ensures links { IfOk result (λ grudge. grudge ≡ ring_links order.now (length nodes.now)) }
     ensures among { IfOk result (AreLinksAmong (length nodes.now)) }
 {
     majorities_ring(alloc, order)
 }
 
+/// A ring over all nodes as they are listed.
 fn listed_ring(alloc: Global, nodes: &Nodes) -> Result<Grudge, AllocError>
-    ensures links { IfOk result (λ grudge. grudge ≡ ring_links (places (length nodes.now)) (length nodes.now)) }
+    ensures links { IfOk result
+        (λ grudge. grudge ≡ ring_links (node_places (length nodes.now)) (length nodes.now)) }
     ensures among { IfOk result (AreLinksAmong (length nodes.now)) }
 {
     let order = all_places(alloc, nodes)?;
     ring(alloc, nodes, &order)
 }
 
+/// A ring over all nodes in the order that a seed gives.
 fn shuffled_ring(alloc: Global, nodes: &Nodes, seed: u64) -> Result<Grudge, AllocError>
     ensures links { IfOk result (λ grudge. grudge
         ≡ ring_links (seeded_order seed (length nodes.now)) (length nodes.now)) }
     ensures among { IfOk result (AreLinksAmong (length nodes.now)) }
-    ensures all { IfOk result (λ _. IsPermutation (places (length nodes.now)) (seeded_order seed (length nodes.now))) }
+    ensures all { IfOk result
+        (λ _. IsPermutation (node_places (length nodes.now)) (seeded_order seed (length nodes.now))) }
 {
     let order = ring_order(alloc, nodes, seed)?;
     ring(alloc, nodes, &order)
 }
 
-// The grudge of this name; none where its seed is below zero.
+/// The grudge of this name; none where its seed is below zero.
 fn grudge_of(alloc: Global, nodes: &Nodes, named: Named) -> Option<Result<Grudge, AllocError>>
     ensures all { IfSome result (λ made. IfOk made (λ _. IsOverAll (length nodes.now) named)) }
     ensures links { MatchOption result
         (named_links named (length nodes.now) ≡ None)
         (λ made. IsSome (named_links named (length nodes.now))
-        × IfOk made (λ grudge. (Some grudge ≡ named_links named (length nodes.now)) × AreLinksAmong (length nodes.now) grudge)) }
+        × IfOk made (λ grudge. (Some grudge ≡ named_links named (length nodes.now))
+        × AreLinksAmong (length nodes.now) grudge)) }
 {
     match named {
         Named::Halves => Some(halves(alloc, nodes)),
@@ -132,6 +146,7 @@ fn grudge_of(alloc: Global, nodes: &Nodes, named: Named) -> Option<Result<Grudge
     }
 }
 
+/// The node at a place that there is.
 fn node_at(nodes: &Nodes, place: u8) -> Node
     requires { place < length nodes.now }
     ensures { result ≡ place }
@@ -142,6 +157,7 @@ fn node_at(nodes: &Nodes, place: u8) -> Node
     }
 }
 
+/// The nodes at both ends of each link.
 fn ends_of(
     alloc: Global,
     nodes: &Nodes,
@@ -157,7 +173,7 @@ fn ends_of(
     Ok(ends)
 }
 
-// The cut of a grudge's links.
+/// The cut of a grudge's links.
 fn cut(alloc: Global, nodes: &Nodes, grudge: &Grudge) -> Result<Fault, StepTextError>
     requires { AreLinksAmong (length nodes.now) grudge.now }
     ensures cut { MatchResult result (λ fault. fault ≡ cut_of grudge.now) (λ e. e ≡ OutOfMemory) }
@@ -172,7 +188,7 @@ fn cut(alloc: Global, nodes: &Nodes, grudge: &Grudge) -> Result<Fault, StepTextE
 
 /// The cut of the grudge of this name.
 pub fn named_fault(alloc: Global, nodes: &Nodes, named: Named) -> Result<Fault, StepTextError>
-    ensures told { IsPartParsed result (parsed_named (length nodes.now) named) }
+    ensures parsed { IsParsedAs result (parsed_named (length nodes.now) named) }
     ensures all { IfOk result (λ _. IsOverAll (length nodes.now) named) }
     ensures fits { IfOk result (FitsCount (length nodes.now)) }
 {
@@ -183,7 +199,7 @@ pub fn named_fault(alloc: Global, nodes: &Nodes, named: Named) -> Result<Fault, 
 
 /// The cut that leaves the node of this name alone.
 pub fn split_fault(alloc: Global, nodes: &Nodes, loner: &str) -> Result<Fault, StepTextError>
-    ensures told { IsPartParsed result (parsed_split nodes.now loner.now) }
+    ensures parsed { IsParsedAs result (parsed_split nodes.now loner.now) }
     ensures fits { IfOk result (FitsCount (length nodes.now)) }
 {
     let loner = nodes.find(loner).ok_or(StepTextError::UnknownNode)?;

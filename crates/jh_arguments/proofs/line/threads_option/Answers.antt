@@ -3,7 +3,7 @@ use Rattle.std.specs.Prelude.{Some, pos}
 use Rattle.std.specs.Range.{range_inclusive_end}
 use Rattle.clap.specs.Words.{NarrowsTo}
 use Rattle.clap.specs.declared.builder.value_parser.ValueParser.TheVariants.{Unsigned}
-use Rattle.jh_arguments.specs.Line.{number}
+use Rattle.jh_arguments.specs.Line.{number_rule}
 use Rattle.jh_arguments.proofs.line.threads_option.Goals as goal
 
 pub returns-clause-rule : goal.returns-clause-rule
@@ -14,4 +14,4 @@ returns-clause-rule c =
     subst (λ most. NarrowsTo parser (Some (pos 1)) (Some most) c.range-parser.result) range.end
     (subst (λ least. NarrowsTo parser (Some least) (Some (range_inclusive_end c.new.result)) c.range-parser.result) range.start c.range-parser.ensures) in
     let ranged : c.range-parser.result ≡ Unsigned 1 16 = rw c.value_parser.ensures at ends in
-    c.number_option.ensures.rule ∙ ap (λ p. number (codes "threads") p (codes "1")) ranged
+    c.number_option.ensures.rule ∙ ap (λ p. number_rule (codes "threads") p (codes "1")) ranged

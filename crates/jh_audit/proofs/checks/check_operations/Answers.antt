@@ -1,7 +1,7 @@
 use Rattle.std.proofs.Common.{◌<◌, length, below_more, arith, rules}
 use Rattle.std.proofs.lemmas.List.{length-map}
 use Rattle.jh_ops.specs.Operation.{operations}
-use Rattle.jh_audit.specs.Audit.{IsSound}
+use Rattle.jh_audit.specs.Audit.{IsSoundAt}
 use Rattle.jh_audit.proofs.AuditLemmas.{first_fault}
 use Rattle.jh_audit.proofs.checks.check_operations.Goals as goal
 
@@ -15,6 +15,6 @@ returns-in-Err c =
 -- one more place is sound
 pub loop-place-preserved : goal.loop-place-preserved
 loop-place-preserved c = record {
-  sound = below_more (IsSound c.args.journal.now (operations c.args.history.now)) c.loop-place.place c.loop-place.invariant.sound c.in-Ok.ensures;
+  sound = below_more (IsSoundAt c.args.journal.now (operations c.args.history.now)) c.loop-place.place c.loop-place.invariant.sound c.in-Ok.ensures;
   behind = search rules;
 }

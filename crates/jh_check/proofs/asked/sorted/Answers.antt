@@ -4,10 +4,10 @@ use Rattle.std.proofs.lemmas.List.MinMax.{ranks_by}
 use Rattle.std.proofs.lemmas.List.Sorted.{answers_always}
 use Rattle.jh_edn.specs.Order.{in_order, is_below}
 use Rattle.jh_edn.specs.View.{view, views}
-use Rattle.jh_edn.proofs.Facts.{held_below, sorted_items}
-use Rattle.jh_edn.proofs.Facts.{edn_total}
+use Rattle.jh_edn.proofs.CitedLemmas.{held_below, sorted_items}
+use Rattle.jh_edn.proofs.CitedLemmas.{edn_total}
 use Rattle.jh_check.specs.Distinct.{Ascends}
-use Rattle.jh_check.proofs.OnceLemmas.{sorted_ascends}
+use Rattle.jh_check.proofs.DistinctLemmas.{sorted_ascends}
 use Rattle.jh_check.proofs.asked.sorted.Goals as goal
 
 in_normal_order : (c : goal.In_ok-sort_by) → views c.sort_by.new.self.items ≡ in_order is_below (views c.args.values.items)

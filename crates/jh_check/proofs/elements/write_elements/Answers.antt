@@ -1,7 +1,7 @@
 use Rattle.std.proofs.Common.{arith, List, ℕ}
 use Rattle.jh_edn.specs.Print.{print}
-use Rattle.jh_edn.proofs.Facts.{appends_then}
-use Rattle.jh_check.proofs.LineLemmas.{texts_push}
+use Rattle.jh_edn.proofs.CitedLemmas.{appends_then}
+use Rattle.jh_check.proofs.ElementLemmas.{texts_push}
 use Rattle.jh_check.proofs.elements.write_elements.Goals as goal
 
 pub loop-place-preserved : goal.loop-place-preserved

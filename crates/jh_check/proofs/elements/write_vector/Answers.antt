@@ -1,6 +1,6 @@
 use Rattle.std.proofs.lemmas.Result.{on_ok_weaker}
-use Rattle.jh_edn.proofs.Facts.{appends_then}
-use Rattle.jh_check.proofs.LineLemmas.{item_texts_map}
+use Rattle.jh_edn.proofs.CitedLemmas.{appends_then}
+use Rattle.jh_check.proofs.ElementLemmas.{item_texts_map}
 use Rattle.jh_check.proofs.elements.write_vector.Goals as goal
 
 pub returns-clause-bytes : goal.returns-clause-bytes

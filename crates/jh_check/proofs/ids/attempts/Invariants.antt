@@ -1,7 +1,6 @@
 use Rattle.std.proofs.Common.{◌≡◌, codes, take}
 use Rattle.std.specs.List.{count_by}
-use Rattle.jh_check.specs.Asked.{is_asked}
-use Rattle.jh_ops.specs.Operation.{operation}
+use Rattle.jh_ops.specs.Operation.{operation, is_asked}
 use Rattle.jh_ops.specs.declared.operation.Kind.TheVariants.{Invoke}
 use Rattle.jh_check.proofs.ids.attempts.Given as goal
 

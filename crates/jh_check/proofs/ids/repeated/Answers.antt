@@ -2,10 +2,10 @@ use Rattle.std.proofs.Common.{◌≡◌, ◌++◌, [], ◌∷◌, sym, ap, subst
 use Rattle.std.specs.List.{filter}
 use Rattle.std.proofs.lemmas.List.{drop_all}
 use Rattle.jh_edn.specs.View.{view, views}
-use Rattle.jh_check.specs.Distinct.{Ascends, count_of, once}
+use Rattle.jh_check.specs.Distinct.{Ascends, count_of, distinct_values}
 use Rattle.jh_check.specs.IdsView.{view_duplicates}
 use Rattle.jh_check.specs.IdsResults.{is_duplicate}
-use Rattle.jh_check.proofs.OnceLemmas.{runs, runs_are_counts}
+use Rattle.jh_check.proofs.DistinctLemmas.{runs, runs_are_counts}
 use Rattle.jh_check.proofs.ids.repeated.Goals as goal
 
 pub returns : goal.returns
@@ -21,4 +21,4 @@ returns c =
     ∙ ap (λ w. found ++ filter is_duplicate (runs id times (views w))) (sym end)
     ∙ sym c.loop-next.invariant.all
     ∙ ap (filter is_duplicate) (runs_are_counts (view first) (views others) (subst Ascends parts c.requires))
-    ∙ ap (λ w. filter is_duplicate (map (λ v. (v, count_of w v)) (once w))) (sym parts)
+    ∙ ap (λ w. filter is_duplicate (map (λ v. (v, count_of w v)) (distinct_values w))) (sym parts)

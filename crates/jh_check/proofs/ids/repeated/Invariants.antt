@@ -3,7 +3,7 @@ use Rattle.std.specs.List.{filter}
 use Rattle.jh_edn.specs.View.{view, views}
 use Rattle.jh_check.specs.IdsView.{view_duplicates}
 use Rattle.jh_check.specs.IdsResults.{is_duplicate}
-use Rattle.jh_check.proofs.OnceLemmas.{runs}
+use Rattle.jh_check.proofs.DistinctLemmas.{runs}
 use Rattle.jh_check.proofs.ids.repeated.Given as goal
 
 abbrev pub invariant-loop-next : goal.invariant-loop-next

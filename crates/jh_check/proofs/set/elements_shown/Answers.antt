@@ -1,7 +1,7 @@
 use Rattle.std.proofs.Common.{sym, ap, ◌∙◌}
 use Rattle.std.specs.Prelude.{Some}
 use Rattle.jh_edn.specs.View.{view}
-use Rattle.jh_edn.proofs.Facts.{list_of-items_of}
+use Rattle.jh_edn.proofs.CitedLemmas.{list_of-items_of}
 use Rattle.jh_check.specs.SetResults.{elements_shown}
 use Rattle.jh_check.proofs.set.elements_shown.Goals as goal
 

@@ -4,7 +4,7 @@ use Rattle.std.proofs.lemmas.List.{length-map}
 use Rattle.jh_ops.specs.Operation.{operation, operations}
 use Rattle.jh_check.specs.SetResults.{final_read}
 use Rattle.jh_check.proofs.ListLemmas.{mapped_more}
-use Rattle.jh_check.proofs.FinalLemmas.{final_pushed}
+use Rattle.jh_check.proofs.FinalReadLemmas.{final_pushed}
 use Rattle.jh_check.proofs.set.final_read.Goals as goal
 use Rattle.jh_check.proofs.set.final_read.Goals.{then-is_asked, else-is_asked}
 

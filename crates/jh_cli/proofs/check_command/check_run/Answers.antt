@@ -1,5 +1,5 @@
 use Rattle.std.proofs.lemmas.Result.{err_from_is_err_and}
-use Rattle.jh_cli.specs.CheckText.{status_of}
+use Rattle.jh_cli.specs.CheckText.{verdict_status}
 use Rattle.jh_cli.proofs.CheckLemmas.{judging_refused, reading_refused}
 use Rattle.jh_cli.proofs.WritingLemmas.{on_input}
 use Rattle.jh_cli.proofs.check_command.check_run.Goals as goal
@@ -16,27 +16,27 @@ pub returns-in_err-found-clause-refused : goal.returns-in_err-found-clause-refus
 returns-in_err-found-clause-refused g c =
     let p = err_from_is_err_and c.from_residual-in_err-found.result c.from_residual-in_err-found.ensures.1 in
     let refused = rw c.deref.ensures.value at c.in_err-found.ensures in
-    rw (p.1, p.2) (on_input _ _ (g.R.Read.remaining c.args.reader.now) (λ input told.
-    judging_refused c.args.question input (operations c.in_ok-history.history.items) c.in_err-found.field-0.0 told refused
-    ) c.in_ok-history.ensures.told)
+    rw (p.1, p.2) (on_input _ _ (g.R.Read.remaining c.args.reader.now) (λ input parsed.
+    judging_refused c.args.question input (operations c.in_ok-history.history.items) c.in_err-found.field-0.0 parsed refused
+    ) c.in_ok-history.ensures.parsed)
 
 pub returns-in-Ok-clause-written : goal.returns-in-Ok-clause-written
 returns-in-Ok-clause-written g c =
     let found = c.in_ok-found.found in
     let judged = rw c.deref.ensures.value at c.in_ok-found.ensures in
     let appended = rw c.deref-2.ensures.value at c.in-Ok.ensures.bytes in
-    on_input _ _ (g.R.Read.remaining c.args.reader.now) (λ input told. (
+    on_input _ _ (g.R.Read.remaining c.args.reader.now) (λ input parsed. (
       found.text.items,
-      (told.0, found.verdict, told.1, (operations c.in_ok-history.history.items, told.2, judged), c.status_of.ensures),
+      (parsed.0, found.verdict, parsed.1, (operations c.in_ok-history.history.items, parsed.2, judged), c.status_of.ensures),
       appended,
-    )) c.in_ok-history.ensures.told
+    )) c.in_ok-history.ensures.parsed
 
 pub returns-clause-refused : goal.returns-clause-refused
 returns-clause-refused g c =
     let found = c.in_ok-found.found in
     let judged = rw c.deref.ensures.value at c.in_ok-found.ensures in
-    on_input _ _ (g.R.Read.remaining c.args.reader.now) (λ input told. (
-      status_of found.verdict,
+    on_input _ _ (g.R.Read.remaining c.args.reader.now) (λ input parsed. (
+      verdict_status found.verdict,
       found.text.items,
-      (told.0, found.verdict, told.1, (operations c.in_ok-history.history.items, told.2, judged), λ i. status_of found.verdict),
-    )) c.in_ok-history.ensures.told
+      (parsed.0, found.verdict, parsed.1, (operations c.in_ok-history.history.items, parsed.2, judged), λ i. verdict_status found.verdict),
+    )) c.in_ok-history.ensures.parsed

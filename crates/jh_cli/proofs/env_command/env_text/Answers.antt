@@ -1,6 +1,6 @@
 use Rattle.std.proofs.Common.{◌-◌, drop, length, rules, take}
 use Rattle.jh_edn.specs.View.{view, views}
-use Rattle.jh_cli.specs.EnvText.{IsReport, Tells}
+use Rattle.jh_cli.specs.EnvText.{IsReport, IsEnvWithSteps}
 use Rattle.jh_nemesis.specs.State.{first_state}
 use Rattle.std.proofs.lemmas.Result.{err_from_is_err_and}
 use Rattle.jh_cli.proofs.RefusalLemmas.{first_refused, others_refused, parts_of}
@@ -28,7 +28,7 @@ pub returns : goal.returns
 returns c =
     let env = c.in_ok-env.env in
     let steps = c.in_ok-steps.steps.items in
-    let told : Tells (views c.args.values.now) env steps = record {
+    let is_parsed : IsEnvWithSteps (views c.args.values.now) env steps = record {
       first = view c.first-item.result;
       others = views (take (length c.args.values.now - 1) (drop 1 c.args.values.now));
       parts = parts_of c.args.values.now c.first-item.result c.in-len1-up.len_at_least c.first-item.is;
@@ -37,4 +37,4 @@ returns c =
       steps_parsed = rw c.nodes.ensures.names at c.in_ok-steps.ensures.parsed;
     } in
     let report : IsReport (first_state env) steps c.in_ok-report.field-0.items = rw c.new-nemesis.ensures.state at c.in_ok-report.ensures in
-    (env, steps, told, report)
+    (env, steps, is_parsed, report)

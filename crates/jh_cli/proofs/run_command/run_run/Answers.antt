@@ -1,8 +1,8 @@
 use Rattle.std.proofs.Common.{ℕ, List, subst}
-use Rattle.jh_cli.specs.CheckText.{status_of}
+use Rattle.jh_cli.specs.CheckText.{verdict_status}
 use Rattle.std.proofs.lemmas.Result.{err_from_is_err_and}
-use Rattle.jh_cli.specs.RunRefusals.{RefusesBytes}
-use Rattle.jh_cli.specs.RunText.{IsFound}
+use Rattle.jh_cli.specs.RunRefusals.{RefusesRunBytes}
+use Rattle.jh_cli.specs.RunText.{IsBytesText}
 use Rattle.jh_cli.proofs.RunLemmas.{bytes_refused}
 use Rattle.jh_cli.proofs.WritingLemmas.{on_input}
 use Rattle.jh_cli.proofs.run_command.run_run.Goals as goal
@@ -13,7 +13,7 @@ returns-in-Ok-clause-written g c =
     let appended = rw c.deref-2.ensures.value at c.in-Ok.ensures.bytes in
     on_input _ _ (g.R.Read.remaining c.args.reader.now) (λ input spelled. (
       found.text.items,
-      (found.verdict, subst (λ (bytes : List ℕ). IsFound bytes found.verdict found.text.items) spelled (rw c.deref.ensures.value at c.in_ok-found.ensures), c.status_of.ensures),
+      (found.verdict, subst (λ (bytes : List ℕ). IsBytesText bytes found.verdict found.text.items) spelled (rw c.deref.ensures.value at c.in_ok-found.ensures), c.status_of.ensures),
       appended,
     )) c.in_ok-input.ensures.bytes
 
@@ -21,9 +21,9 @@ pub returns-clause-refused : goal.returns-clause-refused
 returns-clause-refused g c =
     let found = c.in_ok-found.found in
     on_input _ _ (g.R.Read.remaining c.args.reader.now) (λ input spelled. (
-      status_of found.verdict,
+      verdict_status found.verdict,
       found.text.items,
-      (found.verdict, subst (λ (bytes : List ℕ). IsFound bytes found.verdict found.text.items) spelled (rw c.deref.ensures.value at c.in_ok-found.ensures), λ i. status_of found.verdict),
+      (found.verdict, subst (λ (bytes : List ℕ). IsBytesText bytes found.verdict found.text.items) spelled (rw c.deref.ensures.value at c.in_ok-found.ensures), λ i. verdict_status found.verdict),
     )) c.in_ok-input.ensures.bytes
 
 pub returns-in_err-found-clause-refused : goal.returns-in_err-found-clause-refused
@@ -31,5 +31,5 @@ returns-in_err-found-clause-refused g c =
     let p = err_from_is_err_and c.from_residual-in_err-found.result c.from_residual-in_err-found.ensures.1 in
     let error = c.in_err-found.field-0.0 in
     rw (p.1, p.2) (on_input _ _ (g.R.Read.remaining c.args.reader.now) (λ input spelled.
-    bytes_refused input error (subst (λ (bytes : List ℕ). RefusesBytes bytes error) spelled (rw c.deref.ensures.value at c.in_err-found.ensures)))
+    bytes_refused input error (subst (λ (bytes : List ℕ). RefusesRunBytes bytes error) spelled (rw c.deref.ensures.value at c.in_err-found.ensures)))
     c.in_ok-input.ensures.bytes)

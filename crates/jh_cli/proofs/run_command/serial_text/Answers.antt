@@ -5,6 +5,6 @@ use Rattle.jh_cli.proofs.run_command.serial_text.Goals as goal
 pub returns-in-Err : goal.returns-in-Err
 returns-in-Err c =
     let plan = c.args.plan.now in
-    let told = c.in_ok-world.ensures in
+    let parsed = c.in_ok-world.ensures in
     serial_refused plan c.in_ok-world.world.journal (operations c.in_ok-world.history.items) c.in-Err.error c.own_histories_are_judged.ensures.judged
-    told.fit told.judged.1 (rw c.deref.ensures.value at c.in-Err.ensures)
+    parsed.fit parsed.judged.1 (rw c.deref.ensures.value at c.in-Err.ensures)

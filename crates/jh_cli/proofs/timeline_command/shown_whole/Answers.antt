@@ -19,8 +19,8 @@ returns-clause-shows c =
       section = section;
       shown =
           subst (λ (heading : List ℕ). IsSectionOf heading history found choice section) c.new.ensures.items
-          (subst (λ (told : Option Found). IsSectionOf c.new.result.items history told choice section) c.as_ref-3.ensures.value c.in_ok-section.ensures.section);
+          (subst (λ (parsed : Option Found). IsSectionOf c.new.result.items history parsed choice section) c.as_ref-3.ensures.value c.in_ok-section.ensures.section);
       alone = c.in_ok-push.ensures.items ∙ ap (λ (sections : List Section). sections ++ section ∷ []) c.new-sections.ensures.items;
-      top = c.in_ok-line.ensures ∙ ap text.line_of c.as_ref.ensures.value;
-      ended = c.status_of-status.ensures ∙ ap text.status_of c.as_ref-2.ensures.value;
+      top = c.in_ok-line.ensures ∙ ap text.found_line c.as_ref.ensures.value;
+      ended = c.status_of-status.ensures ∙ ap text.found_status c.as_ref-2.ensures.value;
     }

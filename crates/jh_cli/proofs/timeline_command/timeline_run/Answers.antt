@@ -15,9 +15,9 @@ pub returns-in-Ok-clause-written : goal.returns-in-Ok-clause-written
 returns-in-Ok-clause-written g c =
     let parts = c.in_ok-parts.parts in
     let appended = rw c.deref.ensures.value at c.in-Ok.ensures.bytes in
-    on_input _ _ (g.R.Read.remaining c.args.reader.now) (λ input told. (
+    on_input _ _ (g.R.Read.remaining c.args.reader.now) (λ input is_parsed. (
       c.in_ok-page.page.text.items,
-      (operations parts.history.items, parts.below.items, told, c.in_ok-page.ensures),
+      (operations parts.history.items, parts.below.items, is_parsed, c.in_ok-page.ensures),
       appended,
     )) c.in_ok-parts.ensures.parsed
 
@@ -25,8 +25,8 @@ pub returns-clause-refused : goal.returns-clause-refused
 returns-clause-refused g c =
     let parts = c.in_ok-parts.parts in
     let page = c.in_ok-page.page in
-    on_input _ _ (g.R.Read.remaining c.args.reader.now) (λ input told. (
+    on_input _ _ (g.R.Read.remaining c.args.reader.now) (λ input is_parsed. (
       page.status,
       page.text.items,
-      (operations parts.history.items, parts.below.items, told, c.in_ok-page.ensures),
+      (operations parts.history.items, parts.below.items, is_parsed, c.in_ok-page.ensures),
     )) c.in_ok-parts.ensures.parsed

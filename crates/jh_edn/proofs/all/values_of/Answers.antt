@@ -2,10 +2,10 @@ use Rattle.std.proofs.Common.{◌≡◌, ◌++◌, ◌∷◌, [], inl, inr, refl
 use Rattle.std.proofs.lemmas.List.{map_push}
 use Rattle.std.proofs.lemmas.Result.{err_from_is_err_and}
 use Rattle.jh_edn.specs.Refused.{RefusesText, IsFirstError}
-use Rattle.jh_edn.specs.Reading.{Reached}
+use Rattle.jh_edn.specs.Reading.{IsReached}
 use Rattle.std.proofs.lemmas.Str.{IsCharBoundary-start}
 use Rattle.jh_edn.specs.View.{view, views}
-use Rattle.jh_edn.proofs.Joining.{Before, Behind, before_none, before_more, before_all, behind_none, behind_more, spells_nothing, refuses, first_behind}
+use Rattle.jh_edn.proofs.JoinLemmas.{Before, Behind, before_none, before_more, before_all, behind_none, behind_more, spells_nothing, refuses, first_behind}
 use Rattle.jh_edn.proofs.all.values_of.Goals as goal
 
 pub loop-values-init : goal.loop-values-init
@@ -13,7 +13,7 @@ loop-values-init c =
     let text = c.args.text.now in
     record {
       boundary = IsCharBoundary-start text c.utf8.text;
-      reached = Reached.start 0 refl;
+      reached = IsReached.start 0 refl;
       before = subst (λ vs. Before (views vs) text 0) (sym c.new-values.ensures.items) (before_none text);
       behind = subst (λ vs. Behind (views vs) text 0) (sym c.new-values.ensures.items) (behind_none text);
     }
@@ -27,7 +27,7 @@ loop-values-preserved c =
     let pushed : views c.push.new.self.items ≡ views l.values.items ++ view c.in-Some.value ∷ [] = rw c.in_ok-push.ensures.items (map_push view l.values.items c.in-Some.value) in
     record {
       boundary = place.1;
-      reached = Reached.behind l.at c.in-Some.end (view c.in-Some.value) l.invariant.reached reads;
+      reached = IsReached.behind l.at c.in-Some.end (view c.in-Some.value) l.invariant.reached reads;
       before = rw pushed (before_more (views l.values.items) text l.at (view c.in-Some.value) c.in-Some.end l.invariant.before reads);
       behind = rw pushed (behind_more (views l.values.items) text l.at (view c.in-Some.value) c.in-Some.end l.invariant.behind reads);
     }
@@ -43,7 +43,7 @@ returns-in_err-value-clause-refused c =
     let l = c.loop-values in
     let text = c.args.text.now in
     let e = c.in_err-value.field-0.0 in
-    let told : RefusesText text e = elim c.in_err-value.ensures.refused [
+    let parsed : RefusesText text e = elim c.in_err-value.ensures.refused [
       | inl memory ↦ rw memory tt
       | inr nothing ↦
           elim c.in_err-value.ensures.first_error [
@@ -51,15 +51,15 @@ returns-in_err-value-clause-refused c =
             | inr error ↦ refuses text l.at e (spells_nothing (views l.values.items) text l.at c.utf8.text l.invariant.behind nothing) error
           ]
     ] in
-    rw (p.1, p.2) told
+    rw (p.1, p.2) parsed
 
 pub returns-in_err-value-clause-first_error : goal.returns-in_err-value-clause-first_error
 returns-in_err-value-clause-first_error c =
     let p = err_from_is_err_and c.from_residual.result c.from_residual.ensures.1 in
     let text = c.args.text.now in
     let e = c.in_err-value.field-0.0 in
-    let told : IsFirstError text e = elim c.in_err-value.ensures.first_error [
+    let parsed : IsFirstError text e = elim c.in_err-value.ensures.first_error [
       | inl memory ↦ rw memory tt
       | inr error ↦ first_behind text c.loop-values.at e c.loop-values.invariant.reached error
     ] in
-    rw (p.1, p.2) told
+    rw (p.1, p.2) parsed

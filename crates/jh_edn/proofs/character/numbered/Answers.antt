@@ -1,5 +1,5 @@
 use Rattle.std.proofs.Common.{arith, refl}
-use Rattle.jh_edn.proofs.Characters.{numbered_is}
+use Rattle.jh_edn.proofs.CharacterLemmas.{numbered_is}
 use Rattle.jh_edn.proofs.character.numbered.Goals as goal
 
 pub returns : goal.returns

@@ -6,9 +6,9 @@ use Rattle.std.proofs.lemmas.Result.{err_from_is_err_and}
 use Rattle.std.proofs.lemmas.List.{map_push}
 use Rattle.jh_edn.specs.Bytes.{hash, quote, open_paren, open_bracket, open_brace, begins_discard}
 use Rattle.jh_edn.specs.View.{view, views}
-use Rattle.jh_edn.specs.Reading.{deeper}
-use Rattle.jh_edn.proofs.Loop.{ends, closes, stuck, fails, is_element, gap_ends, gap_fails, gap_goes, blank_shorter, discard_shorter, discard_boundary, elements_below, elements_too_deep, one_below, one_too_deep, stuck_one, all_fail, all_read, goes, item_shorter}
-use Rattle.jh_edn.proofs.Lists.{within}
+use Rattle.jh_edn.specs.Reading.{deeper_reads}
+use Rattle.jh_edn.proofs.ElementLoopLemmas.{ends, closes, stuck, fails, is_element, gap_ends, gap_fails, gap_goes, blank_shorter, discard_shorter, discard_boundary, elements_below, elements_too_deep, one_below, one_too_deep, stuck_one, all_fail, all_read, goes, item_shorter}
+use Rattle.jh_edn.proofs.TextFrontLemmas.{within}
 use Rattle.jh_edn.proofs.element.+read.Goals as goal
 
 pub element-range_from-requires : goal.element-range_from-requires
@@ -89,7 +89,7 @@ after_gap-returns-then-not-begins_discard-clause-gives t c =
     let here = c.after_blank-here.result.now in
     let l = c.discards in
     let kept : begins_discard here ≡ false = rw (← c.begins_discard.ensures) (grind arith) in
-    gap_ends (deeper c.args.depth) l.invariant.1 l.left.now here _ l.invariant.2 c.after_blank-here.ensures l.invariant.3 kept
+    gap_ends (deeper_reads c.args.depth) l.invariant.1 l.left.now here _ l.invariant.2 c.after_blank-here.ensures l.invariant.3 kept
 
 pub after_gap-one_inside-requires : goal.after_gap-one_inside-requires
 after_gap-one_inside-requires t c =
@@ -103,7 +103,7 @@ after_gap-returns-in_err-behind-clause-gives t c =
     let here = c.after_blank-here.result.now in
     let l = c.discards in
     let marked : begins_discard here ≡ true = rw (← c.begins_discard.ensures) (grind arith) in
-    rw (p.1, p.2) (gap_fails (deeper c.args.depth) l.invariant.1 l.left.now here _ l.invariant.2 c.after_blank-here.ensures l.invariant.3 c.in_err-behind.field-0.0 marked c.in_err-behind.ensures.gives)
+    rw (p.1, p.2) (gap_fails (deeper_reads c.args.depth) l.invariant.1 l.left.now here _ l.invariant.2 c.after_blank-here.ensures l.invariant.3 c.in_err-behind.field-0.0 marked c.in_err-behind.ensures.gives)
 
 pub after_gap-discards-smaller : goal.after_gap-discards-smaller
 after_gap-discards-smaller t c =
@@ -117,7 +117,7 @@ after_gap-discards-preserved t c =
     let n = l.invariant.1 in
     let marked : begins_discard here ≡ true = rw (← c.begins_discard.ensures) (grind arith) in
     let short : length c.in_ok-behind.behind.now < n - 1 = omega (arith, l.invariant.2, blank_shorter l.left.now here c.after_blank-here.ensures, discard_shorter c.args.depth here (view c.in_ok-behind.field-0-0) c.in_ok-behind.behind.now c.in_ok-behind.ensures.gives) in
-    (c.in_ok-behind.ensures.text, n - 1, short, gap_goes (deeper c.args.depth) n l.left.now here _ l.invariant.2 c.after_blank-here.ensures l.invariant.3 (view c.in_ok-behind.field-0-0) c.in_ok-behind.behind.now marked c.in_ok-behind.ensures.gives)
+    (c.in_ok-behind.ensures.text, n - 1, short, gap_goes (deeper_reads c.args.depth) n l.left.now here _ l.invariant.2 c.after_blank-here.ensures l.invariant.3 (view c.in_ok-behind.field-0-0) c.in_ok-behind.behind.now marked c.in_ok-behind.ensures.gives)
 
 pub element-elements_inside-requires : goal.element-elements_inside-requires
 element-elements_inside-requires t c =

@@ -1,11 +1,11 @@
 use Rattle.std.proofs.Common.{◌≡◌, ◌+◌, ◌%◌, ◌^◌, drop}
 use Rattle.jh_edn.specs.Edn.{items_of, members_of}
-use Rattle.jh_edn.specs.Fingerprint.{in_turn, sum_of_items, sum_of_members}
+use Rattle.jh_edn.specs.Fingerprint.{items_number, sum_of_items, sum_of_members}
 use Rattle.jh_edn.specs.View.{views, view_pairs}
 use Rattle.jh_edn.proofs.fingerprint.+fingerprint.Given as goal
 
 abbrev pub invariant-in_turn-loop-item : goal.invariant-in_turn-loop-item
-invariant-in_turn-loop-item l = in_turn l.number (items_of (views (drop l.item-index l.item-items))) ≡ in_turn 0 (items_of (views l.item-items))
+invariant-in_turn-loop-item l = items_number l.number (items_of (views (drop l.item-index l.item-items))) ≡ items_number 0 (items_of (views l.item-items))
 
 abbrev pub invariant-sum_of_items-loop-item : goal.invariant-sum_of_items-loop-item
 invariant-sum_of_items-loop-item l = (l.sum + sum_of_items (items_of (views (drop l.item-index l.item-items)))) % 2 ^ 64 ≡ sum_of_items (items_of (views l.item-items)) % 2 ^ 64

@@ -3,7 +3,7 @@ use Rattle.std.specs.Prelude.{option_map}
 use Rattle.jh_edn.specs.Edn.{items_of}
 use Rattle.jh_edn.specs.Normal.{ascends}
 use Rattle.jh_edn.specs.View.{view, views}
-use Rattle.jh_edn.proofs.Ascending.{ascends_from}
+use Rattle.jh_edn.proofs.AscendingLemmas.{ascends_from}
 use Rattle.jh_edn.proofs.is_normal.ascend.Given as goal
 
 abbrev pub invariant-loop-item : goal.invariant-loop-item

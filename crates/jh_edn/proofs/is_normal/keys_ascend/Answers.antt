@@ -1,7 +1,7 @@
 use Rattle.jh_edn.specs.Edn.{members_of}
 use Rattle.jh_edn.specs.Equality.{keys_of}
 use Rattle.jh_edn.specs.View.{view_pairs}
-use Rattle.jh_edn.proofs.Ascending.{ascends_whole}
+use Rattle.jh_edn.proofs.AscendingLemmas.{ascends_whole}
 use Rattle.jh_edn.proofs.is_normal.keys_ascend.Goals as goal
 
 pub loop-pair-init : goal.loop-pair-init

@@ -4,7 +4,7 @@ use Rattle.jh_edn.specs.Edn.{members_of}
 use Rattle.jh_edn.specs.Equality.{keys_of}
 use Rattle.jh_edn.specs.Normal.{ascends}
 use Rattle.jh_edn.specs.View.{view, view_pairs}
-use Rattle.jh_edn.proofs.Ascending.{ascends_from}
+use Rattle.jh_edn.proofs.AscendingLemmas.{ascends_from}
 use Rattle.jh_edn.proofs.is_normal.keys_ascend.Given as goal
 
 abbrev pub invariant-loop-pair : goal.invariant-loop-pair

@@ -1,6 +1,6 @@
 use Rattle.std.proofs.Common.{refl, sym, ◌∙◌}
-use Rattle.jh_edn.proofs.Fingerprints.{same_fingerprint}
-use Rattle.jh_edn.proofs.Keys.{same_key, equal_from_key}
+use Rattle.jh_edn.proofs.FingerprintLemmas.{same_fingerprint}
+use Rattle.jh_edn.proofs.KeyLemmas.{same_key, equal_from_key}
 use Rattle.jh_edn.proofs.laws.equality_laws.Goals as goal
 
 pub returns-clause-reflexive : goal.returns-clause-reflexive

@@ -1,7 +1,7 @@
 use Rattle.std.proofs.Common.{[], ◌∷◌}
 use Rattle.jh_edn.specs.Print.{print}
-use Rattle.jh_edn.proofs.Joining.{once}
-use Rattle.jh_edn.proofs.PrintedBack.{printed_spells}
+use Rattle.jh_edn.proofs.JoinLemmas.{once}
+use Rattle.jh_edn.proofs.PrintedBackLemmas.{printed_spells}
 use Rattle.jh_edn.proofs.SpelledLemmas.{all_printable}
 use Rattle.jh_edn.proofs.laws.print_laws.Goals as goal
 

@@ -1,4 +1,4 @@
-use Rattle.jh_edn.proofs.Joining.{once}
+use Rattle.jh_edn.proofs.JoinLemmas.{once}
 use Rattle.jh_edn.proofs.laws.spelled_once.Goals as goal
 
 pub returns : goal.returns

@@ -1,4 +1,4 @@
-use Rattle.jh_edn.proofs.Fingerprints.{once_exactly}
+use Rattle.jh_edn.proofs.FingerprintLemmas.{once_exactly}
 use Rattle.jh_edn.proofs.pairs.each_once.Goals as goal
 
 pub returns : goal.returns

@@ -2,7 +2,7 @@ use Rattle.std.proofs.Common.{◌≡◌, take, map, ap, ◌∙◌, arith}
 use Rattle.std.proofs.lemmas.List.{take_all}
 use Rattle.jh_edn.specs.Key.{keys_in, key_of}
 use Rattle.jh_edn.specs.View.{view, view_pairs}
-use Rattle.jh_edn.proofs.KeyLists.{keys_seen}
+use Rattle.jh_edn.proofs.KeyListLemmas.{keys_seen}
 use Rattle.jh_edn.proofs.pairs.map_keys.Goals as goal
 
 pub returns : goal.returns

@@ -4,8 +4,8 @@ use Rattle.jh_edn.specs.Gives.{Fails}
 use Rattle.jh_edn.specs.View.{view}
 use Rattle.jh_edn.specs.Spelling.{depth_limit}
 use Rattle.jh_edn.specs.Reading.{gap}
-use Rattle.jh_edn.proofs.Loop.{gap_shorter, read_shorter}
-use Rattle.jh_edn.proofs.Whole.{next_sound, whole_ending, gap_whole, place, made, refused_or, first_or, gap_error, read_error, refused_gap, not_at_end}
+use Rattle.jh_edn.proofs.ElementLoopLemmas.{gap_shorter, read_shorter}
+use Rattle.jh_edn.proofs.ReadAtLemmas.{next_sound, whole_ending, gap_whole, place, made, refused_or, first_or, gap_error, read_error, refused_gap, not_at_end}
 use Rattle.jh_edn.proofs.reader.read_one.Goals as goal
 
 pub returns-then-is_empty-clause-none : goal.returns-then-is_empty-clause-none
@@ -24,9 +24,9 @@ pub returns-in-Err-clause-refused : goal.returns-in-Err-clause-refused
 returns-in-Err-clause-refused c =
     let text = c.args.text.now in
     let s = drop c.args.at text in
-    let told = c.in-Err.error in
-    let e : Fails told (gap depth_limit s) = rw (← c.range_from.ensures.value) c.in-Err.ensures.gives in
-    rw c.error_in.ensures (refused_gap text c.args.at told e)
+    let parsed = c.in-Err.error in
+    let e : Fails parsed (gap depth_limit s) = rw (← c.range_from.ensures.value) c.in-Err.ensures.gives in
+    rw c.error_in.ensures (refused_gap text c.args.at parsed e)
 
 pub returns-in-Ok-element-clause-some : goal.returns-in-Ok-element-clause-some
 returns-in-Ok-element-clause-some c =
@@ -51,22 +51,22 @@ pub returns-in-Err-element-clause-refused : goal.returns-in-Err-element-clause-r
 returns-in-Err-element-clause-refused c =
     let text = c.args.text.now in
     let s = drop c.args.at text in
-    let told = c.in-Err-element.error in
+    let parsed = c.in-Err-element.error in
     let e : gap depth_limit s ≡ Ok c.in-Ok.here.now = rw (← c.range_from.ensures.value) c.in-Ok.ensures.gives in
-    rw c.error_in-in-Err-element.ensures (refused_or text c.args.at told (read_error s c.in-Ok.here.now told e c.in-Err-element.ensures.gives) (not_at_end s c.in-Ok.here.now e (grind arith)))
+    rw c.error_in-in-Err-element.ensures (refused_or text c.args.at parsed (read_error s c.in-Ok.here.now parsed e c.in-Err-element.ensures.gives) (not_at_end s c.in-Ok.here.now e (grind arith)))
 
 pub returns-in-Err-clause-first_error : goal.returns-in-Err-clause-first_error
 returns-in-Err-clause-first_error c =
     let text = c.args.text.now in
     let s = drop c.args.at text in
-    let told = c.in-Err.error in
-    let e : Fails told (gap depth_limit s) = rw (← c.range_from.ensures.value) c.in-Err.ensures.gives in
-    rw c.error_in.ensures (first_or text c.args.at told (gap_error s told e))
+    let parsed = c.in-Err.error in
+    let e : Fails parsed (gap depth_limit s) = rw (← c.range_from.ensures.value) c.in-Err.ensures.gives in
+    rw c.error_in.ensures (first_or text c.args.at parsed (gap_error s parsed e))
 
 pub returns-in-Err-element-clause-first_error : goal.returns-in-Err-element-clause-first_error
 returns-in-Err-element-clause-first_error c =
     let text = c.args.text.now in
     let s = drop c.args.at text in
-    let told = c.in-Err-element.error in
+    let parsed = c.in-Err-element.error in
     let e : gap depth_limit s ≡ Ok c.in-Ok.here.now = rw (← c.range_from.ensures.value) c.in-Ok.ensures.gives in
-    rw c.error_in-in-Err-element.ensures (first_or text c.args.at told (read_error s c.in-Ok.here.now told e c.in-Err-element.ensures.gives))
+    rw c.error_in-in-Err-element.ensures (first_or text c.args.at parsed (read_error s c.in-Ok.here.now parsed e c.in-Err-element.ensures.gives))

@@ -2,8 +2,8 @@ use Rattle.std.proofs.Common.{◌≡◌, ◌+◌, ◌<◌, Bool, true, false, eq
 use Rattle.std.specs.Prelude.{not}
 use Rattle.std.proofs.lemmas.Str.{IsCharBoundary-start}
 use Rattle.jh_edn.specs.Bytes.{line_feed, semicolon, is_space}
-use Rattle.jh_edn.specs.Reading.{after_blank}
-use Rattle.jh_edn.proofs.Lists.{after_some, comment_step, semicolon_step, white_step, feed_boundary, white_boundary}
+use Rattle.jh_edn.specs.Reading.{text_after_blank}
+use Rattle.jh_edn.proofs.TextFrontLemmas.{after_some, comment_step, semicolon_step, white_step, feed_boundary, white_boundary}
 use Rattle.jh_edn.proofs.scan.blank_len.Goals.{then-in_comment, else-in_comment+then-b-eq59, else-in_comment+else-b-eq59+else-not-is_space}
 use Rattle.jh_edn.proofs.scan.blank_len.Goals as goal
 
@@ -22,11 +22,11 @@ loop-b-preserved c =
     elim c.if-in_comment.branch [
       | then-in_comment w ↦
           let is : flag ≡ not (eqb (get_or s k 0) line_feed) = rw (← same) w.in_comment-is in
-          let so_far : after_some true (drop k s) ≡ after_blank s = rw w.if-in_comment.true at c.loop-b.invariant.rest in
+          let so_far : after_some true (drop k s) ≡ text_after_blank s = rw w.if-in_comment.true at c.loop-b.invariant.rest in
           record { same = next; boundary = λ e. feed_boundary s k utf8 lt (sym is ∙ e); rest = ap (λ (b : Bool). after_some b (drop (k + 1) s)) is ∙ comment_step s k lt ∙ so_far }
       | else-in_comment+then-b-eq59 w ↦
           let byte : get_or s k 0 ≡ semicolon = rw (← same) w.if-b-eq59.true in
-          let so_far : after_some false (drop k s) ≡ after_blank s = rw w.if-in_comment.false at c.loop-b.invariant.rest in
+          let so_far : after_some false (drop k s) ≡ text_after_blank s = rw w.if-in_comment.false at c.loop-b.invariant.rest in
           record {
             same = next;
             boundary = λ e. let bad : true ≡ false = sym w.in_comment-is ∙ e in absurd cc;
@@ -35,7 +35,7 @@ loop-b-preserved c =
       | else-in_comment+else-b-eq59+else-not-is_space w ↦
           let is : flag ≡ false = w.in_comment-is ∙ w.if-in_comment.false in
           let byte : is_space (get_or s k 0) ≡ true = rw (← same) (sym w.is_space.ensures ∙ w.if-not-is_space.false) in
-          let so_far : after_some false (drop k s) ≡ after_blank s = rw w.if-in_comment.false at c.loop-b.invariant.rest in
+          let so_far : after_some false (drop k s) ≡ text_after_blank s = rw w.if-in_comment.false at c.loop-b.invariant.rest in
           record {
             same = next;
             boundary = λ e. white_boundary s k utf8 lt byte;

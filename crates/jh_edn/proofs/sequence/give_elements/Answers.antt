@@ -2,8 +2,8 @@ use Rattle.std.proofs.Common.{◌-◌, ◌<◌, [], ◌∷◌, ◌++◌, length,
 use Rattle.std.proofs.lemmas.Result.{err_from_is_err_and}
 use Rattle.jh_edn.specs.View.{view}
 use Rattle.jh_edn.specs.Spelling.{depth_limit}
-use Rattle.jh_edn.proofs.Loop.{all_fail, all_read, goes, item_shorter}
-use Rattle.jh_edn.proofs.Taking.{takes_more}
+use Rattle.jh_edn.proofs.ElementLoopLemmas.{all_fail, all_read, goes, item_shorter}
+use Rattle.jh_edn.proofs.SequenceReadLemmas.{takes_more}
 use Rattle.jh_edn.proofs.sequence.give_elements.Goals as goal
 
 pub returns-in_err-next-clause-fails : goal.returns-in_err-next-clause-fails

@@ -1,8 +1,8 @@
 use Rattle.std.proofs.Common.{◌≡◌, ◌<◌, ◌≤◌, get_or, length, arith, None, Some}
 use Rattle.std.specs.Prelude.{◌≢◌}
 use Rattle.std.proofs.lemmas.Str.{IsCharBoundary-after_ascii}
-use Rattle.jh_edn.specs.Bytes.{escaped}
-use Rattle.jh_edn.proofs.Bodies.{stop_none, stop_some}
+use Rattle.jh_edn.specs.Bytes.{escaped_byte}
+use Rattle.jh_edn.proofs.StringBodyLemmas.{stop_none, stop_some}
 use Rattle.jh_edn.proofs.string.stop_at.Goals as goal
 
 pub range_from-requires : goal.range_from-requires
@@ -24,7 +24,7 @@ returns-in-Some-clause-gives c =
     let s = c.args.rest.now in
     let long : 2 ≤ length s = rw (← c.as_bytes-bytes.ensures.value) (grind arith) in
     let first : get_or s 0 0 ≢ 34 = rw (← c.as_bytes-bytes.ensures.value) (grind arith) in
-    let some : escaped (get_or s 1 0) ≡ Some c.in-Some.c = rw (← c.as_bytes-bytes.ensures.value) (grind arith) in
+    let some : escaped_byte (get_or s 1 0) ≡ Some c.in-Some.c = rw (← c.as_bytes-bytes.ensures.value) (grind arith) in
     rw c.range_from-in-Some.ensures.value (stop_some s c.in-Some.c c.requires long first some)
 
 pub returns-in-None-clause-gives : goal.returns-in-None-clause-gives
@@ -32,5 +32,5 @@ returns-in-None-clause-gives c =
     let s = c.args.rest.now in
     let long : 2 ≤ length s = rw (← c.as_bytes-bytes.ensures.value) (grind arith) in
     let first : get_or s 0 0 ≢ 34 = rw (← c.as_bytes-bytes.ensures.value) (grind arith) in
-    let none : escaped (get_or s 1 0) ≡ None = rw (← c.as_bytes-bytes.ensures.value) (grind arith) in
+    let none : escaped_byte (get_or s 1 0) ≡ None = rw (← c.as_bytes-bytes.ensures.value) (grind arith) in
     stop_none s c.requires long first none

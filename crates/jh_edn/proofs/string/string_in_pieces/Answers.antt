@@ -4,11 +4,11 @@ use Rattle.std.proofs.lemmas.Str.{encode_ascii}
 use Rattle.std.proofs.lemmas.List.{append-nil}
 use Rattle.jh_edn.specs.Bytes.{is_plain}
 use Rattle.jh_edn.specs.Reading.{body}
-use Rattle.jh_edn.proofs.Bodies.{leading-past, with_front-append, moved, ended}
+use Rattle.jh_edn.proofs.StringBodyLemmas.{leading_len-past, read_with_front-append, moved, ended}
 use Rattle.jh_edn.proofs.string.string_in_pieces.Goals as goal
 
 pub stop_at-requires : goal.stop_at-requires
-stop_at-requires c = rw (c.range_from-left.ensures.value, c.plain_len-len.ensures.len) (leading-past is_plain c.pieces.left.now)
+stop_at-requires c = rw (c.range_from-left.ensures.value, c.plain_len-len.ensures.len) (leading_len-past is_plain c.pieces.left.now)
 
 pub returns-in-End-clause-gives : goal.returns-in-End-clause-gives
 returns-in-End-clause-gives c =
@@ -30,4 +30,4 @@ pieces-preserved c =
     let so_far = moved (string_bytes c.pieces.text) (string_bytes c.push_str.new.self) c.pieces.left.now c.range_from-left.result.now c.plain_len-len.result (body c.args.rest.now) c.plain_len-len.ensures.len (rw c.in_ok-push_str.ensures.bytes (search rules)) c.range_from-left.ensures.value c.pieces.invariant.1 in
     let more : string_bytes c.push.new.self ≡ string_bytes c.push_str.new.self ++ c.in-Escape.c ∷ [] = rw (c.in_ok-push-in-Escape.ensures.bytes, encode_ascii c.in-Escape.c c.in-Escape.ensures.shorter.1) refl in
     let last = ended (string_bytes c.push_str.new.self) c.range_from-left.result.now (body c.args.rest.now) _ so_far c.in-Escape.ensures.gives in
-    (c.in-Escape.ensures.shorter.2, rw more (sym (last ∙ with_front-append (string_bytes c.push_str.new.self) (c.in-Escape.c ∷ []) (body c.in-Escape.after.now))))
+    (c.in-Escape.ensures.shorter.2, rw more (sym (last ∙ read_with_front-append (string_bytes c.push_str.new.self) (c.in-Escape.c ∷ []) (body c.in-Escape.after.now))))

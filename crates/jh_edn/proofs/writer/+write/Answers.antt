@@ -1,5 +1,5 @@
 use Rattle.std.proofs.Common.{arith}
-use Rattle.jh_edn.proofs.Printing.{appends_then, items_push, members_push}
+use Rattle.jh_edn.proofs.PrintLemmas.{appends_then, items_push, members_push}
 use Rattle.jh_edn.proofs.writer.+write.Goals as goal
 
 pub write_items-loop-place-preserved : goal.write_items-loop-place-preserved

@@ -3,8 +3,8 @@ use Rattle.std.specs.Io.KnownBytes.{Appends}
 use Rattle.std.specs.List.{flat_map}
 use Rattle.jh_edn.specs.Bytes.{quote}
 use Rattle.jh_edn.specs.Print.{escape}
-use Rattle.jh_edn.proofs.Escaping.{piece_more, piece_last}
-use Rattle.jh_edn.proofs.Printing.{appends_then}
+use Rattle.jh_edn.proofs.EscapeLemmas.{piece_more, piece_last}
+use Rattle.jh_edn.proofs.PrintLemmas.{appends_then}
 use Rattle.jh_edn.proofs.writer.write_text.Goals as goal
 
 pub returns-then-len-left-clause-bytes : goal.returns-then-len-left-clause-bytes

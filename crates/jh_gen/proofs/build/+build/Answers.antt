@@ -1,13 +1,13 @@
 use Rattle.std.proofs.Common.{◌≡◌, sym, ap, ◌∙◌, ◌+◌, subst, [], drop, arith, rules, ◌<◌, true}
 use Rattle.std.specs.Prelude.{filter}
-use Rattle.jh_gen.specs.Generator.{shared_of, size_shares}
+use Rattle.jh_gen.specs.Generator.{share_list, size_shares}
 use Rattle.jh_gen.specs.View.{generator_of, generators_of, shares_of}
-use Rattle.jh_gen.specs.NodeView.{members_of, lots_view}
+use Rattle.jh_gen.specs.NodeView.{row_view, lots_view}
 use Rattle.jh_gen.specs.Fits.{fits}
 use Rattle.jh_gen.specs.Scope.{is_beyond}
-use Rattle.jh_gen.specs.State.{left_of, split, lots_from}
+use Rattle.jh_gen.specs.State.{state_left, split, lots_from}
 use Rattle.jh_gen.specs.declared.generator.Gens.TheDeep.{deep-Gen}
-use Rattle.jh_gen.proofs.Building.{Rows, Copies, Parts, rows_init, rows_done, rows_push, copies_done, parts_init, parts_done, parts_fit, parts_push, reserve_done, no_more, share_falls}
+use Rattle.jh_gen.proofs.BuildLemmas.{Rows, Copies, Parts, rows_init, rows_done, rows_push, copies_done, parts_init, parts_done, parts_fit, parts_push, reserve_done, no_more, share_falls}
 use Rattle.jh_gen.proofs.build.+build.Goals as goal
 
 pub build_copies-returns : goal.build_copies-returns
@@ -17,17 +17,17 @@ build_copies-returns t c =
 pub build_row-loop-member-init : goal.build_row-loop-member-init
 build_row-loop-member-init t c =
     let whole : generators_of c.deref-member-items.result.now ≡ c.args.members.now = ap generators_of c.deref-member-items.ensures.value ∙ c.members.view_is in
-    subst (λ xs. Rows (members_of xs) (generators_of c.deref-member-items.result.now) c.args.members.now c.args.seats.now) (sym c.new-row.ensures.items)
+    subst (λ xs. Rows (row_view xs) (generators_of c.deref-member-items.result.now) c.args.members.now c.args.seats.now) (sym c.new-row.ensures.items)
     (subst (λ ys. Rows [] ys c.args.members.now c.args.seats.now) (sym whole) (rows_init c.args.members.now c.args.seats.now c.requires))
 
 pub build_row-loop-member-preserved : goal.build_row-loop-member-preserved
 build_row-loop-member-preserved t c =
-    subst (λ xs. Rows (members_of xs) (generators_of (drop (c.loop-member.member-index + 1) c.deref-member-items.result.now)) c.args.members.now c.args.seats.now) (sym c.in_ok-push.ensures.items)
+    subst (λ xs. Rows (row_view xs) (generators_of (drop (c.loop-member.member-index + 1) c.deref-member-items.result.now)) c.args.members.now c.args.seats.now) (sym c.in_ok-push.ensures.items)
     (rows_push c.loop-member.row.items _ c.loop-member.member-index c.member-item.result _ _ c.in_ok-node.node c.loop-member.invariant c.loop-member-test.true c.member-item.is c.in_ok-node.ensures)
 
 pub build_row-returns : goal.build_row-returns
 build_row-returns t c =
-    rows_done _ _ _ (subst (λ xs. Rows (members_of c.loop-member.row.items) (generators_of xs) c.args.members.now c.args.seats.now) (no_more _ _ c.loop-member-test.false) c.loop-member.invariant)
+    rows_done _ _ _ (subst (λ xs. Rows (row_view c.loop-member.row.items) (generators_of xs) c.args.members.now c.args.seats.now) (no_more _ _ c.loop-member-test.false) c.loop-member.invariant)
 
 pub build_shares-loop-count-init : goal.build_shares-loop-count-init
 build_shares-loop-count-init t c =
@@ -57,7 +57,7 @@ build_shares-overflow_add-first t c =
 pub build_shares-loop-count-preserved : goal.build_shares-loop-count-preserved
 build_shares-loop-count-preserved t c =
     subst (λ xs. Parts (lots_view xs) (c.loop-count.first + c.loop-count-item.result.0) (shares_of (drop (c.loop-count.count-index + 1) c.deref-count-items.result.now)) c.args.shares.now c.args.seats.now) (sym c.in_ok-push.ensures.items)
-    (parts_push c.loop-count.items.items c.loop-count.first _ c.loop-count.count-index c.loop-count-item.result _ _ c.in_ok-own.own c.in_ok-node.node c.loop-count.invariant c.loop-count-test.true c.loop-count-item.is c.in_ok-own.ensures (c.in_ok-node.ensures ∙ ap (left_of (generator_of c.loop-count-item.result.1) []) c.as_slice.ensures.value))
+    (parts_push c.loop-count.items.items c.loop-count.first _ c.loop-count.count-index c.loop-count-item.result _ _ c.in_ok-own.own c.in_ok-node.node c.loop-count.invariant c.loop-count-test.true c.loop-count-item.is c.in_ok-own.ensures (c.in_ok-node.ensures ∙ ap (state_left (generator_of c.loop-count-item.result.1) []) c.as_slice.ensures.value))
 
 pub build_shares-returns : goal.build_shares-returns
 build_shares-returns t c =
@@ -67,6 +67,6 @@ pub build-returns-in_ok-push-in-Reserve : goal.build-returns-in_ok-push-in-Reser
 build-returns-in_ok-push-in-Reserve t c =
     let seats = c.args.seats.now in
     let others = c.in_ok-others-in-Reserve.ensures ∙ ap (λ k. filter (is_beyond k) seats) c.sum.ensures in
-    subst (λ xs. split (lots_from (lots_view xs)) ≡ left_of (generator_of c.args.source.now) [] seats) (sym c.in_ok-push-in-Reserve.ensures.items)
-    (reserve_done c.in_ok-items-in-Reserve.items.items c.in_ok-build_lot-in-Reserve.field-0 (shared_of c.in-Reserve.shares) c.in-Reserve.inner seats c.in_ok-others-in-Reserve.others.items c.in_ok-items-in-Reserve.ensures others c.in_ok-build_lot-in-Reserve.ensures
-    ∙ ap (λ g. left_of (generator_of g) [] seats) (sym c.in-Reserve.is))
+    subst (λ xs. split (lots_from (lots_view xs)) ≡ state_left (generator_of c.args.source.now) [] seats) (sym c.in_ok-push-in-Reserve.ensures.items)
+    (reserve_done c.in_ok-items-in-Reserve.items.items c.in_ok-build_lot-in-Reserve.field-0 (share_list c.in-Reserve.shares) c.in-Reserve.inner seats c.in_ok-others-in-Reserve.others.items c.in_ok-items-in-Reserve.ensures others c.in_ok-build_lot-in-Reserve.ensures
+    ∙ ap (λ g. state_left (generator_of g) [] seats) (sym c.in-Reserve.is))

@@ -1,11 +1,11 @@
 use Rattle.std.proofs.Common.{drop}
 use Rattle.jh_gen.specs.View.{generators_of, shares_of}
-use Rattle.jh_gen.specs.NodeView.{members_of, lots_view}
+use Rattle.jh_gen.specs.NodeView.{row_view, lots_view}
 use Rattle.jh_gen.proofs.build.+build.Given as goal
-use Rattle.jh_gen.proofs.Building.{Rows, Copies, Parts}
+use Rattle.jh_gen.proofs.BuildLemmas.{Rows, Copies, Parts}
 
 abbrev pub invariant-build_row-loop-member : goal.invariant-build_row-loop-member
-invariant-build_row-loop-member l = Rows (members_of l.row.items) (generators_of (drop l.member-index l.member-items)) l.members l.seats
+invariant-build_row-loop-member l = Rows (row_view l.row.items) (generators_of (drop l.member-index l.member-items)) l.members l.seats
 
 abbrev pub invariant-build_copies-loop-seat : goal.invariant-build_copies-loop-seat
 invariant-build_copies-loop-seat l = Copies (lots_view l.items.items) l.inner (drop l.seat-index l.seats) l.seats

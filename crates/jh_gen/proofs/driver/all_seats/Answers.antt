@@ -1,6 +1,6 @@
 use Rattle.std.proofs.Common.{◌≡◌, sym, subst, ◌+◌, ◌-◌, ◌++◌}
 use Rattle.jh_gen.specs.DriverState.{seats_from}
-use Rattle.jh_gen.proofs.Driving.{seats_push}
+use Rattle.jh_gen.proofs.DriverLemmas.{seats_push}
 use Rattle.jh_gen.proofs.driver.all_seats.Goals as goal
 
 pub loop-seat-preserved : goal.loop-seat-preserved

@@ -1,5 +1,5 @@
 use Rattle.std.proofs.Common.{◌≡◌, drop}
-use Rattle.jh_gen.specs.Generator.{row_of, shared_of}
+use Rattle.jh_gen.specs.Generator.{row_of, share_list}
 use Rattle.jh_gen.specs.View.{generators_of, shares_of}
 use Rattle.jh_gen.specs.Suits.{all_have_only, is_call_for, shares_have_only}
 use Rattle.jh_gen.proofs.generator.+only.Given as goal
@@ -11,5 +11,5 @@ invariant-Gens::all_have_only-loop-member l =
 
 abbrev pub invariant-Shares::all_have_only-loop-member : goal.invariant-Shares::all_have_only-loop-member
 invariant-Shares::all_have_only-loop-member l =
-    shares_have_only (is_call_for l.workload) (shared_of (shares_of (drop l.member-index l.member-items)))
-    ≡ shares_have_only (is_call_for l.workload) (shared_of l.self)
+    shares_have_only (is_call_for l.workload) (share_list (shares_of (drop l.member-index l.member-items)))
+    ≡ shares_have_only (is_call_for l.workload) (share_list l.self)

@@ -1,11 +1,11 @@
 use Rattle.std.proofs.Common.{◌≡◌, refl, sym, ap, ◌∙◌, ◌<◌, ◌≤◌, ◌⊎◌, inl, inr, true, false, [], arith, rules, length}
 use Rattle.std.specs.Prelude.{Some, is_some}
 use Rattle.jh_gen.specs.declared.node.Lots.TheDeep.{deep-Node}
-use Rattle.jh_gen.specs.NodeView.{state_of}
-use Rattle.jh_gen.specs.Scope.{any_busy}
-use Rattle.jh_gen.specs.State.{in_turn, mixed, split, taken, call_of, rest_of, states_from, lots_from, row_size}
-use Rattle.jh_gen.specs.Turns.{question, open_at, is_done_at, turn_at, first_turn, lot_turn, lot_at}
-use Rattle.jh_gen.proofs.Turning.{Asks, none_call, some_call, member_falls, turn_waits, turn_none, turn_gives, set_kept, past_end, lots_past_end, none_any, in_turn_call, in_turn_rest, mixed_call, mixed_rest, split_call, split_rest, lot_call, lot_left, done_at, among_gives, among_passes, no_call, row_length, lots_length}
+use Rattle.jh_gen.specs.NodeView.{node_state}
+use Rattle.jh_gen.specs.Scope.{has_busy_thread}
+use Rattle.jh_gen.specs.State.{in_turn, mixed, split, taking, taken_call, rest_of, states_from, lots_from, row_size}
+use Rattle.jh_gen.specs.Turns.{question, first_open_place, is_done_at, turn_at, first_turn, lot_turn, lot_at}
+use Rattle.jh_gen.proofs.RowLemmas.{Asks, none_call, some_call, member_falls, turn_waits, turn_none, turn_gives, set_kept, past_end, lots_past_end, none_any, in_turn_call, in_turn_rest, mixed_call, mixed_rest, split_call, split_rest, lot_call, lot_left, done_at, among_gives, among_passes, no_call, row_length, lots_length}
 use Rattle.jh_gen.proofs.node.+take.Goals as goal
 use Rattle.jh_gen.proofs.node.+take.Goals.{Row::take_at-else-not-member-via-then-not-member+else-is_any_busy, Row::take_at-else-not-member-via-else-not-member, Row::take_among-then-not-is_done+else-is_some, Row::take_among-else-not-is_done}
 
@@ -22,7 +22,7 @@ Row::take_at-returns-then-is_any_busy-clause-call t c =
     let q = question c.args.asked in
     let a : Asks c.args.awaited.now c.self.inside.members.items c.args.self.now c.args.at m q =
     record { view_is = c.self.view_is; within_row = c.requires; is_at = c.index_mut-member.ensures.value } in
-    sym (ap call_of (turn_waits _ _ _ _ _ _ a (search rules) (search rules)))
+    sym (ap taken_call (turn_waits _ _ _ _ _ _ a (search rules) (search rules)))
 
 pub Row::take_at-returns-then-is_any_busy-clause-rest : goal.Row::take_at-returns-then-is_any_busy-clause-rest
 Row::take_at-returns-then-is_any_busy-clause-rest t c =
@@ -38,8 +38,8 @@ pub Row::take_at-returns-in_err-call-clause-call : goal.Row::take_at-returns-in_
 Row::take_at-returns-in_err-call-clause-call t c =
     let a : Asks c.args.awaited.now c.self.inside.members.items c.args.self.now c.args.at c.index_mut-member.result.now (question c.args.asked) =
     record { view_is = c.self.view_is; within_row = c.requires; is_at = c.index_mut-member.ensures.value } in
-    let none = none_call (taken (state_of c.index_mut-member.result.now.node) (question c.args.asked)) (sym c.in_err-call.was ∙ c.take.ensures.call) in
-    c.from_residual.ensures ∙ sym (ap call_of (turn_none _ _ _ _ _ _ a none))
+    let none = none_call (taking (node_state c.index_mut-member.result.now.node) (question c.args.asked)) (sym c.in_err-call.was ∙ c.take.ensures.call) in
+    c.from_residual.ensures ∙ sym (ap taken_call (turn_none _ _ _ _ _ _ a none))
 
 pub Row::take_at-returns-in_err-call-clause-rest : goal.Row::take_at-returns-in_err-call-clause-rest
 Row::take_at-returns-in_err-call-clause-rest t c =
@@ -47,8 +47,8 @@ Row::take_at-returns-in_err-call-clause-rest t c =
     let q = question c.args.asked in
     let a : Asks c.args.awaited.now c.self.inside.members.items c.args.self.now c.args.at m q =
     record { view_is = c.self.view_is; within_row = c.requires; is_at = c.index_mut-member.ensures.value } in
-    let none = none_call (taken (state_of m.node) q) (sym c.in_err-call.was ∙ c.take.ensures.call) in
-    set_kept c.self.inside.members.items c.args.at m c.take.new.self c.index_mut-member.ensures.value (c.take.ensures.rest ∙ ap (rest_of (state_of m.node)) none)
+    let none = none_call (taking (node_state m.node) q) (sym c.in_err-call.was ∙ c.take.ensures.call) in
+    set_kept c.self.inside.members.items c.args.at m c.take.new.self c.index_mut-member.ensures.value (c.take.ensures.rest ∙ ap (rest_of (node_state m.node)) none)
     ∙ c.self.view_is
     ∙ sym (ap (rest_of c.args.self.now) (turn_none _ _ _ _ _ _ a none))
 
@@ -58,12 +58,12 @@ Row::take_at-returns-clause-call t c =
     let q = question c.args.asked in
     let a : Asks c.args.awaited.now c.self.inside.members.items c.args.self.now c.args.at m q =
     record { view_is = c.self.view_is; within_row = c.requires; is_at = c.index_mut-member.ensures.value } in
-    let free : (m.started ≡ true) ⊎ (any_busy q.busy c.args.awaited.now ≡ false) = elim c.else-not-member.branch [
+    let free : (m.started ≡ true) ⊎ (has_busy_thread q.busy c.args.awaited.now ≡ false) = elim c.else-not-member.branch [
       | Row::take_at-else-not-member-via-then-not-member+else-is_any_busy w ↦ inr (search rules)
       | Row::take_at-else-not-member-via-else-not-member w ↦ inl (search rules)
     ] in
-    let gives = some_call (taken (state_of m.node) q) c.in_ok-call.call (state_of m.node) (sym c.in_ok-call.was ∙ c.take.ensures.call) ∙ ap (λ s. Some (c.in_ok-call.call, s)) (sym c.take.ensures.rest) in
-    sym (ap call_of (turn_gives _ _ _ _ _ _ a free c.in_ok-call.call c.take.new.self gives))
+    let gives = some_call (taking (node_state m.node) q) c.in_ok-call.call (node_state m.node) (sym c.in_ok-call.was ∙ c.take.ensures.call) ∙ ap (λ s. Some (c.in_ok-call.call, s)) (sym c.take.ensures.rest) in
+    sym (ap taken_call (turn_gives _ _ _ _ _ _ a free c.in_ok-call.call c.take.new.self gives))
 
 pub Row::take_at-returns-clause-rest : goal.Row::take_at-returns-clause-rest
 Row::take_at-returns-clause-rest t c =
@@ -71,30 +71,30 @@ Row::take_at-returns-clause-rest t c =
     let q = question c.args.asked in
     let a : Asks c.args.awaited.now c.self.inside.members.items c.args.self.now c.args.at m q =
     record { view_is = c.self.view_is; within_row = c.requires; is_at = c.index_mut-member.ensures.value } in
-    let free : (m.started ≡ true) ⊎ (any_busy q.busy c.args.awaited.now ≡ false) = elim c.else-not-member.branch [
+    let free : (m.started ≡ true) ⊎ (has_busy_thread q.busy c.args.awaited.now ≡ false) = elim c.else-not-member.branch [
       | Row::take_at-else-not-member-via-then-not-member+else-is_any_busy w ↦ inr (search rules)
       | Row::take_at-else-not-member-via-else-not-member w ↦ inl (search rules)
     ] in
-    let gives = some_call (taken (state_of m.node) q) c.in_ok-call.call (state_of m.node) (sym c.in_ok-call.was ∙ c.take.ensures.call) ∙ ap (λ s. Some (c.in_ok-call.call, s)) (sym c.take.ensures.rest) in
+    let gives = some_call (taking (node_state m.node) q) c.in_ok-call.call (node_state m.node) (sym c.in_ok-call.was ∙ c.take.ensures.call) ∙ ap (λ s. Some (c.in_ok-call.call, s)) (sym c.take.ensures.rest) in
     sym (ap (rest_of c.args.self.now) (turn_gives _ _ _ _ _ _ a free c.in_ok-call.call c.take.new.self gives))
 
 pub Row::take_first-returns-else-at-len-clause-call : goal.Row::take_first-returns-else-at-len-clause-call
 Row::take_first-returns-else-at-len-clause-call t c =
     let same = row_length c.self.inside.members.items c.args.self.now c.self.view_is in
-    let over : length c.args.self.now ≤ open_at c.args.self.now = omega (arith, c.open_at-at.ensures, c.len.ensures, same) in
-    let none = past_end c.args.awaited.now c.args.self.now (open_at c.args.self.now) (question c.args.asked) over in
-    sym (ap call_of none)
+    let over : length c.args.self.now ≤ first_open_place c.args.self.now = omega (arith, c.open_at-at.ensures, c.len.ensures, same) in
+    let none = past_end c.args.awaited.now c.args.self.now (first_open_place c.args.self.now) (question c.args.asked) over in
+    sym (ap taken_call none)
 
 pub Row::take_first-returns-else-at-len-clause-rest : goal.Row::take_first-returns-else-at-len-clause-rest
 Row::take_first-returns-else-at-len-clause-rest t c =
     let same = row_length c.self.inside.members.items c.args.self.now c.self.view_is in
-    let over : length c.args.self.now ≤ open_at c.args.self.now = omega (arith, c.open_at-at.ensures, c.len.ensures, same) in
-    let none = past_end c.args.awaited.now c.args.self.now (open_at c.args.self.now) (question c.args.asked) over in
+    let over : length c.args.self.now ≤ first_open_place c.args.self.now = omega (arith, c.open_at-at.ensures, c.len.ensures, same) in
+    let none = past_end c.args.awaited.now c.args.self.now (first_open_place c.args.self.now) (question c.args.asked) over in
     sym (ap (rest_of c.args.self.now) none)
 
 pub Row::take_any-returns-then-open-eq0-clause-call : goal.Row::take_any-returns-then-open-eq0-clause-call
 Row::take_any-returns-then-open-eq0-clause-call t c =
-    sym (ap call_of (none_any c.args.self.now (question c.args.asked) (sym c.open_len-open.ensures ∙ c.if-open-eq0.true)))
+    sym (ap taken_call (none_any c.args.self.now (question c.args.asked) (sym c.open_len-open.ensures ∙ c.if-open-eq0.true)))
 
 pub Row::take_any-returns-then-open-eq0-clause-rest : goal.Row::take_any-returns-then-open-eq0-clause-rest
 Row::take_any-returns-then-open-eq0-clause-rest t c =
@@ -110,10 +110,10 @@ Row::take_among-returns-then-is_some-clause-call t c =
     let in_row : k < length c.loop-at.self = omega arith in
     let at = done_at c.self.inside.members.items c.loop-at.self k c.index.result.now c.self.view_is in_row (search rules) in
     let unspent : is_done_at ms k ≡ false = sym (ap (λ r. is_done_at r k) same) ∙ at ∙ sym c.if-not-is_done.ensures in
-    let e : c.take_at-call.result ≡ call_of (turn_at [] ms k q) = c.take_at-call.ensures.call ∙ ap (λ r. call_of (turn_at [] r k q)) same in
-    let some : is_some (call_of (turn_at [] ms k q)) ≡ true = sym (ap is_some e) ∙ sym c.is_some.ensures ∙ c.if-is_some.true in
+    let e : c.take_at-call.result ≡ taken_call (turn_at [] ms k q) = c.take_at-call.ensures.call ∙ ap (λ r. taken_call (turn_at [] r k q)) same in
+    let some : is_some (taken_call (turn_at [] ms k q)) ≡ true = sym (ap is_some e) ∙ sym c.is_some.ensures ∙ c.if-is_some.true in
     let gives = among_gives ms q k c.args.to _ (omega arith) c.loop-at.invariant.turn unspent some in
-    e ∙ ap call_of gives
+    e ∙ ap taken_call gives
 
 pub Row::take_among-returns-then-is_some-clause-rest : goal.Row::take_among-returns-then-is_some-clause-rest
 Row::take_among-returns-then-is_some-clause-rest t c =
@@ -125,8 +125,8 @@ Row::take_among-returns-then-is_some-clause-rest t c =
     let in_row : k < length c.loop-at.self = omega arith in
     let at = done_at c.self.inside.members.items c.loop-at.self k c.index.result.now c.self.view_is in_row (search rules) in
     let unspent : is_done_at ms k ≡ false = sym (ap (λ r. is_done_at r k) same) ∙ at ∙ sym c.if-not-is_done.ensures in
-    let e : c.take_at-call.result ≡ call_of (turn_at [] ms k q) = c.take_at-call.ensures.call ∙ ap (λ r. call_of (turn_at [] r k q)) same in
-    let some : is_some (call_of (turn_at [] ms k q)) ≡ true = sym (ap is_some e) ∙ sym c.is_some.ensures ∙ c.if-is_some.true in
+    let e : c.take_at-call.result ≡ taken_call (turn_at [] ms k q) = c.take_at-call.ensures.call ∙ ap (λ r. taken_call (turn_at [] r k q)) same in
+    let some : is_some (taken_call (turn_at [] ms k q)) ≡ true = sym (ap is_some e) ∙ sym c.is_some.ensures ∙ c.if-is_some.true in
     let gives = among_gives ms q k c.args.to _ (omega arith) c.loop-at.invariant.turn unspent some in
     c.take_at-call.ensures.rest ∙ ap (λ r. rest_of r (turn_at [] r k q)) same ∙ ap (rest_of ms) gives
 
@@ -142,7 +142,7 @@ Row::take_among-loop-at-preserved t c =
     let lt : k < c.args.to = omega arith in
     elim c.if-not-is_done.branch [
       | Row::take_among-then-not-is_done+else-is_some w ↦
-          let e : w.take_at-call.result ≡ call_of (turn_at [] ms k q) = w.take_at-call.ensures.call ∙ ap (λ r. call_of (turn_at [] r k q)) same in
+          let e : w.take_at-call.result ≡ taken_call (turn_at [] ms k q) = w.take_at-call.ensures.call ∙ ap (λ r. taken_call (turn_at [] r k q)) same in
           let none = no_call (turn_at [] ms k q) (sym (ap is_some e) ∙ sym w.is_some.ensures ∙ w.if-is_some.false) in
           record {
             same = w.self-is ∙ w.take_at-call.ensures.rest ∙ ap (λ r. rest_of r (turn_at [] r k q)) same ∙ ap (rest_of ms) none;
@@ -164,7 +164,7 @@ Lots::take-returns-then-at-len-clause-call t c =
     let in_lots : k < length ls = omega (arith, c.len.ensures, same) in
     c.take.ensures.call
     ∙ sym (lot_call c.self.inside.items.items ls k c.index_mut.result.now q c.self.view_is in_lots c.index_mut.ensures.value)
-    ∙ ap (λ j. call_of (lot_turn ls j q)) c.lot_at-at.ensures
+    ∙ ap (λ j. taken_call (lot_turn ls j q)) c.lot_at-at.ensures
 
 pub Lots::take-returns-then-at-len-clause-rest : goal.Lots::take-returns-then-at-len-clause-rest
 Lots::take-returns-then-at-len-clause-rest t c =
@@ -180,7 +180,7 @@ pub Lots::take-returns-else-at-len-clause-call : goal.Lots::take-returns-else-at
 Lots::take-returns-else-at-len-clause-call t c =
     let same = lots_length c.self.inside.items.items c.args.self.now c.self.view_is in
     let over : length c.args.self.now ≤ lot_at c.args.self.now c.args.asked.seat = omega (arith, c.lot_at-at.ensures, c.len.ensures, same) in
-    sym (ap call_of (lots_past_end c.args.self.now _ (question c.args.asked) over))
+    sym (ap taken_call (lots_past_end c.args.self.now _ (question c.args.asked) over))
 
 pub Lots::take-returns-else-at-len-clause-rest : goal.Lots::take-returns-else-at-len-clause-rest
 Lots::take-returns-else-at-len-clause-rest t c =
@@ -191,8 +191,8 @@ Lots::take-returns-else-at-len-clause-rest t c =
 pub Node::take-returns-in-InTurn-clause-call : goal.Node::take-returns-in-InTurn-clause-call
 Node::take-returns-in-InTurn-clause-call t c =
     let q = question c.args.asked in
-    let call : c.take_first.result ≡ call_of (first_turn c.in-InTurn.awaited.items c.in-InTurn.row q) = search rules in
-    call ∙ in_turn_call c.in-InTurn.awaited.items c.in-InTurn.row q ∙ ap (λ n. call_of (taken (state_of n) q)) (sym c.in-InTurn.is)
+    let call : c.take_first.result ≡ taken_call (first_turn c.in-InTurn.awaited.items c.in-InTurn.row q) = search rules in
+    call ∙ in_turn_call c.in-InTurn.awaited.items c.in-InTurn.row q ∙ ap (λ n. taken_call (taking (node_state n) q)) (sym c.in-InTurn.is)
 
 pub Node::take-returns-in-InTurn-clause-rest : goal.Node::take-returns-in-InTurn-clause-rest
 Node::take-returns-in-InTurn-clause-rest t c =
@@ -200,26 +200,26 @@ Node::take-returns-in-InTurn-clause-rest t c =
     let row : c.take_first.new.self ≡ rest_of c.in-InTurn.row (first_turn c.in-InTurn.awaited.items c.in-InTurn.row q) = search rules in
     ap (λ ms. in_turn c.in-InTurn.awaited.items (states_from ms)) row
     ∙ in_turn_rest c.in-InTurn.awaited.items c.in-InTurn.row q
-    ∙ ap (λ n. rest_of (state_of n) (taken (state_of n) q)) (sym c.in-InTurn.is)
+    ∙ ap (λ n. rest_of (node_state n) (taking (node_state n) q)) (sym c.in-InTurn.is)
 
 pub Node::take-returns-in-Mixed-clause-call : goal.Node::take-returns-in-Mixed-clause-call
 Node::take-returns-in-Mixed-clause-call t c =
     let q = question c.args.asked in
-    c.take_any.ensures.call ∙ mixed_call c.in-Mixed.row q ∙ ap (λ n. call_of (taken (state_of n) q)) (sym c.in-Mixed.is)
+    c.take_any.ensures.call ∙ mixed_call c.in-Mixed.row q ∙ ap (λ n. taken_call (taking (node_state n) q)) (sym c.in-Mixed.is)
 
 pub Node::take-returns-in-Mixed-clause-rest : goal.Node::take-returns-in-Mixed-clause-rest
 Node::take-returns-in-Mixed-clause-rest t c =
     let q = question c.args.asked in
     ap (λ ms. mixed (states_from ms)) c.take_any.ensures.rest ∙ mixed_rest c.in-Mixed.row q
-    ∙ ap (λ n. rest_of (state_of n) (taken (state_of n) q)) (sym c.in-Mixed.is)
+    ∙ ap (λ n. rest_of (node_state n) (taking (node_state n) q)) (sym c.in-Mixed.is)
 
 pub Node::take-returns-in-Split-clause-call : goal.Node::take-returns-in-Split-clause-call
 Node::take-returns-in-Split-clause-call t c =
     let q = question c.args.asked in
-    c.take-in-Split.ensures.call ∙ split_call c.in-Split.lots q ∙ ap (λ n. call_of (taken (state_of n) q)) (sym c.in-Split.is)
+    c.take-in-Split.ensures.call ∙ split_call c.in-Split.lots q ∙ ap (λ n. taken_call (taking (node_state n) q)) (sym c.in-Split.is)
 
 pub Node::take-returns-in-Split-clause-rest : goal.Node::take-returns-in-Split-clause-rest
 Node::take-returns-in-Split-clause-rest t c =
     let q = question c.args.asked in
     ap (λ ls. split (lots_from ls)) c.take-in-Split.ensures.rest ∙ split_rest c.in-Split.lots q
-    ∙ ap (λ n. rest_of (state_of n) (taken (state_of n) q)) (sym c.in-Split.is)
+    ∙ ap (λ n. rest_of (node_state n) (taking (node_state n) q)) (sym c.in-Split.is)

@@ -2,7 +2,7 @@ use Rattle.std.proofs.Common.{◌≡◌, ◌≤◌, drop, length}
 use Rattle.std.specs.Prelude.{is_some}
 use Rattle.jh_edn.specs.Edn.{size_of, size_list}
 use Rattle.jh_edn.specs.View.{view, views}
-use Rattle.jh_gen.specs.ShapeInside.{parsed_members, parsed_reserved}
+use Rattle.jh_gen.specs.ShapeInside.{parsed_members, parsed_reserve}
 use Rattle.jh_gen.proofs.text.+judge.Given as goal
 
 abbrev pub decreases-is_generator : goal.decreases-is_generator
@@ -19,7 +19,7 @@ invariant-are_generators-loop-part l = is_some (parsed_members (views l.parts)) 
 
 abbrev pub invariant-are_reserved-loop-rest : goal.invariant-are_reserved-loop-rest
 invariant-are_reserved-loop-rest l = record {
-  same : is_some (parsed_reserved (views l.parts)) ≡ is_some (parsed_reserved (views l.rest));
+  same : is_some (parsed_reserve (views l.parts)) ≡ is_some (parsed_reserve (views l.rest));
   smaller : size_list (views l.rest) ≤ size_list (views l.parts);
 }
 

@@ -1,7 +1,7 @@
 use Rattle.std.proofs.Common.{◌≡◌, ℕ, List, [], get_or, sym, ap, subst, ◌∙◌, arith}
 use Rattle.std.specs.List.{Contains}
 use Rattle.std.proofs.lemmas.List.{get_or-map, length-map}
-use Rattle.jh_grudge.specs.Lists.{end_to_end, lists_of}
+use Rattle.jh_grudge.specs.Lists.{nodes_end_to_end, lists_of}
 use Rattle.jh_grudge.specs.Grudges.{IsIn, CompleteDrops}
 use Rattle.jh_grudge.specs.Ranks.{DropsIn}
 use Rattle.jh_grudge.specs.declared.ranks.Rule.TheVariants.{Apart}
@@ -34,5 +34,5 @@ returns c =
     let told = given c.grudge_by.result (DropsIn Apart ranks) (CompleteDrops lists) (complete_there lists ranks ranking) (complete_back lists ranks ranking) c.grudge_by.ensures.links in record {
       links = told;
       ascending = c.grudge_by.ensures.ascending;
-      among = given_among c.grudge_by.result (CompleteDrops lists) (end_to_end components) (complete_joins components c.requires) told;
+      among = given_among c.grudge_by.result (CompleteDrops lists) (nodes_end_to_end components) (complete_joins components c.requires) told;
     }

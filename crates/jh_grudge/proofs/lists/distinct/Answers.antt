@@ -1,5 +1,5 @@
 use Rattle.std.proofs.Common.{[]}
-use Rattle.jh_grudge.proofs.MarkLemmas.{marks_none, told}
+use Rattle.jh_grudge.proofs.MetNodeLemmas.{marks_none, told}
 use Rattle.jh_grudge.proofs.lists.distinct.Goals as goal
 
 pub returns : goal.returns

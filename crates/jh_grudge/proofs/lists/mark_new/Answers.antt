@@ -1,7 +1,7 @@
 use Rattle.std.proofs.Common.{ℕ, List, ◌++◌, sym, subst, rules}
 use Rattle.std.proofs.lemmas.List.{take_all}
-use Rattle.jh_grudge.specs.Marks.{Marks}
-use Rattle.jh_grudge.proofs.MarkLemmas.{marks_step, marks_stop}
+use Rattle.jh_grudge.specs.Marks.{AreMetNodes}
+use Rattle.jh_grudge.proofs.MetNodeLemmas.{marks_step, marks_stop}
 use Rattle.jh_grudge.proofs.lists.mark_new.Goals as goal
 
 pub returns-then-seen-place : goal.returns-then-seen-place
@@ -14,4 +14,4 @@ loop-node-preserved c before start =
 
 pub returns : goal.returns
 returns c before start =
-    subst (λ (xs : List ℕ). Marks c.loop-node.seen (before ++ xs)) (take_all c.loop-node.node-index c.args.nodes.now c.loop-node-test.false) (c.loop-node.invariant before start)
+    subst (λ (xs : List ℕ). AreMetNodes c.loop-node.seen (before ++ xs)) (take_all c.loop-node.node-index c.args.nodes.now c.loop-node-test.false) (c.loop-node.invariant before start)

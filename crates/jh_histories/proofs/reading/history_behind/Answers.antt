@@ -1,7 +1,7 @@
 use Rattle.std.proofs.Common.{◌++◌, ◌∷◌, []}
 use Rattle.std.proofs.lemmas.Result.{err_from_is_err_and}
 use Rattle.jh_edn.specs.View.{view}
-use Rattle.jh_histories.proofs.BegunLemmas.{each_begun, one_further, text_refused, history_read, history_refused, still_several}
+use Rattle.jh_histories.proofs.FirstValuesLemmas.{each_begun, one_further, text_refused, history_read, history_refused, still_several}
 use Rattle.jh_histories.proofs.ParsingLemmas.{several_elements}
 use Rattle.jh_histories.proofs.reading.history_behind.Goals as goal
 
@@ -44,13 +44,13 @@ returns-in_err-history-clause-refused c =
     let gap = rw c.in_default.is at c.in_ok-value.ensures.none in
     let refusal = c.in_err-history.field-0.0 in
     let are = several_elements so_far.0 so_far.1 in
-    rw (p.1, p.2) (history_refused text so_far.0 so_far.0 c.values.at c.values.parsing refusal are so_far.2 gap c.in_err-history.ensures.told so_far.3)
+    rw (p.1, p.2) (history_refused text so_far.0 so_far.0 c.values.at c.values.parsing refusal are so_far.2 gap c.in_err-history.ensures.parsed so_far.3)
 
-pub returns-clause-told : goal.returns-clause-told
-returns-clause-told c =
+pub returns-clause-parsed : goal.returns-clause-parsed
+returns-clause-parsed c =
     let text = c.args.text.now in
     let so_far = c.values.invariant.begun in
     let gap = rw c.in_default.is at c.in_ok-value.ensures.none in
-    let told = c.in_ok-history.ensures.told in
+    let parsed = c.in_ok-history.ensures.parsed in
     let are = several_elements so_far.0 so_far.1 in
-    rw told.1 (history_read text so_far.0 so_far.0 c.values.at c.values.parsing are so_far.2 gap told.0 so_far.3)
+    rw parsed.1 (history_read text so_far.0 so_far.0 c.values.at c.values.parsing are so_far.2 gap parsed.0 so_far.3)

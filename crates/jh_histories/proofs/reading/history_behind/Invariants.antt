@@ -2,7 +2,7 @@ use Rattle.std.proofs.Common.{List, ◌-◌, length}
 use Rattle.std.specs.Str.{IsCharBoundary}
 use Rattle.jh_edn.specs.Edn.{Edn}
 use Rattle.jh_histories.specs.ParsingInside.{AreSeveral, HasParsed}
-use Rattle.jh_histories.proofs.BegunLemmas.{Begins}
+use Rattle.jh_histories.proofs.FirstValuesLemmas.{Begins}
 use Rattle.jh_histories.proofs.reading.history_behind.Given as goal
 
 abbrev pub invariant-values : goal.invariant-values

@@ -3,8 +3,8 @@ use Rattle.std.proofs.lemmas.Result.{err_from_is_err_and}
 use Rattle.std.proofs.lemmas.Str.{IsCharBoundary-start}
 use Rattle.jh_edn.specs.Edn.{Edn}
 use Rattle.jh_edn.specs.View.{view}
-use Rattle.jh_histories.proofs.BegunLemmas.{at_start, one_further, text_refused, history_read, history_refused}
-use Rattle.jh_histories.proofs.ParsingLemmas.{sequence_told}
+use Rattle.jh_histories.proofs.FirstValuesLemmas.{at_start, one_further, text_refused, history_read, history_refused}
+use Rattle.jh_histories.proofs.ParsingLemmas.{sequence_parsed}
 use Rattle.jh_histories.proofs.reading.history_in.Goals as goal
 
 pub read_sequence-requires : goal.read_sequence-requires
@@ -30,28 +30,28 @@ returns-in_err-history-clause-refused c =
     let text = c.args.text.now in
     let q = rw c.in-Some.is at c.in_ok-end.ensures.some in
     let begun = one_further text [] 0 q.0 c.in-Some.end (at_start text 0 refl) q.2 in
-    let told = q.4 [] c.new-parsing.ensures in
+    let parsed = q.4 [] c.new-parsing.ensures in
     let gap = rw c.in_default-2.is at c.in_ok-second.ensures.none in
-    let are = (sequence_told q.0 q.1 q.3).0 in
-    rw (p.1, p.2) (history_refused text (q.0 ∷ []) q.1 c.in-Some.end c.read_sequence.new.sink c.in_err-history.field-0.0 are begun gap c.in_err-history.ensures.told told)
+    let are = (sequence_parsed q.0 q.1 q.3).0 in
+    rw (p.1, p.2) (history_refused text (q.0 ∷ []) q.1 c.in-Some.end c.read_sequence.new.sink c.in_err-history.field-0.0 are begun gap c.in_err-history.ensures.parsed parsed)
 
-pub returns-in_default-2-clause-told : goal.returns-in_default-2-clause-told
-returns-in_default-2-clause-told c =
+pub returns-in_default-2-clause-parsed : goal.returns-in_default-2-clause-parsed
+returns-in_default-2-clause-parsed c =
     let text = c.args.text.now in
     let q = rw c.in-Some.is at c.in_ok-end.ensures.some in
     let begun = one_further text [] 0 q.0 c.in-Some.end (at_start text 0 refl) q.2 in
     let so_far = q.4 [] c.new-parsing.ensures in
     let gap = rw c.in_default-2.is at c.in_ok-second.ensures.none in
-    let are = (sequence_told q.0 q.1 q.3).0 in
-    let told = c.in_ok-history.ensures.told in
-    rw told.1 (history_read text (q.0 ∷ []) q.1 c.in-Some.end c.read_sequence.new.sink are begun gap told.0 so_far)
+    let are = (sequence_parsed q.0 q.1 q.3).0 in
+    let parsed = c.in_ok-history.ensures.parsed in
+    rw parsed.1 (history_read text (q.0 ∷ []) q.1 c.in-Some.end c.read_sequence.new.sink are begun gap parsed.0 so_far)
 
 pub returns-in_default-2-clause-writable : goal.returns-in_default-2-clause-writable
 returns-in_default-2-clause-writable c =
     let q = rw c.in-Some.is at c.in_ok-end.ensures.some in
     let so_far = q.4 [] c.new-parsing.ensures in
-    let told = c.in_ok-history.ensures.told in
-    rw told.1 so_far.1
+    let parsed = c.in_ok-history.ensures.parsed in
+    rw parsed.1 so_far.1
 
 pub history_behind-requires-clause-begun : goal.history_behind-requires-clause-begun
 history_behind-requires-clause-begun c =

@@ -3,7 +3,7 @@ use Rattle.std.proofs.lemmas.Result.{err_from_is_err_and}
 use Rattle.std.proofs.lemmas.Str.{IsCharBoundary-start}
 use Rattle.jh_edn.specs.Edn.{Edn}
 use Rattle.jh_edn.specs.View.{view}
-use Rattle.jh_histories.proofs.BegunLemmas.{at_start, one_further, text_refused, one_read_refused}
+use Rattle.jh_histories.proofs.FirstValuesLemmas.{at_start, one_further, text_refused, one_read_refused}
 use Rattle.jh_histories.proofs.reading.history_of_values.Goals as goal
 
 pub read_one-requires : goal.read_one-requires
@@ -30,15 +30,15 @@ returns-in_err-history_of_one-clause-refused c =
     let first = view c.in-Some.first in
     let begun = one_further text [] 0 first c.in-Some.end (at_start text 0 refl) (rw c.in-Some.is at c.in_ok-first.ensures.some) in
     let gap = rw c.in_default-2.is at c.in_ok-second.ensures.none in
-    rw (p.1, p.2) (one_read_refused text first c.in-Some.end c.in_err-history_of_one.field-0.0 begun gap c.in_err-history_of_one.ensures.told)
+    rw (p.1, p.2) (one_read_refused text first c.in-Some.end c.in_err-history_of_one.field-0.0 begun gap c.in_err-history_of_one.ensures.parsed)
 
-pub returns-in_default-2-clause-told : goal.returns-in_default-2-clause-told
-returns-in_default-2-clause-told c =
+pub returns-in_default-2-clause-parsed : goal.returns-in_default-2-clause-parsed
+returns-in_default-2-clause-parsed c =
     let text = c.args.text.now in
     let first = view c.in-Some.first in
     let begun = one_further text [] 0 first c.in-Some.end (at_start text 0 refl) (rw c.in-Some.is at c.in_ok-first.ensures.some) in
     let gap = rw c.in_default-2.is at c.in_ok-second.ensures.none in
-    (first ∷ [], begun.before [] gap, c.in_ok-history_of_one.ensures.told)
+    (first ∷ [], begun.before [] gap, c.in_ok-history_of_one.ensures.parsed)
 
 pub history_behind-requires-clause-begun : goal.history_behind-requires-clause-begun
 history_behind-requires-clause-begun c =

@@ -1,10 +1,10 @@
 use Rattle.std.proofs.Common.{codes, refl, subst, ap}
 use Rattle.std.specs.Io.KnownBytes.{Appends}
 use Rattle.std.proofs.lemmas.Result.{on_ok_weaker}
-use Rattle.jh_edn.proofs.Facts.{appends_then}
+use Rattle.jh_edn.proofs.CitedLemmas.{appends_then}
 use Rattle.jh_ops.specs.Operation.{operation}
 use Rattle.jh_ops.specs.OperationWritten.{value_written}
-use Rattle.jh_check.proofs.LineLemmas.{five_parts}
+use Rattle.jh_check.proofs.ElementLemmas.{five_parts}
 use Rattle.jh_check.specs.declared.verdict.Verdict.{Verdict}
 use Rattle.jh_keys.specs.Lines.{held_value, order_value}
 use Rattle.jh_keys.proofs.lines.write_stuck.Goals as goal

@@ -1,8 +1,8 @@
 use Rattle.std.proofs.Common.{codes, subst, ap}
 use Rattle.std.specs.Io.KnownBytes.{Appends}
 use Rattle.std.proofs.lemmas.Result.{on_ok_weaker}
-use Rattle.jh_edn.proofs.Facts.{appends_then}
-use Rattle.jh_check.proofs.LineLemmas.{one_part}
+use Rattle.jh_edn.proofs.CitedLemmas.{appends_then}
+use Rattle.jh_check.proofs.ElementLemmas.{one_part}
 use Rattle.jh_check.specs.declared.verdict.Verdict.{Verdict}
 use Rattle.jh_keys.specs.Lines.{order_value}
 use Rattle.jh_keys.proofs.lines.write_valid.Goals as goal

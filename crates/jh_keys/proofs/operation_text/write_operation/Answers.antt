@@ -1,7 +1,7 @@
 use Rattle.std.proofs.Common.{subst}
 use Rattle.std.specs.Io.KnownBytes.{Appends}
 use Rattle.std.proofs.lemmas.Result.{on_ok_weaker}
-use Rattle.jh_edn.proofs.Facts.{appends_then}
+use Rattle.jh_edn.proofs.CitedLemmas.{appends_then}
 use Rattle.jh_ops.specs.Operation.{operation}
 use Rattle.jh_keys.proofs.OperationLemmas.{operation_text}
 use Rattle.jh_keys.proofs.operation_text.write_operation.Goals as goal

@@ -1,11 +1,11 @@
 use Rattle.std.proofs.Common.{◌≡◌, ◌∙◌, ap, sym, subst}
 use Rattle.jh_edn.specs.View.{view}
 use Rattle.jh_ops.specs.Operation.{operations}
-use Rattle.jh_keys.specs.Findings.{IsFinding, RefusesHistory}
+use Rattle.jh_keys.specs.Findings.{IsFinding, RefusesChecking}
 use Rattle.jh_keys.specs.Keys.{history_of, places_of}
-use Rattle.jh_keys.specs.PartsInside.{told_of}
-use Rattle.jh_keys.specs.Refusals.{RefusesKey, asked_by}
-use Rattle.jh_keys.proofs.PartLemmas.{key_refused}
+use Rattle.jh_keys.specs.PartsInside.{keys_error_of}
+use Rattle.jh_keys.specs.Refusals.{RefusesKey, keys_question}
+use Rattle.jh_keys.proofs.KeyHistoryLemmas.{key_refused}
 use Rattle.jh_keys.proofs.parts.check_key.Goals as goal
 
 pub returns-in-Ok-clause-judged : goal.returns-in-Ok-clause-judged
@@ -20,7 +20,7 @@ returns-clause-judged c =
     let whole = operations c.args.history.now in
     let key = view c.args.group.now.key in
     let part : operations c.deref.result.now ≡ history_of key whole = ap operations c.deref.ensures.value ∙ c.in_ok-part.ensures in
-    let told : c.error_in.result ≡ told_of (places_of key whole) c.in-Err.error =
-    c.error_in.ensures ∙ ap (λ places. told_of places c.in-Err.error) (c.deref-in-Err.ensures.value ∙ c.requires) in
-    subst (RefusesKey (asked_by c.args.judging whole) key) (sym told)
-    (key_refused (asked_by c.args.judging whole) key c.in-Err.error (subst (λ part. RefusesHistory c.args.judging.workload part c.in-Err.error) part c.in-Err.ensures))
+    let told : c.error_in.result ≡ keys_error_of (places_of key whole) c.in-Err.error =
+    c.error_in.ensures ∙ ap (λ places. keys_error_of places c.in-Err.error) (c.deref-in-Err.ensures.value ∙ c.requires) in
+    subst (RefusesKey (keys_question c.args.judging whole) key) (sym told)
+    (key_refused (keys_question c.args.judging whole) key c.in-Err.error (subst (λ part. RefusesChecking c.args.judging.workload part c.in-Err.error) part c.in-Err.ensures))

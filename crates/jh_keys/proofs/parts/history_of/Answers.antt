@@ -4,9 +4,9 @@ use Rattle.std.proofs.lemmas.List.{length-map}
 use Rattle.std.proofs.lemmas.Result.{IfOk-weaker}
 use Rattle.jh_edn.specs.View.{view}
 use Rattle.jh_ops.specs.Operation.{operation, operations}
-use Rattle.jh_keys.specs.Keys.{places_of, without_key}
-use Rattle.jh_keys.specs.PartsInside.{op_at}
-use Rattle.jh_keys.proofs.PartLemmas.{part_is, places_within}
+use Rattle.jh_keys.specs.Keys.{places_of, operation_without_key}
+use Rattle.jh_keys.specs.PartsInside.{operation_at}
+use Rattle.jh_keys.proofs.KeyHistoryLemmas.{part_is, places_within}
 use Rattle.jh_keys.proofs.parts.history_of.Goals as goal
 
 pub part_of-requires : goal.part_of-requires
@@ -22,4 +22,4 @@ returns c =
     let whole = operations c.args.history.now in
     let key = view c.args.group.now.key in
     IfOk-weaker c.part_of.result _ _ (λ part of.
-    of ∙ ap (map (λ place. without_key (op_at whole place))) (c.deref.ensures.value ∙ c.requires) ∙ part_is key whole) c.part_of.ensures
+    of ∙ ap (map (λ place. operation_without_key (operation_at whole place))) (c.deref.ensures.value ∙ c.requires) ∙ part_is key whole) c.part_of.ensures

@@ -1,13 +1,13 @@
 use Rattle.std.proofs.Common.{◌≡◌, sym, subst, refl, rules}
 use Rattle.jh_ops.specs.Operation.{operations}
 use Rattle.jh_keys.specs.FoundInside.{IsFoundSoFar}
-use Rattle.jh_keys.specs.Refusals.{RefusesKeys, asked_by}
+use Rattle.jh_keys.specs.Refusals.{RefusesKeys, keys_question}
 use Rattle.jh_keys.proofs.FoundLemmas.{first_places, keys_refused, none_found, one_more}
 use Rattle.jh_keys.proofs.serial.check_keys_serial.Goals as goal
 
 pub loop-group-init : goal.loop-group-init
 loop-group-init c =
-    let asked = asked_by c.args.judging (operations c.args.history.now) in
+    let asked = keys_question c.args.judging (operations c.args.history.now) in
     let groups = c.in_ok-groups.groups.items in
     let all : c.into_iter-group-iterator.result.rest.items ≡ groups = search rules in
     subst (λ rest. IsFoundSoFar asked c.in_ok-found.found.items rest) (sym all)
@@ -15,14 +15,14 @@ loop-group-init c =
 
 pub check_key-requires : goal.check_key-requires
 check_key-requires c =
-    let asked = asked_by c.args.judging (operations c.args.history.now) in
+    let asked = keys_question c.args.judging (operations c.args.history.now) in
     let rest = c.next.new.self.rest.items in
     first_places asked c.loop-group.found.items c.in-Some.group rest
     (subst (λ rest. IsFoundSoFar asked c.loop-group.found.items rest) c.in-Some.ensures.steps.0 c.loop-group.invariant)
 
 pub returns-in_err-one-clause-found : goal.returns-in_err-one-clause-found
 returns-in_err-one-clause-found c =
-    let asked = asked_by c.args.judging (operations c.args.history.now) in
+    let asked = keys_question c.args.judging (operations c.args.history.now) in
     let rest = c.next.new.self.rest.items in
     let refused : RefusesKeys asked c.in_err-one.field-0.0 =
     keys_refused asked c.loop-group.found.items c.in-Some.group rest c.in_err-one.field-0.0 c.in_ok-groups.ensures.0
@@ -31,7 +31,7 @@ returns-in_err-one-clause-found c =
 
 pub loop-group-preserved : goal.loop-group-preserved
 loop-group-preserved c =
-    let asked = asked_by c.args.judging (operations c.args.history.now) in
+    let asked = keys_question c.args.judging (operations c.args.history.now) in
     let rest = c.next.new.self.rest.items in
     subst (λ found. IsFoundSoFar asked found rest) (sym c.in_ok-push.ensures.items)
     (one_more asked c.loop-group.found.items c.in-Some.group rest _

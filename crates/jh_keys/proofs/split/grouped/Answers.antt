@@ -3,8 +3,8 @@ use Rattle.std.proofs.Common.{◌≡◌, ◌++◌, ◌∷◌, [], ◌∙◌, ap,
 use Rattle.std.proofs.lemmas.List.{map_push}
 use Rattle.jh_edn.specs.View.{view}
 use Rattle.jh_check.specs.Distinct.{Ascends}
-use Rattle.jh_keys.specs.SplitInside.{groups_in, keys_in, view_group, view_groups, view_key, view_keyed}
-use Rattle.jh_keys.proofs.RunLemmas.{runs, runs_are_groups}
+use Rattle.jh_keys.specs.SplitInside.{groups_in, keys_of_keyed, view_group, view_groups, view_key, view_keyed}
+use Rattle.jh_keys.proofs.SameKeyLemmas.{runs, runs_are_groups}
 use Rattle.jh_keys.proofs.split.grouped.Goals as goal
 
 pub returns : goal.returns
@@ -22,5 +22,5 @@ returns c =
     ∙ map_push view_group c.loop-next.groups.items c.loop-next.group
     ∙ sym (c.loop-next.invariant ∙ ap (λ rest. groups ++ runs key places (view_keyed rest)) ended)
     ∙ ap (λ group. runs group.0 group.1 (view_keyed others)) begun
-    ∙ runs_are_groups (view_key first) (view_keyed others) (subst (λ keyed. Ascends (keys_in (view_keyed keyed))) parts c.requires)
+    ∙ runs_are_groups (view_key first) (view_keyed others) (subst (λ keyed. Ascends (keys_of_keyed (view_keyed keyed))) parts c.requires)
     ∙ ap (λ keyed. groups_in (view_keyed keyed)) (sym parts)

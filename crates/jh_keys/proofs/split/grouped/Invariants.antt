@@ -1,7 +1,7 @@
 use Rattle.std.proofs.Common.{◌≡◌, ◌++◌}
 use Rattle.jh_edn.specs.View.{view}
 use Rattle.jh_keys.specs.SplitInside.{view_groups, view_keyed}
-use Rattle.jh_keys.proofs.RunLemmas.{runs}
+use Rattle.jh_keys.proofs.SameKeyLemmas.{runs}
 use Rattle.jh_keys.proofs.split.grouped.Given as goal
 
 abbrev pub invariant-loop-next : goal.invariant-loop-next

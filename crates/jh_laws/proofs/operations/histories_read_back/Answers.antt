@@ -3,22 +3,22 @@ use Rattle.std.proofs.lemmas.List.Elements.{All-weaker}
 use Rattle.jh_ops.specs.HistoryText.{AreParsed}
 use Rattle.jh_ops.specs.OperationWritten.{value_written}
 use Rattle.jh_laws.specs.HistoryLines.{CanPrint}
-use Rattle.jh_laws.proofs.HistoryLemmas.{told_histories_print, told_again, bare_told, one_history}
+use Rattle.jh_laws.proofs.HistoryLemmas.{parsed_histories_print, parsed_again, bare_parsed, one_history}
 use Rattle.jh_laws.proofs.operations.histories_read_back.Goals as goal
 
 pub returns-clause-again : goal.returns-clause-again
 returns-clause-again c = λ bytes history tells.
-    let print = told_histories_print tells.0 history (c.print_laws.ensures.spelled bytes tells.0 tells.1) tells.2 in (
+    let print = parsed_histories_print tells.0 history (c.print_laws.ensures.spelled bytes tells.0 tells.1) tells.2 in (
       map value_written history,
       (c.operation_lines_read_back.ensures.lines history print).0,
-      told_again c.operations_read_back.ensures tells.0 history tells.2,
+      parsed_again c.operations_read_back.ensures tells.0 history tells.2,
     )
 
 pub returns-clause-made : goal.returns-clause-made
 returns-clause-made c = λ history all.
     let print = All-weaker (λ op. CanPrint op × (op.rest ≡ [])) CanPrint (λ op h. h.0) history all in
     let bare = All-weaker (λ op. CanPrint op × (op.rest ≡ [])) (λ op. op.rest ≡ []) (λ op h. h.1) history all in
-    (map value_written history, (c.operation_lines_read_back.ensures.lines history print).0, bare_told history bare)
+    (map value_written history, (c.operation_lines_read_back.ensures.lines history print).0, bare_parsed history bare)
 
 pub returns-clause-one : goal.returns-clause-one
 returns-clause-one c = λ bytes history others tells more.

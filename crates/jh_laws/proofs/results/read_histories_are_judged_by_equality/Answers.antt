@@ -1,16 +1,16 @@
 use Rattle.std.proofs.Common.{codes}
 use Rattle.jh_ops.specs.declared.operation.Kind.{Kind}
-use Rattle.jh_laws.proofs.HeldLemmas.{held_printable, read_printable}
-use Rattle.jh_laws.proofs.HistoryLemmas.{told_histories_print}
+use Rattle.jh_laws.proofs.ReadHistoryLemmas.{held_printable, read_printable}
+use Rattle.jh_laws.proofs.HistoryLemmas.{parsed_histories_print}
 use Rattle.jh_laws.proofs.results.read_histories_are_judged_by_equality.Goals as goal
 
 pub returns-clause-ids : goal.returns-clause-ids
 returns-clause-ids c = λ bytes history tells.
-    held_printable Kind.Ok (codes "generate") history (told_histories_print tells.0 history (c.print_laws.ensures.spelled bytes tells.0 tells.1) tells.2)
+    held_printable Kind.Ok (codes "generate") history (parsed_histories_print tells.0 history (c.print_laws.ensures.spelled bytes tells.0 tells.1) tells.2)
 
 pub returns-clause-sets : goal.returns-clause-sets
 returns-clause-sets c = λ bytes history read tells shown.
-    let print = told_histories_print tells.0 history (c.print_laws.ensures.spelled bytes tells.0 tells.1) tells.2 in
+    let print = parsed_histories_print tells.0 history (c.print_laws.ensures.spelled bytes tells.0 tells.1) tells.2 in
     record {
       shown = shown;
       read_printable = read_printable history read print shown;

@@ -2,7 +2,7 @@ use Rattle.std.proofs.Common.{◌+◌, ◌<◌, length, take, sym, subst, arith}
 use Rattle.std.proofs.lemmas.List.{take_more}
 use Rattle.jh_ops.specs.Operation.{operations}
 use Rattle.jh_linear.specs.Calls.{IsLeastBad}
-use Rattle.jh_linear.specs.Checking.{lesser}
+use Rattle.jh_linear.specs.Checking.{lesser_place}
 use Rattle.jh_linear.proofs.CallLemmas.{least_more}
 use Rattle.jh_linear.proofs.calls.least_bad.Goals as goal
 
@@ -13,5 +13,5 @@ loop-pair-preserved c =
     let l = c.loop-pair in
     let low : l.pair-index < length pairs = omega arith in
     subst (λ least. IsLeastBad history (take (l.pair-index + 1) pairs) least) (sym c.lesser-least.ensures)
-    (subst (λ xs. IsLeastBad history xs (lesser l.least c.bad_place.result)) (sym (take_more pairs l.pair-index _ low))
+    (subst (λ xs. IsLeastBad history xs (lesser_place l.least c.bad_place.result)) (sym (take_more pairs l.pair-index _ low))
     (least_more history (take l.pair-index pairs) _ l.least c.bad_place.result (sym c.bad_place.ensures) l.invariant))

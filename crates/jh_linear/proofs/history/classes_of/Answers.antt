@@ -1,5 +1,5 @@
 use Rattle.std.proofs.Common.{◌≡◌, ◌+◌, length, sym, ap, subst, ◌∙◌, arith}
-use Rattle.jh_linear.specs.Search.{AreRuns}
+use Rattle.jh_linear.specs.Search.{AreClassesUpTo}
 use Rattle.jh_linear.proofs.HistoryLemmas.{AreTogether, runs_none, runs_push, together_more, together_one}
 use Rattle.jh_linear.proofs.history.classes_of.Goals as goal
 use Rattle.jh_linear.proofs.history.classes_of.Goals.{then-ends_at+in_ok-push, else-ends_at}
@@ -25,7 +25,7 @@ loop-index-preserved c =
           let items = ap (λ v. v.items) w.classes-is ∙ w.in_ok-push.ensures.items in
           let runs = runs_push entries l.classes.items l.from upto (omega (arith, l.invariant.low)) l.invariant.runs so_far in
           record {
-            runs = subst (λ f. AreRuns entries c.if-ends_at.classes.items f) (sym w.from-is) (subst (λ cs. AreRuns entries cs upto) (sym items) runs);
+            runs = subst (λ f. AreClassesUpTo entries c.if-ends_at.classes.items f) (sym w.from-is) (subst (λ cs. AreClassesUpTo entries cs upto) (sym items) runs);
             low = omega (arith, w.from-is);
             open' = λ lt. subst (λ f. AreTogether entries f (upto + 1)) (sym w.from-is) (together_one entries upto);
             closed = λ le. omega (arith, le, w.from-is);
@@ -34,7 +34,7 @@ loop-index-preserved c =
           let next = c.ends_at.ensures w.if-ends_at.false in
           let items = ap (λ v. v.items) w.classes-is in
           record {
-            runs = subst (λ f. AreRuns entries c.if-ends_at.classes.items f) (sym w.from-is) (subst (λ cs. AreRuns entries cs l.from) (sym items) l.invariant.runs);
+            runs = subst (λ f. AreClassesUpTo entries c.if-ends_at.classes.items f) (sym w.from-is) (subst (λ cs. AreClassesUpTo entries cs l.from) (sym items) l.invariant.runs);
             low = omega (arith, w.from-is, l.invariant.low);
             open' = λ lt. subst (λ f. AreTogether entries f (upto + 1)) (sym w.from-is) (together_more entries l.from upto (omega (arith, l.invariant.low)) so_far next.1);
             closed = λ le. absurd (omega (arith, le, next.0));
@@ -47,4 +47,4 @@ returns c =
     let l = c.loop-index in
     let whole = l.invariant.closed c.loop-index-test.false in
     let end : l.from ≡ length entries = omega (arith, whole, l.invariant.low) in
-    subst (AreRuns entries l.classes.items) end l.invariant.runs
+    subst (AreClassesUpTo entries l.classes.items) end l.invariant.runs

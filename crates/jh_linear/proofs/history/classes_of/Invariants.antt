@@ -1,11 +1,11 @@
 use Rattle.std.proofs.Common.{◌+◌, ◌<◌, ◌≤◌, length}
-use Rattle.jh_linear.specs.Search.{AreRuns}
+use Rattle.jh_linear.specs.Search.{AreClassesUpTo}
 use Rattle.jh_linear.proofs.HistoryLemmas.{AreTogether}
 use Rattle.jh_linear.proofs.history.classes_of.Given as goal
 
 abbrev pub invariant-loop-index : goal.invariant-loop-index
 invariant-loop-index l = record {
-  runs : AreRuns l.entries l.classes.items l.from;
+  runs : AreClassesUpTo l.entries l.classes.items l.from;
   low : l.from ≤ l.index;
   open' : l.index < length l.entries → AreTogether l.entries l.from (l.index + 1);
   closed : length l.entries ≤ l.index → length l.entries ≤ l.from;

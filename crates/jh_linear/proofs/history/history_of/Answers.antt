@@ -1,5 +1,5 @@
 use Rattle.std.proofs.Common.{length, map, sym, ap, subst, ◌∙◌}
-use Rattle.jh_linear.specs.Search.{AreClasses, AreRuns, AreStages, IsHistory}
+use Rattle.jh_linear.specs.Search.{AreClasses, AreClassesUpTo, AreStages, IsHistory}
 use Rattle.jh_linear.proofs.HistoryLemmas.{are_classes, is_history}
 use Rattle.jh_linear.proofs.history.history_of.Goals as goal
 
@@ -18,5 +18,5 @@ returns-clause-classes c =
     let ops = c.args.ops.now in
     let entries = c.in_ok-entries.entries.items in
     let classes = c.in_ok-classes.classes.items in
-    let runs : AreRuns entries classes (length entries) = subst (λ e. AreRuns e classes (length e)) c.as_slice-5.ensures.value c.in_ok-classes.ensures in
+    let runs : AreClassesUpTo entries classes (length entries) = subst (λ e. AreClassesUpTo e classes (length e)) c.as_slice-5.ensures.value c.in_ok-classes.ensures in
     subst (λ places. AreClasses ops places classes) (sym (c.in_ok-unknown.ensures ∙ ap (map (λ x. x.2)) c.as_slice-4.ensures.value)) (are_classes ops entries classes c.in_ok-entries.ensures runs)

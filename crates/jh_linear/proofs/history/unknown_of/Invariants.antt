@@ -1,5 +1,5 @@
-use Rattle.jh_linear.specs.Search.{AreEntries, IsUnknown, unknown_entry}
+use Rattle.jh_linear.specs.Search.{ArePlaceEntries, IsUnsureChange, unknown_entry}
 use Rattle.jh_linear.proofs.history.unknown_of.Given as goal
 
 abbrev pub invariant-loop-place : goal.invariant-loop-place
-invariant-loop-place l = AreEntries (IsUnknown l.ops) (unknown_entry l.ops) (λ x. x.2) l.place l.unknown.items
+invariant-loop-place l = ArePlaceEntries (IsUnsureChange l.ops) (unknown_entry l.ops) (λ x. x.2) l.place l.unknown.items

@@ -5,7 +5,7 @@ use Rattle.jh_linear.specs.declared.moves.Move.{Move}
 use Rattle.jh_linear.specs.declared.moves.Source.TheVariants.{Happened}
 use Rattle.jh_linear.specs.declared.verdict.Step.{Step}
 use Rattle.jh_linear.specs.Reached.{order_at, NameEarlier}
-use Rattle.jh_linear.specs.Search.{IsBegun, IsWhole, Tried}
+use Rattle.jh_linear.specs.Search.{IsSearchSoFar, IsWholeOrder, ComesOfMove}
 use Rattle.jh_linear.proofs.GrowthLemmas.{below, grows_trans}
 use Rattle.jh_linear.proofs.GoingOnLemmas.{tried_more}
 use Rattle.jh_linear.proofs.judge.try_moves.Goals as goal
@@ -42,9 +42,9 @@ loop-step-preserved c =
     let low = below p c.requires.problem s.configs.keys s.steps.items c.requires.begun.known c.args.at t.0 t.1 in
     let index : ℕ = length moves - 1 - l.step in
     let on = l.invariant.on in
-    let begun : IsBegun p m = record { known = on.known; far = on.far; few = on.few } in
+    let begun : IsSearchSoFar p m = record { known = on.known; far = on.far; few = on.few } in
     let this : Move = get_or moves index first_move in
-    let tried : Tried p m n c.args.at c.args.config.now this More = subst (Tried p m n c.args.at c.args.config.now this) c.in-More.is c.in_ok-try_move.ensures in
+    let tried : ComesOfMove p m n c.args.at c.args.config.now this More = subst (ComesOfMove p m n c.args.at c.args.config.now this) c.in-More.is c.in_ok-try_move.ensures in
     record {
       on = grows_trans p c.requires.problem s.configs.keys s.steps.items s.waiting s.furthest m.configs.keys m.steps.items m.waiting m.furthest n.configs.keys n.steps.items n.waiting n.furthest on tried.0;
       tried = tried_more p c.requires.problem s m n c.args.at c.args.config.now moves l.step index first_move low refl c.loop-step-test.true begun on tried.0 tried.1 l.invariant.tried;
@@ -60,7 +60,7 @@ returns-in-Complete c =
     let on = c.loop-step.invariant.on in
     let tried = rw c.in-Complete.is at c.in_ok-try_move.ensures in
     let low = below p c.requires.problem m.configs.keys m.steps.items on.known c.args.at t.0 (on.kept c.args.at t.0 t.1) in (
-      subst (λ (ss : List Step). IsWhole p (order_at ss c.args.at ++ c.in-Complete.placed.items)) (sym tried.0) tried.1,
+      subst (λ (ss : List Step). IsWholeOrder p (order_at ss c.args.at ++ c.in-Complete.placed.items)) (sym tried.0) tried.1,
       subst (λ (ss : List Step). c.args.at < length ss) (sym tried.0) low,
       subst (λ (ss : List Step). NameEarlier ss) (sym tried.0) on.known.earlier,
     )

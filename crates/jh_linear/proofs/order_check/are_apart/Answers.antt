@@ -1,6 +1,6 @@
 use Rattle.std.proofs.Common.{◌≡◌, ℕ, ◌+◌, List, ◌∷◌, true, drop, length, get_or, refl, sym, subst, ◌∙◌, arith}
 use Rattle.jh_linear.specs.Order.{has}
-use Rattle.jh_linear.specs.Checking.{NoneLate}
+use Rattle.jh_linear.specs.Checking.{IsNoneLate}
 use Rattle.std.proofs.lemmas.Bool.{false≢true}
 use Rattle.jh_linear.proofs.OrderLemmas.{not_apart, apart_if, none_behind}
 use Rattle.jh_linear.proofs.order_check.are_apart.Goals as goal
@@ -11,7 +11,7 @@ again order behind k is h = subst (λ xs. has xs (get_or order k 0) ≡ true) is
 pub stands_again-requires : goal.stands_again-requires
 stands_again-requires c = record {
   in_time = λ in_time.
-      subst (λ xs. NoneLate c.args.ops.now (get_or c.args.order.now c.loop-index.index 0 ∷ xs)) (sym c.behind.ensures)
+      subst (λ xs. IsNoneLate c.args.ops.now (get_or c.args.order.now c.loop-index.index 0 ∷ xs)) (sym c.behind.ensures)
       (none_behind c.args.ops.now c.args.order.now c.loop-index.index (omega arith) (c.none_late-in_time.ensures.0 in_time));
 }
 

@@ -1,4 +1,4 @@
-use Rattle.jh_linear.proofs.SetLemmas.{not_true}
+use Rattle.jh_linear.proofs.PlaceSetLemmas.{not_true}
 use Rattle.jh_linear.proofs.OrderLemmas.{late_if, keeps_if}
 use Rattle.jh_linear.proofs.order_check.check_order.Goals as goal
 

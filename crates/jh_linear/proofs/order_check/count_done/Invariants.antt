@@ -1,9 +1,9 @@
 use Rattle.std.proofs.Common.{◌≡◌, ◌≤◌, length, take, filter}
-use Rattle.jh_linear.specs.Checking.{is_done_at}
+use Rattle.jh_linear.specs.Checking.{is_op_done}
 use Rattle.jh_linear.proofs.order_check.count_done.Given as goal
 
 abbrev pub invariant-loop-place : goal.invariant-loop-place
 invariant-loop-place l = record {
   few : l.count ≤ l.place-index;
-  counted : l.count ≡ length (filter (is_done_at l.ops) (take l.place-index l.order));
+  counted : l.count ≡ length (filter (is_op_done l.ops) (take l.place-index l.order));
 }

@@ -1,4 +1,4 @@
-use Rattle.jh_linear.proofs.SetLemmas.{not_true}
+use Rattle.jh_linear.proofs.PlaceSetLemmas.{not_true}
 use Rattle.jh_linear.proofs.OrderLemmas.{none_more, high_more, some_more}
 use Rattle.jh_linear.proofs.order_check.none_late.Goals as goal
 

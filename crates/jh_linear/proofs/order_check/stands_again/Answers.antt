@@ -1,5 +1,5 @@
 use Rattle.std.proofs.Common.{◌≡◌, length, get_or, sym, arith}
-use Rattle.jh_linear.proofs.SetLemmas.{false_if, place_of}
+use Rattle.jh_linear.proofs.PlaceSetLemmas.{false_if, place_of}
 use Rattle.jh_linear.proofs.OrderLemmas.{not_behind, before_if, each_more}
 use Rattle.jh_linear.proofs.order_check.stands_again.Goals as goal
 

@@ -1,7 +1,7 @@
 use Rattle.std.proofs.Common.{◌≡◌, List, [], ◌∷◌, ◌++◌, true, false, cond, ◌∙◌, ap}
 use Rattle.std.specs.List.{list_any}
 use Rattle.jh_linear.specs.declared.config.Config.{Config}
-use Rattle.jh_linear.proofs.KeyLemmas.{same_config, are_same, none_same, was_there, was_not, position_none}
+use Rattle.jh_linear.proofs.SameConfigLemmas.{same_config, are_same, none_same, was_there, was_not, position_none}
 use Rattle.jh_linear.proofs.search.put.Goals as goal
 
 pub returns-clause-known : goal.returns-clause-known

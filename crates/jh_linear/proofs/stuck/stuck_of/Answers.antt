@@ -3,10 +3,10 @@ use Rattle.std.proofs.lemmas.List.{get_or_read}
 use Rattle.jh_linear.specs.declared.history.Stage.{Stage}
 use Rattle.jh_linear.specs.declared.register.RegOp.{RegOp}
 use Rattle.jh_linear.specs.declared.verdict.Step.{Step}
-use Rattle.jh_linear.specs.Order.{Runs, op_at}
+use Rattle.jh_linear.specs.Order.{IsLegalFrom, op_at}
 use Rattle.jh_linear.specs.Reached.{order_at}
 use Rattle.jh_linear.specs.Search.{furthest_order, no_stage, stage_at}
-use Rattle.jh_linear.specs.Stuck.{end_of}
+use Rattle.jh_linear.specs.Stuck.{op_end}
 use Rattle.jh_linear.specs.StuckInside.{IsKnownUntil}
 use Rattle.jh_linear.proofs.StuckLemmas.{End, stuck_is}
 use Rattle.jh_linear.proofs.stuck.stuck_of.Goals as goal
@@ -20,7 +20,7 @@ returns c =
     let order : List ℕ = furthest_order s.steps.items far in
     let end : ℕ = c.end_of-end.result in
     let stage : c.index.result.now ≡ stage_at p.history.stages.items far.stage = get_or_read p.history.stages.items far.stage c.index.result.now c.requires.exhausted.0.begun.far.open' c.index.ensures no_stage in
-    let end_is : end ≡ End p c.requires.problem s c.requires.exhausted = c.end_of-end.ensures ∙ ap end_of (c.op_at.ensures ∙ ap (λ (x : Stage). op_at ops x.place) stage) in
+    let end_is : end ≡ End p c.requires.problem s c.requires.exhausted = c.end_of-end.ensures ∙ ap op_end (c.op_at.ensures ∙ ap (λ (x : Stage). op_at ops x.place) stage) in
     let first : c.in_ok-order.order.items ≡ order_at s.steps.items far.step.parent = c.in_ok-order.ensures ∙ ap (λ (ss : List Step). order_at ss far.step.parent) c.as_slice.ensures.value in
     let whole : c.extend_from_slice.new.self.items ≡ order = c.in_ok-extend_from_slice.ensures.items ∙ ap (λ o. o ++ c.as_slice-2.result.now) first ∙ ap (λ o. order_at s.steps.items far.step.parent ++ o) c.as_slice-2.ensures in
     let count : ℕ = c.known_until.result in
@@ -28,4 +28,4 @@ returns c =
     let cut : c.truncate.new.self.items ≡ take count order = c.truncate.ensures.items ∙ ap (take count) whole in
     let small : End p c.requires.problem s c.requires.exhausted ≤ 2 ^ 64 - 1 = omega (arith, end_is) in
     stuck_is p c.requires.problem s c.requires.exhausted _ count (subst (λ e. IsKnownUntil ops order e count) end_is known) small end_is (c.of.ensures ∙ cut)
-    (λ last runs. c.value_after-value.ensures last (subst (λ o. Runs ops p.initial o last) (sym (c.as_slice-4.ensures.value ∙ cut)) runs))
+    (λ last runs. c.value_after-value.ensures last (subst (λ o. IsLegalFrom ops p.initial o last) (sym (c.as_slice-4.ensures.value ∙ cut)) runs))

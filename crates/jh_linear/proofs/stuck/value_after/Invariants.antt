@@ -1,6 +1,6 @@
 use Rattle.std.proofs.Common.{ℤ, Option, drop}
-use Rattle.jh_linear.specs.Order.{Runs}
+use Rattle.jh_linear.specs.Order.{IsLegalFrom}
 use Rattle.jh_linear.proofs.stuck.value_after.Given as goal
 
 abbrev pub invariant-loop-place : goal.invariant-loop-place
-invariant-loop-place l = (last : Option ℤ) → Runs l.ops l.fn.initial l.order last → Runs l.ops l.value (drop l.place-index l.order) last
+invariant-loop-place l = (last : Option ℤ) → IsLegalFrom l.ops l.fn.initial l.order last → IsLegalFrom l.ops l.value (drop l.place-index l.order) last

@@ -2,7 +2,7 @@ use Rattle.std.proofs.Common.{ap, ◌∙◌}
 use Rattle.std.specs.Prelude.{nat_lt}
 use Rattle.std.proofs.lemmas.List.Sorted.{answers_always, IsStrictWeakOrder-by_number}
 use Rattle.jh_edn.specs.Order.{in_order}
-use Rattle.jh_edn.proofs.Facts.{sorted_is}
+use Rattle.jh_edn.proofs.CitedLemmas.{sorted_is}
 use Rattle.jh_ops.specs.Operation.{operations}
 use Rattle.jh_marks.proofs.ReadLemmas.{ends_in_order}
 use Rattle.jh_marks.proofs.counter.read_ends.Goals as goal

@@ -6,7 +6,7 @@ use Rattle.jh_ops.specs.Operation.{operations}
 use Rattle.jh_check.specs.IdsView.{view_duplicates}
 use Rattle.jh_timeline.specs.declared.marks.Note.{Note}
 use Rattle.jh_timeline.specs.declared.picture.Bar.{Bar}
-use Rattle.jh_marks.specs.Marked.{mark_at, marks_by, noted}
+use Rattle.jh_marks.specs.Marked.{mark_at, marks_by, note_if}
 use Rattle.jh_marks.specs.MarkedInside.{gives_one_of}
 use Rattle.jh_marks.proofs.MarkLemmas.{ids_same, marks_more}
 use Rattle.jh_marks.proofs.ids.ids_marks.Goals as goal
@@ -17,9 +17,9 @@ loop-number-preserved c =
     let d : Bar = record { call = record { client = 0; invoke = 0; completion = None; last = 0 }; lane = 0 } in
     let call = (get_or c.args.bars.now l.number d).call in
     let history = operations c.args.history.now in
-    marks_more (λ call. noted (gives_one_of (views c.in_ok-ids.ids.items) history call) Note.Repeated) c.args.bars.now l.number d l.marks.items c.push_note.new.marks.items
+    marks_more (λ call. note_if (gives_one_of (views c.in_ok-ids.ids.items) history call) Note.Repeated) c.args.bars.now l.number d l.marks.items c.push_note.new.marks.items
     c.loop-number-test.true l.invariant
-    (c.in_ok-push_note.ensures ∙ ap (λ note. l.marks.items ++ option_to_list (mark_at l.number note)) (c.noted.ensures ∙ ap (λ holds. noted holds Note.Repeated)
+    (c.in_ok-push_note.ensures ∙ ap (λ note. l.marks.items ++ option_to_list (mark_at l.number note)) (c.noted.ensures ∙ ap (λ holds. note_if holds Note.Repeated)
     (c.in_ok-gives.ensures ∙ ap (λ vs. gives_one_of (views vs) history call) c.deref.ensures.value)))
 
 pub returns : goal.returns
@@ -27,5 +27,5 @@ returns c =
     let l = c.loop-number in
     let history = operations c.args.history.now in
     l.invariant
-    ∙ ap (marks_by (λ call. noted (gives_one_of (views c.in_ok-ids.ids.items) history call) Note.Repeated)) (take_all l.number c.args.bars.now (omega arith))
+    ∙ ap (marks_by (λ call. note_if (gives_one_of (views c.in_ok-ids.ids.items) history call) Note.Repeated)) (take_all l.number c.args.bars.now (omega arith))
     ∙ ids_same (views c.in_ok-ids.ids.items) (map (λ id. id.0) (view_duplicates c.args.duplicated.now)) history c.args.bars.now c.in_ok-ids.ensures.ids

@@ -3,7 +3,7 @@ use Rattle.std.specs.Option.{is_some, option_and_then, option_to_list}
 use Rattle.jh_ops.specs.Operation.{operations}
 use Rattle.jh_timeline.specs.declared.picture.Bar.{Bar}
 use Rattle.jh_marks.specs.Marked.{invocations_of, mark_at, place_among, stuck_note}
-use Rattle.jh_marks.specs.MarkedInside.{stuck_with}
+use Rattle.jh_marks.specs.MarkedInside.{stuck_note_with}
 use Rattle.jh_marks.proofs.MarkLemmas.{marks_more, through}
 use Rattle.jh_marks.proofs.register.invalid_marks.Goals as goal
 
@@ -23,4 +23,4 @@ loop-number-preserved c =
     marks_more (stuck_note c.args.stuck.now c.args.explanation.now history) c.args.bars.now l.number d l.marks.items c.push_note.new.marks.items
     c.loop-number-test.true l.invariant
     (c.in_ok-push_note.ensures ∙ ap (λ note. l.marks.items ++ option_to_list (mark_at l.number note))
-    (c.stuck_note-note.ensures ∙ (λ i. stuck_with c.args.stuck.now.end (pending i) (place i) call)))
+    (c.stuck_note-note.ensures ∙ (λ i. stuck_note_with c.args.stuck.now.end (pending i) (place i) call)))

@@ -6,7 +6,7 @@ use Rattle.jh_edn.specs.View.{views}
 use Rattle.jh_ops.specs.Operation.{operations}
 use Rattle.jh_timeline.specs.declared.picture.Bar.{Bar}
 use Rattle.jh_marks.specs.Marked.{mark_at, marks_by}
-use Rattle.jh_marks.specs.MarkedInside.{found_with}
+use Rattle.jh_marks.specs.MarkedInside.{found_note_with}
 use Rattle.jh_marks.proofs.MarkLemmas.{found_same, marks_more}
 use Rattle.jh_marks.proofs.set.found_marks.Goals as goal
 
@@ -19,10 +19,10 @@ loop-number-preserved c =
     let lost = c.in_ok-lost.lost.items in
     let recovered = c.in_ok-recovered.recovered.items in
     let read = c.unexpected_at-read.result in
-    marks_more (found_with (views lost) (views recovered) read history) c.args.bars.now l.number d l.marks.items c.push_note.new.marks.items
+    marks_more (found_note_with (views lost) (views recovered) read history) c.args.bars.now l.number d l.marks.items c.push_note.new.marks.items
     c.loop-number-test.true l.invariant
     (c.in_ok-push_note.ensures ∙ ap (λ note. l.marks.items ++ option_to_list (mark_at l.number note)) (c.in_ok-note.ensures
-    ∙ (λ i. found_with (views (c.deref.ensures.value i)) (views (c.deref-in-loop-number.ensures.value i)) read history call)))
+    ∙ (λ i. found_note_with (views (c.deref.ensures.value i)) (views (c.deref-in-loop-number.ensures.value i)) read history call)))
 
 pub returns : goal.returns
 returns c =
@@ -30,7 +30,7 @@ returns c =
     let history = operations c.args.history.now in
     let lost = views c.in_ok-lost.lost.items in
     let recovered = views c.in_ok-recovered.recovered.items in
-    l.invariant ∙ ap (marks_by (found_with lost recovered c.unexpected_at-read.result history)) (take_all l.number c.args.bars.now (omega arith))
-    ∙ ap (λ read. marks_by (found_with lost recovered read history) c.args.bars.now) c.unexpected_at-read.ensures
+    l.invariant ∙ ap (marks_by (found_note_with lost recovered c.unexpected_at-read.result history)) (take_all l.number c.args.bars.now (omega arith))
+    ∙ ap (λ read. marks_by (found_note_with lost recovered read history) c.args.bars.now) c.unexpected_at-read.ensures
     ∙ found_same lost recovered c.args.found.now history c.args.bars.now (c.in_ok-lost.ensures.order ∙ ap (in_order is_below) c.as_slice.ensures)
     (c.in_ok-recovered.ensures.order ∙ ap (in_order is_below) c.as_slice-2.ensures)

@@ -2,7 +2,7 @@ use Rattle.std.proofs.Common.{◌∙◌, ◌+◌, [], arith, subst, sym, take}
 use Rattle.std.proofs.lemmas.List.{append-nil, length-map, length-take-le}
 use Rattle.jh_env.specs.Overlay.{StandsWith, work_of}
 use Rattle.jh_env.specs.Standing.{AreInOrder}
-use Rattle.jh_nemesis.specs.RecordsInside.{stamped, stamped_at}
+use Rattle.jh_nemesis.specs.RecordsInside.{fault_with_stamp, faults_with_stamps}
 use Rattle.jh_nemesis.proofs.EffectLemmas.{rise_take, stamped_more, stamps_rise, work_more}
 use Rattle.jh_nemesis.proofs.effects.put_each.Goals as goal
 
@@ -13,7 +13,7 @@ put_begun-requires-clause-room c =
     omega (
       arith,
       c.loop-stamp.invariant.stands.laid,
-      length-map (take i stamps) (stamped c.args.records.now),
+      length-map (take i stamps) (fault_with_stamp c.args.records.now),
       length-take-le i stamps (omega (arith, c.loop-stamp-test.true)),
       c.loop-stamp-test.true,
       c.requires.few.1,
@@ -24,7 +24,7 @@ loop-stamp-preserved c =
     let i = c.loop-stamp.stamp-index in
     let records = c.args.records.now in
     let stamps = c.args.stamps.now in
-    let before = stamped_at records (take i stamps) in
+    let before = faults_with_stamps records (take i stamps) in
     let more = stamped_more records stamps i c.loop-stamp-test.true in
     let kept = c.loop-stamp.invariant.kept in
     record {

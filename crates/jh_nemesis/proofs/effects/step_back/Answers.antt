@@ -2,7 +2,7 @@ use Rattle.std.proofs.Common.{◌≡◌, ◌∙◌, ◌+◌, [], add-one, arith,
 use Rattle.std.proofs.lemmas.List.{append-nil}
 use Rattle.jh_env.specs.Overlay.{StandsWith}
 use Rattle.jh_env.specs.Standing.{AreInOrder}
-use Rattle.jh_nemesis.specs.RecordsInside.{active_after, record_at, stamped_at, IsRight}
+use Rattle.jh_nemesis.specs.RecordsInside.{active_after, record_at, faults_with_stamps, IsRight}
 use Rattle.jh_nemesis.specs.declared.records.Record.TheVariants.{Begun, Withdrawn, WithdrawnAll}
 use Rattle.jh_nemesis.proofs.EffectLemmas.{all_begins, all_few, all_fit, all_rise, all_size, before_order, begun_size, begun_stamped, first, last, step_read, withdrawn_after, withdrawn_before, withdrawn_begin, withdrawn_fits, withdrawn_room, withdrawn_size}
 use Rattle.jh_nemesis.proofs.effects.step_back.Goals as goal
@@ -11,7 +11,7 @@ pub take_begun-requires-clause-stands : goal.take_begun-requires-clause-stands
 take_begun-requires-clause-stands c =
     let at : record_at c.args.records.now c.args.index ≡ Begun c.in-Begun.field-0 c.in-Begun.field-1 =
     step_read c.args.records.now c.args.index c.index-records-index.result c.requires.known c.index-records-index.is ∙ c.in-Begun.is in
-    (stamped_at c.args.records.now (active_after c.args.records.now c.args.index), [], subst (StandsWith c.args.env.now) (begun_stamped (length c.args.env.now.names) c.args.records.now c.requires.right c.args.index c.requires.known c.in-Begun.field-0 c.in-Begun.field-1 at) c.requires.stands)
+    (faults_with_stamps c.args.records.now (active_after c.args.records.now c.args.index), [], subst (StandsWith c.args.env.now) (begun_stamped (length c.args.env.now.names) c.args.records.now c.requires.right c.args.index c.requires.known c.in-Begun.field-0 c.in-Begun.field-1 at) c.requires.stands)
 
 pub put_begun-requires-clause-begin : goal.put_begun-requires-clause-begin
 put_begun-requires-clause-begin c =
@@ -69,13 +69,13 @@ put_each-requires-clause-stands c =
     step_read c.args.records.now c.args.index c.index-records-index.result c.requires.known c.index-records-index.is ∙ c.in-WithdrawnAll.is in
     let is : c.deref.result.now ≡ active_after c.args.records.now c.args.index = c.deref.ensures.value ∙ subst (IsRight (length c.args.env.now.names) c.args.records.now c.args.index) at (c.requires.right c.args.index c.requires.known) in
     let none : active_after c.args.records.now (c.args.index + 1) ≡ [] = rw (add-one c.args.index, at) refl in
-    subst (λ active. StandsWith c.args.env.now (stamped_at c.args.records.now active)) none c.requires.stands
+    subst (λ active. StandsWith c.args.env.now (faults_with_stamps c.args.records.now active)) none c.requires.stands
 
 pub returns-in-Begun-clause-stands : goal.returns-in-Begun-clause-stands
 returns-in-Begun-clause-stands c =
     let at : record_at c.args.records.now c.args.index ≡ Begun c.in-Begun.field-0 c.in-Begun.field-1 =
     step_read c.args.records.now c.args.index c.index-records-index.result c.requires.known c.index-records-index.is ∙ c.in-Begun.is in
-    let before = stamped_at c.args.records.now (active_after c.args.records.now c.args.index) in
+    let before = faults_with_stamps c.args.records.now (active_after c.args.records.now c.args.index) in
     subst (StandsWith c.take_begun.new.env) (append-nil before)
     (c.take_begun.ensures.stands before [] (subst (StandsWith c.args.env.now) (begun_stamped (length c.args.env.now.names) c.args.records.now c.requires.right c.args.index c.requires.known c.in-Begun.field-0 c.in-Begun.field-1 at) c.requires.stands))
 
@@ -105,7 +105,7 @@ returns-in-WithdrawnAll-clause-stands c =
     step_read c.args.records.now c.args.index c.index-records-index.result c.requires.known c.index-records-index.is ∙ c.in-WithdrawnAll.is in
     let is : c.deref.result.now ≡ active_after c.args.records.now c.args.index = c.deref.ensures.value ∙ subst (IsRight (length c.args.env.now.names) c.args.records.now c.args.index) at (c.requires.right c.args.index c.requires.known) in
     let none : active_after c.args.records.now (c.args.index + 1) ≡ [] = rw (add-one c.args.index, at) refl in
-    subst (λ stamps. StandsWith c.put_each.new.env (stamped_at c.args.records.now stamps)) is c.put_each.ensures.stands
+    subst (λ stamps. StandsWith c.put_each.new.env (faults_with_stamps c.args.records.now stamps)) is c.put_each.ensures.stands
 
 pub returns-in-WithdrawnAll-clause-work : goal.returns-in-WithdrawnAll-clause-work
 returns-in-WithdrawnAll-clause-work c =

@@ -2,7 +2,7 @@ use Rattle.std.proofs.Common.{◌≡◌, ◌∙◌, ◌+◌, [], add-one, arith,
 use Rattle.std.proofs.lemmas.List.{append-nil}
 use Rattle.jh_env.specs.Overlay.{StandsWith}
 use Rattle.jh_env.specs.Standing.{AreInOrder}
-use Rattle.jh_nemesis.specs.RecordsInside.{active_after, record_at, stamped_at, IsRight}
+use Rattle.jh_nemesis.specs.RecordsInside.{active_after, record_at, faults_with_stamps, IsRight}
 use Rattle.jh_nemesis.specs.declared.records.Record.TheVariants.{Begun, Withdrawn, WithdrawnAll}
 use Rattle.jh_nemesis.proofs.EffectLemmas.{after_order, all_begins, all_size, begun_fits, begun_room, begun_size, begun_stamped, first, last, step_read, withdrawn_after, withdrawn_before, withdrawn_begin, withdrawn_size}
 use Rattle.jh_nemesis.proofs.effects.step_forth.Goals as goal
@@ -45,13 +45,13 @@ take_each-requires-clause-stands c =
     step_read c.args.records.now c.args.index c.index-records-index.result c.requires.known c.index-records-index.is ∙ c.in-WithdrawnAll.is in
     let is : c.deref.result.now ≡ active_after c.args.records.now c.args.index = c.deref.ensures.value ∙ subst (IsRight (length c.args.env.now.names) c.args.records.now c.args.index) at (c.requires.right c.args.index c.requires.known) in
     let none : active_after c.args.records.now (c.args.index + 1) ≡ [] = rw (add-one c.args.index, at) refl in
-    subst (λ stamps. StandsWith c.args.env.now (stamped_at c.args.records.now stamps)) (sym is) c.requires.stands
+    subst (λ stamps. StandsWith c.args.env.now (faults_with_stamps c.args.records.now stamps)) (sym is) c.requires.stands
 
 pub returns-in-Begun-clause-stands : goal.returns-in-Begun-clause-stands
 returns-in-Begun-clause-stands c =
     let at : record_at c.args.records.now c.args.index ≡ Begun c.in-Begun.field-0 c.in-Begun.field-1 =
     step_read c.args.records.now c.args.index c.index-records-index.result c.requires.known c.index-records-index.is ∙ c.in-Begun.is in
-    let before = stamped_at c.args.records.now (active_after c.args.records.now c.args.index) in
+    let before = faults_with_stamps c.args.records.now (active_after c.args.records.now c.args.index) in
     subst (StandsWith c.put_begun.new.env) (sym (begun_stamped (length c.args.env.now.names) c.args.records.now c.requires.right c.args.index c.requires.known c.in-Begun.field-0 c.in-Begun.field-1 at))
     (c.put_begun.ensures.stands before [] (subst AreInOrder (begun_stamped (length c.args.env.now.names) c.args.records.now c.requires.right c.args.index c.requires.known c.in-Begun.field-0 c.in-Begun.field-1 at) (after_order (length c.args.env.now.names) c.args.records.now c.requires.right c.args.index c.requires.known))
     (subst (StandsWith c.args.env.now) (sym (append-nil before)) c.requires.stands))

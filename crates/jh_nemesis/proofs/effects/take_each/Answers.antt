@@ -1,6 +1,6 @@
 use Rattle.std.proofs.Common.{◌∙◌, ◌+◌, [], drop, subst}
 use Rattle.jh_env.specs.Overlay.{StandsWith, work_of}
-use Rattle.jh_nemesis.specs.RecordsInside.{stamped_at}
+use Rattle.jh_nemesis.specs.RecordsInside.{faults_with_stamps}
 use Rattle.jh_nemesis.proofs.EffectLemmas.{stamped_left, work_more}
 use Rattle.jh_nemesis.proofs.effects.take_each.Goals as goal
 
@@ -8,7 +8,7 @@ pub take_begun-requires-clause-stands : goal.take_begun-requires-clause-stands
 take_begun-requires-clause-stands c =
     let i = c.loop-stamp.stamp-index in
     let left = stamped_left c.args.records.now c.args.stamps.now i c.loop-stamp-test.true in
-    ([], stamped_at c.args.records.now (drop (i + 1) c.args.stamps.now), subst (StandsWith c.loop-stamp.env) left c.loop-stamp.invariant.stands)
+    ([], faults_with_stamps c.args.records.now (drop (i + 1) c.args.stamps.now), subst (StandsWith c.loop-stamp.env) left c.loop-stamp.invariant.stands)
 
 pub loop-stamp-preserved : goal.loop-stamp-preserved
 loop-stamp-preserved c =
@@ -18,7 +18,7 @@ loop-stamp-preserved c =
     let left = stamped_left records stamps i c.loop-stamp-test.true in
     let kept = c.loop-stamp.invariant.kept in
     record {
-      stands = c.take_begun.ensures.stands [] (stamped_at records (drop (i + 1) stamps)) (subst (StandsWith c.loop-stamp.env) left c.loop-stamp.invariant.stands);
+      stands = c.take_begun.ensures.stands [] (faults_with_stamps records (drop (i + 1) stamps)) (subst (StandsWith c.loop-stamp.env) left c.loop-stamp.invariant.stands);
       kept = record { names = c.take_begun.ensures.kept.names ∙ kept.names; start = c.take_begun.ensures.kept.start ∙ kept.start };
       work = work_more records stamps i (work_of c.loop-stamp.env) (work_of c.take_begun.new.env) (work_of c.args.env.now) c.loop-stamp-test.true c.loop-stamp.invariant.work c.take_begun.ensures.work;
     }

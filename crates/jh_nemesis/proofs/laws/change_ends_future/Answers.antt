@@ -1,4 +1,4 @@
-use Rattle.jh_nemesis.proofs.RunLemmas.{change_ends}
+use Rattle.jh_nemesis.proofs.StepLemmas.{change_ends}
 use Rattle.jh_nemesis.proofs.laws.change_ends_future.Goals as goal
 
 pub returns : goal.returns

@@ -1,4 +1,4 @@
-use Rattle.jh_nemesis.proofs.RunLemmas.{redo_back, redo_undone, redos_back}
+use Rattle.jh_nemesis.proofs.StepLemmas.{redo_back, redo_undone, redos_back}
 use Rattle.jh_nemesis.proofs.laws.redo_restores.Goals as goal
 
 pub returns-clause-redo : goal.returns-clause-redo

@@ -1,4 +1,4 @@
-use Rattle.jh_nemesis.proofs.RunLemmas.{undo_back}
+use Rattle.jh_nemesis.proofs.StepLemmas.{undo_back}
 use Rattle.jh_nemesis.proofs.laws.undo_restores.Goals as goal
 
 pub returns : goal.returns

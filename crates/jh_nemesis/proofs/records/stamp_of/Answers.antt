@@ -2,7 +2,7 @@ use Rattle.std.proofs.Common.{◌≡◌, ◌<◌, get_or, sym, length, true, ◌
 use Rattle.std.proofs.lemmas.List.{get_or-map, length-map, get_or_default}
 use Rattle.std.proofs.lemmas.List.Folds.{list_any_at}
 use Rattle.jh_nemesis.specs.State.{has_id}
-use Rattle.jh_nemesis.specs.RecordsInside.{faults_at, fault_of, record_at}
+use Rattle.jh_nemesis.specs.RecordsInside.{faults_at, begun_fault, record_at}
 use Rattle.jh_nemesis.specs.declared.records.Record.TheVariants.{Withdrawn}
 use Rattle.jh_nemesis.proofs.records.stamp_of.Goals as goal
 
@@ -16,7 +16,7 @@ returns-then-is_begin_of-clause-variant c =
     let step = c.index-records-stamp.result in
     let read : record_at records stamp ≡ step =
     get_or_default records stamp (Withdrawn 0) step (c.requires i 0 below).0 ∙ sym c.index-records-stamp.is in
-    let begins : has_id c.args.id (fault_of step) ≡ true = sym c.is_begin_of.ensures ∙ c.if-is_begin_of.true in
-    let at = get_or-map (λ k. fault_of (record_at records k)) stamps i 0 (fault_of step) below in
-    let within : i < length (faults_at records stamps) = rw (length-map stamps (λ k. fault_of (record_at records k))) below in
-    sym (list_any_at (has_id c.args.id) (faults_at records stamps) i (fault_of step) within (rw (at, read) begins))
+    let begins : has_id c.args.id (begun_fault step) ≡ true = sym c.is_begin_of.ensures ∙ c.if-is_begin_of.true in
+    let at = get_or-map (λ k. begun_fault (record_at records k)) stamps i 0 (begun_fault step) below in
+    let within : i < length (faults_at records stamps) = rw (length-map stamps (λ k. begun_fault (record_at records k))) below in
+    sym (list_any_at (has_id c.args.id) (faults_at records stamps) i (begun_fault step) within (rw (at, read) begins))

@@ -3,12 +3,12 @@ use Rattle.std.specs.Vec.Iter.{into_iter_items, into_iter_len}
 use Rattle.jh_edn.specs.View.{views}
 use Rattle.jh_ops.specs.Operation.{operations}
 use Rattle.jh_ops.specs.OperationWritten.{IsWritable}
-use Rattle.jh_ops.proofs.HistoryLemmas.{Told}
+use Rattle.jh_ops.proofs.HistoryLemmas.{Parsed}
 use Rattle.jh_ops.proofs.history.history_of.Given as goal
 
 abbrev pub invariant-loop-value : goal.invariant-loop-value
 invariant-loop-value l = record {
-  told : Told (views l.fn.values.items) (operations l.ops.items) (views (into_iter_items l.rest));
+  parsed : Parsed (views l.fn.values.items) (operations l.ops.items) (views (into_iter_items l.rest));
   writable : All (λ op. IsWritable op.process) l.ops.items;
 }
 

@@ -1,8 +1,8 @@
 use Rattle.std.proofs.Common.{◌≡◌, Some, None, position, option_map, rules, ap, ◌∙◌, sym}
+use Rattle.jh_edn.specs.Edn.{is_keyword}
 use Rattle.std.proofs.lemmas.List.Quantifiers.{position-Some}
 use Rattle.jh_edn.specs.View.{view, view_pairs}
-use Rattle.jh_ops.specs.OperationText.{is_keyword}
-use Rattle.jh_ops.proofs.PartLemmas.{none_taken, taken_at}
+use Rattle.jh_ops.proofs.MapPairLemmas.{none_taken, taken_at}
 use Rattle.jh_ops.proofs.op_text.take_under.Goals as goal
 
 pub returns-in_err-place-clause-value : goal.returns-in_err-place-clause-value

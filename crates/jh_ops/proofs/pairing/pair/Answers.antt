@@ -5,7 +5,7 @@ use Rattle.jh_ops.specs.Operation.{operations}
 use Rattle.jh_ops.specs.Stage.{stage_after, pairs_after, pair_awaited}
 use Rattle.jh_ops.specs.declared.pairing.Stage.TheVariants.{Idle}
 use Rattle.jh_ops.proofs.PlaceLemmas.{stages_in, put_here, put_apart, stands_skip, stands_more, first_error, refuses, wants_memory, awaited_is_there, stands_end, not_well_formed}
-use Rattle.jh_ops.proofs.WithinLemmas.{pairs_within}
+use Rattle.jh_ops.proofs.PairPlaceLemmas.{pairs_within}
 use Rattle.jh_ops.proofs.pairing.pair.Goals as goal
 
 pub loop-place-preserved-in_default : goal.loop-place-preserved-in_default
@@ -79,5 +79,5 @@ returns-clause-judged c =
 
 pub returns-clause-within : goal.returns-clause-within
 returns-clause-within c =
-    let told = stands_end _ c.loop-place.pairs.items c.args.history.now c.loop-place.place c.loop-place-test.false c.loop-place.invariant in
-    pairs_within c.args.history.now c.loop-place.pairs.items told.1
+    let parsed = stands_end _ c.loop-place.pairs.items c.args.history.now c.loop-place.place c.loop-place-test.false c.loop-place.invariant in
+    pairs_within c.args.history.now c.loop-place.pairs.items parsed.1

@@ -2,7 +2,7 @@ use Rattle.std.proofs.Common.{◌≡◌, ◌+◌, ◌++◌, take, drop, ap, ◌�
 use Rattle.std.proofs.lemmas.List.{drop-drop}
 use Rattle.std.proofs.Math.Seq.{take-add}
 use Rattle.jh_ops.specs.Operation.{operation}
-use Rattle.jh_ops.specs.RecordParts.{elements, AreWordsOf}
+use Rattle.jh_ops.specs.RecordParts.{elements, AreWordsOfValues}
 use Rattle.jh_ops.specs.Words.{heading, integers}
 use Rattle.jh_ops.proofs.RecordLemmas.{counted, stand_for, elements_kept}
 use Rattle.jh_ops.proofs.words.to_words.Goals as goal
@@ -28,7 +28,7 @@ returns-clause-recorded c =
     let rest = take n (drop 3 new) in
     let first : take 3 new ≡ heading h.0 = c.write_value.ensures.before ∙ c.write_heading.ensures.heading ∙ sym h.3 in
     let all : take (3 + n) new ≡ heading h.0 ++ rest = take-add 3 n new ∙ ap (λ ws. ws ++ rest) first in
-    let are : AreWordsOf rest (elements op.value) = rw c.count_of-len.ensures c.write_value.ensures.integers in
+    let are : AreWordsOfValues rest (elements op.value) = rw c.count_of-len.ensures c.write_value.ensures.integers in
     (h.0, h.1, h.2, (rest, all, stand_for rest (integers h.0.content) (rw (elements_kept op h.0 h.2) at are)))
 
 pub returns-clause-others : goal.returns-clause-others

@@ -1,7 +1,7 @@
 use Rattle.std.proofs.Common.{◌∙◌, ap, subst}
 use Rattle.std.proofs.lemmas.Result.{on_ok_weaker}
 use Rattle.std.specs.Io.KnownBytes.{Appends}
-use Rattle.jh_edn.proofs.Facts.{appends_then}
+use Rattle.jh_edn.proofs.CitedLemmas.{appends_then}
 use Rattle.jh_edn.specs.View.{view}
 use Rattle.jh_pages.specs.Drawings.{box_text, ending_class, ending_sign}
 use Rattle.jh_pages.specs.Labels.{short_label_text}

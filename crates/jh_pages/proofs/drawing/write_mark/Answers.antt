@@ -1,7 +1,7 @@
 use Rattle.std.proofs.Common.{subst}
 use Rattle.std.proofs.lemmas.Result.{on_ok_weaker}
 use Rattle.std.specs.Io.KnownBytes.{Appends}
-use Rattle.jh_edn.proofs.Facts.{appends_then}
+use Rattle.jh_edn.proofs.CitedLemmas.{appends_then}
 use Rattle.jh_pages.specs.Drawings.{box_text}
 use Rattle.jh_pages.proofs.drawing.write_mark.Goals as goal
 

@@ -1,6 +1,6 @@
 use Rattle.std.proofs.Common.{subst}
 use Rattle.std.specs.Io.KnownBytes.{Appends}
-use Rattle.jh_edn.proofs.Facts.{appends_then}
+use Rattle.jh_edn.proofs.CitedLemmas.{appends_then}
 use Rattle.jh_pages.proofs.ListLemmas.{flat_map_next}
 use Rattle.jh_pages.specs.Page.{lane_text}
 use Rattle.jh_pages.proofs.page.write_lanes.Goals as goal

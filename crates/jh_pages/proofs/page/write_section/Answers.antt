@@ -2,7 +2,7 @@ use Rattle.std.proofs.Common.{subst}
 use Rattle.std.proofs.lemmas.Result.{on_ok_weaker}
 use Rattle.std.specs.Io.KnownBytes.{Appends}
 use Rattle.std.specs.List.{flat_map}
-use Rattle.jh_edn.proofs.Facts.{appends_then}
+use Rattle.jh_edn.proofs.CitedLemmas.{appends_then}
 use Rattle.jh_pages.specs.Page.{heading_text, lane_text, window_text}
 use Rattle.jh_pages.proofs.page.write_section.Goals as goal
 

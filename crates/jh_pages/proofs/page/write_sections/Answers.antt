@@ -1,7 +1,7 @@
 use Rattle.std.proofs.Common.{subst}
 use Rattle.std.specs.Io.KnownBytes.{Appends}
 use Rattle.std.specs.List.{flat_map}
-use Rattle.jh_edn.proofs.Facts.{appends_then}
+use Rattle.jh_edn.proofs.CitedLemmas.{appends_then}
 use Rattle.jh_pages.proofs.ListLemmas.{numbered_all, numbered_next}
 use Rattle.jh_pages.specs.Page.{section_text}
 use Rattle.jh_pages.proofs.page.write_sections.Goals as goal

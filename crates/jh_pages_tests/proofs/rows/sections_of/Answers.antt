@@ -1,4 +1,4 @@
-use Rattle.std.proofs.Common.{rules, All, ◌≡◌, ◌∷◌, ◌++◌, [], List, subst, sym}
+use Rattle.std.proofs.Common.{rules, All, ◌≡◌, ◌∷◌, ◌++◌, [], subst, sym}
 use Rattle.std.proofs.lemmas.List.Elements.{All-push}
 use Rattle.jh_ops.specs.OperationWritten.{IsWritable}
 use Rattle.jh_pages.specs.declared.section.Section.{Section}

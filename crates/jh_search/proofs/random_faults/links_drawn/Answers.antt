@@ -1,7 +1,7 @@
 use Rattle.std.proofs.Common.{◌%◌, ℕ, List, length, subst, sym, ap, ◌∙◌, arith}
 use Rattle.std.specs.Prelude.{IsPermutation}
 use Rattle.std.proofs.lemmas.Result.{IfOk-weaker}
-use Rattle.jh_nemesis.specs.NamedFaults.{AreLinksAmong, places}
+use Rattle.jh_nemesis.specs.NamedFaults.{AreLinksAmong, node_places}
 use Rattle.jh_nemesis.proofs.GrudgeLemmas.{order_long}
 use Rattle.jh_search.specs.RandomFaults.{links_named}
 use Rattle.jh_search.proofs.random_faults.links_drawn.Goals as goal
@@ -16,8 +16,8 @@ pub links_named-requires-clause-all : goal.links_named-requires-clause-all
 links_named-requires-clause-all c =
     let n = length c.args.nodes.now in
     let long = ap length c.deref.ensures.value ∙ order_long n c.in_ok-order.order.items c.in_ok-order.ensures.all in
-    subst (λ m. IsPermutation (places m) c.deref.result.now) (sym long)
-    (subst (IsPermutation (places n)) (sym c.deref.ensures.value) c.in_ok-order.ensures.all)
+    subst (λ m. IsPermutation (node_places m) c.deref.result.now) (sym long)
+    (subst (IsPermutation (node_places n)) (sym c.deref.ensures.value) c.in_ok-order.ensures.all)
 
 pub returns-clause-links : goal.returns-clause-links
 returns-clause-links c =

@@ -2,7 +2,7 @@ use Rattle.std.proofs.Common.{length, sym, subst, ◌∙◌, ap, arith}
 use lib.Seq.{length-take-le}
 use Rattle.std.specs.Prelude.{IsPermutation}
 use Rattle.std.proofs.lemmas.Result.{IfOk-weaker}
-use Rattle.jh_nemesis.specs.NamedFaults.{places}
+use Rattle.jh_nemesis.specs.NamedFaults.{node_places}
 use Rattle.jh_nemesis.proofs.GrudgeLemmas.{order_long}
 use Rattle.jh_search.specs.FaultsInside.{AreNodesOf}
 use Rattle.jh_search.proofs.FaultLemmas.{taken_nodes}
@@ -20,5 +20,5 @@ returns-clause-known c =
     let n = length c.args.nodes.now in
     let few = c.nodes_named-count.ensures.within in
     let count = c.len.ensures.len in
-    let shuffled : IsPermutation (places n) c.deref.result.now = subst (IsPermutation (places n)) (sym c.deref.ensures.value) c.in_ok-order.ensures.all in
+    let shuffled : IsPermutation (node_places n) c.deref.result.now = subst (IsPermutation (node_places n)) (sym c.deref.ensures.value) c.in_ok-order.ensures.all in
     IfOk-weaker c.nodes_at.result _ _ (λ named is. subst (AreNodesOf n) (sym is) (taken_nodes n c.nodes_named-count.result c.deref.result.now shuffled (omega (arith, few, count)))) c.nodes_at.ensures

@@ -10,7 +10,7 @@ loop-index-preserved c =
     let p = c.args.plan.now in
     let options = c.args.options.now in
     let tried = c.loop-index.index in
-    let comes = c.in_ok-outcome_at.ensures in
+    let comes = c.in_ok-verdict_at.ensures in
     elim c.match-branch-2.branch [
       | in-Passes w ↦ subst (HasTried p options (tried + 1)) (sym w.unknown-is)
           (passed_more p options tried c.loop-index.unknown c.loop-index.invariant (subst (ComesOf p options (options.from + tried)) w.in-Passes.is comes))

@@ -1,7 +1,7 @@
 use Rattle.std.proofs.Common.{rules, ◌≡◌, ◌<◌, ◌+◌, length, get_or, subst, arith}
 use Rattle.std.specs.Prelude.{None, Ok, Some}
 use Rattle.jh_search.specs.Search.{ComesOf}
-use Rattle.jh_search.specs.declared.outcomes.Outcome.TheVariants.{Fails}
+use Rattle.jh_search.specs.declared.verdicts.PlanVerdict.TheVariants.{Fails}
 use Rattle.jh_search.proofs.SearchLemmas.{answer_comes, first_found, passed_more, unknown_more}
 use Rattle.jh_search.proofs.threads.after_block.Goals as goal
 use Rattle.jh_search.proofs.threads.after_block.Goals.{in-Passes, in-Unknown}
@@ -14,8 +14,8 @@ returns-in-Fails c =
     let far = c.loop-answer.invariant.far in
     let here : options.from + c.args.progress.tried + i ≡ options.from + c.loop-answer.next.tried = omega (arith, far) in
     let below : i < length c.args.answers.now = c.loop-answer-test.true in
-    let at : get_or c.args.answers.now i None ≡ Some (Ok c.in-Some-Ok.outcome) = search rules in
-    let came = answer_comes p options (options.from + c.args.progress.tried) c.args.answers.now i c.in-Some-Ok.outcome c.requires.answers below at in
+    let at : get_or c.args.answers.now i None ≡ Some (Ok c.in-Some-Ok.verdict) = search rules in
+    let came = answer_comes p options (options.from + c.args.progress.tried) c.args.answers.now i c.in-Some-Ok.verdict c.requires.answers below at in
     let few = c.requires.few in
     first_found p options c.loop-answer.next.tried c.loop-answer.next.unknown c.loop-answer.invariant.tried (omega (arith, far, few, below))
     (subst (λ n. ComesOf p options n Fails) here (subst (ComesOf p options (options.from + c.args.progress.tried + i)) c.in-Fails.is came))
@@ -28,11 +28,11 @@ loop-answer-preserved c =
     let far = c.loop-answer.invariant.far in
     let here : options.from + c.args.progress.tried + i ≡ options.from + c.loop-answer.next.tried = omega (arith, far) in
     let below : i < length c.args.answers.now = c.loop-answer-test.true in
-    let at : get_or c.args.answers.now i None ≡ Some (Ok c.in-Some-Ok.outcome) = search rules in
-    let came = subst (λ n. ComesOf p options n c.in-Some-Ok.outcome) here
-    (answer_comes p options (options.from + c.args.progress.tried) c.args.answers.now i c.in-Some-Ok.outcome c.requires.answers below at) in
+    let at : get_or c.args.answers.now i None ≡ Some (Ok c.in-Some-Ok.verdict) = search rules in
+    let came = subst (λ n. ComesOf p options n c.in-Some-Ok.verdict) here
+    (answer_comes p options (options.from + c.args.progress.tried) c.args.answers.now i c.in-Some-Ok.verdict c.requires.answers below at) in
     let before = c.loop-answer.next in
-    elim c.match-outcome.branch [
+    elim c.match-verdict.branch [
       | in-Passes w ↦ rw (w.next-is) (record {
         tried = passed_more p options before.tried before.unknown c.loop-answer.invariant.tried (subst (ComesOf p options (options.from + before.tried)) w.in-Passes.is came);
         far = omega (arith, far);

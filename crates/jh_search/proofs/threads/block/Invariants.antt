@@ -5,5 +5,5 @@ use Rattle.jh_search.proofs.threads.block.Given as goal
 abbrev pub ghosts-tried : goal.ghosts-tried
 ghosts-tried g a = record {
   count = a.count;
-  comes = λ index outcome. ComesOf a.plan.now a.options.now (a.from + index) outcome;
+  comes = λ index verdict. ComesOf a.plan.now a.options.now (a.from + index) verdict;
 }

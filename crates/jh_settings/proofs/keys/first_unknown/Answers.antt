@@ -1,7 +1,7 @@
 use Rattle.std.proofs.Common.{◌≡◌, subst, ap, sym, ◌∙◌}
 use Rattle.std.specs.BTreeMap.{keys}
 use Rattle.toml.specs.View.{table_view}
-use Rattle.jh_settings.specs.Keys.{is_known, IsFirstUnknown}
+use Rattle.jh_settings.specs.Keys.{is_key_name, IsFirstUnknown}
 use Rattle.jh_settings.proofs.KeyLemmas.{Passed, none_passed, one_passed, all_known, first_unknown}
 use Rattle.jh_settings.proofs.keys.first_unknown.Goals as goal
 
@@ -13,7 +13,7 @@ loop-key-init c =
 pub loop-key-preserved : goal.loop-key-preserved
 loop-key-preserved c =
     let left = subst (Passed (keys c.args.table.now)) c.in-Some.ensures.steps c.loop-key.invariant.passed in
-    record { can = tt; ends = tt; passed = one_passed (keys c.args.table.now) c.in-Some.key.now c.next.new.self left (ap is_known (sym c.as_str.ensures.value) ∙ sym c.if-not-is_known.ensures) }
+    record { can = tt; ends = tt; passed = one_passed (keys c.args.table.now) c.in-Some.key.now c.next.new.self left (ap is_key_name (sym c.as_str.ensures.value) ∙ sym c.if-not-is_known.ensures) }
 
 pub returns : goal.returns
 returns c =
@@ -23,6 +23,6 @@ returns c =
 pub returns-then-not-is_known : goal.returns-then-not-is_known
 returns-then-not-is_known c =
     let left = subst (Passed (keys c.args.table.now)) c.in-Some.ensures.steps c.loop-key.invariant.passed in
-    let unknown = ap is_known (sym c.as_str.ensures.value) ∙ sym c.if-not-is_known.ensures in
+    let unknown = ap is_key_name (sym c.as_str.ensures.value) ∙ sym c.if-not-is_known.ensures in
     let first = first_unknown c.args.table.now.entries c.in-Some.key.now c.next.new.self left c.keys-key-items.ensures.ordered unknown in
     subst (IsFirstUnknown (table_view c.args.table.now)) (sym c.as_str-then-not-is_known.ensures.value) first

@@ -7,4 +7,4 @@ use Rattle.jh_settings.proofs.table.value_under.Goals as goal
 pub returns : goal.returns
 returns c =
     let found = table_get c.get.result c.as_str.result.now c.args.table.now.entries c.get.ensures.value in
-    found ∙ ap (λ word. get_member word (table_view c.args.table.now)) c.as_str.ensures
+    found ∙ ap (λ choice. get_member choice (table_view c.args.table.now)) c.as_str.ensures

@@ -1,5 +1,5 @@
-use Rattle.jh_simnode.proofs.Going.{first_stands}
-use Rattle.jh_simnode.proofs.Writing.{small_runs}
+use Rattle.jh_simnode.proofs.BetweenTurnsLemmas.{first_stands}
+use Rattle.jh_simnode.proofs.WritableLemmas.{small_runs}
 use Rattle.jh_simnode.proofs.serial.run_turns.Goals as goal
 
 pub loop-run-init : goal.loop-run-init

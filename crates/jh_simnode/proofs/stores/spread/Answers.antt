@@ -1,5 +1,5 @@
 use Rattle.std.proofs.Common.{length}
-use Rattle.jh_simnode.proofs.Taking.{own_replicas, own_sources}
+use Rattle.jh_simnode.proofs.TakeOverLemmas.{own_replicas, own_sources}
 use Rattle.jh_simnode.proofs.stores.spread.Goals as goal
 
 pub loop-from-init : goal.loop-from-init

@@ -1,5 +1,5 @@
 use Rattle.std.proofs.Common.{◌++◌, take, drop}
-use Rattle.jh_simnode.specs.Outcomes.{AreTaken, replicas_from}
+use Rattle.jh_simnode.specs.TakingInside.{AreTaken, replicas_from}
 use Rattle.jh_simnode.proofs.stores.taken_from.Given as goal
 
 abbrev pub invariant-loop-place : goal.invariant-loop-place

@@ -1,8 +1,8 @@
 use Rattle.std.proofs.Common.{◌≡◌, ◌<◌, true, length, get_or, sym}
 use Rattle.std.proofs.lemmas.List.{get_or_default}
-use Rattle.jh_simnode.specs.Replicas.{blank, replica_at, is_lower}
-use Rattle.jh_simnode.specs.Reach.{cells_of}
-use Rattle.jh_simnode.proofs.Taking.{tell_takes, source_set}
+use Rattle.jh_simnode.specs.Replicas.{blank_replica, replica_at, is_lower}
+use Rattle.jh_simnode.specs.Reach.{env_cells}
+use Rattle.jh_simnode.proofs.TakeOverLemmas.{tell_takes, source_set}
 use Rattle.jh_simnode.proofs.stores.tell.Goals as goal
 
 pub returns-then-is_lower-clause-told : goal.returns-then-is_lower-clause-told
@@ -16,10 +16,10 @@ returns-then-is_lower-clause-told c =
     let to_known : to < length replicas = rw sized (c.requires.sources.known c.args.to 0 (rw long c.requires.to)) in
     let from_known : from < length replicas = rw sized (c.requires.sources.known c.args.from 0 (rw long c.requires.from)) in
     let lower : is_lower (replica_at replicas to).mark (replica_at replicas from).mark ≡ true =
-    rw (get_or_default replicas to blank c.index-replicas-sources.result to_known, get_or_default replicas from blank c.index-replicas-source.result from_known)
+    rw (get_or_default replicas to blank_replica c.index-replicas-sources.result to_known, get_or_default replicas from blank_replica c.index-replicas-source.result from_known)
     (sym c.if-is_lower.ensures)
     in
-    tell_takes (cells_of c.args.env.now) c.args.from c.args.to (length c.args.env.now.names) replicas sources c.requires.sources c.requires.from c.requires.to
+    tell_takes (env_cells c.args.env.now) c.args.from c.args.to (length c.args.env.now.names) replicas sources c.requires.sources c.requires.from c.requires.to
     (sym c.if-tells.ensures) lower
 
 pub returns-then-is_lower-clause-sources : goal.returns-then-is_lower-clause-sources

@@ -1,9 +1,10 @@
 use Rattle.std.proofs.Common.{◌≡◌, ◌∙◌, [], map, subst, sym, Result, Ok, Err, IfOk}
 use Rattle.jh_ops.specs.Operation.{operations}
 use Rattle.jh_timeline.specs.Lanes.{AreBarsOf, AreKeptApart, TakeLanes}
-use Rattle.jh_timeline.specs.LanesInside.{AreInOrder}
+use Rattle.jh_timeline.specs.LanesInside.{AreCallsInOrder}
 use Rattle.jh_timeline.specs.declared.picture.Bar.{Bar}
-use Rattle.jh_timeline.proofs.LaneLemmas.{kept_apart, within_order}
+use Rattle.jh_timeline.proofs.CallOrderLemmas.{within_order}
+use Rattle.jh_timeline.proofs.LaneApartLemmas.{kept_apart}
 use Rattle.jh_timeline.proofs.lanes.bars_in.Goals as goal
 
 joined : {T E : Type 0} (r : Result T E) (P Q R : T → Type 0) → ((x : T) → P x → Q x → R x) → IfOk r P → IfOk r Q → IfOk r R
@@ -12,7 +13,7 @@ joined (Err e) P Q R f p q = tt
 
 pub bars_of-requires : goal.bars_of-requires
 bars_of-requires c =
-    subst AreInOrder (sym (c.deref.ensures.value ∙ c.in_ok-calls.ensures)) (within_order c.args.window (operations c.args.history.now))
+    subst AreCallsInOrder (sym (c.deref.ensures.value ∙ c.in_ok-calls.ensures)) (within_order c.args.window (operations c.args.history.now))
 
 pub returns-clause-drawn : goal.returns-clause-drawn
 returns-clause-drawn c =

@@ -1,6 +1,6 @@
 use Rattle.std.proofs.Common.{◌∙◌, ◌-◌, Some, arith, nat_cmp, subst}
 use Rattle.std.specs.BTreeMap.{Updates}
-use Rattle.jh_timeline.proofs.LaneLemmas.{kept_client, kept_other}
+use Rattle.jh_timeline.proofs.CallLemmas.{kept_client, kept_other}
 use Rattle.jh_timeline.proofs.lanes.calls_in.Goals as goal
 
 pub loop-index-preserved-in_ok-insert : goal.loop-index-preserved-in_ok-insert

@@ -1,6 +1,6 @@
 use Rattle.std.proofs.Common.{nat_cmp}
 use Rattle.std.specs.BTreeMap.{get}
-use Rattle.jh_timeline.proofs.LaneLemmas.{Kept}
+use Rattle.jh_timeline.proofs.CallLemmas.{Kept}
 use Rattle.jh_timeline.proofs.lanes.calls_in.Given as goal
 
 abbrev pub invariant-loop-index : goal.invariant-loop-index

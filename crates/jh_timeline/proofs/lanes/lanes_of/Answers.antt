@@ -1,7 +1,7 @@
 use Rattle.std.proofs.Common.{◌∙◌, None, nat_cmp, subst, sym, take, ◌+◌}
 use Rattle.std.specs.BTreeSet.{contains}
 use Rattle.jh_timeline.specs.declared.picture.Bar.{Bar}
-use Rattle.jh_timeline.proofs.LaneLemmas.{Listed, bar_known, bar_new}
+use Rattle.jh_timeline.proofs.LaneApartLemmas.{Listed, bar_known, bar_new}
 use Rattle.jh_timeline.proofs.lanes.lanes_of.Goals as goal
 use Rattle.jh_timeline.proofs.lanes.lanes_of.Goals.{then-branch+in_ok-add_client, else-branch}
 

@@ -1,6 +1,6 @@
 use Rattle.std.proofs.Common.{nat_cmp, take}
 use Rattle.std.specs.BTreeSet.{contains}
-use Rattle.jh_timeline.proofs.LaneLemmas.{Listed}
+use Rattle.jh_timeline.proofs.LaneApartLemmas.{Listed}
 use Rattle.jh_timeline.proofs.lanes.lanes_of.Given as goal
 
 abbrev pub invariant-loop-bar : goal.invariant-loop-bar

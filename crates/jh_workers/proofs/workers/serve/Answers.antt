@@ -4,4 +4,4 @@ use Rattle.jh_workers.proofs.workers.serve.Goals as goal
 pub returns-clause-recorded : goal.returns-clause-recorded
 returns-clause-recorded g c =
     let between = c.record_invocation.new.pass.seat.knows.seen in
-    (c.in_ok-number.reply, c.in_ok-number.number, c.ended_of.ensures, (between, c.in_ok-record_invocation.ensures, c.in_ok-record_completion.ensures))
+    (c.in_ok-number.reply, c.in_ok-number.number, c.reply_ending.ensures, (between, c.in_ok-record_invocation.ensures, c.in_ok-record_completion.ensures))

@@ -1,9 +1,9 @@
 use Rattle.std.proofs.Common.{◌≡◌}
-use Rattle.jh_slots.specs.Seats.{Holds}
+use Rattle.jh_slots.specs.Seats.{HoldsClaim}
 use Rattle.jh_workers_tests.proofs.gathers.publish.Given as goal
 
 abbrev pub invariant-loop-place : goal.invariant-loop-place
 invariant-loop-place l =
     (l.seat.table ≡ l.initial.seat.table)
     × (l.claim.rows ≡ 1)
-    × Holds l.seat.knows l.claim.first l.claim.rows
+    × HoldsClaim l.seat.knows l.claim.first l.claim.rows

@@ -2,7 +2,7 @@ use Rattle.std.proofs.Common.{rules, ◌≡◌, ℕ, List, ◌++◌, codes, ap, 
 use Rattle.std.proofs.lemmas.Result.{on_ok_weaker}
 use Rattle.std.specs.Fmt.{signed_decimal}
 use Rattle.std.specs.Io.KnownBytes.{Appends}
-use Rattle.jh_edn.proofs.Facts.{appends_then}
+use Rattle.jh_edn.proofs.CitedLemmas.{appends_then}
 use Rattle.jh_edn.specs.Print.{print}
 use Rattle.jh_check.specs.Lines.{read_value}
 use Rattle.jh_check.proofs.elements.ReadBoundsElement.write_to.Goals as goal

@@ -2,7 +2,7 @@ use Rattle.std.proofs.Common.{ap, ◌∙◌}
 use Rattle.std.specs.Ordering.{is_lt}
 use Rattle.std.proofs.lemmas.List.MinMax.{ranks_by}
 use Rattle.jh_edn.specs.Order.{in_order}
-use Rattle.jh_edn.proofs.Facts.{sorted_is}
+use Rattle.jh_edn.proofs.CitedLemmas.{sorted_is}
 use Rattle.jh_env.proofs.texts.faults.sorted.Goals as goal
 
 pub returns-clause-sorted : goal.returns-clause-sorted

@@ -4,7 +4,7 @@ use Rattle.std.proofs.lemmas.Cmp.{nat_cmp_total}
 use Rattle.std.proofs.lemmas.List.MinMax.{ranks_by}
 use Rattle.std.proofs.lemmas.List.Sorted.{answers_always}
 use Rattle.jh_edn.specs.Order.{in_order}
-use Rattle.jh_edn.proofs.Facts.{sorted_is}
+use Rattle.jh_edn.proofs.CitedLemmas.{sorted_is}
 use Rattle.jh_env.specs.FaultWritten.{is_bump_before}
 use Rattle.jh_env.proofs.texts.faults.sorted_bumps.Goals as goal
 

@@ -1,7 +1,7 @@
 use Rattle.std.proofs.Common.{◌<◌, ◌≤◌, ◌∙◌, length, arith, rules}
 use Rattle.jh_env.specs.TextErrors.{repeats}
 use Rattle.jh_env.specs.TextInside.{entries_parsed}
-use Rattle.jh_env.proofs.TextTellingLemmas.{all_set, more_set, repeated_first, said_at, among_said, length-entries_parsed}
+use Rattle.jh_env.proofs.TextSettingLemmas.{all_set, more_set, repeated_first, said_at, among_said, length-entries_parsed}
 use Rattle.jh_env.proofs.texts.setting.set_all.Goals as goal
 
 pub returns-then-is_repeated : goal.returns-then-is_repeated

@@ -1,7 +1,7 @@
 use Rattle.std.proofs.Common.{rules, ◌≡◌, true}
 use Rattle.jh_gen.specs.Fits.{fits}
 use Rattle.jh_gen.specs.View.{generator_of}
-use Rattle.jh_gen.proofs.Driving.{fits_more}
+use Rattle.jh_gen.proofs.DriverLemmas.{fits_more}
 use Rattle.jh_gen.proofs.driver.Driver.new.Goals as goal
 
 pub build-requires : goal.build-requires

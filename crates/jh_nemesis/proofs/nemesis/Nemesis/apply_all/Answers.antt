@@ -4,7 +4,7 @@ use Rattle.std.specs.Vec.Iter.{into_iter_items}
 use Rattle.std.proofs.lemmas.List.Elements.{All-head, All-tail}
 use Rattle.jh_nemesis.specs.Work.{NemesisValue}
 use Rattle.jh_nemesis.specs.Steps.{StepFits, is_free}
-use Rattle.jh_nemesis.proofs.RunLemmas.{all_fit, next_of, step_more}
+use Rattle.jh_nemesis.proofs.StepLemmas.{all_fit, step_more}
 use Rattle.jh_nemesis.proofs.nemesis.Nemesis.apply_all.Goals as goal
 
 pub apply-requires : goal.apply-requires
@@ -15,7 +15,7 @@ apply-requires c =
 pub loop-step-preserved : goal.loop-step-preserved
 loop-step-preserved c =
     let rest = into_iter_items c.next.new.self in
-    let told = rw c.in-Some.ensures.steps.0 at c.loop-step.invariant.told in
+    let parsed = rw c.in-Some.ensures.steps.0 at c.loop-step.invariant.parsed in
     let after = rw c.in-Some.ensures.steps.0 at c.loop-step.invariant.rest in
     let room = rw c.in-Some.ensures.steps.0 at c.loop-step.invariant.room in
     let fit = All-tail (StepFits c.loop-step.self.state) c.in-Some.step rest (rw c.in-Some.ensures.steps.0 at c.loop-step.invariant.fit) in
@@ -26,7 +26,7 @@ loop-step-preserved c =
       can = tt;
       ends = tt;
       room = omega (arith, room, c.push_reserved.ensures.capacity, ap length c.push_reserved.ensures.items, length-append c.loop-step.answers.items (c.in-Ok.answer ∷ []));
-      told = rw (c.push_reserved.ensures.items, c.in-Ok.ensures.answer.0, c.in-Ok.ensures.answer.1, append_assoc) told;
+      parsed = rw (c.push_reserved.ensures.items, c.in-Ok.ensures.answer.0, c.in-Ok.ensures.answer.1, append_assoc) parsed;
       rest = rw c.in-Ok.ensures.answer.1 after;
       fit = rw c.in-Ok.ensures.answer.1 (all_fit c.loop-step.self.state c.in-Some.step rest fit);
       left = rw (c.push_reserved.ensures.items, c.in-Ok.ensures.answer.0) more.left;

@@ -11,7 +11,7 @@ invariant-loop-step l = record {
   can : (goal.iterator-loop-step).can_next l.step-iterator;
   ends : (goal.iterator-loop-step).is_finite l.step-iterator;
   room : length l.answers.items + length (into_iter_items l.step-iterator) ≤ vec_capacity l.answers;
-  told : l.answers.items ++ answers_of l.self.state (into_iter_items l.step-iterator) ≡ answers_of l.fn.self.state l.fn.steps.items;
+  parsed : l.answers.items ++ answers_of l.self.state (into_iter_items l.step-iterator) ≡ answers_of l.fn.self.state l.fn.steps.items;
   rest : state_after_all l.self.state (into_iter_items l.step-iterator) ≡ state_after_all l.fn.self.state l.fn.steps.items;
   fit : All (StepFits l.self.state) (into_iter_items l.step-iterator);
   left : drop (length l.answers.items) l.fn.steps.items ≡ into_iter_items l.step-iterator;

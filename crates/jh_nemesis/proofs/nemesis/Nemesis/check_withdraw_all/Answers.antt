@@ -1,6 +1,6 @@
 use Rattle.std.proofs.Common.{◌≡◌, ◌∙◌, false, true, length, sym, refl}
+use Rattle.jh_edn.specs.Edn.{is_empty}
 use Rattle.std.specs.Prelude.{nat_le}
-use Rattle.jh_nemesis.specs.State.{is_empty}
 use Rattle.jh_nemesis.specs.Steps.{max_steps}
 use Rattle.jh_nemesis.proofs.RecordLemmas.{some_active}
 use Rattle.jh_nemesis.proofs.nemesis.Nemesis.check_withdraw_all.Goals as goal

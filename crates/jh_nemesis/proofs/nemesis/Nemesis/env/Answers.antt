@@ -1,6 +1,6 @@
 use Rattle.std.proofs.Common.{subst}
 use Rattle.jh_env.specs.Overlay.{IsOverlay}
-use Rattle.jh_nemesis.specs.RecordsInside.{stamped_at}
+use Rattle.jh_nemesis.specs.RecordsInside.{faults_with_stamps}
 use Rattle.jh_nemesis.proofs.RecordLemmas.{stamped_faults}
 use Rattle.jh_nemesis.proofs.nemesis.Nemesis.env.Goals as goal
 
@@ -10,7 +10,7 @@ returns-clause-overlay c =
     let stands = c.self.invariant.stands in
     let are = stamped_faults a.records.items a.active.items in
     rw (← c.self.view_is) (record {
-      stamped = stamped_at a.records.items a.active.items;
+      stamped = faults_with_stamps a.records.items a.active.items;
       are = are;
       stands = stands;
       cells = subst (λ faults. IsOverlay a.env.start faults a.env.cells) are stands.cells;

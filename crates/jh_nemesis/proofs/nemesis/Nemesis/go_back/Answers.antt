@@ -1,9 +1,10 @@
 use Rattle.std.proofs.Common.{◌≡◌, ◌<◌, ◌+◌, ◌-◌, arith, ◌∙◌, false, subst, sym, ap}
+use Rattle.jh_edn.specs.Edn.{is_empty}
 use Rattle.jh_env.specs.Overlay.{StandsWith}
-use Rattle.jh_nemesis.specs.State.{State, is_empty, back_to}
+use Rattle.jh_nemesis.specs.State.{State, state_back_to}
 use Rattle.jh_nemesis.specs.NemesisInside.{state_from}
 use Rattle.jh_nemesis.specs.Work.{NemesisValue}
-use Rattle.jh_nemesis.specs.RecordsInside.{active_after, faults_at, moment, past_of, stamped_at}
+use Rattle.jh_nemesis.specs.RecordsInside.{active_after, faults_at, moment, past_of, faults_with_stamps}
 use Rattle.jh_nemesis.proofs.CursorLemmas.{few_at, played_back_is, state_back, moved_true, has_past}
 use Rattle.jh_nemesis.proofs.nemesis.Nemesis.go_back.Goals as goal
 
@@ -23,7 +24,7 @@ step_back-requires-clause-stands c =
     let w = c.self.invariant.within in
     let last : a.cursor ≡ a.cursor - 1 + 1 = omega arith in
     let now = c.self.invariant.now ∙ ap (active_after a.records.items) last in
-    rw c.deref.ensures.value (subst (λ active. StandsWith a.env (stamped_at a.records.items active)) now c.self.invariant.stands)
+    rw c.deref.ensures.value (subst (λ active. StandsWith a.env (faults_with_stamps a.records.items active)) now c.self.invariant.stands)
 
 pub play_back-requires-clause-room : goal.play_back-requires-clause-room
 play_back-requires-clause-room c =
@@ -41,7 +42,7 @@ returns-clause-state c =
     let w = c.self.invariant.within in
     let is : c.play_back.new.active.items ≡ active_after a.records.items (a.cursor - 1) =
     c.play_back.ensures ∙ rw c.deref-2.ensures.value (played_back_is c.self.invariant later) in
-    subst (λ (s : State). state_from c.step_back.new.env a.records.items (a.cursor - 1) c.play_back.new.active.items ≡ back_to s s.past)
+    subst (λ (s : State). state_from c.step_back.new.env a.records.items (a.cursor - 1) c.play_back.new.active.items ≡ state_back_to s s.past)
     (ap (λ (n : NemesisValue). n.state) c.self.view_is) (state_back c.self.invariant c.step_back.new.env c.play_back.new.active.items later is c.step_back.ensures.kept)
 
 pub returns-clause-work : goal.returns-clause-work
@@ -65,7 +66,7 @@ invariant_of-self c =
     let w = c.self.invariant.within in
     let is : c.play_back.new.active.items ≡ active_after a.records.items (a.cursor - 1) =
     c.play_back.ensures ∙ rw c.deref-2.ensures.value (played_back_is c.self.invariant later) in
-    let there : StandsWith c.step_back.new.env (stamped_at a.records.items (active_after a.records.items (a.cursor - 1))) =
+    let there : StandsWith c.step_back.new.env (faults_with_stamps a.records.items (active_after a.records.items (a.cursor - 1))) =
     rw c.deref.ensures.value at c.step_back.ensures.stands in
-    let stands = subst (λ active. StandsWith c.step_back.new.env (stamped_at a.records.items active)) (sym is) there in
+    let stands = subst (λ active. StandsWith c.step_back.new.env (faults_with_stamps a.records.items active)) (sym is) there in
     moved_true c.self.invariant c.step_back.new.env (a.cursor - 1) c.play_back.new.active.items (omega arith) is c.step_back.ensures.kept stands

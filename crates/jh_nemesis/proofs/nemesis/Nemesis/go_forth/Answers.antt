@@ -1,9 +1,10 @@
 use Rattle.std.proofs.Common.{◌≡◌, ◌<◌, ◌+◌, ◌-◌, ap, length, arith, ◌∙◌, false, subst, sym}
+use Rattle.jh_edn.specs.Edn.{is_empty}
 use Rattle.jh_env.specs.Overlay.{StandsWith}
-use Rattle.jh_nemesis.specs.State.{State, is_empty, forth_to}
+use Rattle.jh_nemesis.specs.State.{State, state_forth_to}
 use Rattle.jh_nemesis.specs.NemesisInside.{state_from}
 use Rattle.jh_nemesis.specs.Work.{NemesisValue}
-use Rattle.jh_nemesis.specs.RecordsInside.{active_after, faults_at, future_of, moment, stamped_at}
+use Rattle.jh_nemesis.specs.RecordsInside.{active_after, faults_at, future_of, moment, faults_with_stamps}
 use Rattle.jh_nemesis.proofs.CursorLemmas.{few_at, played_is, state_forth, moved_true, has_future}
 use Rattle.jh_nemesis.proofs.nemesis.Nemesis.go_forth.Goals as goal
 
@@ -18,7 +19,7 @@ step_forth-requires-clause-known c =
 pub step_forth-requires-clause-stands : goal.step_forth-requires-clause-stands
 step_forth-requires-clause-stands c =
     let a = c.self.inside in
-    rw c.deref.ensures.value (subst (λ active. StandsWith a.env (stamped_at a.records.items active)) c.self.invariant.now c.self.invariant.stands)
+    rw c.deref.ensures.value (subst (λ active. StandsWith a.env (faults_with_stamps a.records.items active)) c.self.invariant.now c.self.invariant.stands)
 
 pub play-requires-clause-room : goal.play-requires-clause-room
 play-requires-clause-room c =
@@ -36,7 +37,7 @@ returns-clause-state c =
     let within : a.cursor < length a.records.items = has_future a.records.items a.cursor left in
     let is : c.play.new.active.items ≡ active_after a.records.items (a.cursor + 1) =
     c.play.ensures ∙ rw c.deref-2.ensures.value (played_is c.self.invariant) in
-    subst (λ (s : State). state_from c.step_forth.new.env a.records.items (a.cursor + 1) c.play.new.active.items ≡ forth_to s s.future)
+    subst (λ (s : State). state_from c.step_forth.new.env a.records.items (a.cursor + 1) c.play.new.active.items ≡ state_forth_to s s.future)
     (ap (λ (n : NemesisValue). n.state) c.self.view_is) (state_forth c.self.invariant c.step_forth.new.env c.play.new.active.items within is c.step_forth.ensures.kept)
 
 pub returns-clause-work : goal.returns-clause-work
@@ -56,7 +57,7 @@ invariant_of-self c =
     let within : a.cursor < length a.records.items = has_future a.records.items a.cursor left in
     let is : c.play.new.active.items ≡ active_after a.records.items (a.cursor + 1) =
     c.play.ensures ∙ rw c.deref-2.ensures.value (played_is c.self.invariant) in
-    let there : StandsWith c.step_forth.new.env (stamped_at a.records.items (active_after a.records.items (a.cursor + 1))) =
+    let there : StandsWith c.step_forth.new.env (faults_with_stamps a.records.items (active_after a.records.items (a.cursor + 1))) =
     rw c.deref.ensures.value at c.step_forth.ensures.stands in
-    let stands = subst (λ active. StandsWith c.step_forth.new.env (stamped_at a.records.items active)) (sym is) there in
+    let stands = subst (λ active. StandsWith c.step_forth.new.env (faults_with_stamps a.records.items active)) (sym is) there in
     moved_true c.self.invariant c.step_forth.new.env (a.cursor + 1) c.play.new.active.items (omega arith) is c.step_forth.ensures.kept stands

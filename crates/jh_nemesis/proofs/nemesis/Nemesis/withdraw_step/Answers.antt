@@ -5,7 +5,7 @@ use Rattle.jh_env.specs.Overlay.{work_of}
 use Rattle.jh_nemesis.specs.State.{State, is_active}
 use Rattle.jh_nemesis.specs.Work.{NemesisValue, size_of_step}
 use Rattle.jh_nemesis.specs.Steps.{withdraw_answer, state_after}
-use Rattle.jh_nemesis.specs.RecordsInside.{fault_of, faults_at, past_of, record_at}
+use Rattle.jh_nemesis.specs.RecordsInside.{begun_fault, faults_at, past_of, record_at}
 use Rattle.jh_nemesis.specs.NemesisInside.{state_of}
 use Rattle.jh_nemesis.specs.declared.records.Record.TheVariants.{Withdrawn}
 use Rattle.jh_nemesis.specs.declared.steps.Step.TheVariants.{Withdraw}
@@ -38,7 +38,7 @@ pub returns-clause-ok : goal.returns-clause-ok
 returns-clause-ok c =
     let a = c.self.inside in
     let inside : Contains a.active.items c.in-Some.stamp = rw c.deref-2.ensures.0 at c.in-Some.ensures.stamp.0 in
-    let at : (fault_of (record_at a.records.items c.in-Some.stamp)).0 ≡ c.args.id =
+    let at : (begun_fault (record_at a.records.items c.in-Some.stamp)).0 ≡ c.args.id =
     rw c.deref.ensures.value at c.in-Some.ensures.stamp.1 in
     let active : true ≡ is_active (faults_at a.records.items a.active.items) c.args.id =
     rw (c.deref.ensures.value, c.deref-2.ensures.0) at c.in-Some.ensures.variant in
@@ -56,7 +56,7 @@ pub returns-clause-work : goal.returns-clause-work
 returns-clause-work c =
     let a = c.self.inside in
     let inside : Contains a.active.items c.in-Some.stamp = rw c.deref-2.ensures.0 at c.in-Some.ensures.stamp.0 in
-    let at : (fault_of (record_at a.records.items c.in-Some.stamp)).0 ≡ c.args.id =
+    let at : (begun_fault (record_at a.records.items c.in-Some.stamp)).0 ≡ c.args.id =
     rw c.deref.ensures.value at c.in-Some.ensures.stamp.1 in
     let active : true ≡ is_active (faults_at a.records.items a.active.items) c.args.id =
     rw (c.deref.ensures.value, c.deref-2.ensures.0) at c.in-Some.ensures.variant in

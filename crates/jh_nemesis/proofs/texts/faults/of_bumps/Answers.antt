@@ -7,12 +7,12 @@ use Rattle.jh_nemesis.proofs.FaultTextLemmas.{parsed_bumps-unknown, parsed_bumps
 use Rattle.jh_nemesis.proofs.texts.faults.of_bumps.Goals as goal
 use Rattle.jh_nemesis.proofs.texts.faults.of_bumps.Goals.{then-not-are_bump_amounts-via-then-not-are_bump_amounts, then-not-are_bump_amounts-via-else-not-are_bump_amounts+then-not-are_apart}
 
-pub returns-then-is_any_bump_unknown-clause-told : goal.returns-then-is_any_bump_unknown-clause-told
-returns-then-is_any_bump_unknown-clause-told c =
+pub returns-then-is_any_bump_unknown-clause-parsed : goal.returns-then-is_any_bump_unknown-clause-parsed
+returns-then-is_any_bump_unknown-clause-parsed c =
     inl (parsed_bumps-unknown c.args.nodes.now c.args.bumps.now (sym c.is_any_bump_unknown.ensures ∙ c.if-is_any_bump_unknown.true))
 
-pub returns-then-not-are_bump_amounts-clause-told : goal.returns-then-not-are_bump_amounts-clause-told
-returns-then-not-are_bump_amounts-clause-told c =
+pub returns-then-not-are_bump_amounts-clause-parsed : goal.returns-then-not-are_bump_amounts-clause-parsed
+returns-then-not-are_bump_amounts-clause-parsed c =
     let bad : are_bumps (filter_map (λ b. bump_of c.args.nodes.now (view_pair b)) c.args.bumps.now) ≡ false =
     elim c.then-not-are_bump_amounts.branch [
       | then-not-are_bump_amounts-via-then-not-are_bump_amounts w ↦ rw (sym c.are_bump_amounts.ensures ∙ w.if-not-are_bump_amounts.true) refl
@@ -21,27 +21,27 @@ returns-then-not-are_bump_amounts-clause-told c =
     ] in
     inl (parsed_bumps-bad c.args.nodes.now c.args.bumps.now (sym c.is_any_bump_unknown.ensures ∙ c.if-is_any_bump_unknown.false) bad)
 
-pub returns-in_default-clause-told : goal.returns-in_default-clause-told
-returns-in_default-clause-told c =
+pub returns-in_default-clause-parsed : goal.returns-in_default-clause-parsed
+returns-in_default-clause-parsed c =
     let right : are_bumps (filter_map (λ b. bump_of c.args.nodes.now (view_pair b)) c.args.bumps.now) ≡ true =
     rw (sym c.are_bump_amounts.ensures ∙ c.if-not-are_bump_amounts.false, sym c.are_apart.ensures ∙ c.if-not-are_apart.false) refl in
-    let told = parsed_bumps-fault c.args.nodes.now c.args.bumps.now (sym c.is_any_bump_unknown.ensures ∙ c.if-is_any_bump_unknown.false) right in
-    inr (refl, rw told refl)
+    let parsed = parsed_bumps-fault c.args.nodes.now c.args.bumps.now (sym c.is_any_bump_unknown.ensures ∙ c.if-is_any_bump_unknown.false) right in
+    inr (refl, rw parsed refl)
 
-pub returns-in-Ok-bump-clause-told : goal.returns-in-Ok-bump-clause-told
-returns-in-Ok-bump-clause-told c =
+pub returns-in-Ok-bump-clause-parsed : goal.returns-in-Ok-bump-clause-parsed
+returns-in-Ok-bump-clause-parsed c =
     let right : are_bumps (filter_map (λ b. bump_of c.args.nodes.now (view_pair b)) c.args.bumps.now) ≡ true =
     rw (sym c.are_bump_amounts.ensures ∙ c.if-not-are_bump_amounts.false, sym c.are_apart.ensures ∙ c.if-not-are_apart.false) refl in
-    let told = parsed_bumps-fault c.args.nodes.now c.args.bumps.now (sym c.is_any_bump_unknown.ensures ∙ c.if-is_any_bump_unknown.false) right in
+    let parsed = parsed_bumps-fault c.args.nodes.now c.args.bumps.now (sym c.is_any_bump_unknown.ensures ∙ c.if-is_any_bump_unknown.false) right in
     let found : c.deref.result.now ≡ filter_map (λ b. bump_of c.args.nodes.now (view_pair b)) c.args.bumps.now = c.deref.ensures.value ∙ c.in-Ok.ensures in
     let fault : c.in-Ok-bump.fault ≡ Bump c.deref.result.now = c.in-Ok-bump.ensures.made.0 in
-    rw (fault, found) told
+    rw (fault, found) parsed
 
-pub returns-clause-told : goal.returns-clause-told
-returns-clause-told c =
+pub returns-clause-parsed : goal.returns-clause-parsed
+returns-clause-parsed c =
     let right : are_bumps (filter_map (λ b. bump_of c.args.nodes.now (view_pair b)) c.args.bumps.now) ≡ true =
     rw (sym c.are_bump_amounts.ensures ∙ c.if-not-are_bump_amounts.false, sym c.are_apart.ensures ∙ c.if-not-are_apart.false) refl in
-    let told = parsed_bumps-fault c.args.nodes.now c.args.bumps.now (sym c.is_any_bump_unknown.ensures ∙ c.if-is_any_bump_unknown.false) right in
+    let parsed = parsed_bumps-fault c.args.nodes.now c.args.bumps.now (sym c.is_any_bump_unknown.ensures ∙ c.if-is_any_bump_unknown.false) right in
     let found : c.deref.result.now ≡ filter_map (λ b. bump_of c.args.nodes.now (view_pair b)) c.args.bumps.now = c.deref.ensures.value ∙ c.in-Ok.ensures in
     let refused = bumps_refused c.args.nodes.now c.args.bumps.now c.in-Err.refusal right (rw found at c.in-Err.ensures.made) in
-    inr (c.from.ensures ∙ ap refusal_of refused, rw told refl)
+    inr (c.from.ensures ∙ ap refusal_of refused, rw parsed refl)

@@ -7,37 +7,37 @@ use Rattle.jh_nemesis.specs.FaultText.{ends_of, links_fault, refusal_of}
 use Rattle.jh_nemesis.proofs.FaultTextLemmas.{parsed_links-unknown, parsed_links-self, parsed_links-bad, parsed_links-fault, parsed_links-ok, links_found}
 use Rattle.jh_nemesis.proofs.texts.faults.on_links.Goals as goal
 
-pub returns-then-is_any_end_unknown-clause-told : goal.returns-then-is_any_end_unknown-clause-told
-returns-then-is_any_end_unknown-clause-told c =
+pub returns-then-is_any_end_unknown-clause-parsed : goal.returns-then-is_any_end_unknown-clause-parsed
+returns-then-is_any_end_unknown-clause-parsed c =
     inl (parsed_links-unknown c.args.nodes.now c.args.effect c.args.links.now (sym c.is_any_end_unknown.ensures ∙ c.if-is_any_end_unknown.true))
 
-pub returns-then-is_any_self-clause-told : goal.returns-then-is_any_self-clause-told
-returns-then-is_any_self-clause-told c =
+pub returns-then-is_any_self-clause-parsed : goal.returns-then-is_any_self-clause-parsed
+returns-then-is_any_self-clause-parsed c =
     inl (parsed_links-self c.args.nodes.now c.args.effect c.args.links.now (sym c.is_any_end_unknown.ensures ∙ c.if-is_any_end_unknown.false)
     (sym c.is_any_self.ensures ∙ c.if-is_any_self.true))
 
-pub returns-then-not-is_right-clause-told : goal.returns-then-not-is_right-clause-told
-returns-then-not-is_right-clause-told c =
+pub returns-then-not-is_right-clause-parsed : goal.returns-then-not-is_right-clause-parsed
+returns-then-not-is_right-clause-parsed c =
     inl (parsed_links-bad c.args.nodes.now c.args.effect c.args.links.now (sym c.is_any_end_unknown.ensures ∙ c.if-is_any_end_unknown.false)
     (sym c.is_any_self.ensures ∙ c.if-is_any_self.false) (sym c.is_right.ensures ∙ c.if-not-is_right.true))
 
-pub returns-in_default-clause-told : goal.returns-in_default-clause-told
-returns-in_default-clause-told c =
+pub returns-in_default-clause-parsed : goal.returns-in_default-clause-parsed
+returns-in_default-clause-parsed c =
     inr (
       refl,
       parsed_links-ok c.args.nodes.now c.args.effect c.args.links.now (sym c.is_any_end_unknown.ensures ∙ c.if-is_any_end_unknown.false)
           (sym c.is_any_self.ensures ∙ c.if-is_any_self.false) (sym c.is_right.ensures ∙ c.if-not-is_right.false),
     )
 
-pub returns-in-Ok-links_fault-clause-told : goal.returns-in-Ok-links_fault-clause-told
-returns-in-Ok-links_fault-clause-told c =
+pub returns-in-Ok-links_fault-clause-parsed : goal.returns-in-Ok-links_fault-clause-parsed
+returns-in-Ok-links_fault-clause-parsed c =
     let ends : c.deref.result.now ≡ filter_map (λ l. ends_of c.args.nodes.now (view l)) c.args.links.now = c.deref.ensures.value ∙ c.in-Ok.ensures in
     let made : links_fault c.args.effect c.deref.result.now ≡ Some c.in-Ok-links_fault.fault = c.in-Ok-links_fault.ensures.made in
     parsed_links-fault c.args.nodes.now c.args.effect c.args.links.now c.in-Ok-links_fault.fault (sym c.is_any_end_unknown.ensures ∙ c.if-is_any_end_unknown.false)
     (sym c.is_any_self.ensures ∙ c.if-is_any_self.false) (rw ends at made)
 
-pub returns-clause-told : goal.returns-clause-told
-returns-clause-told c =
+pub returns-clause-parsed : goal.returns-clause-parsed
+returns-clause-parsed c =
     let ends : c.deref.result.now ≡ filter_map (λ l. ends_of c.args.nodes.now (view l)) c.args.links.now = c.deref.ensures.value ∙ c.in-Ok.ensures in
     let right = sym c.is_right.ensures ∙ c.if-not-is_right.false in
     let other = sym c.is_any_self.ensures ∙ c.if-is_any_self.false in

@@ -1,29 +1,29 @@
 use Rattle.std.proofs.Common.{◌≡◌, refl, inl, inr, sym, ◌∙◌, ap}
 use Rattle.std.specs.List.{filter_map}
 use Rattle.jh_edn.specs.View.{view}
-use Rattle.jh_nemesis.specs.FaultText.{node_of, nodes_fault, refusal_of}
+use Rattle.jh_nemesis.specs.FaultText.{named_node, nodes_fault, refusal_of}
 use Rattle.jh_nemesis.proofs.FaultTextLemmas.{parsed_nodes-unknown, parsed_nodes-fault, nodes_refused}
 use Rattle.jh_nemesis.proofs.texts.faults.on_nodes.Goals as goal
 
-pub returns-then-is_any_node_unknown-clause-told : goal.returns-then-is_any_node_unknown-clause-told
-returns-then-is_any_node_unknown-clause-told c =
+pub returns-then-is_any_node_unknown-clause-parsed : goal.returns-then-is_any_node_unknown-clause-parsed
+returns-then-is_any_node_unknown-clause-parsed c =
     inl (parsed_nodes-unknown c.args.nodes.now c.args.effect c.args.named.now (sym c.is_any_node_unknown.ensures ∙ c.if-is_any_node_unknown.true))
 
-pub returns-in_default-clause-told : goal.returns-in_default-clause-told
-returns-in_default-clause-told c =
-    let told = parsed_nodes-fault c.args.nodes.now c.args.effect c.args.named.now (sym c.is_any_node_unknown.ensures ∙ c.if-is_any_node_unknown.false) in
-    inr (refl, rw told refl)
+pub returns-in_default-clause-parsed : goal.returns-in_default-clause-parsed
+returns-in_default-clause-parsed c =
+    let parsed = parsed_nodes-fault c.args.nodes.now c.args.effect c.args.named.now (sym c.is_any_node_unknown.ensures ∙ c.if-is_any_node_unknown.false) in
+    inr (refl, rw parsed refl)
 
-pub returns-in-Ok-nodes_fault-clause-told : goal.returns-in-Ok-nodes_fault-clause-told
-returns-in-Ok-nodes_fault-clause-told c =
-    let told = parsed_nodes-fault c.args.nodes.now c.args.effect c.args.named.now (sym c.is_any_node_unknown.ensures ∙ c.if-is_any_node_unknown.false) in
-    let found : c.deref.result.now ≡ filter_map (λ n. node_of c.args.nodes.now (view n)) c.args.named.now = c.deref.ensures.value ∙ c.in-Ok.ensures in
+pub returns-in-Ok-nodes_fault-clause-parsed : goal.returns-in-Ok-nodes_fault-clause-parsed
+returns-in-Ok-nodes_fault-clause-parsed c =
+    let parsed = parsed_nodes-fault c.args.nodes.now c.args.effect c.args.named.now (sym c.is_any_node_unknown.ensures ∙ c.if-is_any_node_unknown.false) in
+    let found : c.deref.result.now ≡ filter_map (λ n. named_node c.args.nodes.now (view n)) c.args.named.now = c.deref.ensures.value ∙ c.in-Ok.ensures in
     let fault : c.in-Ok-nodes_fault.fault ≡ nodes_fault c.args.effect c.deref.result.now = c.in-Ok-nodes_fault.ensures.made in
-    rw (fault, found) told
+    rw (fault, found) parsed
 
-pub returns-clause-told : goal.returns-clause-told
-returns-clause-told c =
-    let told = parsed_nodes-fault c.args.nodes.now c.args.effect c.args.named.now (sym c.is_any_node_unknown.ensures ∙ c.if-is_any_node_unknown.false) in
-    let found : c.deref.result.now ≡ filter_map (λ n. node_of c.args.nodes.now (view n)) c.args.named.now = c.deref.ensures.value ∙ c.in-Ok.ensures in
+pub returns-clause-parsed : goal.returns-clause-parsed
+returns-clause-parsed c =
+    let parsed = parsed_nodes-fault c.args.nodes.now c.args.effect c.args.named.now (sym c.is_any_node_unknown.ensures ∙ c.if-is_any_node_unknown.false) in
+    let found : c.deref.result.now ≡ filter_map (λ n. named_node c.args.nodes.now (view n)) c.args.named.now = c.deref.ensures.value ∙ c.in-Ok.ensures in
     let refused = nodes_refused c.args.nodes.now c.args.named.now c.in-Err.refusal (rw found at c.in-Err.ensures.made) in
-    inr (c.from.ensures ∙ ap refusal_of refused, rw told refl)
+    inr (c.from.ensures ∙ ap refusal_of refused, rw parsed refl)

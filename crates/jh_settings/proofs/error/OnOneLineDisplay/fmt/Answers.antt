@@ -4,7 +4,7 @@ use Rattle.std.proofs.lemmas.Iterator.Consumers.{YieldsList-end}
 use Rattle.std.specs.Fmt.{HasWritten}
 use Rattle.std.specs.List.{flat_map}
 use Rattle.std.specs.String.{string_bytes}
-use Rattle.jh_settings.specs.Shown.{on_one_line, shown_character}
+use Rattle.jh_settings.specs.Shown.{one_line_text, shown_character}
 use Rattle.jh_settings.proofs.error.OnOneLineDisplay.fmt.Goals as goal
 
 map_itself : {X : Type 0} (xs : List X) → map (λ x. x) xs ≡ xs
@@ -17,4 +17,4 @@ returns-clause-writes g c plain ok =
     let writes = c.loop-character.invariant plain in
     let shown = subst (λ cs. HasWritten {W = g.row.W.Denot} g.W.Write.write_str_gives c.args.f.now (flat_map shown_character cs) c.loop-character.f) (sym (map_itself c.loop-character.yielded) ∙ all.0) writes in
     let same : c.deref.result.now ≡ string_bytes c.args.self.now.0.now = search in
-    subst (λ bytes. HasWritten {W = g.row.W.Denot} g.W.Write.write_str_gives c.args.f.now (on_one_line bytes) c.loop-character.f) same shown
+    subst (λ bytes. HasWritten {W = g.row.W.Denot} g.W.Write.write_str_gives c.args.f.now (one_line_text bytes) c.loop-character.f) same shown

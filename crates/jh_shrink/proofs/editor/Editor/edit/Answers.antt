@@ -1,5 +1,5 @@
 use Rattle.std.proofs.Common.{ap, subst, sym, ◌∙◌, [], ◌∷◌, ◌++◌, rules}
-use Rattle.jh_shrink.specs.ChangesInside.{Fits, state_from, changed}
+use Rattle.jh_shrink.specs.ChangesInside.{Fits, edit_state_from, entries_after_change}
 use Rattle.jh_shrink.specs.Edits.{EditState, state_after_edit}
 use Rattle.jh_shrink.proofs.ChangeLemmas.{edited_is, few_changed, play_on}
 use Rattle.jh_shrink.proofs.editor.Editor.edit.Goals as goal
@@ -27,8 +27,8 @@ returns-clause-edited c =
     let fits = subst (Fits c.args.change) (sym (ap (λ (s : EditState). s.now) c.self.view_is)) c.requires in
     let on = c.push_reserved.ensures.items ∙ ap (λ xs. xs ++ c.make.result ∷ []) c.reserve.ensures.items in
     let made = c.make.ensures in
-    ap (λ e. state_from e c.push_reserved.new.self.items c.clear.new.self.items) made.changed
-    ∙ ap (state_from (changed c.args.change entries) c.push_reserved.new.self.items) c.clear.ensures.items
+    ap (λ e. edit_state_from e c.push_reserved.new.self.items c.clear.new.self.items) made.changed
+    ∙ ap (edit_state_from (entries_after_change c.args.change entries) c.push_reserved.new.self.items) c.clear.ensures.items
     ∙ edited_is entries c.self.inside.past.items c.push_reserved.new.self.items c.self.inside.future.items c.args.change c.make.result
     on fits made.back
-    ∙ ap (λ (s : EditState). state_after_edit s (changed c.args.change s.now)) c.self.view_is
+    ∙ ap (λ (s : EditState). state_after_edit s (entries_after_change c.args.change s.now)) c.self.view_is

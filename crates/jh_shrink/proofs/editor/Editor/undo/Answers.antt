@@ -1,6 +1,6 @@
 use Rattle.std.proofs.Common.{ap, ◌∙◌, rules}
-use Rattle.jh_shrink.specs.ChangesInside.{state_from}
-use Rattle.jh_shrink.specs.Edits.{undone}
+use Rattle.jh_shrink.specs.ChangesInside.{edit_state_from}
+use Rattle.jh_shrink.specs.Edits.{edit_state_after_undo}
 use Rattle.jh_shrink.proofs.ChangeLemmas.{few_changed, play_off, play_on, undone_is}
 use Rattle.jh_shrink.proofs.editor.Editor.undo.Goals as goal
 
@@ -28,7 +28,7 @@ returns-clause-undone c =
     let off = c.in-Some.ensures.items in
     let made = c.make-back.ensures in
     let first = play_off entries c.self.inside.past.items c.pop.new.self.items c.in-Some.change off c.self.invariant.past in
-    ap (λ e. state_from e c.pop.new.self.items c.push_reserved.new.self.items) made.changed
+    ap (λ e. edit_state_from e c.pop.new.self.items c.push_reserved.new.self.items) made.changed
     ∙ undone_is entries c.self.inside.past.items c.pop.new.self.items c.self.inside.future.items c.push_reserved.new.self.items
     c.in-Some.change c.make-back.result off c.push_reserved.ensures.items first.0 made.back
-    ∙ ap undone c.self.view_is
+    ∙ ap edit_state_after_undo c.self.view_is

@@ -2,7 +2,7 @@ use Rattle.std.proofs.Common.{◌≡◌, ◌+◌, length, length-append, true, r
 use Rattle.std.specs.Prelude.{Some, slice_get}
 use Rattle.std.proofs.lemmas.Option.{slice_get_read}
 use Rattle.jh_simnode.specs.Running.{is_run_due}
-use Rattle.jh_simnode.proofs.Going.{step_stands, past_settled, early_settled}
+use Rattle.jh_simnode.proofs.BetweenTurnsLemmas.{step_stands, past_settled, early_settled}
 use Rattle.jh_simnode.proofs.turns.Run.apply_due.Goals as goal
 
 pub loop-self-preserved : goal.loop-self-preserved

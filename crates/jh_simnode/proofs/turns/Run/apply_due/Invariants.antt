@@ -1,10 +1,10 @@
 use Rattle.std.proofs.Common.{◌≡◌, ◌≤◌, ◌-◌, length}
-use Rattle.jh_simnode.specs.Running.{Stands}
+use Rattle.jh_simnode.specs.Running.{BetweenTurns}
 use Rattle.jh_simnode.proofs.turns.Run.apply_due.Given as goal
 
 abbrev pub invariant-loop-self : goal.invariant-loop-self
 invariant-loop-self l = record {
-  stands : Stands l.plan l.self l.world;
+  stands : BetweenTurns l.plan l.self l.world;
   waits : l.self.waits ≡ l.fn.self.waits;
   ended : l.self.has_ended ≡ l.fn.self.has_ended;
   grown : length l.fn.world.journal ≤ length l.world.journal;

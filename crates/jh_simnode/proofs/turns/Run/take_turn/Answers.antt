@@ -1,8 +1,8 @@
 use Rattle.std.proofs.Common.{◌≡◌, ◌+◌, ◌<◌, ◌%◌, false, ap, sym, ◌∙◌, subst, arith}
 use Rattle.jh_simnode.specs.Running.{Asks, IsAsking}
 use Rattle.jh_simnode.specs.declared.turns.Asked.TheVariants as asked
-use Rattle.jh_simnode.proofs.Asking.{may_ask}
-use Rattle.jh_simnode.proofs.Going.{waited_stands, ended_stands, falls_waiting, falls_ending}
+use Rattle.jh_simnode.proofs.AskLemmas.{may_ask}
+use Rattle.jh_simnode.proofs.BetweenTurnsLemmas.{waited_stands, ended_stands, falls_waiting, falls_ending}
 use Rattle.jh_simnode.proofs.turns.Run.take_turn.Goals as goal
 
 pub ask-requires : goal.ask-requires

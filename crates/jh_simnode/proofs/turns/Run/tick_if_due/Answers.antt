@@ -1,8 +1,8 @@
 use Rattle.std.proofs.Common.{◌≡◌, ◌<◌, true, length, ap, sym, ◌∙◌, arith}
 use Rattle.jh_simnode.specs.Runs.{ticks_at}
 use Rattle.jh_simnode.specs.Counts.{calls_by}
-use Rattle.jh_simnode.proofs.Going.{tick_stands}
-use Rattle.jh_simnode.proofs.Turning.{any_default}
+use Rattle.jh_simnode.proofs.BetweenTurnsLemmas.{tick_stands}
+use Rattle.jh_simnode.proofs.TurnLemmas.{any_default}
 use Rattle.jh_simnode.proofs.turns.Run.tick_if_due.Goals as goal
 
 pub returns-in_ok-tick-clause-stands : goal.returns-in_ok-tick-clause-stands

@@ -1,6 +1,6 @@
 use Rattle.std.proofs.Common.{◌≡◌, ◌<◌, length, rules}
-use Rattle.jh_simnode.specs.Outcomes.{with_all}
-use Rattle.jh_simnode.proofs.Journals.{call_goes_on}
+use Rattle.jh_simnode.specs.TakingInside.{replicas_with_all}
+use Rattle.jh_simnode.proofs.JournalLemmas.{call_goes_on}
 use Rattle.jh_simnode.proofs.world.World.call.Goals as goal
 
 pub invariant_of-self-2 : goal.invariant_of-self-2
@@ -11,5 +11,5 @@ invariant_of-self-2 c =
     let known : c.args.node < length i.nemesis.state.names = search rules in
     let told = rw c.deref.ensures.value at c.in_ok-served.ensures in
     rw (c.push_reserved.ensures.items, c.reserve.ensures.items, c.take_over.ensures)
-    (call_goes_on i.nemesis.state i.settings i.replicas.items (with_all i.replicas.items c.in_ok-served.served.taken.items) i.journal.items c.env.result.now c.len-number.result c.args.process c.args.node c.args.request c.args.draw c.in_ok-served.served.reply
+    (call_goes_on i.nemesis.state i.settings i.replicas.items (replicas_with_all i.replicas.items c.in_ok-served.served.taken.items) i.journal.items c.env.result.now c.len-number.result c.args.process c.args.node c.args.request c.args.draw c.in_ok-served.served.reply
     c.self.invariant few c.env.ensures.overlay c.env.ensures.start number known (told.reply, told.replicas.replicas))

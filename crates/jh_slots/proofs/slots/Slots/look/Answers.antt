@@ -1,5 +1,5 @@
 use Rattle.std.proofs.Common.{sym, ap, ◌∙◌, arith}
-use Rattle.jh_slots.proofs.LookLemmas.{looks}
+use Rattle.jh_slots.proofs.StepRuleLemmas.{looks}
 use Rattle.jh_slots.proofs.SeatLemmas.{seat_looked, stays}
 use Rattle.jh_slots.proofs.slots.Slots.look.Goals as goal
 

@@ -1,7 +1,7 @@
 use Rattle.std.proofs.Common.{◌≡◌, ◌+◌, ◌-◌, ◌*◌, ◌<◌, [], length, take, refl, sym, ap, ◌∙◌, arith}
 use Rattle.std.specs.FinMap as map
 use Rattle.std.proofs.lemmas.List.{length-take-le, drop-set-lt}
-use Rattle.jh_slots.specs.Seats.{Words, Void, Knowledge, after_read}
+use Rattle.jh_slots.specs.Seats.{Words, Void, Knowledge, knowledge_after_read}
 use Rattle.jh_slots.specs.Stored.{View, place_at}
 use Rattle.jh_slots.proofs.LoadLemmas.{peeks_at, gathers_at}
 use Rattle.jh_slots.proofs.SeatLemmas.{stays, cap_is}
@@ -59,7 +59,7 @@ returns-then-status-eq1-clause-read c =
     let e = c.load-status.ensures in
     let t = e.2.1 c.args.row (status_told _ _ _ c.args.row c.seat.invariant.1 size) in
     let a = voids c.seat.inside.inner.me.0 _ c.args.row _ t c.if-status-eq1.true in
-    (a.0 ∙ ap (λ s. after_read c.args.row Void s.knows) c.seat.view_is, (λ m is. a.1 m (ap (λ s. map.get s.knows.seen c.args.row) c.seat.view_is ∙ is)), refl)
+    (a.0 ∙ ap (λ s. knowledge_after_read c.args.row Void s.knows) c.seat.view_is, (λ m is. a.1 m (ap (λ s. map.get s.knows.seen c.args.row) c.seat.view_is ∙ is)), refl)
 
 pub invariant_of-seat-then-len-buffer : goal.invariant_of-seat-then-len-buffer
 invariant_of-seat-then-len-buffer c =
@@ -153,7 +153,7 @@ returns-clause-read c =
     let was : c.load-status.new.seat.me.0.knows ≡ c.args.seat.now.knows = ap (λ (u : View). u.knows) n ∙ ap (λ s. s.knows) c.seat.view_is in (
       omega arith,
       long,
-      ap (λ (u : View). u.knows) i.2 ∙ (whole c.load-status.new.seat.me.0 c.args.row (c.load-status.result - 1) (take c.loop-place.place c.loop-place.buffer) len ∙ λ j. after_read c.args.row (Words (take (all j) c.loop-place.buffer)) (was j)),
+      ap (λ (u : View). u.knows) i.2 ∙ (whole c.load-status.new.seat.me.0 c.args.row (c.load-status.result - 1) (take c.loop-place.place c.loop-place.buffer) len ∙ λ j. knowledge_after_read c.args.row (Words (take (all j) c.loop-place.buffer)) (was j)),
       λ m is. i.4 all m (ap (λ (u : Knowledge). map.get u.seen c.args.row) was ∙ is) ∙ ap (λ k. Words (take k c.loop-place.buffer)) all,
       i.3,
     )

@@ -1,5 +1,5 @@
 use Rattle.std.proofs.Common.{[], refl, sym, ap, ◌∙◌, arith}
-use Rattle.jh_slots.proofs.TieLemmas.{splits}
+use Rattle.jh_slots.proofs.JoinRuleLemmas.{splits}
 use Rattle.jh_slots.proofs.SeatLemmas.{seat_copied, stays}
 use Rattle.jh_slots.proofs.slots.Slots.split.Goals as goal
 

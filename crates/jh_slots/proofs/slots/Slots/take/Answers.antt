@@ -1,5 +1,5 @@
 use Rattle.std.proofs.Common.{◌≡◌, ◌+◌, ◌≤◌, sym, ap, ◌∙◌, subst, arith}
-use Rattle.jh_slots.proofs.LookLemmas.{takes}
+use Rattle.jh_slots.proofs.StepRuleLemmas.{takes}
 use Rattle.jh_slots.proofs.SeatLemmas.{takes_stay, cap_is}
 use Rattle.jh_slots.proofs.slots.Slots.take.Goals as goal
 

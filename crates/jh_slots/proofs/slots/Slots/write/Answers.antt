@@ -1,6 +1,6 @@
-use Rattle.std.proofs.Common.{◌≡◌, ◌+◌, ◌*◌, ◌<◌, ◌≤◌, length, Some, refl, sym, ap, ◌∙◌, arith}
+use Rattle.std.proofs.Common.{◌≡◌, ◌+◌, ◌*◌, ◌<◌, ◌≤◌, length, Some, sym, ap, ◌∙◌, arith}
 use Rattle.std.specs.FinMap as map
-use Rattle.jh_slots.specs.Seats.{Claim, after_write}
+use Rattle.jh_slots.specs.Seats.{Claim, knowledge_after_write}
 use Rattle.jh_slots.specs.Stored.{View}
 use Rattle.jh_slots.proofs.MapLemmas.{holds_wrote}
 use Rattle.jh_slots.proofs.WriteLemmas.{writes}
@@ -58,4 +58,4 @@ returns-clause-held c =
     let rows = o.2 in
     let p = c.requires.place in
     let lt : c.args.place < 5 * o.0.rows = omega arith in
-    holds_wrote c.args.seat.now.knows _ _ _ c.args.place c.args.value (ap (λ (u : View). u.knows) (e.2.1 c.args.claim.now.first c.args.place o.0 o.1 lt (ap (λ n. 1 + (5 * n + c.args.place)) first)) ∙ ap (λ s. after_write c.args.claim.now.first c.args.place c.args.value s.knows) c.seat.view_is) c.requires.holds
+    holds_wrote c.args.seat.now.knows _ _ _ c.args.place c.args.value (ap (λ (u : View). u.knows) (e.2.1 c.args.claim.now.first c.args.place o.0 o.1 lt (ap (λ n. 1 + (5 * n + c.args.place)) first)) ∙ ap (λ s. knowledge_after_write c.args.claim.now.first c.args.place c.args.value s.knows) c.seat.view_is) c.requires.holds

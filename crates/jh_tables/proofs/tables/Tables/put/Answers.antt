@@ -3,7 +3,7 @@ use Rattle.std.specs.List.{All}
 use Rattle.std.proofs.lemmas.List.{length-map}
 use Rattle.jh_tables.specs.declared.turning.Turn.TheVariants.{Put}
 use Rattle.jh_tables.specs.Cells.{Table}
-use Rattle.jh_tables.specs.Faults.{FitsCount, fix_parts}
+use Rattle.jh_tables.specs.Faults.{FitsCount, fix_value}
 use Rattle.jh_tables.specs.Plain.{fault_of}
 use Rattle.jh_tables.specs.Tallies.{node_now}
 use Rattle.jh_tables.specs.Standing.{StandsAt, TablesValue, IsStartingLink, IsStartingNode}
@@ -37,7 +37,7 @@ invariant_of-self c =
           (tallies_turned Put [] f w.faults c.requires.right old new fits e.turned (used_turned Put c.args.stamp f old.fixes new.fixes e.entries) w.tallies);
       nodes = rw (e.turned).many_nodes w.nodes;
       square = square_stays Put f old new e.turned w.square;
-      room = room_turned Put c.args.stamp (fix_parts f) old.fixes new.fixes e.entries ∙ w.room;
+      room = room_turned Put c.args.stamp (fix_value f) old.fixes new.fixes e.entries ∙ w.room;
       delays = delays_turned Put c.args.stamp f old.fixes new.fixes c.requires.right e.entries w.delays;
       starting_links = subst (λ (t : Table). All IsStartingLink t.links) (sym starts) w.starting_links;
       starting_nodes = subst (λ (t : Table). All IsStartingNode t.nodes) (sym starts) w.starting_nodes;

@@ -1,0 +1,39 @@
+use Rattle.std.proofs.Common.{rules, ◌≡◌, ◌+◌, ◌*◌, length, ap, refl, subst, sym, ◌∙◌, arith}
+use Rattle.std.specs.List.{fold, range_with_len}
+use Rattle.jh_search.specs.Candidates.{fault_id, entries_with_random}
+use Rattle.jh_search.specs.FaultsInside.{HaveNamed}
+use Rattle.jh_search.specs.Kinds.{kinds_drawn}
+use Rattle.jh_search.proofs.CandidateLemmas.{drawn_named, one_fault_more}
+use Rattle.jh_search.proofs.candidates.entries_with_faults.Goals as goal
+
+pub put_drawn-requires-clause-named : goal.put_drawn-requires-clause-named
+put_drawn-requires-clause-named c =
+    let palette = c.args.options.palette in
+    let count = length c.args.plan.now.env.names in
+    let names = c.nodes.ensures.names ∙ ap (λ env. env.names) c.environment.ensures.environment in
+    let kinds : c.deref.result.now ≡ kinds_drawn palette count =
+    c.deref.ensures.value ∙ c.in_ok-kinds.ensures ∙ ap (kinds_drawn palette) (c.len.ensures.len ∙ ap length names) in
+    subst (HaveNamed count) (sym kinds) (drawn_named palette count)
+
+pub loop-fault-preserved : goal.loop-fault-preserved
+loop-fault-preserved c =
+    let p = c.args.plan.now in
+    let options = c.args.options in
+    let palette = options.palette in
+    let fault = c.loop-fault.fault in
+    let count = length p.env.names in
+    let names = c.nodes.ensures.names ∙ ap (λ env. env.names) c.environment.ensures.environment in
+    let kinds : c.deref.result.now ≡ kinds_drawn palette count =
+    c.deref.ensures.value ∙ c.in_ok-kinds.ensures ∙ ap (kinds_drawn palette) (c.len.ensures.len ∙ ap length names) in
+    let id : c.fault_id-id.result ≡ fault_id p fault = search rules in
+    record {
+      so_far = λ seed at.
+          let before = c.loop-fault.invariant.so_far seed at in
+          let drawn = c.next_draw.ensures seed (7 * fault + 1) before.1 in
+          let next : 7 * fault + 1 + 7 ≡ 7 * (fault + 1) + 1 = omega arith in
+          let so_far = fold (entries_with_random p options seed) p.schedule (range_with_len 0 fault) in
+          let put : c.put_drawn.new.entries.items ≡ entries_with_random p options seed so_far fault =
+          c.in_ok-put_drawn.ensures.put ∙ rw (id, kinds, drawn.0, before.0) refl in
+          (put ∙ sym (one_fault_more p options seed fault), rw next at drawn.1);
+      kept = c.in_ok-put_drawn.ensures.kept;
+    }

@@ -1,6 +1,0 @@
-use Rattle.jh_sections.proofs.PartLemmas.{tells_none}
-use Rattle.jh_sections.proofs.parts.history_and_rest.Goals as goal
-
-pub parts_before-requires-clause-none : goal.parts_before-requires-clause-none
-parts_before-requires-clause-none c =
-    tells_none c.args.text.now c.in-Err.error c.spelled_once.ensures (λ of. let wrong = c.if-is_of_bytes.ensures.1 of in cc) c.in-Err.ensures.refused

@@ -1,0 +1,125 @@
+//! Tasks on several threads.
+
+ghost use Rattle.std.specs.Prelude.{◌≡◌, ◌<◌, ◌≤◌, ℕ, IfOk};
+ghost use Rattle.std.specs.Thread.{IsSync};
+ghost use Rattle.jh_tasks.specs.Answers.{AreTaskAnswers};
+
+use crate::board::Board;
+use std::alloc::{AllocError, Global};
+use std::sync::{Mutex, Wait};
+use std::thread;
+use std::thread::Threads;
+
+/// So many tasks, numbered from 0, each with an answer.
+pub trait Task<A> {
+    /// How many there are.
+    ghost count: { ℕ };
+
+    /// This is a right answer to the task of a number.
+    ghost is_right: { ℕ → A → Type 0 };
+
+    /// Does the task of this number.
+    fn answer_at(&self, number: usize) -> A
+        requires { number < count }
+        ensures { is_right number result };
+
+    /// Whether no task of a higher number matters after an answer.
+    fn is_last(answer: &A) -> bool;
+}
+
+/// What each thread does: it takes the next task until none is left.
+fn do_tasks<A: Drop, T: Task<A>, R: Wait>(
+    rt: &R,
+    task: &T,
+    board: &Mutex<Board<A, T>>,
+    count: usize,
+) {
+    for _ in 0..count {
+        let Some(number) = board.lock(rt).take() else {
+            return;
+        };
+        let answer = task.answer_at(number);
+        board.lock(rt).put(number, answer);
+    }
+}
+
+/// What several threads do with a board. The board is a type parameter, so that it is shown by
+/// itself to be safe to share.
+trait Work<B> {
+    /// What each thread does.
+    fn work_at<R: Wait>(&self, rt: &R, board: &B);
+
+    /// Leaves all tasks undone that were not taken yet.
+    fn close<R: Wait>(&self, rt: &R, board: &B);
+}
+
+/// So many tasks, as what the threads do.
+#[derive(Drop)]
+struct Tasks<'a, T> {
+    task: &'a T,
+    count: usize,
+}
+
+impl<'a, A: Drop, T: Task<A>> Work<Mutex<Board<A, T>>> for Tasks<'a, T> {
+    fn work_at<R: Wait>(&self, rt: &R, board: &Mutex<Board<A, T>>) {
+        do_tasks(rt, self.task, board, self.count)
+    }
+
+    fn close<R: Wait>(&self, rt: &R, board: &Mutex<Board<A, T>>) {
+        board.lock(rt).close();
+    }
+}
+
+/// The work of this thread and of so many others. All have ended when it returns. Where a thread
+/// can't be had, the tasks that were not taken by then are left undone.
+fn work_all<K: Work<B> + Sync, B: Sync, R: Threads + Wait + Sync>(
+    rt: &R,
+    work: &K,
+    board: &B,
+    others: usize,
+) {
+    thread::scope(
+        thread::scope_env(),
+        rt,
+        |scope|
+            requires { IsSync R.row × (IsSync K.row × IsSync B.row) }
+        {
+            for _ in 0..others {
+                if scope.spawn(move || work.work_at(rt, board)).is_err() {
+                    work.close(rt, board);
+                    break;
+                }
+            }
+            work.work_at(rt, board);
+        },
+    );
+}
+
+/// Does tasks on so many threads, this one among them, and gives what was answered to each, at the
+/// place of its number. Each next thread that is free takes the next task; none above a last one is
+/// begun. All threads have ended when it returns.
+///
+/// An answer is missing where the task was not begun: it is above one that is last, or a thread
+/// could not be had.
+///
+/// May wait, and promises only if it returns. Where there are fewer tasks than threads, fewer
+/// threads are made.
+///
+/// Error: memory was refused, for a place for each answer. No task was done then.
+pub fn answer_tasks<A: Send + Drop, T: Task<A> + Send + Sync, R: Threads + Wait + Sync>(
+    rt: &R,
+    alloc: Global,
+    task: &T,
+    count: usize,
+    threads: u32,
+) -> Result<Vec<Option<A>>, AllocError>
+    requires count { count ≡ T.count }
+    requires threads { (1 ≤ threads) × (threads ≤ 16) }
+    ensures { IfOk result (λ answers. AreTaskAnswers T.count T.is_right answers.items) }
+{
+    let board = Mutex::new(Board::<A, T>::new(alloc, count)?);
+    let others = count.min(threads as usize).saturating_sub(1);
+    let tasks = Tasks { task, count };
+    work_all::<Tasks<'_, T>, Mutex<Board<A, T>>, R>(rt, &tasks, &board, others);
+    Ok(board.into_inner().into_answers())
+}
