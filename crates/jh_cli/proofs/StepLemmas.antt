@@ -8,9 +8,9 @@ use Rattle.jh_edn.specs.View.{view, views}
 use Rattle.jh_edn.specs.declared.value.Value.{Value}
 use Rattle.jh_env.specs.Faults.{FaultValue}
 use Rattle.jh_nemesis.specs.State.{Active}
-use Rattle.jh_nemesis.specs.StepText.{parsed_step}
+use Rattle.jh_step_texts.specs.StepText.{parsed_step}
 use Rattle.jh_nemesis.specs.declared.steps.Step.{Step}
-use Rattle.jh_nemesis.specs.declared.texts.StepTextError.TheVariants as StepTextError
+use Rattle.jh_step_texts.specs.declared.steps.StepTextError.TheVariants as StepTextError
 use Rattle.jh_cli.specs.Status.{step_error}
 use Rattle.jh_cli.specs.Refusals.{HasStepError, RefusesSteps}
 use Rattle.jh_cli.specs.declared.error.CliError.{CliError}

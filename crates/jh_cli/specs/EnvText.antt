@@ -10,7 +10,7 @@ use Rattle.jh_env.specs.TextCells.{IsTextOf}
 use Rattle.jh_env.specs.TextWritten.{text_of}
 use Rattle.jh_nemesis.specs.State.{State, Active, faults_in, first_state}
 use Rattle.jh_nemesis.specs.Steps.{answers_of, state_after_all}
-use Rattle.jh_nemesis.specs.StepText.{parsed_step}
+use Rattle.jh_step_texts.specs.StepText.{parsed_step}
 use Rattle.jh_nemesis.specs.declared.steps.Step.{Step}
 use Rattle.jh_nemesis.specs.declared.steps.StepAnswer.{StepAnswer}
 

@@ -8,9 +8,9 @@ use Rattle.jh_edn.specs.Refused as edn
 use Rattle.jh_env.specs.Cells.{Table}
 use Rattle.jh_env.specs.TextCells.{IsTextOf}
 use Rattle.jh_env.specs.TextErrors as env
-use Rattle.jh_nemesis.specs.StepText.{parsed_step}
+use Rattle.jh_step_texts.specs.StepText.{parsed_step}
 use Rattle.jh_nemesis.specs.declared.steps.Step.{Step}
-use Rattle.jh_nemesis.specs.declared.texts.StepTextError.{StepTextError}
+use Rattle.jh_step_texts.specs.declared.steps.StepTextError.{StepTextError}
 use Rattle.jh_cli.specs.EnvText.{IsEnvTextOf}
 use Rattle.jh_cli.specs.Status.{IsInputError, IsEnvironmentError}
 use Rattle.jh_cli.specs.declared.error.CliError.{CliError}

@@ -5,7 +5,7 @@ use Rattle.std.specs.Prelude.{IfSome}
 use Rattle.std.specs.List.{flat_map}
 use Rattle.jh_edn.specs.Edn.{Edn, int, vector, items_of}
 use Rattle.jh_edn.specs.Print.{print}
-use Rattle.jh_nemesis.specs.StepWritten.{text_of_step}
+use Rattle.jh_step_texts.specs.StepWritten.{text_of_step}
 use Rattle.jh_ops.specs.Operation.{Operation}
 use Rattle.jh_check.specs.declared.verdict.Verdict.{Verdict}
 use Rattle.jh_simnode.specs.declared.events.Event.{Event}

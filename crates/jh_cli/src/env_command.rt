@@ -8,7 +8,7 @@ ghost use Rattle.std.specs.Io.KnownBytes.{Appends};
 ghost use Rattle.jh_edn.specs.Edn.{int};
 ghost use Rattle.jh_edn.specs.Print.{print};
 ghost use Rattle.jh_edn.specs.View.{view, views};
-ghost use Rattle.jh_nemesis.specs.StepText.{parsed_step};
+ghost use Rattle.jh_step_texts.specs.StepText.{parsed_step};
 ghost use Rattle.jh_nemesis.specs.Steps.{FitsNodes, StepFits, answers_of, state_after_all};
 ghost use Rattle.jh_cli.specs.EnvText as text;
 ghost use Rattle.jh_cli.specs.EnvText.{IsEnvText, IsEnvTextOf, IsReport, answer_lines, line};
@@ -18,7 +18,8 @@ ghost use Rattle.jh_cli.specs.Status.{step_error};
 use crate::error::CliError;
 use jh_edn::{Value, Values, read_all, write};
 use jh_env::{Env, Nodes, env_of_value, value_of_env};
-use jh_nemesis::{Nemesis, Step, StepAnswer, StepTextError, step_of_value};
+use jh_nemesis::{Nemesis, Step, StepAnswer};
+use jh_step_texts::{StepTextError, step_of_value};
 use std::alloc::{AllocError, Global};
 use std::io::{Read, Write};
 

@@ -21,10 +21,10 @@ use crate::run_command::own_judging;
 use jh_check::Verdict;
 use jh_edn::{Value, Values, read_bytes};
 use jh_env::Nodes;
-use jh_nemesis::value_of_step;
 use jh_settings::settings_of;
 use jh_shrink::{Nobody, Observer, Shrunk, shrink_observed};
 use jh_simnode::{Entry, Plan, Schedule, run_serial};
+use jh_step_texts::value_of_step;
 use std::alloc::{AllocError, Global};
 use std::io::{Read, Write};
 

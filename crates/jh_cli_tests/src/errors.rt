@@ -5,9 +5,9 @@ use crate::rows::{Texts, first_wrong, push_error};
 use jh_cli::CliError;
 use jh_edn::EdnError;
 use jh_env::EnvTextError;
-use jh_nemesis::StepTextError;
 use jh_settings::SettingsError;
 use jh_simnode::{RunError, WorldError};
+use jh_step_texts::StepTextError;
 use std::alloc::{AllocError, Global};
 
 /// The error of this name.

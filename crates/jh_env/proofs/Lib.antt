@@ -12,6 +12,4 @@ pub mod TextLawLemmas
 pub mod NameLemmas
 pub mod FaultLemmas
 pub mod StartLemmas
-pub mod FaultOrderLemmas
-pub mod ApartLemmas
 pub mod SameLemmas

@@ -14,5 +14,3 @@ pub mod TextCells
 pub mod TextWritten
 pub mod TextInside
 pub mod TextLaws
-pub mod FaultWritten
-pub mod FaultLaws

@@ -5,7 +5,6 @@ use Rattle.jh_edn.specs.Edn.{Edn, int, keyword}
 use Rattle.jh_tables.specs.declared.cells.Link.{Link}
 use Rattle.jh_tables.specs.declared.cells.NodeCell.{NodeCell}
 use Rattle.jh_env.specs.declared.names.NodesError.{NodesError}
-use Rattle.jh_tables.specs.declared.faults.LinkFault.{LinkFault}
 use Rattle.jh_env.specs.declared.texts.EnvTextError.{EnvTextError}
 use Rattle.jh_env.specs.declared.texts.EnvTextError.TheVariants.{NoNodes, TooManyNodes, BadName}
 use Rattle.jh_env.specs.declared.texts.EnvTextError.TheVariants.{DuplicateName, BadEntry}
@@ -32,13 +31,6 @@ entries_parsed entries = map entry_parsed entries
 -- what is parsed, after what was parsed before
 abbrev pub list_with_front : {A : Type 0} → List A → Option (List A) → Option (List A)
 list_with_front front parsed = option_map (λ more. front ++ more) parsed
-
--- the word of a fault of links and its amount, before the links of a fault's text
-abbrev pub link_fault_values : LinkFault → List Edn
-link_fault_values LinkFault.Cut = keyword (codes "cut") ∷ []
-link_fault_values (LinkFault.Slow ms) = keyword (codes "slow") ∷ int (pos ms) ∷ []
-link_fault_values (LinkFault.Loss level) = keyword (codes "loss") ∷ int (pos level) ∷ []
-link_fault_values (LinkFault.Fix ms) = keyword (codes "fix") ∷ int (pos ms) ∷ []
 
 -- the error for names that are refused
 abbrev pub nodes_error : NodesError → EnvTextError

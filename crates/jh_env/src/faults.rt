@@ -5,9 +5,10 @@
 ghost use Rattle.std.specs.Prelude.{◌≡◌, ◌≢◌, ◌↔◌, ◌==◌, length, false, IsTrue, [], MatchResult};
 ghost use Rattle.std.specs.Prelude.{IfOk, ⊤};
 ghost use Rattle.std.specs.List.{All, list_any};
-ghost use Rattle.jh_tables.specs.Plain.{fault_on_links, fault_on_nodes};
+ghost use Rattle.jh_tables.specs.Plain.{fault_of, fault_on_links, fault_on_nodes};
 ghost use Rattle.jh_env.specs.Effects.{IsLinkAmount};
 ghost use Rattle.jh_env.specs.Faults.{
+  IsFault,
   kept_list,
   kept_links,
   kept_nodes,
@@ -383,6 +384,14 @@ impl Fault {
             }),
             Err(_) => Err(FaultError::OutOfMemory),
         }
+    }
+
+    /// What it does, and to what: each link or node once, and amounts in their ranges.
+    pub fn parts(&self) -> &PlainFault
+        ensures parts { fault_of result.now ≡ self.now }
+        ensures right { IsFault self.now }
+    {
+        &self.fault
     }
 
     /// A fault that does the same to the same links or nodes.

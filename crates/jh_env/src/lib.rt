@@ -11,11 +11,8 @@ mod texts;
 
 pub use environment::{Env, MAX_DELAY, MAX_LAID, MAX_OFFSET};
 pub use faults::{Fault, FaultError, MAX_BUMPED, MAX_FIXED, MAX_LOSS, MAX_SLOWED};
-pub use jh_tables::{Life, Link, Node, NodeCell};
+pub use jh_tables::{Life, Link, LinkFault, Node, NodeCell, NodeFault, PlainFault};
 pub use laws::limits;
 pub use names::{Nodes, NodesError};
 pub use starting::{Start, StartError};
-pub use texts::{
-    EnvTextError, env_of_value, environments_read_back, order_changes_no_fault, value_of_env,
-    value_of_fault,
-};
+pub use texts::{EnvTextError, env_of_value, environments_read_back, value_of_env};

@@ -12,7 +12,6 @@ ghost use Rattle.jh_env.specs.TextErrors.{RefusesEnvText};
 ghost use Rattle.jh_env.specs.TextWritten.{text_of};
 
 mod entries;
-mod faults;
 mod laws;
 mod reading;
 mod setting;
@@ -21,9 +20,8 @@ mod writing;
 use crate::environment::Env;
 use crate::names::{Nodes, NodesError};
 use crate::starting::{Start, StartError};
-pub use faults::value_of_fault;
 use jh_edn::{Pairs, Value};
-pub use laws::{environments_read_back, order_changes_no_fault};
+pub use laws::environments_read_back;
 use std::alloc::{AllocError, AllocFailed, Global};
 use thiserror::Error;
 

@@ -8,8 +8,6 @@
 #[cfg(test)]
 mod environment;
 #[cfg(test)]
-mod fault_texts;
-#[cfg(test)]
 mod faults;
 #[cfg(test)]
 mod grudge;

@@ -3,7 +3,7 @@
 -- leaves of a generator.
 use Rattle.std.specs.Prelude.{ℕ, suc, ◌+◌, ◌-◌, ◌==◌, ℤ, pos, ◌+ℤ◌, Bool, true, false, not, ◌&&◌}
 use Rattle.jh_edn.specs.Edn.{is_empty}
-use Rattle.std.specs.Prelude.{◌||◌, cond, List, [], ◌∷◌, map, length, filter, Option, None, Some}
+use Rattle.std.specs.Prelude.{◌||◌, if◌then◌else◌, List, [], ◌∷◌, map, length, filter, Option, None, Some}
 use Rattle.std.specs.Prelude.{option_map, int_lt}
 use Rattle.jh_gen.specs.Generator.{Generator, nothing, once, rising, forever, seq, limit, mix}
 use Rattle.jh_gen.specs.Generator.{phases, reserve, each_thread, clients, nemesis_only, Generators}
@@ -74,7 +74,7 @@ abbrev pub taking_within : {X Y : Type 0} → (X → Y) → Taking X → Taking 
 taking_within f o = option_map (λ r. (r.0, f r.1)) o
 
 abbrev pub counting_after : ℤ → GeneratorState
-counting_after n = cond (int_lt n max_number) (counting (n +ℤ pos 1)) gone
+counting_after n = if int_lt n max_number then counting (n +ℤ pos 1) else gone
 
 -- the call that a seat gets now, if any
 abbrev mutual
@@ -85,7 +85,8 @@ abbrev mutual
   taking (endless c) q = Some (c, endless c)
   taking (in_turn awaited ss) q =
       taking_within (in_turn awaited) (head_of (open_takings awaited ss q))
-  taking (limited n s) q = cond (n == 0) None (taking_within (limited (n - 1)) (taking s q))
+  taking (limited n s) q =
+      if n == 0 then None else taking_within (limited (n - 1)) (taking s q)
   taking (mixed ss) q = taking_within mixed (picked_value q.random_number (open_takings [] ss q))
   taking (split ls) q = taking_within split (lot_taking ls q)
 
@@ -93,17 +94,16 @@ abbrev mutual
   pub open_takings : List ℕ → GeneratorStates → Question → List (Taking GeneratorStates)
   open_takings awaited no_states q = []
   open_takings awaited (state b s ss) q =
-      cond (is_done s)
-      (map (taking_within (state b s)) (open_takings awaited ss q))
-      (cond (not b && has_busy_thread q.busy awaited) None
-      (taking_within (λ r. state true r ss) (taking s q))
-      ∷ map (taking_within (state b s)) (open_takings awaited ss q))
+      if is_done s then map (taking_within (state b s)) (open_takings awaited ss q)
+      else (if not b && has_busy_thread q.busy awaited then None
+      else taking_within (λ r. state true r ss) (taking s q))
+      ∷ map (taking_within (state b s)) (open_takings awaited ss q)
 
   pub lot_taking : Lots → Question → Taking Lots
   lot_taking no_lots q = None
   lot_taking (lot seats s ls) q =
-      cond (is_in_scope seats q.seat) (taking_within (λ r. lot seats r ls) (taking s q))
-      (taking_within (lot seats s) (lot_taking ls q))
+      if is_in_scope seats q.seat then taking_within (λ r. lot seats r ls) (taking s q)
+      else taking_within (lot seats s) (lot_taking ls q)
 
 abbrev pub joined_lots : Lots → Lots → Lots
 joined_lots no_lots ls = ls
@@ -118,10 +118,11 @@ lots_each f (x ∷ xs) = lot (x ∷ []) (f x) (lots_each f xs)
 abbrev mutual
   pub state_left : Generator → Tally → Scope → GeneratorState
   state_left nothing t scope = gone
-  state_left (once c) t scope = cond (is_exhausted (once c) t scope) gone (one c)
+  state_left (once c) t scope = if is_exhausted (once c) t scope then gone else one c
   state_left (rising n) t scope =
-      cond (is_exhausted (rising n) t scope) gone (counting (n +ℤ pos (length t)))
-  state_left (forever c) t scope = cond (is_exhausted (forever c) t scope) gone (endless c)
+      if is_exhausted (rising n) t scope then gone else counting (n +ℤ pos (length t))
+  state_left (forever c) t scope =
+      if is_exhausted (forever c) t scope then gone else endless c
   state_left (seq gs) t scope = in_turn [] (states_left gs 0 t scope)
   state_left (limit n g) t scope = limited (n - length t) (state_left g (tally_under 0 t) scope)
   state_left (mix gs) t scope = mixed (states_left gs 0 t scope)

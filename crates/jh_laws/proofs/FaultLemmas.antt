@@ -13,13 +13,13 @@ use Rattle.jh_edn.specs.Order.{in_order}
 use Rattle.jh_edn.proofs.CitedLemmas.{list_of-items_of}
 use Rattle.jh_env.specs.Faults.{FaultValue, AreApart, IsBumpAmount, kept_links, kept_nodes, is_self_link, is_same_link, is_same_node, is_same_bumped}
 use Rattle.jh_env.specs.Faults.{Cut, Slow, Loss, Fix, Pause, Kill, Bump}
-use Rattle.jh_env.specs.FaultWritten.{is_link_before, is_node_before, is_bump_before, fault_in_order, name_text, link_text, links_text, nodes_text, bump_text, bumps_text, text_of_fault}
+use Rattle.jh_step_texts.specs.FaultWritten.{is_link_before, is_node_before, is_bump_before, fault_in_order, name_text, link_text, links_text, nodes_text, bump_text, bumps_text, text_of_fault}
 use Rattle.jh_env.specs.Names.{AreNodeNames}
 use Rattle.jh_env.proofs.TextPlaceLemmas.{place_of-at}
 use Rattle.jh_env.specs.TextErrors.{place_of}
-use Rattle.jh_nemesis.specs.FaultText.{Links, Nodes, Bumps, link_names, node_name, bump_spelled, all_of, links_in, nodes_in, bumps_in, ends_of, named_node, bump_of, amount_within, is_bump_amount, are_apart_after, are_bumps, links_fault, nodes_fault, parsed_links, parsed_nodes, parsed_bumps}
-use Rattle.jh_nemesis.specs.declared.texts.shapes.OnLinks.{OnLinks}
-use Rattle.jh_nemesis.specs.declared.texts.shapes.OnNodes.{OnNodes}
+use Rattle.jh_step_texts.specs.FaultText.{Links, Nodes, Bumps, link_names, node_name, bump_spelled, all_of, links_in, nodes_in, bumps_in, ends_of, named_node, bump_of, amount_within, is_bump_amount, are_apart_after, are_bumps, links_fault, nodes_fault, parsed_links, parsed_nodes, parsed_bumps}
+use Rattle.jh_step_texts.specs.declared.shapes.OnLinks.{OnLinks}
+use Rattle.jh_step_texts.specs.declared.shapes.OnNodes.{OnNodes}
 use Rattle.jh_laws.specs.StepLines.{IsFaultOn, IsTextOfFault}
 use Rattle.jh_laws.proofs.OrderLemmas.{Apart, apart_behind, apart_in_order, all_in_order, none_in_order, none_each}
 

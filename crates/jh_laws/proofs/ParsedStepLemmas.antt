@@ -14,19 +14,19 @@ use Rattle.jh_env.specs.Faults.{FaultValue, AreApart, kept_links, is_self_link, 
 use Rattle.jh_env.specs.Faults.{Slow, Loss, Fix, Bump}
 use Rattle.jh_env.proofs.FaultLemmas.{kept_apart, kept_all, none_apart}
 use Rattle.jh_env.specs.TextErrors.{place_of}
-use Rattle.jh_nemesis.specs.FaultText.{FaultSpelling, Links, Nodes, Bumps, SplitOne, Grudge, IsRingOverAll, result_or_refusal, link_names, node_name, bump_spelled, known_pair, ends_of, named_node, bump_of, amount_within, are_bumps, links_fault, nodes_fault, parsed_links, parsed_nodes, parsed_bumps, cut_of, parsed_split, parsed_named, parsed_fault, fault_spelling}
-use Rattle.jh_nemesis.specs.NamedFaults.{AreLinksAmong, node_places, links_that, crosses, crosses_halves, crosses_bridge, touches, leaves_majority, is_at, is_option_of, ring_links, seeded_order}
-use Rattle.jh_nemesis.specs.StepText.{id_of, begin_of_fault, parsed_begin, parsed_withdraw, parsed_keyword, step_of_elements, parsed_step, fault_of_begin}
+use Rattle.jh_step_texts.specs.FaultText.{FaultSpelling, Links, Nodes, Bumps, SplitOne, Grudge, IsRingOverAll, result_or_refusal, link_names, node_name, bump_spelled, known_pair, ends_of, named_node, bump_of, amount_within, are_bumps, links_fault, nodes_fault, parsed_links, parsed_nodes, parsed_bumps, cut_of, parsed_split, parsed_named, parsed_fault, fault_spelling}
+use Rattle.jh_step_texts.specs.NamedFaults.{AreLinksAmong, node_places, links_that, crosses, crosses_halves, crosses_bridge, touches, leaves_majority, is_at, is_option_of, ring_links, seeded_order}
+use Rattle.jh_step_texts.specs.StepText.{id_of, begin_of_fault, parsed_begin, parsed_withdraw, parsed_keyword, step_of_elements, parsed_step, fault_of_begin}
 use Rattle.jh_nemesis.specs.declared.steps.Step.{Step}
 use Rattle.jh_nemesis.specs.declared.steps.Step.TheVariants.{Withdraw, WithdrawAll, Undo, Redo}
-use Rattle.jh_nemesis.specs.declared.texts.StepTextError.{StepTextError}
-use Rattle.jh_nemesis.specs.declared.texts.StepTextError.TheVariants.{BadStep, BadId, UnknownNode, SelfLink, BadAmount}
-use Rattle.jh_nemesis.specs.declared.texts.shapes.Named.{Named}
-use Rattle.jh_nemesis.specs.declared.texts.shapes.OnLinks.{OnLinks}
-use Rattle.jh_nemesis.specs.declared.texts.shapes.OnNodes.{OnNodes}
-use Rattle.jh_nemesis.proofs.FaultTextLemmas.{bumps_right}
-use Rattle.jh_nemesis.proofs.GrudgeLemmas.{made_crossing, places_apart, order_distinct}
-use Rattle.jh_nemesis.proofs.LinkLemmas.{some_of_any, in_range, in_links}
+use Rattle.jh_step_texts.specs.declared.steps.StepTextError.{StepTextError}
+use Rattle.jh_step_texts.specs.declared.steps.StepTextError.TheVariants.{BadStep, BadId, UnknownNode, SelfLink, BadAmount}
+use Rattle.jh_step_texts.specs.declared.shapes.Named.{Named}
+use Rattle.jh_step_texts.specs.declared.shapes.OnLinks.{OnLinks}
+use Rattle.jh_step_texts.specs.declared.shapes.OnNodes.{OnNodes}
+use Rattle.jh_step_texts.proofs.FaultTextLemmas.{bumps_right}
+use Rattle.jh_step_texts.proofs.GrudgeLemmas.{made_crossing, places_apart, order_distinct}
+use Rattle.jh_step_texts.proofs.LinkLemmas.{some_of_any, in_range, in_links}
 use Rattle.jh_laws.specs.StepLines.{IsFaultOn, IsStepOver}
 use Rattle.jh_laws.proofs.EnvironmentLemmas.{all_kept}
 use Rattle.jh_laws.proofs.OrderLemmas.{none_each}

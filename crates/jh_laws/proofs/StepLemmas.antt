@@ -14,13 +14,13 @@ use Rattle.jh_edn.specs.Printable.{IsPrintable, ArePrintable, ArePrintablePairs}
 use Rattle.jh_edn.specs.Spelling.{depth_limit, is_name}
 use Rattle.jh_env.specs.Faults.{FaultValue, IsBumpAmount, is_same_bumped}
 use Rattle.jh_env.specs.Faults.{Cut, Slow, Loss, Fix, Pause, Kill, Bump}
-use Rattle.jh_env.specs.FaultWritten.{is_link_before, is_node_before, is_bump_before, name_text, link_text, links_text, bump_text, text_of_fault}
+use Rattle.jh_step_texts.specs.FaultWritten.{is_link_before, is_node_before, is_bump_before, name_text, link_text, links_text, bump_text, text_of_fault}
 use Rattle.jh_env.specs.Names.{AreNodeNames}
 use Rattle.jh_env.specs.TextErrors.{place_of}
-use Rattle.jh_nemesis.specs.StepText.{parsed_step}
-use Rattle.jh_nemesis.specs.StepWritten.{text_of_step}
+use Rattle.jh_step_texts.specs.StepText.{parsed_step}
+use Rattle.jh_step_texts.specs.StepWritten.{text_of_step}
 use Rattle.jh_nemesis.specs.declared.steps.Step.{Step}
-use Rattle.jh_nemesis.specs.declared.texts.StepTextError.{StepTextError}
+use Rattle.jh_step_texts.specs.declared.steps.StepTextError.{StepTextError}
 use Rattle.jh_nemesis.specs.declared.steps.Step.TheVariants.{Begin, Withdraw, WithdrawAll, Undo, Redo}
 use Rattle.jh_laws.specs.StepLines.{IsFaultOn, IsStepOver, step_in_order}
 use Rattle.jh_laws.proofs.DepthLemmas.{deeper}

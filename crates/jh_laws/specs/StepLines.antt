@@ -7,10 +7,10 @@ use Rattle.jh_edn.specs.Spelling.{SpellsAll}
 use Rattle.jh_env.specs.Cells.{Table}
 use Rattle.jh_env.specs.Faults.{FaultValue, FitsCount, IsFault, is_self_link}
 use Rattle.jh_env.specs.Faults.{Cut, Slow, Loss, Fix, Pause, Kill, Bump}
-use Rattle.jh_env.specs.FaultWritten.{fault_in_order}
+use Rattle.jh_step_texts.specs.FaultWritten.{fault_in_order}
 use Rattle.jh_env.specs.TextCells.{IsTextOf}
-use Rattle.jh_nemesis.specs.FaultText.{FaultSpelling, fault_spelling, parsed_fault}
-use Rattle.jh_nemesis.specs.StepText.{parsed_step}
+use Rattle.jh_step_texts.specs.FaultText.{FaultSpelling, fault_spelling, parsed_fault}
+use Rattle.jh_step_texts.specs.StepText.{parsed_step}
 use Rattle.jh_nemesis.specs.declared.steps.Step.{Step}
 use Rattle.jh_nemesis.specs.declared.steps.Step.TheVariants.{Begin, Withdraw, WithdrawAll, Undo}
 use Rattle.jh_nemesis.specs.declared.steps.Step.TheVariants.{Redo}

@@ -7,14 +7,14 @@ ghost use Rattle.jh_edn.specs.Printable.{IsPrintable};
 ghost use Rattle.jh_edn.specs.Spelling.{depth_limit, SpellsAll};
 ghost use Rattle.jh_env.specs.Cells.{Table};
 ghost use Rattle.jh_env.specs.Faults.{FaultValue};
-ghost use Rattle.jh_env.specs.FaultWritten.{fault_in_order, text_of_fault};
+ghost use Rattle.jh_step_texts.specs.FaultWritten.{fault_in_order, text_of_fault};
 ghost use Rattle.jh_env.specs.Names.{AreNodeNames};
 ghost use Rattle.jh_env.specs.Overlay.{EnvValue, cells_of};
 ghost use Rattle.jh_env.specs.TextLaws.{CanStart, AreSameCells};
 ghost use Rattle.jh_env.specs.TextWritten.{text_of};
-ghost use Rattle.jh_nemesis.specs.FaultText.{IsRingOverAll, fault_spelling};
-ghost use Rattle.jh_nemesis.specs.StepText.{fault_of_begin, parsed_step};
-ghost use Rattle.jh_nemesis.specs.StepWritten.{text_of_step};
+ghost use Rattle.jh_step_texts.specs.FaultText.{IsRingOverAll, fault_spelling};
+ghost use Rattle.jh_step_texts.specs.StepText.{fault_of_begin, parsed_step};
+ghost use Rattle.jh_step_texts.specs.StepWritten.{text_of_step};
 ghost use Rattle.jh_nemesis.specs.declared.steps.Step.{Step};
 ghost use Rattle.jh_laws.specs.Lines.{lines_of, ReadsBack};
 ghost use Rattle.jh_laws.specs.StepLines.{AreBytesOf, IsFaultOn, IsStepOver, IsTextOfFault};
@@ -23,7 +23,8 @@ ghost use Rattle.jh_laws.specs.StepLines.{step_in_order};
 use crate::environments::environment_lines_read_back;
 use crate::lines::lines_read_back;
 use jh_edn::{print_laws, spelled_once};
-use jh_env::{environments_read_back, order_changes_no_fault};
+use jh_env::environments_read_back;
+use jh_step_texts::order_changes_no_fault;
 
 /// What is written of a fault on nodes of good names is a text of that fault, with its links, nodes
 /// or bumps in order. What is printed of it spells it alone, so whoever reads these bytes has a

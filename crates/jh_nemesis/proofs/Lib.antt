@@ -3,9 +3,5 @@ pub mod RecordLemmas
 pub mod EffectLemmas
 pub mod CursorLemmas
 pub mod LawLemmas
-pub mod ListLemmas
-pub mod LinkLemmas
-pub mod GrudgeLemmas
-pub mod FaultTextLemmas
 pub mod StepLemmas
 pub mod WorkLemmas

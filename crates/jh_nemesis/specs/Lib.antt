@@ -5,9 +5,3 @@ pub mod Work
 pub mod WorkLaws
 pub mod RecordsInside
 pub mod NemesisInside
-pub mod NamedFaults
-pub mod GrudgeLaws
-pub mod FaultText
-pub mod ShapeInside
-pub mod StepText
-pub mod StepWritten

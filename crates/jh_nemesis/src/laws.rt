@@ -27,12 +27,6 @@ ghost use Rattle.jh_nemesis.specs.WorkLaws.{
   WithdrawalWritesItsFault,
   WithdrawingAllWritesAll,
 };
-ghost use Rattle.jh_nemesis.specs.GrudgeLaws.{
-  BridgeIsBridge,
-  HalvesAreComplete,
-  RingIsRing,
-  SplitIsComplete,
-};
 
 use crate::steps::{MAX_ACTIVE, MAX_STEPS};
 
@@ -110,15 +104,4 @@ pub fn steps_write_their_faults()
     ensures undo { UndoWritesItsStep }
     ensures redo { RedoWritesItsUndo }
     ensures back { UndoWritesItsRedo }
-{}
-
-/// A named fault cuts the links of its grudge: `[:halves]` those of the complete grudge of the two
-/// halves of all nodes, `[:split-one NODE]` those of the complete grudge of the node and the rest,
-/// `[:bridge]` those of the bridge, and a ring, in whatever order of all nodes, those of the
-/// majorities ring in that order.
-pub fn named_faults_are_grudges()
-    ensures halves { HalvesAreComplete }
-    ensures split { SplitIsComplete }
-    ensures bridge { BridgeIsBridge }
-    ensures ring { RingIsRing }
 {}

@@ -7,16 +7,14 @@ mod laws;
 mod nemesis;
 mod records;
 mod steps;
-mod texts;
 
 pub use laws::{
     change_ends_future, cuts_of_others_stay, cuts_of_start_stay, environment_is_overlay, limits,
-    named_faults_are_grudges, redo_restores, refused_stays, steps_write_their_faults,
-    undo_restores, withdrawal_ends_begin, withdrawal_leaves_others, withdrawing_all_leaves_start,
+    redo_restores, refused_stays, steps_write_their_faults, undo_restores, withdrawal_ends_begin,
+    withdrawal_leaves_others, withdrawing_all_leaves_start,
 };
 pub use nemesis::Nemesis;
 pub use steps::{
     BeginError, MAX_ACTIVE, MAX_STEPS, NothingToRedo, NothingToUndo, Step, StepAnswer, Stopped,
     WithdrawAllError, WithdrawError,
 };
-pub use texts::{StepTextError, ring_order, step_of_value, value_of_step};

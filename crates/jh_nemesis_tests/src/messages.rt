@@ -1,8 +1,7 @@
 //! The messages of errors, with a `;` behind each.
 
-use jh_nemesis::{
-    BeginError, NothingToRedo, NothingToUndo, StepTextError, WithdrawAllError, WithdrawError,
-};
+use jh_nemesis::{BeginError, NothingToRedo, NothingToUndo, WithdrawAllError, WithdrawError};
+use jh_step_texts::StepTextError;
 use std::alloc::{AllocError, Global};
 use std::fmt::Display;
 use std::test::Fail;

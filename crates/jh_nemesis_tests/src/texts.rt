@@ -4,7 +4,8 @@
 
 use jh_edn::{Value, read_all};
 use jh_env::Nodes;
-use jh_nemesis::{Step, StepTextError, step_of_value};
+use jh_nemesis::Step;
+use jh_step_texts::{StepTextError, step_of_value};
 use std::alloc::Global;
 
 /// The one value of a text. None: memory was refused.

@@ -5,7 +5,7 @@
 use crate::texts::value_of;
 use jh_edn::write;
 use jh_env::Nodes;
-use jh_nemesis::{StepTextError, ring_order, step_of_value, value_of_step};
+use jh_step_texts::{StepTextError, ring_order, step_of_value, value_of_step};
 use std::alloc::Global;
 
 fn three(alloc: Global) -> Option<Nodes> {

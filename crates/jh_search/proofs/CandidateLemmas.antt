@@ -7,7 +7,7 @@ use Rattle.std.proofs.lemmas.List.{take-append-drop}
 use Rattle.std.proofs.lemmas.List.Elements.{All-append, All-cons, All-drop, All-take}
 use Rattle.std.proofs.lemmas.List.Sums.{fold_push}
 use Rattle.jh_nemesis.specs.Steps.{FitsNodes}
-use Rattle.jh_nemesis.proofs.LinkLemmas.{all_from, kept, range_more}
+use Rattle.jh_step_texts.proofs.LinkLemmas.{all_from, kept, range_more}
 use Rattle.jh_simnode.specs.declared.schedule.Entry.{Entry}
 use Rattle.jh_simnode.specs.Limits.{max_entries}
 use Rattle.jh_simnode.specs.Plans.{PlanValue, IsFit, RefusesPlan}

@@ -6,7 +6,7 @@ use Rattle.std.specs.Prelude.{map, take, if◌then◌else◌, nat_lt, negsuc}
 use Rattle.jh_env.specs.Faults.{FaultValue, kept_links, kept_nodes}
 use Rattle.jh_env.specs.Faults.{Cut, Slow, Loss, Fix, Pause, Kill, Bump}
 use Rattle.jh_grudge.specs.Grudges.{majority}
-use Rattle.jh_nemesis.specs.NamedFaults.{ring_links, seeded_order}
+use Rattle.jh_step_texts.specs.NamedFaults.{ring_links, seeded_order}
 use Rattle.jh_search.specs.declared.draws.Draw.{Draw}
 use Rattle.jh_search.specs.declared.kinds.Kind.{Kind}
 use Rattle.jh_search.specs.declared.kinds.Kind.TheVariants as kind

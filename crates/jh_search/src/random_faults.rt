@@ -8,8 +8,8 @@ ghost use Rattle.jh_env.specs.Faults as env;
 ghost use Rattle.jh_env.specs.Faults.{Bump, Cut, FitsCount, Fix, Kill, Loss, Pause, Slow};
 ghost use Rattle.jh_env.specs.Faults.{kept_links, kept_nodes};
 ghost use Rattle.jh_env.specs.declared.faults.FaultError.TheVariants.{OutOfMemory};
-ghost use Rattle.jh_nemesis.specs.NamedFaults as named;
-ghost use Rattle.jh_nemesis.specs.NamedFaults.{AreLinksAmong, node_places};
+ghost use Rattle.jh_step_texts.specs.NamedFaults as named;
+ghost use Rattle.jh_step_texts.specs.NamedFaults.{AreLinksAmong, node_places};
 ghost use Rattle.jh_search.specs.RandomFaults as rule;
 ghost use Rattle.jh_search.specs.FaultsInside.{AreNodesOf, HasNamed};
 
@@ -17,7 +17,7 @@ use crate::draws::Draw;
 use crate::kinds::Kind;
 use jh_env::{Fault, FaultError, Node, Nodes};
 use jh_grudge::majorities_ring;
-use jh_nemesis::ring_order;
+use jh_step_texts::ring_order;
 use std::alloc::{AllocError, Global};
 
 /// How many nodes a fault of nodes names.

@@ -5,9 +5,10 @@ ghost use Rattle.jh_nemesis.specs.Steps.{FitsNodes};
 
 use crate::faults::fault_text;
 use jh_edn::write as write_value;
-use jh_nemesis::{Step, value_of_step};
+use jh_nemesis::Step;
 use jh_search::{Options, Palette};
 use jh_simnode::{Entry, MAX_ENTRIES, Plan};
+use jh_step_texts::value_of_step;
 use rand_core::utils::NextWord;
 use rand_pcg::Lcg128Xsl64;
 use std::alloc::Global;

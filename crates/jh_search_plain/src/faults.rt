@@ -1,7 +1,7 @@
 //! The text of a random fault. Links and nodes stand by their places, as faults are written.
 
 use jh_env::{Node, Nodes};
-use jh_nemesis::ring_order;
+use jh_step_texts::ring_order;
 use std::alloc::Global;
 use std::io::Write;
 

@@ -6,10 +6,10 @@ ghost use Rattle.std.specs.Prelude.{◌≡◌, length};
 ghost use Rattle.jh_nemesis.specs.Steps.{FitsNodes};
 
 use jh_edn::write as write_value;
-use jh_nemesis::value_of_step;
 use jh_search::{Options, Palette};
 use jh_settings::settings_of;
 use jh_simnode::{Entry, Plan};
+use jh_step_texts::value_of_step;
 use std::alloc::Global;
 use std::io::Write;
 

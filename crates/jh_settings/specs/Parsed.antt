@@ -8,7 +8,7 @@ use Rattle.toml.specs.Data.{Data, array, Items, no_items, item, Members, as_bool
 use Rattle.jh_edn.specs.Edn.{Edn, int, elements_of}
 use Rattle.jh_env.specs.Overlay.{EnvValue, StandsFor}
 use Rattle.jh_env.specs.TextCells.{IsTextOf}
-use Rattle.jh_nemesis.specs.StepText.{parsed_step}
+use Rattle.jh_step_texts.specs.StepText.{parsed_step}
 use Rattle.jh_nemesis.specs.declared.steps.Step.{Step}
 use Rattle.jh_ops.specs.declared.call.Workload.{Workload}
 use Rattle.jh_gen.specs.Generator.{Generator}

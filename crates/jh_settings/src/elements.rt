@@ -27,8 +27,8 @@ use crate::table::value_under;
 use jh_edn::{EdnError, Value, read_one};
 use jh_env::{Env, EnvTextError, Nodes, env_of_value};
 use jh_gen::{Gen, GenTextError, gen_of_value};
-use jh_nemesis::{StepTextError, step_of_value};
 use jh_simnode::{Entry, MAX_ENTRIES, Schedule};
+use jh_step_texts::{StepTextError, step_of_value};
 use std::alloc::{AllocError, Global};
 use toml::Table;
 

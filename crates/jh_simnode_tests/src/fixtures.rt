@@ -11,9 +11,9 @@ ghost use Rattle.jh_env.specs.Overlay.{StandsFor};
 use jh_edn::{Value, read_all};
 use jh_env::{Env, Nodes, env_of_value};
 use jh_gen::{Gen, gen_of_value};
-use jh_nemesis::step_of_value;
 use jh_ops::Workload;
 use jh_simnode::{Entry, Plan, PlanData, PlanError, Schedule, Settings, Store, World};
+use jh_step_texts::step_of_value;
 use std::alloc::Global;
 
 /// The values of a text.

@@ -1,7 +1,8 @@
 -- The events of the seats of a log, and what holds after every list of them, by any seats in any
 -- order (this project's own). Each event changes its seat by the word that the call of that name
 -- cites.
-use Rattle.std.specs.Prelude.{◌≡◌, ℕ, ◌+◌, ◌*◌, ◌<◌, ◌≤◌, ◌⊎◌, ◌==◌, List, [], ◌∷◌, ◌++◌, cond}
+use Rattle.std.specs.Prelude.{◌≡◌, ℕ, ◌+◌, ◌*◌, ◌<◌, ◌≤◌, ◌⊎◌, ◌==◌, List, [], ◌∷◌, ◌++◌}
+use Rattle.std.specs.Prelude.{if◌then◌else◌}
 use Rattle.std.specs.Prelude.{take, slice_set, None, Some, Option}
 use mathlib.Core.Option.{some}
 use lib.ListN.{get_elem?}
@@ -28,7 +29,7 @@ pub data Event : Type 0 where
 
 -- one more row with a mark
 abbrev pub marks_with : ℕ → Mark → (ℕ → Option Mark) → ℕ → Option Mark
-marks_with f m marks r = cond (r == f) (Some m) (marks r)
+marks_with f m marks r = if r == f then Some m else marks r
 
 -- all rows are free, and there is one seat
 abbrev pub opening_state : LogState

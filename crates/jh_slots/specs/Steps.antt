@@ -1,6 +1,6 @@
 -- What each atomic step on the words tells its seat (this project's own).
 use Rattle.std.specs.Prelude.{◌≡◌, ℕ, zero, suc, ◌+◌, ◌*◌, ◌-◌, ◌<◌, ◌≤◌, ◌==◌, List, [], ◌∷◌, ◌++◌}
-use Rattle.std.specs.Prelude.{length, cond, MatchBool, true, None, Some}
+use Rattle.std.specs.Prelude.{length, if◌then◌else◌, MatchBool, true, None, Some}
 use Rattle.std.specs.FinMap as fin
 use Rattle.atomic_table.specs.Table.{Me, Step}
 use Rattle.jh_slots.specs.Seats.{Mark, Words, Void, Claim, Knowledge, claim_at}
@@ -86,8 +86,8 @@ view_gathered n x v =
       live = v.live;
       cap = v.cap;
       knows =
-          cond (length x.words + 1 == x.len)
-          (knowledge_after_read x.row (Words (x.words ++ n ∷ [])) v.knows) v.knows;
+          if length x.words + 1 == x.len
+          then knowledge_after_read x.row (Words (x.words ++ n ∷ [])) v.knows else v.knows;
       note = Some (record { row = x.row; len = x.len; words = x.words ++ n ∷ [] });
       before = v.before;
     }
@@ -107,8 +107,8 @@ view_reading v row len ws =
     record {
       live = v.live;
       cap = v.cap;
-      knows = cond (length ws == len)
-          (knowledge_after_read row (Words ws) v.knows) v.knows;
+      knows =
+          if length ws == len then knowledge_after_read row (Words ws) v.knows else v.knows;
       note =
           Some (record { row = row; len = len; words = ws });
       before = v.before;

@@ -1,7 +1,7 @@
 use Rattle.std.proofs.Common.{◌≡◌, length, map, take, Ok}
 use Rattle.std.specs.List.{All}
 use Rattle.jh_edn.specs.View.{views}
-use Rattle.jh_nemesis.specs.StepText.{parsed_step}
+use Rattle.jh_step_texts.specs.StepText.{parsed_step}
 use Rattle.jh_nemesis.specs.Steps.{FitsNodes}
 use Rattle.jh_cli.proofs.env_command.steps_of.Given as goal
 

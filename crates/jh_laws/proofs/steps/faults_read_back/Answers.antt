@@ -1,5 +1,5 @@
 use Rattle.std.proofs.Common.{[], ◌∷◌, sym, subst}
-use Rattle.jh_env.specs.FaultWritten.{fault_in_order, text_of_fault}
+use Rattle.jh_step_texts.specs.FaultWritten.{fault_in_order, text_of_fault}
 use Rattle.jh_laws.specs.StepLines.{IsTextOfFault}
 use Rattle.jh_laws.proofs.FaultLemmas.{fault_again}
 use Rattle.jh_laws.proofs.LineLemmas.{one_value}

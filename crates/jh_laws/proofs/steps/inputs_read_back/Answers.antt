@@ -4,8 +4,8 @@ use Rattle.jh_edn.specs.Printable.{IsPrintable}
 use Rattle.jh_edn.specs.Spelling.{depth_limit}
 use Rattle.jh_env.specs.TextCells.{IsTextOf}
 use Rattle.jh_env.specs.TextWritten.{text_of}
-use Rattle.jh_nemesis.specs.StepText.{parsed_step}
-use Rattle.jh_nemesis.specs.StepWritten.{text_of_step}
+use Rattle.jh_step_texts.specs.StepText.{parsed_step}
+use Rattle.jh_step_texts.specs.StepWritten.{text_of_step}
 use Rattle.jh_laws.proofs.LineLemmas.{first_in, rest_in}
 use Rattle.jh_laws.proofs.StepLemmas.{steps_print, one_list}
 use Rattle.jh_laws.proofs.steps.inputs_read_back.Goals as goal

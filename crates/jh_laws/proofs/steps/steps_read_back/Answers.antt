@@ -1,7 +1,7 @@
 use Rattle.std.proofs.Common.{length, map, ap, ◌∙◌}
 use Rattle.std.proofs.lemmas.List.Elements.{recursion_from_All}
-use Rattle.jh_nemesis.specs.StepText.{parsed_step}
-use Rattle.jh_nemesis.specs.StepWritten.{text_of_step}
+use Rattle.jh_step_texts.specs.StepText.{parsed_step}
+use Rattle.jh_step_texts.specs.StepWritten.{text_of_step}
 use Rattle.jh_laws.specs.StepLines.{IsStepOver}
 use Rattle.jh_laws.proofs.StepLemmas.{step_again, step_prints, steps_again, steps_print}
 use Rattle.jh_laws.proofs.steps.steps_read_back.Goals as goal

@@ -2,7 +2,7 @@ use Rattle.std.proofs.Common.{length, ap, subst, sym, ◌∙◌}
 use Rattle.std.specs.Prelude.{⊤}
 use Rattle.std.proofs.lemmas.Result.{IfOk-weaker}
 use Rattle.jh_env.specs.Faults.{FitsCount, Cut, kept_links}
-use Rattle.jh_nemesis.specs.NamedFaults.{AreLinksAmong}
+use Rattle.jh_step_texts.specs.NamedFaults.{AreLinksAmong}
 use Rattle.jh_search.proofs.FaultLemmas.{links_refused, made_so, only_memory, where_ok}
 use Rattle.jh_search.proofs.random_faults.cut.Goals as goal
 

@@ -1,6 +1,6 @@
 use Rattle.std.proofs.Common.{◌/◌, length, subst, sym}
 use Rattle.std.proofs.lemmas.Result.{IfOk-weaker}
-use Rattle.jh_nemesis.specs.NamedFaults.{AreLinksAmong}
+use Rattle.jh_step_texts.specs.NamedFaults.{AreLinksAmong}
 use Rattle.jh_search.proofs.FaultLemmas.{apart_among, first_among}
 use Rattle.jh_search.proofs.random_faults.links_named.Goals as goal
 

@@ -2,7 +2,7 @@ use Rattle.std.proofs.Common.{length, ap, subst, sym, ◌∙◌}
 use Rattle.std.proofs.lemmas.Result.{IfOk-weaker}
 use Rattle.jh_env.specs.Faults as env
 use Rattle.jh_env.specs.Faults.{FitsCount, Loss, kept_links}
-use Rattle.jh_nemesis.specs.NamedFaults.{AreLinksAmong}
+use Rattle.jh_step_texts.specs.NamedFaults.{AreLinksAmong}
 use Rattle.jh_search.proofs.FaultLemmas.{links_refused, made_so, only_memory, where_ok}
 use Rattle.jh_search.proofs.random_faults.loss.Goals as goal
 

@@ -2,8 +2,8 @@ use Rattle.std.proofs.Common.{length, sym, subst, ◌∙◌, ap, arith}
 use lib.Seq.{length-take-le}
 use Rattle.std.specs.Prelude.{IsPermutation}
 use Rattle.std.proofs.lemmas.Result.{IfOk-weaker}
-use Rattle.jh_nemesis.specs.NamedFaults.{node_places}
-use Rattle.jh_nemesis.proofs.GrudgeLemmas.{order_long}
+use Rattle.jh_step_texts.specs.NamedFaults.{node_places}
+use Rattle.jh_step_texts.proofs.GrudgeLemmas.{order_long}
 use Rattle.jh_search.specs.FaultsInside.{AreNodesOf}
 use Rattle.jh_search.proofs.FaultLemmas.{taken_nodes}
 use Rattle.jh_search.proofs.random_faults.nodes_drawn.Goals as goal

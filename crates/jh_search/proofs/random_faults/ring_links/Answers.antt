@@ -1,9 +1,9 @@
 use Rattle.std.proofs.Common.{length, subst, sym, ◌∙◌}
 use Rattle.std.proofs.lemmas.Result.{IfOk-weaker}
 use Rattle.jh_grudge.specs.Grudges.{RingDrops}
-use Rattle.jh_nemesis.specs.NamedFaults.{AreLinksAmong, leaves_majority}
-use Rattle.jh_nemesis.proofs.GrudgeLemmas.{order_distinct, order_below, order_long, ring_exact}
-use Rattle.jh_nemesis.proofs.LinkLemmas.{links_are}
+use Rattle.jh_step_texts.specs.NamedFaults.{AreLinksAmong, leaves_majority}
+use Rattle.jh_step_texts.proofs.GrudgeLemmas.{order_distinct, order_below, order_long, ring_exact}
+use Rattle.jh_step_texts.proofs.LinkLemmas.{links_are}
 use Rattle.jh_search.proofs.FaultLemmas.{joined_among}
 use Rattle.jh_search.proofs.random_faults.ring_links.Goals as goal
 

@@ -1,7 +1,0 @@
-use Rattle.std.proofs.Common.{◌≡◌, map, take}
-use Rattle.jh_edn.specs.View.{views}
-use Rattle.jh_env.specs.FaultWritten.{link_text}
-use Rattle.jh_env.proofs.texts.faults.link_values.Given as goal
-
-abbrev pub invariant-loop-link : goal.invariant-loop-link
-invariant-loop-link l = views l.values.items ≡ map (link_text l.nodes) (take l.link-index l.links)

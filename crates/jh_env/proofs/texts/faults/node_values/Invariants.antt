@@ -1,7 +1,0 @@
-use Rattle.std.proofs.Common.{◌≡◌, map, take}
-use Rattle.jh_edn.specs.View.{views}
-use Rattle.jh_env.specs.FaultWritten.{name_text}
-use Rattle.jh_env.proofs.texts.faults.node_values.Given as goal
-
-abbrev pub invariant-loop-node : goal.invariant-loop-node
-invariant-loop-node l = views l.values.items ≡ map (name_text l.nodes) (take l.node-index l.named)

@@ -1,0 +1,121 @@
+-- What stands once stands once in any order.
+use Rattle.std.proofs.Common.{◌≡◌, ℕ, ◌+◌, ◌<◌, ◌≤◌, Bool, true, false, cond, List, [], ◌∷◌, ◌++◌, length, append_assoc, refl, sym, ap, subst, ◌∙◌, arith, length-append}
+use Rattle.std.specs.Prelude.{if◌then◌else◌, ◌==◌, ◌||◌}
+use Rattle.std.specs.List.{list_any, sum_by}
+use Rattle.std.proofs.lemmas.Bool.{and_parts, and_from, eqb-true, eq-eqb, false≢true}
+use Rattle.std.proofs.lemmas.List.{append-nil}
+use Rattle.std.proofs.lemmas.List.Sorted.{sum_by-IsPermutation}
+use Rattle.std.proofs.lemmas.List.Sums.{sum_by-append, sum_by-cons}
+use Rattle.std.proofs.Math.Seq.{get_or-append_seam, take-append_seam}
+use Rattle.jh_edn.specs.Order.{in_order}
+use Rattle.jh_env.specs.Faults.{AreApart, kept_list, kept_links, kept_nodes, is_same_link, is_same_node}
+use Rattle.jh_step_texts.specs.FaultWritten.{is_link_before, is_node_before}
+use Rattle.jh_step_texts.proofs.FaultOrderLemmas.{in_order_moves}
+
+none_of : (x y : Bool) → (x || y) ≡ false → (x ≡ false) × (y ≡ false)
+none_of true y e = absurd cc
+none_of false y e = (refl, e)
+
+-- a test of whether two are one
+record IsSame {X : Type 0} (same : X → X → Bool) : Type 0 where
+  pub itself : (x : X) → same x x ≡ true
+  pub joins : (x y z : X) → same x z ≡ true → same y z ≡ true → same x y ≡ true
+
+module _ {X : Type 0} (same : X → X → Bool) (o : IsSame same) where
+  -- each is unlike those before it
+  abbrev Fresh : List X → List X → Type 0
+  Fresh kept [] = Unit {0}
+  Fresh kept (x ∷ xs) = (list_any (λ k. same k x) kept ≡ false) × Fresh (kept ++ x ∷ []) xs
+
+  fresh_kept : (kept xs : List X) → Fresh kept xs → kept_list same kept xs ≡ kept ++ xs
+  fresh_kept kept [] fresh = sym (append-nil kept)
+  fresh_kept kept (x ∷ xs) fresh =
+      ap (λ t. kept_list same (if t then kept else kept ++ x ∷ []) xs) fresh.0 ∙ fresh_kept (kept ++ x ∷ []) xs fresh.1 ∙ append_assoc kept (x ∷ []) xs
+
+  apart_fresh : (kept xs : List X) → AreApart same (kept ++ xs) → Fresh kept xs
+  apart_fresh kept [] apart = tt
+  apart_fresh kept (x ∷ xs) apart =
+      let within : length kept < length (kept ++ x ∷ xs) = omega (arith, length-append kept (x ∷ xs)) in
+      let here = rw (get_or-append_seam kept x xs x, take-append_seam kept (x ∷ xs)) at (apart (length kept) x within) in
+      (here, apart_fresh (kept ++ x ∷ []) xs (subst (AreApart same) (sym (append_assoc kept (x ∷ []) xs)) apart))
+
+  -- how many are like it
+  abbrev likes : X → List X → ℕ
+  likes z xs = sum_by (λ x. cond (same x z) 1 0) xs
+
+  likes-cons : (z x : X) (xs : List X) → likes z (x ∷ xs) ≡ cond (same x z) 1 0 + likes z xs
+  likes-cons z x xs = sum_by-cons (λ y. cond (same y z) 1 0) x xs
+
+  likes-push : (z x : X) (xs : List X) → likes z (xs ++ x ∷ []) ≡ likes z xs + cond (same x z) 1 0
+  likes-push z x xs = omega (arith, sum_by-append (λ y. cond (same y z) 1 0) xs (x ∷ []), likes-cons z x [])
+
+  none_like : (x z : X) (kept : List X) → same x z ≡ true → list_any (λ k. same k x) kept ≡ false → likes z kept ≡ 0
+  none_like x z [] like none = refl
+  none_like x z (k ∷ kept) like none =
+      let parts = none_of (same k x) (list_any (λ j. same j x) kept) none in
+      let rest = none_like x z kept like parts.1 in
+      likes-cons z k kept
+      ∙ elim (same k z) as (λ t. same k z ≡ t → cond t 1 0 + likes z kept ≡ 0) [
+        | true ↦ λ e. absurd (false≢true (sym parts.0 ∙ o.joins k x z e like))
+        | false ↦ λ e. omega (arith, rest)
+      ] refl
+
+  no_more : (x z : X) (kept : List X) → list_any (λ k. same k x) kept ≡ false → likes z kept ≤ 1 → likes z (kept ++ x ∷ []) ≤ 1
+  no_more x z kept none most =
+      elim (same x z) as (λ t. same x z ≡ t → likes z (kept ++ x ∷ []) ≡ likes z kept + cond t 1 0 → likes z (kept ++ x ∷ []) ≤ 1) [
+        | true ↦ λ e all. let zero = none_like x z kept e none in omega (arith, all, zero)
+        | false ↦ λ e all. omega (arith, all, most)
+      ] refl (likes-push z x kept)
+
+  fresh_most : (z : X) (kept xs : List X) → Fresh kept xs → likes z kept ≤ 1 → likes z (kept ++ xs) ≤ 1
+  fresh_most z kept [] fresh most = subst (λ w. likes z w ≤ 1) (sym (append-nil kept)) most
+  fresh_most z kept (x ∷ xs) fresh most =
+      subst (λ w. likes z w ≤ 1) (append_assoc kept (x ∷ []) xs) (fresh_most z (kept ++ x ∷ []) xs fresh.1 (no_more x z kept fresh.0 most))
+
+  unlike : (x : X) (kept : List X) → likes x kept ≡ 0 → list_any (λ k. same k x) kept ≡ false
+  unlike x [] none = refl
+  unlike x (k ∷ kept) none =
+      elim (same k x) as (λ t. cond t 1 0 + likes x kept ≡ 0 → (t || list_any (λ j. same j x) kept) ≡ false) [
+        | true ↦ λ e. absurd (omega (arith, e))
+        | false ↦ λ e. unlike x kept (omega (arith, e))
+      ] (sym (likes-cons x k kept) ∙ none)
+
+  fresh_from : (kept xs : List X) → ((z : X) → likes z (kept ++ xs) ≤ 1) → Fresh kept xs
+  fresh_from kept [] most = tt
+  fresh_from kept (x ∷ xs) most =
+      let both = sum_by-append (λ y. cond (same y x) 1 0) kept (x ∷ xs) in
+      let one : likes x (x ∷ xs) ≡ 1 + likes x xs = likes-cons x x xs ∙ ap (λ t. cond t 1 0 + likes x xs) (o.itself x) in
+      let zero : likes x kept ≡ 0 = omega (arith, both, one, most x) in
+      (unlike x kept zero, fresh_from (kept ++ x ∷ []) xs (λ z. subst (λ w. likes z w ≤ 1) (sym (append_assoc kept (x ∷ []) xs)) (most z)))
+
+  -- of things that stand once, in any order, each is kept
+  all_kept : (lt : X → X → Bool) (xs : List X) → AreApart same xs → kept_list same [] (in_order lt xs) ≡ in_order lt xs
+  all_kept lt xs apart =
+      let fresh = apart_fresh [] xs apart in
+      let none : 0 ≤ 1 = omega arith in
+      fresh_kept [] (in_order lt xs)
+      (fresh_from [] (in_order lt xs)
+      (λ z. subst (λ n. n ≤ 1) (sym (sum_by-IsPermutation (λ x. cond (same x z) 1 0) xs (in_order lt xs) (in_order_moves lt xs))) (fresh_most z [] xs fresh none)))
+
+node_same : IsSame is_same_node
+node_same = record {
+  itself = λ x. eq-eqb x x refl;
+  joins = λ x y z e f. eq-eqb x y (eqb-true x z e ∙ sym (eqb-true y z f));
+}
+
+link_same : IsSame is_same_link
+link_same = record {
+  itself = λ x. and_from (x.0 == x.0) (x.1 == x.1) (eq-eqb x.0 x.0 refl) (eq-eqb x.1 x.1 refl);
+  joins = λ x y z e f.
+      let p = and_parts (x.0 == z.0) (x.1 == z.1) e in
+      let q = and_parts (y.0 == z.0) (y.1 == z.1) f in
+      and_from (x.0 == y.0) (x.1 == y.1) (node_same.joins x.0 y.0 z.0 p.0 q.0) (node_same.joins x.1 y.1 z.1 p.1 q.1);
+}
+
+-- links in order, each of which stands once, are kept as they are
+pub links_kept : (links : List (ℕ × ℕ)) → AreApart is_same_link links → kept_links (in_order is_link_before links) ≡ in_order is_link_before links
+links_kept links apart = all_kept is_same_link link_same is_link_before links apart
+
+-- and so are nodes
+pub nodes_kept : (nodes : List ℕ) → AreApart is_same_node nodes → kept_nodes (in_order is_node_before nodes) ≡ in_order is_node_before nodes
+nodes_kept nodes apart = all_kept is_same_node node_same is_node_before nodes apart

@@ -1,0 +1,6 @@
+pub mod ListLemmas
+pub mod LinkLemmas
+pub mod GrudgeLemmas
+pub mod FaultTextLemmas
+pub mod FaultOrderLemmas
+pub mod ApartLemmas

@@ -1,0 +1,226 @@
+-- Faults as EDN values (this project's own): `[:cut LINKS]`, `[:slow MS LINKS]`,
+-- `[:loss LEVEL LINKS]`, `[:fix MS LINKS]`, `[:pause NODES]`, `[:kill NODES]` and
+-- `[:bump {"n1" 500, ..}]`, where LINKS are `[[src dst] ..]`, NODES `["n1" ..]`, and each name is a
+-- node's; or a cut that is named by a grudge over all nodes: `[:halves]`, `[:split-one "n1"]`,
+-- `[:bridge]`, `[:ring]` and `[:ring SEED]`. A new kind of fault is a new case here.
+use Rattle.std.specs.Prelude.{◌≡◌, ℕ, ◌^◌, ◌&&◌, ◌⊎◌, Bool, true, ℤ, pos, negsuc, List, [], ◌∷◌}
+use Rattle.std.specs.Prelude.{◌++◌, length, codes, not, nat_lt, nat_le, if◌then◌else◌, is_none}
+use Rattle.std.specs.Prelude.{is_some, option_and_then, option_map, Option, Some, None}
+use Rattle.std.specs.Prelude.{Result, Ok, Err, MatchResult, IsOk}
+use Rattle.std.specs.List.{filter_map, list_all, list_any}
+use Rattle.std.specs.Str.{bytes_eq}
+use Rattle.jh_edn.specs.Edn.{Edn, int, str, keyword, mapping, elements_of, pairs_in}
+use Rattle.jh_env.specs.Faults.{FaultValue, kept_links, kept_nodes, is_self_link, is_same_bumped}
+use Rattle.jh_env.specs.Faults.{Cut, Slow, Loss, Fix, Pause, Kill, Bump}
+use Rattle.jh_env.specs.TextErrors.{place_of}
+use Rattle.jh_env.specs.declared.faults.FaultError.TheVariants as FaultError
+use Rattle.jh_step_texts.specs.declared.steps.StepTextError.{StepTextError}
+use Rattle.jh_step_texts.specs.declared.steps.StepTextError.TheVariants.{UnknownNode, SelfLink}
+use Rattle.jh_step_texts.specs.declared.steps.StepTextError.TheVariants.{BadAmount, OutOfMemory}
+use Rattle.jh_step_texts.specs.NamedFaults.{links_that, named_links, touches, IsOverAll}
+use Rattle.jh_step_texts.specs.declared.shapes.Named.{Named}
+use Rattle.jh_step_texts.specs.declared.shapes.OnLinks.{OnLinks}
+use Rattle.jh_step_texts.specs.declared.shapes.OnNodes.{OnNodes}
+
+-- a fault as it is spelled: what is done, and the values of its links, its nodes or its bumps; or
+-- the loner's name; or the name of its grudge
+pub data FaultSpelling : Type 0 where
+  Links : OnLinks → List Edn → FaultSpelling
+  Nodes : OnNodes → List Edn → FaultSpelling
+  Bumps : List (Edn × Edn) → FaultSpelling
+  SplitOne : List ℕ → FaultSpelling
+  Grudge : Named → FaultSpelling
+
+abbrev pub two_names : List Edn → Option (List ℕ × List ℕ)
+two_names (str source ∷ str destination ∷ []) = Some (source, destination)
+two_names _ = None
+
+-- the source's and the destination's name of a link
+abbrev pub link_names : Edn → Option (List ℕ × List ℕ)
+link_names v = option_and_then two_names (elements_of v)
+
+-- the name of a node
+abbrev pub node_name : Edn → Option (List ℕ)
+node_name (str name) = Some name
+node_name _ = None
+
+-- the name of a node and the milliseconds by which its clock is moved
+abbrev pub bump_spelled : Edn × Edn → Option (List ℕ × ℤ)
+bump_spelled (str name, int ms) = Some (name, ms)
+bump_spelled _ = None
+
+-- these, if each of them is such
+abbrev pub all_of : {A : Type 0} → (A → Bool) → List A → Option (List A)
+all_of is xs = if list_all is xs then Some xs else None
+
+abbrev pub links_in : Edn → Option (List Edn)
+links_in v = option_and_then (all_of (λ l. is_some (link_names l))) (elements_of v)
+
+abbrev pub nodes_in : Edn → Option (List Edn)
+nodes_in v = option_and_then (all_of (λ n. is_some (node_name n))) (elements_of v)
+
+abbrev pub bumps_in : Edn → Option (List (Edn × Edn))
+bumps_in (mapping ms) = all_of (λ b. is_some (bump_spelled b)) (pairs_in ms)
+bumps_in _ = None
+
+-- a word alone
+abbrev pub named_fault : List ℕ → Option FaultSpelling
+named_fault name =
+    if bytes_eq name (codes "halves") then Some (Grudge Named.Halves)
+    else if bytes_eq name (codes "bridge") then Some (Grudge Named.Bridge)
+    else if bytes_eq name (codes "ring") then Some (Grudge Named.Ring)
+    else None
+
+-- a ring in the order that a seed gives
+abbrev pub shuffled_ring : Edn → Option FaultSpelling
+shuffled_ring (int seed) = Some (Grudge (Named.ShuffledRing seed))
+shuffled_ring _ = None
+
+-- a word and what it is about
+abbrev pub plain_fault : List ℕ → Edn → Option FaultSpelling
+plain_fault name v =
+    if bytes_eq name (codes "cut") then option_map (Links OnLinks.Cut) (links_in v)
+    else if bytes_eq name (codes "pause") then option_map (Nodes OnNodes.Pause) (nodes_in v)
+    else if bytes_eq name (codes "kill") then option_map (Nodes OnNodes.Kill) (nodes_in v)
+    else if bytes_eq name (codes "bump") then option_map Bumps (bumps_in v)
+    else if bytes_eq name (codes "split-one") then option_map SplitOne (node_name v)
+    else if bytes_eq name (codes "ring") then shuffled_ring v
+    else None
+
+-- a word, an amount and what it is about
+abbrev pub measured_fault : List ℕ → ℤ → Edn → Option FaultSpelling
+measured_fault name z v =
+    if bytes_eq name (codes "slow") then option_map (Links (OnLinks.Slow z)) (links_in v)
+    else if bytes_eq name (codes "loss") then option_map (Links (OnLinks.Loss z)) (links_in v)
+    else if bytes_eq name (codes "fix") then option_map (Links (OnLinks.Fix z)) (links_in v)
+    else None
+
+abbrev pub spelling_in : List Edn → Option FaultSpelling
+spelling_in (keyword name ∷ []) = named_fault name
+spelling_in (keyword name ∷ v ∷ []) = plain_fault name v
+spelling_in (keyword name ∷ int z ∷ v ∷ []) = measured_fault name z v
+spelling_in _ = None
+
+-- how a value spells a fault, if it does
+abbrev pub fault_spelling : Edn → Option FaultSpelling
+fault_spelling v = option_and_then spelling_in (elements_of v)
+
+-- a ring that is spelled is laid over all n nodes
+abbrev pub IsRingOverAll : ℕ → Option FaultSpelling → Type 0
+IsRingOverAll n (Some (Grudge named)) = IsOverAll n named
+IsRingOverAll n _ = Unit {0}
+
+abbrev pub known_pair : Option ℕ → Option ℕ → Option (ℕ × ℕ)
+known_pair (Some a) (Some b) = Some (a, b)
+known_pair _ _ = None
+
+-- the places of a link's nodes, where both are known
+abbrev pub ends_of : List (List ℕ) → Edn → Option (ℕ × ℕ)
+ends_of names v =
+    option_and_then (λ l. known_pair (place_of names l.0) (place_of names l.1)) (link_names v)
+
+-- the place of a node that is named, where it is known
+abbrev pub named_node : List (List ℕ) → Edn → Option ℕ
+named_node names v = option_and_then (place_of names) (node_name v)
+
+-- the place of a node and by how much its clock is moved, where it is known
+abbrev pub bump_of : List (List ℕ) → Edn × Edn → Option (ℕ × ℤ)
+bump_of names b =
+    option_and_then (λ said. option_map (λ node. (node, said.1)) (place_of names said.0))
+    (bump_spelled b)
+
+-- an integer from the least to the most
+abbrev pub amount_within : ℕ → ℕ → ℤ → Option ℕ
+amount_within least most (pos n) = if nat_le least n && nat_le n most then Some n else None
+amount_within least most (negsuc n) = None
+
+-- some milliseconds, at most 10^9 either way
+abbrev pub is_bump_amount : ℤ → Bool
+is_bump_amount (pos n) = nat_lt 0 n && nat_le n (10 ^ 9)
+is_bump_amount (negsuc n) = nat_lt n (10 ^ 9)
+
+-- none of these is the same as one before it, or as one of those before all of them
+abbrev pub are_apart_after : List (ℕ × ℤ) → List (ℕ × ℤ) → Bool
+are_apart_after before [] = true
+are_apart_after before (b ∷ bs) =
+    not (list_any (λ x. is_same_bumped x b) before) && are_apart_after (before ++ b ∷ []) bs
+
+-- each bump is in its range, and no node is bumped twice
+abbrev pub are_bumps : List (ℕ × ℤ) → Bool
+are_bumps bumps = list_all (λ b. is_bump_amount b.1) bumps && are_apart_after [] bumps
+
+-- the fault on these links, if its amount is in its range: 1 to 60,000 milliseconds, a level of 1
+-- to 20, 0 to 60,000 milliseconds
+abbrev pub links_fault : OnLinks → List (ℕ × ℕ) → Option FaultValue
+links_fault OnLinks.Cut links = Some (Cut (kept_links links))
+links_fault (OnLinks.Slow z) links =
+    option_map (λ ms. Slow ms (kept_links links)) (amount_within 1 60000 z)
+links_fault (OnLinks.Loss z) links =
+    option_map (λ level. Loss level (kept_links links)) (amount_within 1 20 z)
+links_fault (OnLinks.Fix z) links =
+    option_map (λ ms. Fix ms (kept_links links)) (amount_within 0 60000 z)
+
+abbrev pub nodes_fault : OnNodes → List ℕ → FaultValue
+nodes_fault OnNodes.Pause nodes = Pause (kept_nodes nodes)
+nodes_fault OnNodes.Kill nodes = Kill (kept_nodes nodes)
+
+-- what follows from a part that has to be there, or else the refusal
+abbrev pub result_or_refusal : {A B : Type 0} → Option A → StepTextError
+    → (A → Result B StepTextError) → Result B StepTextError
+result_or_refusal None refusal parsed = Err refusal
+result_or_refusal (Some part) refusal parsed = parsed part
+
+abbrev pub parsed_links : List (List ℕ) → OnLinks → List Edn → Result FaultValue StepTextError
+parsed_links names effect links =
+    if list_any (λ l. is_none (ends_of names l)) links then Err UnknownNode
+    else if list_any is_self_link (filter_map (ends_of names) links) then Err SelfLink
+    else result_or_refusal (links_fault effect (filter_map (ends_of names) links)) BadAmount
+    (λ fault. Ok fault)
+
+abbrev pub parsed_nodes : List (List ℕ) → OnNodes → List Edn → Result FaultValue StepTextError
+parsed_nodes names effect nodes =
+    if list_any (λ n. is_none (named_node names n)) nodes then Err UnknownNode
+    else Ok (nodes_fault effect (filter_map (named_node names) nodes))
+
+abbrev pub parsed_bumps : List (List ℕ) → List (Edn × Edn) → Result FaultValue StepTextError
+parsed_bumps names bumps =
+    if list_any (λ b. is_none (bump_of names b)) bumps then Err UnknownNode
+    else if are_bumps (filter_map (bump_of names) bumps)
+    then Ok (Bump (filter_map (bump_of names) bumps))
+    else Err BadAmount
+
+-- a cut of these links
+abbrev pub cut_of : List (ℕ × ℕ) → FaultValue
+cut_of links = Cut (kept_links links)
+
+abbrev pub parsed_split : List (List ℕ) → List ℕ → Result FaultValue StepTextError
+parsed_split names loner =
+    result_or_refusal (place_of names loner) UnknownNode
+    (λ place. Ok (cut_of (links_that (touches place) (length names))))
+
+abbrev pub parsed_named : ℕ → Named → Result FaultValue StepTextError
+parsed_named count named =
+    result_or_refusal (named_links named count) BadAmount (λ links. Ok (cut_of links))
+
+-- The fault that is parsed, or the first refusal that applies, over the whole fault: an unknown
+-- node, a link of a node with itself, an amount or a seed out of range or a node that is bumped
+-- twice.
+abbrev pub parsed_fault : List (List ℕ) → FaultSpelling → Result FaultValue StepTextError
+parsed_fault names (Links effect links) = parsed_links names effect links
+parsed_fault names (Nodes effect nodes) = parsed_nodes names effect nodes
+parsed_fault names (Bumps bumps) = parsed_bumps names bumps
+parsed_fault names (SplitOne loner) = parsed_split names loner
+parsed_fault names (Grudge named) = parsed_named (length names) named
+
+-- What was answered is what is parsed, unless memory was refused for what would have been parsed.
+abbrev pub IsParsedAs : {A : Type 0} → Result A StepTextError → Result A StepTextError → Type 0
+IsParsedAs answer parsed =
+    MatchResult answer (λ x. parsed ≡ Ok x)
+    (λ e. (parsed ≡ Err e) ⊎ ((e ≡ OutOfMemory) × IsOk parsed))
+
+-- the refusal of a step whose fault is refused
+abbrev pub refusal_of : FaultError.the_data → StepTextError
+refusal_of FaultError.UnknownNode = UnknownNode
+refusal_of FaultError.SelfLink = SelfLink
+refusal_of FaultError.BadAmount = BadAmount
+refusal_of FaultError.OutOfMemory = OutOfMemory

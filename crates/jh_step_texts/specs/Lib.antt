@@ -1,0 +1,9 @@
+pub mod NamedFaults
+pub mod GrudgeLaws
+pub mod FaultText
+pub mod ShapeInside
+pub mod StepText
+pub mod StepWritten
+pub mod FaultWritten
+pub mod FaultLaws
+pub mod WritingInside

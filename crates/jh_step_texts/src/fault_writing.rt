@@ -1,0 +1,218 @@
+//! The text of a fault, written. `specs/FaultWritten.antt` says what is written, and in which
+//! order.
+
+ghost use Rattle.std.specs.Prelude.{◌≡◌, ◌<◌, length, map, IfOk};
+ghost use Rattle.std.specs.List.{All};
+ghost use Rattle.std.specs.List.Sorted.{IsPermutation};
+ghost use Rattle.std.specs.Ordering.{is_lt};
+ghost use Rattle.jh_edn.specs.Order.{in_order};
+ghost use Rattle.jh_edn.specs.View.{view, views, view_pairs};
+ghost use Rattle.jh_tables.specs.Plain.{fault_on_links, fault_on_nodes};
+ghost use Rattle.jh_env.specs.Effects.{IsLinkAmount};
+ghost use Rattle.jh_env.specs.Faults.{FitsCount};
+ghost use Rattle.jh_tables.specs.Faults.FaultValue.{Bump};
+ghost use Rattle.jh_step_texts.specs.FaultWritten as text;
+ghost use Rattle.jh_step_texts.specs.WritingInside.{link_fault_values};
+ghost use Rattle.jh_step_texts.specs.FaultWritten.{is_bump_before, fault_in_order, fault_values};
+ghost use Rattle.jh_step_texts.specs.FaultWritten.{text_of_fault};
+
+use jh_edn::{Pairs, Text, Value, Values};
+use jh_env::{Fault, LinkFault, Node, NodeFault, Nodes, PlainFault};
+use std::alloc::{AllocError, Global};
+use std::cmp::Ordering;
+
+/// The string with the name of a node.
+fn name_value(alloc: Global, nodes: &Nodes, node: Node) -> Result<Value, AllocError>
+    requires { node < length nodes.now }
+    ensures { IfOk result (λ value. view value ≡ text.name_text nodes.now node) }
+{
+    match nodes.name(node) {
+        Some(name) => Ok(Value::Str(Text::of(alloc, name)?)),
+        None => unreachable!(),
+    }
+}
+
+/// The value of a link: the names of its source and of its destination.
+fn link_value(alloc: Global, nodes: &Nodes, link: (Node, Node)) -> Result<Value, AllocError>
+    requires { (link.0 < length nodes.now) × (link.1 < length nodes.now) }
+    ensures { IfOk result (λ value. view value ≡ text.link_text nodes.now link) }
+{
+    let mut ends = Vec::new(alloc);
+    ends.push(name_value(alloc, nodes, link.0)?)?;
+    ends.push(name_value(alloc, nodes, link.1)?)?;
+    Ok(Value::Vector(Values::of(ends)))
+}
+
+/// The value of each link.
+fn link_values(
+    alloc: Global,
+    nodes: &Nodes,
+    links: &[(Node, Node)],
+) -> Result<Vec<Value>, AllocError>
+    requires { All (λ l. (l.0 < length nodes.now) × (l.1 < length nodes.now)) links.now }
+    ensures { IfOk result
+        (λ values. views values.items ≡ map (text.link_text nodes.now) links.now) }
+{
+    let mut values = Vec::new(alloc);
+    for link in links {
+        values.push(link_value(alloc, nodes, *link)?)?;
+    }
+    Ok(values)
+}
+
+/// The string with the name of each node.
+fn node_values(alloc: Global, nodes: &Nodes, named: &[Node]) -> Result<Vec<Value>, AllocError>
+    requires { All (λ n. n < length nodes.now) named.now }
+    ensures { IfOk result
+        (λ values. views values.items ≡ map (text.name_text nodes.now) named.now) }
+{
+    let mut values = Vec::new(alloc);
+    for node in named {
+        values.push(name_value(alloc, nodes, *node)?)?;
+    }
+    Ok(values)
+}
+
+/// The name of each node that is bumped, with the milliseconds by which its clock is moved.
+fn bump_pairs(
+    alloc: Global,
+    nodes: &Nodes,
+    bumps: &[(Node, i64)],
+) -> Result<Vec<(Value, Value)>, AllocError>
+    requires { All (λ b. b.0 < length nodes.now) bumps.now }
+    ensures { IfOk result
+        (λ pairs. view_pairs pairs.items ≡ map (text.bump_text nodes.now) bumps.now) }
+{
+    let mut pairs = Vec::new(alloc);
+    for (node, ms) in bumps {
+        pairs.push((name_value(alloc, nodes, *node)?, Value::Int(*ms)))?;
+    }
+    Ok(pairs)
+}
+
+/// These, in ascending order.
+fn sorted<T: Copy + Ord + Drop>(alloc: Global, items: &[T]) -> Result<Vec<T>, AllocError>
+    ensures same { IfOk result (λ v. IsPermutation items.now v.items) }
+    ensures sorted { IfOk result (λ v. v.items ≡ in_order (λ x y. is_lt (T.cmp x y)) items.now) }
+{
+    let mut sorted = Vec::from_slice(alloc, items)?;
+    sorted.sort()?;
+    Ok(sorted)
+}
+
+/// The order of two bumps: by the places of their nodes.
+fn compare_bumps(x: &(Node, i64), y: &(Node, i64)) -> Ordering
+    ensures { is_lt result ≡ is_bump_before x.now y.now }
+{
+    x.0.cmp(&y.0)
+}
+
+/// These bumps, by the places of their nodes.
+fn sorted_bumps(alloc: Global, bumps: &[(Node, i64)]) -> Result<Vec<(Node, i64)>, AllocError>
+    ensures same { IfOk result (λ v. IsPermutation bumps.now v.items) }
+    ensures sorted { IfOk result (λ v. v.items ≡ in_order is_bump_before bumps.now) }
+{
+    let mut sorted = Vec::from_slice(alloc, bumps)?;
+    sorted.sort_by(compare_bumps)?;
+    Ok(sorted)
+}
+
+/// The word of a fault of links and its amount, before the links.
+fn link_fault_values(alloc: Global, kind: LinkFault) -> Result<Vec<Value>, AllocError>
+    requires { IsLinkAmount kind }
+    ensures { IfOk result (λ values. views values.items ≡ link_fault_values kind) }
+{
+    let mut values = Vec::new(alloc);
+    match kind {
+        LinkFault::Cut => values.push(Value::keyword(alloc, "cut")?)?,
+        LinkFault::Slow(ms) => {
+            values.push(Value::keyword(alloc, "slow")?)?;
+            values.push(Value::Int(ms as i64))?;
+        }
+        LinkFault::Loss(level) => {
+            values.push(Value::keyword(alloc, "loss")?)?;
+            values.push(Value::Int(i64::from(level)))?;
+        }
+        LinkFault::Fix(ms) => {
+            values.push(Value::keyword(alloc, "fix")?)?;
+            values.push(Value::Int(ms as i64))?;
+        }
+    }
+    Ok(values)
+}
+
+/// The values that are written of a fault of links, with its links in order.
+fn values_of_links(
+    alloc: Global,
+    nodes: &Nodes,
+    kind: LinkFault,
+    links: &[(Node, Node)],
+) -> Result<Vec<Value>, AllocError>
+    requires known { All (λ l. (l.0 < length nodes.now) × (l.1 < length nodes.now)) links.now }
+    requires amount { IsLinkAmount kind }
+    ensures { IfOk result (λ values. views values.items
+        ≡ fault_values nodes.now (fault_in_order (fault_on_links kind links.now))) }
+{
+    let links = sorted(alloc, links)?;
+    let mut values = link_fault_values(alloc, kind)?;
+    values.push(Value::Vector(Values::of(link_values(alloc, nodes, &links)?)))?;
+    Ok(values)
+}
+
+/// The values that are written of a fault of nodes, with its nodes in order.
+fn values_of_nodes(
+    alloc: Global,
+    nodes: &Nodes,
+    kind: NodeFault,
+    named: &[Node],
+) -> Result<Vec<Value>, AllocError>
+    requires { All (λ n. n < length nodes.now) named.now }
+    ensures { IfOk result (λ values. views values.items
+        ≡ fault_values nodes.now (fault_in_order (fault_on_nodes kind named.now))) }
+{
+    let named = sorted(alloc, named)?;
+    let mut values = Vec::new(alloc);
+    values.push(match kind {
+        NodeFault::Pause => Value::keyword(alloc, "pause")?,
+        NodeFault::Kill => Value::keyword(alloc, "kill")?,
+    })?;
+    values.push(Value::Vector(Values::of(node_values(alloc, nodes, &named)?)))?;
+    Ok(values)
+}
+
+/// The values that are written of a fault of bumps, with its bumps in order.
+fn values_of_bumps(
+    alloc: Global,
+    nodes: &Nodes,
+    bumps: &[(Node, i64)],
+) -> Result<Vec<Value>, AllocError>
+    requires { All (λ b. b.0 < length nodes.now) bumps.now }
+    ensures { IfOk result
+        (λ values. views values.items ≡ fault_values nodes.now (fault_in_order (Bump bumps.now))) }
+{
+    let bumps = sorted_bumps(alloc, bumps)?;
+    let mut values = Vec::new(alloc);
+    values.push(Value::keyword(alloc, "bump")?)?;
+    values.push(Value::Map(Pairs::of(bump_pairs(alloc, nodes, &bumps)?)))?;
+    Ok(values)
+}
+
+/// The text of a fault on these nodes: `[:cut LINKS]`, `[:slow MS LINKS]`, `[:loss LEVEL LINKS]`,
+/// `[:fix MS LINKS]`, `[:pause NODES]`, `[:kill NODES]` or `[:bump {NAME MS, ..}]`, where LINKS are
+/// `[[SOURCE DESTINATION] ..]` and NODES `[NAME ..]`. Links stand by the place of their source and
+/// then of their destination, nodes and bumps by place, whatever the order in which the fault was
+/// given them.
+///
+/// Each node that the fault names is one of these: `Fault::fits_nodes` tells whether. Takes n log n
+/// comparisons for n links, nodes or bumps.
+pub fn value_of_fault(alloc: Global, nodes: &Nodes, fault: &Fault) -> Result<Value, AllocError>
+    requires { FitsCount (length nodes.now) fault.now }
+    ensures { IfOk result (λ value. view value ≡ text_of_fault nodes.now fault.now) }
+{
+    let values = match fault.parts() {
+        PlainFault::OnLinks(kind, links) => values_of_links(alloc, nodes, *kind, links)?,
+        PlainFault::OnNodes(kind, named) => values_of_nodes(alloc, nodes, *kind, named)?,
+        PlainFault::Bump(bumps) => values_of_bumps(alloc, nodes, bumps)?,
+    };
+    Ok(Value::Vector(Values::of(values)))
+}

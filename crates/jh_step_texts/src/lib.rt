@@ -1,0 +1,18 @@
+//! The texts of faults and of the steps that begin and withdraw them, as EDN values: read and
+//! written. Cuts that are named by a grudge are made here, so that what is below knows neither
+//! grudges nor shuffles.
+#![tactic(auto)]
+
+mod fault_writing;
+mod faults;
+mod laws;
+mod named;
+mod shapes;
+mod steps;
+mod writing;
+
+pub use fault_writing::value_of_fault;
+pub use laws::{named_faults_are_grudges, order_changes_no_fault};
+pub use named::ring_order;
+pub use steps::{StepTextError, step_of_value};
+pub use writing::value_of_step;

@@ -1,0 +1,232 @@
+//! Faults as EDN values: how they are spelled. `specs/FaultText.antt` has the rule, case by case.
+
+ghost use Rattle.std.specs.Prelude.{◌≡◌, option_map, is_some};
+ghost use Rattle.std.specs.List.{list_all};
+ghost use Rattle.jh_edn.specs.View.{view, views, view_pair, view_pairs};
+ghost use Rattle.jh_step_texts.specs.FaultText as rule;
+ghost use Rattle.jh_step_texts.specs.ShapeInside.{shape_spelling};
+
+use jh_edn::Value;
+
+/// What is done to links, with its amount as it is written.
+#[derive(Clone, Copy, Debug, PartialEq, Eq)]
+pub enum OnLinks {
+    Cut,
+    Slow(i64),
+    Loss(i64),
+    Fix(i64),
+}
+
+/// What is done to nodes.
+#[derive(Clone, Copy, Debug, PartialEq, Eq)]
+pub enum OnNodes {
+    Pause,
+    Kill,
+}
+
+/// A cut that is named by its grudge over all nodes.
+#[derive(Clone, Copy, Debug, PartialEq, Eq)]
+pub enum Named {
+    Halves,
+    Bridge,
+    Ring,
+    /// A ring over the nodes in the order that a seed gives, as the seed is written.
+    ShuffledRing(i64),
+}
+
+/// A fault as it is spelled: the values of its links, its nodes or its bumps, each of the right
+/// shape, or the name of the node that is split off, or the name of its grudge.
+#[derive(Clone, Copy, Debug)]
+pub enum Shape<'a> {
+    Links(OnLinks, &'a [Value]),
+    Nodes(OnNodes, &'a [Value]),
+    Bumps(&'a [(Value, Value)]),
+    SplitOne(&'a str),
+    Grudge(Named),
+}
+
+/// The source's and the destination's name of a link.
+pub fn link_names(link: &Value) -> Option<(&str, &str)>
+    ensures { option_map (λ l. (l.0.now, l.1.now)) result ≡ rule.link_names (view link.now) }
+{
+    match link.elements()? {
+        [Value::Str(source), Value::Str(destination)] => {
+            Some((source.as_str(), destination.as_str()))
+        }
+        _ => None,
+    }
+}
+
+/// The name of a node.
+pub fn node_name(node: &Value) -> Option<&str>
+    ensures { option_map (λ s. s.now) result ≡ rule.node_name (view node.now) }
+{
+    match node {
+        Value::Str(name) => Some(name.as_str()),
+        _ => None,
+    }
+}
+
+/// The name of a node and by how much its clock is moved.
+pub fn bump_spelled(bump: &(Value, Value)) -> Option<(&str, i64)>
+    ensures { option_map (λ b. (b.0.now, b.1)) result ≡ rule.bump_spelled (view_pair bump.now) }
+{
+    match (&bump.0, &bump.1) {
+        (Value::Str(name), Value::Int(ms)) => Some((name.as_str(), *ms)),
+        _ => None,
+    }
+}
+
+/// Whether a value has the shape of a link.
+fn is_link(link: &Value) -> bool
+    ensures { result ≡ is_some (rule.link_names (view link.now)) }
+{
+    link_names(link).is_some()
+}
+
+/// Whether a value has the shape of a node.
+fn is_node(node: &Value) -> bool
+    ensures { result ≡ is_some (rule.node_name (view node.now)) }
+{
+    node_name(node).is_some()
+}
+
+/// Whether a pair has the shape of a bump.
+fn is_bump(bump: &(Value, Value)) -> bool
+    ensures { result ≡ is_some (rule.bump_spelled (view_pair bump.now)) }
+{
+    bump_spelled(bump).is_some()
+}
+
+/// Whether each value has the shape of a link.
+fn are_links(links: &[Value]) -> bool
+    ensures { result ≡ list_all (λ l. is_some (rule.link_names (view l))) links.now }
+{
+    links.iter().all(|link| is_link(link))
+}
+
+/// Whether each value has the shape of a node.
+fn are_nodes(nodes: &[Value]) -> bool
+    ensures { result ≡ list_all (λ n. is_some (rule.node_name (view n))) nodes.now }
+{
+    nodes.iter().all(|node| is_node(node))
+}
+
+/// Whether each pair has the shape of a bump.
+fn are_bumps(bumps: &[(Value, Value)]) -> bool
+    ensures { result ≡ list_all (λ b. is_some (rule.bump_spelled (view_pair b))) bumps.now }
+{
+    bumps.iter().all(|bump| is_bump(bump))
+}
+
+/// The values, if each has the shape of a link.
+fn all_links(links: &[Value]) -> Option<&[Value]>
+    ensures { option_map (λ kept. views kept.now) result
+        ≡ rule.all_of (λ l. is_some (rule.link_names l)) (views links.now) }
+{
+    if are_links(links) { Some(links) } else { None }
+}
+
+/// The values, if each has the shape of a node.
+fn all_nodes(nodes: &[Value]) -> Option<&[Value]>
+    ensures { option_map (λ kept. views kept.now) result
+        ≡ rule.all_of (λ n. is_some (rule.node_name n)) (views nodes.now) }
+{
+    if are_nodes(nodes) { Some(nodes) } else { None }
+}
+
+/// The pairs, if each has the shape of a bump.
+fn all_bumps(bumps: &[(Value, Value)]) -> Option<&[(Value, Value)]>
+    ensures { option_map (λ kept. view_pairs kept.now) result
+        ≡ rule.all_of (λ b. is_some (rule.bump_spelled b)) (view_pairs bumps.now) }
+{
+    if are_bumps(bumps) { Some(bumps) } else { None }
+}
+
+/// The elements of a list or a vector, if each has the shape of a link.
+fn links_in(value: &Value) -> Option<&[Value]>
+    ensures { option_map (λ links. views links.now) result ≡ rule.links_in (view value.now) }
+{
+    all_links(value.elements()?)
+}
+
+/// The elements of a list or a vector, if each has the shape of a node.
+fn nodes_in(value: &Value) -> Option<&[Value]>
+    ensures { option_map (λ nodes. views nodes.now) result ≡ rule.nodes_in (view value.now) }
+{
+    all_nodes(value.elements()?)
+}
+
+/// The pairs of a map, if each has the shape of a bump.
+fn bumps_in(value: &Value) -> Option<&[(Value, Value)]>
+    ensures { option_map (λ bumps. view_pairs bumps.now) result ≡ rule.bumps_in (view value.now) }
+{
+    match value {
+        Value::Map(pairs) => all_bumps(pairs.as_slice()),
+        _ => None,
+    }
+}
+
+/// The fault that a keyword alone spells, if it does.
+fn named_fault(name: &str) -> Option<Shape<'_>>
+    ensures { option_map shape_spelling result ≡ rule.named_fault name.now }
+{
+    match name {
+        "halves" => Some(Shape::Grudge(Named::Halves)),
+        "bridge" => Some(Shape::Grudge(Named::Bridge)),
+        "ring" => Some(Shape::Grudge(Named::Ring)),
+        _ => None,
+    }
+}
+
+/// The ring in the order that a seed gives, if the value is an integer.
+fn shuffled_ring(seed: &Value) -> Option<Shape<'_>>
+    ensures { option_map shape_spelling result ≡ rule.shuffled_ring (view seed.now) }
+{
+    match seed {
+        Value::Int(seed) => Some(Shape::Grudge(Named::ShuffledRing(*seed))),
+        _ => None,
+    }
+}
+
+/// The fault that a keyword and a value spell, if they do.
+fn plain_fault<'a>(name: &str, value: &'a Value) -> Option<Shape<'a>>
+    ensures { option_map shape_spelling result ≡ rule.plain_fault name.now (view value.now) }
+{
+    match name {
+        "cut" => Some(Shape::Links(OnLinks::Cut, links_in(value)?)),
+        "pause" => Some(Shape::Nodes(OnNodes::Pause, nodes_in(value)?)),
+        "kill" => Some(Shape::Nodes(OnNodes::Kill, nodes_in(value)?)),
+        "bump" => Some(Shape::Bumps(bumps_in(value)?)),
+        "split-one" => Some(Shape::SplitOne(node_name(value)?)),
+        "ring" => shuffled_ring(value),
+        _ => None,
+    }
+}
+
+/// The fault that a keyword, an amount and a value spell, if they do.
+fn measured_fault<'a>(name: &str, amount: i64, value: &'a Value) -> Option<Shape<'a>>
+    ensures { option_map shape_spelling result
+        ≡ rule.measured_fault name.now amount (view value.now) }
+{
+    match name {
+        "slow" => Some(Shape::Links(OnLinks::Slow(amount), links_in(value)?)),
+        "loss" => Some(Shape::Links(OnLinks::Loss(amount), links_in(value)?)),
+        "fix" => Some(Shape::Links(OnLinks::Fix(amount), links_in(value)?)),
+        _ => None,
+    }
+}
+
+/// How a value spells a fault, if it does.
+pub fn shape_of(fault: &Value) -> Option<Shape<'_>>
+    ensures { option_map shape_spelling result ≡ rule.fault_spelling (view fault.now) }
+{
+    match fault.elements()? {
+        [Value::Keyword(name)] => named_fault(name.as_str()),
+        [Value::Keyword(name), value] => plain_fault(name.as_str(), value),
+        [Value::Keyword(name), Value::Int(amount), value] => {
+            measured_fault(name.as_str(), *amount, value)
+        }
+        _ => None,
+    }
+}
