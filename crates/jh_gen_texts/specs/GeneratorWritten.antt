@@ -1,0 +1,82 @@
+-- The text that is written of a generator (the names are those of jepsen.generator; the forms are
+-- this project's own): of the forms that `parsed_generator` of jh_gen reads, the vectors. A new
+-- kind is a new line of `text_of_generator` and of `IsWritable`.
+use Rattle.std.specs.Prelude.{ℕ, ◌^◌, ◌<◌, pos, List, [], ◌∷◌, ◌++◌, codes}
+use Rattle.jh_edn.specs.Edn.{Edn, int, keyword, vector, items_of}
+use Rattle.jh_gen.specs.Generator.{Generator, nothing, once, rising, forever, seq, limit, mix}
+use Rattle.jh_gen.specs.Generator.{phases, reserve, each_thread, clients, nemesis_only, Generators}
+use Rattle.jh_gen.specs.Generator.{no_generators, generator, ShareList, no_shares, share}
+use Rattle.jh_ops.specs.declared.call.Call.{Call}
+use Rattle.jh_ops.specs.declared.call.Call.TheVariants.{Client, Step}
+use Rattle.jh_ops.specs.declared.call.Request.TheVariants.{Read, Write, Cas, Add, Generate}
+
+-- a vector of a name and what belongs to it
+abbrev pub named : List ℕ → List Edn → Edn
+named name parts = vector (items_of (keyword name ∷ parts))
+
+-- the text of a call
+abbrev pub text_of_call : Call → Edn
+text_of_call (Client Read) = keyword (codes "read")
+text_of_call (Client (Write z)) = named (codes "write") (int z ∷ [])
+text_of_call (Client (Cas old new)) = named (codes "cas") (int old ∷ int new ∷ [])
+text_of_call (Client (Add z)) = named (codes "add") (int z ∷ [])
+text_of_call (Client Generate) = keyword (codes "generate")
+text_of_call (Step i) = named (codes "step") (int (pos i) ∷ [])
+
+abbrev mutual
+  -- the text of a generator
+  pub text_of_generator : Generator → Edn
+  text_of_generator nothing = named (codes "nil") []
+  text_of_generator (once call) = named (codes "once") (text_of_call call ∷ [])
+  text_of_generator (rising z) = named (codes "rising") (int z ∷ [])
+  text_of_generator (forever call) = named (codes "forever") (text_of_call call ∷ [])
+  text_of_generator (seq gs) = named (codes "seq") (texts_of_generators gs)
+  text_of_generator (limit n g) = named (codes "limit") (int (pos n) ∷ text_of_generator g ∷ [])
+  text_of_generator (mix gs) = named (codes "mix") (texts_of_generators gs)
+  text_of_generator (phases gs) = named (codes "phases") (texts_of_generators gs)
+  text_of_generator (reserve ms g) =
+      named (codes "reserve") (texts_of_shares ms ++ text_of_generator g ∷ [])
+  text_of_generator (each_thread g) = named (codes "each-thread") (text_of_generator g ∷ [])
+  text_of_generator (clients g) = named (codes "clients") (text_of_generator g ∷ [])
+  text_of_generator (nemesis_only g) = named (codes "nemesis") (text_of_generator g ∷ [])
+
+  -- the text of each generator, in order
+  pub texts_of_generators : Generators → List Edn
+  texts_of_generators no_generators = []
+  texts_of_generators (generator g gs) = text_of_generator g ∷ texts_of_generators gs
+
+  -- the number of each share and the text of its generator, in order
+  pub texts_of_shares : ShareList → List Edn
+  texts_of_shares no_shares = []
+  texts_of_shares (share n g ms) = int (pos n) ∷ text_of_generator g ∷ texts_of_shares ms
+
+-- the place of a step is below 2^32
+abbrev pub IsWritableCall : Call → Type 0
+IsWritableCall (Client request) = Unit {0}
+IsWritableCall (Step i) = i < 2 ^ 32
+
+abbrev mutual
+  -- the numbers of its limits, reserves and steps are below 2^32, as in all that a program holds
+  pub IsWritable : Generator → Type 0
+  IsWritable nothing = Unit {0}
+  IsWritable (once call) = IsWritableCall call
+  IsWritable (rising z) = Unit {0}
+  IsWritable (forever call) = IsWritableCall call
+  IsWritable (seq gs) = AreWritable gs
+  IsWritable (limit n g) = (n < 2 ^ 32) × IsWritable g
+  IsWritable (mix gs) = AreWritable gs
+  IsWritable (phases gs) = AreWritable gs
+  IsWritable (reserve ms g) = AreWritableShares ms × IsWritable g
+  IsWritable (each_thread g) = IsWritable g
+  IsWritable (clients g) = IsWritable g
+  IsWritable (nemesis_only g) = IsWritable g
+
+  -- each of the generators is
+  pub AreWritable : Generators → Type 0
+  AreWritable no_generators = Unit {0}
+  AreWritable (generator g gs) = IsWritable g × AreWritable gs
+
+  -- the number of each share is below 2^32, and its generator writable
+  pub AreWritableShares : ShareList → Type 0
+  AreWritableShares no_shares = Unit {0}
+  AreWritableShares (share n g ms) = (n < 2 ^ 32) × IsWritable g × AreWritableShares ms
