@@ -1,4 +1,4 @@
-//! Tests of `jh_gen`, through its public calls alone: what no clause says, and worked examples from outside. What the
+//! Tests of `jh_gen` and `jh_gen_texts`, through their public calls alone: what no clause says, and worked examples from outside. What the
 //! clauses say is proved; so a test shows that they were meant so, that memory suffices where there is some, and what
 //! is printed. A row of `rows` is a call and its answer; `runs` compares the driver with a plain slow one.
 //!
@@ -15,3 +15,5 @@ mod runs;
 mod suits;
 #[cfg(test)]
 mod texts;
+#[cfg(test)]
+mod written;
