@@ -9,7 +9,7 @@ use Rattle.jh_gen.specs.Generator.{Generator, nothing, once, rising, forever, se
 use Rattle.jh_gen.specs.View.{generator_of, generators_of, shares_of}
 use Rattle.jh_gen.specs.GeneratorText.{parsed_call, parsed_generator, members, reserve_operands, operands_of, small_number_of}
 use Rattle.jh_gen.specs.declared.generator.Gen.{Gen}
-use Rattle.jh_gen_texts.specs.GeneratorWritten.{text_of_call, text_of_generator, texts_of_generators, texts_of_shares, IsWritableCall, IsWritable, AreWritable, AreWritableShares}
+use Rattle.jh_gen_texts.specs.GeneratorWritten.{text_of_call, text_of_generator, texts_of_generators, texts_of_shares, IsWritableCall, IsWritableGenerator, AreWritable, AreWritableShares}
 use Rattle.jh_ops.specs.declared.call.Call.{Call}
 use Rattle.jh_ops.specs.declared.call.Call.TheVariants.{Client, Step}
 use Rattle.jh_ops.specs.declared.call.Request.TheVariants.{Read, Write, Cas, Add, Generate}
@@ -28,7 +28,7 @@ call_back (Client Generate) small = refl
 call_back (Step i) small = ap (option_map Step) (number_back i small)
 
 mutual
-  pub generator_back : (g : Generator) → IsWritable g → parsed_generator (text_of_generator g) ≡ Some g
+  pub generator_back : (g : Generator) → IsWritableGenerator g → parsed_generator (text_of_generator g) ≡ Some g
   generator_back nothing small = refl
   generator_back (once call) small = ap (option_map once) (call_back call small)
   generator_back (rising z) small = refl
@@ -52,7 +52,7 @@ mutual
       rw (number_back n small.0, generator_back h small.1, shares_back ms last g small.2 parsed) refl
 
 -- what a call gives that wrote the text of a generator
-pub result_back : {E : Type 0} (g : Generator) (result : Result Value E) → IfOk result (λ value. view value ≡ text_of_generator g) → IfOk result (λ value. IsWritable g)
+pub result_back : {E : Type 0} (g : Generator) (result : Result Value E) → IfOk result (λ value. view value ≡ text_of_generator g) → IfOk result (λ value. IsWritableGenerator g)
     → IfOk result (λ value. parsed_generator (view value) ≡ Some g)
 result_back g (Ok value) is small = ap parsed_generator is ∙ generator_back g small
 result_back g (Err e) is small = tt
@@ -86,7 +86,7 @@ members_with (y ∷ xs) zero x lt e = ap (λ z. text_of_generator (generator_of 
 members_with (y ∷ xs) (suc i) x lt e = ap (λ ts. text_of_generator (generator_of y) ∷ ts) (members_with xs i x (omega arith) e)
 
 members_small : (xs : List Gen) (i : ℕ) (x : Gen) → i < length xs → x ≡ get_or xs i x
-    → AreWritable (row_of (generators_of (take i xs))) → IsWritable (generator_of x) → AreWritable (row_of (generators_of (take (suc i) xs)))
+    → AreWritable (row_of (generators_of (take i xs))) → IsWritableGenerator (generator_of x) → AreWritable (row_of (generators_of (take (suc i) xs)))
 members_small [] i x lt e so_far small = absurd (omega arith)
 members_small (y ∷ xs) zero x lt e so_far small = subst (λ z. AreWritable (row_of (generators_of (z ∷ [])))) e (small, tt)
 members_small (y ∷ xs) (suc i) x lt e so_far small = (so_far.0, members_small xs i x (omega arith) e so_far.1 small)
@@ -97,7 +97,7 @@ pub record RowWritten (name : Edn) (xs : List Gen) (k : ℕ) (values : List Valu
   pub writable : AreWritable (row_of (generators_of (take k xs)))
 
 pub row_written : (name : Edn) (xs : List Gen) (i : ℕ) (x : Gen) (values after : List Value) (value : Value) → i < length xs → x ≡ get_or xs i x
-    → RowWritten name xs i values → after ≡ values ++ value ∷ [] → view value ≡ text_of_generator (generator_of x) → IsWritable (generator_of x) → RowWritten name xs (i + 1) after
+    → RowWritten name xs i values → after ≡ values ++ value ∷ [] → view value ≡ text_of_generator (generator_of x) → IsWritableGenerator (generator_of x) → RowWritten name xs (i + 1) after
 row_written name xs i x values after value lt e so_far pushed is small =
     let next : suc i ≡ i + 1 = omega arith in
     subst (λ k. RowWritten name xs k after) next (record {
@@ -112,7 +112,7 @@ shares_with (y ∷ xs) zero x lt e = ap (λ z. int (pos z.0) ∷ text_of_generat
 shares_with (y ∷ xs) (suc i) x lt e = ap (λ ts. int (pos y.0) ∷ text_of_generator (generator_of y.1) ∷ ts) (shares_with xs i x (omega arith) e)
 
 shares_small : (xs : List (ℕ × Gen)) (i : ℕ) (x : ℕ × Gen) → i < length xs → x ≡ get_or xs i x
-    → AreWritableShares (share_list (shares_of (take i xs))) → x.0 < 2 ^ 32 → IsWritable (generator_of x.1) → AreWritableShares (share_list (shares_of (take (suc i) xs)))
+    → AreWritableShares (share_list (shares_of (take i xs))) → x.0 < 2 ^ 32 → IsWritableGenerator (generator_of x.1) → AreWritableShares (share_list (shares_of (take (suc i) xs)))
 shares_small [] i x lt e so_far number small = absurd (omega arith)
 shares_small (y ∷ xs) zero x lt e so_far number small = subst (λ z. AreWritableShares (share_list (shares_of (z ∷ [])))) e (number, small, tt)
 shares_small (y ∷ xs) (suc i) x lt e so_far number small = (so_far.0, so_far.1, shares_small xs i x (omega arith) e so_far.2 number small)
@@ -124,7 +124,7 @@ pub record SharesWritten (name : Edn) (xs : List (ℕ × Gen)) (k : ℕ) (values
 
 pub share_written : (name : Edn) (xs : List (ℕ × Gen)) (i : ℕ) (x : ℕ × Gen) (values between after : List Value) (number value : Value) → i < length xs → x ≡ get_or xs i x
     → SharesWritten name xs i values → between ≡ values ++ number ∷ [] → after ≡ between ++ value ∷ [] → view number ≡ int (pos x.0) → view value ≡ text_of_generator (generator_of x.1)
-    → x.0 < 2 ^ 32 → IsWritable (generator_of x.1) → SharesWritten name xs (i + 1) after
+    → x.0 < 2 ^ 32 → IsWritableGenerator (generator_of x.1) → SharesWritten name xs (i + 1) after
 share_written name xs i x values between after number value lt e so_far first second counts is below small =
     let next : suc i ≡ i + 1 = omega arith in
     subst (λ k. SharesWritten name xs k after) next (record {

@@ -1,6 +1,6 @@
 -- The text that is written of a generator (the names are those of jepsen.generator; the forms are
 -- this project's own): of the forms that `parsed_generator` of jh_gen reads, the vectors. A new
--- kind is a new line of `text_of_generator` and of `IsWritable`.
+-- kind is a new line of `text_of_generator` and of `IsWritableGenerator`.
 use Rattle.std.specs.Prelude.{ℕ, ◌^◌, ◌<◌, pos, List, [], ◌∷◌, ◌++◌, codes}
 use Rattle.jh_edn.specs.Edn.{Edn, int, keyword, vector, items_of}
 use Rattle.jh_gen.specs.Generator.{Generator, nothing, once, rising, forever, seq, limit, mix}
@@ -57,26 +57,26 @@ IsWritableCall (Step i) = i < 2 ^ 32
 
 abbrev mutual
   -- the numbers of its limits, reserves and steps are below 2^32, as in all that a program holds
-  pub IsWritable : Generator → Type 0
-  IsWritable nothing = Unit {0}
-  IsWritable (once call) = IsWritableCall call
-  IsWritable (rising z) = Unit {0}
-  IsWritable (forever call) = IsWritableCall call
-  IsWritable (seq gs) = AreWritable gs
-  IsWritable (limit n g) = (n < 2 ^ 32) × IsWritable g
-  IsWritable (mix gs) = AreWritable gs
-  IsWritable (phases gs) = AreWritable gs
-  IsWritable (reserve ms g) = AreWritableShares ms × IsWritable g
-  IsWritable (each_thread g) = IsWritable g
-  IsWritable (clients g) = IsWritable g
-  IsWritable (nemesis_only g) = IsWritable g
+  pub IsWritableGenerator : Generator → Type 0
+  IsWritableGenerator nothing = Unit {0}
+  IsWritableGenerator (once call) = IsWritableCall call
+  IsWritableGenerator (rising z) = Unit {0}
+  IsWritableGenerator (forever call) = IsWritableCall call
+  IsWritableGenerator (seq gs) = AreWritable gs
+  IsWritableGenerator (limit n g) = (n < 2 ^ 32) × IsWritableGenerator g
+  IsWritableGenerator (mix gs) = AreWritable gs
+  IsWritableGenerator (phases gs) = AreWritable gs
+  IsWritableGenerator (reserve ms g) = AreWritableShares ms × IsWritableGenerator g
+  IsWritableGenerator (each_thread g) = IsWritableGenerator g
+  IsWritableGenerator (clients g) = IsWritableGenerator g
+  IsWritableGenerator (nemesis_only g) = IsWritableGenerator g
 
   -- each of the generators is
   pub AreWritable : Generators → Type 0
   AreWritable no_generators = Unit {0}
-  AreWritable (generator g gs) = IsWritable g × AreWritable gs
+  AreWritable (generator g gs) = IsWritableGenerator g × AreWritable gs
 
   -- the number of each share is below 2^32, and its generator writable
   pub AreWritableShares : ShareList → Type 0
   AreWritableShares no_shares = Unit {0}
-  AreWritableShares (share n g ms) = (n < 2 ^ 32) × IsWritable g × AreWritableShares ms
+  AreWritableShares (share n g ms) = (n < 2 ^ 32) × IsWritableGenerator g × AreWritableShares ms

@@ -8,7 +8,7 @@ ghost use Rattle.jh_gen.specs.Generator.{row_of, share_list};
 ghost use Rattle.jh_gen.specs.GeneratorText.{parsed_generator};
 ghost use Rattle.jh_gen.specs.View.{generator_of};
 ghost use Rattle.jh_gen_texts.specs.GeneratorWritten as text;
-ghost use Rattle.jh_gen_texts.specs.GeneratorWritten.{IsWritable, AreWritable, AreWritableShares};
+ghost use Rattle.jh_gen_texts.specs.GeneratorWritten.{IsWritableGenerator, AreWritable, AreWritableShares};
 ghost use Rattle.jh_gen_texts.specs.GeneratorWritten.{IsWritableCall, text_of_call};
 ghost use Rattle.jh_gen_texts.specs.GeneratorWritten.{text_of_generator, texts_of_generators};
 ghost use Rattle.jh_gen_texts.specs.GeneratorWritten.{texts_of_shares};
@@ -82,7 +82,7 @@ fn value_of_call(alloc: Global, call: Call) -> Result<Value, AllocError>
 #[cycle(written)]
 fn written(alloc: Global, source: &Gen) -> Result<Value, AllocError>
     ensures text { IfOk result (λ value. view value ≡ text_of_generator (generator_of source.now)) }
-    ensures writable { IfOk result (λ _. IsWritable (generator_of source.now)) }
+    ensures writable { IfOk result (λ _. IsWritableGenerator (generator_of source.now)) }
 {
     match source {
         Gen::Nil => Ok(vector(name_alone(alloc, "nil")?)),
