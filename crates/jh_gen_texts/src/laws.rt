@@ -9,5 +9,6 @@ ghost use Rattle.jh_gen_texts.specs.GeneratorWritten.{IsWritableGenerator, text_
 /// `gen_of_value` reads back. The numbers of its limits, reserves and steps are below 2^32, as
 /// those of each `Gen` are.
 pub fn generators_read_back()
-    ensures { (g : Generator) → IsWritableGenerator g → parsed_generator (text_of_generator g) ≡ Some g }
+    ensures { (g : Generator) → IsWritableGenerator g
+        → parsed_generator (text_of_generator g) ≡ Some g }
 {}
