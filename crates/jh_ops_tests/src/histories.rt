@@ -6,11 +6,12 @@
 //! - `broken TEXT`: the same, where a byte that is no UTF-8 stands behind the text.
 
 use crate::operations::print_all;
-use crate::rows::first_wrong;
+use crate::rows::ask_all;
 use jh_edn::EdnError;
 use jh_histories::{ReadHistoryError, history_in, read_history};
 use jh_ops::{HistoryError, Op, OpError};
 use std::alloc::Global;
+use std::test::Fail;
 
 fn print_found(alloc: Global, found: Result<Vec<Op>, ReadHistoryError>) -> Option<Vec<u8>> {
     match found {
@@ -44,7 +45,7 @@ pub(crate) fn broken(alloc: Global, text: &str) -> Option<Vec<u8>> {
 }
 
 #[test]
-fn reads_operation_by_operation(rt: HostRuntime) {
+fn reads_operation_by_operation(rt: HostRuntime) -> Result<(), Fail> {
     let rows = r#"read →
 § read ; nothing
 #_ {:type :ok} →
@@ -57,12 +58,12 @@ fn reads_operation_by_operation(rt: HostRuntime) {
 {:type :info, :process :nemesis, :f :start, :value nil}
 {:time 9, :type :ok, :process 7, :f :read, :value (1 2), :error :none}
 "#;
-    assert_eq!(rt; first_wrong(rt.alloc(), rows), None);
+    ask_all(rt.alloc(), rows)
 }
 
 /// A single value may be a sequence of operations, of several none is.
 #[test]
-fn reads_one_sequence(rt: HostRuntime) {
+fn reads_one_sequence(rt: HostRuntime) -> Result<(), Fail> {
     let rows = r#"read [] →
 § read #t [#u {:type :ok :process 1 :f :a} {:type :ok :process 2 :f :b}] →
 {:type :ok, :process 1, :f :a, :value nil}
@@ -79,12 +80,12 @@ fn reads_one_sequence(rt: HostRuntime) {
 {:type :ok, :process 2, :f :b, :value nil}
 § read 5 → operation 0: not a map
 "#;
-    assert_eq!(rt; first_wrong(rt.alloc(), rows), None);
+    ask_all(rt.alloc(), rows)
 }
 
 /// An error of the text comes before a value that tells no operation, wherever both stand; of such values the first is told.
 #[test]
-fn tells_the_first_error(rt: HostRuntime) {
+fn tells_the_first_error(rt: HostRuntime) -> Result<(), Fail> {
     let rows = r#"read 1
 {:type :ok :process 1 :f :a}
 {:type → line 3: unexpected end
@@ -100,17 +101,17 @@ fn tells_the_first_error(rt: HostRuntime) {
 § read [1 2 → line 1: unexpected end
 § read [1] {:a → line 1: unexpected end
 "#;
-    assert_eq!(rt; first_wrong(rt.alloc(), rows), None);
+    ask_all(rt.alloc(), rows)
 }
 
 /// The reader's errors, then bytes that are no text, come before the text's own.
 #[test]
-fn reads_what_is_no_text(rt: HostRuntime) {
+fn reads_what_is_no_text(rt: HostRuntime) -> Result<(), Fail> {
     let rows = r#"late { → input too long
 § broken { → not UTF-8
 § inside { → line 1: unexpected end
 § inside {:type :ok :process 1 :f :a} →
 {:type :ok, :process 1, :f :a, :value nil}
 "#;
-    assert_eq!(rt; first_wrong(rt.alloc(), rows), None);
+    ask_all(rt.alloc(), rows)
 }

@@ -4,12 +4,14 @@
 //! - `message pairs ERROR`, `message words ERROR`: the messages of no pairs, and of no words.
 //! - `requests WORKLOAD`: its requests among read, write, compare and set, add and generate, with a space behind each.
 
-use crate::rows::first_wrong;
+use crate::rows::ask_all;
 use jh_ops::{HistoryError, OpError, PairError, Request, WordsError, Workload};
 use std::alloc::Global;
 use std::fmt::Display;
+use std::test::Fail;
 
-fn said<E: Display>(alloc: Global, error: &E) -> Option<Vec<u8>> {
+/// The message of an error, and a line feed.
+fn message_text<E: Display>(alloc: Global, error: &E) -> Option<Vec<u8>> {
     Some(format!(in alloc; "{error}\n").ok()?.into_bytes())
 }
 
@@ -48,14 +50,14 @@ fn words_error(name: &str) -> Option<WordsError> {
 
 pub(crate) fn message(alloc: Global, text: &str) -> Option<Vec<u8>> {
     match text.split_once(' ')? {
-        ("operation", name) => said(alloc, &HistoryError::Op(0, op_error(name)?)),
-        ("pairs", name) => said(alloc, &pair_error(name)?),
-        (_, name) => said(alloc, &words_error(name)?),
+        ("operation", name) => message_text(alloc, &HistoryError::Op(0, op_error(name)?)),
+        ("pairs", name) => message_text(alloc, &pair_error(name)?),
+        (_, name) => message_text(alloc, &words_error(name)?),
     }
 }
 
 #[test]
-fn errors_have_messages(rt: HostRuntime) {
+fn errors_have_messages(rt: HostRuntime) -> Result<(), Fail> {
     let rows = r#"message operation NotMap → operation 0: not a map
 § message operation MissingType → operation 0: type missing
 § message operation BadType → operation 0: bad type
@@ -72,7 +74,7 @@ fn errors_have_messages(rt: HostRuntime) {
 § message words BadWords → bad words
 § message words OutOfMemory → out of memory
 "#;
-    assert_eq!(rt; first_wrong(rt.alloc(), rows), None);
+    ask_all(rt.alloc(), rows)
 }
 
 fn workload(name: &str) -> Option<Workload> {
@@ -109,11 +111,11 @@ pub(crate) fn requests(alloc: Global, text: &str) -> Option<Vec<u8>> {
 
 /// The requests of each workload, as docs/generators.md has them.
 #[test]
-fn each_workload_has_its_requests(rt: HostRuntime) {
+fn each_workload_has_its_requests(rt: HostRuntime) -> Result<(), Fail> {
     let rows = "\
         requests register → read write cas \
         § requests counter → read add \
         § requests set → read add \
         § requests ids → generate ";
-    assert_eq!(rt; first_wrong(rt.alloc(), rows), None);
+    ask_all(rt.alloc(), rows)
 }

@@ -4,13 +4,14 @@
 //! - `history TEXT`: the operations of the text, each printed, with a line feed behind it; or why it is no history.
 //! - `pairs TEXT`: the pairs of the history of the text, or why it has none.
 
-use crate::rows::{first_wrong, shown};
+use crate::rows::{ask_all, shown};
 use jh_edn::{Value, read_all, write};
 use jh_ops::{
     HistoryError, Op, OpError, PairError, history_of, op_of, operations_read_back, pair,
     recorded_once, value_of,
 };
 use std::alloc::Global;
+use std::test::Fail;
 
 fn values(alloc: Global, text: &str) -> Option<Vec<Value>> {
     read_all(alloc, &mut text.as_bytes(), 2).ok()
@@ -65,7 +66,7 @@ pub(crate) fn pairs(alloc: Global, text: &str) -> Option<Vec<u8>> {
 }
 
 #[test]
-fn refuses_what_is_no_operation(rt: HostRuntime) {
+fn refuses_what_is_no_operation(rt: HostRuntime) -> Result<(), Fail> {
     let rows = r#"op [1] → NotMap
 § op #{:type} → NotMap
 § op {:f :read} → MissingType
@@ -78,11 +79,11 @@ fn refuses_what_is_no_operation(rt: HostRuntime) {
 § op {:type :ok, :f nil, :process :other} → BadProcess
 § op #a #b {:type :ok, :f :read, :process nil} → BadProcess
 "#;
-    assert_eq!(rt; first_wrong(rt.alloc(), rows), None);
+    ask_all(rt.alloc(), rows)
 }
 
 #[test]
-fn writes_the_parts_in_order(rt: HostRuntime) {
+fn writes_the_parts_in_order(rt: HostRuntime) -> Result<(), Fail> {
     let rows = r#"history {:f :read :process 9223372036854775807 :type :invoke} →
 {:type :invoke, :process 9223372036854775807, :f :read, :value nil}
 § history #x {:error [:timeout "s"], :value (1 2), :f nil, :time -5, :process :nemesis, :type :info, :index 3} →
@@ -90,11 +91,11 @@ fn writes_the_parts_in_order(rt: HostRuntime) {
 § history {:time 1N, "time" 2, :index nil, :type :fail, :process 0, :f :add} →
 {:time 1, :type :fail, :process 0, :f :add, :value nil, "time" 2, :index nil}
 "#;
-    assert_eq!(rt; first_wrong(rt.alloc(), rows), None);
+    ask_all(rt.alloc(), rows)
 }
 
 #[test]
-fn reads_a_history_whole(rt: HostRuntime) {
+fn reads_a_history_whole(rt: HostRuntime) -> Result<(), Fail> {
     let rows =
         r#"history #jepsen.history.Op{:index 0, :time 3291, :type :invoke, :process 0, :f :write, :value 5}
 #jepsen.history.Op{:index 1, :time 4012, :type :info, :process :nemesis, :f :start-partition, :value {"n1" #{"n2"}}}
@@ -106,11 +107,11 @@ fn reads_a_history_whole(rt: HostRuntime) {
 {:index 2, :time 5520, :type :info, :process 0, :f :write, :value 5, :error [:timeout "no answer"]}
 {:index 3, :time 6001, :type :info, :process :nemesis, :f :stop-partition, :value "fully connected"}
 "#;
-    assert_eq!(rt; first_wrong(rt.alloc(), rows), None);
+    ask_all(rt.alloc(), rows)
 }
 
 #[test]
-fn takes_one_sequence_apart(rt: HostRuntime) {
+fn takes_one_sequence_apart(rt: HostRuntime) -> Result<(), Fail> {
     let rows = r#"history →
 § history [] →
 § history #t () →
@@ -120,22 +121,22 @@ fn takes_one_sequence_apart(rt: HostRuntime) {
 § history ({:type :ok :process 1 :f :a}) →
 {:type :ok, :process 1, :f :a, :value nil}
 "#;
-    assert_eq!(rt; first_wrong(rt.alloc(), rows), None);
+    ask_all(rt.alloc(), rows)
 }
 
 #[test]
-fn tells_the_place_that_is_refused(rt: HostRuntime) {
+fn tells_the_place_that_is_refused(rt: HostRuntime) -> Result<(), Fail> {
     let rows = r#"history #{} → Op(0, NotMap)
 § history [] [] → Op(0, NotMap)
 § history [{:type :ok :process 1 :f :a} [1] {}] → Op(1, NotMap)
 § history {:type :ok :process 1 :f :a} {:type :ok :process 1} → Op(1, MissingF)
 "#;
-    assert_eq!(rt; first_wrong(rt.alloc(), rows), None);
+    ask_all(rt.alloc(), rows)
 }
 
 /// Operations of two processes are paired, and those of the nemesis are skipped.
 #[test]
-fn pairs_operations(rt: HostRuntime) {
+fn pairs_operations(rt: HostRuntime) -> Result<(), Fail> {
     let rows =
         r#"pairs {:type :invoke :process 0 :f :add :value 1} {:type :ok :process 0 :f :add :value 1}
 {:type :invoke :process 1 :f :read} {:type :invoke :process 0 :f :add :value 5}
@@ -145,11 +146,11 @@ fn pairs_operations(rt: HostRuntime) {
 {:type :info :process :nemesis :f :a} {:type :invoke :process :nemesis :f :a}
 {:type :fail :process 7 :f :read} → [Pair { invoke: 1, outcome: Some(4) }]
 "#;
-    assert_eq!(rt; first_wrong(rt.alloc(), rows), None);
+    ask_all(rt.alloc(), rows)
 }
 
 #[test]
-fn refuses_what_has_no_pairs(rt: HostRuntime) {
+fn refuses_what_has_no_pairs(rt: HostRuntime) -> Result<(), Fail> {
     let rows =
         r#"pairs {:type :invoke :process 0 :f :a} {:type :info :process 0 :f :a} {:type :invoke :process 0 :f :a}
 → AfterCrash(2)
@@ -158,7 +159,7 @@ fn refuses_what_has_no_pairs(rt: HostRuntime) {
 § pairs {:type :invoke :process 1 :f :a} {:type :info :process 0 :f :a} → NoInvoke(1)
 § pairs {:type :invoke :process 0 :f :a} {:type :invoke :process 0 :f :a} → DoubleInvoke(1)
 "#;
-    assert_eq!(rt; first_wrong(rt.alloc(), rows), None);
+    ask_all(rt.alloc(), rows)
 }
 
 #[test]

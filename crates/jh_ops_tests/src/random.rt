@@ -16,53 +16,89 @@ type Counts = [u32; 11];
 
 /// The first value of a text.
 fn read(alloc: Global, text: &str) -> Option<Value> {
-    let (value, _) = read_one(alloc, text, 0).ok()??;
-    Some(value)
+    match read_one(alloc, text, 0) {
+        Ok(Some((value, _))) => Some(value),
+        _ => None,
+    }
 }
 
+/// A value with a tag around it.
+fn tagged_once(alloc: Global, value: Value) -> Option<Value> {
+    let tag = Text::of(alloc, "t").ok()?;
+    Some(Value::Tagged(Tagged::of(alloc, tag, value).ok()?))
+}
+
+/// A value with so many tags around it.
 fn tagged(alloc: Global, value: Value, tags: u64) -> Option<Value> {
     let mut value = value;
     for _ in 0..tags {
-        let tag = Text::of(alloc, "t").ok()?;
-        value = Value::Tagged(Tagged::of(alloc, tag, value).ok()?);
+        value = tagged_once(alloc, value)?;
     }
     Some(value)
+}
+
+/// The values of two texts.
+fn pair_of(alloc: Global, words: &Words) -> Option<(Value, Value)> {
+    let key = read(alloc, words.0)?;
+    Some((key, read(alloc, words.1)?))
+}
+
+/// The pairs of values of pairs of texts.
+fn pairs_of(alloc: Global, words: &[Words]) -> Option<Vec<(Value, Value)>> {
+    let mut pairs = Vec::new(alloc);
+    for words in words {
+        pairs.push(pair_of(alloc, words)?).ok()?;
+    }
+    Some(pairs)
+}
+
+/// The value of a record, with no tag around it.
+fn bare_value_of(alloc: Global, record: &Record) -> Option<Value> {
+    match record {
+        Record::Map(words) => Some(Value::Map(Pairs::of(pairs_of(alloc, words)?))),
+        Record::Other(text) => read(alloc, text),
+    }
 }
 
 /// The value of a record, with so many tags around it.
 fn value_of(alloc: Global, record: &Record, tags: u64) -> Option<Value> {
-    let pairs = match record {
-        Record::Map(pairs) => pairs,
-        Record::Other(text) => return tagged(alloc, read(alloc, text)?, tags),
-    };
-    let mut made = Vec::new(alloc);
-    for pair in pairs {
-        made.push((read(alloc, pair.0)?, read(alloc, pair.1)?))
-            .ok()?;
-    }
-    tagged(alloc, Value::Map(Pairs::of(made)), tags)
+    tagged(alloc, bare_value_of(alloc, record)?, tags)
 }
 
-fn values_of(alloc: Global, records: &Records) -> Option<Vec<Value>> {
+/// The values of records.
+fn items_of(alloc: Global, records: &Records) -> Option<Vec<Value>> {
     let mut items = Vec::new(alloc);
     for record in &records.records {
         items.push(value_of(alloc, record, records.tags)?).ok()?;
     }
+    Some(items)
+}
+
+/// A value by itself.
+fn alone(alloc: Global, value: Value) -> Option<Vec<Value>> {
+    vec![in alloc; value].ok()
+}
+
+/// The values that tell records: one for each, or one that holds all.
+fn values_of(alloc: Global, records: &Records) -> Option<Vec<Value>> {
+    let items = items_of(alloc, records)?;
     let whole = match records.held {
         Held::Apart => return Some(items),
         Held::InList => Value::List(Values::of(items)),
         Held::InVector => Value::Vector(Values::of(items)),
         Held::InSet => Value::Set(Values::of(items)),
     };
-    vec![in alloc; tagged(alloc, whole, records.tags)?].ok()
+    alone(alloc, tagged(alloc, whole, records.tags)?)
 }
 
+/// Whether this is written of a value.
 fn is_text(alloc: Global, value: &Value, text: &str) -> Option<bool> {
     let mut printed = Vec::new(alloc);
     write(value, &mut printed).ok()?;
     Some(printed.as_slice() == text.as_bytes())
 }
 
+/// Whether these are written of pairs.
 fn are_texts(alloc: Global, pairs: &[(Value, Value)], texts: &[Words]) -> Option<bool> {
     for (pair, text) in pairs.iter().zip(texts) {
         if !is_text(alloc, &pair.0, text.0)? || !is_text(alloc, &pair.1, text.1)? {
@@ -72,6 +108,7 @@ fn are_texts(alloc: Global, pairs: &[(Value, Value)], texts: &[Words]) -> Option
     Some(pairs.len() == texts.len())
 }
 
+/// Whether an operation is the one that is told.
 fn is_same_op(alloc: Global, op: &Op, told: &Told) -> Option<bool> {
     let is_same = op.kind == told.kind && op.process == told.process;
     let has_same_numbers = op.time == told.time && op.index == told.index;
@@ -94,6 +131,7 @@ fn is_same_record(alloc: Global, record: &Record, tags: u64) -> Option<bool> {
     }
 }
 
+/// Whether operations are those that are told.
 fn are_same_ops(alloc: Global, ops: &[Op], told: &[Told]) -> Option<bool> {
     for (op, told) in ops.iter().zip(told) {
         if !is_same_op(alloc, op, told)? {
@@ -113,6 +151,7 @@ fn are_same_records(alloc: Global, records: &Records) -> Option<bool> {
     Some(true)
 }
 
+/// The number of the way in which a record is refused.
 fn way_of(error: OpError) -> Option<usize> {
     match error {
         OpError::NotMap => Some(1),
@@ -137,23 +176,29 @@ fn history_way(alloc: Global, records: &Records) -> Option<usize> {
     }
 }
 
+/// The operation of a step.
+fn step_op(alloc: Global, step: &Step) -> Op {
+    Op {
+        kind: step.0,
+        f: Value::Nil,
+        value: Value::Nil,
+        process: step.1,
+        time: None,
+        index: None,
+        rest: Pairs::of(Vec::new(alloc)),
+    }
+}
+
+/// The operations of steps.
 fn ops_of(alloc: Global, steps: &[Step]) -> Option<Vec<Op>> {
     let mut ops = Vec::new(alloc);
-    for (kind, process) in steps {
-        ops.push(Op {
-            kind: *kind,
-            f: Value::Nil,
-            value: Value::Nil,
-            process: *process,
-            time: None,
-            index: None,
-            rest: Pairs::of(Vec::new(alloc)),
-        })
-        .ok()?;
+    for step in steps {
+        ops.push(step_op(alloc, step)).ok()?;
     }
     Some(ops)
 }
 
+/// The number of the way in which pairs are refused.
 fn way_of_pairs(error: PairError) -> Option<usize> {
     match error {
         PairError::AfterCrash(_) => Some(8),
@@ -182,6 +227,7 @@ enum Ask {
     Pairs,
 }
 
+/// In which way both answer by a seed.
 fn way(alloc: Global, ask: Ask, seed: u64) -> Option<usize> {
     let mut dice = Dice::new(seed);
     match ask {

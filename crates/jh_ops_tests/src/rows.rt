@@ -8,6 +8,7 @@
 use crate::{histories, names, operations, words};
 use std::alloc::Global;
 use std::fmt::Debug;
+use std::test::Fail;
 
 /// What a call answers.
 fn answer(alloc: Global, name: &str, text: &str) -> Option<Vec<u8>> {
@@ -42,15 +43,15 @@ fn holds(alloc: Global, call: &str, expected: &str) -> bool {
     }
 }
 
-/// The first row with another answer.
-pub(crate) fn first_wrong(alloc: Global, rows: &str) -> Option<&str> {
+/// Asks each row. One with another answer is the failure.
+pub(crate) fn ask_all(alloc: Global, rows: &str) -> Result<(), Fail> {
     for row in rows.split('§') {
         let (call, expected) = row.split_once('→').unwrap_or((row, "no answer"));
         if !holds(alloc, call.trim(), expected.trim_start()) {
-            return Some(row);
+            return Err(Fail::new(row));
         }
     }
-    None
+    Ok(())
 }
 
 /// What the derived `Debug` prints, which shows all that a value holds, and a line feed.

@@ -5,9 +5,10 @@
 //! - `operation WORDS`: the operation of these words, printed, or why there is none.
 
 use crate::operations::{op_once, print};
-use crate::rows::{first_wrong, shown};
+use crate::rows::{ask_all, shown};
 use jh_ops::{Op, WordsError, of_words, to_words};
 use std::alloc::Global;
+use std::test::Fail;
 
 fn record_in(alloc: Global, op: &Op, places: usize) -> Option<Vec<u8>> {
     let mut words = [7u64; 6];
@@ -45,7 +46,7 @@ pub(crate) fn operation(alloc: Global, text: &str) -> Option<Vec<u8>> {
 
 /// Each operation is recorded as its words, and read back from them.
 #[test]
-fn operations_are_words(rt: HostRuntime) {
+fn operations_are_words(rt: HostRuntime) -> Result<(), Fail> {
     let rows = r#"record 6 {:type :ok, :process 2, :f :cas, :value [0 -1], :event 7} →
 (Ok(5), [137, 2, 8, 0, 18446744073709551615, 7])
 § operation 137 2 8 0 18446744073709551615 → {:type :ok, :process 2, :f :cas, :value [0 -1], :event 7}
@@ -56,11 +57,11 @@ fn operations_are_words(rt: HostRuntime) {
 § record 6 {:type :fail, :process 1, :f :read, :value []} → (Ok(3), [130, 1, 0, 7, 7, 7])
 § operation 130 1 0 → {:type :fail, :process 1, :f :read, :value []}
 "#;
-    assert_eq!(rt; first_wrong(rt.alloc(), rows), None);
+    ask_all(rt.alloc(), rows)
 }
 
 #[test]
-fn refuses_what_has_no_words(rt: HostRuntime) {
+fn refuses_what_has_no_words(rt: HostRuntime) -> Result<(), Fail> {
     let rows =
         r#"record 4 {:type :ok, :process 0, :f :read, :time 1} → (Err(NotRecordable), [7, 7, 7, 7, 7, 7])
 § record 4 {:type :ok, :process 0, :f :read, :index 0} → (Err(NotRecordable), [7, 7, 7, 7, 7, 7])
@@ -72,13 +73,13 @@ fn refuses_what_has_no_words(rt: HostRuntime) {
 § record 4 {:type :ok, :process 0, :f :start, :value 1} → (Err(NotRecordable), [7, 7, 7, 7, 7, 7])
 § record 4 {:type :ok, :process 2, :f :cas, :value [0 -1], :event 7} → (Err(TooSmall), [7, 7, 7, 7, 7, 7])
 "#;
-    assert_eq!(rt; first_wrong(rt.alloc(), rows), None);
+    ask_all(rt.alloc(), rows)
 }
 
 /// Too few words, twice; a spare bit, a fourth shape and a function of no number; a process and an event that are no
 /// integers of a text; a read of nil with an integer, and a write of nil.
 #[test]
-fn refuses_words_of_no_operation(rt: HostRuntime) {
+fn refuses_words_of_no_operation(rt: HostRuntime) -> Result<(), Fail> {
     let rows = r#"operation 0 0 → BadWords
 § operation 1000 → BadWords
 § operation 256 0 0 → BadWords
@@ -89,5 +90,5 @@ fn refuses_words_of_no_operation(rt: HostRuntime) {
 § operation 0 0 0 1 → BadWords
 § operation 4 0 0 → BadWords
 "#;
-    assert_eq!(rt; first_wrong(rt.alloc(), rows), None);
+    ask_all(rt.alloc(), rows)
 }
