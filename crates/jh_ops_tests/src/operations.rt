@@ -23,11 +23,17 @@ pub(crate) fn op_once(alloc: Global, text: &str) -> Option<Result<Op, OpError>> 
 }
 
 pub(crate) fn op(alloc: Global, text: &str) -> Option<Vec<u8>> {
-    match op_once(alloc, text)? {
-        Ok(_) => shown(alloc, &"an operation"),
-        Err(OpError::OutOfMemory) => None,
-        Err(error) => shown(alloc, &error),
+    match op_once(alloc, text)?.err() {
+        None => shown(alloc, &"an operation"),
+        Some(OpError::OutOfMemory) => None,
+        Some(error) => shown(alloc, &error),
     }
+}
+
+/// Prints a value and a line feed.
+fn print_value(value: &Value, text: &mut Vec<u8>) -> Option<()> {
+    write(value, text).ok()?;
+    text.push(b'\n').ok()
 }
 
 /// Prints an operation and a line feed.
@@ -35,8 +41,7 @@ pub(crate) fn print(alloc: Global, op: &Op, text: &mut Vec<u8>) -> Option<()> {
     if !op.process.is_writable() {
         return None;
     }
-    write(&value_of(alloc, op).ok()?, text).ok()?;
-    text.push(b'\n').ok()
+    print_value(&value_of(alloc, op).ok()?, text)
 }
 
 /// Prints operations, a line feed behind each.

@@ -118,17 +118,24 @@ fn is_same_op(alloc: Global, op: &Op, told: &Told) -> Option<bool> {
     Some(is_same && has_same_numbers && has_same_f && has_same_value && has_same_rest)
 }
 
-/// Whether both tell the same operation of a record, or refuse it alike.
-fn is_same_record(alloc: Global, record: &Record, tags: u64) -> Option<bool> {
-    match (
-        op_of(alloc, value_of(alloc, record, tags)?),
-        op_slowly(alloc, record),
-    ) {
+/// Whether an operation is the one that is told, or both refuse it alike. None: memory was refused.
+fn is_same_answer(
+    alloc: Global,
+    answer: &Result<Op, OpError>,
+    told: &Result<Told, OpError>,
+) -> Option<bool> {
+    match (answer, told) {
         (Err(OpError::OutOfMemory), _) | (_, Err(OpError::OutOfMemory)) => None,
-        (Ok(op), Ok(told)) => is_same_op(alloc, &op, &told),
+        (Ok(op), Ok(told)) => is_same_op(alloc, op, told),
         (Err(error), Err(expected)) => Some(error == expected),
         _ => Some(false),
     }
+}
+
+/// Whether both tell the same operation of a record, or refuse it alike.
+fn is_same_record(alloc: Global, record: &Record, tags: u64) -> Option<bool> {
+    let answer = op_of(alloc, value_of(alloc, record, tags)?);
+    is_same_answer(alloc, &answer, &op_slowly(alloc, record))
 }
 
 /// Whether operations are those that are told.

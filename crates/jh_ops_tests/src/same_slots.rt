@@ -205,24 +205,27 @@ impl<'a, B: OfLog> Game<'a, B> {
         }
     }
 
+    /// Joins a seat with any other.
+    fn join_any(&mut self, dice: &mut Dice, seat: Both<'a, B>) -> Option<()> {
+        let other = self.take(dice)?;
+        self.join(seat, other)
+    }
+
+    /// Lets a seat do something, and puts it back.
+    fn act_with(&mut self, alloc: Global, dice: &mut Dice, seat: Both<'a, B>) -> Option<bool> {
+        let mut seat = seat;
+        let is_same = self.act(alloc, dice, &mut seat)?;
+        self.seats.push(seat).ok()?;
+        Some(is_same)
+    }
+
     /// One event, of any seat.
     fn event(&mut self, alloc: Global, dice: &mut Dice) -> Option<bool> {
-        let mut seat = self.take(dice)?;
+        let seat = self.take(dice)?;
         match dice.below(12) {
-            0 if self.seats.len() < 3 => {
-                self.split(seat)?;
-                Some(true)
-            }
-            1 if !self.seats.is_empty() => {
-                let other = self.take(dice)?;
-                self.join(seat, other)?;
-                Some(true)
-            }
-            _ => {
-                let is_same = self.act(alloc, dice, &mut seat)?;
-                self.seats.push(seat).ok()?;
-                Some(is_same)
-            }
+            0 if self.seats.len() < 3 => Some(self.split(seat).is_some()),
+            1 if !self.seats.is_empty() => Some(self.join_any(dice, seat).is_some()),
+            _ => self.act_with(alloc, dice, seat),
         }
     }
 

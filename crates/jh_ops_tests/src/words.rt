@@ -18,8 +18,8 @@ fn record_in(alloc: Global, op: &Op, places: usize) -> Option<Vec<u8>> {
 
 pub(crate) fn record(alloc: Global, text: &str) -> Option<Vec<u8>> {
     let (places, text) = text.split_once(' ')?;
-    let op = op_once(alloc, text)?.ok()?;
-    record_in(alloc, &op, places.parse().ok()?)
+    let places = places.parse().ok()?;
+    record_in(alloc, &op_once(alloc, text)?.ok()?, places)
 }
 
 fn numbers(alloc: Global, text: &str) -> Option<Vec<u64>> {
