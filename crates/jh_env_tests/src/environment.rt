@@ -14,29 +14,34 @@ use crate::faults::{Over, fault, over_first};
 use crate::rows::{Call, ends, link_text, node, spelled};
 use jh_env::{Env, Fault, FaultError, Life, Link, MAX_LAID, Node, NodeCell, Nodes, Start};
 use std::alloc::Global;
+use std::test::Fail;
 
-/// An environment, the one that it is a copy of, the nodes over which faults are made, the stamp of the next fault,
-/// and what was answered.
+/// An environment, the one that it is a copy of, the nodes over which faults are made, and the stamp of the next fault.
 #[derive(Drop)]
 struct Bench {
     env: Env,
     first: Option<Env>,
     over: Over,
     stamp: u32,
-    answers: String,
+}
+
+/// Cuts the link from the first node to the second, and sets its delay and its level of loss.
+fn set_link(start: &mut Start) -> Option<()> {
+    let (from, to) = ends(start.nodes(), &[0, 1])?;
+    let link = Link {
+        cut: true,
+        delay: 250,
+        loss: 5,
+    };
+    start.set_link(from, to, link).ok()
 }
 
 /// An environment of three nodes in which nothing is set at the start, or one link is.
 fn started(alloc: Global, is_set: bool) -> Option<Env> {
-    let mut start = Start::new(alloc, Nodes::of(alloc, &["n1", "n2", "n3"]).ok()?).ok()?;
+    let nodes = Nodes::of(alloc, &["n1", "n2", "n3"]).ok()?;
+    let mut start = Start::new(alloc, nodes).ok()?;
     if is_set {
-        let ends = ends(start.nodes(), &[0, 1])?;
-        let link = Link {
-            cut: true,
-            delay: 250,
-            loss: 5,
-        };
-        start.set_link(ends.0, ends.1, link).ok()?;
+        set_link(&mut start)?;
     }
     Env::start(alloc, start).ok()
 }
@@ -56,6 +61,11 @@ fn node_text(alloc: Global, cell: NodeCell) -> Option<String> {
     format!(in alloc; "{process} {}", cell.clock).ok()
 }
 
+/// A number.
+fn number_text(alloc: Global, number: usize) -> Option<String> {
+    format!(in alloc; "{number}").ok()
+}
+
 impl Bench {
     /// Puts a copy of a fault where it fits.
     fn put(&mut self, alloc: Global, fault: &Fault) -> Option<&'static str> {
@@ -68,80 +78,116 @@ impl Bench {
         Some("ok")
     }
 
-    /// Says what a fault answers.
+    /// What a fault answers.
     fn begin(&mut self, alloc: Global, call: &Call<'_>) -> Option<String> {
-        match fault(alloc, &self.over, call)? {
+        match fault(alloc, &self.over, call) {
             Ok(fault) => self.put(alloc, &fault)?.to_string(alloc).ok(),
             Err(FaultError::OutOfMemory) => None,
             Err(refusal) => refusal.to_string(alloc).ok(),
         }
     }
 
-    /// What a reader answers, or nothing where a call only does something.
+    /// Makes a copy, on which the calls that follow work.
+    fn copy(&mut self, alloc: Global) -> Option<String> {
+        let copy = self.env.copy(alloc).ok()?;
+        self.first = Some(std::mem::replace(&mut self.env, copy));
+        "again".to_string(alloc).ok()
+    }
+
+    /// The cell of the link of a call.
+    fn link(&self, alloc: Global, numbers: &[i64]) -> Option<String> {
+        link_of(alloc, &self.env, ends(&self.over.places, numbers)?)
+    }
+
+    /// The cell of the link of a call, in what was copied.
+    fn first_link(&self, alloc: Global, numbers: &[i64]) -> Option<String> {
+        link_of(
+            alloc,
+            self.first.as_ref()?,
+            ends(&self.over.places, numbers)?,
+        )
+    }
+
+    /// The cell of the node of a call.
+    fn node(&self, alloc: Global, numbers: &[i64]) -> Option<String> {
+        let node = node(&self.over.places, *numbers.first()?)?;
+        node_text(alloc, self.env.node(node)?)
+    }
+
+    /// What a call answers.
     fn act(&mut self, alloc: Global, call: &Call<'_>) -> Option<String> {
         let numbers = call.numbers.as_slice();
         match call.name {
-            "link" => link_of(alloc, &self.env, ends(&self.over.places, numbers)?),
-            "first" => link_of(
-                alloc,
-                self.first.as_ref()?,
-                ends(&self.over.places, numbers)?,
-            ),
-            "node" => node_text(
-                alloc,
-                self.env.node(node(&self.over.places, *numbers.first()?)?)?,
-            ),
-            "count" => format!(in alloc; "{}", self.env.nodes().len()).ok(),
-            "laid" => format!(in alloc; "{}", self.env.laid()).ok(),
-            "again" => {
-                let copy = self.env.copy(alloc).ok()?;
-                self.first = Some(std::mem::replace(&mut self.env, copy));
-                "again".to_string(alloc).ok()
-            }
+            "link" => self.link(alloc, numbers),
+            "first" => self.first_link(alloc, numbers),
+            "node" => self.node(alloc, numbers),
+            "count" => number_text(alloc, self.env.nodes().len()),
+            "laid" => number_text(alloc, self.env.laid()),
+            "again" => self.copy(alloc),
             _ => self.begin(alloc, call),
         }
     }
 
-    /// Does what a call says, and writes its answer behind those before it.
-    fn perform(&mut self, alloc: Global, text: &str) -> Option<()> {
-        let answer = self.act(alloc, &spelled(alloc, text)?)?;
-        if !self.answers.is_empty() {
-            self.answers.push_str("; ").ok()?;
-        }
-        self.answers.push_str(&answer).ok()
+    /// Does what a text says, and answers.
+    fn answer(&mut self, alloc: Global, text: &str) -> Option<String> {
+        self.act(alloc, &spelled(alloc, text)?)
     }
+}
+
+/// The bench that the head of a row tells.
+fn bench_of(alloc: Global, head: &str) -> Option<Bench> {
+    let over = over_first(alloc, head)?;
+    Some(Bench {
+        env: started(alloc, head.ends_with('c'))?,
+        first: None,
+        over,
+        stamp: 0,
+    })
+}
+
+/// The answers of calls, with `; ` between.
+fn answers_of(alloc: Global, bench: &mut Bench, calls: &str) -> Option<String> {
+    let mut answers = String::new(alloc);
+    for call in calls.split("; ") {
+        if !answers.is_empty() {
+            answers.push_str("; ").ok()?;
+        }
+        answers.push_str(&bench.answer(alloc, call)?).ok()?;
+    }
+    Some(answers)
 }
 
 /// The answers of a row's calls. None: memory was refused.
 fn answers_once(alloc: Global, row: &str) -> Option<String> {
     let (head, calls) = row.split_once(": ")?;
-    let mut bench = Bench {
-        env: started(alloc, head.ends_with('c'))?,
-        first: None,
-        over: over_first(alloc, head)?,
-        stamp: 0,
-        answers: String::new(alloc),
-    };
-    for call in calls.split("; ") {
-        bench.perform(alloc, call)?;
-    }
-    Some(bench.answers)
+    answers_of(alloc, &mut bench_of(alloc, head)?, calls)
 }
 
-/// The first row whose calls have another answer. A row is tried once more, since memory may have been refused.
-fn first_wrong(alloc: Global, rows: &'static str) -> Option<&'static str> {
+/// Whether a row's calls have its answers. They are made once more where memory was refused.
+fn is_answered(alloc: Global, row: &str) -> bool {
+    let (calls, wanted) = row.split_once(" => ").unwrap_or((row, ""));
+    let answers = match answers_once(alloc, calls) {
+        None => answers_once(alloc, calls),
+        answers => answers,
+    };
+    match answers {
+        Some(answers) => answers.as_str() == wanted,
+        None => false,
+    }
+}
+
+/// Asks each row. One with other answers is the failure.
+fn ask_all(alloc: Global, rows: &str) -> Result<(), Fail> {
     for row in rows.lines() {
-        let (calls, wanted) = row.split_once(" => ")?;
-        let answers = answers_once(alloc, calls).or_else(|| answers_once(alloc, calls));
-        if answers.is_none_or(|it| it.as_str() != wanted) {
-            return Some(row);
+        if !is_answered(alloc, row) {
+            return Err(Fail::new(row));
         }
     }
-    None
+    Ok(())
 }
 
 #[test]
-fn faults_make_cells(rt: HostRuntime) {
+fn faults_make_cells(rt: HostRuntime) -> Result<(), Fail> {
     let rows = "\
         3: cut 0 1 0 1; link 0 1; link 1 0; laid => ok; cut 0 0; open 0 0; 1\n\
         3c: link 0 1; link 1 0; node 0; count; laid => cut 250 5; open 0 0; running 0; 3; 0\n\
@@ -153,11 +199,11 @@ fn faults_make_cells(rt: HostRuntime) {
         3: fix 20 0 1; again; link 0 1; fix 30 0 1; link 0 1; first 0 1 => ok; again; open 20 0; ok; open 30 0; open 20 0\n\
         4: cut 0 3; fix 20 0 3; link 0 1; laid => unfit; unfit; open 0 0; 0\n\
         4: cut; link 0 1 => ok; open 0 0";
-    assert_eq!(rt; first_wrong(rt.alloc(), rows), None);
+    ask_all(rt.alloc(), rows)
 }
 
 #[test]
-fn faults_are_refused(rt: HostRuntime) {
+fn faults_are_refused(rt: HostRuntime) -> Result<(), Fail> {
     let rows = "\
         2: cut 0 1 0 1 => ok\n\
         2: cut 0 1 1 1 => self link\n\
@@ -183,5 +229,5 @@ fn faults_are_refused(rt: HostRuntime) {
         3: bump 1000000001 0 1 1 => bad amount\n\
         3: bump -1000000001 0 1 1 => bad amount\n\
         3: bump 1 0 1 0 => bad amount";
-    assert_eq!(rt; first_wrong(rt.alloc(), rows), None);
+    ask_all(rt.alloc(), rows)
 }

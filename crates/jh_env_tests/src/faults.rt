@@ -47,51 +47,83 @@ fn nodes_at(alloc: Global, nodes: &Nodes, places: &[i64]) -> Option<Vec<Node>> {
     Some(all)
 }
 
-/// Nodes with the amounts by which their clocks are bumped: an amount and a place for each.
+/// A node with the amount by which its clock is bumped: an amount and a place.
+fn bump_of(nodes: &Nodes, pair: &[i64]) -> Option<(Node, i64)> {
+    Some((node(nodes, *pair.get(1)?)?, *pair.first()?))
+}
+
+/// Nodes with such amounts.
 fn bumps(alloc: Global, nodes: &Nodes, numbers: &[i64]) -> Option<Vec<(Node, i64)>> {
     let mut all = Vec::new(alloc);
     for pair in numbers.chunks(2) {
-        all.push((node(nodes, *pair.get(1)?)?, *pair.first()?))
-            .ok()?;
+        all.push(bump_of(nodes, pair)?).ok()?;
     }
     Some(all)
 }
 
 /// A fault on nodes, or its refusal.
-fn node_fault(alloc: Global, over: &Over, call: &Call<'_>) -> Option<Result<Fault, FaultError>> {
-    let (nodes, places) = (&over.nodes, &over.places);
-    let numbers = call.numbers.as_slice();
+fn node_fault(alloc: Global, over: &Over, call: &Call<'_>) -> Result<Fault, FaultError> {
+    let Some(nodes) = nodes_at(alloc, &over.places, call.numbers.as_slice()) else {
+        return Err(FaultError::OutOfMemory);
+    };
     match call.name {
-        "pause" => Some(Fault::pause(alloc, nodes, &nodes_at(alloc, places, numbers)?)),
-        "kill" => Some(Fault::kill(alloc, nodes, &nodes_at(alloc, places, numbers)?)),
-        "bump" => Some(Fault::bump(alloc, nodes, &bumps(alloc, places, numbers)?)),
-        _ => None,
+        "pause" => Fault::pause(alloc, &over.nodes, &nodes),
+        _ => Fault::kill(alloc, &over.nodes, &nodes),
     }
+}
+
+/// A bump, or its refusal.
+fn bump(alloc: Global, over: &Over, call: &Call<'_>) -> Result<Fault, FaultError> {
+    match bumps(alloc, &over.places, call.numbers.as_slice()) {
+        Some(bumps) => Fault::bump(alloc, &over.nodes, &bumps),
+        None => Err(FaultError::OutOfMemory),
+    }
+}
+
+/// A cut, or its refusal.
+fn cut(alloc: Global, over: &Over, call: &Call<'_>) -> Result<Fault, FaultError> {
+    match links(alloc, &over.places, call.numbers.as_slice()) {
+        Some(links) => Fault::cut(alloc, &over.nodes, &links),
+        None => Err(FaultError::OutOfMemory),
+    }
+}
+
+/// The amount of a call, and its links.
+fn amount_and_links(
+    alloc: Global,
+    nodes: &Nodes,
+    numbers: &[i64],
+) -> Option<(u64, Vec<(Node, Node)>)> {
+    let (amount, places) = numbers.split_first()?;
+    let amount = u64::try_from(*amount).ok()?;
+    Some((amount, links(alloc, nodes, places)?))
 }
 
 /// A fault on links that has an amount, or its refusal.
-fn measured(alloc: Global, over: &Over, call: &Call<'_>) -> Option<Result<Fault, FaultError>> {
-    let (amount, places) = call.numbers.as_slice().split_first()?;
-    let links = links(alloc, &over.places, places)?;
+fn measured(alloc: Global, over: &Over, call: &Call<'_>) -> Result<Fault, FaultError> {
+    let Some((amount, links)) = amount_and_links(alloc, &over.places, call.numbers.as_slice())
+    else {
+        return Err(FaultError::OutOfMemory);
+    };
     match call.name {
-        "slow" => Some(Fault::slow(alloc, &over.nodes, &links, u64::try_from(*amount).ok()?)),
-        "fix" => Some(Fault::fix(alloc, &over.nodes, &links, u64::try_from(*amount).ok()?)),
-        _ => Some(Fault::loss(alloc, &over.nodes, &links, u8::try_from(*amount).ok()?)),
+        "slow" => Fault::slow(alloc, &over.nodes, &links, amount),
+        "fix" => Fault::fix(alloc, &over.nodes, &links, amount),
+        _ => Fault::loss(
+            alloc,
+            &over.nodes,
+            &links,
+            u8::try_from(amount).unwrap_or(u8::MAX),
+        ),
     }
 }
 
-/// The fault of a call, or its refusal. None: the call names no fault, or memory was refused on the way.
-pub(crate) fn fault(
-    alloc: Global,
-    over: &Over,
-    call: &Call<'_>,
-) -> Option<Result<Fault, FaultError>> {
+/// The fault of a call, or its refusal: for want of memory, too, where the call names no fault.
+pub(crate) fn fault(alloc: Global, over: &Over, call: &Call<'_>) -> Result<Fault, FaultError> {
     match call.name {
-        "cut" => {
-            let links = links(alloc, &over.places, call.numbers.as_slice())?;
-            Some(Fault::cut(alloc, &over.nodes, &links))
-        }
+        "cut" => cut(alloc, over, call),
         "slow" | "loss" | "fix" => measured(alloc, over, call),
-        _ => node_fault(alloc, over, call),
+        "pause" | "kill" => node_fault(alloc, over, call),
+        "bump" => bump(alloc, over, call),
+        _ => Err(FaultError::OutOfMemory),
     }
 }

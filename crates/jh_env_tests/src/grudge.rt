@@ -6,7 +6,6 @@ use jh_grudge::{
     majorities_ring, split_one,
 };
 use std::alloc::{AllocError, Global};
-use std::test::Fail;
 
 // Each maker asks once more where memory was refused, so that the tests stand one refused allocation.
 pub(crate) fn ring(alloc: Global, nodes: &[u8]) -> Option<Grudge> {
@@ -46,6 +45,7 @@ pub(crate) fn split(alloc: Global, nodes: &[u8], loner: u8) -> Result<Vec<Vec<u8
     }
 }
 
+/// A copy of lists.
 fn lists_once(alloc: Global, lists: &[&[u8]]) -> Result<Vec<Vec<u8>>, AllocError> {
     let mut components = Vec::new(alloc);
     for list in lists {
@@ -54,6 +54,7 @@ fn lists_once(alloc: Global, lists: &[&[u8]]) -> Result<Vec<Vec<u8>>, AllocError
     Ok(components)
 }
 
+/// The same, once more where memory was refused.
 fn lists(alloc: Global, lists: &[&[u8]]) -> Result<Vec<Vec<u8>>, AllocError> {
     match lists_once(alloc, lists) {
         Err(_) => lists_once(alloc, lists),
@@ -86,13 +87,16 @@ static COMPONENTS: [(&[&[u8]], bool); 6] = [
     (&[&[2, 2], &[1]], false),
 ];
 
+/// What `distinct_components` says of lists. None: memory was refused.
+fn are_distinct(alloc: Global, components: &[&[u8]]) -> Option<bool> {
+    Some(distinct_components(&lists(alloc, components).ok()?))
+}
+
 #[test]
-fn knows_distinct_components(rt: HostRuntime) -> Result<(), Fail> {
+fn knows_distinct_components(rt: HostRuntime) {
     for (components, answer) in COMPONENTS.iter() {
-        let components = lists(rt.alloc(), components)?;
-        assert_eq!(rt; distinct_components(&components), *answer);
+        assert_eq!(rt; are_distinct(rt.alloc(), components), Some(*answer));
     }
-    Ok(())
 }
 
 static HALVES: [(&[u8], &[u8], &[u8]); 4] = [
@@ -111,37 +115,57 @@ fn bisects(rt: HostRuntime) {
     }
 }
 
+/// Whether a node is split off the others.
+fn is_split(alloc: Global, nodes: &[u8], loner: u8, others: &[u8]) -> bool {
+    let Ok(parts) = split(alloc, nodes, loner) else {
+        return false;
+    };
+    match parts.as_slice() {
+        [first, second] => first.as_slice() == [loner].as_slice() && second.as_slice() == others,
+        _ => false,
+    }
+}
+
 #[test]
-fn splits_one(rt: HostRuntime) -> Result<(), Fail> {
-    let parts = split(rt.alloc(), &[2, 0, 1], 0)?;
-    assert_eq!(rt; parts.len(), 2);
-    assert_eq!(rt; parts[0].as_slice(), [0].as_slice());
-    assert_eq!(rt; parts[1].as_slice(), [2, 1].as_slice());
-    Ok(())
+fn splits_one(rt: HostRuntime) {
+    assert!(rt; is_split(rt.alloc(), &[2, 0, 1], 0, &[2, 1]));
+}
+
+/// Why a node cannot be split off.
+fn refusal(alloc: Global, nodes: &[u8], loner: u8) -> Option<SplitError> {
+    split(alloc, nodes, loner).err()
 }
 
 #[test]
 fn splits_no_stranger(rt: HostRuntime) {
-    let refusal = split(rt.alloc(), &[0, 1], 9).err();
-    assert_eq!(rt; refusal, Some(SplitError::UnknownNode));
-    let refusal = split(rt.alloc(), &[], 0).err();
-    assert_eq!(rt; refusal, Some(SplitError::UnknownNode));
+    assert!(rt; refusal(rt.alloc(), &[0, 1], 9) == Some(SplitError::UnknownNode));
+    assert!(rt; refusal(rt.alloc(), &[], 0) == Some(SplitError::UnknownNode));
+}
+
+/// Whether this is the message of a refusal. It is written once more where memory was refused.
+fn is_message(alloc: Global, error: SplitError, text: &str) -> bool {
+    let message = match error.to_string(alloc) {
+        Err(_) => error.to_string(alloc),
+        message => message,
+    };
+    match message {
+        Ok(message) => message.as_str() == text,
+        Err(_) => false,
+    }
 }
 
 #[test]
-fn tells_refusals(rt: HostRuntime) -> Result<(), Fail> {
-    let texts = [
-        (SplitError::UnknownNode, "unknown node"),
-        (SplitError::OutOfMemory, "out of memory"),
-    ];
-    for (error, text) in texts {
-        let told = match format!(in rt.alloc(); "{error}") {
-            Err(_) => format!(in rt.alloc(); "{error}")?,
-            Ok(told) => told,
-        };
-        assert_eq!(rt; told.as_str(), text);
+fn refusals_have_messages(rt: HostRuntime) {
+    assert!(rt; is_message(rt.alloc(), SplitError::UnknownNode, "unknown node"));
+    assert!(rt; is_message(rt.alloc(), SplitError::OutOfMemory, "out of memory"));
+}
+
+/// Whether a grudge was made that has these links.
+fn has_links(grudge: &Option<Grudge>, links: &[(u8, u8)]) -> bool {
+    match grudge {
+        Some(grudge) => grudge.links() == links,
+        None => false,
     }
-    Ok(())
 }
 
 static COMPLETE: [(&[&[u8]], &[(u8, u8)]); 6] = [
@@ -156,16 +180,16 @@ static COMPLETE: [(&[&[u8]], &[(u8, u8)]); 6] = [
     ),
 ];
 
+/// The complete grudge of lists.
+fn complete_of(alloc: Global, components: &[&[u8]]) -> Option<Grudge> {
+    complete(alloc, &lists(alloc, components).ok()?)
+}
+
 #[test]
-fn parts_components(rt: HostRuntime) -> Result<(), Fail> {
+fn parts_components(rt: HostRuntime) {
     for (components, links) in COMPLETE.iter() {
-        let components = lists(rt.alloc(), components)?;
-        let Some(grudge) = complete(rt.alloc(), &components) else {
-            panic!(rt; "no grudge");
-        };
-        assert_eq!(rt; grudge.links(), *links);
+        assert!(rt; has_links(&complete_of(rt.alloc(), components), links));
     }
-    Ok(())
 }
 
 static BRIDGES: [(&[u8], &[(u8, u8)]); 6] = [
@@ -192,10 +216,7 @@ static BRIDGES: [(&[u8], &[(u8, u8)]); 6] = [
 #[test]
 fn bridges(rt: HostRuntime) {
     for (nodes, links) in BRIDGES.iter() {
-        let Some(grudge) = bridged(rt.alloc(), nodes) else {
-            panic!(rt; "no grudge");
-        };
-        assert_eq!(rt; grudge.links(), *links);
+        assert!(rt; has_links(&bridged(rt.alloc(), nodes), links));
     }
 }
 
@@ -225,13 +246,11 @@ static RINGS: [(&[u8], &[(u8, u8)]); 6] = [
 #[test]
 fn closes_rings(rt: HostRuntime) {
     for (nodes, links) in RINGS.iter() {
-        let Some(grudge) = ring(rt.alloc(), nodes) else {
-            panic!(rt; "no grudge");
-        };
-        assert_eq!(rt; grudge.links(), *links);
+        assert!(rt; has_links(&ring(rt.alloc(), nodes), links));
     }
 }
 
+/// All places that a node may have.
 fn all_places(alloc: Global) -> Result<Vec<u8>, AllocError> {
     match (0..=u8::MAX).collect(alloc) {
         Err(_) => (0..=u8::MAX).collect(alloc),
@@ -251,15 +270,26 @@ static FAR: [(u8, u8, bool); 8] = [
     (255, 255, false),
 ];
 
-#[test]
-fn closes_a_ring_of_all_places(rt: HostRuntime) -> Result<(), Fail> {
-    let nodes = all_places(rt.alloc())?;
-    let Some(grudge) = ring(rt.alloc(), &nodes) else {
-        panic!(rt; "no grudge");
-    };
-    assert_eq!(rt; grudge.links().len(), 256 * 127);
+/// Whether each drops whom it should in a ring of all places.
+fn drops_far_ones(grudge: &Grudge) -> bool {
     for (dst, src, answer) in FAR.iter() {
-        assert_eq!(rt; grudge.drops(*dst, *src), *answer);
+        if grudge.drops(*dst, *src) != *answer {
+            return false;
+        }
     }
-    Ok(())
+    true
+}
+
+/// The ring of all places.
+fn ring_of_all(alloc: Global) -> Option<Grudge> {
+    ring(alloc, &all_places(alloc).ok()?)
+}
+
+#[test]
+fn closes_a_ring_of_all_places(rt: HostRuntime) {
+    let is_right = match ring_of_all(rt.alloc()) {
+        Some(grudge) => grudge.links().len() == 256 * 127 && drops_far_ones(&grudge),
+        None => false,
+    };
+    assert!(rt; is_right);
 }

@@ -32,10 +32,10 @@ pub(crate) fn node(nodes: &Nodes, place: i64) -> Option<Node> {
 
 /// The nodes at the first two places of a call.
 pub(crate) fn ends(nodes: &Nodes, places: &[i64]) -> Option<(Node, Node)> {
-    Some((
-        node(nodes, *places.first()?)?,
-        node(nodes, *places.get(1)?)?,
-    ))
+    match places {
+        [from, to, ..] => Some((node(nodes, *from)?, node(nodes, *to)?)),
+        _ => None,
+    }
 }
 
 /// The cell of a link: `cut` or `open`, the delay and the level of loss.

@@ -8,7 +8,7 @@ use jh_env::{Life, Link, NodeCell, Nodes, Start, StartError};
 use std::alloc::Global;
 
 /// `ok`, or the refusal's message.
-fn told(alloc: Global, answer: Result<(), StartError>) -> Option<String> {
+fn answer_text(alloc: Global, answer: Result<(), StartError>) -> Option<String> {
     match answer {
         Ok(()) => "ok".to_string(alloc).ok(),
         Err(refusal) => refusal.to_string(alloc).ok(),
@@ -24,40 +24,83 @@ fn cut_link(numbers: &[i64]) -> Option<Link> {
     })
 }
 
+/// Sets the cell of a link.
+fn set_link(alloc: Global, start: &mut Start, places: &Nodes, numbers: &[i64]) -> Option<String> {
+    let (from, to) = ends(places, numbers)?;
+    answer_text(alloc, start.set_link(from, to, cut_link(numbers)?))
+}
+
+/// The cell of a link.
+fn link(alloc: Global, start: &Start, places: &Nodes, numbers: &[i64]) -> Option<String> {
+    let (from, to) = ends(places, numbers)?;
+    link_text(alloc, start.link(from, to)?)
+}
+
+/// Kills a node, and sets its clock.
+fn kill(alloc: Global, start: &mut Start, places: &Nodes, numbers: &[i64]) -> Option<String> {
+    let cell = NodeCell {
+        process: Life::Killed,
+        clock: *numbers.get(1)?,
+    };
+    let node = node(places, *numbers.first()?)?;
+    answer_text(alloc, start.set_node(node, cell))
+}
+
+/// The clock of a node.
+fn clock(alloc: Global, start: &Start, places: &Nodes, numbers: &[i64]) -> Option<String> {
+    let cell = start.node(node(places, *numbers.first()?)?)?;
+    format!(in alloc; "{}", cell.clock).ok()
+}
+
 /// What a call answers.
 fn act(alloc: Global, start: &mut Start, places: &Nodes, call: &Call<'_>) -> Option<String> {
     let numbers = call.numbers.as_slice();
-    let first = node(places, *numbers.first()?)?;
     match call.name {
-        "set" => {
-            let (from, to) = ends(places, numbers)?;
-            told(alloc, start.set_link(from, to, cut_link(numbers)?))
-        }
-        "link" => {
-            let (from, to) = ends(places, numbers)?;
-            link_text(alloc, start.link(from, to)?)
-        }
-        "kill" => {
-            let cell = NodeCell {
-                process: Life::Killed,
-                clock: *numbers.get(1)?,
-            };
-            told(alloc, start.set_node(first, cell))
-        }
-        _ => format!(in alloc; "{}", start.node(first)?.clock).ok(),
+        "set" => set_link(alloc, start, places, numbers),
+        "link" => link(alloc, start, places, numbers),
+        "kill" => kill(alloc, start, places, numbers),
+        _ => clock(alloc, start, places, numbers),
     }
+}
+
+/// What the call of a text answers.
+fn answer(alloc: Global, start: &mut Start, places: &Nodes, text: &str) -> Option<String> {
+    act(alloc, start, places, &spelled(alloc, text)?)
+}
+
+/// The answers of calls, with `; ` behind each.
+fn answers_of(alloc: Global, start: &mut Start, places: &Nodes, calls: &str) -> Option<String> {
+    let mut answers = String::new(alloc);
+    for text in calls.split("; ") {
+        answers.push_str(&answer(alloc, start, places, text)?).ok()?;
+        answers.push_str("; ").ok()?;
+    }
+    Some(answers)
+}
+
+/// A start of three calm nodes.
+fn calm(alloc: Global) -> Option<Start> {
+    let nodes = Nodes::of(alloc, &["n1", "n2", "n3"]).ok()?;
+    Start::new(alloc, nodes).ok()
 }
 
 /// The answers of a row's calls. None: memory was refused.
 fn answers_once(alloc: Global, calls: &str) -> Option<String> {
-    let mut start = Start::new(alloc, Nodes::of(alloc, &["n1", "n2", "n3"]).ok()?).ok()?;
-    let (places, mut answers) = (four(alloc)?, String::new(alloc));
-    for text in calls.split("; ") {
-        let answer = act(alloc, &mut start, &places, &spelled(alloc, text)?)?;
-        answers.push_str(&answer).ok()?;
-        answers.push_str("; ").ok()?;
+    let places = four(alloc)?;
+    answers_of(alloc, &mut calm(alloc)?, &places, calls)
+}
+
+/// Whether a row's calls have its answers. They are made once more where memory was refused.
+fn is_answered(alloc: Global, row: &str) -> bool {
+    let (calls, wanted) = row.split_once(" => ").unwrap_or((row, ""));
+    let answers = match answers_once(alloc, calls) {
+        None => answers_once(alloc, calls),
+        answers => answers,
+    };
+    match answers {
+        Some(answers) => answers.as_str() == wanted,
+        None => false,
     }
-    Some(answers)
 }
 
 #[test]
@@ -68,8 +111,6 @@ fn cells_are_set_within_bounds(rt: HostRuntime) {
         kill 0 1000000000001; kill 0 -1000000000001; kill 0 1000000000000; kill 0 -1000000000000; node 0 \
         => bad amount; bad amount; ok; ok; -1000000000000; ";
     for row in rows.lines() {
-        let (calls, wanted) = row.split_once(" => ").unwrap_or((row, ""));
-        let answers = answers_once(rt.alloc(), calls).or_else(|| answers_once(rt.alloc(), calls));
-        assert!(rt; answers.is_some_and(|it| it.as_str() == wanted), "at {row}");
+        assert!(rt; is_answered(rt.alloc(), row), "at {row}");
     }
 }

@@ -64,22 +64,29 @@ fn links(alloc: Global, env: &mut Env, first: &Fault, second: &Fault) -> Option<
 
 /// The fault that a text spells. None: it spells none, or memory was refused.
 fn made(alloc: Global, text: &str) -> Option<Fault> {
-    fault(alloc, &over_first(alloc, "3")?, &spelled(alloc, text)?)?.ok()
+    fault(alloc, &over_first(alloc, "3")?, &spelled(alloc, text)?).ok()
 }
 
 /// What there is to see of two faults: the links while they stand, the link in the end, and how often cells were
 /// written.
 type Seen = (String, Option<Link>, u64);
 
-/// What is seen of two faults. None: memory was refused.
-fn seen_once(alloc: Global, first: &str, second: &str) -> Option<Seen> {
-    let mut env = calm(alloc)?;
-    let (first, second) = (made(alloc, first)?, made(alloc, second)?);
-    if !first.fits(&env) || !second.fits(&env) {
+/// What is seen of two faults on an environment that has none. None: memory was refused, or a fault does not fit.
+fn seen_on(alloc: Global, env: &mut Env, first: &Fault, second: &Fault) -> Option<Seen>
+    requires { StandsWith env.old [] }
+{
+    if !first.fits(env) || !second.fits(env) {
         return None;
     }
-    let links = links(alloc, &mut env, &first, &second)?;
+    let links = links(alloc, env, first, second)?;
     Some((links, env.link(Node::at(0), Node::at(1)), env.work()))
+}
+
+/// What is seen of the faults that texts spell.
+fn seen_once(alloc: Global, first: &str, second: &str) -> Option<Seen> {
+    let first = made(alloc, first)?;
+    let second = made(alloc, second)?;
+    seen_on(alloc, &mut calm(alloc)?, &first, &second)
 }
 
 // Asks once more where memory was refused, so that the test stands one refused allocation.
@@ -90,8 +97,11 @@ fn seen(alloc: Global, first: &str, second: &str) -> Option<Seen> {
     }
 }
 
-// Two faults, the links while they stand, and the fewest and the most writes. A cut of no links writes nothing.
-static ROWS: [(&str, &str, &str, u64, u64); 6] = [
+/// Two faults, the links while they stand, and the fewest and the most writes.
+type Row = (&'static str, &'static str, &'static str, u64, u64);
+
+// A cut of no links writes nothing.
+static ROWS: [Row; 6] = [
     ("cut 0 1", "cut 0 1", "cut 0 0; cut 0 0", 4, 4),
     ("fix 20 0 1 1 0", "cut", "open 20 0; open 0 0", 1, 6),
     ("fix 300 0 1", "fix 20 0 1", "open 20 0; open 20 0", 2, 8),
@@ -100,14 +110,21 @@ static ROWS: [(&str, &str, &str, u64, u64); 6] = [
     ("cut 1 0", "pause 0 1", "open 0 0; open 0 0", 6, 6),
 ];
 
+/// Whether this is seen of the faults of a row, and a calm link in the end.
+fn is_seen(alloc: Global, row: &Row) -> bool {
+    let (first, second, wanted, fewest, most) = row;
+    match seen(alloc, first, second) {
+        Some((links, last, work)) => links.as_str() == *wanted
+            && last == Some(Link::calm())
+            && *fewest <= work
+            && work <= *most,
+        None => false,
+    }
+}
+
 #[test]
 fn taken_faults_are_gone(rt: HostRuntime) {
-    for (first, second, wanted, fewest, most) in ROWS.iter() {
-        let Some((links, last, work)) = seen(rt.alloc(), first, second) else {
-            panic!(rt; "nothing seen at {first}");
-        };
-        assert_eq!(rt; links.as_str(), *wanted, "at {first}");
-        assert_eq!(rt; last, Some(Link::calm()), "at {first}");
-        assert!(rt; *fewest <= work && work <= *most, "{work} writes");
+    for row in ROWS.iter() {
+        assert!(rt; is_seen(rt.alloc(), row), "at {}", row.0);
     }
 }

@@ -1,46 +1,63 @@
 //! Worked texts of environments: which are refused and why, and how they are written.
 
-use jh_edn::{read_one, write};
-use jh_env::{EnvTextError, env_of_value, environments_read_back, value_of_env};
+use jh_edn::{Value, read_one, write};
+use jh_env::{Env, EnvTextError, env_of_value, environments_read_back, value_of_env};
 use std::alloc::Global;
+use std::test::Fail;
 
-// The text of the environment that a text tells, or why it is refused; nothing where memory was refused.
-fn rewritten(alloc: Global, text: &str) -> Option<Vec<u8>> {
-    let (value, _) = read_one(alloc, text, 0).ok()??;
+/// What is written of an environment.
+fn env_text(alloc: Global, env: &Env) -> Option<Vec<u8>> {
     let mut written = Vec::new(alloc);
-    match env_of_value(alloc, &value) {
-        Ok(env) => write(&value_of_env(alloc, &env).ok()?, &mut written).ok()?,
-        Err(EnvTextError::OutOfMemory) => return None,
-        Err(error) => written
-            .extend_from_slice(error.to_string(alloc).ok()?.as_bytes())
-            .ok()?,
-    }
+    write(&value_of_env(alloc, env).ok()?, &mut written).ok()?;
     Some(written)
 }
 
-// Asks once more where memory was refused, so that the test stands one refused allocation.
-fn answer(alloc: Global, text: &str) -> Option<Vec<u8>> {
-    match rewritten(alloc, text) {
-        Some(written) => Some(written),
+/// The text of the environment that a value tells, or why it is refused. None: memory was refused.
+fn value_answer(alloc: Global, value: &Value) -> Option<Vec<u8>> {
+    match env_of_value(alloc, value) {
+        Ok(env) => env_text(alloc, &env),
+        Err(EnvTextError::OutOfMemory) => None,
+        Err(error) => Some(error.to_string(alloc).ok()?.into_bytes()),
+    }
+}
+
+/// The same of the first value of a text.
+fn rewritten(alloc: Global, text: &str) -> Option<Vec<u8>> {
+    match read_one(alloc, text, 0) {
+        Ok(Some((value, _))) => value_answer(alloc, &value),
+        _ => None,
+    }
+}
+
+/// Whether a text has this answer. It is asked once more where memory was refused.
+fn is_answer(alloc: Global, text: &str, wanted: &str) -> bool {
+    let answer = match rewritten(alloc, text) {
         None => rewritten(alloc, text),
+        answer => answer,
+    };
+    match answer {
+        Some(answer) => answer.as_slice() == wanted.as_bytes(),
+        None => false,
     }
 }
 
 const CALM: &str = "{:nodes [\"n1\" \"n2\"], :cut [], :slow [], :loss [], :down [], :clock []}";
 
-/// The first row whose text has another answer, or whose answer is a text that is not read back as itself.
-fn first_wrong(alloc: Global, rows: &'static str) -> Option<&'static str> {
+/// Whether the text of a row has its answer, which is a refusal or a text that is read back as itself.
+fn is_right(alloc: Global, row: &str) -> bool {
+    let (text, wanted) = row.split_once(" => ").unwrap_or((row, ""));
+    let wanted = if wanted == "calm" { CALM } else { wanted };
+    is_answer(alloc, text, wanted) && (!wanted.starts_with('{') || is_answer(alloc, wanted, wanted))
+}
+
+/// Asks each row. One that is not right is the failure.
+fn ask_all(alloc: Global, rows: &str) -> Result<(), Fail> {
     for row in rows.lines() {
-        let (text, wanted) = row.split_once(" => ")?;
-        let wanted = if wanted == "calm" { CALM } else { wanted };
-        if answer(alloc, text)?.as_slice() != wanted.as_bytes() {
-            return Some(row);
-        }
-        if wanted.starts_with('{') && answer(alloc, wanted)?.as_slice() != wanted.as_bytes() {
-            return Some(row);
+        if !is_right(alloc, row) {
+            return Err(Fail::new(row));
         }
     }
-    None
+    Ok(())
 }
 
 // A text, and what it comes back as: `calm` is the text above.
@@ -82,7 +99,7 @@ const ROWS: &str = r#"{:nodes ["n1" "n2"]} => calm
 {:nodes ["n1"] :clock [["n1" 0] ["n1" 0]]} => repeated entry"#;
 
 #[test]
-fn reads_and_writes(rt: HostRuntime) {
+fn reads_and_writes(rt: HostRuntime) -> Result<(), Fail> {
     environments_read_back();
-    assert_eq!(rt; first_wrong(rt.alloc(), ROWS), None);
+    ask_all(rt.alloc(), ROWS)
 }
