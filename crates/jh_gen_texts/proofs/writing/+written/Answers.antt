@@ -1,7 +1,7 @@
 use Rattle.std.proofs.Common.{rules, ◌<◌, ◌^◌, subst}
 use Rattle.jh_edn.specs.Edn.{keyword}
 use Rattle.jh_gen.specs.Generator.{generator_size, generator_list_size, size_shares}
-use Rattle.jh_gen.specs.View.{generator_of, generators_of, shares_of}
+use Rattle.jh_gen.specs.View.{generator_of}
 use Rattle.jh_gen_texts.proofs.GeneratorTextLemmas.{RowWritten, SharesWritten, member_falls, share_falls, row_written, share_written}
 use Rattle.jh_gen_texts.proofs.writing.+written.Goals as goal
 
