@@ -1,16 +1,19 @@
 //! Worked texts of faults: one of each kind, whose links and nodes are given out of order and repeated.
 
-use jh_edn::write;
+ghost use Rattle.std.specs.Prelude.{length, IfSome};
+ghost use Rattle.jh_env.specs.Faults.{FitsCount};
+
+use jh_edn::{Value, write};
 use jh_env::{Fault, FaultError, Nodes};
 use jh_step_texts::{order_changes_no_fault, value_of_fault};
 use std::alloc::Global;
 
-// The place of a node is not where its name stands among the names.
+/// The place of a node is not where its name stands among the names.
 fn nodes(alloc: Global) -> Option<Nodes> {
     Nodes::of(alloc, &["n2", "n1", "n3"]).ok()
 }
 
-// A fault of each kind, by its place in the table below.
+/// A fault of each kind, by its place in the table below.
 fn fault_of(alloc: Global, nodes: &Nodes, kind: usize) -> Result<Fault, FaultError> {
     let (Some(first), Some(second), Some(third)) = (nodes.at(0), nodes.at(1), nodes.at(2)) else {
         return Err(FaultError::UnknownNode);
@@ -35,24 +38,41 @@ fn fault_of(alloc: Global, nodes: &Nodes, kind: usize) -> Result<Fault, FaultErr
     }
 }
 
-// The text of such a fault; nothing where memory was refused.
-fn text_once(alloc: Global, kind: usize) -> Option<Vec<u8>> {
-    let nodes = nodes(alloc)?;
-    let fault = fault_of(alloc, &nodes, kind).ok()?;
-    if !fault.fits_nodes(&nodes) {
-        return None;
+/// A fault of a kind that fits the nodes.
+fn fitting_fault(alloc: Global, nodes: &Nodes, kind: usize) -> Option<Fault>
+    ensures { IfSome result (FitsCount (length nodes.now)) }
+{
+    let fault = fault_of(alloc, nodes, kind).ok()?;
+    if fault.fits_nodes(nodes) {
+        Some(fault)
+    } else {
+        None
     }
-    let value = value_of_fault(alloc, &nodes, &fault).ok()?;
+}
+
+/// The text of a value. None: memory was refused.
+fn value_text(alloc: Global, value: &Value) -> Option<Vec<u8>> {
     let mut written = Vec::new(alloc);
-    write(&value, &mut written).ok()?;
+    write(value, &mut written).ok()?;
     Some(written)
 }
 
-// Asks once more where memory was refused, so that the test stands one refused allocation.
-fn text(alloc: Global, kind: usize) -> Option<Vec<u8>> {
-    match text_once(alloc, kind) {
-        Some(written) => Some(written),
+/// The text of a fault of a kind. None: memory was refused.
+fn text_once(alloc: Global, kind: usize) -> Option<Vec<u8>> {
+    let nodes = nodes(alloc)?;
+    let fault = fitting_fault(alloc, &nodes, kind)?;
+    value_text(alloc, &value_of_fault(alloc, &nodes, &fault).ok()?)
+}
+
+/// Whether this is the text of a fault of a kind. It is written once more where memory was refused.
+fn is_text(alloc: Global, kind: usize, wanted: &str) -> bool {
+    let text = match text_once(alloc, kind) {
         None => text_once(alloc, kind),
+        text => text,
+    };
+    match text {
+        Some(text) => text.as_slice() == wanted.as_bytes(),
+        None => false,
     }
 }
 
@@ -72,9 +92,6 @@ static TEXTS: [&str; 9] = [
 fn writes_faults_by_place(rt: HostRuntime) {
     order_changes_no_fault();
     for (kind, wanted) in TEXTS.iter().enumerate() {
-        let Some(written) = text(rt.alloc(), kind) else {
-            panic!(rt; "no text of kind {kind}");
-        };
-        assert_eq!(rt; written.as_slice(), wanted.as_bytes());
+        assert!(rt; is_text(rt.alloc(), kind, wanted), "at kind {kind}");
     }
 }

@@ -75,14 +75,21 @@ fn answer(alloc: Global, nemesis: &mut Nemesis, step: &PlainStep) -> Option<Step
     }
 }
 
+/// A nemesis over cells.
+fn nemesis_of(alloc: Global, start: &PlainCells, count: u8) -> Option<Nemesis> {
+    Some(Nemesis::new(alloc, env_of(alloc, start, count)?))
+}
+
+/// A nemesis and the plain one over random cells.
 fn started(alloc: Global, seed: u64, draws: Draws) -> Option<Both> {
     let mut random = Random::new(seed);
+    let links = all_links(alloc, draws.nodes)?;
     let start = random_cells(alloc, &mut random, draws.nodes)?;
-    let env = env_of(alloc, &start, draws.nodes)?;
+    let nemesis = nemesis_of(alloc, &start, draws.nodes)?;
     Some(Both {
-        nemesis: Nemesis::new(alloc, env),
         plain: PlainNemesis::new(alloc, start)?,
-        links: all_links(alloc, draws.nodes)?,
+        nemesis,
+        links,
         random,
         draws,
     })
@@ -121,14 +128,18 @@ impl Both {
         true
     }
 
+    /// Whether both are the same.
+    fn is_same(&self) -> bool {
+        self.has_same_ids() && self.has_same_links() && self.has_same_nodes()
+    }
+
     /// The answer to a random step, where both give it and are the same afterwards. None: memory was refused.
     fn step(&mut self, alloc: Global) -> Option<Option<StepAnswer>> {
         let Draws { nodes, ids, habit } = self.draws;
         let step = random_step(alloc, &mut self.random, nodes, ids, habit)?;
         let given = answer(alloc, &mut self.nemesis, &step)?;
         let wanted = self.plain.apply(step)?;
-        let is_same = self.has_same_ids() && self.has_same_links() && self.has_same_nodes();
-        Some((is_same && given == wanted).then_some(given))
+        Some((given == wanted && self.is_same()).then_some(given))
     }
 
     /// The answers to so many random steps, up to the first on which they differ.
@@ -152,7 +163,7 @@ fn answers_once(alloc: Global, seed: u64, draws: Draws, steps: u32) -> Option<Ve
 fn answers(alloc: Global, seed: u64, draws: Draws, steps: u32) -> Option<Vec<StepAnswer>> {
     match answers_once(alloc, seed, draws, steps) {
         None => answers_once(alloc, seed, draws, steps),
-        told => told,
+        answers => answers,
     }
 }
 

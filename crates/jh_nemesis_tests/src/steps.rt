@@ -123,15 +123,20 @@ fn slow_begun(alloc: Global, nemesis: &mut Nemesis, id: u32) -> Option<String> {
     begun(alloc, nemesis, id, fault)
 }
 
+/// Begins a cut, or a delay.
+fn fault_begun(alloc: Global, nemesis: &mut Nemesis, is_slow: bool, id: u32) -> Option<String> {
+    if is_slow {
+        slow_begun(alloc, nemesis, id)
+    } else {
+        cut_begun(alloc, nemesis, id)
+    }
+}
+
 /// Begins cuts, or delays, with the ids below a number, and tells the answer of the last.
 fn begins(alloc: Global, nemesis: &mut Nemesis, is_slow: bool, count: u32) -> Option<String> {
     let mut answer = "none".to_string(alloc).ok()?;
     for id in 0..count {
-        answer = if is_slow {
-            slow_begun(alloc, nemesis, id)?
-        } else {
-            cut_begun(alloc, nemesis, id)?
-        };
+        answer = fault_begun(alloc, nemesis, is_slow, id)?;
     }
     Some(answer)
 }
@@ -156,35 +161,44 @@ fn few_steps(alloc: Global) -> Result<Vec<Step>, AllocError>
     Ok(steps)
 }
 
-/// The answers of a list of steps, with `, ` behind each. None of these steps takes memory, so it is refused before the
-/// first or not at all.
-fn few(alloc: Global, nemesis: &mut Nemesis) -> Option<String> {
-    let Ok(steps) = few_steps(alloc) else {
-        return None;
-    };
-    let answers = match nemesis.apply_all(alloc, steps) {
-        Ok(answers) => answers,
-        Err(stopped) if stopped.answers().is_empty() => return None,
-        Err(_) => return "stopped behind a step".to_string(alloc).ok(),
-    };
+/// Answers, with `, ` behind each.
+fn answer_texts(alloc: Global, answers: &[StepAnswer]) -> Option<String> {
     let mut texts = String::new(alloc);
     for answer in answers {
-        texts.push_str(answer_text(answer)).ok()?;
+        texts.push_str(answer_text(*answer)).ok()?;
         texts.push_str(", ").ok()?;
     }
     Some(texts)
 }
 
-/// The ids of the active faults, with a space behind each.
+/// The answers of a list of steps. None of these steps takes memory, so it is refused before the first or not at all.
+fn few(alloc: Global, nemesis: &mut Nemesis) -> Option<String> {
+    let Ok(steps) = few_steps(alloc) else {
+        return None;
+    };
+    match nemesis.apply_all(alloc, steps) {
+        Ok(answers) => answer_texts(alloc, &answers),
+        Err(stopped) if stopped.answers().is_empty() => None,
+        Err(_) => "stopped behind a step".to_string(alloc).ok(),
+    }
+}
+
+/// The id of an active fault, with a space behind it.
+fn id_text(alloc: Global, nemesis: &Nemesis, index: usize) -> Option<String> {
+    let (id, _) = nemesis.active_at(index)?;
+    format!(in alloc; "{id} ").ok()
+}
+
+/// The ids of the active faults.
 fn active(alloc: Global, nemesis: &Nemesis) -> Option<String> {
     let mut ids = String::new(alloc);
     for index in 0..nemesis.active_len() {
-        let (id, _) = nemesis.active_at(index)?;
-        ids.push_str(&format!(in alloc; "{id} ").ok()?).ok()?;
+        ids.push_str(&id_text(alloc, nemesis, index)?).ok()?;
     }
     Some(ids)
 }
 
+/// Whether the link from `n2` to `n1` is cut.
 fn link(alloc: Global, env: &Env) -> Option<String> {
     let link = env.link(env.nodes().at(1)?, env.nodes().at(0)?)?;
     let text = if link.cut { "cut" } else { "open" };
@@ -218,29 +232,39 @@ fn take(alloc: Global, nemesis: &mut Nemesis, call: &str) -> Option<String> {
     let (name, number) = call.split_once(' ').unwrap_or((call, "0"));
     let number = number.parse::<u32>().ok()?;
     let before = nemesis.active_len();
-    let answer = act(alloc, nemesis, name, number);
-    if answer.is_none() && nemesis.active_len() == before {
-        return act(alloc, nemesis, name, number);
+    match act(alloc, nemesis, name, number) {
+        None if nemesis.active_len() == before => act(alloc, nemesis, name, number),
+        answer => answer,
     }
-    answer
 }
 
-/// The answers of a row's calls. None: memory was refused.
-fn answers_once(alloc: Global, names: &str, calls: &str) -> Option<String> {
-    let mut nemesis = Nemesis::new(alloc, calm(alloc, names)?);
+/// The answers of calls, with `; ` behind each.
+fn answers_of(alloc: Global, nemesis: &mut Nemesis, calls: &str) -> Option<String> {
     let mut answers = String::new(alloc);
     for call in calls.split("; ") {
-        answers.push_str(&take(alloc, &mut nemesis, call)?).ok()?;
+        answers.push_str(&take(alloc, nemesis, call)?).ok()?;
         answers.push_str("; ").ok()?;
     }
     Some(answers)
 }
 
+/// The answers of a row's calls. None: memory was refused.
+fn answers_once(alloc: Global, names: &str, calls: &str) -> Option<String> {
+    let mut nemesis = Nemesis::new(alloc, calm(alloc, names)?);
+    answers_of(alloc, &mut nemesis, calls)
+}
+
 /// Whether the calls of a row have its answers on an environment of these names.
 fn holds(alloc: Global, names: &str, row: &str) -> bool {
     let (calls, wanted) = row.split_once(" → ").unwrap_or((row, ""));
-    let answers = answers_once(alloc, names, calls).or_else(|| answers_once(alloc, names, calls));
-    answers.is_some_and(|it| it.as_str() == wanted)
+    let answers = match answers_once(alloc, names, calls) {
+        None => answers_once(alloc, names, calls),
+        answers => answers,
+    };
+    match answers {
+        Some(answers) => answers.as_str() == wanted,
+        None => false,
+    }
 }
 
 #[test]
@@ -266,18 +290,21 @@ fn steps_are_answered(rt: HostRuntime) {
     }
 }
 
-/// How many faults are active where 256 were begun, and what the next is answered.
-fn full_once(alloc: Global) -> Option<(usize, String)> {
+/// Whether so many faults are active where 256 were begun, and the next is refused. None: memory was refused.
+fn is_full_once(alloc: Global) -> Option<bool> {
     let mut nemesis = Nemesis::new(alloc, calm(alloc, TWO)?);
     begins(alloc, &mut nemesis, false, 256)?;
     let answer = cut_begun(alloc, &mut nemesis, 256)?;
-    Some((nemesis.active_len(), answer))
+    Some(nemesis.active_len() == MAX_ACTIVE && answer.as_str() == "too many active")
 }
 
 #[test]
 fn few_faults_are_active(rt: HostRuntime) {
-    let full = full_once(rt.alloc()).or_else(|| full_once(rt.alloc()));
-    assert!(rt; full.is_some_and(|it| it.0 == MAX_ACTIVE && it.1.as_str() == "too many active"));
+    let is_full = match is_full_once(rt.alloc()) {
+        None => is_full_once(rt.alloc()),
+        is_full => is_full,
+    };
+    assert_eq!(rt; is_full, Some(true));
 }
 
 /// The id of a copy of a begin, and whether its fault fits.
@@ -292,6 +319,9 @@ fn copied_once(alloc: Global) -> Option<(u32, bool)> {
 
 #[test]
 fn a_step_is_copied(rt: HostRuntime) {
-    let copied = copied_once(rt.alloc()).or_else(|| copied_once(rt.alloc()));
+    let copied = match copied_once(rt.alloc()) {
+        None => copied_once(rt.alloc()),
+        copied => copied,
+    };
     assert_eq!(rt; copied, Some((7, true)));
 }

@@ -34,6 +34,19 @@ fn meaning_once(alloc: Global, text: &str) -> Option<String> {
     }
 }
 
+/// Whether a text means what its row says. It is read once more where memory was refused.
+fn is_meant(alloc: Global, row: &str) -> bool {
+    let (text, wanted) = row.split_once(" → ").unwrap_or((row, ""));
+    let meaning = match meaning_once(alloc, text) {
+        None => meaning_once(alloc, text),
+        meaning => meaning,
+    };
+    match meaning {
+        Some(meaning) => meaning.as_str() == wanted,
+        None => false,
+    }
+}
+
 const ROWS: &str = r#"[:begin 0 [:cut [["n2" "n1"] ["n2" "n1"]]]] → begin 0
 [:withdraw 4294967295] → withdraw 4294967295
 [:withdraw-all] → withdraw-all
@@ -94,8 +107,6 @@ const ROWS: &str = r#"[:begin 0 [:cut [["n2" "n1"] ["n2" "n1"]]]] → begin 0
 #[test]
 fn texts_mean_steps(rt: HostRuntime) {
     for row in ROWS.lines() {
-        let (text, wanted) = row.split_once(" → ").unwrap_or((row, ""));
-        let meaning = meaning_once(rt.alloc(), text).or_else(|| meaning_once(rt.alloc(), text));
-        assert!(rt; meaning.is_some_and(|it| it.as_str() == wanted), "at {row}");
+        assert!(rt; is_meant(rt.alloc(), row), "at {row}");
     }
 }
