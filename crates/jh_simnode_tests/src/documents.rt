@@ -1,6 +1,7 @@
 //! Documents of settings, and what they tell.
 
 use crate::plans::put_plan;
+use crate::runs::words;
 use jh_settings::{RunSettings, SettingsError, settings_of};
 use std::alloc::{AllocError, Global};
 use std::io::Write;
@@ -15,6 +16,7 @@ ops = 2
 mode = "serial"
 "##;
 
+/// Whether a line gives a key a value, or leaves it out.
 fn is_for_key(line: &str, key: &str) -> bool {
     match line.split_once(" = ") {
         Some((other, _)) => other == key,
@@ -22,52 +24,61 @@ fn is_for_key(line: &str, key: &str) -> bool {
     }
 }
 
-/// Whether one of the lines stands in for this one.
-fn is_replaced(line: &str, lines: &str) -> bool {
-    let key = match line.split_once(" = ") {
-        Some((key, _)) => key,
-        None => return true,
-    };
-    for other in lines.lines() {
-        if is_for_key(other, key) {
+/// Whether one of the lines stands in for that of a key.
+fn has_key(lines: &str, key: &str) -> bool {
+    for line in lines.lines() {
+        if is_for_key(line, key) {
             return true;
         }
     }
     false
 }
 
+/// Writes a line.
 fn put_line(document: &mut String, line: &str) -> Result<(), AllocError> {
     document.push_str(line)?;
     document.push_str("\n")
+}
+
+/// Writes the lines that leave no key out.
+fn put_given(document: &mut String, lines: &str) -> Result<(), AllocError> {
+    for line in lines.lines() {
+        if !line.starts_with("!") {
+            put_line(document, line)?;
+        }
+    }
+    Ok(())
+}
+
+/// Writes those good lines in whose place none of the others stands.
+fn put_good(document: &mut String, lines: &str) -> Result<(), AllocError> {
+    for line in GOOD.lines() {
+        let (key, _) = line.split_once(" = ").unwrap_or((line, ""));
+        if !has_key(lines, key) {
+            put_line(document, line)?;
+        }
+    }
+    Ok(())
 }
 
 /// The document of lines, and of those that are good otherwise. A line replaces that with the same key, and `!key`
 /// leaves one out.
 fn document_of(alloc: Global, lines: &str) -> Result<String, AllocError> {
     let mut document = String::new(alloc);
-    for line in lines.lines() {
-        if !line.starts_with("!") {
-            put_line(&mut document, line)?;
-        }
-    }
-    for line in GOOD.lines() {
-        if !is_replaced(line, lines) {
-            put_line(&mut document, line)?;
-        }
-    }
+    put_given(&mut document, lines)?;
+    put_good(&mut document, lines)?;
     Ok(document)
 }
 
 /// The words of a refusal. None: memory was refused.
 fn refusal(alloc: Global, error: &SettingsError) -> Option<Vec<u8>> {
-    if let SettingsError::OutOfMemory = error {
-        return None;
+    match error {
+        SettingsError::OutOfMemory => None,
+        error => words(alloc, error),
     }
-    let mut text = Vec::new(alloc);
-    write!(&mut text, "{error}").ok()?;
-    Some(text)
 }
 
+/// The budget, the mode and the parts of the plan of settings.
 fn settings_text(alloc: Global, settings: &RunSettings) -> Option<Vec<u8>> {
     let mut text = Vec::new(alloc);
     write!(&mut text, "{} {:?}; ", settings.budget, settings.mode).ok()?;
@@ -76,7 +87,7 @@ fn settings_text(alloc: Global, settings: &RunSettings) -> Option<Vec<u8>> {
 }
 
 /// The budget, the mode and the parts of the plan that a document tells, as `plans` writes them.
-pub(crate) fn told_once(alloc: Global, document: &str) -> Option<Vec<u8>> {
+pub(crate) fn document_text(alloc: Global, document: &str) -> Option<Vec<u8>> {
     match settings_of(alloc, document.as_bytes()) {
         Ok(settings) => settings_text(alloc, &settings),
         Err(error) => refusal(alloc, &error),
@@ -92,6 +103,6 @@ pub(crate) fn answer_once(alloc: Global, document: &[u8]) -> Option<Vec<u8>> {
 }
 
 /// The answer of the document with these lines.
-pub(crate) fn judged_once(alloc: Global, lines: &str) -> Option<Vec<u8>> {
+pub(crate) fn lines_answer(alloc: Global, lines: &str) -> Option<Vec<u8>> {
     answer_once(alloc, document_of(alloc, lines).ok()?.as_bytes())
 }

@@ -27,7 +27,7 @@ pub(crate) fn value(alloc: Global, text: &str) -> Option<Value> {
 }
 
 /// The name of a keyword, and nothing of another value.
-pub(crate) fn word(value: &Value) -> &str {
+pub(crate) fn keyword_name(value: &Value) -> &str {
     match value {
         Value::Keyword(text) => text.as_str(),
         _ => "",
@@ -40,20 +40,22 @@ fn under<'a>(map: &'a Value, key: &str) -> Option<&'a Value> {
         return None;
     };
     for (name, value) in pairs.as_slice() {
-        if word(name) == key {
+        if keyword_name(name) == key {
             return Some(value);
         }
     }
     None
 }
 
-fn word_under<'a>(map: &'a Value, key: &str) -> &'a str {
+/// The name of the keyword under a key, and nothing where no keyword stands there.
+fn name_under<'a>(map: &'a Value, key: &str) -> &'a str {
     match under(map, key) {
-        Some(value) => word(value),
+        Some(value) => keyword_name(value),
         None => "",
     }
 }
 
+/// The integer under a key.
 fn integer(map: &Value, key: &str) -> Option<i64> {
     match under(map, key)? {
         Value::Int(number) => Some(*number),
@@ -61,6 +63,7 @@ fn integer(map: &Value, key: &str) -> Option<i64> {
     }
 }
 
+/// The number under a key, or another where none stands there.
 fn number(map: &Value, key: &str, otherwise: u32) -> u32 {
     match integer(map, key) {
         Some(number) => u32::try_from(number).unwrap_or(otherwise),
@@ -68,24 +71,32 @@ fn number(map: &Value, key: &str, otherwise: u32) -> u32 {
     }
 }
 
-fn is_volatile(map: &Value) -> bool {
-    matches!(under(map, "volatile"), Some(Value::Bool(true)))
-}
-
+/// The store of a map.
 fn store_of(map: &Value) -> Store {
-    match word_under(map, "store") {
+    match name_under(map, "store") {
         "quorum" => Store::Quorum,
         "lww" => Store::Lww,
         _ => Store::Local,
     }
 }
 
+/// The workload of a map.
 fn workload_of(map: &Value) -> Workload {
-    match word_under(map, "workload") {
+    match name_under(map, "workload") {
         "counter" => Workload::Counter,
         "set" => Workload::Set,
         "ids" => Workload::Ids,
         _ => Workload::Register,
+    }
+}
+
+/// What a world keeps for good, as a map tells it.
+fn settings_of(map: &Value) -> Settings {
+    Settings {
+        store: store_of(map),
+        volatile: matches!(under(map, "volatile"), Some(Value::Bool(true))),
+        workload: workload_of(map),
+        initial: integer(map, "initial"),
     }
 }
 
@@ -96,6 +107,7 @@ pub(crate) fn env_of(alloc: Global, map: &Value) -> Option<Env>
     env_of_value(alloc, under(map, "start")?).ok()
 }
 
+/// The generator of a map.
 fn generator_of(alloc: Global, map: &Value) -> Option<Gen> {
     match under(map, "generator") {
         Some(value) => gen_of_value(alloc, value).ok(),
@@ -103,6 +115,7 @@ fn generator_of(alloc: Global, map: &Value) -> Option<Gen> {
     }
 }
 
+/// The entry of a pair of a number and a step.
 fn entry_of(alloc: Global, nodes: &Nodes, pair: &Value) -> Option<Entry> {
     let [Value::Int(at), step] = pair.elements()? else {
         return None;
@@ -112,39 +125,41 @@ fn entry_of(alloc: Global, nodes: &Nodes, pair: &Value) -> Option<Entry> {
     Some(Entry { at, step })
 }
 
-fn entries_of(alloc: Global, nodes: &Nodes, map: &Value) -> Option<Vec<Entry>> {
+/// The entries of pairs.
+fn entries_of(alloc: Global, nodes: &Nodes, pairs: &[Value]) -> Option<Vec<Entry>> {
     let mut entries = Vec::new(alloc);
-    if let Some(pairs) = under(map, "schedule") {
-        for pair in pairs.elements()? {
-            entries.push(entry_of(alloc, nodes, pair)?).ok()?;
-        }
+    for pair in pairs {
+        entries.push(entry_of(alloc, nodes, pair)?).ok()?;
     }
     Some(entries)
 }
 
-fn schedule_of(alloc: Global, map: &Value) -> Option<Schedule> {
-    let key = if under(map, "steps-start").is_some() {
-        "steps-start"
-    } else {
-        "start"
-    };
-    let env = env_of_value(alloc, under(map, key)?).ok()?;
-    Schedule::of(entries_of(alloc, env.nodes(), map)?).ok()
+/// The schedule of pairs whose steps are read by an environment.
+fn schedule_by(alloc: Global, env: &Env, pairs: &[Value]) -> Option<Schedule> {
+    Schedule::of(entries_of(alloc, env.nodes(), pairs)?).ok()
 }
 
-/// The plan of settings, or why it is refused.
-pub(crate) fn plan_of(alloc: Global, map: &Value) -> Option<Result<Plan, PlanError>> {
-    let env = env_of(alloc, map)?;
-    let generator = generator_of(alloc, map)?;
-    let schedule = schedule_of(alloc, map)?;
-    let fields = PlanData {
-        environment: env,
-        settings: Settings {
-            store: store_of(map),
-            volatile: is_volatile(map),
-            workload: workload_of(map),
-            initial: integer(map, "initial"),
-        },
+/// The schedule of a map.
+fn schedule_of(alloc: Global, map: &Value) -> Option<Schedule> {
+    let pairs = match under(map, "schedule") {
+        Some(pairs) => pairs.elements()?,
+        None => &[],
+    };
+    let start = match under(map, "steps-start") {
+        Some(start) => start,
+        None => under(map, "start")?,
+    };
+    schedule_by(alloc, &env_of_value(alloc, start).ok()?, pairs)
+}
+
+/// What a plan is made of, where an environment, a generator and a schedule are there.
+fn data_over(map: &Value, environment: Env, generator: Gen, schedule: Schedule) -> PlanData
+    requires { StandsFor environment [] }
+    ensures { StandsFor result.environment [] }
+{
+    PlanData {
+        environment,
+        settings: settings_of(map),
         clients: number(map, "clients", 1),
         ops: number(map, "ops", 1),
         generator,
@@ -152,14 +167,44 @@ pub(crate) fn plan_of(alloc: Global, map: &Value) -> Option<Result<Plan, PlanErr
         tick_every: number(map, "tick-every", 0),
         rows: number(map, "rows", 1),
         seed: u64::from(number(map, "seed", 0)),
+    }
+}
+
+/// What the plan of a map is made of.
+fn data_of(alloc: Global, map: &Value) -> Option<PlanData>
+    ensures { IfSome result (λ it. StandsFor it.environment []) }
+{
+    let generator = generator_of(alloc, map)?;
+    let schedule = schedule_of(alloc, map)?;
+    Some(data_over(map, env_of(alloc, map)?, generator, schedule))
+}
+
+/// The plan of settings, or why it is refused: for want of memory, too, where the text tells nothing.
+pub(crate) fn plan_of(alloc: Global, settings: &str) -> Result<Plan, PlanError> {
+    let Some(map) = value(alloc, settings) else {
+        return Err(PlanError::OutOfMemory);
     };
-    Some(Plan::new(alloc, fields))
+    match data_of(alloc, &map) {
+        Some(data) => Plan::new(alloc, data),
+        None => Err(PlanError::OutOfMemory),
+    }
 }
 
 /// The world of settings, in which nothing has happened.
 pub(crate) fn world_of(alloc: Global, map: &Value) -> Option<World> {
-    let env = env_of(alloc, map)?;
-    let (store, workload) = (store_of(map), workload_of(map));
-    let initial = integer(map, "initial");
-    World::new(alloc, env, store, is_volatile(map), workload, initial).ok()
+    let Settings {
+        store,
+        volatile,
+        workload,
+        initial,
+    } = settings_of(map);
+    World::new(
+        alloc,
+        env_of(alloc, map)?,
+        store,
+        volatile,
+        workload,
+        initial,
+    )
+    .ok()
 }

@@ -4,13 +4,14 @@
 //! the store, whether replicas are volatile, the workload, what a register holds first; the clients, the calls, after
 //! how many of them a client ticks, the rows and the seed; the generator, and the schedule.
 
-use crate::fixtures::{plan_of, value};
-use crate::rows::{Kind, first_wrong};
+use crate::fixtures::plan_of;
+use crate::rows::{Kind, ask_all};
 use crate::runs::refusal;
 use jh_nemesis::Step;
 use jh_simnode::{Entry, MAX_ENTRIES, Plan, Schedule, TooLong};
 use std::alloc::Global;
 use std::io::Write;
+use std::test::Fail;
 
 // A row comes to a refusal, or to the events of a run of the least or the greatest number.
 const REFUSALS: &str = r#"
@@ -36,8 +37,8 @@ const REFUSALS: &str = r#"
 "#;
 
 #[test]
-fn plans_are_refused(rt: HostRuntime) {
-    assert_eq!(rt; first_wrong(rt.alloc(), Kind::Run, REFUSALS), None);
+fn plans_are_refused(rt: HostRuntime) -> Result<(), Fail> {
+    ask_all(rt.alloc(), Kind::Run, REFUSALS)
 }
 
 const SETTINGS: &str =
@@ -46,10 +47,11 @@ const SETTINGS: &str =
 → 3 nodes Lww true Counter Some(4); 3 11 6 12 13; Once(Client(Add(7))); 5 undo, 2 redo,"#;
 
 #[test]
-fn a_plan_has_its_parts(rt: HostRuntime) {
-    assert_eq!(rt; first_wrong(rt.alloc(), Kind::Plan, SETTINGS), None);
+fn a_plan_has_its_parts(rt: HostRuntime) -> Result<(), Fail> {
+    ask_all(rt.alloc(), Kind::Plan, SETTINGS)
 }
 
+/// Writes the number of nodes, and what a world keeps for good.
 fn put_settings(text: &mut Vec<u8>, plan: &Plan) -> Option<()> {
     let count = plan.environment().nodes().len();
     let (store, volatile) = (plan.store(), plan.volatile());
@@ -61,21 +63,31 @@ fn put_settings(text: &mut Vec<u8>, plan: &Plan) -> Option<()> {
     .ok()
 }
 
+/// Writes the numbers of a plan.
 fn put_numbers(text: &mut Vec<u8>, plan: &Plan) -> Option<()> {
     let (clients, ops, tick_every) = (plan.clients(), plan.ops(), plan.tick_every());
     let (rows, seed) = (plan.rows(), plan.seed());
     write!(text, "{clients} {ops} {tick_every} {rows} {seed}; ").ok()
 }
 
+/// Writes an entry: when it is due, and its step.
 fn put_entry(text: &mut Vec<u8>, entry: &Entry) -> Option<()> {
-    let at = entry.at;
+    write!(&mut *text, " {} ", entry.at).ok()?;
     match &entry.step {
-        Step::Begin(id, _) => write!(text, " {at} begin {id},").ok(),
-        Step::Withdraw(id) => write!(text, " {at} withdraw {id},").ok(),
-        Step::WithdrawAll => write!(text, " {at} withdraw-all,").ok(),
-        Step::Undo => write!(text, " {at} undo,").ok(),
-        Step::Redo => write!(text, " {at} redo,").ok(),
+        Step::Begin(id, _) => write!(text, "begin {id},").ok(),
+        Step::Withdraw(id) => write!(text, "withdraw {id},").ok(),
+        Step::WithdrawAll => text.extend_from_slice(b"withdraw-all,").ok(),
+        Step::Undo => text.extend_from_slice(b"undo,").ok(),
+        Step::Redo => text.extend_from_slice(b"redo,").ok(),
     }
+}
+
+/// Writes the entries of a schedule.
+fn put_entries(text: &mut Vec<u8>, entries: &[Entry]) -> Option<()> {
+    for entry in entries {
+        put_entry(text, entry)?;
+    }
+    Some(())
 }
 
 /// Writes the parts of a plan.
@@ -83,46 +95,35 @@ pub(crate) fn put_plan(text: &mut Vec<u8>, plan: &Plan) -> Option<()> {
     put_settings(text, plan)?;
     put_numbers(text, plan)?;
     write!(&mut *text, "{:?};", plan.generator()).ok()?;
-    for entry in plan.schedule().entries() {
-        put_entry(text, entry)?;
-    }
-    Some(())
+    put_entries(text, plan.schedule().entries())
+}
+
+/// The parts of a plan.
+pub(crate) fn parts_text(alloc: Global, plan: &Plan) -> Option<Vec<u8>> {
+    let mut text = Vec::new(alloc);
+    put_plan(&mut text, plan)?;
+    Some(text)
 }
 
 /// The parts of the plan of settings. None: memory was refused.
-pub(crate) fn told_once(alloc: Global, settings: &str) -> Option<Vec<u8>> {
-    match plan_of(alloc, &value(alloc, settings)?)? {
-        Ok(plan) => {
-            let mut text = Vec::new(alloc);
-            put_plan(&mut text, &plan)?;
-            Some(text)
-        }
+pub(crate) fn plan_text(alloc: Global, settings: &str) -> Option<Vec<u8>> {
+    match plan_of(alloc, settings) {
+        Ok(plan) => parts_text(alloc, &plan),
         Err(error) => refusal(alloc, error),
     }
 }
 
-/// A schedule of so many steps back. None: memory was refused.
-fn schedule_once(alloc: Global, count: u32) -> Option<Result<Schedule, TooLong>> {
+/// So many steps back.
+fn steps_back(alloc: Global, count: u32) -> Option<Vec<Entry>> {
     let mut entries = Vec::new(alloc);
     for at in 0..count {
         let step = Step::Undo;
         entries.push(Entry { at, step }).ok()?;
     }
-    Some(Schedule::of(entries))
+    Some(entries)
 }
 
-/// How many entries a schedule of so many has, where each is in its place.
-fn kept(alloc: Global, count: u32) -> Option<Result<usize, TooLong>> {
-    let schedule = match schedule_once(alloc, count) {
-        None => schedule_once(alloc, count)?,
-        Some(schedule) => schedule,
-    };
-    match schedule {
-        Ok(schedule) => Some(Ok(count_in_order(schedule.entries())?)),
-        Err(refusal) => Some(Err(refusal)),
-    }
-}
-
+/// The number of entries, where each is in its place.
 fn count_in_order(entries: &[Entry]) -> Option<usize> {
     for (place, entry) in entries.iter().enumerate() {
         if entry.at as usize != place {
@@ -130,6 +131,22 @@ fn count_in_order(entries: &[Entry]) -> Option<usize> {
         }
     }
     Some(entries.len())
+}
+
+/// How many entries a schedule of so many has, where each is in its place. None: memory was refused.
+fn kept_once(alloc: Global, count: u32) -> Option<Result<usize, TooLong>> {
+    match Schedule::of(steps_back(alloc, count)?) {
+        Ok(schedule) => count_in_order(schedule.entries()).map(Ok),
+        Err(refusal) => Some(Err(refusal)),
+    }
+}
+
+/// The same, once more where memory was refused.
+fn kept(alloc: Global, count: u32) -> Option<Result<usize, TooLong>> {
+    match kept_once(alloc, count) {
+        None => kept_once(alloc, count),
+        kept => kept,
+    }
 }
 
 #[test]

@@ -3,6 +3,7 @@
 
 use crate::{documents, plans, runs, worlds};
 use std::alloc::Global;
+use std::test::Fail;
 
 /// What the text of a row is.
 #[derive(Clone, Copy)]
@@ -20,34 +21,35 @@ pub(crate) enum Kind {
 }
 
 /// What a text comes to. None: memory was refused.
-fn told_once(alloc: Global, kind: Kind, text: &str) -> Option<Vec<u8>> {
+fn answer_once(alloc: Global, kind: Kind, text: &str) -> Option<Vec<u8>> {
     match kind {
-        Kind::Plan => plans::told_once(alloc, text),
-        Kind::Run => runs::told_once(alloc, text),
-        Kind::Acts => worlds::told_once(alloc, text),
-        Kind::Document => documents::told_once(alloc, text),
-        Kind::Lines => documents::judged_once(alloc, text),
+        Kind::Plan => plans::plan_text(alloc, text),
+        Kind::Run => runs::run_answer(alloc, text),
+        Kind::Acts => worlds::answers_text(alloc, text),
+        Kind::Document => documents::document_text(alloc, text),
+        Kind::Lines => documents::lines_answer(alloc, text),
     }
 }
 
+/// Whether a text comes to this. It is asked once more where memory was refused.
 fn is_right(alloc: Global, kind: Kind, text: &str, wanted: &str) -> bool {
-    let told = match told_once(alloc, kind, text) {
-        None => told_once(alloc, kind, text),
-        told => told,
+    let answer = match answer_once(alloc, kind, text) {
+        None => answer_once(alloc, kind, text),
+        answer => answer,
     };
-    match told {
-        Some(told) => told.as_slice() == wanted.as_bytes(),
+    match answer {
+        Some(answer) => answer.as_slice() == wanted.as_bytes(),
         None => false,
     }
 }
 
-/// The first row that comes to something else.
-pub(crate) fn first_wrong(alloc: Global, kind: Kind, rows: &str) -> Option<&str> {
+/// Asks each row. One that comes to something else is the failure.
+pub(crate) fn ask_all(alloc: Global, kind: Kind, rows: &str) -> Result<(), Fail> {
     for row in rows.split('§') {
         let (text, wanted) = row.split_once('→').unwrap_or((row, ""));
         if !is_right(alloc, kind, text.trim(), wanted.trim()) {
-            return Some(row);
+            return Err(Fail::new(row));
         }
     }
-    None
+    Ok(())
 }

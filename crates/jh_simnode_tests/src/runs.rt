@@ -3,29 +3,33 @@
 //! The text of a row is settings, as `fixtures` has them. They come to the number of events in the journal of their run
 //! and its history, an operation in a line; or to the refusal of their plan or run.
 
-use crate::fixtures::{plan_of, value};
-use crate::rows::{Kind, first_wrong};
+use crate::fixtures::plan_of;
+use crate::rows::{Kind, ask_all};
 use jh_edn::write;
 use jh_ops::{Op, value_of};
 use jh_simnode::{Plan, PlanError, RunError, WorldError, run_serial};
 use std::alloc::Global;
+use std::fmt::Display;
 use std::io::Write;
+use std::test::Fail;
 
 /// The words of an error.
-fn words(alloc: Global, error: RunError) -> Option<Vec<u8>> {
+pub(crate) fn words<E: Display>(alloc: Global, error: &E) -> Option<Vec<u8>> {
     let mut text = Vec::new(alloc);
     write!(&mut text, "{error}").ok()?;
     Some(text)
 }
 
+/// Writes an operation behind a line feed.
 fn put_op(alloc: Global, text: &mut Vec<u8>, op: &Op) -> Option<()> {
     if !op.process.is_writable() {
         return None;
     }
-    write!(&mut *text, "\n").ok()?;
+    text.push(b'\n').ok()?;
     write(&value_of(alloc, op).ok()?, text).ok()
 }
 
+/// So many events, and a history.
 fn history_text(alloc: Global, events: usize, history: &[Op]) -> Option<Vec<u8>> {
     let mut text = Vec::new(alloc);
     write!(&mut text, "{events} events").ok()?;
@@ -35,17 +39,18 @@ fn history_text(alloc: Global, events: usize, history: &[Op]) -> Option<Vec<u8>>
     Some(text)
 }
 
+/// What the run of a plan comes to. None: memory was refused.
 fn run_text(alloc: Global, plan: &Plan) -> Option<Vec<u8>> {
     match run_serial(alloc, plan) {
         Ok((world, history)) => history_text(alloc, world.journal().len(), &history),
         Err(RunError::OutOfMemory | RunError::World(WorldError::OutOfMemory)) => None,
-        Err(error) => words(alloc, error),
+        Err(error) => words(alloc, &error),
     }
 }
 
-/// What the run of settings tells. None: memory was refused.
-pub(crate) fn told_once(alloc: Global, settings: &str) -> Option<Vec<u8>> {
-    match plan_of(alloc, &value(alloc, settings)?)? {
+/// What the run of settings comes to. None: memory was refused.
+pub(crate) fn run_answer(alloc: Global, settings: &str) -> Option<Vec<u8>> {
+    match plan_of(alloc, settings) {
         Ok(plan) => run_text(alloc, &plan),
         Err(error) => refusal(alloc, error),
     }
@@ -53,12 +58,10 @@ pub(crate) fn told_once(alloc: Global, settings: &str) -> Option<Vec<u8>> {
 
 /// The words of a plan's refusal. None: memory was refused.
 pub(crate) fn refusal(alloc: Global, error: PlanError) -> Option<Vec<u8>> {
-    if error == PlanError::OutOfMemory {
-        return None;
+    match error {
+        PlanError::OutOfMemory => None,
+        error => words(alloc, &error),
     }
-    let mut text = Vec::new(alloc);
-    write!(&mut text, "{error}").ok()?;
-    Some(text)
 }
 
 const RUNS: &str = r#"
@@ -189,6 +192,6 @@ const RUNS: &str = r#"
 "#;
 
 #[test]
-fn runs_tell_their_histories(rt: HostRuntime) {
-    assert_eq!(rt; first_wrong(rt.alloc(), Kind::Run, RUNS), None);
+fn runs_tell_their_histories(rt: HostRuntime) -> Result<(), Fail> {
+    ask_all(rt.alloc(), Kind::Run, RUNS)
 }

@@ -1,6 +1,7 @@
 //! What each store does on each request. `worlds` says what a row of acts is.
 
-use crate::rows::{Kind, first_wrong};
+use crate::rows::{Kind, ask_all};
+use std::test::Fail;
 
 const ACTS: &str = r#"
 ; a set of two nodes: adds at both, and a read is ascending
@@ -62,6 +63,6 @@ const ACTS: &str = r#"
 "#;
 
 #[test]
-fn stores_keep_their_rules(rt: HostRuntime) {
-    assert_eq!(rt; first_wrong(rt.alloc(), Kind::Acts, ACTS), None);
+fn stores_keep_their_rules(rt: HostRuntime) -> Result<(), Fail> {
+    ask_all(rt.alloc(), Kind::Acts, ACTS)
 }

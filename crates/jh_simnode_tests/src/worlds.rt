@@ -4,8 +4,8 @@
 //! node, a request, and a draw where it is not 0; or `:replicas`, which tells what each node holds. What comes of each act stands behind the arrow, with `; ` between. An
 //! act whose memory was refused is taken once more.
 
-use crate::fixtures::{value, values, word, world_of};
-use crate::rows::{Kind, first_wrong};
+use crate::fixtures::{keyword_name, value, values, world_of};
+use crate::rows::{Kind, ask_all};
 use jh_edn::Value;
 use jh_env::Node;
 use jh_nemesis::StepAnswer;
@@ -54,19 +54,19 @@ const ACTS: &str = r#"
 "#;
 
 #[test]
-fn worlds_keep_their_faults(rt: HostRuntime) {
-    assert_eq!(rt; first_wrong(rt.alloc(), Kind::Acts, ACTS), None);
+fn worlds_keep_their_faults(rt: HostRuntime) -> Result<(), Fail> {
+    ask_all(rt.alloc(), Kind::Acts, ACTS)
 }
 
 fn request_of(value: &Value) -> Option<Request> {
     let Some(parts) = value.elements() else {
-        return match word(value) {
+        return match keyword_name(value) {
             "read" => Some(Request::Read),
             _ => Some(Request::Generate),
         };
     };
     match parts {
-        [name, Value::Int(value)] if word(name) == "write" => Some(Request::Write(*value)),
+        [name, Value::Int(value)] if keyword_name(name) == "write" => Some(Request::Write(*value)),
         [_, Value::Int(amount)] => Some(Request::Add(*amount)),
         [_, Value::Int(old), Value::Int(new)] => Some(Request::Cas(*old, *new)),
         _ => None,
@@ -177,7 +177,7 @@ fn put_replicas(world: &World, text: &mut Vec<u8>) -> Option<Option<u64>> {
 
 fn act(alloc: Global, world: &mut World, text: &mut Vec<u8>, act: &Value) -> Option<Option<u64>> {
     match act.elements() {
-        None if word(act) == "replicas" => put_replicas(world, text),
+        None if keyword_name(act) == "replicas" => put_replicas(world, text),
         None => tick(world, text),
         Some([Value::Int(_), ..]) => call(world, text, act.elements()?),
         Some(_) => step(alloc, world, text, act),
@@ -192,31 +192,42 @@ fn is_next(world: &World, before: usize, number: Option<u64>) -> bool {
     }
 }
 
-/// What comes of the acts. None: memory was refused, or an event has another number than is its turn.
-pub(crate) fn told_once(alloc: Global, text: &str) -> Option<Vec<u8>> {
-    let values = values(alloc, text)?;
-    let (settings, acts) = values.as_slice().split_first()?;
-    let mut world = world_of(alloc, settings)?;
-    let mut told = Vec::new(alloc);
-    for value in acts {
-        if !told.is_empty() {
-            write!(&mut told, "; ").ok()?;
-        }
-        let before = world.journal().len();
-        let number = act(alloc, &mut world, &mut told, value)?;
-        if !is_next(&world, before, number) {
-            return None;
-        }
-    }
-    Some(told)
+/// Does an act, and writes what comes of it behind a text. None: memory was refused, or the event has another number than
+/// is its turn.
+fn perform(alloc: Global, world: &mut World, text: &mut Vec<u8>, value: &Value) -> Option<()> {
+    let before = world.journal().len();
+    let number = act(alloc, world, text, value)?;
+    is_next(world, before, number).then_some(())
 }
 
+/// What comes of acts in a world, with `; ` between.
+fn acts_text(alloc: Global, world: &mut World, acts: &[Value]) -> Option<Vec<u8>> {
+    let mut text = Vec::new(alloc);
+    for act in acts {
+        if !text.is_empty() {
+            text.extend_from_slice(b"; ").ok()?;
+        }
+        perform(alloc, world, &mut text, act)?;
+    }
+    Some(text)
+}
+
+/// What comes of the acts of a row. None: memory was refused, or an event has another number than is its turn.
+pub(crate) fn answers_text(alloc: Global, text: &str) -> Option<Vec<u8>> {
+    let values = values(alloc, text)?;
+    let (settings, acts) = values.as_slice().split_first()?;
+    acts_text(alloc, &mut world_of(alloc, settings)?, acts)
+}
+
+/// The world of one node.
 fn one_node(alloc: Global) -> Option<World> {
     world_of(alloc, &value(alloc, r#"{:start {:nodes ["n1"]}}"#)?)
 }
 
-fn two_nodes(alloc: Global) -> Option<World> {
-    world_of(alloc, &value(alloc, r#"{:start {:nodes ["n1" "n2"]}}"#)?)
+/// The second node of a world of two.
+fn second_node(alloc: Global) -> Option<Node> {
+    let two = value(alloc, r#"{:start {:nodes ["n1" "n2"]}}"#)?;
+    world_of(alloc, &two)?.nemesis().env().nodes().at(1)
 }
 
 /// Whether a world ticks so many times.
@@ -229,26 +240,37 @@ fn has_ticked(world: &mut World, times: usize) -> bool {
     true
 }
 
+/// Why a world refuses one event more than the most, and how many it has then.
+fn full_once(alloc: Global) -> Option<(Option<WorldError>, usize)> {
+    let mut world = one_node(alloc)?;
+    if !has_ticked(&mut world, MAX_EVENTS) {
+        return None;
+    }
+    Some((world.tick().err(), world.journal().len()))
+}
+
 #[test]
-fn a_world_holds_so_many_events(rt: HostRuntime) -> Result<(), Fail> {
-    let world = one_node(rt.alloc()).or_else(|| one_node(rt.alloc()));
-    let mut world = world.ok_or("no world")?;
-    assert!(rt; has_ticked(&mut world, MAX_EVENTS));
-    assert_eq!(rt; world.tick(), Err(WorldError::TooManyEvents));
-    assert_eq!(rt; world.journal().len(), 65_536);
-    Ok(())
+fn a_world_holds_so_many_events(rt: HostRuntime) {
+    let full = match full_once(rt.alloc()) {
+        None => full_once(rt.alloc()),
+        full => full,
+    };
+    assert_eq!(rt; full, Some((Some(WorldError::TooManyEvents), 65_536)));
 }
 
 /// Why one node's world refuses the second node of another, and how many events it has then.
 fn stranger_once(alloc: Global) -> Option<(Option<WorldError>, usize)> {
-    let (mut world, others) = (one_node(alloc)?, two_nodes(alloc)?);
-    let stranger = others.nemesis().env().nodes().at(1)?;
+    let stranger = second_node(alloc)?;
+    let mut world = one_node(alloc)?;
     let refusal = called(&mut world, stranger, Request::Read, 0).err();
     Some((refusal, world.journal().len()))
 }
 
 #[test]
 fn a_world_knows_its_nodes_alone(rt: HostRuntime) {
-    let told = stranger_once(rt.alloc()).or_else(|| stranger_once(rt.alloc()));
-    assert_eq!(rt; told, Some((Some(WorldError::UnknownNode), 0)));
+    let refusal = match stranger_once(rt.alloc()) {
+        None => stranger_once(rt.alloc()),
+        refusal => refusal,
+    };
+    assert_eq!(rt; refusal, Some((Some(WorldError::UnknownNode), 0)));
 }
