@@ -177,14 +177,17 @@ impl Port for Gate {
     }
 }
 
-/// How many operations and events a run through the gate has, or its error. None: memory was refused.
-fn told_once<R: Threads + Wait + Sync>(
+/// How many operations and events a run through the gate has, or its error.
+type Counts = Result<(usize, usize), RunError>;
+
+/// What a run through the gate comes to. None: memory was refused.
+fn counts_once<R: Threads + Wait + Sync>(
     rt: &R,
     alloc: Global,
     settings: &str,
     holds: u32,
     refused: Refused,
-) -> Option<Result<(usize, usize), RunError>> {
+) -> Option<Counts> {
     let plan = plan_of(alloc, settings)?;
     match run(rt, alloc, &plan, &Gate::new(alloc, holds, refused)) {
         Ok(outcome) => Some(Ok((outcome.history.len(), outcome.journal.len()))),
@@ -193,18 +196,20 @@ fn told_once<R: Threads + Wait + Sync>(
     }
 }
 
-/// The same, once more where memory was refused.
-fn told<R: Threads + Wait + Sync>(
+/// Whether a run through the gate comes to this. It is made once more where memory was refused.
+fn are_counts<R: Threads + Wait + Sync>(
     rt: &R,
     alloc: Global,
     settings: &str,
     holds: u32,
     refused: Refused,
-) -> Option<Result<(usize, usize), RunError>> {
-    match told_once(rt, alloc, settings, holds, refused) {
-        None => told_once(rt, alloc, settings, holds, refused),
-        told => told,
-    }
+    wanted: Counts,
+) -> bool {
+    let counts = match counts_once(rt, alloc, settings, holds, refused) {
+        None => counts_once(rt, alloc, settings, holds, refused),
+        counts => counts,
+    };
+    counts == Some(wanted)
 }
 
 const TWO_READS: &str = r#"
@@ -218,10 +223,8 @@ generator = '[:forever :read]'
 
 #[test]
 fn threads_call_at_once(rt: HostRuntime) {
-    assert_eq!(rt;
-        told(&rt, rt.alloc(), TWO_READS, 1, Refused::Nothing),
-        Some(Ok((4, 2)))
-    );
+    let refused = Refused::Nothing;
+    assert!(rt; are_counts(&rt, rt.alloc(), TWO_READS, 1, refused, Ok((4, 2))));
 }
 
 const A_READ_AND_TWO: &str = r#"
@@ -236,10 +239,8 @@ generator = '[:phases [:once :read] [:limit 2 [:forever :read]]]'
 /// The thread that gets nothing while the first phase lasts makes one of the two calls that come at once.
 #[test]
 fn a_thread_waits_for_a_phase(rt: HostRuntime) {
-    assert_eq!(rt;
-        told(&rt, rt.alloc(), A_READ_AND_TWO, 2, Refused::Nothing),
-        Some(Ok((6, 3)))
-    );
+    let refused = Refused::Nothing;
+    assert!(rt; are_counts(&rt, rt.alloc(), A_READ_AND_TWO, 2, refused, Ok((6, 3))));
 }
 
 const A_READ_AND_A_STEP: &str = r#"
@@ -253,17 +254,21 @@ generator = '[:forever :read]'
 schedule = ['[0 [:withdraw-all]]']
 "#;
 
+/// Whether a run with a step and ticks comes to this where so much is refused.
+fn is_ended<R: Threads + Wait + Sync>(
+    rt: &R,
+    alloc: Global,
+    refused: Refused,
+    wanted: Counts,
+) -> bool {
+    are_counts(rt, alloc, A_READ_AND_A_STEP, 0, refused, wanted)
+}
+
 #[test]
 fn a_refusal_ends_a_run(rt: HostRuntime) {
-    let refusal = RunError::World(WorldError::TooManyEvents);
-    for refused in [Refused::Calls, Refused::Steps, Refused::Ticks] {
-        assert_eq!(rt;
-            told(&rt, rt.alloc(), A_READ_AND_A_STEP, 0, refused),
-            Some(Err(refusal))
-        );
-    }
-    assert_eq!(rt;
-        told(&rt, rt.alloc(), A_READ_AND_A_STEP, 0, Refused::Nothing),
-        Some(Ok((4, 3)))
-    );
+    let refusal = Err(RunError::World(WorldError::TooManyEvents));
+    assert!(rt; is_ended(&rt, rt.alloc(), Refused::Calls, refusal));
+    assert!(rt; is_ended(&rt, rt.alloc(), Refused::Steps, refusal));
+    assert!(rt; is_ended(&rt, rt.alloc(), Refused::Ticks, refusal));
+    assert!(rt; is_ended(&rt, rt.alloc(), Refused::Nothing, Ok((4, 3))));
 }

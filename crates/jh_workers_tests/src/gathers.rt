@@ -93,24 +93,27 @@ fn one_record_once(alloc: Global) -> Option<String> {
     let Ok(claim) = slots.claim(&mut one, 1) else {
         return None;
     };
-    let told = gathered(alloc, &slots, &mut other, 4);
+    let text = gathered(alloc, &slots, &mut other, 4);
     slots.void(&mut one, claim);
-    told
+    text
+}
+
+/// Whether this text was gathered.
+fn is_text(text: &Option<String>, wanted: &str) -> bool {
+    match text {
+        Some(text) => text.as_str() == wanted,
+        None => false,
+    }
 }
 
 #[test]
 fn a_record_is_gathered(rt: HostRuntime) {
-    let told = match one_record_once(rt.alloc()) {
+    let text = match one_record_once(rt.alloc()) {
         None => one_record_once(rt.alloc()),
-        told => told,
+        text => text,
     };
-    let Some(told) = told else {
-        panic!(rt; "no text")
-    };
-    assert_eq!(rt;
-        told.as_str(),
-        "{:index 0, :type :ok, :process 2, :f :cas, :value [0 -1], :event 7}\n"
-    );
+    let wanted = "{:index 0, :type :ok, :process 2, :f :cas, :value [0 -1], :event 7}\n";
+    assert!(rt; is_text(&text, wanted));
 }
 
 /// What is gathered from the first rows, of which one is void and two have words of no operation.
@@ -123,18 +126,20 @@ fn bad_words_once(alloc: Global, rows: usize) -> Option<String> {
     gathered(alloc, &slots, &mut other, rows)
 }
 
+/// Whether this is gathered from so many of those rows. It is asked once more where memory was refused.
+fn is_refusal(alloc: Global, rows: usize, wanted: &str) -> bool {
+    let text = match bad_words_once(alloc, rows) {
+        None => bad_words_once(alloc, rows),
+        text => text,
+    };
+    is_text(&text, wanted)
+}
+
 #[test]
 fn words_of_no_operation_are_refused(rt: HostRuntime) {
-    for (rows, wanted) in [(1, ""), (2, "row 1: bad words"), (9, "row 1: bad words")] {
-        let told = match bad_words_once(rt.alloc(), rows) {
-            None => bad_words_once(rt.alloc(), rows),
-            told => told,
-        };
-        let Some(told) = told else {
-            panic!(rt; "no text")
-        };
-        assert_eq!(rt; told.as_str(), wanted);
-    }
+    assert!(rt; is_refusal(rt.alloc(), 1, ""));
+    assert!(rt; is_refusal(rt.alloc(), 2, "row 1: bad words"));
+    assert!(rt; is_refusal(rt.alloc(), 9, "row 1: bad words"));
 }
 
 /// Publishes a write. Tells whether that was possible.
@@ -224,16 +229,22 @@ fn has_all(text: &str) -> bool {
         )
 }
 
+/// Whether a seat gathered the history of the four writes, and once more the same, and so did the seat that all are joined
+/// to.
+fn are_alike(texts: &Option<[String; 3]>) -> bool {
+    match texts {
+        Some([read, again, joined]) => has_all(read)
+            && again.as_str() == read.as_str()
+            && joined.as_str() == read.as_str(),
+        None => false,
+    }
+}
+
 #[test]
 fn seats_read_alike_what_threads_published(rt: HostRuntime) {
-    let told = match three_once(&rt, rt.alloc()) {
+    let texts = match three_once(&rt, rt.alloc()) {
         None => three_once(&rt, rt.alloc()),
-        told => told,
+        texts => texts,
     };
-    let Some([read, again, joined]) = told else {
-        panic!(rt; "no texts")
-    };
-    assert!(rt; has_all(read.as_str()), "{read}");
-    assert_eq!(rt; again.as_str(), read.as_str());
-    assert_eq!(rt; joined.as_str(), read.as_str());
+    assert!(rt; are_alike(&texts));
 }

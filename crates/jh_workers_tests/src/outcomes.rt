@@ -6,7 +6,7 @@
 //! come to the value of the last operation.
 
 use crate::journals;
-use crate::rows::{Kind, first_wrong};
+use crate::rows::{Kind, ask_all};
 use crate::runs::{Finished, may_lack_memory, plan_of, ran, replayed};
 use crate::texts::journal_text;
 use jh_edn::write;
@@ -16,6 +16,7 @@ use jh_simnode::{Event, Plan, nemesis_after};
 use jh_workers::{RunError, audit, follows_plan};
 use std::alloc::Global;
 use std::sync::Wait;
+use std::test::Fail;
 use std::thread::Threads;
 
 fn is_nemesis(op: &Op) -> bool {
@@ -103,7 +104,7 @@ fn value_text(alloc: Global, history: &[Op]) -> Option<String> {
 }
 
 /// What the run of settings comes to. None: memory was refused.
-pub(crate) fn told_once<R: Threads + Wait + Sync>(
+pub(crate) fn answer_once<R: Threads + Wait + Sync>(
     rt: &R,
     alloc: Global,
     kind: Kind,
@@ -171,8 +172,8 @@ schedule = ['[0 [:begin 1 [:cut []]]]', '[10000 [:withdraw 1]]']
 "#;
 
 #[test]
-fn runs_have_outcomes(rt: HostRuntime) {
-    assert_eq!(rt; first_wrong(&rt, rt.alloc(), Kind::Outcome, OUTCOMES), None);
+fn runs_have_outcomes(rt: HostRuntime) -> Result<(), Fail> {
+    ask_all(&rt, rt.alloc(), Kind::Outcome, OUTCOMES)
 }
 
 const SETS: &str = r#"
@@ -196,8 +197,8 @@ generator = '[:phases [:limit 9 [:rising 0]] [:once :read]]'
 "#;
 
 #[test]
-fn a_set_is_read_whole(rt: HostRuntime) {
-    assert_eq!(rt; first_wrong(&rt, rt.alloc(), Kind::LastValue, SETS), None);
+fn a_set_is_read_whole(rt: HostRuntime) -> Result<(), Fail> {
+    ask_all(&rt, rt.alloc(), Kind::LastValue, SETS)
 }
 
 const MIXED: &str = r#"

@@ -1,9 +1,10 @@
 //! Rows of a table, which is one text: `§` stands between two rows. A row is settings, an arrow, and what their run comes
 //! to. White space around both is no part of them.
 
-use crate::outcomes::told_once;
+use crate::outcomes::answer_once;
 use std::alloc::Global;
 use std::sync::Wait;
+use std::test::Fail;
 use std::thread::Threads;
 
 /// What settings come to.
@@ -15,6 +16,7 @@ pub(crate) enum Kind {
     LastValue,
 }
 
+/// Whether settings come to this. They are run once more where memory was refused.
 fn is_right<R: Threads + Wait + Sync>(
     rt: &R,
     alloc: Global,
@@ -22,28 +24,28 @@ fn is_right<R: Threads + Wait + Sync>(
     settings: &str,
     wanted: &str,
 ) -> bool {
-    let told = match told_once(rt, alloc, kind, settings) {
-        None => told_once(rt, alloc, kind, settings),
-        told => told,
+    let answer = match answer_once(rt, alloc, kind, settings) {
+        None => answer_once(rt, alloc, kind, settings),
+        answer => answer,
     };
-    match told {
-        Some(told) => told.as_str() == wanted,
+    match answer {
+        Some(answer) => answer.as_str() == wanted,
         None => false,
     }
 }
 
-/// The first row that comes to something else.
-pub(crate) fn first_wrong<'a, R: Threads + Wait + Sync>(
+/// Asks each row. One that comes to something else is the failure.
+pub(crate) fn ask_all<R: Threads + Wait + Sync>(
     rt: &R,
     alloc: Global,
     kind: Kind,
-    rows: &'a str,
-) -> Option<&'a str> {
+    rows: &str,
+) -> Result<(), Fail> {
     for row in rows.split('§') {
         let (settings, wanted) = row.split_once('→').unwrap_or((row, ""));
         if !is_right(rt, alloc, kind, settings, wanted.trim()) {
-            return Some(row);
+            return Err(Fail::new(row));
         }
     }
-    None
+    Ok(())
 }
