@@ -37,7 +37,7 @@ initial_rule =
 abbrev pub index : Text → Rule
 index name = record (option name) { parser = Some (Unsigned 0 18446744073709551615) }
 
--- a number that a parser reads, and this where nothing is said
+-- a number that a parser reads, and this where it is not given
 abbrev pub number_rule : Text → ValueParser → Text → Rule
 number_rule name parser default =
     record (option name) { parser = Some parser; defaults = default ∷ [] }

@@ -55,14 +55,14 @@ request_asked name value =
     else if bytes_eq name (codes "generate") then (if is_nil value then Some Generate else None)
     else None
 
--- the request of this name that was done, where this value is told of it
+-- the request of this name that was done, where its completion may have this value
 abbrev pub request_done : List ℕ → Edn → Option Request
 request_done name value =
     if bytes_eq name (codes "read") then (if is_read_value value then Some Read else None)
     else if bytes_eq name (codes "generate") then (if is_one value then Some Generate else None)
     else request_asked name value
 
--- the request that a client's completion tells
+-- the request of a client's completion
 abbrev pub completed_request : Kind → List ℕ → Edn → Option Request
 completed_request Kind.Invoke name value = None
 completed_request Kind.Ok name value = request_done name value

@@ -28,7 +28,7 @@ is_answered_step op = not (is_client op.process) && is_vector op.value
 abbrev pub steps_below : List Operation → ℕ → ℕ
 steps_below history place = count_by is_answered_step (take place history)
 
--- the operation at a place tells that this entry of the schedule has ended, by an event of its step
+-- the operation at a place says that this entry of the schedule has ended, by an event of its step
 abbrev pub EndsEntry : List Entry → List Event → ℕ → Operation → ℕ → Type 0
 EndsEntry schedule journal place op entry =
     (number : ℕ) × (due : Entry) × (answer : StepAnswer)
@@ -36,7 +36,7 @@ EndsEntry schedule journal place op entry =
     × (slice_get schedule entry ≡ Some due)
     × (slice_get journal number ≡ Some (Event.Step due.step answer))
 
--- the operation at a place of a history tells so
+-- the operation at a place of a history says so
 abbrev pub EndsEntryAt : List Entry → List Event → List Operation → ℕ → ℕ → Type 0
 EndsEntryAt schedule journal history place entry =
     (op : Operation) × (slice_get history place ≡ Some op)

@@ -1,4 +1,4 @@
--- Which value tells a reply, as the code compares them; `Audit` has the rule.
+-- Which value a reply has, as the code compares them; `Audit` has the rule.
 use Rattle.std.specs.Prelude.{◌&&◌, Bool, true, false, ℤ, List, [], ◌∷◌, Some, None}
 use Rattle.std.specs.Ordering.{int_eq}
 use Rattle.jh_edn.specs.Edn.{Edn, int, vector, list_of}
@@ -34,7 +34,7 @@ is_asked_value (Cas a b) value = is_numbers (a ∷ b ∷ []) value
 is_asked_value (Add v) value = is_number v value
 is_asked_value Generate value = is_nil value
 
--- it is the value that is told of a request that was done
+-- it is the value in the completion of a request that was done
 abbrev pub is_got : Request → Got → Edn → Bool
 is_got request Got.Nothing value = is_asked_value request value
 is_got request (Got.One None) value = is_nil value

@@ -70,7 +70,7 @@ IsHistoryText question history verdict output =
     × IsJudgementBy question.independent (check_judging question) history verdict text
     × (output ≡ line text)
 
--- for values that tell a history
+-- for values that mean a history
 abbrev pub IsCheckText : Question → List Edn → Verdict → List ℕ → Type 0
 IsCheckText question values verdict output =
     (history : List Operation) × AreParsed values history

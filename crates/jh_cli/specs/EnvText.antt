@@ -41,7 +41,7 @@ active_line active = line (codes ":active " ++ print (ids_of active))
 abbrev pub environment_line : EnvValue → List ℕ
 environment_line env = line (print (text_of env))
 
--- these values tell an environment at its start, and then these steps over its nodes
+-- these values mean an environment at its start, and then these steps over its nodes
 pub record IsEnvWithSteps (values : List Edn) (env : EnvValue) (steps : List Step) : Type 0 where
   pub first : Edn
   pub others : List Edn

@@ -24,7 +24,7 @@ use Rattle.jh_cli.specs.declared.error.CliError.TheVariants.{OutOfMemory}
 abbrev pub first_step : ℕ
 first_step = 2
 
--- The value at this place among steps is the first that tells none, and this is its error.
+-- The value at this place among steps is the first that means none, and this is its error.
 pub record HasStepError (names : List (List ℕ)) (values : List Edn) (place : ℕ)
     (error : StepTextError) : Type 0 where
   pub before : List Edn

@@ -74,7 +74,7 @@ abbrev pub IsRunText : PlanValue → Mode → ℕ → Verdict → List ℕ → T
 IsRunText p Mode.Serial budget verdict output = IsSerialText p budget verdict output
 IsRunText p Mode.Threads budget verdict output = IsThreadsText p budget verdict output
 
--- for bytes: the plan, the mode and the budget are those that they tell
+-- for bytes: the plan, the mode and the budget are those that they mean
 abbrev pub IsBytesText : List ℕ → Verdict → List ℕ → Type 0
 IsBytesText input verdict output =
     (p : PlanValue) × (mode : Mode) × (budget : ℕ) × AreSettingsOf input p mode budget

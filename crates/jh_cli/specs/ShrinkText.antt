@@ -1,5 +1,5 @@
--- What `jeprun shrink` writes (this project's own): a word that says what is left of the schedule
--- of a run, and a line for each entry that is left, as the settings of a run have it.
+-- What `jeprun shrink` writes (this project's own): a keyword that says what is left of the
+-- schedule of a run, and a line for each entry that is left, as the settings of a run have it.
 use Rattle.std.specs.Prelude.{◌≡◌, ℕ, pos, Bool, true, false, List, [], ◌∷◌, ◌++◌, codes, Option}
 use Rattle.std.specs.Prelude.{IfSome}
 use Rattle.std.specs.List.{flat_map}
@@ -75,8 +75,8 @@ abbrev pub IsShrinkText : PlanValue → ℕ → Shrunk → List ℕ → Type 0
 IsShrinkText p budget shrunk output =
     IsShrunk (RunAnswers p budget) p.schedule shrunk × (output ≡ shrunk_lines p.env.names shrunk)
 
--- for an input, with the exit status: the plan and the budget are those that it tells, and its mode
--- means nothing
+-- for an input, with the exit status: the plan and the budget are those that it means, and its
+-- mode does not matter
 abbrev pub IsShrinkTextOf : List ℕ → ℕ → List ℕ → Type 0
 IsShrinkTextOf input status output =
     (p : PlanValue) × (mode : Mode) × (budget : ℕ) × (shrunk : Shrunk)

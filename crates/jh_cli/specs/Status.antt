@@ -36,7 +36,7 @@ error_status Read = 4
 error_status Write = 4
 error_status OutOfMemory = 4
 
--- The text of an error that is the commands' own. All others tell an error of a crate below, whose
+-- The text of an error that is the commands' own. All others are errors of a crate below, whose
 -- text no clause knows.
 abbrev pub own_text : CliError → Option (List ℕ)
 own_text EnvironmentMissing = Some (codes "environment missing")

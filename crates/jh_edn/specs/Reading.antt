@@ -242,7 +242,7 @@ set_or_error xs after =
     else Ok (set (items_of xs), after)
 
 -- Reading one bracket, tag or discard deeper: the elements up to a closing bracket, or one element.
--- Both are told the text from the bracket, tag or discard on, where TooDeep stands, and then what
+-- Both are given the text from the bracket, tag or discard on, where TooDeep stands, and then what
 -- stands behind it.
 pub record DeeperReads : Type 0 where
   pub elements : ℕ → List ℕ → Read (List Edn)

@@ -18,7 +18,7 @@ infixl 10 ◌>>=◌
 abbrev pub ◌>>=◌ : {A B : Type 0} → Option A → (A → Option B) → Option B
 o >>= f = option_and_then f o
 
--- an entry: the names of a link's ends, or of a node, and what is said of it
+-- an entry: the names of a link's ends, or of a node, and what is written of it
 pub data Entry : Type 0 where
   OfLink : List ℕ → List ℕ → LinkChange → Entry
   OfNode : List ℕ → NodeChange → Entry

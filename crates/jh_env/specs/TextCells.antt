@@ -1,4 +1,4 @@
--- What the text of an environment says of each link and node (this project's own).
+-- What the text of an environment means for each link and node (this project's own).
 use Rattle.std.specs.Prelude.{◌≡◌, ℕ, ◌==◌, ◌&&◌, Bool, true, false, not, nat_abs, List, length}
 use Rattle.std.specs.Prelude.{if◌then◌else◌, nat_lt, fold, Option, Some, None}
 use Rattle.jh_edn.specs.Edn.{Edn}
@@ -12,13 +12,13 @@ use Rattle.jh_env.specs.Names.{AreNodeNames, AreFew}
 use Rattle.jh_env.specs.Text.{Entry, OfLink, OfNode, Shape}
 use Rattle.jh_env.specs.TextErrors.{place_of, AreSound, HasShape}
 
--- the link with what is said of it
+-- the link with this change
 abbrev pub link_with : LinkChange → Link → Link
 link_with LinkChange.Cut link = record link { cut = true }
 link_with (LinkChange.Delay ms) link = record link { delay = nat_abs ms }
 link_with (LinkChange.Loss level) link = record link { loss = nat_abs level }
 
--- the node with what is said of it
+-- the node with this change
 abbrev pub node_with : NodeChange → NodeCell → NodeCell
 node_with NodeChange.Pause node = record node { process = Paused }
 node_with NodeChange.Kill node = record node { process = Killed }
@@ -42,7 +42,7 @@ node_after names a cell (OfLink from to says) = cell
 node_after names a cell (OfNode node says) =
     if is_place (place_of names node) a then node_with says cell else cell
 
--- the cells are those that the entries tell: what no entry mentions is calm, and runs
+-- the cells are those that the entries mean: what no entry mentions is calm, and runs
 pub record AreCellsOf (names : List (List ℕ)) (entries : List Entry) (cells : Table) : Type 0 where
   pub links : (a b : ℕ) → link_at cells a b
       ≡ (if nat_lt a (length names) && (nat_lt b (length names) && not (a == b))
@@ -53,7 +53,7 @@ pub record AreCellsOf (names : List (List ℕ)) (entries : List Entry) (cells : 
       else None)
 
 -- the text is of a good shape, has good names and no entry in error, and these are its names and
--- the cells that it tells
+-- its cells
 abbrev pub IsTextOf : Edn → List (List ℕ) → Table → Type 0
 IsTextOf value names cells =
     (shape : Shape) × HasShape value shape × (shape.names ≡ names) × AreFew names

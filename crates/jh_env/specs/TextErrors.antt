@@ -40,20 +40,18 @@ links_itself (OfNode node says) = false
 abbrev pub is_within : ℤ → ℤ → ℤ → Bool
 is_within least most z = int_le least z && int_le z most
 
--- what is said of a link is in its range: a delay of 0 to 60,000 milliseconds, a level of loss of 0
--- to 20
+-- a link's change is in its range: a delay of 0 to 60,000 milliseconds, a level of loss of 0 to 20
 abbrev pub is_link_amount : LinkChange → Bool
 is_link_amount LinkChange.Cut = true
 is_link_amount (LinkChange.Delay ms) = is_within (pos 0) (pos 60000) ms
 is_link_amount (LinkChange.Loss level) = is_within (pos 0) (pos 20) level
 
--- what is said of a node is in its range: a clock that is off by at most 10^12 milliseconds either
--- way
+-- a node's change is in its range: a clock that is off by at most 10^12 milliseconds either way
 abbrev pub is_node_amount : NodeChange → Bool
 is_node_amount (NodeChange.Clock ms) = is_within (negsuc (10 ^ 12 - 1)) (pos (10 ^ 12)) ms
 is_node_amount _ = true
 
--- what an entry says is in its range
+-- the change of an entry is in its range
 abbrev pub is_amount : Entry → Bool
 is_amount (OfLink from to says) = is_link_amount says
 is_amount (OfNode node says) = is_node_amount says

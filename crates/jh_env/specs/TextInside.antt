@@ -40,13 +40,13 @@ nodes_error NodesError.BadName = BadName
 nodes_error NodesError.DuplicateName = DuplicateName
 nodes_error NodesError.OutOfMemory = OutOfMemory
 
--- why values are refused by their shape: there is nothing that they tell, or memory is refused
+-- why values are refused by their shape: they mean nothing, or memory is refused
 abbrev pub RefusesShape : {A : Type 0} → Option A → EnvTextError → Type 0
 RefusesShape parsed BadEntry = parsed ≡ None
 RefusesShape parsed OutOfMemory = ⊤
 RefusesShape parsed _ = ⊥
 
--- a link can hold what is said of it: a delay is a natural number, a level of loss a byte
+-- a link can hold this change: a delay is a natural number, a level of loss a byte
 abbrev pub fits_link : LinkChange → Bool
 fits_link LinkChange.Cut = true
 fits_link (LinkChange.Delay ms) = int_le (pos 0) ms

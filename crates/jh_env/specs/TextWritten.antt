@@ -16,7 +16,7 @@ use Rattle.jh_env.specs.declared.texts.entries.NodeChange.{NodeChange}
 use Rattle.jh_env.specs.Overlay.{EnvValue, link_of, node_of}
 use Rattle.jh_env.specs.Text.{◌>>=◌, Entry, OfLink, OfNode, keyword_of, nodes_keyword, sections}
 
--- what a link is said to be under a key, if anything
+-- what is written of a link under a key, if anything
 abbrev pub link_change : Section → Link → Option LinkChange
 link_change Section.Cut link = if link.cut then Some LinkChange.Cut else None
 link_change Section.Slow link =
@@ -25,7 +25,7 @@ link_change Section.Loss link =
     if nat_lt 0 link.loss then Some (LinkChange.Loss (pos link.loss)) else None
 link_change _ link = None
 
--- what a process is said to be, if anything
+-- what is written of a process, if anything
 abbrev pub life_change : Life → Option NodeChange
 life_change Running = None
 life_change Paused = Some NodeChange.Pause
@@ -36,7 +36,7 @@ abbrev pub is_zero : ℤ → Bool
 is_zero (pos n) = n == 0
 is_zero _ = false
 
--- what a node is said to be under a key, if anything
+-- what is written of a node under a key, if anything
 abbrev pub node_change : Section → NodeCell → Option NodeChange
 node_change Section.Down node = life_change node.process
 node_change Section.Clock node =
@@ -71,13 +71,13 @@ entries_written env Section.Clock = filter_map (node_entry env Section.Clock) (p
 entries_written env section =
     flat_map (λ a. filter_map (link_entry env section a) (places env)) (places env)
 
--- the values that spell what is said of a link, after its ends
+-- the values that spell the change of a link, after its ends
 abbrev pub link_amounts : LinkChange → List Edn
 link_amounts LinkChange.Cut = []
 link_amounts (LinkChange.Delay ms) = int ms ∷ []
 link_amounts (LinkChange.Loss level) = int level ∷ []
 
--- the value that spells what is said of a node
+-- the value that spells the change of a node
 abbrev pub node_amount : NodeChange → Edn
 node_amount NodeChange.Pause = keyword (codes "paused")
 node_amount NodeChange.Kill = keyword (codes "killed")

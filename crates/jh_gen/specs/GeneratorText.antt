@@ -57,7 +57,7 @@ parsed_call value = elements_of value >>= call_in
 
 -- Generators.
 
--- a value in a form, and the generator that it tells, if it tells one
+-- a value in a form, and the generator that it means, if it means one
 pub record Operand : Type 0 where
   pub value : Edn
   pub parsed : Option Generator
@@ -133,7 +133,7 @@ generator_of_operands (first ∷ parts) =
     keyword_name first.value >>= (λ name. generator_named name parts)
 
 abbrev mutual
-  -- the generator that a value means, if it tells one
+  -- the generator that a value means, if it means one
   pub parsed_generator : Edn → Option Generator
   parsed_generator (list xs) = generator_of_operands (operands_of xs)
   parsed_generator (vector xs) = generator_of_operands (operands_of xs)
@@ -143,7 +143,7 @@ abbrev mutual
   operands_of no_items = []
   operands_of (item x xs) = record { value = x; parsed = parsed_generator x } ∷ operands_of xs
 
--- Why a value is refused as a generator: it tells none. Memory can be wanted only where it tells
+-- Why a value is refused as a generator: it means none. Memory can be wanted only where it means
 -- one.
 abbrev pub RefusesGenerator : Edn → GenTextError → Type 0
 RefusesGenerator value BadGenerator = parsed_generator value ≡ None

@@ -1,5 +1,5 @@
--- What a generator offers to a thread, and when it is spent (jepsen.generator), told from the calls
--- that it gave.
+-- What a generator offers to a thread, and when it is spent (jepsen.generator), by the calls that
+-- it gave.
 --
 -- Each kind has one line for "spent" and one for "offers". The tally is asked anew each time:
 -- nothing here keeps a count or a cursor. Members are numbered from 0; a member knows of a tally

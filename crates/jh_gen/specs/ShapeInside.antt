@@ -76,12 +76,12 @@ abbrev pub joined_shares : ShareList → ShareList → ShareList
 joined_shares no_shares ms = ms
 joined_shares (share n g rest) ms = share n g (joined_shares rest ms)
 
--- The generators so far, with those that the rest tells, are those that all tell.
+-- The generators so far, with those that the rest means, are those that all mean.
 abbrev pub AreMembersSoFar : Generators → List Edn → List Edn → Type 0
 AreMembersSoFar made rest all =
     parsed_members all ≡ option_map (joined_members made) (parsed_members rest)
 
--- The shares so far, with what the rest tells, are what all tell.
+-- The shares so far, with what the rest means, are what all mean.
 abbrev pub AreSharesSoFar : ShareList → List Edn → List Edn → Type 0
 AreSharesSoFar made rest all =
     parsed_reserve all ≡ option_map (λ r. (joined_shares made r.0, r.1)) (parsed_reserve rest)

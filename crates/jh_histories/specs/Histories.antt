@@ -10,7 +10,7 @@ use Rattle.jh_ops.specs.HistoryText.{AreParsed, RefusesValues}
 use Rattle.jh_ops.specs.Operation.{Operation}
 use Rattle.jh_ops.specs.declared.history.HistoryError.TheVariants.{Op, OutOfMemory}
 
--- The values that the text spells tell these operations.
+-- The values that the text spells mean these operations.
 abbrev pub IsHistoryOf : List ℕ → List Operation → Type 0
 IsHistoryOf text history = (values : List Edn) × SpellsAll values text × AreParsed values history
 

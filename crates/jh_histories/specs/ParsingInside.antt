@@ -45,7 +45,7 @@ abbrev pub IsBegun : List ℕ → ℕ → Parsing → Type 0
 IsBegun text at parsing =
     (values : List Edn) × AreSeveral values × ReadsEach text 0 values at × HasParsed parsing values
 
--- why a value that stands alone tells no history; memory may run out whatever it is
+-- why a value that stands alone means no history; memory may run out whatever it is
 abbrev pub RefusesOne : Edn → HistoryError → Type 0
 RefusesOne value OutOfMemory = Unit {0}
 RefusesOne value (Op place refusal) = RefusesValues (value ∷ []) (Op place refusal)

@@ -1,7 +1,7 @@
--- Why a history of a register is not valid, beside the verdict (Knossos tells the operation at
--- which its search got stuck, and what was pending there; what of it is told is this project's
--- own). Operations of the register go by their numbers, as in orders: their places in the list of
--- them.
+-- Why a history of a register is not valid, beside the verdict (Knossos gives the operation at
+-- which its search got stuck, and what was pending there; what of it is given here is this
+-- project's own). Operations of the register go by their numbers, as in orders: their places in
+-- the list of them.
 use Rattle.std.specs.Prelude.{◌≡◌, ℕ, ◌&&◌, Bool, true, false, not, nat_lt, List, map, filter}
 use Rattle.std.specs.Prelude.{slice_get, Option, Some, None, option_map, IsSomeAnd}
 use Rattle.std.specs.List.{enumerate_from}

@@ -25,7 +25,7 @@ use Rattle.jh_keys.specs.declared.finding.Finding.{Finding}
 use Rattle.jh_keys.specs.declared.finding.Finding.TheVariants.{Set, Counter, Ids, Register}
 use Rattle.jh_keys.specs.declared.finding.Judging.{Judging}
 
--- the operations of a register that a history tells
+-- the operations of a register in a history
 abbrev pub AreCalls : List Operation → List RegOp → Type 0
 AreCalls history calls = IsWellFormed history × AreRegOps history (history_pairs history) calls
 

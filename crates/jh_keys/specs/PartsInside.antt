@@ -27,7 +27,7 @@ no_operation =
 abbrev pub operation_at : List Operation → ℕ → Operation
 operation_at history place = slice_index_or history place no_operation
 
--- what is told of an error of a key's checker
+-- the error that is reported for one of a key's checker
 abbrev pub keys_error_of : List ℕ → CheckError → KeysError
 keys_error_of places (check_errors.Pair error) = Key (check_errors.Pair (pairing_in places error))
 keys_error_of places (check_errors.BadValue place) =

@@ -35,7 +35,7 @@ pub record AreFindings (asked : KeysQuestion) (found : List KeyFinding) : Type 0
 
 -- ---- refusals
 
--- an error, told at the place in the whole history instead of that in the history of a key
+-- an error, reported at the place in the whole history instead of that in the history of a key
 abbrev pub pairing_in : List ℕ → PairError → PairError
 pairing_in places (pairing.AfterCrash place) = pairing.AfterCrash (slice_index_or places place 0)
 pairing_in places (pairing.DoubleInvoke place) =
@@ -51,7 +51,7 @@ check_error_in places (check_errors.NegativeAdd place) =
     check_errors.NegativeAdd (slice_index_or places place 0)
 check_error_in places check_errors.OutOfMemory = check_errors.OutOfMemory
 
--- the history of a key is refused, and this is told
+-- the history of a key is refused, and this is reported
 abbrev pub IsErrorOf : KeysQuestion → Edn → CheckError → Type 0
 IsErrorOf asked key told =
     (inner : CheckError)

@@ -1,6 +1,6 @@
--- What the checkers of unique ids and of sets find (jepsen.checker, `unique-ids` and `set`), told
--- of the values as they stand in a history, and of which of them are equal (EDN's format
--- description, "Equality").
+-- What the checkers of unique ids and of sets find (jepsen.checker, `unique-ids` and `set`), by
+-- the values as they stand in a history, and by which of them are equal (EDN's format description,
+-- "Equality").
 use Rattle.std.specs.Prelude.{◌≡◌, ◌⊎◌, ◌↔◌, ℕ, suc, ◌<◌, List, [], ◌∷◌, map, filter, codes, Some}
 use Rattle.std.specs.Prelude.{All, AllPairs, Any, Contains}
 use Rattle.jh_edn.specs.Edn.{Edn}

@@ -1,7 +1,7 @@
--- The operations of a register that a history tells (Jepsen's register workloads: `:read`, `:write`
--- with a value, and `:cas` with `[old new]`). That a read which did not complete `:ok` tells no
--- value, that a missing completion tells as little as an `:info`, and where a bad value is
--- reported, are this project's own. Places count from 0 in the whole history.
+-- The operations of a register in a history (Jepsen's register workloads: `:read`, `:write` with a
+-- value, and `:cas` with `[old new]`). That a read which did not complete `:ok` gives no value,
+-- that a missing completion means the same as an `:info`, and where a bad value is reported, are
+-- this project's own. Places count from 0 in the whole history.
 use Rattle.std.specs.Prelude.{◌≡◌, ℕ, ◌≤◌, Bool, false, List, [], ◌∷◌, map, codes, if◌then◌else◌}
 use Rattle.std.specs.Prelude.{slice_get, Option, Some, None, IfSome, is_some, unwrap_or, option_map}
 use Rattle.std.specs.Prelude.{option_and_then}
@@ -18,7 +18,7 @@ use Rattle.jh_linear.specs.declared.register.RegCall.{RegCall}
 use Rattle.jh_linear.specs.declared.register.RegCall.TheVariants.{Read, Write, Cas}
 use Rattle.jh_linear.specs.declared.register.RegOp.{RegOp}
 
--- what a read answers: an integer, or nil, which tells no value
+-- what a read answers: an integer, or nil, which is no value
 abbrev pub read_of : Edn → Option RegCall
 read_of nil = Some (Read None)
 read_of (int seen) = Some (Read (Some seen))

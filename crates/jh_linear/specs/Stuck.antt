@@ -1,5 +1,5 @@
 -- Why operations have no order: the first completion with which they have none any more (Knossos
--- tells the operation at which its search got stuck; the definition is this project's own).
+-- gives the operation at which its search got stuck; the definition is this project's own).
 use Rattle.std.specs.Prelude.{◌≡◌, ℕ, ◌+◌, ◌-◌, ◌^◌, ◌≤◌, ℤ, Option, List, map, unwrap_or, nat_lt}
 use Rattle.std.specs.Prelude.{if◌then◌else◌}
 use Rattle.jh_linear.specs.declared.register.Outcome.{Outcome}
@@ -18,7 +18,7 @@ outcome_before_end Done = Unsure
 outcome_before_end Failed = Failed
 outcome_before_end Unsure = Unsure
 
--- What the first so many places of a history tell of an operation: one that is not invoked there
+-- What the first so many places of a history show of an operation: one that is not invoked there
 -- did not happen, and of one that does not end there it is not known whether it did.
 abbrev pub outcome_in : ℕ → RegOp → Outcome
 outcome_in count op =
@@ -29,7 +29,7 @@ outcome_in count op =
 abbrev pub op_in : ℕ → RegOp → RegOp
 op_in count op = record op { outcome = outcome_in count op }
 
--- the operations, as the first so many places of the history tell them
+-- the operations, as the first so many places of the history show them
 abbrev pub ops_before : List RegOp → ℕ → List RegOp
 ops_before ops count = map (op_in count) ops
 

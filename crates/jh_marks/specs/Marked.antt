@@ -67,7 +67,7 @@ place_in order history call =
 abbrev pub placed_note : List ℕ → List Operation → Call → Option Note
 placed_note order history call = option_map Note.Placed (place_in order history call)
 
--- the numbers of what is pending, where that is told
+-- the numbers of what is pending, where that is known
 abbrev pub pending_numbers_in : Option Explanation → List ℕ
 pending_numbers_in explanation = option_map_or (λ told. told.pending.items) explanation []
 
@@ -102,7 +102,7 @@ ids_note duplicated history call =
 
 -- ---- counters
 
--- where the reads that happened are completed, in order: the bounds of reads are told in the same
+-- where the reads that happened are completed, in order: the bounds of reads stand in the same
 abbrev pub read_ends : List Operation → List ℕ
 read_ends history = map end_place (reads_in history (history_pairs history))
 

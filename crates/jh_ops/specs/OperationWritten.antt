@@ -43,7 +43,7 @@ pairs_written op =
 abbrev pub value_written : Operation → Edn
 value_written op = mapping (members_of (pairs_written op))
 
--- an operation that some value tells is parsed again by what is written of it
+-- an operation that is parsed from some value is parsed again from what is written of it
 abbrev pub OperationsReadBack : Type 0
 OperationsReadBack =
     (value : Edn) (op : Operation) → parsed_op value ≡ Ok op → parsed_op (value_written op) ≡ Ok op

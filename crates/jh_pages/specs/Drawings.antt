@@ -107,7 +107,7 @@ drawn_fault section index = fault_text section.window index (section_record sect
 
 -- ---- marks
 
--- what a mark says, at the right end of a bar, and nothing where there is no bar
+-- the text of a mark, at the right end of a bar, and nothing where there is no bar
 abbrev pub mark_text : Window → Note → Option Bar → List ℕ
 mark_text window note None = []
 mark_text window note (Some bar) =

@@ -7,7 +7,7 @@ use Rattle.jh_timeline.specs.declared.marks.Note.TheVariants.{Placed, Stuck, Pen
 use Rattle.jh_timeline.specs.declared.marks.Note.TheVariants.{Recovered, Unexpected, Repeated}
 use Rattle.jh_timeline.specs.declared.marks.Note.TheVariants.{Outside}
 
--- the class of a note in the style, which is its word too
+-- the class of a note in the style, which is its name too
 abbrev pub class_of : Note → List ℕ
 class_of (Placed number) = codes "placed"
 class_of Stuck = codes "stuck"
@@ -19,7 +19,7 @@ class_of Repeated = codes "repeated"
 class_of (Outside lower upper) = codes "outside"
 
 -- what a note says: a number in an order, that it is pending and has one, the bounds of a read, or
--- its word
+-- its name
 abbrev pub note_text : Note → List ℕ
 note_text (Placed number) = decimal number
 note_text (Pending (Some number)) = codes "pending " ++ decimal number

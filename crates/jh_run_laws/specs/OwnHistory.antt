@@ -1,5 +1,5 @@
--- What holds of the history that a serial run tells (this project's own): it is well formed, no
--- checker refuses it, and it is read back from its lines.
+-- What holds of the history of a serial run (this project's own): it is well formed, no checker
+-- refuses it, and it is read back from its lines.
 use Rattle.std.specs.Prelude.{◌≡◌, All, ℕ, ◌%◌, Bool, true, List, [], ◌∷◌, ◌++◌, Some, None}
 use Rattle.jh_ops.specs.declared.call.Call.{Call}
 use Rattle.jh_ops.specs.declared.call.Call.TheVariants.{Client}

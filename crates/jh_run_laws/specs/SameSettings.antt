@@ -7,7 +7,7 @@ use Rattle.jh_simnode.specs.declared.events.Event.{Event}
 use Rattle.jh_simnode.specs.Plans.{PlanValue}
 use Rattle.jh_simnode.specs.Runs.{IsSerialRun}
 
--- Bytes tell one mode and one budget, and whatever plan is made of them, its serial run has one
+-- Bytes mean one mode and one budget, and whatever plan is made of them, its serial run has one
 -- journal and one history.
 abbrev pub SameSettingsGiveSameRun : Type 0
 SameSettingsGiveSameRun =

@@ -46,7 +46,7 @@ abbrev pub AreHistoryAndRest : List ℕ → List Operation → List ℕ → Type
 AreHistoryAndRest text history below =
     (IsHistoryOf text history × (below ≡ [])) ⊎ HasHistoryBefore text history below
 
--- an error that does not come from what the text says: its bytes can't be read, are no UTF-8, or
+-- an error that does not come from what the text holds: its bytes can't be read, are no UTF-8, or
 -- memory runs out
 abbrev pub IsOfBytes : ReadHistoryError → Type 0
 IsOfBytes (Text Utf8) = Unit {0}

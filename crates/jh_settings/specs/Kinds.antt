@@ -1,5 +1,5 @@
--- What the value of a setting may be: a text, a word, a number in a range, an element of EDN (this
--- project's own; the kinds of value are TOML's). A truth value is TOML's.
+-- What the value of a setting may be: a text, a choice, a number in a range, an element of EDN
+-- (this project's own; the kinds of value are TOML's). A truth value is TOML's.
 use Rattle.std.specs.Prelude.{◌≡◌, ℕ, pos, ◌&&◌, List, [], ◌∷◌, nat_le, if◌then◌else◌, Option, Some}
 use Rattle.std.specs.Prelude.{None, option_and_then}
 use Rattle.std.specs.Option.{option_map_or}
@@ -9,11 +9,11 @@ use Rattle.jh_edn.specs.Spelling.{SpellsAll}
 use Rattle.jh_settings.specs.declared.keys.Key.{Key}
 use Rattle.jh_settings.specs.Keys.{data_under}
 
--- what is told by the value under a key, which has to be there
+-- what the value under a key means, which has to be there
 abbrev pub needed_value : {A : Type 0} → (Data → Option A) → Key → Members → Option A
 needed_value parsed key document = option_and_then parsed (data_under key document)
 
--- what is told by the value under a key, and a default where there is none
+-- what the value under a key means, and a default where there is none
 abbrev pub value_or_default : {A : Type 0} → A → (Data → Option A) → Key → Members → Option A
 value_or_default default parsed key document =
     option_map_or parsed (data_under key document) (Some default)
@@ -22,11 +22,11 @@ value_or_default default parsed key document =
 abbrev pub text_under : Key → Members → Option (List ℕ)
 text_under key document = needed_value as_str key document
 
--- what is told by a value that is a text, which is one of some words
+-- what a value means that is a text, one of some choices
 abbrev pub choice_in : {A : Type 0} → (List ℕ → Option A) → Data → Option A
 choice_in parsed value = option_and_then parsed (as_str value)
 
--- what is told by the text under a key, which is one of some words
+-- what the text under a key means, one of some choices
 abbrev pub choice_under : {A : Type 0} → (List ℕ → Option A) → Key → Members → Option A
 choice_under parsed key document = option_and_then parsed (text_under key document)
 

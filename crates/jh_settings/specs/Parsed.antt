@@ -1,4 +1,4 @@
--- What each setting tells, key by key (this project's own). A new setting is a new definition here,
+-- What each setting means, key by key (this project's own). A new setting is a new definition here,
 -- a key in Keys and a line of `IsGood`.
 use Rattle.std.specs.Prelude.{◌≡◌, ℕ, ◌≤◌, ℤ, pos, Bool, false, List, [], ◌∷◌, length, codes}
 use Rattle.std.specs.Prelude.{nat_le, if◌then◌else◌, Option, Some, None, option_map}
@@ -69,7 +69,7 @@ parsed_mode document = value_or_default Mode.Threads (choice_in mode_of) Key.Mod
 abbrev pub parsed_volatile : Members → Option Bool
 parsed_volatile document = value_or_default false as_bool Key.Volatile document
 
--- what a register holds at first: an integer, or nothing; of another workload it may not be said
+-- what a register holds at first: an integer, or nothing; of another workload it may not be given
 abbrev pub initial_of : Workload → Option Data → Option (Option ℤ)
 initial_of workload None = Some None
 initial_of Workload.Register (Some value) = option_map Some (as_integer value)
@@ -97,7 +97,7 @@ abbrev pub due_of : ℤ → Option ℕ
 due_of (pos n) = if nat_le n 10000 then Some n else None
 due_of _ = None
 
--- an entry, where its step tells one
+-- an entry, where its step is parsed
 abbrev pub entry_at : {E : Type 0} → ℕ → Result Step E → Option Entry
 entry_at at (Ok step) = Some (record { at = at; step = step })
 entry_at at (Err refusal) = None
@@ -116,7 +116,7 @@ abbrev pub IsParsedEntry : List (List ℕ) → Data → Entry → Type 0
 IsParsedEntry names value entry =
     (x : Edn) × IsElement value x × (parsed_entry names x ≡ Some entry)
 
--- each value tells an entry, in order
+-- each value means an entry, in order
 abbrev pub AreParsedEntries : List (List ℕ) → Items → List Entry → Type 0
 AreParsedEntries names no_items [] = Unit {0}
 AreParsedEntries names (item value values) (entry ∷ entries) =

@@ -17,7 +17,7 @@ use Rattle.jh_settings.specs.Parsed.{parsed_volatile, parsed_initial, parsed_tic
 use Rattle.jh_settings.specs.Parsed.{parsed_rows, parsed_seed, parsed_budget, IsParsedSchedule}
 use Rattle.jh_settings.specs.Refusals.{AreGood, IsFirstBadKey}
 
--- a document tells this plan, in which mode it is run, and how many tries a judgement has
+-- a document means this plan, in which mode it is run, and how many tries a judgement has
 pub record AreSettings (document : Members) (plan : PlanValue) (run_mode : Mode)
     (tries : ℕ) : Type 0 where
   pub known : HasKnownKeys document

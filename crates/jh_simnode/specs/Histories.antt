@@ -1,4 +1,4 @@
--- The history that a run tells (jepsen.history: an operation is invoked, and completed as `:ok`,
+-- The history of a run (jepsen.history: an operation is invoked, and completed as `:ok`,
 -- `:fail` or `:info`; the nemesis's operations are `:info` both times). Which value and which event
 -- a completion names are this project's own.
 use Rattle.std.specs.Prelude.{ℕ, ◌+◌, ◌<◌, ◌^◌, pos, List, [], ◌∷◌, codes, Option, Some, None}
@@ -67,7 +67,7 @@ code_of answer.NothingToRedo = 7
 abbrev pub HasSmallEvent : Option ℕ → Type 0
 HasSmallEvent event = IfSome event (λ number. number < 2 ^ 63)
 
--- an operation in no history yet, by an event of this number where it tells one
+-- an operation in no history yet, by an event of this number where it names one
 abbrev pub unplaced_operation : Kind → Process → List ℕ → Content → Option ℕ → Operation
 unplaced_operation kind process name content event = record {
   kind = kind;
@@ -128,8 +128,8 @@ abbrev pub placed_entry_completion : ℕ → ℕ → ℕ → StepAnswer → Oper
 placed_entry_completion place number entry answer =
     placed_operation place (entry_completion number entry answer)
 
--- what events tell: the first operation at this place, the first event with this number, the first
--- step with this entry
+-- the operations of these events: the first operation at this place, the first event with this
+-- number, the first step with this entry
 abbrev pub operations_from : ℕ → ℕ → ℕ → List Event → List Operation
 operations_from place number entry [] = []
 operations_from place number entry (Event.Call process node request draw reply ∷ es) =

@@ -1,6 +1,6 @@
 -- What a serial run is: the calls of a generator, the steps of a schedule and the ticks of a store,
 -- one after the other (jepsen.generator: threads ask for operations, and a thread whose process
--- crashed goes on as another; turns, words, when a step is due and ticks are this project's own).
+-- crashed goes on as another; turns, draws, when a step is due and ticks are this project's own).
 --
 -- Nothing here computes a reply or an answer: that the journal is legal says what they are.
 use Rattle.std.specs.Prelude.{◌≡◌, ℕ, zero, suc, ◌+◌, ◌%◌, ◌≤◌, ◌==◌, ◌||◌, ◌&&◌, not, Bool, true}
@@ -37,7 +37,7 @@ setup_of p = record { names = p.env.names; start = p.env.start; settings = p.set
 abbrev pub run_generator : PlanValue → Generator
 run_generator p = clients (limit p.ops p.generator)
 
--- the source of words that a seed makes (O'Neill's PCG XSL RR 128/64), after so many words
+-- the source of random numbers that a seed makes (O'Neill's PCG XSL RR 128/64), after so many
 unfoldable pub random_numbers_after : ℕ → ℕ → Lcg
 random_numbers_after seed zero = started 128 multiplier_128 seed (increment_of 128 0)
 random_numbers_after seed (suc n) = (pcg64 (random_numbers_after seed n)).1

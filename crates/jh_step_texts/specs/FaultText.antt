@@ -63,7 +63,7 @@ abbrev pub bumps_in : Edn → Option (List (Edn × Edn))
 bumps_in (mapping ms) = all_of (λ b. is_some (bump_spelled b)) (pairs_in ms)
 bumps_in _ = None
 
--- a word alone
+-- a keyword alone
 abbrev pub named_fault : List ℕ → Option FaultSpelling
 named_fault name =
     if bytes_eq name (codes "halves") then Some (Grudge Named.Halves)
@@ -76,7 +76,7 @@ abbrev pub shuffled_ring : Edn → Option FaultSpelling
 shuffled_ring (int seed) = Some (Grudge (Named.ShuffledRing seed))
 shuffled_ring _ = None
 
--- a word and what it is about
+-- a keyword and what it is about
 abbrev pub plain_fault : List ℕ → Edn → Option FaultSpelling
 plain_fault name v =
     if bytes_eq name (codes "cut") then option_map (Links OnLinks.Cut) (links_in v)
@@ -87,7 +87,7 @@ plain_fault name v =
     else if bytes_eq name (codes "ring") then shuffled_ring v
     else None
 
--- a word, an amount and what it is about
+-- a keyword, an amount and what it is about
 abbrev pub measured_fault : List ℕ → ℤ → Edn → Option FaultSpelling
 measured_fault name z v =
     if bytes_eq name (codes "slow") then option_map (Links (OnLinks.Slow z)) (links_in v)

@@ -31,7 +31,7 @@ parsed_begin names z fault =
 abbrev pub parsed_withdraw : ℤ → Result Step StepTextError
 parsed_withdraw z = result_or_refusal (id_of z) BadId (λ id. Ok (Withdraw id))
 
--- a step that is a word alone
+-- a step that is a keyword alone
 abbrev pub parsed_keyword : List ℕ → Result Step StepTextError
 parsed_keyword name =
     if bytes_eq name (codes "withdraw-all") then Ok WithdrawAll

@@ -19,7 +19,7 @@ gather_error words.TooSmall row = BadWords row
 gather_error words.BadWords row = BadWords row
 gather_error words.OutOfMemory row = OutOfMemory
 
--- the words of a row tell no operation, or memory was refused
+-- the words of a row are of no operation, or memory was refused
 abbrev pub RefusesRow : List ℕ → ℕ → GatherError → Type 0
 RefusesRow words row (BadWords bad) = (bad ≡ row) × IsBadMark (Words words)
 RefusesRow words row OutOfMemory = ⊤
