@@ -66,7 +66,7 @@ fn is_read_value(value: &Value) -> bool
     }
 }
 
-/// Whether it is nil or an integer, what a new id may be told as.
+/// Whether it is nil or an integer, what a new id may be.
 fn is_one(value: &Value) -> bool
     ensures { result ≡ rule.is_one (view value.now) }
 {
@@ -90,7 +90,7 @@ pub(crate) fn request_asked(name: &str, value: &Value) -> Option<Request>
     }
 }
 
-/// The request of this name that was done, where this value is told of it.
+/// The request of this name that was done, where its completion may have this value.
 fn request_done(name: &str, value: &Value) -> Option<Request>
     ensures { result ≡ rule.request_done name.now (view value.now) }
 {
@@ -101,7 +101,7 @@ fn request_done(name: &str, value: &Value) -> Option<Request>
     }
 }
 
-/// The request that a client's completion tells.
+/// The request of a client's completion.
 pub(crate) fn completed_request(kind: Kind, name: &str, value: &Value) -> Option<Request>
     ensures { result ≡ rule.completed_request kind name.now (view value.now) }
 {

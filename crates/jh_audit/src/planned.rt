@@ -47,7 +47,7 @@ fn ends_by(event: &Event, due: &Step, place: usize, op: &Op, entry: u64, number:
     }
 }
 
-/// Whether the operation at a place tells that this entry of the schedule has ended, by an event of
+/// Whether the operation at a place says that this entry of the schedule has ended, by an event of
 /// its step.
 fn ends_entry(
     schedule: &[Entry],

@@ -68,7 +68,7 @@ fn is_asked_value(value: &Value, request: Request) -> bool
     }
 }
 
-/// Whether the value is the one that is told of a request that was done.
+/// Whether the value is the one in the completion of a request that was done.
 fn is_got(value: &Value, request: Request, got: &Got) -> bool
     ensures { result ≡ rule.is_got request got.now (view value.now) }
 {

@@ -1,7 +1,7 @@
 //! The text of an environment, as an EDN value: read and written.
 //!
 //! `specs/Text.antt` says which value spells which names and entries, `specs/TextErrors.antt` which
-//! are refused, `specs/TextCells.antt` what entries tell of the cells, and `specs/TextWritten.antt`
+//! are refused, `specs/TextCells.antt` what entries make of the cells, and `specs/TextWritten.antt`
 //! what is written. A key is added there, and in `texts/entries.rt`.
 
 ghost use Rattle.std.specs.Prelude.{◌≡◌, [], MatchResult, IfOk};

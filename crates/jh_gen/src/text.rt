@@ -375,7 +375,7 @@ pub fn gen_of_value(alloc: Global, value: &Value) -> Result<Gen, GenTextError>
         (RefusesGenerator (view value.now)) }
 {
     match gen_in(alloc, value) {
-        // What was not read yet may tell nothing, which is the first reason to refuse it.
+        // What was not read yet may mean nothing, which is the first reason to refuse it.
         Err(GenTextError::OutOfMemory) if !is_generator(value) => Err(GenTextError::BadGenerator),
         answer => answer,
     }

@@ -5,7 +5,7 @@ ghost use Rattle.jh_gen.specs.Generator.{Generator};
 ghost use Rattle.jh_gen.specs.GeneratorText.{parsed_generator};
 ghost use Rattle.jh_gen_texts.specs.GeneratorWritten.{IsWritableGenerator, text_of_generator};
 
-/// What is written of a generator tells that generator, so what `value_of_gen` writes,
+/// What is written of a generator means that generator, so what `value_of_gen` writes,
 /// `gen_of_value` reads back. The numbers of its limits, reserves and steps are below 2^32, as
 /// those of each `Gen` are.
 pub fn generators_read_back()

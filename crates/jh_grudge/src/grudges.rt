@@ -64,7 +64,7 @@ fn grudge_by(alloc: Global, ranks: &Ranks, rule: Rule) -> Result<Grudge, AllocEr
 }
 
 /// A complete grudge: nodes of different components drop each other (Jepsen's `complete-grudge`).
-/// The components have each node once, as `distinct_components` tells.
+/// The components have each node once, as `distinct_components` tests.
 ///
 /// Takes 256 steps for each node. Memory is wanted for the links alone, and for none if there is
 /// none.
@@ -95,7 +95,7 @@ fn without_first(nodes: &[u8]) -> &[u8]
 
 /// A bridge: the first half of the nodes and the second half without its first node drop each
 /// other, and that node, the bridge, talks to all (Jepsen's `bridge`). The list has each node once,
-/// as `distinct` tells.
+/// as `distinct` tests.
 ///
 /// Takes 256 steps for each node. Memory is wanted for the links alone, and for none if there is
 /// none.
@@ -116,7 +116,7 @@ pub fn bridge(alloc: Global, nodes: &[u8]) -> Result<Grudge, AllocError>
 
 /// A ring of majorities: each node sees the smallest majority that begins with itself in the order
 /// of the list, around, and drops all others (Jepsen's `majorities-ring`). The list has each node
-/// once, as `distinct` tells.
+/// once, as `distinct` tests.
 ///
 /// Takes 256 steps for each node. Memory is wanted for the links alone, and for none if there is
 /// none.

@@ -1,5 +1,5 @@
 //! The history that a text means, read operation by operation: the values of a whole history never
-//! stand beside one another. `specs/Histories.antt` says which history a text tells, and why a text
+//! stand beside one another. `specs/Histories.antt` says which history a text means, and why a text
 //! is refused.
 #![tactic(auto)]
 

@@ -1,6 +1,6 @@
-//! What elements told so far: operations, or the refusal of the first that told none.
+//! What was parsed of elements so far: operations, or the refusal of the first that means none.
 //! `specs/ParsingInside.antt` says what each element adds. What is parsed here comes one by one;
-//! `jh_ops::history_of` tells a list of values.
+//! `jh_ops::history_of` parses a list of values.
 
 ghost use Rattle.std.specs.Prelude.{◌≡◌, ◌≢◌, ◌∷◌, [], OnOk, MatchResult, length};
 ghost use Rattle.jh_edn.specs.Edn.{Edn};
@@ -11,16 +11,16 @@ use jh_edn::{Sink, Value};
 use jh_ops::{HistoryError, Op, OpError, op_of};
 use std::alloc::{AllocError, Global};
 
-/// What the elements so far told.
+/// What the elements so far mean.
 #[derive(Drop)]
 pub(crate) struct Parsing {
     pub(crate) ops: Vec<Op>,
-    /// Why the first element that told no operation was refused. Nothing is parsed behind it.
+    /// Why the first element that means no operation was refused. Nothing is parsed behind it.
     pub(crate) refusal: Option<HistoryError>,
 }
 
 impl Parsing {
-    /// Nothing told so far.
+    /// Nothing parsed so far.
     pub(crate) fn new(alloc: Global) -> Parsing
         ensures { HasParsed result [] }
     {
@@ -30,7 +30,7 @@ impl Parsing {
         }
     }
 
-    /// What a list or a vector leaves that is the first of several values: it tells no operation.
+    /// What a list or a vector leaves that is the first of several values: it means no operation.
     pub(crate) fn of_sequence(alloc: Global) -> Parsing
         ensures { (value : Edn) → IsListOrVector value → HasParsed result (value ∷ []) }
     {
@@ -40,7 +40,7 @@ impl Parsing {
         }
     }
 
-    /// The element behind those told is refused, unless memory ran out.
+    /// The element behind those parsed is refused, unless memory ran out.
     fn refuse(&mut self, error: OpError) -> Result<(), AllocError>
         ensures refusal { OnOk result (self.new ≡
             record self.old { refusal = Some (history_error_at (length self.old.ops.items) error) }) }
@@ -55,7 +55,7 @@ impl Parsing {
         }
     }
 
-    /// The operations, where each element told one.
+    /// The operations, where each element means one.
     pub(crate) fn history(self) -> Result<Vec<Op>, HistoryError>
         ensures parsed { MatchResult result
             (λ ops. (self.refusal ≡ None) × (ops ≡ self.ops))

@@ -17,7 +17,7 @@ use jh_ops::{HistoryError, Op, history_of};
 use std::alloc::Global;
 use std::io::Read;
 
-/// The history that the only value of a text tells.
+/// The history that the only value of a text means.
 fn history_of_one(alloc: Global, value: Value) -> Result<Vec<Op>, HistoryError>
     ensures parsed { MatchResult result
         (λ ops. AreParsed (view value ∷ []) (operations ops.items))
@@ -77,7 +77,7 @@ fn history_of_values(alloc: Global, text: &str) -> Result<Vec<Op>, ReadHistoryEr
 /// Takes the time of reading the text once, and what stands before its first value once more.
 ///
 /// Errors: the text's first error with its line, wherever it stands (`Text`); then the first value
-/// that tells no operation, with its place from 0 (`History`); out of memory, as either.
+/// that means no operation, with its place from 0 (`History`); out of memory, as either.
 pub fn history_in(alloc: Global, text: &str) -> Result<Vec<Op>, ReadHistoryError>
     ensures parsed { IfOk result (λ ops. IsHistoryOf text.now (operations ops.items)) }
     ensures writable { IfOk result (λ ops. All (λ op. IsWritable op.process) ops.items) }
@@ -95,7 +95,7 @@ pub fn history_in(alloc: Global, text: &str) -> Result<Vec<Op>, ReadHistoryError
     history_behind(alloc, text, at, parsing)
 }
 
-/// The history that the text of a reader tells, as `history_in` tells it, read in at most `turns`
+/// The history that the text of a reader means, as `history_in` parses it, read in at most `turns`
 /// reads. The text is dropped before the history is given.
 ///
 /// Errors: those of `jh_edn::read_bytes`, then `Utf8`, then those of `history_in`.

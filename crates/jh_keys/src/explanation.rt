@@ -61,7 +61,7 @@ fn pending_at(alloc: Global, calls: &[RegOp], end: usize) -> Result<Vec<usize>, 
         .collect(alloc)
 }
 
-/// What is told of a history that is stuck at this place.
+/// The explanation of a history that is stuck at this place.
 fn explanation_at(
     alloc: Global,
     history: &[Op],

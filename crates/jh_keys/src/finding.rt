@@ -118,7 +118,7 @@ fn check_register(alloc: Global, history: &[Op], judging: Judging) -> Result<Fou
 /// or for a register the judge of `jh_linear` over its operations.
 ///
 /// The initial value, the budget and whether a no is explained mean nothing to the other workloads.
-/// A no of a register that is explained tells the completion with which no order is left, and what
+/// A no of a register that is explained has the completion with which no order is left, and what
 /// is pending there.
 ///
 /// Errors: those of the checker. For a register `Pair`, then `BadValue` at the least place of one;

@@ -25,7 +25,7 @@ pub struct KeyHistory {
 /// Splits a history of independent keys: the history of each key, in the normal order of the keys
 /// (`jepsen.independent`).
 ///
-/// What a key is, and what its history has, is told at `check_keys_serial`, which judges these
+/// What a key is, and what its history has, stands at `check_keys_serial`, which judges these
 /// histories.
 ///
 /// Errors: `BadValue` at the least place of a client's operation that has no tuple, then

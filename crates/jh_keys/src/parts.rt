@@ -1,5 +1,5 @@
 //! The history of one key, and what its checker finds. `specs/Keys.antt` says what is left of an
-//! operation, `specs/Refusals.antt` how an error is told.
+//! operation, `specs/Refusals.antt` how an error is reported.
 
 ghost use Rattle.std.specs.Prelude.{◌≡◌, ◌<◌, All, IfOk, IsErrOf, MatchResult, length, map};
 ghost use Rattle.std.specs.Prelude.{slice_index_or};
@@ -84,7 +84,7 @@ fn pairing_in(places: &[usize], error: PairError) -> PairError
     }
 }
 
-/// An error of a key's history, told at its place in the whole one.
+/// An error of a key's history, reported at its place in the whole one.
 fn error_in(places: &[usize], error: CheckError) -> KeysError
     ensures { result ≡ keys_error_of places.now error }
 {

@@ -1,5 +1,5 @@
 //! Laws over bytes: what is written of an environment, a step or an operation is printed so that it
-//! is read back; and what checkers find, told by the equality of EDN. Each is a function that does
+//! is read back; and what checkers find, by the equality of EDN. Each is a function that does
 //! nothing and whose contract is the law; in its body stand the laws that it rests on.
 #![tactic(auto)]
 

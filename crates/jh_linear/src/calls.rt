@@ -1,6 +1,6 @@
-//! The operations of a register that the pairs of a history tell.
+//! The operations of a register in the pairs of a history.
 //!
-//! `specs/Calls.antt` says which call each pair tells, and where a bad value is reported.
+//! `specs/Calls.antt` says which call each pair stands for, and where a bad value is reported.
 
 ghost use Rattle.std.specs.Prelude.{◌≡◌, All, IfOk, MatchResult, length, slice_get, option_map};
 ghost use Rattle.jh_edn.specs.View.{view};
@@ -18,7 +18,7 @@ use jh_ops::{Kind, Op, Pair};
 use std::alloc::{AllocError, AllocFailed, Global};
 use thiserror::Error;
 
-/// Why the pairs of a history tell no operations of a register.
+/// Why the pairs of a history stand for no operations of a register.
 #[derive(Clone, Copy, Debug, PartialEq, Eq, Error)]
 pub enum RegOpsError {
     /// The operation at this place of the history, from 0, has a value that its function does not
@@ -45,10 +45,10 @@ impl<T: Drop> From<AllocFailed<T>> for RegOpsError {
     }
 }
 
-/// The operations of a register that pairs tell, one each, in the order of the pairs: those that
-/// `jh_ops::pair` gives for the history. Only client operations are in pairs.
+/// The operations of a register that pairs stand for, one each, in the order of the pairs: those
+/// that `jh_ops::pair` gives for the history. Only client operations are in pairs.
 ///
-/// A `:read` has the value that its `:ok` completion tells, an integer or nil; one that did not
+/// A `:read` has the value that its `:ok` completion has, an integer or nil; one that did not
 /// complete `:ok` has nil. A `:write` has the integer, a `:cas` the two integers `[old new]`, in a
 /// vector or a list, that it was invoked with. The function is that of the invocation. `:ok`
 /// happened, `:fail` did not; `:info`, or no completion, is not known. An operation ended at the
@@ -79,7 +79,7 @@ pub fn reg_ops(alloc: Global, ops: &[Op], pairs: &[Pair]) -> Result<Vec<RegOp>, 
     Ok(calls)
 }
 
-// What stands at a place, and what it tells, each as the definition of the same name has it.
+// What stands at a place, and what it means, each as the definition of the same name has it.
 
 /// The operation at a place, if there is one.
 fn op_at(ops: &[Op], place: usize) -> Option<&Op>

@@ -15,7 +15,7 @@ pub(crate) fn noted(holds: bool, note: Note) -> Option<Note>
     if holds { Some(note) } else { None }
 }
 
-/// No marks, at bars of which nothing is said.
+/// No marks, at bars that have no note.
 pub(crate) fn no_marks(alloc: Global, bars: &[Bar]) -> Vec<Mark>
     ensures { result.items ≡ marks_by (λ call. None) bars.now }
 {

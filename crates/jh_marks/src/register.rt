@@ -80,7 +80,7 @@ fn valid_marks(
     Ok(marks)
 }
 
-/// The numbers of what is pending, where that is told.
+/// The numbers of what is pending, where that is known.
 fn pending_in(explanation: &Option<Explanation>) -> &[usize]
     ensures { result.now ≡ rule.pending_numbers_in explanation.now }
 {
@@ -90,7 +90,7 @@ fn pending_in(explanation: &Option<Explanation>) -> &[usize]
     }
 }
 
-/// What is said where a history is stuck of a call with this place in the order of what is before.
+/// The note of a call where a history is stuck, with this place in the order of what is before.
 fn stuck_note(end: usize, pending: bool, place: Option<usize>, call: &Call) -> Option<Note>
     ensures { result ≡ inside.stuck_note_with end pending place call.now }
 {

@@ -71,7 +71,7 @@ fn is_read_at(read: Option<usize>, call: &Call) -> bool
     }
 }
 
-/// What is said of a call, by what is lost, by what is recovered, which both ascend, and by where
+/// The note of a call, by what is lost, by what is recovered, which both ascend, and by where
 /// something unexpected is read.
 fn found_note(
     alloc: Global,

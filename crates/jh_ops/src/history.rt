@@ -43,7 +43,7 @@ fn refusal(place: usize, refusal: OpError) -> HistoryError
     }
 }
 
-/// The values that tell operations.
+/// The values that mean operations.
 fn elements_in(values: Vec<Value>) -> Vec<Value>
     ensures { views result.items ≡ rule.elements_in (views values.items) }
 {

@@ -114,7 +114,7 @@ pub fn value_of(alloc: Global, op: &Op) -> Result<Value, AllocError>
     Ok(Value::Map(Pairs::of(pairs)))
 }
 
-/// A law: what is written of an operation that a value told is read as that operation.
+/// A law: what is written of an operation that was parsed is parsed as that operation.
 pub fn operations_read_back()
     ensures { OperationsReadBack }
 {}

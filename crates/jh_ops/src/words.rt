@@ -21,10 +21,10 @@ use jh_edn::{Pairs, Value, Values};
 use std::alloc::{AllocError, Global};
 use thiserror::Error;
 
-/// Why an operation has no words, or words tell no operation.
+/// Why an operation has no words, or words are of no operation.
 #[derive(Clone, Copy, Debug, PartialEq, Eq, Error)]
 pub enum WordsError {
-    /// `to_words`: the operation says more than words keep.
+    /// `to_words`: the operation has more than words keep.
     #[error("not recordable")]
     NotRecordable,
     /// `to_words`: there are more words than places.
@@ -38,7 +38,7 @@ pub enum WordsError {
     OutOfMemory,
 }
 
-/// What the first word says.
+/// What the first word means.
 #[derive(Clone, Copy)]
 struct Head {
     kind: Kind,
@@ -54,7 +54,7 @@ impl Head {
         kind_number(self.kind) + 4 * self.function.number() + 64 * self.shape.number()
     }
 
-    /// What a word says as the first of a record, if it can be that.
+    /// What a word means as the first of a record, if it can be that.
     fn of_word(word: u64) -> Option<Head>
         ensures { MatchOption result (parts.IsNoFirstWord word)
             (λ head. parts.first_word head ≡ word) }
@@ -105,7 +105,7 @@ fn event_word(rest: &[(Value, Value)]) -> Option<u64>
     }
 }
 
-/// Whether it says nothing that words do not keep, but for its function, its value and its other
+/// Whether it has nothing that words do not keep, but for its function, its value and its other
 /// keys.
 fn is_plain(op: &Op) -> bool
     ensures { IsTrue result ↔ parts.IsPlain (operation op.now) }
@@ -218,7 +218,7 @@ pub fn to_words(op: &Op, words: &mut [u64]) -> Result<usize, WordsError>
     Ok(len)
 }
 
-/// What the first words of a record say.
+/// What the first words of a record mean.
 #[derive(Clone, Copy)]
 struct Heading {
     head: Head,
@@ -226,7 +226,7 @@ struct Heading {
     event: u64,
 }
 
-/// What the first words say, if an operation is recorded as these words.
+/// What the first words mean, if an operation is recorded as these words.
 fn heading_in(words: &[u64]) -> Option<Heading>
     ensures { MatchOption result (RefusesWords words.now BadWords) (BeginWith words.now) }
 {

@@ -26,7 +26,7 @@ pub(crate) fn class_of(note: Note) -> &'static str
     }
 }
 
-/// Writes what a note says.
+/// Writes the text of a note.
 pub(crate) fn write_note<W: Write>(note: Note, writer: &mut W) -> Result<(), PageError>
     ensures bytes { OnOk result
         (Appends (W.contents writer.old) (W.contents writer.new) (note_text note)) }

@@ -17,7 +17,7 @@ pub struct Section {
     pub window: Window,
     /// What is drawn of it.
     pub picture: Picture,
-    /// What is told at its bars.
+    /// The notes at its bars.
     pub marks: Vec<Mark>,
 }
 

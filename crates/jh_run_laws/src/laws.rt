@@ -29,7 +29,7 @@ pub fn own_lines_tell()
     operation_lines_read_back()
 }
 
-/// Bytes of settings tell one mode and one budget, and every plan that is made of them has the same
+/// Bytes of settings mean one mode and one budget, and every plan that is made of them has the same
 /// serial run: one journal, and one history.
 pub fn same_settings_same_run()
     ensures { SameSettingsGiveSameRun }

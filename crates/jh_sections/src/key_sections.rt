@@ -38,7 +38,7 @@ struct ShownKey {
 /// history with what was found in it, as `section_of` does. Where keys were judged, the findings
 /// are those of `jh_keys::check_keys` or `check_keys_serial` in this history. Sections of keys that
 /// are not valid stand first, then those of unknown verdict; those of one verdict stand in the
-/// normal order of the keys. A heading tells the key and the verdict. Indexes count the records of
+/// normal order of the keys. A heading has the key and the verdict. Indexes count the records of
 /// the key's own history, in which the nemesis has none.
 ///
 /// Takes what `histories_by_key` takes, and for each key what `section_of` takes: O(n log n) for n
@@ -171,7 +171,7 @@ fn sorted(mut shown: Vec<ShownKey>) -> Result<Vec<ShownKey>, AllocError>
     Ok(shown)
 }
 
-/// What a heading says of what was found.
+/// What a heading has of what was found.
 fn found_text(found: Option<&Found>) -> &'static [u8]
     ensures { result.now ≡ rule.found_text (option_copied found.entry) }
 {
@@ -181,7 +181,7 @@ fn found_text(found: Option<&Found>) -> &'static [u8]
     }
 }
 
-/// What a heading says of a verdict.
+/// What a heading has of a verdict.
 fn verdict_text(verdict: Verdict) -> &'static [u8]
     ensures { result.now ≡ rule.verdict_text verdict }
 {

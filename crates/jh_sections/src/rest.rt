@@ -37,7 +37,7 @@ fn first_line(text: &str) -> Option<usize>
     }
 }
 
-/// Whether an error does not come from what a text says.
+/// Whether an error does not come from what a text holds.
 fn is_of_bytes(error: ReadHistoryError) -> bool
     ensures { IsTrue result ↔ IsOfBytes error }
 {
@@ -98,7 +98,7 @@ pub fn history_and_rest(alloc: Global, text: &str) -> Result<HistoryAndRest, Rea
     }
 }
 
-/// The parts of the text of a reader, as `history_and_rest` tells them, read in at most `turns`
+/// The parts of the text of a reader, as `history_and_rest` gives them, read in at most `turns`
 /// reads. The text is dropped before they are given.
 ///
 /// Errors: those of `jh_edn::read_bytes`, then `Utf8`, then those of `history_and_rest`.

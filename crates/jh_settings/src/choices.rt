@@ -1,5 +1,5 @@
-//! Settings whose values are words, numbers and truth values. `specs/Parsed.antt` says what each
-//! tells.
+//! Settings whose values are choices, numbers and truth values. `specs/Parsed.antt` says what each
+//! means.
 
 ghost use Rattle.std.specs.Prelude.{◌≡◌};
 ghost use Rattle.toml.specs.View.{table_view};
@@ -89,7 +89,7 @@ pub(crate) fn mode_under(table: &Table) -> Result<Mode, SettingsError>
     }
 }
 
-/// What a register holds at first, as `initial` tells it.
+/// What a register holds at first, the value under `initial`.
 pub(crate) fn initial_under(table: &Table, workload: Workload) -> Result<Option<i64>, SettingsError>
     ensures { IsValueParsed result Key.Initial
         (initial_of workload (data_under Key.Initial (table_view table.now))) }

@@ -184,7 +184,7 @@ fn parsed_entry(alloc: Global, nodes: &Nodes, element: &Value) -> Result<Option<
     }
 }
 
-/// The entry that a value, which is a text, tells.
+/// The entry that a value, which is a text, means.
 fn entry_of(alloc: Global, nodes: &Nodes, value: &toml::Value) -> Result<Option<Entry>, AllocError>
     ensures parsed { IfOk result (IsEntryIn nodes.now (toml.view value.now)) }
     ensures fits { IfOk result

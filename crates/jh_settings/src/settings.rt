@@ -1,4 +1,4 @@
-//! The settings of a run. `specs/Settings.antt` says which settings a document tells, and why
+//! The settings of a run. `specs/Settings.antt` says which settings a document means, and why
 //! others are refused.
 
 ghost use Rattle.std.specs.Prelude.{◌≡◌, Some, None, [], MatchResult};
@@ -188,7 +188,7 @@ fn settings_with(
     }
 }
 
-/// The settings that the values of a table tell.
+/// The settings that the values of a table mean.
 fn settings_in(alloc: Global, table: &Table) -> Result<RunSettings, SettingsError>
     requires { HasKnownKeys (table_view table.now) }
     ensures { MatchResult result

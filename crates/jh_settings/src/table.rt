@@ -1,7 +1,7 @@
 //! Reading the values of a TOML table. `specs/Kinds.antt` says what each kind of value may be.
 //!
-//! Each reader answers what the value under its key tells, and `BadValue` with that key where it
-//! tells nothing.
+//! Each reader answers what the value under its key means, and `BadValue` with that key where it
+//! means nothing.
 
 ghost use Rattle.std.specs.Prelude.{◌≡◌, ◌≤◌, option_map, IfSome, IfOk};
 ghost use Rattle.toml.specs.Data.{as_bool};

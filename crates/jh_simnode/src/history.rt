@@ -1,4 +1,4 @@
-//! The history that the journal of a run tells. `specs/Histories.antt` has the rule.
+//! The history of the journal of a run. `specs/Histories.antt` has the rule.
 
 ghost use Rattle.std.specs.Prelude.{◌≡◌, ◌≤◌, ◌<◌, ◌+◌, ◌*◌, ◌^◌, ◌++◌, ◌∷◌, [], length, IfOk};
 ghost use Rattle.std.specs.Prelude.{OnOk, pos};
@@ -83,7 +83,7 @@ fn value_asked(alloc: Global, request: Request) -> Result<Value, AllocError>
     }
 }
 
-/// The value that is told of a request that was done.
+/// The value in the completion of a request that was done.
 fn value_got(alloc: Global, request: Request, got: &Got) -> Result<Value, AllocError>
     ensures { IfOk result (λ value. view value ≡ content_value (got_content request got.now)) }
 {
@@ -134,8 +134,8 @@ pub fn invocation(alloc: Global, process: u64, request: Request) -> Result<Op, A
     })
 }
 
-/// The operation in which a client's process tells the reply to a request, by the event of this
-/// number, in no history yet.
+/// The completion of a request by a client's process, with this reply, by the event of this number,
+/// in no history yet.
 pub fn completion(
     alloc: Global,
     number: u64,

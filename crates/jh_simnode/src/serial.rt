@@ -1,5 +1,5 @@
 //! Serial runs: a plan, one event after the other, on a world of its own. `specs/Runs.antt` says
-//! what a run is, `specs/Histories.antt` which history it tells.
+//! what a run is, `specs/Histories.antt` which history it has.
 
 ghost use Rattle.std.specs.Prelude.{◌≡◌, [], All, MatchResult, IfOk, IfErr, OnOk};
 ghost use Rattle.jh_ops.specs.Operation.{operations};
@@ -91,7 +91,7 @@ fn run_turns(alloc: Global, plan: &Plan, world: &mut World) -> Result<(), RunErr
     }
 }
 
-/// A serial run of a plan: the world after it, and the history that it tells. The same plan gives
+/// A serial run of a plan: the world after it, and its history. The same plan gives
 /// the same run each time.
 ///
 /// Takes time for each call and step, and for what the generator is large.

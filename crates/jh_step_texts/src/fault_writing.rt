@@ -117,7 +117,7 @@ fn sorted_bumps(alloc: Global, bumps: &[(Node, i64)]) -> Result<Vec<(Node, i64)>
     Ok(sorted)
 }
 
-/// The word of a fault of links and its amount, before the links.
+/// The keyword of a fault of links and its amount, before the links.
 fn link_fault_values(alloc: Global, kind: LinkFault) -> Result<Vec<Value>, AllocError>
     requires { IsLinkAmount kind }
     ensures { IfOk result (λ values. views values.items ≡ link_fault_values kind) }
@@ -203,7 +203,7 @@ fn values_of_bumps(
 /// then of their destination, nodes and bumps by place, whatever the order in which the fault was
 /// given them.
 ///
-/// Each node that the fault names is one of these: `Fault::fits_nodes` tells whether. Takes n log n
+/// Each node that the fault names is one of these: `Fault::fits_nodes` tests that. Takes n log n
 /// comparisons for n links, nodes or bumps.
 pub fn value_of_fault(alloc: Global, nodes: &Nodes, fault: &Fault) -> Result<Value, AllocError>
     requires { FitsCount (length nodes.now) fault.now }

@@ -54,7 +54,7 @@ fn step_values(alloc: Global, nodes: &Nodes, step: &Step) -> Result<Vec<Value>, 
 /// is written as the cut that it is; links stand by the place of their source and then of their
 /// destination, nodes by place.
 ///
-/// Each node that a begun fault names is one of these, which `Fault::fits_nodes` tells.
+/// Each node that a begun fault names is one of these, which `Fault::fits_nodes` tests.
 pub fn value_of_step(alloc: Global, nodes: &Nodes, step: &Step) -> Result<Value, AllocError>
     requires { FitsNodes (length nodes.now) step.now }
     ensures { IfOk result (λ value. view value ≡ text_of_step nodes.now step.now) }

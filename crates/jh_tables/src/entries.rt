@@ -1,6 +1,6 @@
 //! Entries of fixes: their bits, the latest one of a link, one that is put or taken.
 //! `specs/TurningInside.antt` says what each call changes, `specs/Tallies.antt` what the entries
-//! tell.
+//! mean.
 
 ghost use Rattle.std.specs.Prelude.{◌≡◌, ◌<◌, ◌≤◌, ◌+◌, length, is_some, true, false, slice_get};
 ghost use Rattle.std.specs.Prelude.{Some, None, MatchOption};

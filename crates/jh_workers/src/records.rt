@@ -52,7 +52,7 @@ fn refusal_of(error: WordsError, row: usize) -> GatherError
     }
 }
 
-/// The operation that the words of a row tell.
+/// The operation of the words of a row.
 fn operation_in(alloc: Global, words: &[u64], row: usize) -> Result<Op, GatherError>
     ensures { MatchResult result (λ op. IsRecordedAs (operation op) words.now)
         (RefusesRow words.now row) }

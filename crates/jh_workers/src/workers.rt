@@ -49,7 +49,7 @@ pub(crate) struct Post<B: OfLog, S> {
     pub(crate) share: S,
 }
 
-/// How many integers the completion of a request tells.
+/// How many integers the completion of a request has.
 fn integers_written(request: Request, reply: &Reply) -> usize
     ensures { result ≡ records.integers_written request reply.now }
 {
@@ -112,7 +112,7 @@ fn record_invocation<B: OfLog, P: Port>(
     publish(site, pass, claim, 1, made)
 }
 
-/// Records what a call told, in as many rows as it takes.
+/// Records the completion of a call, in as many rows as it takes.
 fn record_completion<B: OfLog, P: Port>(
     site: &Site<'_, B, P>,
     pass: &mut Pass<B>,

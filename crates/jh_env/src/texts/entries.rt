@@ -27,7 +27,7 @@ pub const SECTIONS: [Section; 5] = [
     Section::Clock,
 ];
 
-/// What an entry says of a link.
+/// What an entry changes of a link.
 #[derive(Clone, Copy, Debug)]
 pub enum LinkChange {
     Cut,
@@ -37,7 +37,7 @@ pub enum LinkChange {
     Loss(i64),
 }
 
-/// What an entry says of a node.
+/// What an entry changes of a node.
 #[derive(Clone, Copy, Debug)]
 pub enum NodeChange {
     Pause,

@@ -1,5 +1,5 @@
-//! The cells that entries tell, set one entry after another. `specs/TextCells.antt` says what they
-//! tell, and `specs/TextErrors.antt` which entry is in error.
+//! The cells that entries mean, set one entry after another. `specs/TextCells.antt` says which they
+//! are, and `specs/TextErrors.antt` which entry is in error.
 
 ghost use Rattle.std.specs.Prelude.{◌≡◌, Some, None, MatchResult, if◌then◌else◌};
 ghost use Rattle.std.specs.List.{list_any};
@@ -27,7 +27,7 @@ fn find(nodes: &Nodes, name: &str) -> Result<Node, EnvTextError>
 }
 
 impl LinkChange {
-    /// The link with what is said of it, where a link can hold that.
+    /// The link with this change, where a link can hold that.
     fn applied(self, link: Link) -> Option<Link>
         ensures { result ≡ (if fits_link self then Some (link_with self link) else None) }
     {
@@ -58,7 +58,7 @@ impl LinkChange {
 }
 
 impl NodeChange {
-    /// The node with what is said of it.
+    /// The node with this change.
     fn applied(self, cell: NodeCell) -> NodeCell
         ensures { result ≡ node_with self cell }
     {
@@ -158,7 +158,7 @@ fn set_entry(start: &mut Start, entry: &Entry) -> Result<(), EnvTextError>
     }
 }
 
-/// Sets what the entries tell, or finds the first in error, where nothing was set before.
+/// Sets what the entries mean, or finds the first in error, where nothing was set before.
 pub fn set_all(start: &mut Start, entries: &[Entry]) -> Result<(), EnvTextError>
     requires { IsCalm start.old }
     ensures { MatchResult result

@@ -19,7 +19,7 @@ use jh_tables::{Life, Link, Node, NodeCell};
 use std::alloc::{AllocError, Global};
 
 impl Section {
-    /// What a link is said to be under this key.
+    /// What is written of a link under this key.
     fn link_change(self, link: Link) -> Option<LinkChange>
         requires { IsLinkInRange link }
         ensures { result ≡ text.link_change self link }
@@ -32,7 +32,7 @@ impl Section {
         }
     }
 
-    /// What a node is said to be under this key.
+    /// What is written of a node under this key.
     fn node_change(self, cell: NodeCell) -> Option<NodeChange>
         ensures { result ≡ text.node_change self cell }
     {
