@@ -128,7 +128,7 @@ is_asked (Cas a b) = refl
 is_asked (Add v) = refl
 is_asked Generate = refl
 
--- a request of this name was done, and this value is told of it
+-- a request of this name was done, and its completion has this value
 abbrev pub IsDone : List ℕ → Edn → Request → Got → Type 0
 IsDone name value request got =
     MayGet request got × (name ≡ request_name request) × (value ≡ content_value (got_content request got))
@@ -146,7 +146,7 @@ one_is nil e = (Got.One None, tt, refl)
 one_is (int z) e = (Got.One (Some z), tt, refl)
 one_is _ e = absurd (cc)
 
--- a request that gets nothing is told with what it was asked with
+-- a request that gets nothing is completed with what it was asked with
 done_else : (name : List ℕ) (value : Edn) (r : Request) → (name ≡ codes "read" → ⊥) → (name ≡ codes "generate" → ⊥) → IsAsked name value r
     → (got : Got) × IsDone name value r got
 done_else name value Read no_read no_id asked = absurd (no_read asked.0)

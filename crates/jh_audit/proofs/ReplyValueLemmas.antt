@@ -1,4 +1,4 @@
--- What the comparisons of values decide, and that a completion is told by its kind and value.
+-- What the comparisons of values decide, and that a completion is known by its kind and value.
 use Rattle.std.proofs.Common.{◌≡◌, ℕ, suc, ◌≤◌, ◌==◌, arith, false, List, [], ◌∷◌, Some, None, length, map, drop, refl, ap, sym, ◌∙◌, codes}
 use Rattle.std.proofs.Math.ListN.{drop_of_length-le}
 use Rattle.std.specs.Bool.{Decides}
@@ -104,7 +104,7 @@ pub answer_tells : (op : Operation) (place number entry : ℕ) (a b : StepAnswer
 answer_tells op place number entry a b is same =
     is ∙ ap (λ c. made place Process.Nemesis Kind.Info (keyword (codes "step")) (vector (items_of (int (pos entry) ∷ int c ∷ []))) (Some number)) same
 
--- a completion of a call is told by it where kind and value are those of its reply
+-- an operation is the completion of a call where kind and value are those of its reply
 pub call_tells : (op : Operation) (place number process teller : ℕ) (r told : Request) (y : Reply) → Says place op (Tells teller told number)
     → process ≡ teller → r ≡ told → (op.kind ≡ completion_kind y) × (op.value ≡ content_value (replied_content told y))
     → (process ≡ teller) × (r ≡ told) × (op ≡ placed_completion place number process r y)

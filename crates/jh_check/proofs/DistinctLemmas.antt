@@ -194,7 +194,7 @@ runs_counted k n (x ∷ xs) least a =
           ∙ ap (λ w. (k, n + count_of (x ∷ xs) k) ∷ map (counted_in (x ∷ xs)) w) whole
     ] refl
 
--- the runs of values that ascend tell how often each is there
+-- the runs of values that ascend give how often each is there
 pub runs_are_counts : (x : Edn) (xs : List Edn) → Ascends (x ∷ xs) → runs x 1 xs ≡ map (λ v. (v, count_of (x ∷ xs) v)) (distinct_values (x ∷ xs))
 runs_are_counts x xs a =
     let first : 1 + count_of xs x ≡ count_of (x ∷ xs) x = sym (count_here x x xs (same_itself x)) in

@@ -23,7 +23,7 @@ use Rattle.jh_cli.specs.Status.{check_error, run_error, settings_error, threads_
 use Rattle.jh_cli.specs.declared.error.CliError.{CliError}
 use Rattle.jh_cli.specs.declared.error.CliError.TheVariants.{Input, EnvironmentMissing, Environment, Element, History, Check, Settings, Run, HistoryFull, Mismatch, Thread, OnlyForRegister, Read, Write, OutOfMemory}
 
--- bytes that tell no settings
+-- bytes that mean no settings
 pub settings_refused : (input : List ℕ) (error : SettingsError.the_data) → settings.RefusesSettings input error → RefusesRunBytes input (settings_error error)
 settings_refused input SettingsError.NotToml h = (refl, h)
 settings_refused input (SettingsError.Unknown key) h = (refl, h)
@@ -31,7 +31,7 @@ settings_refused input (SettingsError.Missing key) h = (refl, h)
 settings_refused input (SettingsError.BadValue key) h = (refl, h)
 settings_refused input SettingsError.OutOfMemory h = tt
 
--- the run of a plan that they tell
+-- the run of a plan that they mean
 pub run_refused : (input : List ℕ) (p : PlanValue) (mode : Mode) (budget : ℕ) (e : CliError) → AreSettingsOf input p mode budget
     → RefusesRunIn p mode e → RefusesRunBytes input e
 run_refused input p mode budget (Input error) parsed h = (p, mode, budget, parsed, h)

@@ -15,7 +15,7 @@ use Rattle.jh_cli.specs.Status.{step_error}
 use Rattle.jh_cli.specs.Refusals.{HasStepError, RefusesSteps}
 use Rattle.jh_cli.specs.declared.error.CliError.{CliError}
 
--- the first i values tell steps, and the next has this error
+-- the first i values mean steps, and the next has this error
 has_step_error : (names : List (List ℕ)) (values : List Value) (i : ℕ) (v : Value) (steps : List Step) (error : StepTextError.the_data)
     → i < length values → v ≡ get_or values i v → map (parsed_step names) (views (take i values)) ≡ map Ok steps
     → parsed_step names (view v) ≡ Err error → HasStepError names (views values) (i + 2) error
@@ -34,7 +34,7 @@ has_step_error names values i v steps error below is parsed in_error =
       place_is = omega (arith, size);
     }
 
--- what is answered where a value tells no step
+-- what is answered where a value means no step
 pub refuses_element : (names : List (List ℕ)) (values : List Value) (i : ℕ) (v : Value) (steps : List Step) (error : StepTextError.the_data) (e : CliError)
     → i < length values → v ≡ get_or values i v → map (parsed_step names) (views (take i values)) ≡ map Ok steps
     → (parsed_step names (view v) ≡ Err error) ⊎ ((error ≡ StepTextError.OutOfMemory) × IsOk (parsed_step names (view v)))

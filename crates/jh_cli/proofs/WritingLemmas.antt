@@ -1,4 +1,4 @@
--- What is written for an input, where the reader tells its bytes.
+-- What is written for an input, where the bytes of its reader are known.
 use Rattle.std.proofs.Common.{ℕ, List}
 use Rattle.std.specs.Prelude.{Option, Some, None, IfSome}
 

@@ -52,7 +52,7 @@ token_some (c ∷ s) h =
       | false ↦ λ k. absurd (k refl)
     ] h
 
--- the character and the token behind it, as a slice says them
+-- the character and the token behind it, as a slice has them
 pub by_name : (c : ℕ) (t after name : List ℕ) (m n : ℕ) (found : Option ℕ) → t ≡ encode_utf8 c ++ after → name ≡ slice_range t 0 (m + n) → m ≡ length (encode_utf8 c) → n ≡ leading_len is_token_byte after → n ≢ 0
     → found ≡ char_spelled name → found ≡ char_of c (token_of after)
 by_name c t after name m n found parts is e f some h =

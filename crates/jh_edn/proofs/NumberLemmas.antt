@@ -80,6 +80,6 @@ too_large core never numeral =
       | false ↦ λ e. refl
     ] refl
 
--- all that is left behind a place, as a slice to the end says it
+-- all that is left behind a place, as a slice to the end has it
 pub rest_whole : (k : ℕ) (s : List ℕ) → take (length s - k) (drop k s) ≡ drop k s
 rest_whole k s = take_all (length s - k) (drop k s) (omega (arith, length-drop k s))

@@ -1,4 +1,4 @@
--- Facts about the cells that entries tell.
+-- Facts about the cells that entries mean.
 use Rattle.std.proofs.Common.{◌≡◌, ℕ, ◌<◌, Bool, true, false, List, [], length, get_or, bytes_eq, Some, None, option_map, sym, ◌∙◌, ap, refl, subst, pos, negsuc, arith}
 use Rattle.std.specs.Prelude.{T, ℤ, ◌≤ℤ◌, nat_lt, slice_index_or, ◌+◌, ◌*◌, int_le, ◌-◌, ◌^◌, if◌then◌else◌, ◌&&◌, ◌==◌, not}
 use Rattle.std.proofs.lemmas.Int.{ints}
@@ -119,7 +119,7 @@ sets_node old new name says a cell at was starting sets = record {
   };
 }
 
--- what is said within its range keeps a link within its ranges
+-- a change within its range keeps a link within its ranges
 pub link_with-starts : (says : LinkChange) (link : Link) → is_link_amount says ≡ true → IsStartingLink link → IsStartingLink (link_with says link)
 link_with-starts LinkChange.Cut link good starts = starts
 link_with-starts (LinkChange.Delay (pos n)) link good starts = (grind (arith, nat_tests), starts.1)
@@ -163,7 +163,7 @@ passes false t = absurd t
 pub within : (least most z : ℤ) → least ≤ℤ z → z ≤ℤ most → is_within least most z ≡ true
 within least most z above below = and_from (int_le least z) (int_le z most) (passes (int_le least z) above.le) (passes (int_le z most) below.le)
 
--- what is said within its range fits a link
+-- a change within its range fits a link
 pub link_amount-fits : (says : LinkChange) → is_link_amount says ≡ true → fits_link says ≡ true
 link_amount-fits LinkChange.Cut good = refl
 link_amount-fits (LinkChange.Delay ms) good = (and_parts (int_le (pos 0) ms) (int_le ms (pos 60000)) good).0
@@ -173,7 +173,7 @@ link_amount-fits (LinkChange.Loss level) good =
     let below : level ≤ℤ pos 20 = le_z_yes (T_from_true _ parts.1) in
     within (pos 0) (pos 255) level above (omega (arith, ints))
 
--- what is said of a link that may start so, and fits it, is within its range
+-- a change that fits a link, and with which it may start, is within its range
 pub link_amount-starts : (says : LinkChange) (link : Link) → fits_link says ≡ true → IsStartingLink (link_with says link) → is_link_amount says ≡ true
 link_amount-starts LinkChange.Cut link fits starts = refl
 link_amount-starts (LinkChange.Delay (pos n)) link fits starts = within (pos 0) (pos 60000) (pos n) (omega (arith, ints)) (omega (arith, ints, starts.0))

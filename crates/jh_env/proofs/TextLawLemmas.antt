@@ -61,7 +61,7 @@ parsed_node env a starts =
           ] refl
     ] refl
 
--- the text that is written of an environment that can start tells its cells
+-- the text that is written of an environment that can start means its cells
 pub text_reads_back : (env : EnvValue) → CanStart env → IsTextOf (text_of env) env.names (cells_of env)
 unfolding is_pair
 text_reads_back env starts =
@@ -125,7 +125,7 @@ text_accepted value names cells e text refused =
     by_error RepeatedEntry few named sound r = absurd (no_error value text.0 RepeatedEntry text.1 sound r)
     by_error OutOfMemory few named sound r = refl
 
--- a text tells the cells of one environment
+-- a text means the cells of one environment
 pub text_tells_one : (value : Edn) (names others : List (List ℕ)) (cells more : Table) → IsTextOf value names cells → IsTextOf value others more
     → (others ≡ names) × AreSameCells cells more
 text_tells_one value names others cells more first second =

@@ -33,7 +33,7 @@ pub text_keys-map : (ps : List (Value × Value)) → text_keys (mapping (members
     else Err UnknownKey)
 text_keys-map ps = simp (pairs_in-members_of, list_all-map has_known_key view_pair ps)
 
--- what is told of images is told of what they are images of
+-- what is parsed of images is parsed of what they are images of
 pub each_of-map : {A B C : Type 0} (f : B → Option C) (v : A → B) (xs : List A) → each_of f (map v xs) ≡ each_of (λ x. f (v x)) xs
 each_of-map f v [] = refl
 each_of-map f v (x ∷ xs) = ap (λ o. option_and_then (λ y. option_map (λ ys. y ∷ ys) o) (f (v x))) (each_of-map f v xs)
@@ -46,7 +46,7 @@ list_with_front-nothing (Some ys) = refl
 pub each_none : {A B : Type 0} (f : A → Option B) (xs : List A) → list_with_front [] (each_of f xs) ≡ each_of f xs
 each_none f xs = list_with_front-nothing (each_of f xs)
 
--- where the next value tells nothing, nothing is parsed at all
+-- where the next value means nothing, nothing is parsed at all
 pub each_stops : {A B : Type 0} (f : A → Option B) (xs : List A) (i : ℕ) (d : A)
     → i < length xs → f (get_or xs i d) ≡ None → each_of f (drop i xs) ≡ None
 each_stops f xs i d below parsed =
@@ -66,7 +66,7 @@ joined-cons front new (Some ys) (Some yss) is =
     let whole : front ++ ys ≡ new = cc in
     ap Some (sym (append_assoc front ys (flat_map (λ zs. zs) yss)) ∙ ap (λ zs. zs ++ flat_map (λ zs. zs) yss) whole)
 
--- where the next value tells a list, its elements follow
+-- where the next value means a list, its elements follow
 pub joined_more : {A B : Type 0} (f : A → Option (List B)) (xs : List A) (i : ℕ) (d : A) (front new : List B)
     → i < length xs → list_with_front front (f (get_or xs i d)) ≡ Some new
     → list_with_front front (joined (each_of f (drop i xs))) ≡ list_with_front new (joined (each_of f (drop (i + 1) xs)))

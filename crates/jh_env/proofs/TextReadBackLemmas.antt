@@ -1,4 +1,4 @@
--- What the entries that are written tell of each cell.
+-- What the entries that are written make of each cell.
 use Rattle.std.proofs.Common.{◌≡◌, ℕ, ◌<◌, Bool, true, false, List, length, fold, filter_map, flat_map, Option, Some, None, ap, refl, sym, ◌∙◌, arith}
 use Rattle.std.specs.Prelude.{if◌then◌else◌, ◌==◌, ◌&&◌, nat_lt, slice_get, pos, negsuc, ℤ}
 use Rattle.std.proofs.lemmas.Bool.Decides.{nat_tests}
@@ -46,7 +46,7 @@ link_step_there : (names : List (List ℕ)) (a b x y : ℕ) (from to : List ℕ)
 link_step_there names a b x y from to l None from_at to_at = sym (if-same ((a == x) && (b == y)) l)
 link_step_there names a b x y from to l (Some says) from_at to_at = rw (from_at, to_at) refl
 
--- the entry of the link from x to y tells of the link from a to b where they are one link
+-- the entry of the link from x to y changes the link from a to b where they are one link
 link_step : (env : EnvValue) (section : Section) (a b x y : ℕ) (l : Link) → AreNodeNames env.names → a < length env.names → b < length env.names
     → option_map_or (link_after env.names a b l) (link_entry env section x y) l
     ≡ (if (a == x) && (b == y) then said_of_link env section x y l else l)
@@ -78,7 +78,7 @@ link_step env section a b x y l good a_below b_below =
           ] refl
     ] refl
 
--- all entries of links under a key tell of the link from a to b what is written of it
+-- all entries of links under a key make of the link from a to b what is written of it
 pub fold_links : (env : EnvValue) (section : Section) (a b : ℕ) (l : Link) → AreNodeNames env.names → a < length env.names → b < length env.names
     → fold (link_after env.names a b) l (flat_map (λ x. filter_map (link_entry env section x) (places env)) (places env)) ≡ said_of_link env section a b l
 fold_links env section a b l good a_below b_below =
@@ -107,7 +107,7 @@ node_step_there : (names : List (List ℕ)) (a x : ℕ) (name : List ℕ) (c : N
 node_step_there names a x name c None at = sym (if-same (a == x) c)
 node_step_there names a x name c (Some says) at = rw at refl
 
--- the entry of the node x tells of the node a where they are one node
+-- the entry of the node x changes the node a where they are one node
 node_step : (env : EnvValue) (section : Section) (a x : ℕ) (c : NodeCell) → AreNodeNames env.names → a < length env.names
     → option_map_or (node_after env.names a c) (node_entry env section x) c ≡ (if a == x then said_of_node env section x c else c)
 unfolding said_of_node
@@ -127,7 +127,7 @@ node_step env section a x c good a_below =
           ]
     ] refl
 
--- all entries of nodes under a key tell of the node a what is written of it
+-- all entries of nodes under a key make of the node a what is written of it
 pub fold_nodes : (env : EnvValue) (section : Section) (a : ℕ) (c : NodeCell) → AreNodeNames env.names → a < length env.names
     → fold (node_after env.names a) c (filter_map (node_entry env section) (places env)) ≡ said_of_node env section a c
 fold_nodes env section a c good a_below =
@@ -136,7 +136,7 @@ fold_nodes env section a c good a_below =
     (λ k x. node_step env section a x k good a_below) c (places env)
     ∙ fold-once (said_of_node env section) a 0 (length env.names) c (omega arith) (omega arith)
 
--- entries of nodes tell nothing of a link
+-- entries of nodes change no link
 pub fold_nodes-link : (env : EnvValue) (section : Section) (a b : ℕ) (l : Link)
     → fold (link_after env.names a b) l (filter_map (node_entry env section) (places env)) ≡ l
 fold_nodes-link env section a b l =
@@ -155,7 +155,7 @@ fold_nodes-link env section a b l =
               ]
         ]
 
--- entries of links tell nothing of a node
+-- entries of links change no node
 pub fold_links-node : (env : EnvValue) (section : Section) (a : ℕ) (c : NodeCell)
     → fold (node_after env.names a) c (flat_map (λ x. filter_map (link_entry env section x) (places env)) (places env)) ≡ c
 fold_links-node env section a c =
@@ -214,7 +214,7 @@ loss_said link cut delay =
       | false ↦ λ is. λ i. record { cut = cut; delay = delay; loss = no_less link.loss is i }
     ] refl
 
--- all that is said of a link, under the three keys, is the link
+-- all that is written of a link, under the three keys, is the link
 pub link_rebuilt : (env : EnvValue) (a b : ℕ) (link : Link) → link_of env a b ≡ Some link → IsStartingLink link
     → said_of_link env Section.Loss a b (said_of_link env Section.Slow a b (said_of_link env Section.Cut a b calm_link)) ≡ link
 unfolding said_of_link
@@ -249,7 +249,7 @@ clock_said process (pos n) =
     ] refl
 clock_said process (negsuc n) = refl
 
--- all that is said of a node, under the two keys, is the node
+-- all that is written of a node, under the two keys, is the node
 pub node_rebuilt : (env : EnvValue) (a : ℕ) (cell : NodeCell) → node_of env a ≡ Some cell
     → said_of_node env Section.Clock a (said_of_node env Section.Down a running_node) ≡ cell
 unfolding said_of_node

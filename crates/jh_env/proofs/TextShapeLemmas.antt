@@ -19,14 +19,14 @@ use Rattle.jh_edn.proofs.CitedLemmas.{list_of-items_of}
 use Rattle.jh_env.proofs.TextLemmas.{each_of-map}
 use Rattle.jh_env.proofs.TextSoundLemmas.{link_parts, node_parts, if_gives, unless_gives, all_written}
 
--- each tells itself
+-- each means itself
 each_of-itself : {A : Type 0} (f : A → Option A) (xs : List A) → All (λ x. f x ≡ Some x) xs → each_of f xs ≡ Some xs
 each_of-itself f [] all = refl
 each_of-itself f (x ∷ xs) all =
     ap (λ o. o >>= (λ y. each_of f xs >>= (λ ys. Some (y ∷ ys)))) (All-head (λ y. f y ≡ Some y) x xs all)
     ∙ ap (λ o. o >>= (λ ys. Some (x ∷ ys))) (each_of-itself f xs (All-tail (λ y. f y ≡ Some y) x xs all))
 
--- each tells its image
+-- each means its image
 each_of-images : {A B : Type 0} (f : A → Option B) (g : A → B) → ((x : A) → f x ≡ Some (g x)) → (xs : List A) → each_of f xs ≡ Some (map g xs)
 each_of-images f g is [] = refl
 each_of-images f g is (x ∷ xs) =

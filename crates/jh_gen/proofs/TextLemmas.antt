@@ -41,7 +41,7 @@ items_of-list_of : (xs : Items) → items_of (list_of xs) ≡ xs
 items_of-list_of no_items = refl
 items_of-list_of (item x xs) = ap (item x) (items_of-list_of xs)
 
--- what the elements of a sequence tell, and that they are smaller
+-- what the elements of a sequence mean, and that they are smaller
 pub record ReadsElements (v : Edn) (xs : List Edn) : Type 0 where
   pub parsed : parsed_generator v ≡ rule.generator_of_operands (operands_in xs)
   pub smaller : size_list xs < size_of v

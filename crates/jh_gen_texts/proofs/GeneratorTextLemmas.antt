@@ -1,4 +1,4 @@
--- What is written of a generator tells that generator, and what is written member by member is what is written of all.
+-- What is written of a generator means that generator, and what is written member by member is what is written of all.
 use Rattle.std.proofs.Common.{◌≡◌, refl, sym, ap, ap₂, subst, ◌∙◌, ℕ, zero, suc, ◌+◌, ◌^◌, ◌<◌, List, [], ◌∷◌, ◌++◌, length, take, Ok, Err, get_or, arith}
 use Rattle.std.specs.Prelude.{Some, pos, option_map, Result, IfOk}
 use Rattle.std.proofs.lemmas.Bool.{lt-ltb}

@@ -53,7 +53,7 @@ links_skip test links src dst fails are = record {
   whole = λ b a hit early. are.whole b a hit (before_next a src dst b early (λ x y. both_ways (test b a) (ap (λ t. test b t) x ∙ ap (λ t. test t src) y ∙ fails) hit));
 }
 
--- the same, as a loop says it
+-- the same, as a loop has it
 pub links_pushed : (test : ℕ → ℕ → Bool) (links more : List (ℕ × ℕ)) (src dst : ℕ) → more ≡ links ++ (src, dst) ∷ [] → test dst src ≡ true
     → AreLinksBefore test links (src, dst) → AreLinksBefore test more (src, dst + 1)
 links_pushed test links more src dst is passes are =

@@ -1,4 +1,4 @@
--- A text that is read up to a place, the values before it told.
+-- A text that is read up to a place, the values before it parsed.
 use Rattle.std.proofs.Common.{◌≡◌, ℕ, ◌⊎◌, List, [], ◌∷◌, ◌++◌, drop, Some, None, inl, inr, sym, subst, append_assoc, arith}
 use Rattle.std.proofs.lemmas.List.{append-nil, length-append}
 use Rattle.std.specs.Str.{IsUtf8}
@@ -49,7 +49,7 @@ text_refused text values at error utf8 begun why first =
       ]
     ]
 
--- values were read, and all elements in them told
+-- values were read, and all elements in them parsed
 pub history_read : (text : List ℕ) (values elements : List Edn) (at : ℕ) (parsing : Parsing) → elements_in values ≡ elements → Begins text values at → IsGap (drop at text) → parsing.refusal ≡ None → HasParsed parsing elements
     → IsHistoryOf text (operations parsing.ops.items)
 history_read text values elements at parsing are begun gap none parsed =

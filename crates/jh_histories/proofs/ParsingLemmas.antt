@@ -1,4 +1,4 @@
--- What is told of elements one after another is told of all of them.
+-- What is parsed of elements one after another is parsed of all of them.
 use Rattle.std.proofs.Common.{◌≡◌, ◌⊎◌, List, [], ◌∷◌, ◌++◌, length, map, Some, None, inl, inr, refl, sym, ap, ◌∙◌, append_assoc, arith}
 use Rattle.std.specs.Prelude.{Ok, Err, IsOk, OnOk, Result, MatchResult}
 use Rattle.std.proofs.lemmas.List.{append-nil, map-append}
@@ -15,7 +15,7 @@ use Rattle.jh_ops.proofs.HistoryLemmas.{Parsed, many_elements, refused_parsed}
 
 -- ---- one element more
 
--- which is the first that tells none
+-- which is the first that means none
 pub first_refused : (elements : List Edn) (ops : List Operation) (value : Edn) (refusal : OpError) → map parsed_op elements ≡ map Ok ops → parsed_op value ≡ Err refusal
     → Leave (elements ++ value ∷ []) ops (Some (history_error_at (length ops) refusal))
 first_refused elements ops value refusal parsed is = λ values behind are.
@@ -45,7 +45,7 @@ all_refused values elements ops refusal are refused = refused values [] (are ∙
 pub several_elements : (values : List Edn) → AreSeveral values → elements_in values ≡ values
 several_elements values several = many_elements values (λ one. omega (arith, several, one))
 
--- a list or a vector: alone it stands for its elements, and it tells no operation itself
+-- a list or a vector: alone it stands for its elements, and it means no operation itself
 pub sequence_parsed : (value : Edn) (elements : List Edn) → elements_of value ≡ Some elements → (elements_in (value ∷ []) ≡ elements) × (parsed_op value ≡ Err refusals.NotMap)
 sequence_parsed (list xs) elements is = ((let same : list_of xs ≡ elements = cc in same), refl)
 sequence_parsed (vector xs) elements is = ((let same : list_of xs ≡ elements = cc in same), refl)

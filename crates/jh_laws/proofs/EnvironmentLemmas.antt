@@ -41,7 +41,7 @@ if_bound : {A B : Type 0} (o : Option A) (f : A → Option B) (P : B → Type 0)
 if_bound None f P each = tt
 if_bound (Some x) f P each = each x refl
 
--- ---- what an entry says
+-- ---- what is written of an entry
 
 small : (n : ℕ) → n ≤ 10 ^ 12 → FitsSigned w64 (pos n)
 small n h = record { sfits = omega (arith, h) }

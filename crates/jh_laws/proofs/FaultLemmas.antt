@@ -1,4 +1,4 @@
--- What is written of a fault tells that fault, with its links, nodes or bumps in order.
+-- What is written of a fault means that fault, with its links, nodes or bumps in order.
 use Rattle.std.proofs.Common.{◌≡◌, ℕ, ◌^◌, ◌<◌, ◌≤◌, Bool, true, false, List, [], ◌∷◌, ◌++◌, length, map, filter_map, Option, Some, None, Ok, refl, sym, ap, ◌∙◌, arith}
 use Rattle.std.specs.Prelude.{ℤ, pos, negsuc, not, is_none, is_some, ◌==◌, slice_index_or, option_map, option_and_then, if◌then◌else◌}
 use Rattle.std.specs.List.{AllByRecursion, list_all, list_any, All, cons_option}
@@ -64,7 +64,7 @@ node_again names named a below = place_again names named a below
 bump_again : (names : List (List ℕ)) → AreNodeNames names → (b : ℕ × ℤ) → b.0 < length names → bump_of names (bump_text names b) ≡ Some b
 bump_again names named b below = ap (option_map (λ node. (node, b.1))) (place_again names named b.0 below)
 
--- what a list of texts tells, where each tells what it was written of
+-- what a list of texts means, where each means what it was written of
 module _ {A B : Type 0} (text : A → B) (tell : B → Option A) (P : A → Type 0) (again : (x : A) → P x → tell (text x) ≡ Some x) where
   all_known : (xs : List A) → AllByRecursion P xs → list_any (λ v. is_none (tell v)) (map text xs) ≡ false
   all_known [] all = refl

@@ -1,4 +1,4 @@
--- What the set checker finds, told of the elements themselves.
+-- What the set checker finds, by the elements themselves.
 use Rattle.std.proofs.Common.{◌≡◌, ◌↔◌, Bool, true, false, cond, not, ◌&&◌, List, [], ◌∷◌, map, length, get_or, codes, refl, sym, ap, subst, Contains, All}
 use Rattle.std.specs.Prelude.{◌==◌}
 use Rattle.std.specs.List.{filter}

@@ -1,4 +1,4 @@
--- A history that is written as lines is told by them.
+-- A history that is written as lines is parsed from them.
 use Rattle.std.proofs.Common.{◌≡◌, ℕ, List, [], ◌∷◌, ◌++◌, map, Option, Some, None, Ok, refl, sym, ap, subst, ◌∙◌, arith}
 use Rattle.std.specs.Prelude.{ℤ, unwrap_or, Result}
 use Rattle.std.specs.List.{All, AllByRecursion}
@@ -63,7 +63,7 @@ pub parsed_histories_print : (values : List Edn) (history : List Operation) → 
 parsed_histories_print values history h parsed =
     All-from_recursion CanPrint history (each_can_print (elements_in values) history (elements_printable values (recursion_from_All (IsPrintable depth_limit) values h)) parsed)
 
--- ---- what the values that are written tell
+-- ---- what the values that are written mean
 
 one_by_one : (history : List Operation) → elements_in (map value_written history) ≡ map value_written history
 one_by_one [] = refl

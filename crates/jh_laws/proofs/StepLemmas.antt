@@ -1,4 +1,4 @@
--- What is written of a step tells that step, with its fault in order, and can be printed.
+-- What is written of a step means that step, with its fault in order, and can be printed.
 use Rattle.std.proofs.Common.{◌≡◌, ℕ, ◌<◌, ◌≤◌, ◌^◌, false, true, List, [], ◌∷◌, length, map, codes, Option, Some, None, Ok, refl, sym, ap, ◌∙◌, arith}
 use Rattle.std.specs.Prelude.{ℤ, pos, negsuc, FitsSigned, Result}
 use Rattle.std.specs.Int.{w64}

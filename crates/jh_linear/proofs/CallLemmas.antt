@@ -1,4 +1,4 @@
--- The operations that pairs tell, and the least place of a bad value.
+-- The operations that pairs stand for, and the least place of a bad value.
 use Rattle.std.proofs.Common.{◌≡◌, ℕ, zero, suc, ◌<◌, ◌≤◌, min, Option, Some, None, List, [], ◌∷◌, ◌++◌, get_or, map, option_map, sym, ap, subst, ◌∙◌, inl, inr, arith}
 use Rattle.std.specs.Prelude.{IfSome}
 use Rattle.std.specs.List.{All, Contains}

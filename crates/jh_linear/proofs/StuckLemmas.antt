@@ -21,7 +21,7 @@ use Rattle.jh_linear.proofs.OrderLemmas.{keeps_if, late_if}
 use Rattle.jh_linear.proofs.PartialLemmas.{follows_of, partial}
 use Rattle.jh_linear.proofs.JudgeLemmas.{none_reaches}
 
--- ---- what a cut history tells of an operation
+-- ---- what a cut history shows of an operation
 
 not_done_before : (outcome : Outcome) → outcome_before_end outcome ≡ Done → ⊥
 not_done_before Done h = let bad = h in cc

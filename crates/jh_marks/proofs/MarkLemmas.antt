@@ -105,7 +105,7 @@ unexpected_same true (Some read) call = refl
 unexpected_same false None call = refl
 unexpected_same false (Some read) call = refl
 
--- nor does what is said of a set
+-- nor do the notes of a set
 pub found_same : (lost recovered : List Edn) (found : SetFound) (history : List Operation) (bars : List Bar)
     → lost ≡ in_order is_below found.lost → recovered ≡ in_order is_below found.recovered
     → marks_by (found_note_with lost recovered (unexpected_place found history) history) bars ≡ marks_by (found_note found history) bars

@@ -1,4 +1,4 @@
--- Values that tell operations, one after another.
+-- Values that mean operations, one after another.
 use Rattle.std.proofs.Common.{◌≡◌, ℕ, zero, suc, ◌+◌, ◌<◌, List, [], ◌∷◌, ◌++◌, length, map, Option, Some, None, refl, sym, ap, ◌∙◌, arith, inl, inr, codes}
 use Rattle.std.specs.Prelude.{◌⊎◌, slice_get, unwrap_or, ok_or, Result, Ok, Err, IsOk}
 use Rattle.std.proofs.lemmas.Bool.{cases_eq}
@@ -20,7 +20,7 @@ many_elements [] many = refl
 many_elements (v ∷ []) many = absurd (many refl)
 many_elements (v ∷ w ∷ values) many = refl
 
--- ---- operations told, and then what the rest tells
+-- ---- operations parsed, and then what the rest means
 
 -- all but the rest are these operations
 abbrev pub Parsed : List Edn → List Operation → List Edn → Type 0
@@ -83,7 +83,7 @@ map_never : (o : Option (List (Edn × Edn))) → result_of_needed o NotMap op_of
 map_never None is = cc
 map_never (Some pairs) is = by_never pairs is
 
--- no value tells that there is no memory
+-- no value means that there is no memory
 never_memory : (value : Edn) → parsed_op value ≡ Err OpError.OutOfMemory → ⊥
 never_memory value is = map_never (map_pairs (untagged_value value)) is
 
@@ -91,7 +91,7 @@ parsed_ok : (r : Result Operation OpError) → IsOk r → (op : Operation) × (r
 parsed_ok (Ok op) ok = (op, refl)
 parsed_ok (Err e) ok = absurd (cc ok)
 
--- memory was refused for a value that tells an operation
+-- memory was refused for a value that means an operation
 pub memory_wanted : (values : List Edn) (ops : List Operation) (value : Edn) (rest : List Edn) (op : Operation) → Parsed values ops (value ∷ rest) → parsed_op value ≡ Ok op → RefusesValues values OutOfMemory
 memory_wanted values ops value rest op parsed is = (
   length ops,

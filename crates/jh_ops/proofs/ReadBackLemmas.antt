@@ -1,4 +1,4 @@
--- What is written of an operation tells it again.
+-- What is written of an operation means it again.
 use Rattle.std.proofs.Common.{◌≡◌, ℕ, Bool, true, false, List, [], ◌∷◌, find, filter, Option, Some, None, refl, sym, ap, ◌∙◌, inl, inr, codes}
 use Rattle.std.specs.Prelude.{ℤ, not, cond, option_and_then, ok_or, Result, Ok, Err}
 use Rattle.std.proofs.lemmas.Bool.{cases_Bool, and_parts}

@@ -1,4 +1,4 @@
--- What the words of a record tell of it.
+-- What the words of a record mean.
 use Rattle.std.proofs.Common.{◌≡◌, ℕ, suc, ◌+◌, ◌*◌, ◌-◌, ◌/◌, ◌%◌, ◌<◌, ◌≤◌, ◌^◌, true, false, List, [], ◌∷◌, ◌++◌, length, take, drop, Some, None, refl, sym, ap, subst, ◌∙◌, inl, inr, arith}
 use Rattle.std.specs.Prelude.{Option, slice_index_or, ◌==◌, ◌&&◌, ℤ, cond, map, All, IfSome}
 use Rattle.std.specs.Int.{w64, cast_signed, cast_unsigned}
@@ -96,7 +96,7 @@ count_of words r are = ap (λ ws. length (drop 3 ws)) are.1 ∙ sym (length-map 
 pub fits_again : (words : List ℕ) (r : Record) → CanBeKept r → AreWordsOf words r → (holds (shape_in r.content) (length (drop 3 words)) && takes r.function (shape_in r.content) (length (drop 3 words))) ≡ true
 fits_again words r can are = rw (count_of words r are, holds_again r.content can.few) (takes_again r.function r.content can.content)
 
--- what the numbers of a first word say
+-- what the numbers of a first word mean
 low : (k f s : ℕ) → k < 4 → f < 16 → (k + 4 * f + 64 * s) % 4 ≡ k
 low k f s h g = omega arith
 

@@ -1,4 +1,4 @@
--- The lines of a run's history tell that history.
+-- The lines of a run's history mean that history.
 use Rattle.std.proofs.Common.{◌≡◌, ℕ, ◌+◌, List, [], ◌∷◌, map, refl, ap, ◌∙◌}
 use Rattle.std.specs.Prelude.{Ok}
 use Rattle.jh_ops.specs.HistoryText.{AreParsed, elements_in}
@@ -12,7 +12,7 @@ use Rattle.jh_simnode.specs.declared.events.Event.{Event}
 use Rattle.jh_simnode.specs.Histories.{placed_completion, journal_history, operations_from}
 use Rattle.jh_run_laws.proofs.PairLemmas.{Each}
 
--- what is written of the operation tells it
+-- what is written of the operation means it
 abbrev IsParsedAgain : Operation → Type 0
 IsParsedAgain op = parsed_op (value_written op) ≡ Ok op
 

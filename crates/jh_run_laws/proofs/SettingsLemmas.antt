@@ -1,4 +1,4 @@
--- Bytes tell one run: every part of a plan is told once, and the cells of its start once for each link and node.
+-- Bytes mean one run: each part of a plan is parsed in one way, and the cells of its start for each link and node.
 use Rattle.std.proofs.Common.{◌≡◌, ℕ, List, [], ◌∷◌, refl, sym, ap, subst, ◌∙◌}
 use Rattle.std.specs.Prelude.{Option, Some, None}
 use Rattle.std.proofs.lemmas.Option.{same_Some}

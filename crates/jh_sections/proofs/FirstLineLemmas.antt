@@ -1,4 +1,4 @@
--- A text that tells no history as a whole, and the first line in it that begins with `:active`.
+-- A text that means no history as a whole, and the first line in it that begins with `:active`.
 use Rattle.std.proofs.Common.{◌≡◌, ◌∙◌, ℕ, zero, suc, ◌+◌, ◌<◌, List, [], ◌∷◌, drop, map, Some, sym, ap, subst, arith, add-one}
 use Rattle.std.specs.Prelude.{Result, Ok, Err, slice_get, codes}
 use Rattle.std.specs.Str.Pattern.{HasTextAt, LacksTextAt}
@@ -15,15 +15,15 @@ use Rattle.jh_ops.specs.declared.history.HistoryError.TheVariants.{Op, OutOfMemo
 use Rattle.jh_ops.specs.declared.op_text.OpError.{OpError}
 use Rattle.jh_sections.specs.HistoryAndRest.{HasLineAt, IsFirstLine, IsOfBytes, IsNoHistory}
 
--- ---- a text that tells none
+-- ---- a text that means none
 
--- where each value tells an operation, none is refused
+-- where each value means an operation, none is refused
 none_refused : (ops : List Operation) (place : ℕ) (why : OpError) → slice_get (map (λ (op : Operation). let parsed : Result Operation OpError = Ok op in parsed) ops) place ≡ Some (Err why) → ⊥
 none_refused [] place why is = cc
 none_refused (op ∷ ops) zero why is = cc
 none_refused (op ∷ ops) (suc place) why is = none_refused ops place why is
 
--- what the text says is no history
+-- what the text holds is no history
 pub tells_none : (text : List ℕ) (error : ReadHistoryError) → ((t : List ℕ) (xs ys : List Edn) → SpellsAll xs t → SpellsAll ys t → xs ≡ ys) → (IsOfBytes error → ⊥) → RefusesHistoryOf text error
     → IsNoHistory text
 tells_none text (Text (UnexpectedEnd line)) once other refused = λ history parsed. refused.0.1 parsed.0 parsed.1

@@ -1,4 +1,4 @@
--- Entries told one after another.
+-- Entries parsed one after another.
 use Rattle.std.proofs.Common.{◌≡◌, ℕ, ◌+◌, ◌<◌, ◌≤◌, List, [], ◌∷◌, ◌++◌, length, get_or, drop, suc, refl, sym, ap, subst, ◌∙◌, append_assoc, append-nil, arith}
 use Rattle.std.proofs.lemmas.List.{drop_all}
 use Rattle.toml.specs.Data.{Data, Items, no_items, item}
@@ -35,7 +35,7 @@ one_parsed names values count entries value entry parsed within at is =
           (first.1, first.3);
     }
 
--- no entries tell all values where one tells none
+-- no entries are those of all values where one means none
 pub not_parsed : (names : List (List ℕ)) (values : List Value) (count : ℕ) (entries : List Entry) (value : Value) → Parsed names values count entries
     → count < length values → value ≡ get_or values count value → ((entry : Entry) → IsParsedEntry names (view value) entry → ⊥) → ((all : List Entry) × AreFewParsedEntries names (items_view values) all) → ⊥
 not_parsed names values count entries value parsed within at none all =

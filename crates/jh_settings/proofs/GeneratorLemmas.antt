@@ -1,4 +1,4 @@
--- A value that is refused as a generator tells none.
+-- A value that is refused as a generator means none.
 use Rattle.std.proofs.Common.{◌≡◌, None, sym, ap, ◌∙◌}
 use Rattle.toml.specs.Data.{Members}
 use Rattle.jh_edn.specs.Edn.{Edn}

@@ -1,4 +1,4 @@
--- The keys of a table, as words, and the first of them that is unknown.
+-- The keys of a table, as names, and the first of them that is unknown.
 use Rattle.std.proofs.Common.{◌≡◌, ℕ, ◌<◌, Bool, true, false, List, [], ◌∷◌, ◌++◌, map, length, get_or, String, Global, Ordering, Less, Greater, refl, sym, ap, subst, ◌∙◌, append_assoc, append-nil, inl, inr, length-append, arith}
 use Rattle.std.proofs.lemmas.Bool.{cases_order, true≢false, and_from}
 use Rattle.std.proofs.lemmas.List.{get_or-map, get_or_append_left, get_or-append-add, length-map}

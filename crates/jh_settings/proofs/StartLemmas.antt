@@ -1,4 +1,4 @@
--- A value that is refused as an environment tells none, and its names are told once.
+-- A value that is refused as an environment means none, and a document means one list of nodes.
 use Rattle.std.proofs.Common.{◌≡◌, ℕ, List, length, None, Ok, Err, refl, sym, ap, subst, ◌∙◌, arith}
 use Rattle.std.proofs.lemmas.Bool.{true≢false}
 use Rattle.std.proofs.lemmas.Option.{same_Some}
@@ -93,7 +93,7 @@ start_refused document x held BadAmount h = (refl, none_starts document x held (
 start_refused document x held RepeatedEntry h = (refl, none_starts document x held (tells_none x RepeatedEntry h (λ e. cc)))
 start_refused document x held OutOfMemory h = tt
 
--- the nodes of the start are told once
+-- a document means one list of nodes at the start
 pub nodes_once : (document : Members) (env other : EnvValue) → IsParsedStart document env → IsParsedStart document other → env.names ≡ other.names
 nodes_once document env other h k =
     let same : h.0 ≡ k.0 = held_once Key.Start document h.0 k.0 h.1 k.1 in

@@ -1,4 +1,4 @@
--- What the values of a fault's text tell, by the tests that the code makes.
+-- What the values of a fault's text mean, by the tests that the code makes.
 use Rattle.std.proofs.Common.{◌≡◌, ◌≢◌, ℕ, ◌+◌, ◌<◌, Bool, true, false, suc, List, [], ◌∷◌, ◌++◌, length, get_or, take, drop, refl, arith, ap, sym, ◌∙◌, zero, append_assoc, subst, add-one, drop-cons}
 use Rattle.std.specs.Prelude.{⊤, ℤ, pos, negsuc, is_none, is_some, Option, Some, None, Ok, Err, ◌==◌, not, IsOk, nat_le, nat_lt, option_map, option_and_then, ◌^◌}
 use Rattle.std.specs.List.{cons_option, filter_map, list_all, list_any}
@@ -26,7 +26,7 @@ use Rattle.jh_step_texts.specs.NamedFaults.{AreLinksAmong}
 use Rattle.jh_step_texts.proofs.LinkLemmas.{some_of_any}
 use Rattle.jh_step_texts.proofs.ListLemmas.{filter_map-map, list_any-map}
 
--- an unknown node is told first
+-- an unknown node is reported first
 pub parsed_links-unknown : (names : List (List ℕ)) (effect : OnLinks) (links : List Value) → list_any (λ l. is_none (ends_of names (view l))) links ≡ true
     → parsed_links names effect (views links) ≡ Err UnknownNode
 parsed_links-unknown names effect links unknown = rw (list_any-map (λ l. is_none (ends_of names l)) view links, unknown) refl

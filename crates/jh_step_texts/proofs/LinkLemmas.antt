@@ -1,4 +1,4 @@
--- Lists of links: those between all nodes that pass a test, ascending; and one ascending list is told by its links.
+-- Lists of links: those between all nodes that pass a test, ascending; and one ascending list is known by its links.
 use Rattle.std.specs.Prelude.{cond, ◌||◌, map, filter, flat_map}
 use Rattle.std.proofs.Common.{◌≡◌, ℕ, zero, suc, ◌+◌, ◌-◌, ◌<◌, ◌≤◌, Bool, true, false, List, [], ◌∷◌, ◌++◌, get_or, take, drop, refl, sym, ap, subst, ◌∙◌, ◌⊎◌, inl, inr, arith}
 use Rattle.std.specs.List.{All, AllPairs, Contains, list_any, range_with_len}

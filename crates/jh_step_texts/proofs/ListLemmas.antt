@@ -9,7 +9,7 @@ pub filter_map-map : {X Y Z : Type 0} (h : Y → Option Z) (f : X → Y) (xs : L
 filter_map-map h f [] = refl
 filter_map-map h f (x ∷ xs) = rw (filter_map-map h f xs) refl
 
--- what is told of images is told of what they are images of
+-- what holds of images holds of what they are images of
 pub list_any-map : {X Y : Type 0} (p : Y → Bool) (f : X → Y) (xs : List X) → list_any p (map f xs) ≡ list_any (λ x. p (f x)) xs
 list_any-map p f [] = refl
 list_any-map p f (x ∷ xs) = ap (λ b. p (f x) || b) (list_any-map p f xs)

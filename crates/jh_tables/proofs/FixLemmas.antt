@@ -139,7 +139,7 @@ delay_last a b delay (x ∷ xs) order stamp ms links (suc k) h at named all =
     delay_last a b (delay_after_fault a b delay x.1) xs (in_order_tail x xs order) stamp ms links k (omega (arith, h)) at named
     (each_tail (λ s _ ls. names_link ls a b ≡ true → s ≤ stamp) x xs all)
 
--- the entries tell the delay that the faults fix
+-- the entries give the delay that the faults fix
 pub delay_told : (n a b delay : ℕ) (entries : List (Option FixEntry)) (stamped : List (ℕ × FaultValue)) → a < n → b < n
     → AreEntries n entries stamped → AreInOrder stamped → delay_fixed (latest_fix a b entries) delay ≡ fold (delay_after_fault a b) delay (faults_of stamped)
 delay_told n a b delay entries stamped ha hb are order =

@@ -66,7 +66,7 @@ module _ (n a b start : ℕ) (losses : List ℕ) (faults : List FaultValue) (rig
       let same : level_held losses (get_or (range_with_len 0 20) i 0) ≡ level_held losses i = ap (level_held losses) (get_or-range_with_len 0 20 i 0 below ∙ omega arith) in
       omega (arith, held, least, same)
 
-  -- the counts tell the greatest level of the faults
+  -- the counts give the greatest level of the faults
   pub level_told : greatest_level losses start ≡ over
   level_told =
       let most = max_bound (level_held losses) start over (range_with_len 0 20) (max_start (loss_by a b) start faults)

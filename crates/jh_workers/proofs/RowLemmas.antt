@@ -46,7 +46,7 @@ long_is_bad v w row len more same long m at =
     let found = long m (sym (ap (λ (y : Knowledge). map.get y.seen row) same) ∙ at) in
     subst IsBadMark (sym found.1) (λ op is. let short = recorded_short op found.0 is in absurd (omega (arith, short, more, found.2)))
 
--- words that tell no operation are bad
+-- words of no operation are bad
 pub refused_is_bad : (words : List ℕ) (row : ℕ) (e : WordsError) → RefusesWords words e → RefusesRow words row (gather_error e row)
 refused_is_bad words row BadWords refuses = (refl, λ op is. refuses is.0 is.1 is.3)
 refused_is_bad words row OutOfMemory refuses = tt

@@ -1,6 +1,6 @@
 use Rattle.jh_workers.proofs.workers.serve.Goals as goal
 
--- the invocation before the call, and what the call told after it
+-- the invocation before the call, and the completion after it
 pub returns-clause-recorded : goal.returns-clause-recorded
 returns-clause-recorded g c =
     let between = c.record_invocation.new.pass.seat.knows.seen in
