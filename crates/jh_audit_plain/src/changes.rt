@@ -1,4 +1,4 @@
-//! Changes of a history that look random: a line is left out, told again, exchanged with another,
+//! Changes of a history that look random: a line is left out, repeated, exchanged with another,
 //! or says something else.
 
 use crate::lines::Line;
@@ -14,12 +14,12 @@ static VALUES: [&str; 11] = [
     "nil", "0", "5", "-1", "[0 1]", "[0 0]", "[1 0]", "[0 7]", "[0 8]", "[]", "[0 1 2]",
 ];
 
-/// A number below that of the words.
+/// A random number below this length.
 fn place_in(random: &mut Random, len: usize) -> usize {
     random.below(len as u64) as usize
 }
 
-/// One of some words.
+/// One of some texts.
 fn one_of(random: &mut Random, words: &'static [&'static str]) -> &'static str {
     let place = place_in(random, words.len());
     words.get(place).copied().unwrap_or("")
@@ -49,7 +49,7 @@ fn renumber(random: &mut Random, lines: &mut [Line<'_>]) {
     }
 }
 
-/// Changes a history in one thing. Memory may be refused to a line that is told again.
+/// Changes a history in one thing. Memory may be refused to a line that is repeated.
 pub fn change<'a>(random: &mut Random, lines: &mut Vec<Line<'a>>) -> Option<()> {
     let place = place_in(random, lines.len());
     let other = place_in(random, lines.len());

@@ -13,7 +13,7 @@ fn inside(text: &str) -> Option<&str> {
     text.strip_prefix('[')?.strip_suffix(']')
 }
 
-/// The two words between brackets.
+/// The two texts between brackets.
 pub(crate) fn pair_in(text: &str) -> Option<(&str, &str)> {
     inside(text)?.split_once(' ')
 }

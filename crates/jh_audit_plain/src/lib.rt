@@ -1,4 +1,4 @@
-//! A plain slow audit, over the printed words of a history's lines, and changes of histories that
+//! A plain slow audit, over the printed texts of a history's lines, and changes of histories that
 //! look random. They serve tests alone: `jh_audit_tests` compares `jh_audit` with them.
 #![tactic(auto)]
 

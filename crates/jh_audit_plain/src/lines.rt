@@ -1,4 +1,4 @@
-//! The lines of a history: each operation as the words that are printed of it.
+//! The lines of a history: each operation as the texts that are printed of it.
 //!
 //! None is answered where memory was refused, or a text is no history of a run.
 
@@ -28,7 +28,7 @@ fn taken<'a>(text: &'a str, key: &str) -> Option<(&'a str, &'a str)> {
     Some(text.split_once(", ").unwrap_or((text, "")))
 }
 
-/// What is said behind the place and the kind.
+/// The line whose text behind the place and the kind is this.
 fn with_rest<'a>(index: usize, kind: &'a str, rest: &'a str) -> Option<Line<'a>> {
     let (process, rest) = taken(rest, ":process ")?;
     let (f, rest) = taken(rest, ":f :")?;
@@ -46,14 +46,14 @@ fn with_rest<'a>(index: usize, kind: &'a str, rest: &'a str) -> Option<Line<'a>>
     })
 }
 
-/// What a printed line says.
+/// What a printed line means.
 fn line_of(text: &str) -> Option<Line<'_>> {
     let (index, rest) = taken(text.strip_suffix('}')?, "{:index ")?;
     let (kind, rest) = taken(rest, ":type :")?;
     with_rest(index.parse().ok()?, kind, rest)
 }
 
-/// What the lines of a printed history say.
+/// What the lines of a printed history mean.
 pub fn lines_of<'a>(alloc: Global, text: &'a str) -> Option<Vec<Line<'a>>> {
     let mut lines = Vec::new(alloc);
     for line in text.lines() {

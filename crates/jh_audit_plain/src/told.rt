@@ -1,4 +1,4 @@
-//! Whether a line is the completion of an event: it says the event's own words.
+//! Whether a line is the completion of an event: it has what is printed of the event.
 //!
 //! None is answered where memory was refused.
 
@@ -9,7 +9,7 @@ use jh_ops::Request;
 use jh_simnode::{Event, Got, Reply};
 use std::alloc::Global;
 
-/// The word of a request, and the value that it asks with.
+/// The name of a request, and the value that it asks with.
 fn asked(alloc: Global, request: Request) -> Option<(&'static str, String)> {
     match request {
         Request::Read => Some(("read", String::from_str(alloc, "nil").ok()?)),
@@ -20,7 +20,7 @@ fn asked(alloc: Global, request: Request) -> Option<(&'static str, String)> {
     }
 }
 
-/// The words of numbers between brackets.
+/// The text of numbers between brackets.
 fn vector(alloc: Global, numbers: &[i64]) -> Option<String> {
     let mut text = String::from_str(alloc, "[").ok()?;
     for number in numbers {

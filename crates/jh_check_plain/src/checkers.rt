@@ -94,7 +94,7 @@ fn began(events: &[Event], place: usize) -> Option<usize> {
     }
 }
 
-/// The words of the error at a place.
+/// The message of the error at a place.
 fn error_at(events: &[Event], place: usize) -> Option<&'static str> {
     let event = events.get(place)?;
     let is_add = event.is(":invoke", ":add");
@@ -135,7 +135,7 @@ fn counter_answer(alloc: Global, events: &[Event]) -> Result<String, AllocError>
     format!(in alloc; "{{:valid? {is_valid}, :reads [{reads}], :errors [{errors}]}}")
 }
 
-/// How often this was done, with any value where none is told.
+/// How often this was done, with any value where none is given.
 fn count(events: &[Event], kind: &str, value: Option<i64>) -> usize {
     let mut count = 0usize;
     for event in events {
@@ -163,7 +163,7 @@ fn ids_answer(alloc: Global, events: &[Event]) -> Result<String, AllocError> {
     )
 }
 
-/// A history, and what is answered: a checker's line, or the words of why there is none.
+/// A history, and what is answered: a checker's line, or the message of its error.
 #[derive(Drop)]
 pub struct Case {
     pub history: String,

@@ -8,7 +8,7 @@ use std::alloc::{AllocError, Global};
 /// Processes below this one are clients, and this one is the nemesis.
 const NEMESIS: u64 = 3;
 
-/// An operation of a history, in the history's words.
+/// An operation of a history, as the history writes it.
 #[derive(Clone, Copy)]
 pub(crate) struct Event {
     pub(crate) process: u64,

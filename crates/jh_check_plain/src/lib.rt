@@ -2,7 +2,7 @@
 //! that look random. They serve tests alone: `jh_check_tests` compares `jh_check` and `jh_linear`
 //! with them.
 //!
-//! A history is a text: each operation is `PROCESS TYPE F VALUE` in the words of a history,
+//! A history is a text: each operation is `PROCESS TYPE F VALUE` as a history writes them,
 //! with `; ` behind it.
 #![tactic(auto)]
 

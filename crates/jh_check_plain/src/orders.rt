@@ -101,7 +101,7 @@ pub fn ends_at(ops: &[RegOp], end: usize) -> bool {
         .any(|op| op.outcome == Outcome::Done && op.ended == Some(end))
 }
 
-/// What the first so many places of a history tell of an operation.
+/// What the first so many places of a history show of an operation.
 fn op_in(count: usize, op: RegOp) -> RegOp {
     let is_there = op.invoked < count;
     let is_over = op.ended.is_some_and(|end| end < count);
@@ -113,7 +113,7 @@ fn op_in(count: usize, op: RegOp) -> RegOp {
     RegOp { outcome, ..op }
 }
 
-/// The operations, as the first so many places of the history tell them.
+/// The operations, as the first so many places of the history show them.
 pub fn cut(alloc: Global, ops: &[RegOp], count: usize) -> Result<Vec<RegOp>, AllocError> {
     let mut parts = Vec::with_capacity(alloc, ops.len())?;
     for op in ops {

@@ -1,9 +1,9 @@
-//! Words that look random: the same ones for the same seed.
+//! Numbers that look random: the same ones for the same seed.
 
 use rand_core::utils::NextWord;
 use rand_pcg::Lcg128Xsl64;
 
-/// A row of random words.
+/// A row of random numbers.
 #[derive(Drop)]
 pub struct Random {
     words: Lcg128Xsl64,

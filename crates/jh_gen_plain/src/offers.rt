@@ -182,8 +182,8 @@ fn first_offer(
     None
 }
 
-/// What the members offer that are not spent, from the one that the word names and around: the
-/// first that there is.
+/// What the members offer that are not spent, from the one that the random number names and around:
+/// the first that there is.
 #[cycle(offer)]
 fn mixed_offer(members: &[Gen], part: Part, question: Question, depth: u32) -> Offer {
     let from = question.word.checked_rem(open_count(members, part, depth))?;

@@ -59,7 +59,7 @@ impl Scope {
     }
 }
 
-/// Who asks, with which word, and who is busy, by seat.
+/// Who asks, with which random number, and who is busy, by seat.
 #[derive(Clone, Copy)]
 pub(crate) struct Question<'a> {
     pub(crate) seat: usize,

@@ -15,7 +15,7 @@ pub(crate) fn count_before(turns: &[usize], place: usize) -> usize {
     count
 }
 
-/// The place of an operation of a part, told by how many of that part stand before it.
+/// The place of an operation of a part, known by how many of that part stand before it.
 fn place_of(turns: &[usize], part: usize, count: usize) -> Option<usize> {
     for (place, other) in turns.iter().enumerate() {
         if *other == part && count_before(turns, place) == count {
@@ -25,7 +25,7 @@ fn place_of(turns: &[usize], part: usize, count: usize) -> Option<usize> {
     None
 }
 
-/// The words of an error in the history of a part, told at the place in the whole one.
+/// The message of an error in the history of a part, reported at the place in the whole one.
 fn told(alloc: Global, turns: &[usize], part: usize, error: &str) -> Option<String> {
     let (count, words) = error.split_once(": ")?;
     let place = place_of(turns, part, count.parse::<usize>().ok()?)?;

@@ -2,7 +2,7 @@
 //! of `jh_check_plain`; they are mixed, and the answer is put together from the answers to each.
 //! They serve tests alone: `jh_keys_tests` compares `jh_keys` with them.
 //!
-//! A history is a text: each operation is `PROCESS TYPE F VALUE` in the words of a history, with
+//! A history is a text: each operation is `PROCESS TYPE F VALUE` as a history writes them, with
 //! `; ` behind it.
 #![tactic(auto)]
 

@@ -26,7 +26,7 @@ impl Dice {
         (self.state >> 33) % bound
     }
 
-    /// One of these words, which have a space and a bar between two.
+    /// One of these texts, which have a space and a bar between two.
     pub(crate) fn one_of(&mut self, words: &'static str) -> &'static str {
         let count = words.split(" | ").count() as u64;
         let place = self.below(count.max(1)) as usize;

@@ -1,4 +1,4 @@
-//! Operations and their pairs told slowly, straight from their definitions, and records that look
+//! Operations and their pairs found slowly, straight from their definitions, and records that look
 //! random. They serve tests alone: `jh_ops_tests` compares `jh_ops` with them.
 //!
 //! A value is its text, as it is printed.

@@ -1,4 +1,4 @@
-//! Pairs told slowly: for each operation all others of its process are looked for.
+//! Pairs found slowly: for each operation all others of its process are looked for.
 
 use jh_ops::{Kind, Pair, PairError, Process};
 use std::alloc::Global;

@@ -90,7 +90,7 @@ fn kind_text(kind: Kind) -> &'static str {
     }
 }
 
-/// The text of a process. The last number of all is told as the last of those that can be.
+/// The text of a process. The last number of all is written as the last of those that can be.
 fn process_text(process: Process) -> &'static str {
     match process {
         Process::Nemesis => ":nemesis",

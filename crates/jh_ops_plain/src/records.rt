@@ -1,9 +1,9 @@
-//! What may tell an operation, in words.
+//! What may mean an operation, in texts.
 
 /// The texts of a key and of its value.
 pub type Words = (&'static str, &'static str);
 
-/// A value that may tell an operation, but for the tags around it.
+/// A value that may mean an operation, but for the tags around it.
 #[derive(Drop)]
 pub enum Record {
     Map(Vec<Words>),
@@ -21,7 +21,7 @@ pub enum Held {
     InSet,
 }
 
-/// What may tell a history.
+/// What may mean a history.
 #[derive(Drop)]
 pub struct Records {
     pub records: Vec<Record>,

@@ -1,4 +1,4 @@
-//! Operations told slowly: each key of a record is looked for among all its pairs, from the first
+//! Operations parsed slowly: each key of a record is looked for among all its pairs, from the first
 //! on.
 
 use crate::records::{Held, Record, Records, Words};
@@ -105,7 +105,7 @@ fn told_by(alloc: Global, pairs: &[Words]) -> Option<Told> {
     })
 }
 
-/// The operation that a record tells.
+/// The operation that a record means.
 pub fn op_slowly(alloc: Global, record: &Record) -> Result<Told, OpError> {
     let Record::Map(pairs) = record else {
         return Err(OpError::NotMap);
@@ -122,7 +122,7 @@ fn is_nothing(records: &Records) -> bool {
     is_apart && matches!(records.records.as_slice(), [Record::Other("[]" | "()")])
 }
 
-/// The history that records tell.
+/// The history that records mean.
 pub fn history_slowly(alloc: Global, records: &Records) -> Result<Vec<Told>, HistoryError> {
     let mut history = Vec::new(alloc);
     if is_nothing(records) {
