@@ -1,4 +1,4 @@
-//! Histories that differ in one thing from what a run tells.
+//! Histories that differ in one thing from that of a run.
 
 use crate::rows::{Run, first_wrong, judged, plan_of, run_of};
 use jh_ops::Request;
@@ -84,7 +84,7 @@ const KILL_ROWS: &str = r#"
 → operation 12: repeated event, not as planned
 "#;
 
-/// What is told of the run with the kill, under the plan of these settings.
+/// What is answered of the run with the kill, under the plan of these settings.
 fn told_once(alloc: Global, settings: &str) -> Option<String> {
     let (run, history) = run_of(alloc, KILL)?;
     let plan = plan_of(alloc, settings)?;
@@ -108,7 +108,7 @@ fn a_run_follows_its_plan(rt: HostRuntime) {
     assert!(rt; is_told(rt.alloc(), LONGER, "ok, not as planned"));
 }
 
-/// The first row of which something else is told, for a history of the run of these settings.
+/// The first row of which something else is answered, for a history of the run of these settings.
 fn first_wrong_of_run<'a>(
     alloc: Global,
     settings: &str,

@@ -4,7 +4,7 @@
 //! a line: a place, and the operation that stands there in place of another or behind all, or nothing where that one is
 //! left out.
 //!
-//! None is answered where memory was refused, or a text tells nothing.
+//! None is answered where memory was refused, or a text means nothing.
 
 use jh_edn::read_all;
 use jh_ops::{Op, history_of};

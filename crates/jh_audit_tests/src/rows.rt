@@ -1,6 +1,6 @@
 //! Rows of a table, which is one text: `§` stands between two rows. A row is changes of a history, an arrow, and what is
-//! told of the history after them: `ok` or the message of the fault that the audit finds, and whether the history follows the plan. White
-//! space around both is no part of them.
+//! answered of the history after them: `ok` or the message of the fault that the audit finds, and whether the history
+//! follows the plan. White space around both is no part of them.
 
 use crate::histories::changed;
 use jh_audit::{audit, follows_plan};
@@ -29,7 +29,7 @@ fn copy_of(alloc: Global, journal: &[Event]) -> Option<Vec<Event>> {
     Some(copy)
 }
 
-/// The serial run of settings, and the history that it tells.
+/// The serial run of settings, and its history.
 fn run_once(alloc: Global, settings: &str) -> Option<(Run, Vec<Op>)> {
     let plan = plan_of(alloc, settings)?;
     let (world, history) = run_serial(alloc, &plan).ok()?;
@@ -45,7 +45,7 @@ pub(crate) fn run_of(alloc: Global, settings: &str) -> Option<(Run, Vec<Op>)> {
     }
 }
 
-/// What is told of a history.
+/// What is answered of a history.
 pub(crate) fn judged(alloc: Global, run: &Run, history: &[Op]) -> Result<String, AllocError> {
     let follows = if follows_plan(&run.plan, &run.journal, history) {
         "as planned"
@@ -74,7 +74,7 @@ fn is_right(alloc: Global, run: &Run, history: &str, changes: &str, wanted: &str
     }
 }
 
-/// The first row of which something else is told.
+/// The first row of which something else is answered.
 pub(crate) fn first_wrong<'a>(
     alloc: Global,
     run: &Run,

@@ -18,7 +18,7 @@ const SETTINGS: &str = r#"
     ops = 4
     schedule = ['[0 [:begin 1 [:bump {"n1" 5}]]]', '[2 [:undo]]']"#;
 
-/// The plan that settings tell.
+/// The plan that settings mean.
 pub(crate) fn plan_of(alloc: Global, text: &str) -> Option<Plan> {
     Some(settings_of(alloc, text.as_bytes()).ok()?.plan)
 }

@@ -100,7 +100,7 @@ fn refuses_what_a_register_does_not_do(rt: HostRuntime) -> Result<(), Fail> {
     ask_all(rt.alloc(), Ask::Places(history), rows)
 }
 
-/// How many operations a history tells, and how long the order is that the judge finds, if it is one. None, too, where
+/// How many operations a history has, and how long the order is that the judge finds, if it is one. None, too, where
 /// memory was refused.
 pub(crate) fn found(alloc: Global, history: &str, budget: u64) -> Option<(usize, usize)> {
     let calls = told(alloc, history)?.ok()?;
@@ -141,7 +141,7 @@ fn errors_have_words(rt: HostRuntime) -> Result<(), Fail> {
     let expected =
         "no such operation, repeated operation, failed operation, missing operation, precedence, illegal; \
         operation 3: bad value, out of memory";
-    // A refused growth leaves no words to compare.
+    // A refused growth leaves no text to compare.
     if let Ok(words) = words {
         assert_eq!(rt; words.as_str(), expected);
     }

@@ -19,12 +19,12 @@ use std::test::Fail;
 /// What the rows of a table ask. A register holds 0 at first.
 #[derive(Clone, Copy)]
 pub(crate) enum Ask<'a> {
-    /// The line of a checker on a history, or the words of its error.
+    /// The line of a checker on a history, or the message of its error.
     Checker(Workload),
     /// What the judge of a register says of a history within a budget: `order` with its places, `none` with the place of
-    /// the completion at which it is stuck, or `unknown` with the number of steps; or the words of the error.
+    /// the completion at which it is stuck, or `unknown` with the number of steps; or the message of the error.
     Judge(u64),
-    /// What is wrong with places as an order of this history: the words of the error, or `order`.
+    /// What is wrong with places as an order of this history: the message of the error, or `order`.
     Places(&'a str),
 }
 
@@ -52,7 +52,7 @@ fn ops_of(alloc: Global, history: &str) -> Option<Vec<Op>> {
     history_of(alloc, values).ok()
 }
 
-/// What a history tells of a register. None: memory was refused.
+/// The operations of a register in a history. None: memory was refused.
 pub(crate) fn told(alloc: Global, history: &str) -> Option<Result<Vec<RegOp>, RegOpsError>>
     ensures { IfSome result (λ told. IfOk told (λ calls. EndAfterInvoked calls.items)) }
 {

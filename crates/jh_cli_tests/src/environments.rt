@@ -375,7 +375,7 @@ fn refuses_bytes(rt: HostRuntime) {
     assert!(rt; is_answer(&rt, rt.alloc(), "jeprun env", b"\xff", b"3 not UTF-8\n"));
 }
 
-/// The first error of a text is told with its line, whichever command reads it.
+/// The first error of a text is reported with its line, whichever command reads it.
 #[test]
 fn tells_the_line_of_an_error(rt: HostRuntime) {
     let rows = r#"{:nodes ["n1"]}

@@ -4,7 +4,7 @@
 //! error the answer is that of `rows`, and nothing is written. What is expected follows from the
 //! definitions.
 //!
-//! A question is four words: a workload, the value that a register has at first, and the records
+//! A question is four parts: a workload, the value that a register has at first, and the records
 //! from and before which are shown; each may be `-`, which is none. A fifth, `keys`, asks for a
 //! section for each key.
 
@@ -28,7 +28,7 @@ fn workload_of(name: &str) -> Option<Workload> {
     }
 }
 
-/// The question that words ask.
+/// The question that a text asks.
 fn question_of(words: &str) -> Option<TimelineQuestion> {
     let mut words = words.split_whitespace();
     let workload = workload_of(words.next()?);

@@ -1,4 +1,4 @@
-//! The words of errors, each on a line of one text, and a writer's failure.
+//! The messages of errors, each on a line of one text, and a writer's failure.
 
 use jh_edn::{EdnError, Value, write};
 use std::alloc::{AllocError, Global};
@@ -36,7 +36,7 @@ const ERRORS: [EdnError; 13] = [
     EdnError::OutOfMemory,
 ];
 
-/// The words of each error, each ended by a line's end.
+/// The message of each error, each ended by a line's end.
 fn words(alloc: Global) -> Result<String, AllocError> {
     let mut said = String::new(alloc);
     for error in ERRORS {

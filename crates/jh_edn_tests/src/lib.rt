@@ -1,6 +1,6 @@
 //! Tests of `jh_edn`, through its public calls alone: what no clause says.
 //!
-//! That is which texts are refused, at which line and in which words, the printed text of a normal form, which order the
+//! That is which texts are refused, at which line and with which message, the printed text of a normal form, which order the
 //! definitions give, where turns and depth end, and that calls succeed, which no clause can say since memory may end.
 //!
 //! A test is a text of rows: a question, what it is given to, and the answer, which comes from the format's description

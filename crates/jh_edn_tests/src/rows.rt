@@ -36,7 +36,7 @@ fn both(alloc: Global, text: &str) -> Result<Vec<u8>, EdnError> {
     }
 }
 
-/// What the calls of `jh_edn` say to a question.
+/// What the calls of `jh_edn` answer to a question.
 fn answer(alloc: Global, ask: &Ask, question: &str) -> Result<Vec<u8>, EdnError> {
     match ask {
         Ask::Values => both(alloc, question),
@@ -53,7 +53,7 @@ fn answer(alloc: Global, ask: &Ask, question: &str) -> Result<Vec<u8>, EdnError>
     }
 }
 
-/// Whether that is the answer. An error's answer is its words, but for the two that say that memory was refused.
+/// Whether that is the answer. An error's answer is its message, but for the two that say that memory was refused.
 fn holds(alloc: Global, ask: &Ask, question: &str, expected: &str) -> Result<bool, AllocError> {
     match answer(alloc, ask, question) {
         Ok(found) => Ok(found.as_slice() == expected.as_bytes()),

@@ -6,9 +6,9 @@
 //!
 //! - A fault, as `faults.rt` spells it, is put where it fits, behind those before it. Answers `ok`, `unfit` or the
 //!   refusal.
-//! - `link` and `node` tell a cell. `again` makes a copy, on which the calls that follow work; `first` tells a link
+//! - `link` and `node` give a cell. `again` makes a copy, on which the calls that follow work; `first` gives a link
 //!   of what was copied.
-//! - `count` tells the number of nodes, and `laid` that of the faults.
+//! - `count` gives the number of nodes, and `laid` that of the faults.
 
 use crate::faults::{Over, fault, over_first};
 use crate::rows::{Call, ends, link_text, node, spelled};
@@ -134,7 +134,7 @@ impl Bench {
     }
 }
 
-/// The bench that the head of a row tells.
+/// The bench that the head of a row means.
 fn bench_of(alloc: Global, head: &str) -> Option<Bench> {
     let over = over_first(alloc, head)?;
     Some(Bench {

@@ -1,7 +1,7 @@
 //! Which cells an environment may start with.
 //!
 //! A row is calls with `; ` between, all on one start of three calm nodes. The numbers of a call are places and then a cell's:
-//! `set 0 1 60000 20` cuts, slows and loses, `kill 0 5` kills and sets the clock. `link` and `node` tell a cell.
+//! `set 0 1 60000 20` cuts, slows and loses, `kill 0 5` kills and sets the clock. `link` and `node` give a cell.
 
 use crate::rows::{Call, ends, four, link_text, node, spelled};
 use jh_env::{Life, Link, NodeCell, Nodes, Start, StartError};

@@ -12,7 +12,7 @@ fn env_text(alloc: Global, env: &Env) -> Option<Vec<u8>> {
     Some(written)
 }
 
-/// The text of the environment that a value tells, or why it is refused. None: memory was refused.
+/// The text of the environment that a value means, or why it is refused. None: memory was refused.
 fn value_answer(alloc: Global, value: &Value) -> Option<Vec<u8>> {
     match env_of_value(alloc, value) {
         Ok(env) => env_text(alloc, &env),

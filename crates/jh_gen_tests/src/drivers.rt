@@ -112,7 +112,7 @@ fn errors_have_words(rt: HostRuntime) -> Result<(), Fail> {
     let expected =
         "bad generator, out of memory; bad clients, bad reserve, out of memory; no such thread, busy thread, \
         too many operations, nothing open";
-    // A refused growth leaves no words to compare.
+    // A refused growth leaves no text to compare.
     if let Ok(words) = words {
         assert_eq!(rt; words.as_str(), expected);
     }

@@ -1,4 +1,4 @@
-//! Random runs of a driver and of the plain slow one, side by side. A seed tells the generator, the number of clients,
+//! Random runs of a driver and of the plain slow one, side by side. A seed gives the generator, the number of clients,
 //! and who asks or ends when.
 
 ghost use Rattle.std.specs.Prelude.{◌<◌};

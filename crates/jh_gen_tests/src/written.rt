@@ -1,4 +1,4 @@
-//! What is written of the generator that a text tells.
+//! What is written of the generator that a text means.
 //!
 //! A row is a text, which is written as it stands there; or a text, ` → `, and what is written of it.
 

@@ -1,4 +1,4 @@
-//! Errors of one key or of several, told at the place in the whole history.
+//! Errors of one key or of several, reported at the place in the whole history.
 
 use crate::rows::{ask_all, by};
 use jh_ops::Workload;

@@ -18,7 +18,7 @@ fn explained(workload: Workload) -> Judging {
     }
 }
 
-/// The line of a history as one, or the words of the error. None: memory was refused.
+/// The line of a history as one, or the message of the error. None: memory was refused.
 fn line_once(alloc: Global, judging: Judging, history: &str) -> Option<String> {
     let ops = ops_of(alloc, history)?;
     match check_history(alloc, &ops, judging) {

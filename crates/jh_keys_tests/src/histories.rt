@@ -1,5 +1,5 @@
 //! The history of each key. A row is `HISTORY => ANSWER`, as in `rows`; the answer is each key with the type and the value of
-//! each operation of its history, or the words of the error.
+//! each operation of its history, or the message of the error.
 
 use jh_edn::write;
 use jh_keys::{KeyHistory, KeysError, histories_by_key};

@@ -1,6 +1,6 @@
 //! Tests of `jh_keys`, through its public calls alone: what no clause says. A row of `rows` is a history and what is
 //! answered, by the serial call and on several threads; `random` compares both with the plain slow program of
-//! `jh_keys_plain`; `histories` has the history of each key; `gates` shows that threads run at once, and what is told of
+//! `jh_keys_plain`; `histories` has the history of each key; `gates` shows that threads run at once, and what is answered of
 //! keys that are not let in.
 //!
 //! Each test passes, too, where one allocation is refused: what answers so is asked again.

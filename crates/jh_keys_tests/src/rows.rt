@@ -1,6 +1,6 @@
 //! Rows of histories with what is answered.
 //!
-//! A row is a line `HISTORY => ANSWER`, where the answer is the line of all keys or the words of the error. A history is
+//! A row is a line `HISTORY => ANSWER`, where the answer is the line of all keys or the message of the error. A history is
 //! its operations, `PROCESS TYPE F VALUE` each, with `; ` between two. A table is one text, since the proof of an array
 //! takes a second for each row.
 
@@ -45,7 +45,7 @@ fn line(alloc: Global, found: &[KeyFinding]) -> Option<String> {
     String::from_utf8(line).ok()
 }
 
-/// The line of what is found, or the words of the error. None: memory was refused.
+/// The line of what is found, or the message of the error. None: memory was refused.
 pub(crate) fn told(alloc: Global, found: Result<Vec<KeyFinding>, KeysError>) -> Option<String> {
     match found {
         Ok(found) => line(alloc, &found),

@@ -1,4 +1,4 @@
-//! What is written: the words of the errors, lines into writers that fail, and completions that explain a no.
+//! What is written: the messages of the errors, lines into writers that fail, and completions that explain a no.
 
 use jh_check::CheckError;
 use jh_edn::{EdnError, Value, read_all};
@@ -149,7 +149,7 @@ fn text_of(alloc: Global, op: Op) -> Option<String> {
     text.to_string(alloc).ok()
 }
 
-/// The text of the operation that another text tells. None: memory was refused.
+/// The text of the operation that another text means. None: memory was refused.
 fn written_again(alloc: Global, text: &str) -> Option<String> {
     text_of(alloc, op_of(alloc, text)?)
 }
@@ -186,7 +186,7 @@ fn by_client(alloc: Global, number: u64) -> Option<String> {
     text_of(alloc, Op { process, ..op })
 }
 
-/// A number that no text tells has its digits, too.
+/// A number that no text gives has its digits, too.
 #[test]
 fn clients_have_their_numbers(rt: HostRuntime) {
     let text = match by_client(rt.alloc(), u64::MAX) {
@@ -210,7 +210,7 @@ fn errors_have_words(rt: HostRuntime) {
     let expected =
         "operation 3: bad value, operation 4: negative add, operation 5: after crash, thread failed, \
         out of memory";
-    // A refused growth leaves no words to compare.
+    // A refused growth leaves no text to compare.
     if let Ok(words) = words {
         assert_eq!(rt; words.as_str(), expected);
     }

@@ -5,7 +5,7 @@
 //! - `begin 1` begins a cut, `slow 1` a delay of 1 ms; `withdraw 1`, `withdraw-all`, `undo`, `redo` are the calls of those names; `apply-begin 1`, `apply-withdraw 1`
 //!   take such a step by `apply`, `few` takes three steps by `apply_all`. Answers `ok` or the message of the refusal.
 //! - `slows 257` begins delays with the ids below 257, `begins 256` cuts, `rounds 2048` begins and withdraws one so often.
-//! - `active` tells the ids of the active faults, `link` whether the link is cut, `work` how often a cell was written.
+//! - `active` gives the ids of the active faults, `link` whether the link is cut, `work` how often a cell was written.
 //!
 //! A call whose memory was refused is made again where the number of active faults stayed.
 
@@ -87,7 +87,7 @@ fn redone(alloc: Global, nemesis: &mut Nemesis) -> Option<String> {
     }
 }
 
-/// What a step answers, in a word.
+/// What a step answers, as a text.
 fn answer_text(answer: StepAnswer) -> &'static str {
     match answer {
         StepAnswer::Ok => "ok",
@@ -132,7 +132,7 @@ fn fault_begun(alloc: Global, nemesis: &mut Nemesis, is_slow: bool, id: u32) -> 
     }
 }
 
-/// Begins cuts, or delays, with the ids below a number, and tells the answer of the last.
+/// Begins cuts, or delays, with the ids below a number, and gives the answer of the last.
 fn begins(alloc: Global, nemesis: &mut Nemesis, is_slow: bool, count: u32) -> Option<String> {
     let mut answer = "none".to_string(alloc).ok()?;
     for id in 0..count {

@@ -1,4 +1,4 @@
--- Claims that a seat holds, told by their number of rows.
+-- Claims that a seat holds, known by their number of rows.
 use Rattle.std.proofs.Common.{◌≡◌, ℕ, ◌≤◌, Some, None, refl, sym, ap, ◌∙◌, arith}
 use Rattle.std.specs.Prelude.{Option, IfSome}
 use Rattle.std.specs.Option.{unwrap_or}

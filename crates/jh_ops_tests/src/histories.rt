@@ -1,6 +1,6 @@
 //! Histories that are read operation by operation.
 //!
-//! - `read TEXT`: the operations of the text, each printed, with a line feed behind it; or why it tells no history.
+//! - `read TEXT`: the operations of the text, each printed, with a line feed behind it; or why it means no history.
 //! - `inside TEXT`: the same, by `history_in`.
 //! - `late TEXT`: the same, of a reader that may be read once.
 //! - `broken TEXT`: the same, where a byte that is no UTF-8 stands behind the text.
@@ -83,7 +83,7 @@ fn reads_one_sequence(rt: HostRuntime) -> Result<(), Fail> {
     ask_all(rt.alloc(), rows)
 }
 
-/// An error of the text comes before a value that tells no operation, wherever both stand; of such values the first is told.
+/// An error of the text comes before a value that means no operation, wherever both stand; of such values the first is reported.
 #[test]
 fn tells_the_first_error(rt: HostRuntime) -> Result<(), Fail> {
     let rows = r#"read 1

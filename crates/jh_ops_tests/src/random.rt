@@ -79,7 +79,7 @@ fn alone(alloc: Global, value: Value) -> Option<Vec<Value>> {
     vec![in alloc; value].ok()
 }
 
-/// The values that tell records: one for each, or one that holds all.
+/// The values that mean records: one for each, or one that holds all.
 fn values_of(alloc: Global, records: &Records) -> Option<Vec<Value>> {
     let items = items_of(alloc, records)?;
     let whole = match records.held {
@@ -108,7 +108,7 @@ fn are_texts(alloc: Global, pairs: &[(Value, Value)], texts: &[Words]) -> Option
     Some(pairs.len() == texts.len())
 }
 
-/// Whether an operation is the one that is told.
+/// Whether an operation is the one that was parsed slowly.
 fn is_same_op(alloc: Global, op: &Op, told: &Told) -> Option<bool> {
     let is_same = op.kind == told.kind && op.process == told.process;
     let has_same_numbers = op.time == told.time && op.index == told.index;
@@ -118,7 +118,7 @@ fn is_same_op(alloc: Global, op: &Op, told: &Told) -> Option<bool> {
     Some(is_same && has_same_numbers && has_same_f && has_same_value && has_same_rest)
 }
 
-/// Whether an operation is the one that is told, or both refuse it alike. None: memory was refused.
+/// Whether an operation is the one that was parsed slowly, or both refuse it alike. None: memory was refused.
 fn is_same_answer(
     alloc: Global,
     answer: &Result<Op, OpError>,
@@ -132,13 +132,13 @@ fn is_same_answer(
     }
 }
 
-/// Whether both tell the same operation of a record, or refuse it alike.
+/// Whether both parse a record as the same operation, or refuse it alike.
 fn is_same_record(alloc: Global, record: &Record, tags: u64) -> Option<bool> {
     let answer = op_of(alloc, value_of(alloc, record, tags)?);
     is_same_answer(alloc, &answer, &op_slowly(alloc, record))
 }
 
-/// Whether operations are those that are told.
+/// Whether operations are those that were parsed slowly.
 fn are_same_ops(alloc: Global, ops: &[Op], told: &[Told]) -> Option<bool> {
     for (op, told) in ops.iter().zip(told) {
         if !is_same_op(alloc, op, told)? {
@@ -148,7 +148,7 @@ fn are_same_ops(alloc: Global, ops: &[Op], told: &[Told]) -> Option<bool> {
     Some(ops.len() == told.len())
 }
 
-/// Whether both tell the same operation of each record, or refuse it alike.
+/// Whether both parse each record as the same operation, or refuse it alike.
 fn are_same_records(alloc: Global, records: &Records) -> Option<bool> {
     for record in &records.records {
         if !is_same_record(alloc, record, records.tags)? {

@@ -96,7 +96,7 @@ fn window_of(text: &str) -> Window {
     }
 }
 
-/// The history that records tell.
+/// The history that records mean.
 fn history_in(alloc: Global, text: &str) -> Result<Vec<Op>, PageError>
     ensures { IfOk result (λ ops. All (λ op. IsWritable op.process) ops.items) }
 {

@@ -91,7 +91,7 @@ fn escapes_texts(rt: HostRuntime) -> Result<(), Fail> {
     Ok(())
 }
 
-/// Whether an error is told so; asked once more where memory was refused.
+/// Whether an error has this message; asked once more where memory was refused.
 fn is_told(alloc: Global, error: PageError, expected: &str) -> bool {
     let told = match error.to_string(alloc) {
         Err(_) => error.to_string(alloc).ok(),

@@ -1,4 +1,4 @@
-//! Edits, one after another. An entry is told by when it is due.
+//! Edits, one after another. An entry is known by when it is due.
 //!
 //! None is answered where memory was refused.
 

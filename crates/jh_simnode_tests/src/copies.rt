@@ -70,7 +70,7 @@ const OTHER: &str =
     r#"{:start {:nodes ["a" "b"]}, :store :lww, :volatile true, :workload :counter, :initial 4, :clients 3, :ops 11,
     :generator [:once [:add 7]], :schedule [[5 [:begin 1 [:kill ["b"]]]]], :tick-every 6, :rows 12, :seed 13}"#;
 
-/// The parts of a plan with the schedule of another, or the words of its refusal. None: memory was refused.
+/// The parts of a plan with the schedule of another, or the message of its refusal. None: memory was refused.
 fn exchanged_once(alloc: Global, settings: &str, other: &str) -> Option<Vec<u8>> {
     let schedule = copied_schedule(alloc, other)?;
     match plan_of(alloc, settings)

@@ -1,4 +1,4 @@
-//! Documents of settings, and what they tell.
+//! Documents of settings, and what they mean.
 
 use crate::plans::put_plan;
 use crate::runs::words;
@@ -70,7 +70,7 @@ fn document_of(alloc: Global, lines: &str) -> Result<String, AllocError> {
     Ok(document)
 }
 
-/// The words of a refusal. None: memory was refused.
+/// The message of a refusal. None: memory was refused.
 fn refusal(alloc: Global, error: &SettingsError) -> Option<Vec<u8>> {
     match error {
         SettingsError::OutOfMemory => None,
@@ -86,7 +86,7 @@ fn settings_text(alloc: Global, settings: &RunSettings) -> Option<Vec<u8>> {
     Some(text)
 }
 
-/// The budget, the mode and the parts of the plan that a document tells, as `plans` writes them.
+/// The budget, the mode and the parts of the plan that a document means, as `plans` writes them.
 pub(crate) fn document_text(alloc: Global, document: &str) -> Option<Vec<u8>> {
     match settings_of(alloc, document.as_bytes()) {
         Ok(settings) => settings_text(alloc, &settings),

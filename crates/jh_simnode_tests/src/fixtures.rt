@@ -1,9 +1,9 @@
-//! Plans and worlds that a map tells. Its keys are `:start` with an environment, `:store` with `:quorum`, `:lww` or
+//! Plans and worlds that a map means. Its keys are `:start` with an environment, `:store` with `:quorum`, `:lww` or
 //! `:local`, `:volatile`, `:workload` with `:register`, `:counter`, `:set` or `:ids`, `:initial`, `:clients`, `:ops`,
 //! `:generator`, `:schedule` with a vector of pairs, each a number of answers and a step, `:steps-start` with another
 //! environment by which the steps are read, `:tick-every`, `:rows` and `:seed`.
 //!
-//! None is answered where memory was refused, or a text tells nothing.
+//! None is answered where memory was refused, or a text means nothing.
 
 ghost use Rattle.std.specs.Prelude.{[], IfSome};
 ghost use Rattle.jh_env.specs.Overlay.{StandsFor};
@@ -90,7 +90,7 @@ fn workload_of(map: &Value) -> Workload {
     }
 }
 
-/// What a world keeps for good, as a map tells it.
+/// What a world keeps for good, as a map has it.
 fn settings_of(map: &Value) -> Settings {
     Settings {
         store: store_of(map),
@@ -179,7 +179,7 @@ fn data_of(alloc: Global, map: &Value) -> Option<PlanData>
     Some(data_over(map, env_of(alloc, map)?, generator, schedule))
 }
 
-/// The plan of settings, or why it is refused: for want of memory, too, where the text tells nothing.
+/// The plan of settings, or why it is refused: for want of memory, too, where the text means nothing.
 pub(crate) fn plan_of(alloc: Global, settings: &str) -> Result<Plan, PlanError> {
     let Some(map) = value(alloc, settings) else {
         return Err(PlanError::OutOfMemory);

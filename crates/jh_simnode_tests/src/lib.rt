@@ -3,7 +3,7 @@
 //! clauses say is proved: a test is for values that come from outside, and shows that memory suffices where there is
 //! some.
 //!
-//! `rows` says what a row is. A row is told once more where memory was refused, so that the tests stand one refused
+//! `rows` says what a row is. A row is asked once more where memory was refused, so that the tests stand one refused
 //! allocation.
 #![tactic(auto)]
 

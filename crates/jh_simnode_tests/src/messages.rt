@@ -1,4 +1,4 @@
-//! The words of errors.
+//! The messages of errors.
 
 use jh_simnode::{PlanError, RunError, TooLong, WorldError};
 
@@ -16,7 +16,7 @@ fn errors_have_words(rt: HostRuntime) {
     );
     let expected =
         "out of memory, too long; unknown node, too many events, out of memory, stuck, out of memory";
-    // A refused growth leaves no words to compare.
+    // A refused growth leaves no text to compare.
     if let Ok(words) = words {
         assert_eq!(rt; words.as_str(), expected);
     }

@@ -1,4 +1,4 @@
-//! Random events in a world and in the plain cluster, side by side. A seed tells the store, the workload, whether
+//! Random events in a world and in the plain cluster, side by side. A seed gives the store, the workload, whether
 //! replicas are volatile, and the events.
 
 ghost use Rattle.std.specs.Prelude.{[]};
@@ -96,7 +96,7 @@ fn workload_of(seed: u64) -> Workload {
     }
 }
 
-/// What a seed tells of a world.
+/// The settings of a world that a seed gives.
 fn settings_of(seed: u64) -> Settings {
     Settings {
         store: store_of(seed),

@@ -13,7 +13,7 @@ use std::fmt::Display;
 use std::io::Write;
 use std::test::Fail;
 
-/// The words of an error.
+/// The message of an error.
 pub(crate) fn words<E: Display>(alloc: Global, error: &E) -> Option<Vec<u8>> {
     let mut text = Vec::new(alloc);
     write!(&mut text, "{error}").ok()?;
@@ -56,7 +56,7 @@ pub(crate) fn run_answer(alloc: Global, settings: &str) -> Option<Vec<u8>> {
     }
 }
 
-/// The words of a plan's refusal. None: memory was refused.
+/// The message of a plan's refusal. None: memory was refused.
 pub(crate) fn refusal(alloc: Global, error: PlanError) -> Option<Vec<u8>> {
     match error {
         PlanError::OutOfMemory => None,

@@ -1,4 +1,4 @@
-//! Which settings a document tells, and why others are refused.
+//! Which settings a document means, and why others are refused.
 
 use crate::documents::answer_once;
 use crate::rows::{Kind, ask_all};

@@ -1,8 +1,8 @@
 //! Faults, ticks and the journal of a world.
 //!
 //! The text of a row is the settings of a world, and acts in it. An act is `:tick`, a step, or a call: the place of a
-//! node, a request, and a draw where it is not 0; or `:replicas`, which tells what each node holds. What comes of each act stands behind the arrow, with `; ` between. An
-//! act whose memory was refused is taken once more.
+//! node, a request, and a draw where it is not 0; or `:replicas`, which gives what each node holds. What comes of each
+//! act stands behind the arrow, with `; ` between. An act whose memory was refused is taken once more.
 
 use crate::fixtures::{keyword_name, value, values, world_of};
 use crate::rows::{Kind, ask_all};

@@ -25,7 +25,7 @@ fn log_and_seats(alloc: Global) -> Option<(Slots, Seat, Seat)>
     Some((slots, one, other))
 }
 
-/// Claims a row, and publishes these words there. Tells whether a row was left.
+/// Claims a row, and publishes these words there. Answers whether a row was left.
 fn publish(slots: &Slots, seat: &mut Seat, words: &[u64]) -> bool
     requires own { seat.old.table ≡ slots.now.table }
     requires words { (1 ≤ length words.now) × (length words.now ≤ 5) }
@@ -41,7 +41,7 @@ fn publish(slots: &Slots, seat: &mut Seat, words: &[u64]) -> bool
     true
 }
 
-/// Claims a row, and publishes an operation there. Tells whether that was possible.
+/// Claims a row, and publishes an operation there. Answers whether that was possible.
 fn publish_op(slots: &Slots, seat: &mut Seat, op: &Op) -> bool
     requires { seat.old.table ≡ slots.now.table }
     ensures { seat.new.table ≡ seat.old.table }
@@ -142,7 +142,7 @@ fn words_of_no_operation_are_refused(rt: HostRuntime) {
     assert!(rt; is_refusal(rt.alloc(), 9, "row 1: bad words"));
 }
 
-/// Publishes a write. Tells whether that was possible.
+/// Publishes a write. Answers whether that was possible.
 fn publish_write(alloc: Global, slots: &Slots, seat: &mut Seat, process: u64, value: i64) -> bool
     requires { seat.old.table ≡ slots.now.table }
     ensures { seat.new.table ≡ seat.old.table }

@@ -1,4 +1,4 @@
-//! What is told of runs.
+//! What runs come to.
 //!
 //! The text of a row is settings. They come to the error of their run; or to the number of client completions and of the
 //! nemesis's operations in its history, the ids that are active after its journal, what the audit finds and what is wrong

@@ -112,7 +112,7 @@ fn repeat(alloc: Global, world: &mut World, event: &Event) -> Option<()> {
     Some(())
 }
 
-/// The world of a plan in which all was done again that a journal tells.
+/// The world of a plan in which all was done again that a journal has.
 pub(crate) fn replayed(alloc: Global, plan: &Plan, journal: &[Event]) -> Option<World> {
     let mut world = world_of(alloc, plan).ok()?;
     for event in journal {
