@@ -42,7 +42,7 @@ EndsEntryAt schedule journal history place entry =
     (op : Operation) × (slice_get history place ≡ Some op)
     × EndsEntry schedule journal place op entry
 
--- a completion of the nemesis tells the entry whose number is that of the completions before it
+-- a completion of the nemesis ends the entry whose number is that of the completions before it
 abbrev pub IsInTurn : List Entry → List Event → List Operation → ℕ → Type 0
 IsInTurn schedule journal history place =
     (op : Operation) → slice_get history place ≡ Some op → is_answered_step op ≡ true
@@ -53,8 +53,8 @@ abbrev pub AreInTurn : List Entry → List Event → List Operation → ℕ → 
 AreInTurn schedule journal history count =
     (place : ℕ) → place < count → IsInTurn schedule journal history place
 
--- the nemesis's completions tell all entries of the schedule in order, each by an event of its
--- step, and the clients made no more calls than the plan says
+-- the nemesis's completions end all entries of the schedule in order, each by an event of its
+-- step, and the clients made no more calls than the plan has
 pub record FollowsPlan (plan : PlanValue) (journal : List Event)
     (history : List Operation) : Type 0 where
   pub in_turn : AreInTurn plan.schedule journal history (length history)

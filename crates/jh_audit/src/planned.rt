@@ -92,7 +92,7 @@ fn answered_calls(history: &[Op]) -> usize
     answered
 }
 
-/// Whether a completion of the nemesis tells the entry whose number is that of the completions
+/// Whether a completion of the nemesis ends the entry whose number is that of the completions
 /// before it.
 fn is_in_turn(
     schedule: &[Entry],
@@ -123,7 +123,7 @@ fn ended_after(history: &[Op], place: usize, ended: usize) -> usize
     }
 }
 
-/// How many entries the completions of the nemesis tell, where they are in turn.
+/// How many entries the completions of the nemesis end, where they are in turn.
 fn ended_in_turn(schedule: &[Entry], journal: &[Event], history: &[Op]) -> Option<usize>
     ensures { let ops = operations history.now in MatchOption result
         (AreInTurn schedule.now journal.now ops (length ops) → ⊥)
@@ -140,7 +140,7 @@ fn ended_in_turn(schedule: &[Entry], journal: &[Event], history: &[Op]) -> Optio
     Some(ended)
 }
 
-/// Whether the history of a run keeps to its plan: the nemesis's completions tell all entries of
+/// Whether the history of a run keeps to its plan: the nemesis's completions end all entries of
 /// the schedule in order, each by an event of the journal that is of its step, and the clients
 /// completed no more calls than the plan has.
 ///

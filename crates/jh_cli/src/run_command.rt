@@ -39,11 +39,11 @@ use std::thread::Threads;
 /// The parts of the ledger of a run's world, from which each of its threads has a share.
 const WORLD_PARTS: u64 = 32;
 
-/// Reads settings in TOML as `jh_settings::settings_of` does, makes the run in the mode that they
-/// say, and writes a line for each operation of its history, one with the ids of the active faults,
-/// one with the environment, and the line of the workload's checker. The answer is the exit status:
-/// 0 where the history is valid, 1 where it is not, 2 where that is not known. All is read, run and
-/// judged before the first byte is written.
+/// Reads settings in TOML as `jh_settings::settings_of` does, makes the run in their mode, and
+/// writes a line for each operation of its history, one with the ids of the active faults, one with
+/// the environment, and the line of the workload's checker. The answer is the exit status: 0 where
+/// the history is valid, 1 where it is not, 2 where that is not known. All is read, run and judged
+/// before the first byte is written.
 ///
 /// A serial run gives the same history for the same input each time
 /// (`jh_run_laws::same_settings_same_run`), and the same order of a register, as tests show. A run

@@ -47,7 +47,7 @@ struct Written {
 /// | `:budget` | the fewest with which it failed, when `budget` runs were made; or the given ones | 2 |
 /// | `:not-failing` | the given ones: the run does not fail, or that is not known | 0 |
 ///
-/// The mode that the settings say means nothing. The same input gives the same runs each time
+/// The mode of the settings means nothing. The same input gives the same runs each time
 /// (`jh_run_laws::same_settings_same_run`), and the same bytes, as tests show. All is read and done
 /// before the first byte is written.
 ///

@@ -150,7 +150,7 @@ set_note found history call = option_and_then (λ told. found_note told history 
 
 -- ---- all
 
--- what a finding says of a call
+-- the note of a call, by a finding
 abbrev pub note_of : Finding → Option Explanation → List Operation → Call → Option Note
 note_of (Set result) explanation history call = set_note result.found history call
 note_of (Counter result) explanation history call = counter_note result.reads history call
@@ -161,7 +161,7 @@ note_of (Register judged) explanation history call = register_note judged explan
 abbrev pub mark_at : ℕ → Option Note → Option Mark
 mark_at bar note = option_map (λ told. record { bar = bar; note = told }) note
 
--- bar by bar its mark, if it has one, where this is said of calls
+-- bar by bar its mark, where the call of the bar has a note
 abbrev pub marks_by : (Call → Option Note) → List Bar → List Mark
 marks_by note bars =
     filter_map (λ numbered. mark_at numbered.0 (note numbered.1.call)) (enumerate_from 0 bars)

@@ -51,7 +51,7 @@ abbrev pub gives_one_of : List Edn → List Operation → Call → Bool
 gives_one_of ids history call =
     option_map_or (has_one_of Kind.Ok (codes "generate") ids) (call_completion history call) false
 
--- what is said where a history is stuck of a call with this place in the order of what is before
+-- the note of a call where a history is stuck, with this place in the order of what is before
 abbrev pub stuck_note_with : ℕ → Bool → Option ℕ → Call → Option Note
 stuck_note_with end pending place call =
     if is_completed_at end call then Some Note.Stuck else if pending then Some (Note.Pending place)

@@ -31,7 +31,7 @@ pub enum Call {
     Step(u32),
 }
 
-/// What a test asks a database to be, which says the requests that a run may make and the checker
+/// What a test asks a database to be, which gives the requests that a run may make and the checker
 /// of its history.
 #[derive(Clone, Copy, Debug, PartialEq, Eq)]
 pub enum Workload {

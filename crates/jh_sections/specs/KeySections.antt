@@ -56,7 +56,7 @@ verdict_text Verdict.True = codes ": valid"
 verdict_text Verdict.Unknown = codes ": unknown"
 verdict_text Verdict.False = codes ": not valid"
 
--- what a heading says of what was found
+-- the text in a heading of what was found
 abbrev pub found_text : Option Found → List ℕ
 found_text None = []
 found_text (Some found) = verdict_text (verdict_of_finding found.finding)

@@ -171,7 +171,7 @@ fn sorted(mut shown: Vec<ShownKey>) -> Result<Vec<ShownKey>, AllocError>
     Ok(shown)
 }
 
-/// What a heading has of what was found.
+/// The text in a heading of what was found.
 fn found_text(found: Option<&Found>) -> &'static [u8]
     ensures { result.now ≡ rule.found_text (option_copied found.entry) }
 {
@@ -181,7 +181,7 @@ fn found_text(found: Option<&Found>) -> &'static [u8]
     }
 }
 
-/// What a heading has of a verdict.
+/// The text in a heading of a verdict.
 fn verdict_text(verdict: Verdict) -> &'static [u8]
     ensures { result.now ≡ rule.verdict_text verdict }
 {

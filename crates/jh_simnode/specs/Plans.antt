@@ -1,4 +1,4 @@
--- What the plan of a run says, and which plans can be run (this project's own).
+-- What the plan of a run holds, and which plans can be run (this project's own).
 use Rattle.std.specs.Prelude.{◌≡◌, ℕ, ◌≤◌, true, List, [], length, All}
 use Rattle.jh_env.specs.Overlay.{EnvValue, StandsFor}
 use Rattle.jh_nemesis.specs.Steps.{FitsNodes}
