@@ -218,7 +218,7 @@ fn number_option<'a>(
 }
 
 /// What `clap` finds in these arguments, of which the first is the program's name; or its refusal,
-/// which is a request for help or for the version, a complaint, or want of memory.
+/// which is a request for help or for the version, a complaint, or out of memory.
 pub fn parse<'a, S: AsStr>(alloc: Global, arguments: &'a [S]) -> Result<ArgMatches<'a>, Error>
     ensures found { IfOk result (AreMatches (map S.text arguments.entry.now)) }
     ensures refused { IfErr result (IsRefused (map S.text arguments.entry.now)) }

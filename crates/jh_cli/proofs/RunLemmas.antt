@@ -87,12 +87,12 @@ own_of workload history (CheckErrors.BadValue place) h = (CheckErrors.BadValue p
 own_of workload history (CheckErrors.NegativeAdd place) h = (CheckErrors.NegativeAdd place, λ e. absurd cc, h)
 own_of workload history CheckErrors.OutOfMemory h = tt
 
--- a refusal of the history of a run is a mismatch, and want of memory stays what it is
+-- a refusal of the history of a run is a mismatch, and out of memory stays what it is
 pub own_refused : (workload : Workload) (history : List Operation) (e : CliError) → RefusesWhole workload history e
     → RefusesOwn workload history (own_error e)
 own_refused workload history e h = subst (λ x. RefusesOwn workload history (own_error x)) (sym h.2) (own_of workload history h.0 h.1)
 
--- the history of a serial run is refused for want of memory alone
+-- the history of a serial run is refused only as out of memory
 pub serial_refused : (p : PlanValue) (journal : List Event) (history : List Operation) (e : CliError) → OwnHistoryIsJudged → IsFit p → IsSerialRun p journal history
     → RefusesOwn p.settings.workload history e → RefusesSerial p e
 serial_refused p journal history Mismatch judged fit run h = absurd (h.1 (judged p journal history fit run h.0 h.2))

@@ -42,7 +42,7 @@ RefusesSteps names values (Element place error) = HasStepError names values plac
 RefusesSteps names values OutOfMemory = Unit {0}
 RefusesSteps names values _ = ⊥
 
--- Why values are refused. Want of memory has a name of its own, wherever it came.
+-- Why values are refused. Out of memory has a name of its own, wherever it came.
 abbrev pub RefusesEnvValues : List Edn → CliError → Type 0
 RefusesEnvValues values (Input error) = ⊥
 RefusesEnvValues values EnvironmentMissing = values ≡ []
@@ -67,7 +67,7 @@ RefusesEnvValues values Write = ⊥
 RefusesEnvValues values OutOfMemory = Unit {0}
 
 -- Why an input is refused: for the first error of its text, or for the values that it spells. A
--- failed read and want of memory have names of their own and may come with any input; a failed
+-- failed read and out of memory have names of their own and may come with any input; a failed
 -- write comes only where there is something to write.
 abbrev pub RefusesInput : List ℕ → CliError → Type 0
 RefusesInput input (Input error) =

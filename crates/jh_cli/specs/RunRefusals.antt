@@ -52,7 +52,7 @@ abbrev pub RefusesRunIn : PlanValue → Mode → CliError → Type 0
 RefusesRunIn p Mode.Serial e = RefusesSerial p e
 RefusesRunIn p Mode.Threads e = RefusesThreads e
 
--- Why the run that bytes mean is refused. Want of memory has a name of its own, wherever it came.
+-- Why the run that bytes mean is refused. Out of memory has a name of its own, wherever it came.
 abbrev pub RefusesRunBytes : List ℕ → CliError → Type 0
 RefusesRunBytes input (Settings error) =
     IsSettingsError error × settings.RefusesSettings input error
@@ -61,7 +61,7 @@ RefusesRunBytes input e =
     (p : PlanValue) × (mode : Mode) × (budget : ℕ) × AreSettingsOf input p mode budget
     × RefusesRunIn p mode e
 
--- A failed read, an input that does not end and want of memory may come with any input; a failed
+-- A failed read, an input that does not end and out of memory may come with any input; a failed
 -- write comes only where there is something to write.
 abbrev pub RefusesRun : List ℕ → CliError → Type 0
 RefusesRun input (Input error) = IsInputError error × IsReaderError error

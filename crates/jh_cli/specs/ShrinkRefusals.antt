@@ -16,7 +16,7 @@ RefusesShrinkBytes input (Settings error) =
 RefusesShrinkBytes input OutOfMemory = ⊤
 RefusesShrinkBytes input e = ⊥
 
--- A failed read, an input that does not end and want of memory may come with any input; a failed
+-- A failed read, an input that does not end and out of memory may come with any input; a failed
 -- write comes only where there is something to write.
 abbrev pub RefusesShrinking : List ℕ → CliError → Type 0
 RefusesShrinking input (Input error) = IsInputError error × IsReaderError error

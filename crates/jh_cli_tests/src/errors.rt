@@ -1,4 +1,4 @@
-//! The status and the message of errors that no short input meets, and that want of memory has one name, wherever it came. A row
+//! The status and the message of errors that no short input meets, and that out of memory has one name, wherever it came. A row
 //! is a short name of the error, and its status and message.
 
 use crate::rows::{Texts, first_wrong, push_error};
@@ -30,7 +30,7 @@ fn error_of(name: &str) -> Option<CliError> {
     }
 }
 
-/// Want of memory that came where this says.
+/// Out of memory, where this says that it came.
 fn memory_of(place: &str) -> Option<CliError> {
     match place {
         "memory of a text" => Some(CliError::from(EdnError::OutOfMemory)),

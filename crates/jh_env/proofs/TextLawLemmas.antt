@@ -93,7 +93,7 @@ no_error value shape e has sound refused =
 refused_names : (value : Edn) (shape : Shape) (e : NodesError) → HasShape value shape → RefusesTextNames value e → RefusesNames shape.names e
 refused_names value shape e has refused = subst (λ s. RefusesNames s.names e) (same_shape value refused.0 shape refused.1 has) refused.2
 
--- a text of an environment is refused for want of memory alone
+-- a text of an environment is refused only as out of memory
 pub text_accepted : (value : Edn) (names : List (List ℕ)) (cells : Table) (e : EnvTextError) → IsTextOf value names cells → RefusesEnvText value e → e ≡ OutOfMemory
 text_accepted value names cells e text refused =
     by_error e (subst AreFew (sym text.2) text.3) (subst AreNodeNames (sym text.2) text.4) (subst (λ ns. AreSound ns text.0.entries) (sym text.2) text.5) refused

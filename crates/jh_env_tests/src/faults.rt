@@ -117,7 +117,7 @@ fn measured(alloc: Global, over: &Over, call: &Call<'_>) -> Result<Fault, FaultE
     }
 }
 
-/// The fault of a call, or its refusal: for want of memory, too, where the call names no fault.
+/// The fault of a call, or its refusal: out of memory, too, where the call names no fault.
 pub(crate) fn fault(alloc: Global, over: &Over, call: &Call<'_>) -> Result<Fault, FaultError> {
     match call.name {
         "cut" => cut(alloc, over, call),

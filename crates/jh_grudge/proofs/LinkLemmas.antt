@@ -107,7 +107,7 @@ pub joins_all : (Drops : ℕ → ℕ → Type 0) (nodes : List ℕ) (links : Lis
 joins_all Drops nodes links joins exact k d below =
     let link = get_or links k d in joins link.1 link.0 ((exact link.1 link.0).0 (Contains-get_or links k d below))
 
--- ---- a grudge that is given, or none for want of memory
+-- ---- a grudge that is given, or none, out of memory
 
 pub given : {X : Type 0} (answer : Result (List (ℕ × ℕ)) X) (From To : ℕ → ℕ → Type 0) → ((dst src : ℕ) → From dst src → To dst src) → ((dst src : ℕ) → To dst src → From dst src)
     → MatchResult answer (CutsExactly From) (λ _. DropsSome From) → MatchResult answer (CutsExactly To) (λ _. DropsSome To)

@@ -23,7 +23,7 @@ first_refused elements ops value refusal parsed is = λ values behind are.
     ap (map parsed_op) (are ∙ append_assoc elements (value ∷ []) behind) ∙ map-append parsed_op elements (value ∷ behind) ∙ ap (λ rs. rs ++ map parsed_op (value ∷ behind)) parsed in
     refused_parsed values ops value behind refusal so_far (inl is)
 
--- which is refused, and not for want of memory
+-- which is refused, and not as out of memory
 pub answer_refused : (elements : List Edn) (ops : List Operation) (value : Edn) (refusal : OpError) → map parsed_op elements ≡ map Ok ops → (refusal ≡ refusals.OutOfMemory → ⊥)
     → (parsed_op value ≡ Err refusal) ⊎ ((refusal ≡ refusals.OutOfMemory) × IsOk (parsed_op value)) → Leave (elements ++ value ∷ []) ops (Some (history_error_at (length ops) refusal))
 answer_refused elements ops value refusal parsed other why =

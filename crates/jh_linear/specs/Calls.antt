@@ -107,8 +107,8 @@ IsLeastBad history pairs (Some place) =
     Contains (map (bad_place history) pairs) (Some place)
     × All (λ pair. IfSome (bad_place history pair) (λ other. place ≤ other)) pairs
 
--- Why the pairs of a history are refused: at the least place of a bad value; for want of memory
--- only where there is none.
+-- Why the pairs of a history are refused: at the least place of a bad value; as out of memory only
+-- where there is none.
 abbrev pub RefusesPairs : List Operation → List Pair → RegOpsError → Type 0
 RefusesPairs history pairs (BadValue place) = IsLeastBad history pairs (Some place)
 RefusesPairs history pairs OutOfMemory = IsLeastBad history pairs None

@@ -134,7 +134,7 @@ not_well_formed history e has good = let none = never_in_error history good has.
 
 -- ---- refusals
 
--- no stage refuses for want of memory
+-- no stage refuses as out of memory
 never_memory : (stage : Stage) (kind : Kind) (place opened : ℕ) → stage_after stage kind place opened ≡ Err OutOfMemory → ⊥
 never_memory Crashed kind place opened step = cc
 never_memory Idle Kind.Invoke place opened step = cc

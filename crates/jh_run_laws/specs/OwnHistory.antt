@@ -93,7 +93,7 @@ OwnHistoryIsFormed =
     (p : PlanValue) (journal : List Event) (history : List Operation) → IsFit p
     → IsSerialRun p journal history → IsWellFormed history
 
--- the checker of the run's workload refuses the history for want of memory alone
+-- the checker of the run's workload refuses the history only as out of memory
 abbrev pub OwnHistoryIsJudged : Type 0
 OwnHistoryIsJudged =
     (p : PlanValue) (journal : List Event) (history : List Operation) → IsFit p

@@ -57,7 +57,7 @@ one_entry_more p entries entry are fits =
       | false ↦ λ full. are
     ] refl
 
--- a plan that can be run is refused for want of memory alone
+-- a plan that can be run is refused only as out of memory
 pub plan_refused : (p : PlanValue) (e : PlanError.the_data) → IsFit p → RefusesPlan p e → e ≡ PlanError.OutOfMemory
 plan_refused p PlanError.BadClients fit refused = absurd (refused fit.clients)
 plan_refused p PlanError.BadOps fit refused = absurd (refused.1 fit.ops)

@@ -178,7 +178,7 @@ fn random_entries(
     Ok(entries)
 }
 
-/// A plan that can be refused for want of memory alone.
+/// A plan that can be refused only as out of memory.
 fn made_plan(made: Result<Plan, PlanError>) -> Result<Plan, AllocError>
     requires { IfErr made (λ e. e ≡ OutOfMemory) }
     ensures { IfOk result (λ plan. made ≡ Ok plan) }

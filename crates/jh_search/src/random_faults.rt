@@ -191,7 +191,7 @@ fn bumps_of(alloc: Global, nodes: &[Node], choice: u64) -> Result<Vec<(Node, i64
     Ok(bumps)
 }
 
-/// A fault that can be refused for want of memory alone.
+/// A fault that can be refused only as out of memory.
 fn made(fault: Result<Fault, FaultError>) -> Result<Fault, AllocError>
     requires { IfErr fault (λ e. e ≡ OutOfMemory) }
     ensures { IfOk result (λ made. fault ≡ Ok made) }

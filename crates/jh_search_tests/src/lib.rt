@@ -2,7 +2,7 @@
 //! ones of `jh_search_plain`, searches, and tasks that threads share. What the clauses say is proved: a test is for values that come from outside, and shows
 //! that memory suffices where there is some.
 //!
-//! What meets want of memory is made once more, so that the tests stand one refused allocation.
+//! What runs out of memory is made once more, so that the tests stand one refused allocation.
 #![tactic(auto)]
 
 #[cfg(test)]

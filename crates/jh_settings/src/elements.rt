@@ -35,7 +35,7 @@ use toml::Table;
 /// The latest moment at which a step is due, in answered client calls.
 const LATEST: u32 = 10_000;
 
-/// Passes want of memory on.
+/// Passes out of memory on, and no other error.
 fn unless_memory(error: EdnError) -> Result<(), AllocError>
     ensures { MatchResult result (λ _. error ≢ EdnError.OutOfMemory)
         (λ _. error ≡ EdnError.OutOfMemory) }

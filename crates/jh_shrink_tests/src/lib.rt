@@ -2,7 +2,7 @@
 //! made small by judges of which it is known what they need. What the clauses say is proved: a test is for values that come
 //! from outside, and shows that memory suffices where there is some.
 //!
-//! What meets want of memory is made once more, so that the tests stand one refused allocation.
+//! What runs out of memory is made once more, so that the tests stand one refused allocation.
 #![tactic(auto)]
 
 #[cfg(test)]

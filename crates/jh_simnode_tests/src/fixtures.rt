@@ -179,7 +179,7 @@ fn data_of(alloc: Global, map: &Value) -> Option<PlanData>
     Some(data_over(map, env_of(alloc, map)?, generator, schedule))
 }
 
-/// The plan of settings, or why it is refused: for want of memory, too, where the text means nothing.
+/// The plan of settings, or why it is refused: out of memory, too, where the text means nothing.
 pub(crate) fn plan_of(alloc: Global, settings: &str) -> Result<Plan, PlanError> {
     let Some(map) = value(alloc, settings) else {
         return Err(PlanError::OutOfMemory);

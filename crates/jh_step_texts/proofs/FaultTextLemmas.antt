@@ -68,7 +68,7 @@ some_there : {A : Type 0} (o : Option A) → is_some o ≡ true → (x : A) × (
 some_there None e = absurd cc
 some_there (Some x) e = (x, refl)
 
--- something is parsed, so that want of memory may be answered
+-- something is parsed, so that out of memory may be answered
 pub parsed_links-ok : (names : List (List ℕ)) (effect : OnLinks) (links : List Value) → list_any (λ l. is_none (ends_of names (view l))) links ≡ false
     → list_any is_self_link (filter_map (λ l. ends_of names (view l)) links) ≡ false → is_some (links_fault effect []) ≡ true
     → IsOk (parsed_links names effect (views links))
@@ -141,7 +141,7 @@ pub parsed_nodes-fault : (names : List (List ℕ)) (effect : OnNodes) (nodes : L
     → parsed_nodes names effect (views nodes) ≡ Ok (nodes_fault effect (filter_map (λ n. named_node names (view n)) nodes))
 parsed_nodes-fault names effect nodes known = rw (list_any-map (λ n. is_none (named_node names n)) view nodes, known, filter_map-map (named_node names) view nodes) refl
 
--- nodes that were found are refused for want of memory alone
+-- nodes that were found are refused only as out of memory
 pub nodes_refused : (names : List (List ℕ)) (nodes : List Value) (refusal : FaultError.the_data)
     → RefusesNodes (length names) (filter_map (λ n. named_node names (view n)) nodes) refusal → refusal ≡ FaultError.OutOfMemory
 nodes_refused names nodes FaultError.UnknownNode refused = absurd (false≢true (sym (nodes_found names nodes) ∙ refused))
@@ -195,7 +195,7 @@ bumps_right bumps h =
     let all = AllPass-from_list_all (λ (b : ℕ × ℤ). is_bump_amount b.1) bumps p.0 in
     ((λ k d below. bump_in_range (get_or bumps k d).1 (all k d below)), apart_in_order [] bumps p.1)
 
--- bumps that were found and pass are refused for want of memory alone
+-- bumps that were found and pass are refused only as out of memory
 pub bumps_refused : (names : List (List ℕ)) (bumps : List (Value × Value)) (refusal : FaultError.the_data)
     → are_bumps (filter_map (λ b. bump_of names (view_pair b)) bumps) ≡ true
     → RefusesBumps (length names) (filter_map (λ b. bump_of names (view_pair b)) bumps) refusal → refusal ≡ FaultError.OutOfMemory
@@ -236,7 +236,7 @@ apart_next names bumps i x y all below is there new before =
     subst (λ some. are_apart_after (filter_map h (take i bumps)) some ≡ all) rest before in
     rw first (rw new at step)
 
--- a cut of links between different nodes is refused for want of memory alone
+-- a cut of links between different nodes is refused only as out of memory
 pub cut_refused : (n : ℕ) (links : List (ℕ × ℕ)) (refusal : FaultError.the_data) → AreLinksAmong n links → RefusesLinks n links ⊤ refusal → refusal ≡ FaultError.OutOfMemory
 cut_refused n links FaultError.UnknownNode among refused =
     let (l, has, hit) = some_of_any (is_unknown_link n) links refused in

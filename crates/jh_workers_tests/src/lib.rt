@@ -2,7 +2,7 @@
 //! threads run at once, and histories that are gathered from a log. What the clauses say is proved: a test is for values
 //! that come from outside, shows that a run does give an outcome, and that memory suffices where there is some.
 //!
-//! Threads run in another order each time, so only what is true of all orders is told. A test that meets want of memory
+//! Threads run in another order each time, so only what is true of all orders is tested. A test that runs out of memory
 //! once tries again, so that it stands one refused allocation.
 #![tactic(auto)]
 

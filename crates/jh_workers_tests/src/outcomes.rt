@@ -213,7 +213,7 @@ generator = '[:mix [:forever :read] [:forever [:write 1]] [:forever [:cas 0 1]]]
 schedule = ['[0 [:begin 1 [:cut []]]]']
 "#;
 
-/// What is wrong with a run that may have met want of memory.
+/// What is wrong with a run that may have been out of memory.
 fn wrong_with(alloc: Global, plan: &Plan, finished: &Finished) -> Option<&'static str> {
     let Some(journal) = &finished.journal else {
         return Some("no journal");

@@ -11,7 +11,7 @@ ghost use Rattle.jh_env.specs.TextWritten.{text_of};
 ghost use Rattle.jh_env.specs.declared.texts.EnvTextError.{EnvTextError};
 
 /// What is written of an environment that can start is a text of its names and cells, a text of an
-/// environment is refused for want of memory alone, and it means one environment. So what
+/// environment is refused only as out of memory, and it means one environment. So what
 /// `value_of_env` writes, `env_of_value` reads back.
 pub fn environments_read_back()
     ensures written { (env : EnvValue) → CanStart env
