@@ -1,4 +1,4 @@
--- Why `jeprun shrink` refuses an input (this project's own). A run that is refused is want of
+-- Why `jeprun shrink` refuses an input (this project's own). A run that is refused counts as out of
 -- memory, for which a smaller schedule is no answer.
 use Rattle.std.specs.Prelude.{ℕ, List, ⊤}
 use Rattle.jh_edn.specs.Refused.{IsReaderError}

@@ -33,7 +33,7 @@ pub fn ids_are_judged_by_equality()
 /// stand in the history and equal as EDN says, where these can be printed. The verdict is true
 /// exactly where each element that is known to have been added is equal to one that was read, and
 /// each that was read to one that was attempted. What is recorded as `ok`, `unexpected`, `lost` and
-/// `recovered` are the normal forms of the elements that are so recorded.
+/// `recovered` are the normal forms of those elements of which that holds.
 pub fn sets_are_judged_by_equality()
     ensures verdict { (history : List Operation) (read : List Edn) → LastReadShows history read
         → (((set_result history).verdict ≡ True) ↔ IsWholeSet history read) }

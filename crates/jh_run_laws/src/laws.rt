@@ -14,8 +14,8 @@ pub fn calls_are_of_their_workload()
     ensures { OffersSuit }
 {}
 
-/// The history of a serial run is well formed, and the checker of its workload refuses it for want
-/// of memory alone.
+/// The history of a serial run is well formed, and the checker of its workload refuses it only as
+/// out of memory.
 pub fn own_histories_are_judged()
     ensures formed { OwnHistoryIsFormed }
     ensures judged { OwnHistoryIsJudged }

@@ -1,5 +1,5 @@
 //! Laws of runs, each the contract of a function that does nothing: what holds of the history of
-//! every run.
+//! every serial run.
 #![tactic(auto)]
 
 mod laws;

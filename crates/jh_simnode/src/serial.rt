@@ -91,8 +91,8 @@ fn run_turns(alloc: Global, plan: &Plan, world: &mut World) -> Result<(), RunErr
     }
 }
 
-/// A serial run of a plan: the world after it, and its history. The same plan gives
-/// the same run each time.
+/// A serial run of a plan: the world after it, and its history. The same plan gives the same run
+/// each time.
 ///
 /// Takes time for each call and step, and for what the generator is large.
 ///
