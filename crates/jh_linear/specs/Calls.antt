@@ -1,7 +1,7 @@
 -- The operations of a register in a history (Jepsen's register workloads: `:read`, `:write` with a
 -- value, and `:cas` with `[old new]`). That a read which did not complete `:ok` gives no value,
--- that a missing completion means the same as an `:info`, and where a bad value is reported, are
--- this project's own. Places count from 0 in the whole history.
+-- that a missing completion leaves as much open as an `:info`, and where a bad value is reported,
+-- are this project's own. Places count from 0 in the whole history.
 use Rattle.std.specs.Prelude.{◌≡◌, ℕ, ◌≤◌, Bool, false, List, [], ◌∷◌, map, codes, if◌then◌else◌}
 use Rattle.std.specs.Prelude.{slice_get, Option, Some, None, IfSome, is_some, unwrap_or, option_map}
 use Rattle.std.specs.Prelude.{option_and_then}
