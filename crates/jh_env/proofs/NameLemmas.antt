@@ -1,4 +1,5 @@
--- Where a name stands in the set of names, and that names stay apart when one more is added.
+-- Where a name stands in the set of names, that names stay apart when one more is added, and the
+-- places of all.
 use Rattle.std.proofs.Common.{◌≡◌, ℕ, ◌+◌, ◌<◌, ◌≤◌, Bool, false, cond, List, [], ◌∷◌, ◌++◌, length, map, take, drop, get_or, refl, ap, ◌∙◌, sym, arith, suc, inl, inr, append_assoc, length-append, drop-cons, String}
 use Rattle.std.proofs.Math.Seq.{get_or-append_seam, take-append_seam}
 use Rattle.std.specs.List.{list_any, prefix_len, position, AllZip}
@@ -6,8 +7,9 @@ use Rattle.std.specs.Prelude.{not, ◌||◌, ◌==◌, if◌then◌else◌}
 use Rattle.std.specs.Str.{bytes_eq}
 use Rattle.std.specs.String.{string_bytes, string_eq}
 use Rattle.std.proofs.lemmas.Bool.{cases_lt, eq-eqb, false≢true}
-use Rattle.std.proofs.lemmas.List.{length-map, map-append, length-take-le, take-append-drop}
-use Rattle.jh_env.specs.Names.{AreNodeNames, AreFew, MayFollow, RefusesName, RefusesSomeName, RefusesNames}
+use Rattle.std.proofs.lemmas.List.FromFn.{map-range_with_len_more}
+use Rattle.std.proofs.lemmas.List.{length-map, map-id, map-append, length-take-le, take-append-drop}
+use Rattle.jh_env.specs.Names.{AreNodeNames, AreFew, MayFollow, node_places, RefusesName, RefusesSomeName, RefusesNames}
 use Rattle.jh_env.specs.declared.names.NodesError.{NodesError}
 use Rattle.jh_env.specs.declared.names.NodesError.TheVariants.{NoNodes, TooManyNodes, BadName, DuplicateName, OutOfMemory}
 
@@ -65,6 +67,12 @@ refused_at names i e few below good refuses =
 -- a number that is not nought
 pub above_nought : (n : ℕ) → false ≡ (n == 0) → 0 < n
 above_nought n h = elim (cases_lt 0 n) [ inl lt ↦ lt | inr ge ↦ absurd (let e : n ≡ 0 = omega arith in false≢true (h ∙ eq-eqb n 0 e)) ]
+
+-- one more place goes last
+pub place_push : (count : ℕ) → node_places (count + 1) ≡ node_places count ++ count ∷ []
+place_push count =
+    sym (map-id (node_places (count + 1))) ∙ map-range_with_len_more (λ k. k) 0 count count (omega arith)
+    ∙ ap (λ ks. ks ++ count ∷ []) (map-id (node_places count))
 
 -- what is cloned one by one has the same texts
 pub same_texts : {Z : Type 0} (keys copies : List (String Z)) → AllZip (λ s t. string_bytes t ≡ string_bytes s) keys copies → map string_bytes copies ≡ map string_bytes keys

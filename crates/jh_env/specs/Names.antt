@@ -4,7 +4,7 @@ use Rattle.std.specs.Prelude.{◌≡◌, ℕ, ◌==◌, ◌&&◌, ◌||◌, ◌<
 use Rattle.jh_edn.specs.Bytes.{underscore}
 use Rattle.std.specs.Prelude.{◌++◌, length, nat_le, not}
 use Rattle.std.specs.Char.{is_ascii_alphanumeric}
-use Rattle.std.specs.List.{list_all, list_any}
+use Rattle.std.specs.List.{list_all, list_any, range_with_len}
 use Rattle.std.specs.Str.{byte, bytes_eq}
 use Rattle.jh_env.specs.declared.names.NodesError.{NodesError}
 use Rattle.jh_env.specs.declared.names.NodesError.TheVariants.{NoNodes, TooManyNodes, BadName}
@@ -44,6 +44,10 @@ AreNodeNames names =
 -- as many names as an environment may have
 abbrev pub AreFew : List (List ℕ) → Type 0
 AreFew names = (0 < length names) × (length names ≤ 64)
+
+-- the places of so many nodes, in order
+abbrev pub node_places : ℕ → List ℕ
+node_places count = range_with_len 0 count
 
 -- why a name is refused after these, in this order: it is bad, it stands there already, memory was
 -- refused

@@ -1,7 +1,6 @@
 -- What a contract sees of what a program reads of a text.
-use Rattle.std.specs.Prelude.{◌≡◌, ◌<◌, ℕ, List, [], ◌∷◌, length, codes, ◌++◌, map, Option, Some}
+use Rattle.std.specs.Prelude.{◌≡◌, ◌<◌, ℕ, List, length, ◌++◌, map, Option, Some}
 use Rattle.std.specs.Prelude.{None, option_map, ⊤, Bool, true, pos, int_le}
-use Rattle.jh_edn.specs.Edn.{Edn, int, keyword}
 use Rattle.jh_tables.specs.declared.cells.Link.{Link}
 use Rattle.jh_tables.specs.declared.cells.NodeCell.{NodeCell}
 use Rattle.jh_env.specs.declared.names.NodesError.{NodesError}

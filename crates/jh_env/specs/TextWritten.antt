@@ -4,7 +4,6 @@
 use Rattle.std.specs.Prelude.{ℕ, ◌==◌, Bool, false, ℤ, pos, nat_lt, List, [], ◌∷◌, map, length}
 use Rattle.std.specs.Prelude.{filter_map, flat_map, if◌then◌else◌, codes, slice_get, Option, Some}
 use Rattle.std.specs.Prelude.{None}
-use Rattle.std.specs.List.{range_with_len}
 use Rattle.jh_edn.specs.Edn.{Edn, int, str, keyword, vector, mapping, items_of, members_of}
 use Rattle.jh_tables.specs.declared.cells.Life.{Life}
 use Rattle.jh_tables.specs.declared.cells.Life.TheVariants.{Running, Paused, Killed}
@@ -13,6 +12,7 @@ use Rattle.jh_tables.specs.declared.cells.NodeCell.{NodeCell}
 use Rattle.jh_env.specs.declared.texts.entries.Section.{Section}
 use Rattle.jh_env.specs.declared.texts.entries.LinkChange.{LinkChange}
 use Rattle.jh_env.specs.declared.texts.entries.NodeChange.{NodeChange}
+use Rattle.jh_env.specs.Names.{node_places}
 use Rattle.jh_env.specs.Overlay.{EnvValue, link_of, node_of}
 use Rattle.jh_env.specs.Text.{◌>>=◌, Entry, OfLink, OfNode, keyword_of, nodes_keyword, sections}
 
@@ -62,7 +62,7 @@ node_entry env section a = do
 
 -- the places of the nodes
 abbrev pub places : EnvValue → List ℕ
-places env = range_with_len 0 (length env.names)
+places env = node_places (length env.names)
 
 -- the entries under a key: by source and then by destination, or by node
 abbrev pub entries_written : EnvValue → Section → List Entry

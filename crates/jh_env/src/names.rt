@@ -2,13 +2,14 @@
 
 ghost use Rattle.std.specs.Prelude.{◌≡◌, ◌<◌, ◌≤◌, ◌++◌, ◌∷◌, [], map, length, slice_get, position};
 ghost use Rattle.std.specs.Prelude.{option_map, IfOk, MatchResult, MatchOption};
-ghost use Rattle.std.specs.List.{list_all};
+ghost use Rattle.std.specs.List.{All, list_all};
 ghost use Rattle.std.specs.Str.{bytes_eq};
 ghost use Rattle.std.specs.String.{string_bytes};
 ghost use Rattle.jh_env.specs.Names as rule;
 ghost use Rattle.jh_env.specs.Names.{AreNodeNames, AreFew, MayFollow, RefusesName, RefusesNames};
-ghost use Rattle.jh_env.specs.Names.{is_name_byte};
+ghost use Rattle.jh_env.specs.Names.{is_name_byte, node_places};
 
+use arrayvec::ArrayVec;
 use indexmap::IndexSet;
 use jh_tables::Node;
 use std::alloc::{AllocError, Global};
@@ -167,6 +168,18 @@ impl Nodes {
         } else {
             None
         }
+    }
+
+    /// All nodes, in the order of their names. Takes no memory.
+    pub fn all(&self) -> ArrayVec<Node, 64>
+        ensures all { result.items ≡ node_places (length self.now) }
+        ensures known { All (λ node. node < length self.now) result.items }
+    {
+        let mut all = ArrayVec::new();
+        for place in 0..self.len() as u8 {
+            all.push(Node::at(place));
+        }
+        all
     }
 
     /// The name of a node, where the node is one of these.

@@ -2,7 +2,6 @@
 
 ghost use Rattle.std.specs.Prelude.{◌≡◌, ◌∷◌, ◌++◌, length, map, option_map, filter_map, flat_map};
 ghost use Rattle.std.specs.Prelude.{slice_get, IfOk, OnOk};
-ghost use Rattle.std.specs.List.{range_with_len};
 ghost use Rattle.jh_edn.specs.Edn.{str, keyword, vector, items_of};
 ghost use Rattle.jh_edn.specs.View.{view, views, view_pair, view_pairs};
 ghost use Rattle.jh_tables.specs.Standing.{IsLinkInRange};
@@ -120,25 +119,12 @@ fn push_nodes<'a>(
     Ok(())
 }
 
-/// All nodes, by place.
-fn all_nodes(alloc: Global, nodes: &Nodes) -> Result<Vec<Node>, AllocError>
-    ensures { IfOk result (λ all. all.items ≡ range_with_len 0 (length nodes.now)) }
-{
-    let mut all = Vec::new(alloc);
-    for place in 0..nodes.len() as u8 {
-        if let Some(node) = nodes.at(place) {
-            all.push(node)?;
-        }
-    }
-    Ok(all)
-}
-
 /// The entries under a key: by source and then by destination, or by node.
 fn entries_of(alloc: Global, env: &Env, section: Section) -> Result<Vec<Entry<'_>>, AllocError>
     ensures { IfOk result
         (λ entries. entries_parsed entries.items ≡ text.entries_written env.now section) }
 {
-    let nodes = all_nodes(alloc, env.nodes())?;
+    let nodes = env.nodes().all();
     let mut entries = Vec::new(alloc);
     match section {
         Section::Down | Section::Clock => push_nodes(env, section, &nodes, &mut entries)?,
@@ -205,20 +191,13 @@ fn section_pair(alloc: Global, env: &Env, section: Section) -> Result<(Value, Va
     ))
 }
 
-/// The name of the node at this place.
-fn name_at(nodes: &Nodes, place: u8) -> Option<&str>
-    ensures { option_map (λ s. s.now) result ≡ slice_get nodes.now place }
-{
-    nodes.name(nodes.at(place)?)
-}
-
 /// The vector of all names, by place.
 fn names_value(alloc: Global, nodes: &Nodes) -> Result<Value, AllocError>
     ensures { IfOk result (λ value. view value ≡ vector (items_of (map str nodes.now))) }
 {
     let mut names = Vec::new(alloc);
-    for place in 0..nodes.len() as u8 {
-        if let Some(name) = name_at(nodes, place) {
+    for node in nodes.all().as_slice() {
+        if let Some(name) = nodes.name(*node) {
             names.push(string(alloc, name)?)?;
         }
     }
