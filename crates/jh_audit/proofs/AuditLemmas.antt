@@ -43,8 +43,8 @@ read_at h place op form low is says =
     let at = op_at h place op low is in (at, says_of (operations h) place (operation op) form at says)
 
 -- an operation says one thing
-pub one_said : (h : List Operation) (place : ℕ) (f g : Form) → SaysAt h place f → SaysAt h place g → f ≡ g
-one_said h place f g these those = same_some f g (sym (says_form_at h place f these) ∙ says_form_at h place g those)
+pub one_form : (h : List Operation) (place : ℕ) (f g : Form) → SaysAt h place f → SaysAt h place g → f ≡ g
+one_form h place f g these those = same_some f g (sym (says_form_at h place f these) ∙ says_form_at h place g those)
 
 -- one place is just before another
 pub one_before : (h : List Operation) (a b place : ℕ) → IsJustBefore h a place → IsJustBefore h b place → a ≡ b
@@ -60,11 +60,11 @@ pub over_at : (h : List Operation) (place : ℕ) (op : Operation) (form : Form) 
     → IsOverBy op form → IsOverAt h place
 over_at h place op form at says over = (op, form, at, says_of h place op form at says, over)
 
-pub over_said : (h : List Operation) (place : ℕ) (op : Operation) (form : Form) → slice_get h place ≡ Some op → SaysAt h place form
+pub over_form : (h : List Operation) (place : ℕ) (op : Operation) (form : Form) → slice_get h place ≡ Some op → SaysAt h place form
     → IsOverAt h place → IsOverBy op form
-over_said h place op form at says over =
+over_form h place op form at says over =
     let same_op : over.0 ≡ op = same_some over.0 op (sym over.2 ∙ at) in
-    let same_form : over.1 ≡ form = one_said h place over.1 form (over.0, over.2, over.3) says in
+    let same_form : over.1 ≡ form = one_form h place over.1 form (over.0, over.2, over.3) says in
     subst (λ o. IsOverBy o form) same_op (subst (λ f. IsOverBy over.0 f) same_form over.4)
 
 -- what is said just before a place that follows
@@ -75,9 +75,9 @@ pub follows_none : (h : List Operation) (k place : ℕ) (asked : Form) → IsJus
     → FollowsInvocation h place asked → ⊥
 follows_none h k place asked before none follows = none asked (followed h k place asked before follows)
 
-pub follows_said : (h : List Operation) (k place : ℕ) (form asked : Form) → IsJustBefore h k place → SaysAt h k form
+pub follows_form : (h : List Operation) (k place : ℕ) (form asked : Form) → IsJustBefore h k place → SaysAt h k form
     → FollowsInvocation h place asked → form ≡ asked
-follows_said h k place form asked before says follows = one_said h k form asked says (followed h k place asked before follows)
+follows_form h k place form asked before says follows = one_form h k form asked says (followed h k place asked before follows)
 
 -- ---- order
 

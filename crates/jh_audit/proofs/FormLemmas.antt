@@ -20,7 +20,7 @@ use Rattle.jh_simnode.specs.declared.replicas.Reply.{Reply}
 use Rattle.jh_simnode.specs.declared.replicas.Reply.TheVariants as reply
 use Rattle.jh_simnode.specs.Histories.{request_name, asked_content, got_content, replied_content, completion_kind, code_of}
 use Rattle.jh_audit.specs.declared.forms.Form.{Form}
-use Rattle.jh_audit.specs.declared.forms.Form.TheVariants.{Asks, Tells, Begins, Ends}
+use Rattle.jh_audit.specs.declared.forms.Form.TheVariants.{Asks, Completes, Begins, Ends}
 use Rattle.jh_audit.specs.Forms.{MayGet, MayReply, Says, SaysAt, named_event}
 use Rattle.jh_audit.specs.DecodeInside.{name_in, is_nil, pair_among, pair_in, is_read_value, is_one, request_asked, request_done, completed_request, natural_in, begun_entry, is_code, ended_entry_by, ended_entry_in, client_form, step_form, form_by, event_by, is_index_of, is_none, form_of, form_at}
 use Rattle.jh_audit.proofs.ChoiceLemmas.{same_some, chosen, mapped, bound, both_true}
@@ -208,18 +208,18 @@ IsTelling kind name value request reply =
     MayReply request reply × (kind ≡ completion_kind reply) × (name ≡ request_name request)
     × (value ≡ content_value (replied_content request reply))
 
-told_is : (kind : Kind) (name : List ℕ) (value : Edn) (r : Request) → completed_request kind name value ≡ Some r
+request_is : (kind : Kind) (name : List ℕ) (value : Edn) (r : Request) → completed_request kind name value ≡ Some r
     → (reply : Reply) × IsTelling kind name value r reply
-told_is Kind.Invoke name value r e = absurd (cc)
-told_is Kind.Ok name value r e =
+request_is Kind.Invoke name value r e = absurd (cc)
+request_is Kind.Ok name value r e =
     let found = done_is name value r e in (reply.Ok found.0, (found.1.0, refl, found.1.1, found.1.2))
-told_is Kind.Fail name value r e = let asked = asked_is name value r e in (reply.Fail, (tt, refl, asked.0, asked.1))
-told_is Kind.Info name value r e = let asked = asked_is name value r e in (reply.Info, (tt, refl, asked.0, asked.1))
+request_is Kind.Fail name value r e = let asked = asked_is name value r e in (reply.Fail, (tt, refl, asked.0, asked.1))
+request_is Kind.Info name value r e = let asked = asked_is name value r e in (reply.Info, (tt, refl, asked.0, asked.1))
 
-is_told : (r : Request) (y : Reply) → MayReply r y → completed_request (completion_kind y) (request_name r) (content_value (replied_content r y)) ≡ Some r
-is_told r (reply.Ok got) may = is_done r got may
-is_told r reply.Fail may = is_asked r
-is_told r reply.Info may = is_asked r
+request_given : (r : Request) (y : Reply) → MayReply r y → completed_request (completion_kind y) (request_name r) (content_value (replied_content r y)) ≡ Some r
+request_given r (reply.Ok got) may = is_done r got may
+request_given r reply.Fail may = is_asked r
+request_given r reply.Info may = is_asked r
 
 -- ---- keys
 
@@ -284,16 +284,16 @@ client_says place process Kind.Ok f value None form e = absurd (cc)
 client_says place process Kind.Fail f value None form e = absurd (cc)
 client_says place process Kind.Info f value None form e = absurd (cc)
 client_says place process kind f value (Some number) form e =
-    let found = mapped (λ request. Tells process request number) (completed_request kind (name_in f) value) form e in
-    let told = told_is kind (name_in f) value found.0 found.1 in
+    let found = mapped (λ request. Completes process request number) (completed_request kind (name_in f) value) form e in
+    let given = request_is kind (name_in f) value found.0 found.1 in
     let r = found.0 in
-    let y = told.0 in
+    let y = given.0 in
     subst (Says place (made place (Process.Client process) kind f value (Some number))) found.2 (
       y,
-      told.1.0,
-      ap (λ k. made place (Process.Client process) k f value (Some number)) told.1.1
-          ∙ ap (λ w. made place (Process.Client process) (completion_kind y) w value (Some number)) (request_keyword f r told.1.2)
-          ∙ ap (λ w. made place (Process.Client process) (completion_kind y) (keyword (request_name r)) w (Some number)) told.1.3,
+      given.1.0,
+      ap (λ k. made place (Process.Client process) k f value (Some number)) given.1.1
+          ∙ ap (λ w. made place (Process.Client process) (completion_kind y) w value (Some number)) (request_keyword f r given.1.2)
+          ∙ ap (λ w. made place (Process.Client process) (completion_kind y) (keyword (request_name r)) w (Some number)) given.1.3,
     )
 
 number_is : (z : ℤ) (n : ℕ) → natural_in z ≡ Some n → z ≡ pos n
@@ -397,11 +397,11 @@ pub says_form : (place : ℕ) (op : Operation) (form : Form) → Says place op f
 says_form place op (Asks process request) says =
     ap (form_of place) says ∙ made_form place (Process.Client process) Kind.Invoke (keyword (request_name request)) (content_value (asked_content request)) None
     ∙ ap (option_map (Asks process)) (is_asked request)
-says_form place op (Tells process request number) says =
+says_form place op (Completes process request number) says =
     let y = says.0 in
     ap (form_of place) says.2
     ∙ made_form place (Process.Client process) (completion_kind y) (keyword (request_name request)) (content_value (replied_content request y)) (Some number)
-    ∙ ap (option_map (λ r. Tells process r number)) (is_told request y says.1)
+    ∙ ap (option_map (λ r. Completes process r number)) (request_given request y says.1)
 says_form place op (Begins entry) says =
     ap (form_of place) says ∙ made_form place Process.Nemesis Kind.Info (keyword (codes "step")) (int (pos entry)) None
 says_form place op (Ends entry number) says =

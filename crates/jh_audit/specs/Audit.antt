@@ -11,7 +11,7 @@ use Rattle.jh_ops.specs.declared.operation.Process.{Process}
 use Rattle.jh_simnode.specs.declared.events.Event.{Event}
 use Rattle.jh_simnode.specs.Histories.{placed_completion, placed_entry_completion}
 use Rattle.jh_audit.specs.declared.forms.Form.{Form}
-use Rattle.jh_audit.specs.declared.forms.Form.TheVariants.{Asks, Tells, Begins, Ends}
+use Rattle.jh_audit.specs.declared.forms.Form.TheVariants.{Asks, Completes, Begins, Ends}
 use Rattle.jh_audit.specs.declared.checks.AuditFault.{AuditFault}
 use Rattle.jh_audit.specs.declared.checks.AuditFault.TheVariants.{BadOp, NoEvent, WrongEvent}
 use Rattle.jh_audit.specs.declared.checks.AuditFault.TheVariants.{Repeat, Unpaired, WrongOrder}
@@ -42,8 +42,8 @@ HasEvent journal form = (e : ℕ) → event_in form ≡ Some e → e < length jo
 
 -- the operation is the completion of this event
 abbrev pub IsCompletionBy : Event → ℕ → Operation → Form → Type 0
-IsCompletionBy (Event.Call process node request draw reply) place op (Tells teller told number) =
-    (process ≡ teller) × (request ≡ told)
+IsCompletionBy (Event.Call process node request draw reply) place op (Completes completer given number) =
+    (process ≡ completer) × (request ≡ given)
     × (op ≡ placed_completion place number process request reply)
 IsCompletionBy (Event.Step step answer) place op (Ends entry number) =
     op ≡ placed_entry_completion place number entry answer
@@ -66,7 +66,7 @@ IsNewEvent history place form = (e : ℕ) → event_in form ≡ Some e → IsNam
 -- a process may ask again after this: a completion that is no client's `:info`
 abbrev pub IsOverBy : Operation → Form → Type 0
 IsOverBy op (Asks process request) = ⊥
-IsOverBy op (Tells process request number) = op.kind ≢ Kind.Info
+IsOverBy op (Completes process request number) = op.kind ≢ Kind.Info
 IsOverBy op (Begins entry) = ⊥
 IsOverBy op (Ends entry number) = ⊤
 
@@ -97,7 +97,7 @@ FollowsInvocation history place asked =
 -- entry
 abbrev pub IsPaired : List Operation → ℕ → Form → Type 0
 IsPaired history place (Asks process request) = MayInvoke history place × IsNotLast history place
-IsPaired history place (Tells process request number) =
+IsPaired history place (Completes process request number) =
     FollowsInvocation history place (Asks process request)
 IsPaired history place (Begins entry) = MayInvoke history place × IsNotLast history place
 IsPaired history place (Ends entry number) = FollowsInvocation history place (Begins entry)
@@ -115,7 +115,7 @@ pub record IsSoundAt (journal : List Event) (history : List Operation) (place : 
   pub at : slice_get history place ≡ Some op
   pub says : Says place op form
   pub has_event : HasEvent journal form
-  pub tells : CompletesEvent journal place op form
+  pub completes : CompletesEvent journal place op form
   pub new : IsNewEvent history place form
   pub paired : IsPaired history place form
   pub in_order : IsInOrder history place form

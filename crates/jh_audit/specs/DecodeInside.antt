@@ -11,7 +11,7 @@ use Rattle.jh_ops.specs.declared.call.Request.TheVariants.{Read, Write, Cas, Add
 use Rattle.jh_ops.specs.declared.operation.Kind.{Kind}
 use Rattle.jh_ops.specs.declared.operation.Process.{Process}
 use Rattle.jh_audit.specs.declared.forms.Form.{Form}
-use Rattle.jh_audit.specs.declared.forms.Form.TheVariants.{Asks, Tells, Begins, Ends}
+use Rattle.jh_audit.specs.declared.forms.Form.TheVariants.{Asks, Completes, Begins, Ends}
 use Rattle.jh_audit.specs.Forms.{named_event}
 use Rattle.jh_ops.specs.Pairing.{is_info}
 
@@ -94,7 +94,7 @@ client_form process Kind.Invoke name value None =
     option_map (Asks process) (request_asked name value)
 client_form process kind name value None = None
 client_form process kind name value (Some number) =
-    option_map (λ request. Tells process request number) (completed_request kind name value)
+    option_map (λ request. Completes process request number) (completed_request kind name value)
 
 abbrev pub step_form : Edn → Option ℕ → Option Form
 step_form value None = option_map Begins (begun_entry value)

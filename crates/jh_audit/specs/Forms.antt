@@ -15,7 +15,7 @@ use Rattle.jh_simnode.specs.declared.replicas.Reply.TheVariants as reply
 use Rattle.jh_simnode.specs.Histories.{placed_invocation, placed_completion}
 use Rattle.jh_simnode.specs.Histories.{placed_entry_invocation, placed_entry_completion}
 use Rattle.jh_audit.specs.declared.forms.Form.{Form}
-use Rattle.jh_audit.specs.declared.forms.Form.TheVariants.{Asks, Tells, Begins, Ends}
+use Rattle.jh_audit.specs.declared.forms.Form.TheVariants.{Asks, Completes, Begins, Ends}
 
 -- what a request that was done may get: a read one value or many, a new id one, others nothing
 abbrev pub MayGet : Request → Got → Type 0
@@ -44,7 +44,7 @@ MayReply request reply.Info = ⊤
 -- the operation says this at its place in a history
 abbrev pub Says : ℕ → Operation → Form → Type 0
 Says place op (Asks process request) = op ≡ placed_invocation place process request
-Says place op (Tells process request number) =
+Says place op (Completes process request number) =
     (reply : Reply) × MayReply request reply
     × (op ≡ placed_completion place number process request reply)
 Says place op (Begins entry) = op ≡ placed_entry_invocation place entry
@@ -59,7 +59,7 @@ SaysAt history place form =
 -- the event that completes what is said
 abbrev pub event_in : Form → Option ℕ
 event_in (Asks process request) = None
-event_in (Tells process request number) = Some number
+event_in (Completes process request number) = Some number
 event_in (Begins entry) = None
 event_in (Ends entry number) = Some number
 

@@ -86,7 +86,7 @@ fn has_event(journal: &[Event], form: Form) -> bool
 }
 
 /// Whether a completion is that of its event.
-fn tells_event(journal: &[Event], place: usize, op: &Op, form: Form) -> bool
+fn completes_event(journal: &[Event], place: usize, op: &Op, form: Form) -> bool
     requires event { HasEvent journal.now form }
     requires says { Says place (operation op.now) form }
     ensures { IsTrue result ↔ CompletesEvent journal.now place (operation op.now) form }
@@ -129,7 +129,7 @@ fn is_over(op: &Op, form: Form) -> bool
     ensures { IsTrue result ↔ IsOverBy (operation op.now) form }
 {
     match form {
-        Form::Tells(_, _, _) => op.kind != Kind::Info,
+        Form::Completes(_, _, _) => op.kind != Kind::Info,
         Form::Ends(_, _) => true,
         Form::Asks(_, _) | Form::Begins(_) => false,
     }
@@ -175,9 +175,9 @@ fn same_form(one: Form, other: Form) -> bool
     ensures { IsTrue result ↔ (one ≡ other) }
 {
     match (one, other) {
-        (Form::Asks(one, asked), Form::Asks(other, told)) => one == other && asked == told,
-        (Form::Tells(one, asked, event), Form::Tells(other, told, number)) => {
-            one == other && asked == told && event == number
+        (Form::Asks(one, asked), Form::Asks(other, given)) => one == other && asked == given,
+        (Form::Completes(one, asked, event), Form::Completes(other, given, number)) => {
+            one == other && asked == given && event == number
         }
         (Form::Begins(one), Form::Begins(other)) => one == other,
         (Form::Ends(one, event), Form::Ends(other, number)) => one == other && event == number,
@@ -208,7 +208,11 @@ fn is_paired(history: &[Op], place: usize, form: Form) -> bool
         Form::Asks(_, _) | Form::Begins(_) => {
             may_ask(history, place) && is_gone_on(history, place)
         }
-        Form::Tells(process, request, _) => follows(history, place, Form::Asks(process, request)),
+        Form::Completes(process, request, _) => follows(
+            history,
+            place,
+            Form::Asks(process, request),
+        ),
         Form::Ends(entry, _) => follows(history, place, Form::Begins(entry)),
     }
 }
@@ -264,7 +268,7 @@ fn check_at(
     if !has_event(journal, form) {
         return Err(AuditFault::NoEvent(place));
     }
-    if !tells_event(journal, place, &history[place], form) {
+    if !completes_event(journal, place, &history[place], form) {
         return Err(AuditFault::WrongEvent(place));
     }
     if !is_new(history, horizon, place, form) {

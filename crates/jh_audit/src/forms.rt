@@ -19,7 +19,7 @@ pub(crate) enum Form {
     /// A client's process asks.
     Asks(u64, Request),
     /// A client's process was answered, by the event of this number.
-    Tells(u64, Request, u64),
+    Completes(u64, Request, u64),
     /// An entry of the schedule begins.
     Begins(u64),
     /// An entry of the schedule has ended, by the event of this number.
@@ -41,7 +41,11 @@ fn client_form(
             Kind::Invoke => Some(Form::Asks(process, request_asked(name, value)?)),
             _ => None,
         },
-        Some(number) => Some(Form::Tells(process, completed_request(kind, name, value)?, number)),
+        Some(number) => Some(Form::Completes(
+            process,
+            completed_request(kind, name, value)?,
+            number,
+        )),
     }
 }
 
@@ -130,7 +134,7 @@ impl Form {
         ensures { result ≡ event_in self }
     {
         match self {
-            Form::Tells(_, _, number) | Form::Ends(_, number) => Some(number),
+            Form::Completes(_, _, number) | Form::Ends(_, number) => Some(number),
             Form::Asks(_, _) | Form::Begins(_) => None,
         }
     }

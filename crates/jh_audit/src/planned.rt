@@ -63,10 +63,10 @@ fn ends_entry(
     if entry >= schedule.len() {
         return false;
     }
-    let Some(Form::Ends(told, number)) = form_at(history, place) else {
+    let Some(Form::Ends(given, number)) = form_at(history, place) else {
         return false;
     };
-    if told != entry as u64 || number >= journal.len() as u64 {
+    if given != entry as u64 || number >= journal.len() as u64 {
         return false;
     }
     ends_by(
@@ -74,7 +74,7 @@ fn ends_entry(
         &schedule[entry].step,
         place,
         &history[place],
-        told,
+        given,
         number,
     )
 }

@@ -124,8 +124,8 @@ pub(crate) fn is_completion_by(event: &Event, place: usize, op: &Op, form: Form)
                 draw: _,
                 reply,
             },
-            Form::Tells(teller, told, _),
-        ) => *process == teller && *request == told && has_reply(op, told, reply),
+            Form::Completes(completer, given, _),
+        ) => *process == completer && *request == given && has_reply(op, given, reply),
         (Event::Step { step: _, answer }, Form::Ends(entry, number)) => {
             has_answer(op, place, entry, number, *answer)
         }

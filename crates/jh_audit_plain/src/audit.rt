@@ -2,9 +2,9 @@
 //!
 //! None is answered where memory was refused.
 
+use crate::completions::is_completed;
 use crate::forms::{has_form, pair_in};
 use crate::lines::Line;
-use crate::told::is_told;
 use jh_simnode::Event;
 use std::alloc::Global;
 
@@ -75,7 +75,7 @@ fn wrong_event(
     let Some(event) = journal.get(number) else {
         return Some("no such event");
     };
-    if !is_told(alloc, event, line)? {
+    if !is_completed(alloc, event, line)? {
         return Some("wrong event");
     }
     if lines

@@ -4,9 +4,9 @@
 
 mod audit;
 mod changes;
+mod completions;
 mod forms;
 mod lines;
-mod told;
 
 pub use audit::audited_slowly;
 pub use changes::change;

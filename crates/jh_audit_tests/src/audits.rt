@@ -85,27 +85,27 @@ const KILL_ROWS: &str = r#"
 "#;
 
 /// What is answered of the run with the kill, under the plan of these settings.
-fn told_once(alloc: Global, settings: &str) -> Option<String> {
+fn given_once(alloc: Global, settings: &str) -> Option<String> {
     let (run, history) = run_of(alloc, KILL)?;
     let plan = plan_of(alloc, settings)?;
     judged(alloc, &Run { plan, ..run }, &history).ok()
 }
 
-fn is_told(alloc: Global, settings: &str, wanted: &str) -> bool {
-    let told = match told_once(alloc, settings) {
-        None => told_once(alloc, settings),
-        told => told,
+fn is_given(alloc: Global, settings: &str, wanted: &str) -> bool {
+    let audited = match given_once(alloc, settings) {
+        None => given_once(alloc, settings),
+        audited => audited,
     };
-    match told {
-        Some(told) => told.as_str() == wanted,
+    match audited {
+        Some(audited) => audited.as_str() == wanted,
         None => false,
     }
 }
 
 #[test]
 fn a_run_follows_its_plan(rt: HostRuntime) {
-    assert!(rt; is_told(rt.alloc(), KILL, "ok, as planned"));
-    assert!(rt; is_told(rt.alloc(), LONGER, "ok, not as planned"));
+    assert!(rt; is_given(rt.alloc(), KILL, "ok, as planned"));
+    assert!(rt; is_given(rt.alloc(), LONGER, "ok, not as planned"));
 }
 
 /// The first row of which something else is answered, for a history of the run of these settings.

@@ -66,7 +66,7 @@ fn answer(alloc: Global, tale: &mut Tale, process: u64) -> Option<()> {
 }
 
 /// All processes ask, and then all are answered.
-fn tell_round(alloc: Global, tale: &mut Tale) -> Option<()> {
+fn audit_round(alloc: Global, tale: &mut Tale) -> Option<()> {
     for process in 0..PROCESSES {
         ask(alloc, tale, process)?;
     }
@@ -76,7 +76,7 @@ fn tell_round(alloc: Global, tale: &mut Tale) -> Option<()> {
     Some(())
 }
 
-fn told_once(alloc: Global) -> Option<String> {
+fn given_once(alloc: Global) -> Option<String> {
     let run = Run {
         plan: plan_of(alloc, SETTINGS)?,
         journal: Vec::new(alloc),
@@ -86,19 +86,19 @@ fn told_once(alloc: Global) -> Option<String> {
         history: Vec::new(alloc),
     };
     for _ in 0..ROUNDS {
-        tell_round(alloc, &mut tale)?;
+        audit_round(alloc, &mut tale)?;
     }
     judged(alloc, &tale.run, &tale.history).ok()
 }
 
 #[test]
 fn a_long_history_is_judged(rt: HostRuntime) {
-    let told = match told_once(rt.alloc()) {
-        None => told_once(rt.alloc()),
-        told => told,
+    let audited = match given_once(rt.alloc()) {
+        None => given_once(rt.alloc()),
+        audited => audited,
     };
-    let Some(told) = told else {
+    let Some(audited) = audited else {
         panic!(rt; "nothing is told")
     };
-    assert_eq!(rt; told.as_str(), "ok, as planned");
+    assert_eq!(rt; audited.as_str(), "ok, as planned");
 }

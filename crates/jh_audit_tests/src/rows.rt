@@ -58,18 +58,18 @@ pub(crate) fn judged(alloc: Global, run: &Run, history: &[Op]) -> Result<String,
     }
 }
 
-fn told_once(alloc: Global, run: &Run, history: &str, changes: &str) -> Option<String> {
+fn given_once(alloc: Global, run: &Run, history: &str, changes: &str) -> Option<String> {
     let history = changed(alloc, history, changes)?;
     judged(alloc, run, &history).ok()
 }
 
 fn is_right(alloc: Global, run: &Run, history: &str, changes: &str, wanted: &str) -> bool {
-    let told = match told_once(alloc, run, history, changes) {
-        None => told_once(alloc, run, history, changes),
-        told => told,
+    let audited = match given_once(alloc, run, history, changes) {
+        None => given_once(alloc, run, history, changes),
+        audited => audited,
     };
-    match told {
-        Some(told) => told.as_str() == wanted,
+    match audited {
+        Some(audited) => audited.as_str() == wanted,
         None => false,
     }
 }

@@ -24,7 +24,7 @@ pub(crate) fn plan_of(alloc: Global, text: &str) -> Option<Plan> {
 }
 
 #[test]
-fn settings_tell_a_plan(rt: HostRuntime) {
+fn settings_mean_a_plan(rt: HostRuntime) {
     let alloc = rt.alloc();
     let answer = plan_of(alloc, SETTINGS).or_else(|| plan_of(alloc, SETTINGS));
     assert!(rt; answer.is_some_and(|plan| plan.ops() == 4));

@@ -3,7 +3,7 @@
 ghost use Rattle.jh_linear.specs.Order.{EndAfterInvoked};
 
 use crate::register::found;
-use crate::rows::{Ask, answer, told};
+use crate::rows::{Ask, answer, calls_in};
 use jh_check_plain::{
     Dice, busy_history, cut, ends_at, is_possible, judged_slowly, random_case, random_history,
     value_after,
@@ -118,7 +118,7 @@ fn is_refused_alike(alloc: Global, calls: &[RegOp], dice: &mut Dice) -> Option<b
 fn compared(alloc: Global, mut dice: Dice) -> Option<(bool, Dice)> {
     let most = dice.below(7).min(dice.below(9));
     let history = random_history(alloc, &mut dice, most).ok()?;
-    let calls = told(alloc, &history)?.ok()?;
+    let calls = calls_in(alloc, &history)?.ok()?;
     let possible = judged(alloc, &calls)?;
     is_stuck_if_at_all(alloc, &calls)?.then_some(())?;
     is_refused_alike(alloc, &calls, &mut dice)?.then_some((possible, dice))

@@ -1,6 +1,6 @@
 //! Histories of a register with what the judge says of each, and orders with what is wrong with them.
 
-use crate::rows::{Ask, ask_all, told};
+use crate::rows::{Ask, ask_all, calls_in};
 use jh_linear::{LinVerdict, Order, OrderFault, Reached, RegOpsError, check, check_order};
 use std::alloc::Global;
 use std::test::Fail;
@@ -47,7 +47,7 @@ fn keeps_to_the_budget(rt: HostRuntime) -> Result<(), Fail> {
 }
 
 #[test]
-fn tells_bad_values(rt: HostRuntime) -> Result<(), Fail> {
+fn names_bad_values(rt: HostRuntime) -> Result<(), Fail> {
     let rows = "
         0 :invoke :read nil; 0 :ok :read :a => operation 1: bad value
         0 :invoke :read :a; 0 :ok :read 0 => order 0
@@ -103,7 +103,7 @@ fn refuses_what_a_register_does_not_do(rt: HostRuntime) -> Result<(), Fail> {
 /// How many operations a history has, and how long the order is that the judge finds, if it is one. None, too, where
 /// memory was refused.
 pub(crate) fn found(alloc: Global, history: &str, budget: u64) -> Option<(usize, usize)> {
-    let calls = told(alloc, history)?.ok()?;
+    let calls = calls_in(alloc, history)?.ok()?;
     match check(alloc, &calls, Some(0), budget).ok()? {
         LinVerdict::Valid(order) => {
             check_order(&calls, Some(0), order.as_slice()).ok()?;

@@ -53,14 +53,14 @@ fn ops_of(alloc: Global, history: &str) -> Option<Vec<Op>> {
 }
 
 /// The operations of a register in a history. None: memory was refused.
-pub(crate) fn told(alloc: Global, history: &str) -> Option<Result<Vec<RegOp>, RegOpsError>>
-    ensures { IfSome result (λ told. IfOk told (λ calls. EndAfterInvoked calls.items)) }
+pub(crate) fn calls_in(alloc: Global, history: &str) -> Option<Result<Vec<RegOp>, RegOpsError>>
+    ensures { IfSome result (λ calls_in. IfOk calls_in (λ calls. EndAfterInvoked calls.items)) }
 {
     let ops = ops_of(alloc, history)?;
     let pairs = pair(alloc, &ops).ok()?;
     match reg_ops(alloc, &ops, &pairs) {
         Err(RegOpsError::OutOfMemory) => None,
-        told => Some(told),
+        calls_in => Some(calls_in),
     }
 }
 
@@ -104,14 +104,14 @@ fn verdict_text(alloc: Global, verdict: &LinVerdict) -> Option<String> {
 }
 
 fn judged(alloc: Global, budget: u64, history: &str) -> Option<String> {
-    match told(alloc, history)? {
+    match calls_in(alloc, history)? {
         Ok(calls) => verdict_text(alloc, &check(alloc, &calls, Some(0), budget).ok()?),
         Err(error) => error.to_string(alloc).ok(),
     }
 }
 
 fn ordered(alloc: Global, history: &str, places: &str) -> Option<String> {
-    let calls = told(alloc, history)?.ok()?;
+    let calls = calls_in(alloc, history)?.ok()?;
     let mut order = Vec::new(alloc);
     for place in places.split_whitespace() {
         order.push(place.parse::<usize>().ok()?).ok()?;

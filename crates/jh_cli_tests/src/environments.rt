@@ -377,7 +377,7 @@ fn refuses_bytes(rt: HostRuntime) {
 
 /// The first error of a text is reported with its line, whichever command reads it.
 #[test]
-fn tells_the_line_of_an_error(rt: HostRuntime) {
+fn names_the_line_of_an_error(rt: HostRuntime) {
     let rows = r#"{:nodes ["n1"]}
 [:undo → 3 line 2: unexpected end
 § {:nodes ["n1"]}

@@ -163,5 +163,5 @@ fn nobody_need_be_told(rt: HostRuntime) {
     let told = told_once(rt.alloc()).or_else(|| told_once(rt.alloc()));
     let wanted =
         ":minimal\n[0 [:begin 1 [:pause [\"n3\"]]]]\n[1 [:begin 2 [:kill [\"n1\" \"n2\"]]]]\n[1 [:withdraw 2]]\n";
-    assert!(rt; told.is_some_and(|told| told.as_slice() == wanted.as_bytes()));
+    assert!(rt; given.is_some_and(|given| given.as_slice() == wanted.as_bytes()));
 }

@@ -38,18 +38,18 @@ const ERRORS: [EdnError; 13] = [
 
 /// The message of each error, each ended by a line's end.
 fn words(alloc: Global) -> Result<String, AllocError> {
-    let mut said = String::new(alloc);
+    let mut lines = String::new(alloc);
     for error in ERRORS {
-        said.push_str(format!(in alloc; "{error}\n")?.as_str())?;
+        lines.push_str(format!(in alloc; "{error}\n")?.as_str())?;
     }
-    Ok(said)
+    Ok(lines)
 }
 
 #[test]
 fn says_what_failed(rt: HostRuntime) -> Result<(), Fail> {
-    let said = match words(rt.alloc()) {
+    let lines = match words(rt.alloc()) {
         Err(_) => words(rt.alloc())?,
-        Ok(said) => said,
+        Ok(lines) => lines,
     };
     let expected = "\
         line 1: unexpected end\n\
@@ -65,7 +65,7 @@ fn says_what_failed(rt: HostRuntime) -> Result<(), Fail> {
         read failed\n\
         write failed\n\
         out of memory\n";
-    assert_eq!(rt; said.as_str(), expected);
+    assert_eq!(rt; lines.as_str(), expected);
     Ok(())
 }
 

@@ -106,7 +106,7 @@ pub(crate) fn is_normal(alloc: Global, text: &str) -> Result<Vec<u8>, EdnError> 
 }
 
 #[test]
-fn tells_normal_forms(rt: HostRuntime) -> Result<(), Fail> {
+fn knows_normal_forms(rt: HostRuntime) -> Result<(), Fail> {
     let rows = "\
         {:a #{1 3}, :b [1 2]}\x1fnormal\
         \x1e{:b 1, :a 2}\x1fnot normal\

@@ -144,9 +144,9 @@ right_amount (LinkFault.Loss level) links right = right.0
 right_amount (LinkFault.Fix ms) links right = right.0
 
 -- a test that tells whether a fact holds
-pub tells : (test : Bool) (fact : Type 0) → (test ≡ false → fact) → (fact → test ≡ false) → IsTrue (not test) ↔ fact
-tells true fact to from = (λ h. absurd cc, λ h. let e = from h in absurd cc)
-tells false fact to from = (λ h. to refl, λ h. refl)
+pub decides : (test : Bool) (fact : Type 0) → (test ≡ false → fact) → (fact → test ≡ false) → IsTrue (not test) ↔ fact
+decides true fact to from = (λ h. absurd cc, λ h. let e = from h in absurd cc)
+decides false fact to from = (λ h. to refl, λ h. refl)
 
 -- where one is the same as one before it, they don't stand apart
 pub not_apart : (bumps : List (ℕ × ℤ)) (i : ℕ) (x : ℕ × ℤ) → i < length bumps → x ≡ get_or bumps i x → list_any (λ b. b.0 == x.0) (take i bumps) ≡ true → AreApart is_same_bumped bumps → ⊥

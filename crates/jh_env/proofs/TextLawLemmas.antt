@@ -126,9 +126,9 @@ text_accepted value names cells e text refused =
     by_error OutOfMemory few named sound r = refl
 
 -- a text means the cells of one environment
-pub text_tells_one : (value : Edn) (names others : List (List ℕ)) (cells more : Table) → IsTextOf value names cells → IsTextOf value others more
+pub text_means_one : (value : Edn) (names others : List (List ℕ)) (cells more : Table) → IsTextOf value names cells → IsTextOf value others more
     → (others ≡ names) × AreSameCells cells more
-text_tells_one value names others cells more first second =
+text_means_one value names others cells more first second =
     let same = same_shape value first.0 second.0 first.1 second.1 in
     let named : others ≡ names = sym second.2 ∙ sym (ap (λ s. s.names) same) ∙ first.2 in
     let parsed : AreCellsOf names first.0.entries more =

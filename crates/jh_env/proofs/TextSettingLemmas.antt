@@ -14,7 +14,7 @@ use Rattle.jh_env.specs.Text.{Entry}
 use Rattle.jh_env.specs.TextCells.{link_after, node_after, AreCellsOf}
 use Rattle.jh_env.specs.TextErrors.{entry_error, entry_error_at, repeats, AreSound, HasEntryError}
 use Rattle.jh_env.specs.TextInside.{AreStarting, SetsEntry, entry_parsed, entries_parsed}
-use Rattle.jh_env.specs.declared.texts.entries.Entry.TheVariants as said
+use Rattle.jh_env.specs.declared.texts.entries.Entry.TheVariants as written
 use Rattle.jh_env.proofs.NameLemmas.{list_any-map}
 
 -- the first i entries are set, and none of them is in error
@@ -75,13 +75,13 @@ pub repeated_first : (names : List (List ℕ)) (entries : List Entry) (i : ℕ) 
 repeated_first names entries i entry start at set own twice = (i, entry_error_at-others names entries i entry true at (rw (← set.named) own) twice, set.sound)
 
 -- an entry that a program reads, as it is parsed
-pub said_at : (entries : List said.the_data) (i : ℕ) (d : said.the_data) → i < length entries → slice_get (entries_parsed entries) i ≡ Some (entry_parsed (get_or entries i d))
-said_at entries i d below = slice_get-map entry_parsed entries i ∙ ap (option_map entry_parsed) (slice_get-get_or entries i d below)
+pub entry_parsed_at : (entries : List written.the_data) (i : ℕ) (d : written.the_data) → i < length entries → slice_get (entries_parsed entries) i ≡ Some (entry_parsed (get_or entries i d))
+entry_parsed_at entries i d below = slice_get-map entry_parsed entries i ∙ ap (option_map entry_parsed) (slice_get-get_or entries i d below)
 
 -- a test of those before it
-pub among_said : (test : Entry → Bool) (entries : List said.the_data) (i : ℕ) → list_any test (take i (entries_parsed entries)) ≡ list_any (λ entry. test (entry_parsed entry)) (take i entries)
-among_said test entries i = ap (list_any test) (take-map entry_parsed i entries) ∙ list_any-map test entry_parsed (take i entries)
+pub among_parsed : (test : Entry → Bool) (entries : List written.the_data) (i : ℕ) → list_any test (take i (entries_parsed entries)) ≡ list_any (λ entry. test (entry_parsed entry)) (take i entries)
+among_parsed test entries i = ap (list_any test) (take-map entry_parsed i entries) ∙ list_any-map test entry_parsed (take i entries)
 
 -- as many are parsed
-pub length-entries_parsed : (entries : List said.the_data) → length (entries_parsed entries) ≡ length entries
+pub length-entries_parsed : (entries : List written.the_data) → length (entries_parsed entries) ≡ length entries
 length-entries_parsed entries = length-map entries entry_parsed

@@ -39,31 +39,31 @@ names_read names =
 
 link_change-read : (section : Section) (link : Link) (from to : List ℕ) (says : LinkChange) → link_change section link ≡ Some says
     → entry_in section (edn_of_entry (OfLink from to says)) ≡ Some (OfLink from to says)
-link_change-read Section.Cut link from to says said = rw (if_gives link.cut LinkChange.Cut says said) refl
-link_change-read Section.Slow link from to says said = rw (if_gives _ _ says said) refl
-link_change-read Section.Loss link from to says said = rw (if_gives _ _ says said) refl
-link_change-read Section.Down link from to says said = absurd cc
-link_change-read Section.Clock link from to says said = absurd cc
+link_change-read Section.Cut link from to says spelled = rw (if_gives link.cut LinkChange.Cut says spelled) refl
+link_change-read Section.Slow link from to says spelled = rw (if_gives _ _ says spelled) refl
+link_change-read Section.Loss link from to says spelled = rw (if_gives _ _ says spelled) refl
+link_change-read Section.Down link from to says spelled = absurd cc
+link_change-read Section.Clock link from to says spelled = absurd cc
 
 life_change-read : (life : Life) (name : List ℕ) (says : NodeChange) → life_change life ≡ Some says → entry_in Section.Down (edn_of_entry (OfNode name says)) ≡ Some (OfNode name says)
-life_change-read Running name says said = absurd cc
-life_change-read Paused name says said = let e : says ≡ NodeChange.Pause = cc in rw e refl
-life_change-read Killed name says said = let e : says ≡ NodeChange.Kill = cc in rw e refl
+life_change-read Running name says spelled = absurd cc
+life_change-read Paused name says spelled = let e : says ≡ NodeChange.Pause = cc in rw e refl
+life_change-read Killed name says spelled = let e : says ≡ NodeChange.Kill = cc in rw e refl
 
 node_change-read : (section : Section) (cell : NodeCell) (name : List ℕ) (says : NodeChange) → node_change section cell ≡ Some says
     → entry_in section (edn_of_entry (OfNode name says)) ≡ Some (OfNode name says)
-node_change-read Section.Down cell name says said = life_change-read cell.process name says said
-node_change-read Section.Clock cell name says said = rw (unless_gives _ _ says said) refl
-node_change-read Section.Cut cell name says said = absurd cc
-node_change-read Section.Slow cell name says said = absurd cc
-node_change-read Section.Loss cell name says said = absurd cc
+node_change-read Section.Down cell name says spelled = life_change-read cell.process name says spelled
+node_change-read Section.Clock cell name says spelled = rw (unless_gives _ _ says spelled) refl
+node_change-read Section.Cut cell name says spelled = absurd cc
+node_change-read Section.Slow cell name says spelled = absurd cc
+node_change-read Section.Loss cell name says spelled = absurd cc
 
 -- an entry that is written is read as it is
 entries_read : (env : EnvValue) (section : Section) → All (λ e. entry_in section (edn_of_entry e) ≡ Some e) (entries_written env section)
 entries_read env section =
     all_written env (λ e. entry_in section (edn_of_entry e) ≡ Some e) section
-    (λ a b e made. let p = link_parts env section a b e made in rw p.is (link_change-read section p.link p.from p.to p.says p.said))
-    (λ a e made. let p = node_parts env section a e made in rw p.is (node_change-read section p.cell p.name p.says p.said))
+    (λ a b e made. let p = link_parts env section a b e made in rw p.is (link_change-read section p.link p.from p.to p.says p.spelled))
+    (λ a e made. let p = node_parts env section a e made in rw p.is (node_change-read section p.cell p.name p.says p.spelled))
 
 section_read : (env : EnvValue) (section : Section) → entries_of section (vector (items_of (map edn_of_entry (entries_written env section)))) ≡ Some (entries_written env section)
 section_read env section =

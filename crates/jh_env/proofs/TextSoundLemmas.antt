@@ -36,7 +36,7 @@ pub record LinkParts (env : EnvValue) (section : Section) (a b : ℕ) (entry : E
   pub from_at : slice_get env.names a ≡ Some from
   pub to_at : slice_get env.names b ≡ Some to
   pub there : link_of env a b ≡ Some link
-  pub said : link_change section link ≡ Some says
+  pub is_written : link_change section link ≡ Some says
   pub is : entry ≡ OfLink from to says
 
 pub link_parts : (env : EnvValue) (section : Section) (a b : ℕ) (entry : Entry) → link_entry env section a b ≡ Some entry → LinkParts env section a b entry
@@ -46,7 +46,7 @@ link_parts env section a b entry made =
     let r = bind_gives (link_of env a b) _ entry q.2 in
     let s = bind_gives (link_change section r.0) (λ says. Some (OfLink p.0 q.0 says)) entry r.2 in
     let e : entry ≡ OfLink p.0 q.0 s.0 = cc (s.2) in
-    record { from = p.0; to = q.0; link = r.0; says = s.0; from_at = p.1; to_at = q.1; there = r.1; said = s.1; is = e }
+    record { from = p.0; to = q.0; link = r.0; says = s.0; from_at = p.1; to_at = q.1; there = r.1; is_written = s.1; is = e }
 
 -- how the entry of a node came about
 pub record NodeParts (env : EnvValue) (section : Section) (a : ℕ) (entry : Entry) : Type 0 where
@@ -55,7 +55,7 @@ pub record NodeParts (env : EnvValue) (section : Section) (a : ℕ) (entry : Ent
   pub says : NodeChange
   pub name_at : slice_get env.names a ≡ Some name
   pub there : node_of env a ≡ Some cell
-  pub said : node_change section cell ≡ Some says
+  pub is_written : node_change section cell ≡ Some says
   pub is : entry ≡ OfNode name says
 
 pub node_parts : (env : EnvValue) (section : Section) (a : ℕ) (entry : Entry) → node_entry env section a ≡ Some entry → NodeParts env section a entry
@@ -64,7 +64,7 @@ node_parts env section a entry made =
     let r = bind_gives (node_of env a) _ entry p.2 in
     let s = bind_gives (node_change section r.0) (λ says. Some (OfNode p.0 says)) entry r.2 in
     let e : entry ≡ OfNode p.0 s.0 = cc (s.2) in
-    record { name = p.0; cell = r.0; says = s.0; name_at = p.1; there = r.1; said = s.1; is = e }
+    record { name = p.0; cell = r.0; says = s.0; name_at = p.1; there = r.1; is_written = s.1; is = e }
 
 pub if_gives : {A : Type 0} (t : Bool) (x y : A) → (if t then Some x else None) ≡ Some y → y ≡ x
 if_gives true x y is = cc
@@ -76,30 +76,30 @@ unless_gives false x y is = cc
 
 -- what is written of a link that may start is in its range
 link_change-amount : (section : Section) (link : Link) (says : LinkChange) → IsStartingLink link → link_change section link ≡ Some says → is_link_amount says ≡ true
-link_change-amount Section.Cut link says starts said = rw (if_gives link.cut LinkChange.Cut says said) refl
-link_change-amount Section.Slow link says starts said =
+link_change-amount Section.Cut link says starts is_written = rw (if_gives link.cut LinkChange.Cut says is_written) refl
+link_change-amount Section.Slow link says starts is_written =
     let above : pos 0 ≤ℤ pos link.delay = omega (arith, ints) in
     let below : pos link.delay ≤ℤ pos 60000 = omega (arith, ints, starts.0) in
-    rw (if_gives (nat_lt 0 link.delay) _ says said) (within (pos 0) (pos 60000) (pos link.delay) above below)
-link_change-amount Section.Loss link says starts said =
+    rw (if_gives (nat_lt 0 link.delay) _ says is_written) (within (pos 0) (pos 60000) (pos link.delay) above below)
+link_change-amount Section.Loss link says starts is_written =
     let above : pos 0 ≤ℤ pos link.loss = omega (arith, ints) in
     let below : pos link.loss ≤ℤ pos 20 = omega (arith, ints, starts.1) in
-    rw (if_gives (nat_lt 0 link.loss) _ says said) (within (pos 0) (pos 20) (pos link.loss) above below)
-link_change-amount Section.Down link says starts said = absurd cc
-link_change-amount Section.Clock link says starts said = absurd cc
+    rw (if_gives (nat_lt 0 link.loss) _ says is_written) (within (pos 0) (pos 20) (pos link.loss) above below)
+link_change-amount Section.Down link says starts is_written = absurd cc
+link_change-amount Section.Clock link says starts is_written = absurd cc
 
 life_change-amount : (life : Life) (says : NodeChange) → life_change life ≡ Some says → is_node_amount says ≡ true
-life_change-amount Running says said = absurd cc
-life_change-amount Paused says said = let e : says ≡ NodeChange.Pause = cc in rw e refl
-life_change-amount Killed says said = let e : says ≡ NodeChange.Kill = cc in rw e refl
+life_change-amount Running says is_written = absurd cc
+life_change-amount Paused says is_written = let e : says ≡ NodeChange.Pause = cc in rw e refl
+life_change-amount Killed says is_written = let e : says ≡ NodeChange.Kill = cc in rw e refl
 
 -- and so of a node
 node_change-amount : (section : Section) (cell : NodeCell) (says : NodeChange) → IsStartingNode cell → node_change section cell ≡ Some says → is_node_amount says ≡ true
-node_change-amount Section.Down cell says starts said = life_change-amount cell.process says said
-node_change-amount Section.Clock cell says starts said = rw (unless_gives (is_zero cell.clock) _ says said) (within (negsuc (10 ^ 12 - 1)) (pos (10 ^ 12)) cell.clock (omega (arith, ints, starts.0)) starts.1)
-node_change-amount Section.Cut cell says starts said = absurd cc
-node_change-amount Section.Slow cell says starts said = absurd cc
-node_change-amount Section.Loss cell says starts said = absurd cc
+node_change-amount Section.Down cell says starts is_written = life_change-amount cell.process says is_written
+node_change-amount Section.Clock cell says starts is_written = rw (unless_gives (is_zero cell.clock) _ says is_written) (within (negsuc (10 ^ 12 - 1)) (pos (10 ^ 12)) cell.clock (omega (arith, ints, starts.0)) starts.1)
+node_change-amount Section.Cut cell says starts is_written = absurd cc
+node_change-amount Section.Slow cell says starts is_written = absurd cc
+node_change-amount Section.Loss cell says starts is_written = absurd cc
 
 -- the fault of an entry that is written: none
 link_entry-sound : (env : EnvValue) (section : Section) (a b : ℕ) (entry : Entry) → CanStart env → link_entry env section a b ≡ Some entry → entry_error env.names entry ≡ None
@@ -108,14 +108,14 @@ link_entry-sound env section a b entry starts made =
     let from_place = place_of-at env.names a p.from starts.named p.from_at in
     let to_place = place_of-at env.names b p.to starts.named p.to_at in
     let apart = other_name env.names p.from p.to a b from_place to_place (link_apart (cells_of env) a b p.link p.there) in
-    let good = link_change-amount section p.link p.says (starts.links a b p.link p.there) p.said in
+    let good = link_change-amount section p.link p.says (starts.links a b p.link p.there) p.is_written in
     ap (entry_error env.names) p.is ∙ rw (entry_error-link env.names p.from p.to p.says a b from_place to_place, apart, good) refl
 
 node_entry-sound : (env : EnvValue) (section : Section) (a : ℕ) (entry : Entry) → CanStart env → node_entry env section a ≡ Some entry → entry_error env.names entry ≡ None
 node_entry-sound env section a entry starts made =
     let p = node_parts env section a entry made in
     let place = place_of-at env.names a p.name starts.named p.name_at in
-    let good = node_change-amount section p.cell p.says (starts.nodes a p.cell p.there) p.said in
+    let good = node_change-amount section p.cell p.says (starts.nodes a p.cell p.there) p.is_written in
     ap (entry_error env.names) p.is ∙ rw (entry_error-node env.names p.name p.says a place, good) refl
 
 all-filter_map : {X E : Type 0} (P : E → Type 0) (h : X → Option E) (xs : List X) → ((x : X) (e : E) → h x ≡ Some e → P e) → All P (filter_map h xs)
@@ -259,25 +259,25 @@ climbs-filter_map names g h s (suc m) rises each =
 
 part_number : (section : Section) (link : Link) (says : LinkChange) → link_change section link ≡ Some says → link_number says ≡ number section
 unfolding link_number number
-part_number Section.Cut link says said = rw (if_gives link.cut LinkChange.Cut says said) refl
-part_number Section.Slow link says said = rw (if_gives (nat_lt 0 link.delay) _ says said) refl
-part_number Section.Loss link says said = rw (if_gives (nat_lt 0 link.loss) _ says said) refl
-part_number Section.Down link says said = absurd cc
-part_number Section.Clock link says said = absurd cc
+part_number Section.Cut link says is_written = rw (if_gives link.cut LinkChange.Cut says is_written) refl
+part_number Section.Slow link says is_written = rw (if_gives (nat_lt 0 link.delay) _ says is_written) refl
+part_number Section.Loss link says is_written = rw (if_gives (nat_lt 0 link.loss) _ says is_written) refl
+part_number Section.Down link says is_written = absurd cc
+part_number Section.Clock link says is_written = absurd cc
 
 life_number : (life : Life) (says : NodeChange) → life_change life ≡ Some says → node_number says ≡ 3
 unfolding node_number
-life_number Running says said = absurd cc
-life_number Paused says said = let e : says ≡ NodeChange.Pause = cc in rw e refl
-life_number Killed says said = let e : says ≡ NodeChange.Kill = cc in rw e refl
+life_number Running says is_written = absurd cc
+life_number Paused says is_written = let e : says ≡ NodeChange.Pause = cc in rw e refl
+life_number Killed says is_written = let e : says ≡ NodeChange.Kill = cc in rw e refl
 
 node_part_number : (section : Section) (cell : NodeCell) (says : NodeChange) → node_change section cell ≡ Some says → node_number says ≡ number section
 unfolding node_number number
-node_part_number Section.Down cell says said = life_number cell.process says said
-node_part_number Section.Clock cell says said = rw (unless_gives (is_zero cell.clock) _ says said) refl
-node_part_number Section.Cut cell says said = absurd cc
-node_part_number Section.Slow cell says said = absurd cc
-node_part_number Section.Loss cell says said = absurd cc
+node_part_number Section.Down cell says is_written = life_number cell.process says is_written
+node_part_number Section.Clock cell says is_written = rw (unless_gives (is_zero cell.clock) _ says is_written) refl
+node_part_number Section.Cut cell says is_written = absurd cc
+node_part_number Section.Slow cell says is_written = absurd cc
+node_part_number Section.Loss cell says is_written = absurd cc
 
 -- where the entries of the node or source x begin, under the k-th key of n nodes
 start_of : ℕ → ℕ → ℕ → ℕ
@@ -290,7 +290,7 @@ link_rank env section a b entry starts made =
     let p = link_parts env section a b entry made in
     let from_place = place_of-at env.names a p.from starts.named p.from_at in
     let to_place = place_of-at env.names b p.to starts.named p.to_at in
-    ap (rank env.names) p.is ∙ rw (part_number section p.link p.says p.said, from_place, to_place) refl
+    ap (rank env.names) p.is ∙ rw (part_number section p.link p.says p.is_written, from_place, to_place) refl
 
 node_rank : (env : EnvValue) (section : Section) (a : ℕ) (entry : Entry) → CanStart env → node_entry env section a ≡ Some entry
     → rank env.names entry ≡ start_of (length env.names) (number section) a
@@ -298,7 +298,7 @@ unfolding rank start_of
 node_rank env section a entry starts made =
     let p = node_parts env section a entry made in
     let place = place_of-at env.names a p.name starts.named p.name_at in
-    ap (rank env.names) p.is ∙ rw (node_part_number section p.cell p.says p.said, place) refl
+    ap (rank env.names) p.is ∙ rw (node_part_number section p.cell p.says p.is_written, place) refl
 
 next_start : (n k x : ℕ) → start_of n k (x + 1) ≡ start_of n k x + n
 unfolding start_of

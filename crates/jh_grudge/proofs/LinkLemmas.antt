@@ -111,9 +111,9 @@ joins_all Drops nodes links joins exact k d below =
 
 pub given : {X : Type 0} (answer : Result (List (ℕ × ℕ)) X) (From To : ℕ → ℕ → Type 0) → ((dst src : ℕ) → From dst src → To dst src) → ((dst src : ℕ) → To dst src → From dst src)
     → MatchResult answer (CutsExactly From) (λ _. DropsSome From) → MatchResult answer (CutsExactly To) (λ _. DropsSome To)
-given answer From To there back told =
-    MatchResult-weaker answer told (λ links exact. recut From To links there back exact) (λ _ some. resome From To there some)
+given answer From To there back shown =
+    MatchResult-weaker answer shown (λ links exact. recut From To links there back exact) (λ _ some. resome From To there some)
 
 pub given_among : {X : Type 0} (answer : Result (List (ℕ × ℕ)) X) (Drops : ℕ → ℕ → Type 0) (nodes : List ℕ) → ((dst src : ℕ) → Drops dst src → JoinsTwoOf nodes (src, dst))
     → MatchResult answer (CutsExactly Drops) (λ _. DropsSome Drops) → IfOk answer (All (JoinsTwoOf nodes))
-given_among answer Drops nodes joins told = MatchResult-weaker answer told (λ links exact. joins_all Drops nodes links joins exact) (λ _ _. tt)
+given_among answer Drops nodes joins shown = MatchResult-weaker answer shown (λ links exact. joins_all Drops nodes links joins exact) (λ _ _. tt)

@@ -57,9 +57,9 @@ marks_stop seen before nodes i a below is met marks distinct =
     repeated (before ++ take i nodes) (drop (i + 1) nodes) a ((marks.exact a).0 met) (subst (λ (xs : List ℕ). AreDistinct xs) (split_at before nodes i a below is) distinct)
 
 -- the answer of marking tells whether the list is distinct
-pub told : (answer : Bool) (seen : List Bool) (nodes : List ℕ) → MatchBool answer (AreMetNodes seen nodes) (¬ AreDistinct nodes) → (answer ≡ true) ↔ AreDistinct nodes
-told true seen nodes marks = ((λ _. marks.distinct), (λ _. refl))
-told false seen nodes not_distinct = ((λ e. absurd (both_ways false refl e)), (λ distinct. absurd (not_distinct distinct)))
+pub given : (answer : Bool) (seen : List Bool) (nodes : List ℕ) → MatchBool answer (AreMetNodes seen nodes) (¬ AreDistinct nodes) → (answer ≡ true) ↔ AreDistinct nodes
+given true seen nodes marks = ((λ _. marks.distinct), (λ _. refl))
+given false seen nodes not_distinct = ((λ e. absurd (both_ways false refl e)), (λ distinct. absurd (not_distinct distinct)))
 
 -- ---- components one by one
 

@@ -66,20 +66,20 @@ both_parts test (Some i) None passes = cc
 both_parts test None b passes = cc
 
 -- a node that drops another has a rank, and so has the other
-pub ranks_told : (rule : Rule) (ranks : List (Option ℕ)) (dst src : ℕ) → drops_in rule ranks dst src ≡ true
+pub both_ranked : (rule : Rule) (ranks : List (Option ℕ)) (dst src : ℕ) → drops_in rule ranks dst src ≡ true
     → (i : ℕ) × (j : ℕ) × (rank_of ranks dst ≡ Some i) × (rank_of ranks src ≡ Some j) × (drops_by rule i j ≡ true)
-ranks_told rule ranks dst src passes = both_parts (drops_by rule) (rank_of ranks dst) (rank_of ranks src) passes
+both_ranked rule ranks dst src passes = both_parts (drops_by rule) (rank_of ranks dst) (rank_of ranks src) passes
 
-pub drops_told : (rule : Rule) (ranks : List (Option ℕ)) (dst src i j : ℕ) → rank_of ranks dst ≡ Some i → rank_of ranks src ≡ Some j → drops_by rule i j ≡ true
+pub drops_by_ranks : (rule : Rule) (ranks : List (Option ℕ)) (dst src i j : ℕ) → rank_of ranks dst ≡ Some i → rank_of ranks src ≡ Some j → drops_by rule i j ≡ true
     → drops_in rule ranks dst src ≡ true
-drops_told rule ranks dst src i j to from passes = ap (λ o. is_of_both (drops_by rule) o (rank_of ranks src)) to ∙ ap (λ o. is_of_both (drops_by rule) (Some i) o) from ∙ passes
+drops_by_ranks rule ranks dst src i j to from passes = ap (λ o. is_of_both (drops_by rule) o (rank_of ranks src)) to ∙ ap (λ o. is_of_both (drops_by rule) (Some i) o) from ∙ passes
 
 -- the nodes of a link have places in the table
 pub src_below : (rule : Rule) (ranks : List (Option ℕ)) (dst src : ℕ) → drops_in rule ranks dst src ≡ true → src < length ranks
-src_below rule ranks dst src passes = let (i, j, to, from, hit) = ranks_told rule ranks dst src passes in ranked_below ranks src j from
+src_below rule ranks dst src passes = let (i, j, to, from, hit) = both_ranked rule ranks dst src passes in ranked_below ranks src j from
 
 pub dst_below : (rule : Rule) (ranks : List (Option ℕ)) (dst src : ℕ) → drops_in rule ranks dst src ≡ true → dst < length ranks
-dst_below rule ranks dst src passes = let (i, j, to, from, hit) = ranks_told rule ranks dst src passes in ranked_below ranks dst i to
+dst_below rule ranks dst src passes = let (i, j, to, from, hit) = both_ranked rule ranks dst src passes in ranked_below ranks dst i to
 
 -- ---- components
 
@@ -126,13 +126,13 @@ is_ranking_all components n ranks all ranking node rank = (
 pub complete_there : (components : List (List ℕ)) (ranks : List (Option ℕ)) → IsRanking (λ node rank. IsIn components rank node) ranks
     → (dst src : ℕ) → drops_in Apart ranks dst src ≡ true → CompleteDrops components dst src
 complete_there components ranks ranking dst src passes =
-    let (i, j, to, from, hit) = ranks_told Apart ranks dst src passes in
+    let (i, j, to, from, hit) = both_ranked Apart ranks dst src passes in
     (i, j, (λ same. eqb-false i j (not-true (eqb i j) hit) same), (ranking dst i).0 to, (ranking src j).0 from)
 
 pub complete_back : (components : List (List ℕ)) (ranks : List (Option ℕ)) → IsRanking (λ node rank. IsIn components rank node) ranks
     → (dst src : ℕ) → CompleteDrops components dst src → drops_in Apart ranks dst src ≡ true
 complete_back components ranks ranking dst src (i, j, apart, to, from) =
-    drops_told Apart ranks dst src i j ((ranking dst i).1 to) ((ranking src j).1 from) (ap not (ne_eqb i j apart))
+    drops_by_ranks Apart ranks dst src i j ((ranking dst i).1 to) ((ranking src j).1 from) (ap not (ne_eqb i j apart))
 
 -- ---- a bridge
 
@@ -227,7 +227,7 @@ ring_hit n i j k low high enough less at =
 
 pub ring_there : (nodes : List ℕ) (ranks : List (Option ℕ)) → IsRanking (StandsAt nodes) ranks → (dst src : ℕ) → drops_in (Ring (length nodes)) ranks dst src ≡ true → RingDrops nodes dst src
 ring_there nodes ranks ranking dst src passes =
-    let (i, j, to, from, hit) = ranks_told (Ring (length nodes)) ranks dst src passes in
+    let (i, j, to, from, hit) = both_ranked (Ring (length nodes)) ranks dst src passes in
     let at_i = (ranking dst i).0 to in
     let at_j = (ranking src j).0 from in
     let (k, enough, less, at) = ring_far (length nodes) i j (slice_get_within nodes i dst at_i) (slice_get_within nodes j src at_j) hit in
@@ -238,7 +238,7 @@ ring_back nodes ranks ranking dst src (i, k, at_i, enough, less, at_j) =
     let n = length nodes in
     let low = slice_get_within nodes i dst at_i in
     let high = slice_get_within nodes ((i + k) % n) src at_j in
-    drops_told (Ring n) ranks dst src i ((i + k) % n) ((ranking dst i).1 at_i) ((ranking src ((i + k) % n)).1 at_j)
+    drops_by_ranks (Ring n) ranks dst src i ((i + k) % n) ((ranking dst i).1 at_i) ((ranking src ((i + k) % n)).1 at_j)
     (ring_hit n i ((i + k) % n) k low high enough less refl)
 
 pub src_below_in : (rule : Rule) (ranks : List (Option ℕ)) (n : ℕ) → length ranks ≡ n → (dst src : ℕ) → drops_in rule ranks dst src ≡ true → src < n

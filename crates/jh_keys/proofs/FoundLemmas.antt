@@ -100,7 +100,7 @@ before asked (one ∷ found) rest each (suc earlier) key less at =
 pub keys_refused : (asked : KeysQuestion) (found : List KeyFinding) (group : KeyPlaces) (rest : List KeyPlaces) (error : KeysError) → AreTuples asked.history
     → IsFoundSoFar asked found (group ∷ rest) → RefusesKey asked (view group.key) error → RefusesKeys asked error
 keys_refused asked found group rest (BadValue place) tuples h refused = absurd refused
-keys_refused asked found group rest (Key told) tuples h refused =
+keys_refused asked found group rest (Key given) tuples h refused =
     let keys : List Edn = map (λ one. view one.key) found in
     let others : List Edn = map (λ group. view group.key) rest in (
       tuples,
@@ -144,9 +144,9 @@ pub more_collected : (asked : KeysQuestion) (found : List KeyFinding) (group : K
     → AreCollected asked found (group ∷ rest) (answer ∷ answers) → view one.key ≡ view group.key → IsFindingOf asked (view group.key) one.found → AreCollected asked (found ++ one ∷ []) rest answers
 more_collected asked found group rest answer answers one h same judged = record {
   keys = one_more asked found group rest one h.keys same judged;
-  answers = λ place told at.
+  answers = λ place given at.
       (let e : length found + suc place ≡ length (found ++ one ∷ []) + place = omega (arith, length-append found (one ∷ [])) in
-      subst (λ p. IsAnswerAt asked p told) e (h.answers (suc place) told at));
+      subst (λ p. IsAnswerAt asked p given) e (h.answers (suc place) given at));
   size = (let e : length answers ≡ length rest = omega (arith, h.size) in e);
 }
 

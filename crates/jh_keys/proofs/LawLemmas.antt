@@ -144,11 +144,11 @@ same_end calls initial a b x y =
 somes_same : {X : Type 0} (x y : X) → Some x ≡ Some y → x ≡ y
 somes_same x y e = cc
 
-same_told : (history : List Operation) (calls : List RegOp) (a b : ℕ) (d e : Option Explanation) → a ≡ b
+same_explained : (history : List Operation) (calls : List RegOp) (a b : ℕ) (d e : Option Explanation) → a ≡ b
     → IsSomeAnd d (Explains history calls a) → IsSomeAnd e (Explains history calls b) → stuck_point d ≡ stuck_point e
-same_told history calls a b None e same x y = absurd x
-same_told history calls a b (Some d) None same x y = absurd y
-same_told history calls a b (Some d) (Some e) same x y =
+same_explained history calls a b None e same x y = absurd x
+same_explained history calls a b (Some d) None same x y = absurd y
+same_explained history calls a b (Some d) (Some e) same x y =
     let one : operation d.completion ≡ operation e.completion =
     somes_same (operation d.completion) (operation e.completion) (sym x.completion ∙ ap (slice_get history) same ∙ y.completion) in
     let pending : d.pending.items ≡ e.pending.items = x.pending ∙ ap (numbers_pending calls) same ∙ sym y.pending in
@@ -158,7 +158,7 @@ same_stuck : (explain : Bool) (history : List Operation) (calls : List RegOp) (i
     → IsJudged calls initial budget a → IsJudged calls initial budget b → IsExplained explain history calls a d → IsExplained explain history calls b e
     → verdict_of_register a ≡ Verdict.False → verdict_of_register b ≡ Verdict.False → stuck_point d ≡ stuck_point e
 same_stuck true history calls initial budget (Invalid a) (Invalid b) d e x y m n no_a no_b =
-    same_told history calls a.end b.end d e (same_end calls initial a b x.1 y.1) m n
+    same_explained history calls a.end b.end d e (same_end calls initial a b x.1 y.1) m n
 same_stuck false history calls initial budget (Invalid a) (Invalid b) d e x y m n no_a no_b = ap stuck_point (m ∙ sym n)
 same_stuck explain history calls initial budget (Invalid a) (Valid order) d e x y m n no_a no_b = absurd cc
 same_stuck explain history calls initial budget (Invalid a) (Unknown reached) d e x y m n no_a no_b = absurd cc

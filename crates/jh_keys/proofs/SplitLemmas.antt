@@ -94,34 +94,34 @@ keyed_more xs x =
 abbrev cons_key : ℕ → Option Edn → List (Edn × ℕ) → List (Edn × ℕ)
 cons_key place k rest = cons_option (option_map (λ key. (key, place)) k) rest
 
-keys_told : (n : ℕ) (ops : List Operation) → keys_of_keyed (filter_map key_with_place (enumerate_from n ops)) ≡ filter_map client_key ops
-keys_told n [] = refl
-keys_told n (op ∷ ops) =
+keys_are_of : (n : ℕ) (ops : List Operation) → keys_of_keyed (filter_map key_with_place (enumerate_from n ops)) ≡ filter_map client_key ops
+keys_are_of n [] = refl
+keys_are_of n (op ∷ ops) =
     elim (client_key op) as (λ k. keys_of_keyed (cons_key n k (filter_map key_with_place (enumerate_from (n + 1) ops))) ≡ cons_option k (filter_map client_key ops)) [
-      | None ↦ keys_told (n + 1) ops
-      | Some key ↦ ap (λ w. key ∷ w) (keys_told (n + 1) ops)
+      | None ↦ keys_are_of (n + 1) ops
+      | Some key ↦ ap (λ w. key ∷ w) (keys_are_of (n + 1) ops)
     ]
 
-places_told : (k : Edn) (n : ℕ) (ops : List Operation)
+places_are : (k : Edn) (n : ℕ) (ops : List Operation)
     → places_in k (filter_map key_with_place (enumerate_from n ops)) ≡ map (λ (placed : ℕ × Operation). placed.0) (filter (λ (placed : ℕ × Operation). has_key k placed.1) (enumerate_from n ops))
-places_told k n [] = refl
-places_told k n (op ∷ ops) =
+places_are k n [] = refl
+places_are k n (op ∷ ops) =
     let rest : List (Edn × ℕ) = filter_map key_with_place (enumerate_from (n + 1) ops) in
     let those : List (ℕ × Operation) = filter (λ (placed : ℕ × Operation). has_key k placed.1) (enumerate_from (n + 1) ops) in
     elim (client_key op) as (λ o. places_in k (cons_option (option_map (λ key. (key, n)) o) rest) ≡ map (λ (placed : ℕ × Operation). placed.0) (cond (option_map_or (is_same k) o false) ((n, op) ∷ those) those)) [
-      | None ↦ places_told k (n + 1) ops
+      | None ↦ places_are k (n + 1) ops
       | Some key ↦
           elim (is_same k key) as (λ b. map (λ (one : Edn × ℕ). one.1) (cond b ((key, n) ∷ filter (of_key k) rest) (filter (of_key k) rest)) ≡ map (λ (placed : ℕ × Operation). placed.0) (cond b ((n, op) ∷ those) those)) [
-            | true ↦ ap (λ w. n ∷ w) (places_told k (n + 1) ops)
-            | false ↦ places_told k (n + 1) ops
+            | true ↦ ap (λ w. n ∷ w) (places_are k (n + 1) ops)
+            | false ↦ places_are k (n + 1) ops
           ]
     ]
 
 places_sorted : (k : Edn) (ops : List Operation) → places_in k (in_order is_keyed_below (keys_with_places ops)) ≡ places_of k ops
-places_sorted k ops = ap (map (λ (one : Edn × ℕ). one.1)) (same_in_order k (keys_with_places ops)) ∙ places_told k 0 ops
+places_sorted k ops = ap (map (λ (one : Edn × ℕ). one.1)) (same_in_order k (keys_with_places ops)) ∙ places_are k 0 ops
 
 pub groups_sorted : (ops : List Operation) (ys : List (Edn × ℕ)) → ys ≡ in_order is_keyed_below (keys_with_places ops) → groups_in ys ≡ groups_of ops
 groups_sorted ops ys e =
     ap groups_in e
     ∙ (λ i. map (λ key. (key, places_sorted key ops i)) (distinct_values (keys_of_keyed (in_order is_keyed_below (keys_with_places ops)))))
-    ∙ ap (λ keys. map (λ key. (key, places_of key ops)) (distinct_values keys)) (keys_in_order (keys_with_places ops) ∙ ap (in_order is_below) (keys_told 0 ops))
+    ∙ ap (λ keys. map (λ key. (key, places_of key ops)) (distinct_values keys)) (keys_in_order (keys_with_places ops) ∙ ap (in_order is_below) (keys_are_of 0 ops))

@@ -29,8 +29,8 @@ mapped_from f None y e = absurd cc
 mapped_from f (Some x) y e = (x, cc)
 
 done_within : (history : List Operation) (pair : Pair) (call : RegOp) → reg_op_of history pair ≡ Some call → call.outcome ≡ Done → op_end call < length history
-done_within history pair call told done =
-    let from = mapped_from (op_with_call history pair) _ call told in
+done_within history pair call given done =
+    let from = mapped_from (op_with_call history pair) _ call given in
     subst (λ (c : RegOp). op_end c < length history) from.1
     (ends_within history pair.outcome (ap (λ (c : RegOp). c.outcome) from.1 ∙ done))
 
@@ -40,8 +40,8 @@ one_within history [] [] place are done = absurd cc
 one_within history [] (call ∷ calls) place are done = absurd cc
 one_within history (pair ∷ pairs) [] place are done = absurd cc
 one_within history (pair ∷ pairs) (call ∷ calls) zero are done =
-    let told : reg_op_of history pair ≡ Some call = cc in
-    done_within history pair call told done
+    let given : reg_op_of history pair ≡ Some call = cc in
+    done_within history pair call given done
 one_within history (pair ∷ pairs) (call ∷ calls) (suc place) are done =
     let others : AreRegOps history pairs calls = cc in
     one_within history pairs calls place others done

@@ -52,4 +52,4 @@ IsExplained asked history calls judged explanation = explanation ≡ None
 -- what of an explanation no choice of an order changes: the completion, and what is pending there
 abbrev pub stuck_point : Option Explanation → Option (Operation × List ℕ)
 stuck_point explanation =
-    option_map (λ told. (operation told.completion, told.pending.items)) explanation
+    option_map (λ shown. (operation shown.completion, shown.pending.items)) explanation

@@ -53,16 +53,16 @@ check_error_in places check_errors.OutOfMemory = check_errors.OutOfMemory
 
 -- the history of a key is refused, and this is reported
 abbrev pub IsErrorOf : KeysQuestion → Edn → CheckError → Type 0
-IsErrorOf asked key told =
+IsErrorOf asked key given =
     (inner : CheckError)
     × RefusesChecking asked.judging.workload (history_of key asked.history) inner
     × (inner ≢ check_errors.OutOfMemory)
-    × (told ≡ check_error_in (places_of key asked.history) inner)
+    × (given ≡ check_error_in (places_of key asked.history) inner)
 
 -- Why a key was not judged: its history is refused, its thread was not let in, or memory ran out.
 abbrev pub RefusesKey : KeysQuestion → Edn → KeysError → Type 0
 RefusesKey asked key (BadValue place) = ⊥
-RefusesKey asked key (Key told) = IsErrorOf asked key told
+RefusesKey asked key (Key given) = IsErrorOf asked key given
 RefusesKey asked key Thread = Unit {0}
 RefusesKey asked key OutOfMemory = Unit {0}
 
@@ -76,9 +76,9 @@ AreFoundBefore asked place =
 -- Why nothing is found. A thread may fail, or memory run out, also before the first key is judged.
 abbrev pub RefusesKeys : KeysQuestion → KeysError → Type 0
 RefusesKeys asked (BadValue place) = IsFirstBad asked.history place
-RefusesKeys asked (Key told) =
+RefusesKeys asked (Key given) =
     AreTuples asked.history
     × ((place : ℕ) × (key : Edn) × (slice_get (history_keys asked.history) place ≡ Some key)
-    × AreFoundBefore asked place × IsErrorOf asked key told)
+    × AreFoundBefore asked place × IsErrorOf asked key given)
 RefusesKeys asked Thread = AreTuples asked.history
 RefusesKeys asked OutOfMemory = AreTuples asked.history

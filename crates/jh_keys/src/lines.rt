@@ -126,9 +126,9 @@ pub fn write_finding<W: Write>(found: &Found, writer: &mut W) -> Result<(), EdnE
     ensures error { IfErr result (λ e. e ≡ EdnError.Write) }
 {
     match &found.finding {
-        Finding::Set(told) => write_set(told, writer),
-        Finding::Counter(told) => write_counter(told, writer),
-        Finding::Ids(told) => write_ids(told, writer),
+        Finding::Set(given) => write_set(given, writer),
+        Finding::Counter(given) => write_counter(given, writer),
+        Finding::Ids(given) => write_ids(given, writer),
         Finding::Register(judged) => write_register(judged, &found.explanation, writer),
     }
 }

@@ -8,7 +8,7 @@ ghost use Rattle.jh_ops.specs.Operation.{operation, operations};
 ghost use Rattle.jh_keys.specs.Keys as rule;
 ghost use Rattle.jh_keys.specs.Keys.{places_of};
 ghost use Rattle.jh_keys.specs.PartsInside.{operation_at, keys_error_of};
-ghost use Rattle.jh_keys.specs.Refusals as told;
+ghost use Rattle.jh_keys.specs.Refusals as given;
 ghost use Rattle.jh_keys.specs.Refusals.{IsFindingOf, RefusesKey, keys_question};
 
 use crate::copies::with_value;
@@ -74,7 +74,7 @@ fn place_in(places: &[usize], place: usize) -> usize
 
 /// An error of the pairs of a key's history, at its place in the whole one.
 fn pairing_in(places: &[usize], error: PairError) -> PairError
-    ensures { result ≡ told.pairing_in places.now error }
+    ensures { result ≡ given.pairing_in places.now error }
 {
     match error {
         PairError::AfterCrash(place) => PairError::AfterCrash(place_in(places, place)),

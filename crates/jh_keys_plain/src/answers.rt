@@ -26,7 +26,7 @@ fn place_of(turns: &[usize], part: usize, count: usize) -> Option<usize> {
 }
 
 /// The message of an error in the history of a part, reported at the place in the whole one.
-fn told(alloc: Global, turns: &[usize], part: usize, error: &str) -> Option<String> {
+fn given(alloc: Global, turns: &[usize], part: usize, error: &str) -> Option<String> {
     let (count, words) = error.split_once(": ")?;
     let place = place_of(turns, part, count.parse::<usize>().ok()?)?;
     format!(in alloc; "operation {place}: {words}").ok()
@@ -62,7 +62,7 @@ pub(crate) fn answer_of(alloc: Global, parts: &[Part], turns: &[usize]) -> Optio
             continue;
         }
         if let Some(error) = part.case.answer.strip_prefix("operation ") {
-            return told(alloc, turns, number, error);
+            return given(alloc, turns, number, error);
         }
         let separator = if list.is_empty() { "" } else { " " };
         let item = format!(in alloc; "{separator}[{} {}]", part.key, part.case.answer).ok()?;

@@ -1,6 +1,6 @@
 //! Gates that show that threads run at once, and that say who may not be judged.
 
-use crate::rows::{by, is_always_answered, is_told, may_lack_memory, told};
+use crate::rows::{by, given, is_always_answered, is_given, may_lack_memory};
 use jh_keys::{Gate, check_keys_at};
 use jh_keys_plain::ops_of;
 use jh_ops::Workload;
@@ -69,7 +69,7 @@ fn answer_at<G: Gate + Sync, R: Threads + Wait + Sync>(
 ) -> Option<String> {
     let ops = ops_of(alloc, history)?;
     match threads {
-        1..=16 => told(
+        1..=16 => given(
             alloc,
             check_keys_at(rt, alloc, &ops, by(Workload::Counter), threads, gate),
         ),
@@ -89,7 +89,7 @@ fn is_met_by<R: Threads + Wait + Sync>(
     if may_lack_memory(&answer, expected) {
         answer = answer_at(rt, alloc, history, 2, &Meeting::new(refused));
     }
-    is_told(&answer, expected)
+    is_given(&answer, expected)
 }
 
 const TWO_KEYS: &str =
@@ -131,7 +131,7 @@ fn is_answered<R: Threads + Wait + Sync>(
         if may_lack_memory(&answer, expected) {
             answer = answer_at(rt, alloc, history, threads, gate);
         }
-        if !is_told(&answer, expected) {
+        if !is_given(&answer, expected) {
             return false;
         }
     }

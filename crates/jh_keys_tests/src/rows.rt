@@ -46,7 +46,7 @@ fn line(alloc: Global, found: &[KeyFinding]) -> Option<String> {
 }
 
 /// The line of what is found, or the message of the error. None: memory was refused.
-pub(crate) fn told(alloc: Global, found: Result<Vec<KeyFinding>, KeysError>) -> Option<String> {
+pub(crate) fn given(alloc: Global, found: Result<Vec<KeyFinding>, KeysError>) -> Option<String> {
     match found {
         Ok(found) => line(alloc, &found),
         Err(KeysError::OutOfMemory) => None,
@@ -54,7 +54,7 @@ pub(crate) fn told(alloc: Global, found: Result<Vec<KeyFinding>, KeysError>) -> 
     }
 }
 
-pub(crate) fn is_told(answer: &Option<String>, expected: &str) -> bool {
+pub(crate) fn is_given(answer: &Option<String>, expected: &str) -> bool {
     match answer {
         Some(answer) => answer.as_str() == expected,
         None => false,
@@ -78,11 +78,11 @@ fn is_answered<R: Threads + Wait + Sync>(
     threads: u32,
     expected: &str,
 ) -> bool {
-    let mut answer = told(alloc, found(rt, alloc, judging, history, threads));
+    let mut answer = given(alloc, found(rt, alloc, judging, history, threads));
     if may_lack_memory(&answer, expected) {
-        answer = told(alloc, found(rt, alloc, judging, history, threads));
+        answer = given(alloc, found(rt, alloc, judging, history, threads));
     }
-    is_told(&answer, expected)
+    is_given(&answer, expected)
 }
 
 /// Whether that is answered, serially and on each number of threads.

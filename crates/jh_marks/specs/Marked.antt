@@ -69,7 +69,7 @@ placed_note order history call = option_map Note.Placed (place_in order history 
 
 -- the numbers of what is pending, where that is known
 abbrev pub pending_numbers_in : Option Explanation → List ℕ
-pending_numbers_in explanation = option_map_or (λ told. told.pending.items) explanation []
+pending_numbers_in explanation = option_map_or (λ shown. shown.pending.items) explanation []
 
 -- it is pending where the history is stuck
 abbrev pub is_pending_call : Option Explanation → List Operation → Call → Bool
@@ -146,7 +146,7 @@ found_note found history call =
 
 -- nothing, where the set was never read
 abbrev pub set_note : Option SetFound → List Operation → Call → Option Note
-set_note found history call = option_and_then (λ told. found_note told history call) found
+set_note found history call = option_and_then (λ shown. found_note shown history call) found
 
 -- ---- all
 
@@ -159,7 +159,7 @@ note_of (Register judged) explanation history call = register_note judged explan
 
 -- the mark of a note at a bar
 abbrev pub mark_at : ℕ → Option Note → Option Mark
-mark_at bar note = option_map (λ told. record { bar = bar; note = told }) note
+mark_at bar note = option_map (λ shown. record { bar = bar; note = shown }) note
 
 -- bar by bar its mark, where the call of the bar has a note
 abbrev pub marks_by : (Call → Option Note) → List Bar → List Mark

@@ -41,9 +41,9 @@ pub fn marks_of(
         (λ marks. marks.items ≡ rule.marks_of (operations history.now) found.now bars.now) }
 {
     match &found.finding {
-        Finding::Set(told) => set_marks(alloc, &told.found, history, bars),
-        Finding::Counter(told) => counter_marks(alloc, told.reads.as_slice(), history, bars),
-        Finding::Ids(told) => ids_marks(alloc, told.duplicated.as_slice(), history, bars),
+        Finding::Set(shown) => set_marks(alloc, &shown.found, history, bars),
+        Finding::Counter(shown) => counter_marks(alloc, shown.reads.as_slice(), history, bars),
+        Finding::Ids(shown) => ids_marks(alloc, shown.duplicated.as_slice(), history, bars),
         Finding::Register(judged) => {
             register_marks(alloc, judged, &found.explanation, history, bars)
         }

@@ -85,7 +85,7 @@ fn pending_in(explanation: &Option<Explanation>) -> &[usize]
     ensures { result.now ≡ rule.pending_numbers_in explanation.now }
 {
     match explanation {
-        Some(told) => told.pending.as_slice(),
+        Some(given) => given.pending.as_slice(),
         None => &[],
     }
 }

@@ -129,7 +129,7 @@ pub(crate) fn set_marks(
         ≡ marks_by (rule.set_note found.now (operations history.now)) bars.now) }
 {
     match found {
-        Some(told) => found_marks(alloc, told, history, bars),
+        Some(given) => found_marks(alloc, given, history, bars),
         None => Ok(no_marks(alloc, bars)),
     }
 }

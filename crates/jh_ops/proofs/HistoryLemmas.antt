@@ -27,8 +27,8 @@ abbrev pub Parsed : List Edn → List Operation → List Edn → Type 0
 Parsed values ops rest = parsed_elements values ≡ map Ok ops ++ map parsed_op rest
 
 pub parsed_more : (values : List Edn) (ops : List Operation) (op : Operation) (value : Edn) (rest : List Edn) → parsed_op value ≡ Ok op → Parsed values ops (value ∷ rest) → Parsed values (ops ++ op ∷ []) rest
-parsed_more values ops op value rest tells parsed =
-    parsed ∙ ap (λ r. map Ok ops ++ r ∷ map parsed_op rest) tells ∙ sym (append_assoc (map Ok ops) (Ok op ∷ []) (map parsed_op rest))
+parsed_more values ops op value rest stages_are parsed =
+    parsed ∙ ap (λ r. map Ok ops ++ r ∷ map parsed_op rest) stages_are ∙ sym (append_assoc (map Ok ops) (Ok op ∷ []) (map parsed_op rest))
     ∙ ap (λ rs. rs ++ map parsed_op rest) (sym (map-append Ok ops (op ∷ [])))
 
 pub parsed_end : (values : List Edn) (ops : List Operation) → Parsed values ops [] → AreParsed values ops

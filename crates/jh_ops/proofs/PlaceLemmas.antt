@@ -20,7 +20,7 @@ use Rattle.jh_ops.specs.declared.pairs.PairError.TheVariants.{AfterCrash, Double
 use Rattle.jh_ops.specs.declared.pairing.Stage.{Stage}
 use Rattle.jh_ops.specs.declared.pairing.Stage.TheVariants.{Idle, Waiting, Crashed}
 use Rattle.jh_ops.proofs.KindLemmas.{kinds_of-append, kinds_of-own, Follows, follows_at, alternate, follows}
-use Rattle.jh_ops.proofs.StageLemmas.{Tells, tells_skip, tells_more, refused, taken, pairs_parsed, awaited_within}
+use Rattle.jh_ops.proofs.StageLemmas.{AreStagesOf, stages_skip, stages_more, refused, taken, pairs_parsed, awaited_within}
 
 -- ---- the operation at a place
 
@@ -43,7 +43,7 @@ before_place ops place op at = let within = slice_get_within ops place op at in 
 
 -- nothing is in error up to a place, and the stages and pairs tell of the operations before it
 pub record Stands (stages : ℕ → Stage) (pairs : List Pair) (history : List Operation) (place : ℕ) : Type 0 where
-  pub tells : Tells stages pairs (take place history)
+  pub stages_are : AreStagesOf stages pairs (take place history)
   pub sound : (earlier : ℕ) → earlier < place → pair_error_at history earlier ≡ None
 
 pub stands_skip : (stages : ℕ → Stage) (pairs : List Pair) (history : List Op) (place : ℕ) (op : Op) → place < length history → op ≡ get_or history place op
@@ -53,7 +53,7 @@ stands_skip stages pairs history place op below same nemesis stands =
     let more = one_more (operations history) place (operation op) at in
     let error = error_here (operations history) place (operation op) at in
     record {
-      tells = subst (λ (ops : List Operation). Tells stages pairs ops) (sym more) (tells_skip stages pairs (take place (operations history)) (operation op) nemesis stands.tells);
+      stages_are = subst (λ (ops : List Operation). AreStagesOf stages pairs ops) (sym more) (stages_skip stages pairs (take place (operations history)) (operation op) nemesis stands.stages_are);
       sound = below_more (λ (k : ℕ). pair_error_at (operations history) k ≡ None) place stands.sound (error ∙ ap (λ p. pair_error_of p op.kind (take place (operations history)) place) nemesis);
     }
 
@@ -66,7 +66,7 @@ sound_here stages pairs history place op client opened next below same own stand
     let error = error_here (operations history) place (operation op) at in
     below_more (λ (k : ℕ). pair_error_at (operations history) k ≡ None) place stands.sound
     (error ∙ ap (λ p. pair_error_of p op.kind (take place (operations history)) place) own
-    ∙ taken stages pairs (take place (operations history)) op.kind client place opened next stands.tells step)
+    ∙ taken stages pairs (take place (operations history)) op.kind client place opened next stands.stages_are step)
 
 pub stands_more : (stages stages' : ℕ → Stage) (pairs pairs' : List Pair) (history : List Op) (place : ℕ) (op : Op) (client : ℕ) (next : Stage) → place < length history → op ≡ get_or history place op
     → op.process ≡ Process.Client client → Stands stages pairs (operations history) place → stage_after (stages client) op.kind place (length pairs) ≡ Ok next
@@ -77,8 +77,8 @@ stands_more stages stages' pairs pairs' history place op client next below same 
     let more = one_more (operations history) place (operation op) at in
     let long = before_place (operations history) place (operation op) at in
     record {
-      tells = subst (λ (ops : List Operation). Tells stages' pairs' ops) (sym more)
-          (tells_more stages stages' pairs pairs' (take place (operations history)) (operation op) client next own stands.tells
+      stages_are = subst (λ (ops : List Operation). AreStagesOf stages' pairs' ops) (sym more)
+          (stages_more stages stages' pairs pairs' (take place (operations history)) (operation op) client next own stands.stages_are
           (ap (λ n. stage_after (stages client) op.kind n (length pairs)) long ∙ step) here apart (noted ∙ ap (λ n. pairs_after (stages client) n pairs) (sym long)));
       sound = sound_here stages pairs history place op client (length pairs) next below same own stands step;
     }
@@ -92,7 +92,7 @@ first_error stages pairs history place op client opened e below same own stands 
     let error = error_here (operations history) place (operation op) at in (
       place,
       error ∙ ap (λ p. pair_error_of p op.kind (take place (operations history)) place) own
-          ∙ refused stages pairs (take place (operations history)) op.kind client place opened e stands.tells step,
+          ∙ refused stages pairs (take place (operations history)) op.kind client place opened e stands.stages_are step,
       stands.sound,
     )
 
@@ -103,8 +103,8 @@ pub stands_end : (stages : ℕ → Stage) (pairs : List Pair) (history : List Op
 stands_end stages pairs history place end stands =
     let long = length-map history operation in
     let all : take place (operations history) ≡ operations history = take_all place (operations history) (omega (arith, long)) in
-    let tells = subst (λ (ops : List Operation). Tells stages pairs ops) all stands.tells in
-    ((λ client. (alternate (kinds_of client (operations history))).0 (tells.sound client)), pairs_parsed stages pairs (operations history) tells)
+    let stages_are = subst (λ (ops : List Operation). AreStagesOf stages pairs ops) all stands.stages_are in
+    ((λ client. (alternate (kinds_of client (operations history))).0 (stages_are.sound client)), pairs_parsed stages pairs (operations history) stages_are)
 
 never_for : (history : List Operation) (place : ℕ) (op : Operation) (process : Process) → IsWellFormed history → slice_get history place ≡ Some op → op.process ≡ process
     → pair_error_of process op.kind (take place history) place ≡ None
@@ -168,7 +168,7 @@ awaited Crashed at e = cc
 awaited (Waiting place) at e = let same : place ≡ at = cc in ap Waiting same
 
 pub awaited_is_there : (stages : ℕ → Stage) (pairs : List Pair) (history : List Operation) (place client at : ℕ) → Stands stages pairs history place → pair_awaited (stages client) ≡ Some at → at < length pairs
-awaited_is_there stages pairs history place client at stands e = awaited_within stages pairs (take place history) client at stands.tells (awaited (stages client) at e)
+awaited_is_there stages pairs history place client at stands e = awaited_within stages pairs (take place history) client at stands.stages_are (awaited (stages client) at e)
 
 -- ---- the map of stages
 

@@ -91,15 +91,15 @@ advances (Waiting at) Kind.Info client place claims h = completes Kind.Info clie
 -- ---- over a whole history
 
 -- what is kept, the stage of each client and the pairs, tells of these operations, none of which is in error
-pub record Tells (stages : ℕ → Stage) (pairs : List Pair) (done : List Operation) : Type 0 where
+pub record AreStagesOf (stages : ℕ → Stage) (pairs : List Pair) (done : List Operation) : Type 0 where
   pub crashed : (client : ℕ) → crashed_at (stages client) ≡ has_crashed (kinds_of client done)
   pub waiting : (client : ℕ) → waiting_at (stages client) ≡ is_waiting (kinds_of client done)
   pub outstanding : (client k : ℕ) → awaits (stages client) k ≡ waits (claims_from 0 done) client k
   pub claimed : pairs ≡ pairs_in (claims_from 0 done)
   pub sound : (client : ℕ) → Follows false false (kinds_of client done)
 
-pub tells_nothing : (stages : ℕ → Stage) (pairs : List Pair) → ((client : ℕ) → stages client ≡ Idle) → pairs ≡ [] → Tells stages pairs []
-tells_nothing stages pairs idle none = record {
+pub stages_of_nothing : (stages : ℕ → Stage) (pairs : List Pair) → ((client : ℕ) → stages client ≡ Idle) → pairs ≡ [] → AreStagesOf stages pairs []
+stages_of_nothing stages pairs idle none = record {
   crashed = λ client. ap crashed_at (idle client);
   waiting = λ client. ap waiting_at (idle client);
   outstanding = λ client k. ap (λ s. awaits s k) (idle client);
@@ -108,8 +108,8 @@ tells_nothing stages pairs idle none = record {
 }
 
 -- an operation of the nemesis
-pub tells_skip : (stages : ℕ → Stage) (pairs : List Pair) (done : List Operation) (op : Operation) → op.process ≡ Process.Nemesis → Tells stages pairs done → Tells stages pairs (done ++ op ∷ [])
-tells_skip stages pairs done op nemesis tells =
+pub stages_skip : (stages : ℕ → Stage) (pairs : List Pair) (done : List Operation) (op : Operation) → op.process ≡ Process.Nemesis → AreStagesOf stages pairs done → AreStagesOf stages pairs (done ++ op ∷ [])
+stages_skip stages pairs done op nemesis stages_are =
     let kinds : (client : ℕ) → kinds_of client (done ++ op ∷ []) ≡ kinds_of client done = λ client. kinds_push-other client done op (ap (is_of_client client) nemesis) in
     let claims : claims_from 0 (done ++ op ∷ []) ≡ claims_from 0 done =
     claims_push 0 done op (length done) (omega arith)
@@ -118,36 +118,36 @@ tells_skip stages pairs done op nemesis tells =
     ∙ append-nil (map (closed Process.Nemesis (length done)) (claims_from 0 done))
     ∙ untouched (length done) (claims_from 0 done) in
     record {
-      crashed = λ client. tells.crashed client ∙ ap has_crashed (sym (kinds client));
-      waiting = λ client. tells.waiting client ∙ ap is_waiting (sym (kinds client));
-      outstanding = λ client k. tells.outstanding client k ∙ ap (λ cs. waits cs client k) (sym claims);
-      claimed = tells.claimed ∙ ap pairs_in (sym claims);
-      sound = λ client. subst (λ (ks : List Kind). Follows false false ks) (sym (kinds client)) (tells.sound client);
+      crashed = λ client. stages_are.crashed client ∙ ap has_crashed (sym (kinds client));
+      waiting = λ client. stages_are.waiting client ∙ ap is_waiting (sym (kinds client));
+      outstanding = λ client k. stages_are.outstanding client k ∙ ap (λ cs. waits cs client k) (sym claims);
+      claimed = stages_are.claimed ∙ ap pairs_in (sym claims);
+      sound = λ client. subst (λ (ks : List Kind). Follows false false ks) (sym (kinds client)) (stages_are.sound client);
     }
 
 -- what an operation of a client at the next place is judged by
-pub error_parsed : (stages : ℕ → Stage) (pairs : List Pair) (done : List Operation) (kind : Kind) (client place : ℕ) → Tells stages pairs done
+pub error_parsed : (stages : ℕ → Stage) (pairs : List Pair) (done : List Operation) (kind : Kind) (client place : ℕ) → AreStagesOf stages pairs done
     → pair_error_of (Process.Client client) kind done place ≡ pair_error_after (crashed_at (stages client)) (waiting_at (stages client)) kind place
-error_parsed stages pairs done kind client place tells =
-    ap (λ c. pair_error_after c (is_waiting (kinds_of client done)) kind place) (sym (tells.crashed client))
-    ∙ ap (λ w. pair_error_after (crashed_at (stages client)) w kind place) (sym (tells.waiting client))
+error_parsed stages pairs done kind client place stages_are =
+    ap (λ c. pair_error_after c (is_waiting (kinds_of client done)) kind place) (sym (stages_are.crashed client))
+    ∙ ap (λ w. pair_error_after (crashed_at (stages client)) w kind place) (sym (stages_are.waiting client))
 
-pub refused : (stages : ℕ → Stage) (pairs : List Pair) (done : List Operation) (kind : Kind) (client place opened : ℕ) (e : PairError) → Tells stages pairs done
+pub refused : (stages : ℕ → Stage) (pairs : List Pair) (done : List Operation) (kind : Kind) (client place opened : ℕ) (e : PairError) → AreStagesOf stages pairs done
     → stage_after (stages client) kind place opened ≡ Err e → pair_error_of (Process.Client client) kind done place ≡ Some e
-refused stages pairs done kind client place opened e tells step =
-    error_parsed stages pairs done kind client place tells ∙ (rw step at (judged (stages client) kind place opened))
+refused stages pairs done kind client place opened e stages_are step =
+    error_parsed stages pairs done kind client place stages_are ∙ (rw step at (judged (stages client) kind place opened))
 
-pub taken : (stages : ℕ → Stage) (pairs : List Pair) (done : List Operation) (kind : Kind) (client place opened : ℕ) (next : Stage) → Tells stages pairs done
+pub taken : (stages : ℕ → Stage) (pairs : List Pair) (done : List Operation) (kind : Kind) (client place opened : ℕ) (next : Stage) → AreStagesOf stages pairs done
     → stage_after (stages client) kind place opened ≡ Ok next → pair_error_of (Process.Client client) kind done place ≡ None
-taken stages pairs done kind client place opened next tells step =
-    error_parsed stages pairs done kind client place tells ∙ (rw step at (judged (stages client) kind place opened)).0
+taken stages pairs done kind client place opened next stages_are step =
+    error_parsed stages pairs done kind client place stages_are ∙ (rw step at (judged (stages client) kind place opened)).0
 
 -- the pair that a stage awaits is there
-pub awaited_within : (stages : ℕ → Stage) (pairs : List Pair) (done : List Operation) (client at : ℕ) → Tells stages pairs done → stages client ≡ Waiting at → at < length pairs
-awaited_within stages pairs done client at tells stage =
-    let waiting : waits (claims_from 0 done) client at ≡ true = sym (tells.outstanding client at) ∙ ap (λ s. awaits s at) stage ∙ same_place-self at in
+pub awaited_within : (stages : ℕ → Stage) (pairs : List Pair) (done : List Operation) (client at : ℕ) → AreStagesOf stages pairs done → stages client ≡ Waiting at → at < length pairs
+awaited_within stages pairs done client at stages_are stage =
+    let waiting : waits (claims_from 0 done) client at ≡ true = sym (stages_are.outstanding client at) ∙ ap (λ s. awaits s at) stage ∙ same_place-self at in
     let within = waits_within (claims_from 0 done) client at waiting in
-    let same : length pairs ≡ length (claims_from 0 done) = ap length tells.claimed ∙ length-map (claims_from 0 done) (λ c. c.pair) in
+    let same : length pairs ≡ length (claims_from 0 done) = ap length stages_are.claimed ∙ length-map (claims_from 0 done) (λ c. c.pair) in
     omega (arith, within, same)
 
 is_own : (client : ℕ) (op : Operation) → op.process ≡ Process.Client client → is_of_client client op.process ≡ true
@@ -163,17 +163,17 @@ waiting_push : (kinds : List Kind) (kind : Kind) → is_waiting (kinds ++ kind �
 waiting_push kinds kind = fold_push (λ _ k. is_invoke k) false kinds kind
 
 -- an operation of a client, taken at its stage
-pub tells_more : (stages stages' : ℕ → Stage) (pairs pairs' : List Pair) (done : List Operation) (op : Operation) (client : ℕ) (next : Stage)
-    → op.process ≡ Process.Client client → Tells stages pairs done → stage_after (stages client) op.kind (length done) (length pairs) ≡ Ok next
+pub stages_more : (stages stages' : ℕ → Stage) (pairs pairs' : List Pair) (done : List Operation) (op : Operation) (client : ℕ) (next : Stage)
+    → op.process ≡ Process.Client client → AreStagesOf stages pairs done → stage_after (stages client) op.kind (length done) (length pairs) ≡ Ok next
     → stages' client ≡ next → ((other : ℕ) → (client ≡ other → ⊥) → stages' other ≡ stages other) → pairs' ≡ pairs_after (stages client) (length done) pairs
-    → Tells stages' pairs' (done ++ op ∷ [])
-tells_more stages stages' pairs pairs' done op client next own tells step here apart noted =
+    → AreStagesOf stages' pairs' (done ++ op ∷ [])
+stages_more stages stages' pairs pairs' done op client next own stages_are step here apart noted =
     let place = length done in
     let cs = claims_from 0 done in
     let ks = kinds_of client done in
-    let as_long : length pairs ≡ length cs = ap length tells.claimed ∙ length-map cs (λ c. c.pair) in
+    let as_long : length pairs ≡ length cs = ap length stages_are.claimed ∙ length-map cs (λ c. c.pair) in
     let step_here : stage_after (stages client) op.kind place (length cs) ≡ Ok next = ap (λ n. stage_after (stages client) op.kind place n) (sym as_long) ∙ step in
-    let moved = rw step_here at (advances (stages client) op.kind client place cs (tells.outstanding client)) in
+    let moved = rw step_here at (advances (stages client) op.kind client place cs (stages_are.outstanding client)) in
     let seen = rw step at (judged (stages client) op.kind place (length pairs)) in
     let claims : claims_from 0 (done ++ op ∷ []) ≡ claims_after op.kind client place cs =
     claims_push 0 done op place (omega arith) ∙ ap (λ p. map (closed p place) cs ++ claim_of op.kind p place []) own in
@@ -181,30 +181,30 @@ tells_more stages stages' pairs pairs' done op client next own tells step here a
     let others : (other : ℕ) → (client ≡ other → ⊥) → kinds_of other (done ++ op ∷ []) ≡ kinds_of other done =
     λ other ne. kinds_push-other other done op (is_other client other op own ne) in
     let error : (p : ℕ) → pair_error_after (has_crashed ks) (is_waiting ks) op.kind p ≡ None =
-    any_place (has_crashed ks) (is_waiting ks) op.kind place (taken stages pairs done op.kind client place (length pairs) next tells step) in
+    any_place (has_crashed ks) (is_waiting ks) op.kind place (taken stages pairs done op.kind client place (length pairs) next stages_are step) in
     record {
       crashed = λ q. elim (cases_eq client q) [
         | inl e ↦ subst (λ (x : ℕ). crashed_at (stages' x) ≡ has_crashed (kinds_of x (done ++ op ∷ []))) e
-            (ap crashed_at here ∙ seen.1 ∙ ap (λ c. c || is_info op.kind) (tells.crashed client) ∙ sym (ap has_crashed kinds ∙ crashed_push ks op.kind))
-        | inr ne ↦ ap crashed_at (apart q ne) ∙ tells.crashed q ∙ ap has_crashed (sym (others q ne))
+            (ap crashed_at here ∙ seen.1 ∙ ap (λ c. c || is_info op.kind) (stages_are.crashed client) ∙ sym (ap has_crashed kinds ∙ crashed_push ks op.kind))
+        | inr ne ↦ ap crashed_at (apart q ne) ∙ stages_are.crashed q ∙ ap has_crashed (sym (others q ne))
       ];
       waiting = λ q. elim (cases_eq client q) [
         | inl e ↦ subst (λ (x : ℕ). waiting_at (stages' x) ≡ is_waiting (kinds_of x (done ++ op ∷ []))) e
             (ap waiting_at here ∙ seen.2 ∙ sym (ap is_waiting kinds ∙ waiting_push ks op.kind))
-        | inr ne ↦ ap waiting_at (apart q ne) ∙ tells.waiting q ∙ ap is_waiting (sym (others q ne))
+        | inr ne ↦ ap waiting_at (apart q ne) ∙ stages_are.waiting q ∙ ap is_waiting (sym (others q ne))
       ];
       outstanding = λ q k. elim (cases_eq client q) [
         | inl e ↦ subst (λ (x : ℕ). awaits (stages' x) k ≡ waits (claims_from 0 (done ++ op ∷ [])) x k) e
             (ap (λ s. awaits s k) here ∙ moved.own k ∙ ap (λ x. waits x client k) (sym claims))
-        | inr ne ↦ ap (λ s. awaits s k) (apart q ne) ∙ tells.outstanding q k ∙ sym (moved.others q k ne) ∙ ap (λ x. waits x q k) (sym claims)
+        | inr ne ↦ ap (λ s. awaits s k) (apart q ne) ∙ stages_are.outstanding q k ∙ sym (moved.others q k ne) ∙ ap (λ x. waits x q k) (sym claims)
       ];
-      claimed = noted ∙ ap (pairs_after (stages client) place) tells.claimed ∙ sym moved.pairs ∙ ap pairs_in (sym claims);
+      claimed = noted ∙ ap (pairs_after (stages client) place) stages_are.claimed ∙ sym moved.pairs ∙ ap pairs_in (sym claims);
       sound = λ q. elim (cases_eq client q) [
         | inl e ↦ subst (λ (x : ℕ). Follows false false (kinds_of x (done ++ op ∷ []))) e
-            (subst (λ (x : List Kind). Follows false false x) (sym kinds) (follows_push false false ks op.kind (tells.sound client) error))
-        | inr ne ↦ subst (λ (x : List Kind). Follows false false x) (sym (others q ne)) (tells.sound q)
+            (subst (λ (x : List Kind). Follows false false x) (sym kinds) (follows_push false false ks op.kind (stages_are.sound client) error))
+        | inr ne ↦ subst (λ (x : List Kind). Follows false false x) (sym (others q ne)) (stages_are.sound q)
       ];
     }
 
-pub pairs_parsed : (stages : ℕ → Stage) (pairs : List Pair) (history : List Operation) → Tells stages pairs history → pairs ≡ history_pairs history
-pairs_parsed stages pairs history tells = tells.claimed ∙ sym (pairs_claimed 0 history)
+pub pairs_parsed : (stages : ℕ → Stage) (pairs : List Pair) (history : List Operation) → AreStagesOf stages pairs history → pairs ≡ history_pairs history
+pairs_parsed stages pairs history stages_are = stages_are.claimed ∙ sym (pairs_claimed 0 history)

@@ -6,12 +6,12 @@
 
 mod dice;
 mod pairs;
+mod plain;
 mod random;
 mod records;
-mod told;
 
 pub use dice::Dice;
 pub use pairs::{Step, pairs_slowly};
+pub use plain::{PlainOp, history_slowly, op_slowly};
 pub use random::{random_records, random_steps};
 pub use records::{Held, Record, Records, Words};
-pub use told::{Told, history_slowly, op_slowly};

@@ -85,7 +85,7 @@ fn reads_one_sequence(rt: HostRuntime) -> Result<(), Fail> {
 
 /// An error of the text comes before a value that means no operation, wherever both stand; of such values the first is reported.
 #[test]
-fn tells_the_first_error(rt: HostRuntime) -> Result<(), Fail> {
+fn names_the_first_error(rt: HostRuntime) -> Result<(), Fail> {
     let rows = r#"read 1
 {:type :ok :process 1 :f :a}
 {:type → line 3: unexpected end

@@ -130,7 +130,7 @@ fn takes_one_sequence_apart(rt: HostRuntime) -> Result<(), Fail> {
 }
 
 #[test]
-fn tells_the_place_that_is_refused(rt: HostRuntime) -> Result<(), Fail> {
+fn names_the_place_that_is_refused(rt: HostRuntime) -> Result<(), Fail> {
     let rows = r#"history #{} → Op(0, NotMap)
 § history [] [] → Op(0, NotMap)
 § history [{:type :ok :process 1 :f :a} [1] {}] → Op(1, NotMap)

@@ -5,7 +5,7 @@
 use jh_edn::{Pairs, Tagged, Text, Value, Values, read_one, write};
 use jh_ops::{HistoryError, Op, OpError, PairError, history_of, op_of, pair};
 use jh_ops_plain::{
-    Dice, Held, Record, Records, Step, Told, Words, history_slowly, op_slowly, pairs_slowly,
+    Dice, Held, PlainOp, Record, Records, Step, Words, history_slowly, op_slowly, pairs_slowly,
     random_records, random_steps,
 };
 use std::alloc::Global;
@@ -109,12 +109,12 @@ fn are_texts(alloc: Global, pairs: &[(Value, Value)], texts: &[Words]) -> Option
 }
 
 /// Whether an operation is the one that was parsed slowly.
-fn is_same_op(alloc: Global, op: &Op, told: &Told) -> Option<bool> {
-    let is_same = op.kind == told.kind && op.process == told.process;
-    let has_same_numbers = op.time == told.time && op.index == told.index;
-    let has_same_f = is_text(alloc, &op.f, told.f)?;
-    let has_same_value = is_text(alloc, &op.value, told.value)?;
-    let has_same_rest = are_texts(alloc, op.rest.as_slice(), &told.rest)?;
+fn is_same_op(alloc: Global, op: &Op, given: &PlainOp) -> Option<bool> {
+    let is_same = op.kind == given.kind && op.process == given.process;
+    let has_same_numbers = op.time == given.time && op.index == given.index;
+    let has_same_f = is_text(alloc, &op.f, given.f)?;
+    let has_same_value = is_text(alloc, &op.value, given.value)?;
+    let has_same_rest = are_texts(alloc, op.rest.as_slice(), &given.rest)?;
     Some(is_same && has_same_numbers && has_same_f && has_same_value && has_same_rest)
 }
 
@@ -122,11 +122,11 @@ fn is_same_op(alloc: Global, op: &Op, told: &Told) -> Option<bool> {
 fn is_same_answer(
     alloc: Global,
     answer: &Result<Op, OpError>,
-    told: &Result<Told, OpError>,
+    given: &Result<PlainOp, OpError>,
 ) -> Option<bool> {
-    match (answer, told) {
+    match (answer, given) {
         (Err(OpError::OutOfMemory), _) | (_, Err(OpError::OutOfMemory)) => None,
-        (Ok(op), Ok(told)) => is_same_op(alloc, op, told),
+        (Ok(op), Ok(given)) => is_same_op(alloc, op, given),
         (Err(error), Err(expected)) => Some(error == expected),
         _ => Some(false),
     }
@@ -139,13 +139,13 @@ fn is_same_record(alloc: Global, record: &Record, tags: u64) -> Option<bool> {
 }
 
 /// Whether operations are those that were parsed slowly.
-fn are_same_ops(alloc: Global, ops: &[Op], told: &[Told]) -> Option<bool> {
-    for (op, told) in ops.iter().zip(told) {
-        if !is_same_op(alloc, op, told)? {
+fn are_same_ops(alloc: Global, ops: &[Op], given: &[PlainOp]) -> Option<bool> {
+    for (op, given) in ops.iter().zip(given) {
+        if !is_same_op(alloc, op, given)? {
             return Some(false);
         }
     }
-    Some(ops.len() == told.len())
+    Some(ops.len() == given.len())
 }
 
 /// Whether both parse each record as the same operation, or refuse it alike.
@@ -175,7 +175,7 @@ fn way_of(error: OpError) -> Option<usize> {
 fn history_way(alloc: Global, records: &Records) -> Option<usize> {
     let history = history_of(alloc, values_of(alloc, records)?);
     match (history, history_slowly(alloc, records)) {
-        (Ok(ops), Ok(told)) => are_same_ops(alloc, &ops, &told)?.then_some(0),
+        (Ok(ops), Ok(given)) => are_same_ops(alloc, &ops, &given)?.then_some(0),
         (Err(HistoryError::Op(place, error)), Err(expected)) => {
             (HistoryError::Op(place, error) == expected).then_some(way_of(error)?)
         }

@@ -92,17 +92,17 @@ fn escapes_texts(rt: HostRuntime) -> Result<(), Fail> {
 }
 
 /// Whether an error has this message; asked once more where memory was refused.
-fn is_told(alloc: Global, error: PageError, expected: &str) -> bool {
-    let told = match error.to_string(alloc) {
+fn is_given(alloc: Global, error: PageError, expected: &str) -> bool {
+    let given = match error.to_string(alloc) {
         Err(_) => error.to_string(alloc).ok(),
-        Ok(told) => Some(told),
+        Ok(given) => Some(given),
     };
-    told.is_some_and(|told| told.as_str() == expected)
+    given.is_some_and(|given| given.as_str() == expected)
 }
 
 #[test]
-fn tells_why_there_is_no_page(rt: HostRuntime) {
-    assert!(rt; is_told(rt.alloc(), PageError::Write, "write failed"));
-    assert!(rt; is_told(rt.alloc(), PageError::OutOfMemory, "out of memory"));
+fn says_why_there_is_no_page(rt: HostRuntime) {
+    assert!(rt; is_given(rt.alloc(), PageError::Write, "write failed"));
+    assert!(rt; is_given(rt.alloc(), PageError::OutOfMemory, "out of memory"));
     assert_eq!(rt; (LANE_WIDTH, ROW_HEIGHT), (240, 16));
 }

@@ -10,7 +10,7 @@ use Rattle.jh_ops.specs.declared.pairs.Pair.{Pair}
 use Rattle.jh_check.specs.CounterResults.{call_error, errors_in, IsEarliest}
 use Rattle.jh_check.specs.declared.error.CheckError.{CheckError}
 use Rattle.jh_simnode.specs.declared.replicas.Got.{Got}
-use Rattle.jh_simnode.specs.declared.replicas.Reply.TheVariants as said
+use Rattle.jh_simnode.specs.declared.replicas.Reply.TheVariants as replied
 use Rattle.jh_simnode.specs.declared.events.Event.{Event}
 use Rattle.jh_simnode.specs.Histories.{journal_history}
 use Rattle.jh_run_laws.specs.OwnHistory.{CallsFit, RepliesFit}
@@ -21,12 +21,12 @@ abbrev NoError : List Operation → Pair → Type 0
 NoError history pair = call_error history pair ≡ None
 
 counted : FromCall Counter NoError
-counted history place number process Read (said.Ok (Got.One (Some z))) here there suits fits = rw (here, there) refl
-counted history place number process Read (said.Ok (Got.One None)) here there suits fits = absurd fits
-counted history place number process Read (said.Ok (Got.Many xs)) here there suits fits = absurd fits
-counted history place number process Read (said.Ok Got.Nothing) here there suits fits = absurd fits
-counted history place number process Read said.Fail here there suits fits = rw (here, there) refl
-counted history place number process Read said.Info here there suits fits = rw (here, there) refl
+counted history place number process Read (replied.Ok (Got.One (Some z))) here there suits fits = rw (here, there) refl
+counted history place number process Read (replied.Ok (Got.One None)) here there suits fits = absurd fits
+counted history place number process Read (replied.Ok (Got.Many xs)) here there suits fits = absurd fits
+counted history place number process Read (replied.Ok Got.Nothing) here there suits fits = absurd fits
+counted history place number process Read replied.Fail here there suits fits = rw (here, there) refl
+counted history place number process Read replied.Info here there suits fits = rw (here, there) refl
 counted history place number process (Write v) reply here there suits fits = absurd cc
 counted history place number process (Cas a b) reply here there suits fits = absurd cc
 counted history place number process (Add (pos n)) reply here there suits fits = rw here refl

@@ -8,7 +8,7 @@ use Rattle.jh_ops.specs.declared.call.Request.{Request}
 use Rattle.jh_ops.specs.declared.call.Workload.{Workload}
 use Rattle.jh_ops.specs.declared.operation.Kind.{Kind}
 use Rattle.jh_simnode.specs.declared.replicas.Reply.{Reply}
-use Rattle.jh_simnode.specs.declared.replicas.Reply.TheVariants as said
+use Rattle.jh_simnode.specs.declared.replicas.Reply.TheVariants as replied
 use Rattle.jh_simnode.specs.declared.events.Event.{Event}
 use Rattle.jh_simnode.specs.Counts.{is_crash_of, process_after}
 use Rattle.jh_simnode.specs.Histories.{journal_history, completion_kind, operations_from}
@@ -42,11 +42,11 @@ not_less c t done e =
 
 -- a crash gives its thread a greater one
 crash_greater : (c process node draw : ℕ) (request : Request) (done : List Event) → 0 < c → process ≡ process_after c (process % c) done
-    → process < process_after c (process % c) (done ++ Event.Call process node request draw said.Info ∷ [])
+    → process < process_after c (process % c) (done ++ Event.Call process node request draw replied.Info ∷ [])
 crash_greater c process node draw request done some own =
     let t = process % c in
     let m = count_by (is_crash_of c t) done in
-    let e = Event.Call process node request draw said.Info in
+    let e = Event.Call process node request draw replied.Info in
     let same : (t == t) ≡ true = eq-eqb t t refl in
     let more : count_by (is_crash_of c t) (done ++ e ∷ []) ≡ m + 1 = count_yes (is_crash_of c t) done e same in
     rw more (omega (arith, own, add-mul m 1 c, some))
@@ -78,12 +78,12 @@ alternates w c x some done (Event.Call process node request draw reply ∷ es) a
       | false ↦ λ other. rest
     ] refl where
       after : (r : Reply) → x ≡ process → CallsFit w c done (Event.Call process node request draw r ∷ es) → Alternate (kinds_in x es) → Alternate (Kind.Invoke ∷ completion_kind r ∷ kinds_in x es)
-      after (said.Ok got) is a rest = rest
-      after said.Fail is a rest = rest
-      after said.Info is a rest =
+      after (replied.Ok got) is a rest = rest
+      after replied.Fail is a rest = rest
+      after replied.Info is a rest =
           let greater = crash_greater c process node draw request done some a.0.0 in
-          gone w c x (done ++ Event.Call process node request draw said.Info ∷ []) es a.1
-          (subst (λ (y : ℕ). y < process_after c (y % c) (done ++ Event.Call process node request draw said.Info ∷ [])) (sym is) greater)
+          gone w c x (done ++ Event.Call process node request draw replied.Info ∷ []) es a.1
+          (subst (λ (y : ℕ). y < process_after c (y % c) (done ++ Event.Call process node request draw replied.Info ∷ [])) (sym is) greater)
 alternates w c x some done (Event.Step step answer ∷ es) a = alternates w c x some (done ++ Event.Step step answer ∷ []) es a.1
 alternates w c x some done (Event.Tick ∷ es) a = alternates w c x some (done ++ Event.Tick ∷ []) es a.1
 

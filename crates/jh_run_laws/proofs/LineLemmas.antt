@@ -7,7 +7,7 @@ use Rattle.jh_ops.specs.OperationText.{parsed_op}
 use Rattle.jh_ops.specs.OperationWritten.{value_written}
 use Rattle.jh_ops.specs.declared.call.Request.{Request}
 use Rattle.jh_simnode.specs.declared.replicas.Reply.{Reply}
-use Rattle.jh_simnode.specs.declared.replicas.Reply.TheVariants as said
+use Rattle.jh_simnode.specs.declared.replicas.Reply.TheVariants as replied
 use Rattle.jh_simnode.specs.declared.events.Event.{Event}
 use Rattle.jh_simnode.specs.Histories.{placed_completion, journal_history, operations_from}
 use Rattle.jh_run_laws.proofs.PairLemmas.{Each}
@@ -17,9 +17,9 @@ abbrev IsParsedAgain : Operation → Type 0
 IsParsedAgain op = parsed_op (value_written op) ≡ Ok op
 
 completion_parsed : (place number process : ℕ) (request : Request) (reply : Reply) → IsParsedAgain (placed_completion place number process request reply)
-completion_parsed place number process request (said.Ok got) = refl
-completion_parsed place number process request said.Fail = refl
-completion_parsed place number process request said.Info = refl
+completion_parsed place number process request (replied.Ok got) = refl
+completion_parsed place number process request replied.Fail = refl
+completion_parsed place number process request replied.Info = refl
 
 all_parsed : (place number entry : ℕ) (es : List Event) → Each IsParsedAgain (operations_from place number entry es)
 all_parsed place number entry [] = tt

@@ -7,7 +7,7 @@ use Rattle.jh_ops.specs.declared.call.Request.{Request}
 use Rattle.jh_ops.specs.declared.operation.Process.{Process}
 use Rattle.jh_ops.specs.declared.pairs.Pair.{Pair}
 use Rattle.jh_simnode.specs.declared.replicas.Reply.{Reply}
-use Rattle.jh_simnode.specs.declared.replicas.Reply.TheVariants as said
+use Rattle.jh_simnode.specs.declared.replicas.Reply.TheVariants as replied
 use Rattle.jh_simnode.specs.declared.events.Event.{Event}
 use Rattle.jh_ops.specs.declared.call.Call.TheVariants.{Client}
 use Rattle.jh_ops.specs.declared.call.Workload.{Workload}
@@ -27,9 +27,9 @@ own_pairs place (Event.Step step answer ∷ es) = own_pairs (place + 2) es
 own_pairs place (Event.Tick ∷ es) = own_pairs place es
 
 no_pair : (r : Reply) (process : Process) (place : ℕ) (after : List Operation) → pair_of (completion_kind r) process place after ≡ []
-no_pair (said.Ok got) process place after = refl
-no_pair said.Fail process place after = refl
-no_pair said.Info process place after = refl
+no_pair (replied.Ok got) process place after = refl
+no_pair replied.Fail process place after = refl
+no_pair replied.Info process place after = refl
 
 pub pairs_own : (place number entry : ℕ) (es : List Event) → pairs_from place (operations_from place number entry es) ≡ own_pairs place es
 pairs_own place number entry [] = refl

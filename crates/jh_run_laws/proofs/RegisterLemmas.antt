@@ -8,7 +8,7 @@ use Rattle.jh_ops.specs.declared.call.Workload.TheVariants.{Register}
 use Rattle.jh_ops.specs.declared.pairs.Pair.{Pair}
 use Rattle.jh_linear.specs.Calls.{IsLeastBad, bad_place}
 use Rattle.jh_simnode.specs.declared.replicas.Got.{Got}
-use Rattle.jh_simnode.specs.declared.replicas.Reply.TheVariants as said
+use Rattle.jh_simnode.specs.declared.replicas.Reply.TheVariants as replied
 use Rattle.jh_simnode.specs.declared.events.Event.{Event}
 use Rattle.jh_simnode.specs.Histories.{journal_history}
 use Rattle.jh_run_laws.specs.OwnHistory.{CallsFit, RepliesFit}
@@ -18,12 +18,12 @@ abbrev NotBad : List Operation → Pair → Type 0
 NotBad history pair = bad_place history pair ≡ None
 
 parsed : FromCall Register NotBad
-parsed history place number process Read (said.Ok (Got.One None)) here there suits fits = rw (here, there) refl
-parsed history place number process Read (said.Ok (Got.One (Some z))) here there suits fits = rw (here, there) refl
-parsed history place number process Read (said.Ok (Got.Many xs)) here there suits fits = absurd fits
-parsed history place number process Read (said.Ok Got.Nothing) here there suits fits = absurd fits
-parsed history place number process Read said.Fail here there suits fits = rw (here, there) refl
-parsed history place number process Read said.Info here there suits fits = rw (here, there) refl
+parsed history place number process Read (replied.Ok (Got.One None)) here there suits fits = rw (here, there) refl
+parsed history place number process Read (replied.Ok (Got.One (Some z))) here there suits fits = rw (here, there) refl
+parsed history place number process Read (replied.Ok (Got.Many xs)) here there suits fits = absurd fits
+parsed history place number process Read (replied.Ok Got.Nothing) here there suits fits = absurd fits
+parsed history place number process Read replied.Fail here there suits fits = rw (here, there) refl
+parsed history place number process Read replied.Info here there suits fits = rw (here, there) refl
 parsed history place number process (Write v) reply here there suits fits = rw here refl
 parsed history place number process (Cas a b) reply here there suits fits = rw here refl
 parsed history place number process (Add v) reply here there suits fits = absurd cc

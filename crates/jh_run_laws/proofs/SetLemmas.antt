@@ -11,7 +11,7 @@ use Rattle.jh_ops.specs.declared.operation.Kind.{Kind}
 use Rattle.jh_check.specs.SetResults.{elements_shown, final_read}
 use Rattle.jh_simnode.specs.declared.replicas.Got.{Got}
 use Rattle.jh_simnode.specs.declared.replicas.Reply.{Reply}
-use Rattle.jh_simnode.specs.declared.replicas.Reply.TheVariants as said
+use Rattle.jh_simnode.specs.declared.replicas.Reply.TheVariants as replied
 use Rattle.jh_simnode.specs.declared.events.Event.{Event}
 use Rattle.jh_simnode.specs.Histories.{placed_completion, journal_history, operations_from}
 use Rattle.jh_run_laws.specs.OwnHistory.{RepliesFit, ReplyFits}
@@ -22,23 +22,23 @@ abbrev Shows : Operation → Type 0
 Shows op = is_asked Kind.Ok (codes "read") op ≡ true → elements_shown op.value ≡ None → ⊥
 
 completion_shows : (place number process : ℕ) (request : Request) (reply : Reply) → ReplyFits Set request reply → Shows (placed_completion place number process request reply)
-completion_shows place number process Read (said.Ok (Got.Many xs)) fits asked none = absurd cc
-completion_shows place number process Read (said.Ok (Got.One x)) fits asked none = absurd fits
-completion_shows place number process Read (said.Ok Got.Nothing) fits asked none = absurd fits
-completion_shows place number process Read said.Fail fits asked none = absurd cc
-completion_shows place number process Read said.Info fits asked none = absurd cc
-completion_shows place number process (Write v) (said.Ok got) fits asked none = absurd cc
-completion_shows place number process (Write v) said.Fail fits asked none = absurd cc
-completion_shows place number process (Write v) said.Info fits asked none = absurd cc
-completion_shows place number process (Cas a b) (said.Ok got) fits asked none = absurd cc
-completion_shows place number process (Cas a b) said.Fail fits asked none = absurd cc
-completion_shows place number process (Cas a b) said.Info fits asked none = absurd cc
-completion_shows place number process (Add v) (said.Ok got) fits asked none = absurd cc
-completion_shows place number process (Add v) said.Fail fits asked none = absurd cc
-completion_shows place number process (Add v) said.Info fits asked none = absurd cc
-completion_shows place number process Generate (said.Ok got) fits asked none = absurd cc
-completion_shows place number process Generate said.Fail fits asked none = absurd cc
-completion_shows place number process Generate said.Info fits asked none = absurd cc
+completion_shows place number process Read (replied.Ok (Got.Many xs)) fits asked none = absurd cc
+completion_shows place number process Read (replied.Ok (Got.One x)) fits asked none = absurd fits
+completion_shows place number process Read (replied.Ok Got.Nothing) fits asked none = absurd fits
+completion_shows place number process Read replied.Fail fits asked none = absurd cc
+completion_shows place number process Read replied.Info fits asked none = absurd cc
+completion_shows place number process (Write v) (replied.Ok got) fits asked none = absurd cc
+completion_shows place number process (Write v) replied.Fail fits asked none = absurd cc
+completion_shows place number process (Write v) replied.Info fits asked none = absurd cc
+completion_shows place number process (Cas a b) (replied.Ok got) fits asked none = absurd cc
+completion_shows place number process (Cas a b) replied.Fail fits asked none = absurd cc
+completion_shows place number process (Cas a b) replied.Info fits asked none = absurd cc
+completion_shows place number process (Add v) (replied.Ok got) fits asked none = absurd cc
+completion_shows place number process (Add v) replied.Fail fits asked none = absurd cc
+completion_shows place number process (Add v) replied.Info fits asked none = absurd cc
+completion_shows place number process Generate (replied.Ok got) fits asked none = absurd cc
+completion_shows place number process Generate replied.Fail fits asked none = absurd cc
+completion_shows place number process Generate replied.Info fits asked none = absurd cc
 
 parsed_shows : (place number entry : ℕ) (es : List Event) → RepliesFit Set es → Each Shows (operations_from place number entry es)
 parsed_shows place number entry [] h = tt

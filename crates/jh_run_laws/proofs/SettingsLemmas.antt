@@ -30,9 +30,9 @@ one_document : (bytes : List ℕ) (d e : Members) → IsDocument bytes d → IsD
 one_document bytes d e h k = same_Some e d (sym k.1 ∙ h.1)
 
 one_start : TellsOne → (d : Members) (env other : EnvValue) → IsParsedStart d env → IsParsedStart d other → (other.names ≡ env.names) × AreSameCells env.start other.start
-one_start tells d env other h k =
+one_start decides d env other h k =
     let same : k.0 ≡ h.0 = held_once Key.Start d k.0 h.0 k.1 h.1 in
-    tells h.0 env.names other.names env.start other.start h.2 (subst (λ (x : Edn). IsTextOf x other.names other.start) same k.2)
+    decides h.0 env.names other.names env.start other.start h.2 (subst (λ (x : Edn). IsTextOf x other.names other.start) same k.2)
 
 one_generator : (d : Members) (g f : Generator) → IsParsedGenerator d g → IsParsedGenerator d f → g ≡ f
 one_generator d g f h k =
@@ -84,11 +84,11 @@ one_plan d p q mode other budget another a b named =
     }
 
 pub same_run : TellsOne → HasOneRun → SameSettingsGiveSameRun
-same_run tells once bytes p q mode other budget another ja jb ha hb h k run again =
+same_run decides once bytes p q mode other budget another ja jb ha hb h k run again =
     let d = h.0 in
     let b : AreSettings d q other another = subst (λ (e : Members). AreSettings e q other another) (one_document bytes d k.0 h.1 k.1) k.2 in
     let a = h.2 in
-    let start = one_start tells d p.env q.env a.start b.start in
+    let start = one_start decides d p.env q.env a.start b.start in
     let moved = subst (λ (r : PlanValue). IsSerialRun r ja ha) (one_plan d p q mode other budget another a b start.0) (serial_with p q.env start.0 start.1 ja ha run) in
     let same = once q ja jb ha hb moved again in
     (same_Some mode other (sym a.mode ∙ b.mode), same_Some budget another (sym a.budget ∙ b.budget), same.0, same.1)

@@ -17,7 +17,7 @@ use Rattle.jh_simnode.specs.declared.replicas.Contents.TheVariants.{One, Many}
 use Rattle.jh_simnode.specs.declared.replicas.Got.{Got}
 use Rattle.jh_simnode.specs.declared.replicas.Replica.{Replica}
 use Rattle.jh_simnode.specs.declared.replicas.Mark.TheVariants.{Version, Stamp}
-use Rattle.jh_simnode.specs.declared.replicas.Reply.TheVariants as said
+use Rattle.jh_simnode.specs.declared.replicas.Reply.TheVariants as reply_of
 use Rattle.jh_simnode.specs.declared.settings.Settings.{Settings}
 use Rattle.jh_simnode.specs.declared.settings.Store.{Store}
 use Rattle.jh_simnode.specs.declared.settings.Store.TheVariants.{Quorum, Lww, Local}
@@ -172,7 +172,7 @@ changed_shaped w c all best these k request contents fits t =
       | None ↦ λ h. (t, tt)
       | Some e ↦ λ h. (
         give_shaped w c (record { mark = Version (version_at all best + 1); contents = e.after }) all these h.0 t,
-        either (ReplyFits w request) (nat_lt k (quorum (length all))) said.Info (said.Ok e.got) (λ _. tt) (λ _. h.1),
+        either (ReplyFits w request) (nat_lt k (quorum (length all))) reply_of.Info (reply_of.Ok e.got) (λ _. tt) (λ _. h.1),
       )
     ] fits
 
@@ -184,7 +184,7 @@ local_served_fits w c all node request r n t =
     local_shaped w c all node request (replica_at all node).contents (effect_fits w request (replica_at all node).contents r (t.each node (rw t.sized n))) t
 
 read_served : (w : Workload) (c : ℕ) (all : List Replica) (place : ℕ) (request : Request) → is_read_request request ≡ true → place < c → AreShaped w c all
-    → IsServed w c request (reply_alone all (said.Ok (got_of (replica_at all place).contents)))
+    → IsServed w c request (reply_alone all (reply_of.Ok (got_of (replica_at all place).contents)))
 read_served w c all place Read r n t = (t, read_fits w (replica_at all place).contents (t.each place (rw t.sized n)))
 read_served w c all place (Write v) r n t = absurd cc
 read_served w c all place (Cas a b) r n t = absurd cc
@@ -202,10 +202,10 @@ quorum_served w c env all node request draw r t =
     let low : Below (length all) reached = below_filter (length all) _ (ordered_places (length all)) (all_places (length all)) in
     let near : Below (length all) answering = below_filter (length all) _ reached low in
     either (IsServed w c request) (is_read_request request) (quorum_read all answering) (quorum_write all reached (length answering) request)
-    (λ reads. either (IsServed w c request) (nat_lt (length answering) (quorum (length all))) (reply_alone all said.Fail) (reply_alone all (said.Ok (got_of (replica_at all (newest_place all answering)).contents)))
+    (λ reads. either (IsServed w c request) (nat_lt (length answering) (quorum (length all))) (reply_alone all reply_of.Fail) (reply_alone all (reply_of.Ok (got_of (replica_at all (newest_place all answering)).contents)))
     (λ _. (t, tt))
     (λ many. read_served w c all (newest_place all answering) request reads (rw (← t.sized) (newest_below (length all) all answering (some_of (length answering) (length all) many) near)) t))
-    (λ _. either (IsServed w c request) (nat_lt (length reached) (quorum (length all))) (reply_alone all said.Fail)
+    (λ _. either (IsServed w c request) (nat_lt (length reached) (quorum (length all))) (reply_alone all reply_of.Fail)
     (quorum_change all (newest_place all reached) reached (length answering) (effect request (replica_at all (newest_place all reached)).contents))
     (λ _. (t, tt))
     (λ many.
@@ -224,7 +224,7 @@ running_served Local w c env all number clock node request draw r n t = local_se
 in_served : (life : Life) (s : Settings) (c : ℕ) (env : Cells) (all : List Replica) (number : ℕ) (clock : ℤ) (node : ℕ) (request : Request) (draw : ℕ) → is_request_of request s.workload ≡ true → node < c → AreShaped s.workload c all
     → IsServed s.workload c request (reply_in life s env all number clock node request draw)
 in_served Running s c env all number clock node request draw r n t = running_served s.store s.workload c env all number clock node request draw r n t
-in_served Paused s c env all number clock node request draw r n t = (t, either (ReplyFits s.workload request) (only_asks request) said.Fail said.Info (λ _. tt) (λ _. tt))
+in_served Paused s c env all number clock node request draw r n t = (t, either (ReplyFits s.workload request) (only_asks request) reply_of.Fail reply_of.Info (λ _. tt) (λ _. tt))
 in_served Killed s c env all number clock node request draw r n t = (t, tt)
 
 at_served : (s : Settings) (c : ℕ) (env : Cells) (all : List Replica) (number node : ℕ) (request : Request) (draw : ℕ) (cell : Option NodeCell) → is_request_of request s.workload ≡ true → node < c → AreShaped s.workload c all
@@ -240,8 +240,8 @@ serve_fits s c env all number node request draw n t =
 
 -- ---- ticks and kills
 
-tell_shaped : (w : Workload) (c : ℕ) (env : Cells) (from : ℕ) (all : List Replica) (to : ℕ) → from < c → AreShaped w c all → AreShaped w c (replicas_after_sending env from all to)
-tell_shaped w c env from all to n t =
+sent_shaped : (w : Workload) (c : ℕ) (env : Cells) (from : ℕ) (all : List Replica) (to : ℕ) → from < c → AreShaped w c all → AreShaped w c (replicas_after_sending env from all to)
+sent_shaped w c env from all to n t =
     either (AreShaped w c) _ (set all to (replica_at all from)) all (λ _. set_shaped w c all to (replica_at all from) t (t.each from (rw t.sized n))) (λ _. t)
 
 ticked_shaped : (store : Store) (w : Workload) (c : ℕ) (env : Cells) (all : List Replica) → AreShaped w c all → AreShaped w c (replicas_after_tick store env all)
@@ -250,7 +250,7 @@ ticked_shaped Quorum w c env all t = t
 ticked_shaped Lww w c env all t =
     let n = length all in
     let low : Below c (ordered_places n) = rw t.sized (all_places c) in
-    fold_keeps (AreShaped w c) c (replicas_after_sending_all env n) (λ a from short k. fold_keeps (AreShaped w c) c (replicas_after_sending env from) (λ b to _ h. tell_shaped w c env from b to short h) a (ordered_places n) low k) all (ordered_places n) low t
+    fold_keeps (AreShaped w c) c (replicas_after_sending_all env n) (λ a from short k. fold_keeps (AreShaped w c) c (replicas_after_sending env from) (λ b to _ h. sent_shaped w c env from b to short h) a (ordered_places n) low k) all (ordered_places n) low t
 ticked_shaped Local w c env all t = t
 
 first_shaped : (w : Workload) (initial : Option ℤ) → IsShaped w (contents_of w initial)

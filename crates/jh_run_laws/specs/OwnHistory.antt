@@ -24,7 +24,7 @@ use Rattle.jh_simnode.specs.declared.replicas.Contents.{Contents}
 use Rattle.jh_simnode.specs.declared.replicas.Contents.TheVariants.{One, Many}
 use Rattle.jh_simnode.specs.declared.replicas.Got.{Got}
 use Rattle.jh_simnode.specs.declared.replicas.Reply.{Reply}
-use Rattle.jh_simnode.specs.declared.replicas.Reply.TheVariants as said
+use Rattle.jh_simnode.specs.declared.replicas.Reply.TheVariants as replied
 use Rattle.jh_simnode.specs.declared.events.Event.{Event}
 use Rattle.jh_simnode.specs.Counts.{process_after}
 
@@ -75,9 +75,9 @@ GotFits w Read got = FitsRead w got
 GotFits w _ got = Unit {0}
 
 abbrev pub ReplyFits : Workload → Request → Reply → Type 0
-ReplyFits w request (said.Ok got) = GotFits w request got
-ReplyFits w request said.Fail = Unit {0}
-ReplyFits w request said.Info = Unit {0}
+ReplyFits w request (replied.Ok got) = GotFits w request got
+ReplyFits w request replied.Fail = Unit {0}
+ReplyFits w request replied.Info = Unit {0}
 
 -- each reply of these events fits
 abbrev pub RepliesFit : Workload → List Event → Type 0

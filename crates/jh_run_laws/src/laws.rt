@@ -23,7 +23,7 @@ pub fn own_histories_are_judged()
 
 /// The lines that are printed of the history of a serial run are a text of that history, and of no
 /// other (`histories_read_back`): so whoever judges these lines judges that history.
-pub fn own_lines_tell()
+pub fn own_lines_are_text()
     ensures { OwnLinesAreText }
 {
     operation_lines_read_back()

@@ -144,14 +144,14 @@ made_so P answer (Ok fault) is holds = subst (λ a. IfOk a P) is holds
 made_so P answer (Err e) is holds = tt
 
 pub where_ok : {X E : Type 0} (P : X → Type 0) (F : E → Type 0) (answer : Result X E) → MatchResult answer P F → IfOk answer P
-where_ok P F (Ok fault) told = told
-where_ok P F (Err e) told = tt
+where_ok P F (Ok fault) given = given
+where_ok P F (Err e) given = tt
 
 -- where no other refusal comes than that of memory
 pub only_memory : {X E : Type 0} {memory : E} (P : X → Type 0) (F : E → Type 0) (answer : Result X E)
     → ((e : E) → F e → e ≡ memory) → MatchResult answer P F → IfErr answer (λ e. e ≡ memory)
-only_memory P F (Ok fault) only told = tt
-only_memory P F (Err e) only told = only e told
+only_memory P F (Ok fault) only given = tt
+only_memory P F (Err e) only given = only e given
 
 -- the nodes that are taken from an order
 pub taken_nodes : (n k : ℕ) (order : List ℕ) → IsPermutation (node_places n) order → k ≤ n → AreNodesOf n (take k order)

@@ -9,6 +9,6 @@ use Rattle.jh_settings.specs.Parsed.{IsParsedGenerator}
 use Rattle.jh_settings.specs.declared.keys.Key.{Key}
 use Rattle.jh_settings.proofs.ElementLemmas.{held_once, none_not}
 
-pub tells_no_generator : (document : Members) (x : Edn) → HoldsElement Key.Generator document x → parsed_generator x ≡ None → ((g : Generator) × IsParsedGenerator document g) → ⊥
-tells_no_generator document x held none h =
+pub means_no_generator : (document : Members) (x : Edn) → HoldsElement Key.Generator document x → parsed_generator x ≡ None → ((g : Generator) × IsParsedGenerator document g) → ⊥
+means_no_generator document x held none h =
     none_not h.0 (sym none ∙ ap parsed_generator (held_once Key.Generator document x h.1.0 held h.1.1) ∙ h.1.2)

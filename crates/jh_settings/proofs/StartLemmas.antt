@@ -58,20 +58,20 @@ bad_name xs refused good = true≢false (sym (good refused.0 refused.1 refused.2
 second_name : (xs : List (List ℕ)) → RefusesSomeName xs names.DuplicateName → AreNodeNames xs → ⊥
 second_name xs refused good = true≢false (sym refused.5.1 ∙ (good refused.0 refused.1 refused.2 refused.3).1)
 
-pub tells_none : (value : Edn) (e : EnvTextError) → RefusesEnvText value e → (e ≡ OutOfMemory → ⊥) → (xs : List (List ℕ)) (cells : Table) → IsTextOf value xs cells → ⊥
-tells_none value NotMap h memory xs cells parsed = no_keys value NotMap xs cells h parsed
-tells_none value UnknownKey h memory xs cells parsed = no_keys value UnknownKey xs cells h parsed
-tells_none value MissingNodes h memory xs cells parsed = no_keys value MissingNodes xs cells h parsed
-tells_none value BadEntry h memory xs cells parsed = no_entries value h.0 xs cells h.1 h.2 parsed
-tells_none value NoNodes h memory xs cells parsed = no_names value names.NoNodes xs cells h parsed (λ none few good. omega (arith, ap length none, few.0))
-tells_none value TooManyNodes h memory xs cells parsed = no_names value names.TooManyNodes xs cells h parsed (λ many few good. omega (arith, many, few.1))
-tells_none value BadName h memory xs cells parsed = no_names value names.BadName xs cells h parsed (λ bad few good. bad_name xs bad.1 good)
-tells_none value DuplicateName h memory xs cells parsed = no_names value names.DuplicateName xs cells h parsed (λ twice few good. second_name xs twice.1 good)
-tells_none value UnknownNode h memory xs cells parsed = no_entry value UnknownNode xs cells h parsed
-tells_none value SelfLink h memory xs cells parsed = no_entry value SelfLink xs cells h parsed
-tells_none value BadAmount h memory xs cells parsed = no_entry value BadAmount xs cells h parsed
-tells_none value RepeatedEntry h memory xs cells parsed = no_entry value RepeatedEntry xs cells h parsed
-tells_none value OutOfMemory h memory xs cells parsed = absurd (memory refl)
+pub means_none : (value : Edn) (e : EnvTextError) → RefusesEnvText value e → (e ≡ OutOfMemory → ⊥) → (xs : List (List ℕ)) (cells : Table) → IsTextOf value xs cells → ⊥
+means_none value NotMap h memory xs cells parsed = no_keys value NotMap xs cells h parsed
+means_none value UnknownKey h memory xs cells parsed = no_keys value UnknownKey xs cells h parsed
+means_none value MissingNodes h memory xs cells parsed = no_keys value MissingNodes xs cells h parsed
+means_none value BadEntry h memory xs cells parsed = no_entries value h.0 xs cells h.1 h.2 parsed
+means_none value NoNodes h memory xs cells parsed = no_names value names.NoNodes xs cells h parsed (λ none few good. omega (arith, ap length none, few.0))
+means_none value TooManyNodes h memory xs cells parsed = no_names value names.TooManyNodes xs cells h parsed (λ many few good. omega (arith, many, few.1))
+means_none value BadName h memory xs cells parsed = no_names value names.BadName xs cells h parsed (λ bad few good. bad_name xs bad.1 good)
+means_none value DuplicateName h memory xs cells parsed = no_names value names.DuplicateName xs cells h parsed (λ twice few good. second_name xs twice.1 good)
+means_none value UnknownNode h memory xs cells parsed = no_entry value UnknownNode xs cells h parsed
+means_none value SelfLink h memory xs cells parsed = no_entry value SelfLink xs cells h parsed
+means_none value BadAmount h memory xs cells parsed = no_entry value BadAmount xs cells h parsed
+means_none value RepeatedEntry h memory xs cells parsed = no_entry value RepeatedEntry xs cells h parsed
+means_none value OutOfMemory h memory xs cells parsed = absurd (memory refl)
 
 none_starts : (document : Members) (x : Edn) → HoldsElement Key.Start document x → ((names : List (List ℕ)) (cells : Table) → IsTextOf x names cells → ⊥) → ((env : EnvValue) × IsParsedStart document env) → ⊥
 none_starts document x held none start =
@@ -79,18 +79,18 @@ none_starts document x held none start =
     none start.0.names start.0.start (subst (λ y. IsTextOf y start.0.names start.0.start) same start.1.2)
 
 pub start_refused : (document : Members) (x : Edn) → HoldsElement Key.Start document x → (e : EnvTextError) → RefusesEnvText x e → RefusesValue ((env : EnvValue) × IsParsedStart document env) Key.Start (start_refusal e)
-start_refused document x held NotMap h = (refl, none_starts document x held (tells_none x NotMap h (λ e. cc)))
-start_refused document x held UnknownKey h = (refl, none_starts document x held (tells_none x UnknownKey h (λ e. cc)))
-start_refused document x held MissingNodes h = (refl, none_starts document x held (tells_none x MissingNodes h (λ e. cc)))
-start_refused document x held BadEntry h = (refl, none_starts document x held (tells_none x BadEntry h (λ e. cc)))
-start_refused document x held NoNodes h = (refl, none_starts document x held (tells_none x NoNodes h (λ e. cc)))
-start_refused document x held TooManyNodes h = (refl, none_starts document x held (tells_none x TooManyNodes h (λ e. cc)))
-start_refused document x held BadName h = (refl, none_starts document x held (tells_none x BadName h (λ e. cc)))
-start_refused document x held DuplicateName h = (refl, none_starts document x held (tells_none x DuplicateName h (λ e. cc)))
-start_refused document x held UnknownNode h = (refl, none_starts document x held (tells_none x UnknownNode h (λ e. cc)))
-start_refused document x held SelfLink h = (refl, none_starts document x held (tells_none x SelfLink h (λ e. cc)))
-start_refused document x held BadAmount h = (refl, none_starts document x held (tells_none x BadAmount h (λ e. cc)))
-start_refused document x held RepeatedEntry h = (refl, none_starts document x held (tells_none x RepeatedEntry h (λ e. cc)))
+start_refused document x held NotMap h = (refl, none_starts document x held (means_none x NotMap h (λ e. cc)))
+start_refused document x held UnknownKey h = (refl, none_starts document x held (means_none x UnknownKey h (λ e. cc)))
+start_refused document x held MissingNodes h = (refl, none_starts document x held (means_none x MissingNodes h (λ e. cc)))
+start_refused document x held BadEntry h = (refl, none_starts document x held (means_none x BadEntry h (λ e. cc)))
+start_refused document x held NoNodes h = (refl, none_starts document x held (means_none x NoNodes h (λ e. cc)))
+start_refused document x held TooManyNodes h = (refl, none_starts document x held (means_none x TooManyNodes h (λ e. cc)))
+start_refused document x held BadName h = (refl, none_starts document x held (means_none x BadName h (λ e. cc)))
+start_refused document x held DuplicateName h = (refl, none_starts document x held (means_none x DuplicateName h (λ e. cc)))
+start_refused document x held UnknownNode h = (refl, none_starts document x held (means_none x UnknownNode h (λ e. cc)))
+start_refused document x held SelfLink h = (refl, none_starts document x held (means_none x SelfLink h (λ e. cc)))
+start_refused document x held BadAmount h = (refl, none_starts document x held (means_none x BadAmount h (λ e. cc)))
+start_refused document x held RepeatedEntry h = (refl, none_starts document x held (means_none x RepeatedEntry h (λ e. cc)))
 start_refused document x held OutOfMemory h = tt
 
 -- a document means one list of nodes at the start

@@ -19,7 +19,7 @@ fn has_all(schedule: &Schedule, needed: &[u32]) -> bool {
 }
 
 /// What became of a schedule, and what is left of it.
-fn told(alloc: Global, shrunk: &Shrunk) -> Option<String> {
+fn given(alloc: Global, shrunk: &Shrunk) -> Option<String> {
     let (kind, schedule) = match shrunk {
         Shrunk::Minimal(schedule) => ("minimal", schedule),
         Shrunk::Budget(schedule) => ("budget", schedule),
@@ -33,7 +33,7 @@ fn told(alloc: Global, shrunk: &Shrunk) -> Option<String> {
 fn shrunk(alloc: Global, count: u32, needed: &[u32], budget: u64) -> Option<String> {
     let judge = |schedule: &Schedule| Some(has_all(schedule, needed));
     let shrunk = shrink(alloc, schedule(alloc, count)?, judge, budget).ok()?;
-    told(alloc, &shrunk)
+    given(alloc, &shrunk)
 }
 
 /// How many entries, which are needed, how often the judge may be asked, and what becomes of them.
@@ -53,12 +53,12 @@ static CASES: [(u32, &[u32], u64, &str); 9] = [
 #[test]
 fn schedules_are_made_small(rt: HostRuntime) {
     for (count, needed, budget, wanted) in CASES.iter() {
-        let told = match shrunk(rt.alloc(), *count, needed, *budget) {
+        let given = match shrunk(rt.alloc(), *count, needed, *budget) {
             None => shrunk(rt.alloc(), *count, needed, *budget),
-            told => told,
+            given => given,
         };
         assert!(rt;
-            told.is_some_and(|told| told.as_str() == *wanted),
+            given.is_some_and(|given| given.as_str() == *wanted),
             "{wanted}"
         );
     }

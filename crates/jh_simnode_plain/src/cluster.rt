@@ -174,12 +174,12 @@ impl PlainCluster {
 
     /// A change of a node's own replica, which goes to the nodes that are told of it and have an
     /// older one.
-    fn change_own(&mut self, asked: &Asked, time: i128, told: &[usize]) -> Option<PlainReply> {
+    fn change_own(&mut self, asked: &Asked, time: i128, given: &[usize]) -> Option<PlainReply> {
         let Some(held) = self.after(asked, asked.at)? else {
             return Some(PlainReply::Fail);
         };
         let reply = got(self.alloc, asked.request, self.held(asked.at)?)?;
-        for place in told {
+        for place in given {
             if asked.request != Request::Read && self.is_older(*place, time, asked.at)? {
                 self.keep(*place, time, asked.at, held.as_slice())?;
             }
@@ -234,7 +234,7 @@ impl PlainCluster {
 
     /// One node tells another what it has, where both run and the link is not cut: the other takes
     /// it where its own is older.
-    fn tell(&mut self, env: &Env, from: usize, to: usize) -> Option<()> {
+    fn send(&mut self, env: &Env, from: usize, to: usize) -> Option<()> {
         let is_running = process(env, from)? == Life::Running && process(env, to)? == Life::Running;
         if from == to || !is_running || link(env, from, to)?.cut {
             return Some(());
@@ -254,7 +254,7 @@ impl PlainCluster {
         if self.settings.store == Store::Lww {
             for from in 0..count {
                 for to in 0..count {
-                    self.tell(env, from, to)?;
+                    self.send(env, from, to)?;
                 }
             }
         }

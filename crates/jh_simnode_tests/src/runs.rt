@@ -192,6 +192,6 @@ const RUNS: &str = r#"
 "#;
 
 #[test]
-fn runs_tell_their_histories(rt: HostRuntime) -> Result<(), Fail> {
+fn runs_give_their_histories(rt: HostRuntime) -> Result<(), Fail> {
     ask_all(rt.alloc(), Kind::Run, RUNS)
 }

@@ -41,7 +41,7 @@ mode = "threads"
 → 100000 Threads; 1 nodes Lww false Set None; 2 1000 0 4096 0; Forever(Client(Read));"#;
 
 #[test]
-fn documents_tell_settings(rt: HostRuntime) -> Result<(), Fail> {
+fn documents_mean_settings(rt: HostRuntime) -> Result<(), Fail> {
     ask_all(rt.alloc(), Kind::Document, DOCUMENTS)
 }
 

@@ -9,8 +9,8 @@ use Rattle.jh_slots.specs.Steps.{view_knowing, view_noting, view_peeked, view_ga
 use Rattle.jh_slots.specs.Reading.{IsSeenAgain}
 use Rattle.jh_slots.proofs.SeatLemmas.{seat_saw, seat_note, cap_is}
 
-pub status_told : (n rows : ℕ) (v : View) (row : ℕ) → IsSeat n v → n ≡ 1 + 6 * rows → 1 + (5 * rows + row) ≡ status_at v.cap row
-status_told n rows v row s e = ap (λ k. 1 + (5 * k + row)) (sym (cap_is n rows v s e))
+pub status_place : (n rows : ℕ) (v : View) (row : ℕ) → IsSeat n v → n ≡ 1 + 6 * rows → 1 + (5 * rows + row) ≡ status_at v.cap row
+status_place n rows v row s e = ap (λ k. 1 + (5 * k + row)) (sym (cap_is n rows v s e))
 
 -- what the load of a row's status told
 abbrev pub Told : View → View → ℕ → ℕ → Type 0
@@ -80,12 +80,12 @@ read_stay k v row len ws s lt = by (length ws == len)
 pub reads_on : (v y z : View) (row len place word x : ℕ) (buffer : List ℕ) → y ≡ view_reading v row len (take place buffer) → place < len → len ≤ length buffer → word ≡ place_at row place
     → ((n : Note) → y.note ≡ Some n → length n.words < n.len → word ≡ place_at n.row (length n.words) → (z ≡ view_gathered x n y) × (length n.words + 1 ≡ n.len → (m : Mark) → map.get y.knows.seen n.row ≡ Some m → m ≡ Words (n.words ++ x ∷ [])))
     → (z ≡ view_reading v row len (take (place + 1) (set buffer place x))) × (place + 1 ≡ len → IsSeenAgain v.knows row (Words (take (place + 1) (set buffer place x))))
-reads_on v y z row len place word x buffer is lt fit at told =
+reads_on v y z row len place word x buffer is lt fit at given =
     let ws : List ℕ = take place buffer in
     let k : length ws ≡ place = length-take-le place buffer (omega arith) in
     let n : Note = record { row = row; len = len; words = ws } in
     let less : length ws < len = omega arith in
-    let t = told n (ap (λ (u : View). u.note) is) less (at ∙ ap (place_at row) (sym k)) in
+    let t = given n (ap (λ (u : View). u.note) is) less (at ∙ ap (place_at row) (sym k)) in
     let more : take (place + 1) (set buffer place x) ≡ ws ++ x ∷ [] = take_more_set buffer place x (omega arith) in (
       t.0 ∙ (ap (view_gathered x n) is ∙ (goes_on v row len x ws less ∙ ap (view_reading v row len) (sym more))),
       λ last m e. t.1 (omega arith) m (ap (λ (u : View). map.get u.knows.seen row) is ∙ (ap (λ (u : Knowledge). map.get u.seen row) (partial v row len ws less) ∙ e)) ∙ ap Words (sym more),

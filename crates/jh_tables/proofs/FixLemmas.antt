@@ -140,9 +140,9 @@ delay_last a b delay (x ∷ xs) order stamp ms links (suc k) h at named all =
     (each_tail (λ s _ ls. names_link ls a b ≡ true → s ≤ stamp) x xs all)
 
 -- the entries give the delay that the faults fix
-pub delay_told : (n a b delay : ℕ) (entries : List (Option FixEntry)) (stamped : List (ℕ × FaultValue)) → a < n → b < n
+pub delay_is_over : (n a b delay : ℕ) (entries : List (Option FixEntry)) (stamped : List (ℕ × FaultValue)) → a < n → b < n
     → AreEntries n entries stamped → AreInOrder stamped → delay_fixed (latest_fix a b entries) delay ≡ fold (delay_after_fault a b) delay (faults_of stamped)
-delay_told n a b delay entries stamped ha hb are order =
+delay_is_over n a b delay entries stamped ha hb are order =
     elim (latest_fix a b entries) as (λ o. IsLatest a b entries o → delay_fixed o delay ≡ fold (delay_after_fault a b) delay (faults_of stamped)) [
       | None ↦ λ latest. sym (delay_stays a b delay stamped (λ stamp ms links among named.
           let found = are.all stamp ms links among in

@@ -67,8 +67,8 @@ module _ (n a b start : ℕ) (losses : List ℕ) (faults : List FaultValue) (rig
       omega (arith, held, least, same)
 
   -- the counts give the greatest level of the faults
-  pub level_told : greatest_level losses start ≡ over
-  level_told =
+  pub level_is_over : greatest_level losses start ≡ over
+  level_is_over =
       let most = max_bound (level_held losses) start over (range_with_len 0 20) (max_start (loss_by a b) start faults)
       (All-from_get_or (λ i. level_held losses i ≤ over) (range_with_len 0 20) 0 (λ i h.
       let below : i < 20 = rw (length-range_with_len 0 20) at h in

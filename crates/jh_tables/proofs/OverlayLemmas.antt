@@ -17,8 +17,8 @@ use Rattle.jh_tables.specs.Overlay.{IsOverlay, link_over, node_over, cuts, kills
 use Rattle.jh_tables.specs.Tallies.{Tallies, calm_tally, running_tally, latest_fix, link_now, node_now, link_of_place, cells_now, cells_at_start}
 use Rattle.jh_tables.specs.Standing.{AreTallies, AreEntries, AreInOrder, IsLinkTally, IsNodeTally, faults_of}
 use Rattle.jh_tables.proofs.CountLemmas.{some_counted, total_from}
-use Rattle.jh_tables.proofs.FixLemmas.{delay_told}
-use Rattle.jh_tables.proofs.LevelLemmas.{level_told}
+use Rattle.jh_tables.proofs.FixLemmas.{delay_is_over}
+use Rattle.jh_tables.proofs.LevelLemmas.{level_is_over}
 
 same_link_cell : (c d : Bool) (m n s t : ℕ) → c ≡ d → m ≡ n → s ≡ t → (let l : Link = record { cut = c; delay = m; loss = s } in l) ≡ record { cut = d; delay = n; loss = t }
 same_link_cell c d m n s t p q r = rw (p, q, r) refl
@@ -52,26 +52,26 @@ module _ (t : Tallies) (stamped : List (ℕ × FaultValue)) (are : AreTallies (l
   abbrev faults : List FaultValue
   faults = faults_of stamped
 
-  link_told : (a b : ℕ) → a < length t.nodes → b < length t.nodes
+  link_is_over : (a b : ℕ) → a < length t.nodes → b < length t.nodes
       → (let tally = get_or t.links (a * length t.nodes + b) calm_tally in link_now tally (latest_fix a b t.fixes) ≡ link_over faults a b tally.start)
-  link_told a b ha hb =
+  link_is_over a b ha hb =
       let tally = get_or t.links (a * length t.nodes + b) calm_tally in
       let is : IsLinkTally a b faults tally = are.links a b ha hb in
       same_link_cell _ _ _ _ _ _
       (ap (λ s. tally.start.cut || s) (ap (nat_lt 0) is.cuts ∙ some_counted (cuts a b) faults))
-      (rw (delay_told (length t.nodes) a b tally.start.delay t.fixes stamped ha hb entries order, is.slowed) refl)
-      (level_told (length t.nodes) a b tally.start.loss tally.losses faults are.right is.losses)
+      (rw (delay_is_over (length t.nodes) a b tally.start.delay t.fixes stamped ha hb entries order, is.slowed) refl)
+      (level_is_over (length t.nodes) a b tally.start.loss tally.losses faults are.right is.losses)
 
-  node_told : (a : ℕ) → a < length t.nodes → (let tally = get_or t.nodes a running_tally in node_now tally ≡ node_over faults a tally.start)
-  node_told a ha =
+  node_is_over : (a : ℕ) → a < length t.nodes → (let tally = get_or t.nodes a running_tally in node_now tally ≡ node_over faults a tally.start)
+  node_is_over a ha =
       let tally = get_or t.nodes a running_tally in
       let is : IsNodeTally a faults tally = are.nodes a ha in
       same_node_cell _ _ _ _
       (rw (is.kills, is.pauses, some_counted (kills a) faults, some_counted (pauses a) faults) refl)
       (rw is.bumped (sym (total_from (bump_by a) tally.start.clock faults)))
 
-  pub cells_told : length t.links ≡ length t.nodes * length t.nodes → IsOverlay (cells_at_start t) faults (cells_now t)
-  cells_told square = record {
+  pub cells_are_overlay : length t.links ≡ length t.nodes * length t.nodes → IsOverlay (cells_at_start t) faults (cells_now t)
+  cells_are_overlay square = record {
     links = λ a b. rw (length-map t.nodes, length-map t.nodes)
         (elim (nat_lt a (length t.nodes) && (nat_lt b (length t.nodes) && not (a == b)))
         as (λ s. (nat_lt a (length t.nodes) && (nat_lt b (length t.nodes) && not (a == b))) ≡ s
@@ -85,7 +85,7 @@ module _ (t : Tallies) (stamped : List (ℕ × FaultValue)) (are : AreTallies (l
               let below : a * n + b < length t.links = rw square (mul-add-lt a n b n ha hb) in
               let start : get_or (cells_at_start t).links (a * n + b) calm_link ≡ (get_or t.links (a * n + b) calm_tally).start =
               get_or-map (λ (x : LinkTally). x.start) t.links (a * n + b) calm_tally calm_link below in
-              ap Some (link_read t square a b ha hb ∙ link_told a b ha hb ∙ ap (link_over faults a b) (sym start))
+              ap Some (link_read t square a b ha hb ∙ link_is_over a b ha hb ∙ ap (link_over faults a b) (sym start))
           | false ↦ λ s. refl
         ] refl);
     nodes = λ a. slice_get-map node_now t.nodes a
@@ -93,7 +93,7 @@ module _ (t : Tallies) (stamped : List (ℕ × FaultValue)) (are : AreTallies (l
           | Some x ↦ λ s.
               let ha : a < length t.nodes = slice_get_within t.nodes a x s in
               let same : get_or t.nodes a running_tally ≡ x = same_Some (get_or t.nodes a running_tally) x (sym (slice_get-get_or t.nodes a running_tally ha) ∙ s) in
-              ap Some (subst (λ y. node_now y ≡ node_over faults a y.start) same (node_told a ha))
+              ap Some (subst (λ y. node_now y ≡ node_over faults a y.start) same (node_is_over a ha))
           | None ↦ λ s. refl
         ] refl
         ∙ ap (option_map (node_over faults a)) (sym (slice_get-map (λ (x : NodeTally). x.start) t.nodes a));

@@ -16,7 +16,7 @@ use Rattle.jh_tables.specs.Faults.{IsFault, FitsCount}
 use Rattle.jh_tables.specs.Tallies.{Tallies, calm_tally, running_tally, cells_at_start, faultless_tallies, fresh_link, fresh_node}
 use Rattle.jh_tables.specs.Standing.{AreEntries, AreTallies, StandsAt}
 use Rattle.jh_tables.specs.TablesInside.{HasFixAmount}
-use Rattle.jh_tables.proofs.OverlayLemmas.{cells_told}
+use Rattle.jh_tables.proofs.OverlayLemmas.{cells_are_overlay}
 use Rattle.jh_tables.proofs.WholeLemmas.{tables_of}
 
 none_used : (n : ℕ) → count_by is_some (replicate n (let none : Option FixEntry = None in none)) ≡ 0
@@ -75,7 +75,7 @@ module _ (links : List Link) (nodes : List NodeCell) (square : length links ≡ 
     laid = refl;
     tallies = fresh_tallies;
     entries = fresh_entries;
-    cells = cells_told t [] fresh_tallies fresh_entries (λ i j d p q. absurd (omega (arith, q))) fresh_square;
+    cells = cells_are_overlay t [] fresh_tallies fresh_entries (λ i j d p q. absurd (omega (arith, q))) fresh_square;
   }
 
   links_again : (ls : List Link) → map (λ (l : LinkTally). l.start) (map fresh_link ls) ≡ ls

@@ -18,7 +18,7 @@ use Rattle.jh_tables.specs.Standing.{TablesValue, AreEntries, AreInOrder, AreTal
 use Rattle.jh_tables.specs.TablesInside.{HasFixAmount}
 use Rattle.jh_tables.specs.TurningInside.{AreEntriesTurned, AreTurned}
 use Rattle.jh_tables.proofs.MiddleLemmas.{pairs_without, same_lists, all_middle}
-use Rattle.jh_tables.proofs.OverlayLemmas.{cells_told}
+use Rattle.jh_tables.proofs.OverlayLemmas.{cells_are_overlay}
 use Rattle.jh_tables.proofs.StandingLemmas.{stamped_from, stamped_to, faults_of_from, faults_of_to, entries_turned, used_turned}
 use Rattle.jh_tables.proofs.TallyLemmas.{faults_from, tallies_turned}
 
@@ -86,7 +86,7 @@ stands_turned turn stamp fault before after old new was laid few square right fi
       laid = long;
       tallies = tallies;
       entries = held;
-      cells = cells_told new (stamped_to turn before (stamp, fault) after) tallies held rising (square_stays turn fault old new are square);
+      cells = cells_are_overlay new (stamped_to turn before (stamp, fault) after) tallies held rising (square_stays turn fault old new are square);
     }
 
 -- there are as many entries as before

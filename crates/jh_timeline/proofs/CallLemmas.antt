@@ -33,26 +33,26 @@ drop_one (x ∷ xs) (suc i) op below same =
     let next : suc (i + 1) ≡ suc i + 1 = omega arith in
     drop_one xs i op (omega arith) same ∙ ap (λ m. operation op ∷ drop m (operations (x ∷ xs))) next
 
-abbrev said : Option ℕ → Option ℕ → Option Ahead
-said completion last = option_map (λ z. record { completion = completion; last = z }) last
+abbrev ahead_of : Option ℕ → Option ℕ → Option Ahead
+ahead_of completion last = option_map (λ z. record { completion = completion; last = z }) last
 
-said_more : (b : Bool) (completion last : Option ℕ) (kind : Kind) (i : ℕ)
-    → said (cond b (cond (is_invoke kind) None (Some i)) completion) (cond b (Some (unwrap_or last i)) last)
-    ≡ cond b (Some (ahead_with kind i (said completion last))) (said completion last)
-said_more true completion None kind i = refl
-said_more true completion (Some z) kind i = refl
-said_more false completion last kind i = refl
+ahead_is_more : (b : Bool) (completion last : Option ℕ) (kind : Kind) (i : ℕ)
+    → ahead_of (cond b (cond (is_invoke kind) None (Some i)) completion) (cond b (Some (unwrap_or last i)) last)
+    ≡ cond b (Some (ahead_with kind i (ahead_of completion last))) (ahead_of completion last)
+ahead_is_more true completion None kind i = refl
+ahead_is_more true completion (Some z) kind i = refl
+ahead_is_more false completion last kind i = refl
 
 ahead_more : (client number i : ℕ) (op : Operation) (ops : List Operation) → op.process ≡ Process.Client number
     → ahead_in client i (op ∷ ops) ≡ cond (eqb client number) (Some (ahead_with op.kind i (ahead_in client (i + 1) ops))) (ahead_in client (i + 1) ops)
 ahead_more client number i op ops is =
-    let whole = said_more (is_of_client client op.process) (completion_in client (i + 1) ops) (last_in client (i + 1) ops) op.kind i in
+    let whole = ahead_is_more (is_of_client client op.process) (completion_in client (i + 1) ops) (last_in client (i + 1) ops) op.kind i in
     whole ∙ ap (λ p. cond (is_of_client client p) (Some (ahead_with op.kind i (ahead_in client (i + 1) ops))) (ahead_in client (i + 1) ops)) is
 
 ahead_same : (client i : ℕ) (op : Operation) (ops : List Operation) → op.process ≡ Process.Nemesis
     → ahead_in client i (op ∷ ops) ≡ ahead_in client (i + 1) ops
 ahead_same client i op ops is =
-    let whole = said_more (is_of_client client op.process) (completion_in client (i + 1) ops) (last_in client (i + 1) ops) op.kind i in
+    let whole = ahead_is_more (is_of_client client op.process) (completion_in client (i + 1) ops) (last_in client (i + 1) ops) op.kind i in
     whole ∙ ap (λ p. cond (is_of_client client p) (Some (ahead_with op.kind i (ahead_in client (i + 1) ops))) (ahead_in client (i + 1) ops)) is
 
 none_step : (b : Bool) (x y : ℕ) (c l : Option ℕ) (k : Bool) → (l ≡ None → c ≡ None) → cond b (Some x) l ≡ None → cond b (cond k None (Some y)) c ≡ None
@@ -66,7 +66,7 @@ none_none client i (op ∷ ops) e =
     none_step (is_of_client client op.process) _ i (completion_in client (i + 1) ops) (last_in client (i + 1) ops) (is_invoke op.kind) (none_none client (i + 1) ops) e
 
 call_same : (client i : ℕ) (completion last : Option ℕ) → (last ≡ None → completion ≡ None)
-    → call_with client i (said completion last) ≡ record { client = client; invoke = i; completion = completion; last = unwrap_or last i }
+    → call_with client i (ahead_of completion last) ≡ record { client = client; invoke = i; completion = completion; last = unwrap_or last i }
 call_same client i completion None none = ap (λ (c : Option ℕ). let call : Call = record { client = client; invoke = i; completion = c; last = i } in call) (sym (none refl))
 call_same client i completion (Some z) none = refl
 

@@ -89,13 +89,13 @@ impl<L: Ledger> Counted<L> {
         draw: u64,
     ) -> Result<(u64, Reply), WorldError>
         ensures added { MatchResult result
-            (λ told. AddsEvent self.old.world
-            (Event.Call process node request draw told.1) told.0 self.new.world)
+            (λ given. AddsEvent self.old.world
+            (Event.Call process node request draw given.1) given.0 self.new.world)
             (λ e. (self.new.world ≡ self.old.world)
             × Refuses (node < length self.old.world.setup.names) self.old.world.journal e) }
         ensures accepted { OnOk result (mine.new.count ≡ mine.old.count + 1) }
         ensures refused { OnErr result (mine.new.count ≡ mine.old.count) }
-        ensures numbered { IfOk result (λ told. told.0 < max_events) }
+        ensures numbered { IfOk result (λ given. given.0 < max_events) }
     {
         let Counted {
             world,
@@ -103,11 +103,11 @@ impl<L: Ledger> Counted<L> {
             rest: _,
             left: _,
         } = self;
-        let told = world.call(process, node, request, draw)?;
+        let given = world.call(process, node, request, draw)?;
         // The journal bounds the book.
         let _events = world.journal();
         count_one(book, mine);
-        Ok(told)
+        Ok(given)
     }
 
     /// `World::step`, counted in a share.
@@ -117,12 +117,12 @@ impl<L: Ledger> Counted<L> {
         step: Step,
     ) -> Result<(u64, StepAnswer), WorldError>
         ensures added { MatchResult result
-            (λ told. AddsEvent self.old.world (Event.Step step told.1) told.0 self.new.world)
+            (λ given. AddsEvent self.old.world (Event.Step step given.1) given.0 self.new.world)
             (λ e. (self.new.world ≡ self.old.world)
             × Refuses (FitsNodes (length self.old.world.setup.names) step) self.old.world.journal e) }
         ensures accepted { OnOk result (mine.new.count ≡ mine.old.count + 1) }
         ensures refused { OnErr result (mine.new.count ≡ mine.old.count) }
-        ensures numbered { IfOk result (λ told. told.0 < max_events) }
+        ensures numbered { IfOk result (λ given. given.0 < max_events) }
     {
         let Counted {
             world,
@@ -130,16 +130,16 @@ impl<L: Ledger> Counted<L> {
             rest: _,
             left: _,
         } = self;
-        let told = world.step(step)?;
+        let given = world.step(step)?;
         let _events = world.journal();
         count_one(book, mine);
-        Ok(told)
+        Ok(given)
     }
 
     /// `World::tick`, counted in a share.
     fn tick(&mut self, mine: &mut WorldShare<L>) -> Result<u64, WorldError>
         ensures added { MatchResult result
-            (λ told. AddsEvent self.old.world Event.Tick told self.new.world)
+            (λ given. AddsEvent self.old.world Event.Tick given self.new.world)
             (λ e. (self.new.world ≡ self.old.world) × Refuses ⊤ self.old.world.journal e) }
         ensures accepted { OnOk result (mine.new.count ≡ mine.old.count + 1) }
         ensures refused { OnErr result (mine.new.count ≡ mine.old.count) }
@@ -150,10 +150,10 @@ impl<L: Ledger> Counted<L> {
             rest: _,
             left: _,
         } = self;
-        let told = world.tick()?;
+        let given = world.tick()?;
         let _events = world.journal();
         count_one(book, mine);
-        Ok(told)
+        Ok(given)
     }
 
     /// The world, once all shares are back.

@@ -46,7 +46,7 @@ pub trait Port {
     ) -> Result<(u64, Reply), WorldError>
         ensures accepted { OnOk result (Self.Share.total mine.new ≡ Self.Share.total mine.old + 1) }
         ensures refused { OnErr result (Self.Share.total mine.new ≡ Self.Share.total mine.old) }
-        ensures numbered { IfOk result (λ told. told.0 < max_events) };
+        ensures numbered { IfOk result (λ given. given.0 < max_events) };
 
     /// A step of the nemesis, as of `World::step`.
     fn step<R: Wait>(
@@ -57,7 +57,7 @@ pub trait Port {
     ) -> Result<(u64, StepAnswer), WorldError>
         ensures accepted { OnOk result (Self.Share.total mine.new ≡ Self.Share.total mine.old + 1) }
         ensures refused { OnErr result (Self.Share.total mine.new ≡ Self.Share.total mine.old) }
-        ensures numbered { IfOk result (λ told. told.0 < max_events) };
+        ensures numbered { IfOk result (λ given. given.0 < max_events) };
 
     /// A tick, as of `World::tick`.
     fn tick<R: Wait>(&self, rt: &R, mine: &mut Self::Share) -> Result<u64, WorldError>

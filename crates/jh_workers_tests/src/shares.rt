@@ -128,7 +128,7 @@ fn run_beside<L: Ledger + Send + Sync, R: Threads + Wait + Sync>(
     }
 }
 
-fn told_once<R: Threads + Wait + Sync>(
+fn given_once<R: Threads + Wait + Sync>(
     rt: &R,
     alloc: Global,
     clients: u32,
@@ -142,10 +142,10 @@ fn told_once<R: Threads + Wait + Sync>(
 #[test]
 fn each_thread_needs_a_share(rt: HostRuntime) {
     for (clients, wanted) in [(15, "an outcome"), (16, "thread failed")] {
-        let told = match told_once(&rt, rt.alloc(), clients) {
-            Some(told) if told == wanted => Some(told),
-            _ => told_once(&rt, rt.alloc(), clients),
+        let given = match given_once(&rt, rt.alloc(), clients) {
+            Some(given) if given == wanted => Some(given),
+            _ => given_once(&rt, rt.alloc(), clients),
         };
-        assert_eq!(rt; told, Some(wanted));
+        assert_eq!(rt; given, Some(wanted));
     }
 }

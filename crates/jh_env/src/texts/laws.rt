@@ -18,7 +18,7 @@ pub fn environments_read_back()
         → IsTextOf (text_of env) env.names (cells_of env) }
     ensures accepted { (value : Edn) (names : List (List ℕ)) (cells : Table) (e : EnvTextError)
         → IsTextOf value names cells → RefusesEnvText value e → e ≡ EnvTextError.OutOfMemory }
-    ensures tells_one { (value : Edn) (names others : List (List ℕ)) (cells more : Table)
+    ensures means_one { (value : Edn) (names others : List (List ℕ)) (cells more : Table)
         → IsTextOf value names cells → IsTextOf value others more → (others ≡ names)
         × AreSameCells cells more }
 {}

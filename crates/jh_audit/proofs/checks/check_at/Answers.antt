@@ -9,7 +9,7 @@ returns-then-not-is_new c =
     let op = c.index-history-place.result in
     let read = read_at c.args.history.now c.args.place op c.in-Some.form c.requires.place c.index-history-place.is c.in-Some.ensures.says in
     let no = not_from_Decides c.is_new.result c.is_new.ensures c.if-not-is_new.true in
-    (refl, (operation op, c.in-Some.form, read.0, read.1, (c.has_event.ensures.0 (search rules), c.tells_event.ensures.0 (search rules), no)))
+    (refl, (operation op, c.in-Some.form, read.0, read.1, (c.has_event.ensures.0 (search rules), c.completes_event.ensures.0 (search rules), no)))
 
 pub returns-then-not-is_paired : goal.returns-then-not-is_paired
 returns-then-not-is_paired c =
@@ -22,7 +22,7 @@ returns-then-not-is_paired c =
         c.in-Some.form,
         read.0,
         read.1,
-        (c.has_event.ensures.0 (search rules), c.tells_event.ensures.0 (search rules), c.is_new.ensures.0 (search rules), no),
+        (c.has_event.ensures.0 (search rules), c.completes_event.ensures.0 (search rules), c.is_new.ensures.0 (search rules), no),
       ),
     )
 
@@ -39,7 +39,7 @@ returns-then-not-is_in_order c =
         read.1,
         (
           c.has_event.ensures.0 (search rules),
-          c.tells_event.ensures.0 (search rules),
+          c.completes_event.ensures.0 (search rules),
           c.is_new.ensures.0 (search rules),
           c.is_paired.ensures.0 (search rules),
           no,
@@ -58,7 +58,7 @@ returns c =
       at = read.0;
       says = read.1;
       has_event = c.has_event.ensures.0 (search rules);
-      tells = c.tells_event.ensures.0 (search rules);
+      completes = c.completes_event.ensures.0 (search rules);
       new = c.is_new.ensures.0 (search rules);
       paired = c.is_paired.ensures.0 (search rules);
       in_order = c.is_in_order.ensures.0 (search rules);

@@ -1,6 +1,6 @@
 use Rattle.std.proofs.lemmas.Bool.{false≢true}
 use Rattle.jh_ops.specs.Operation.{operation, operations}
-use Rattle.jh_audit.proofs.AuditLemmas.{op_at, over_at, over_said}
+use Rattle.jh_audit.proofs.AuditLemmas.{op_at, over_at, over_form}
 use Rattle.jh_audit.proofs.checks.is_over_at.Goals as goal
 
 pub returns-in-Some : goal.returns-in-Some
@@ -11,7 +11,7 @@ returns-in-Some c =
     let at = op_at history place op c.requires c.index-history-place.is in
     let says = c.in-Some.ensures.says in (
       λ holds. over_at (operations history) place (operation op) c.in-Some.form at says (c.is_over.ensures.0 holds),
-      λ over. c.is_over.ensures.1 (over_said (operations history) place (operation op) c.in-Some.form at says over),
+      λ over. c.is_over.ensures.1 (over_form (operations history) place (operation op) c.in-Some.form at says over),
     )
 
 pub returns-in-None : goal.returns-in-None

@@ -23,8 +23,8 @@ returns c =
     (λ node lacks. c.rank_all.ensures.others node (subst (λ (xs : List ℕ). ¬ Contains xs node) (sym first) lacks))
     (λ node has. c.rank_all-2.ensures.ranked node (subst (λ (xs : List ℕ). Contains xs node) (sym beyond) has))
     (λ node lacks. c.rank_all-2.ensures.others node (subst (λ (xs : List ℕ). ¬ Contains xs node) (sym beyond) lacks)) in
-    let told = given c.grudge_by.result (DropsIn Apart ranks) (BridgeDrops nodes) (bridge_there_in nodes ranks ranking) (bridge_back_in nodes ranks ranking) c.grudge_by.ensures.links in record {
-      links = told;
+    let shown = given c.grudge_by.result (DropsIn Apart ranks) (BridgeDrops nodes) (bridge_there_in nodes ranks ranking) (bridge_back_in nodes ranks ranking) c.grudge_by.ensures.links in record {
+      links = shown;
       ascending = c.grudge_by.ensures.ascending;
-      among = given_among c.grudge_by.result (BridgeDrops nodes) nodes (bridge_joins nodes c.requires) told;
+      among = given_among c.grudge_by.result (BridgeDrops nodes) nodes (bridge_joins nodes c.requires) shown;
     }

@@ -31,8 +31,8 @@ returns c =
     let ranks = c.loop-number.ranks in
     let long = length-map components (λ v. v.items) in
     let ranking : IsRanking (λ node rank. IsIn lists rank node) ranks = is_ranking_all lists c.loop-number.number ranks (omega arith) c.loop-number.invariant in
-    let told = given c.grudge_by.result (DropsIn Apart ranks) (CompleteDrops lists) (complete_there lists ranks ranking) (complete_back lists ranks ranking) c.grudge_by.ensures.links in record {
-      links = told;
+    let shown = given c.grudge_by.result (DropsIn Apart ranks) (CompleteDrops lists) (complete_there lists ranks ranking) (complete_back lists ranks ranking) c.grudge_by.ensures.links in record {
+      links = shown;
       ascending = c.grudge_by.ensures.ascending;
-      among = given_among c.grudge_by.result (CompleteDrops lists) (nodes_end_to_end components) (complete_joins components c.requires) told;
+      among = given_among c.grudge_by.result (CompleteDrops lists) (nodes_end_to_end components) (complete_joins components c.requires) shown;
     }

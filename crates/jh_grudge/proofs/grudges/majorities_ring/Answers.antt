@@ -26,8 +26,8 @@ returns c =
     let nodes = c.args.nodes.now in
     let ranks = c.loop-place.ranks in
     let ranking : IsRanking (StandsAt nodes) ranks = is_placing_all nodes c.loop-place.place ranks (omega arith) c.loop-place.invariant.ranking in
-    let told = given c.grudge_by.result (DropsIn (Ring (length nodes)) ranks) (RingDrops nodes) (ring_there nodes ranks ranking) (ring_back nodes ranks ranking) c.grudge_by.ensures.links in record {
-      links = told;
+    let shown = given c.grudge_by.result (DropsIn (Ring (length nodes)) ranks) (RingDrops nodes) (ring_there nodes ranks ranking) (ring_back nodes ranks ranking) c.grudge_by.ensures.links in record {
+      links = shown;
       ascending = c.grudge_by.ensures.ascending;
-      among = given_among c.grudge_by.result (RingDrops nodes) nodes (ring_joins nodes c.requires) told;
+      among = given_among c.grudge_by.result (RingDrops nodes) nodes (ring_joins nodes c.requires) shown;
     }

@@ -20,7 +20,7 @@ returns-clause-judged c =
     let whole = operations c.args.history.now in
     let key = view c.args.group.now.key in
     let part : operations c.deref.result.now ≡ history_of key whole = ap operations c.deref.ensures.value ∙ c.in_ok-part.ensures in
-    let told : c.error_in.result ≡ keys_error_of (places_of key whole) c.in-Err.error =
+    let given : c.error_in.result ≡ keys_error_of (places_of key whole) c.in-Err.error =
     c.error_in.ensures ∙ ap (λ places. keys_error_of places c.in-Err.error) (c.deref-in-Err.ensures.value ∙ c.requires) in
-    subst (RefusesKey (keys_question c.args.judging whole) key) (sym told)
+    subst (RefusesKey (keys_question c.args.judging whole) key) (sym given)
     (key_refused (keys_question c.args.judging whole) key c.in-Err.error (subst (λ part. RefusesChecking c.args.judging.workload part c.in-Err.error) part c.in-Err.ensures))

@@ -11,4 +11,4 @@ returns c =
     let known = c.deref.ensures.value ∙ c.in_ok-found.ensures ∙ invocations_are c.args.history.now in
     IfOk-weaker c.places_of.result (λ numbers. (index : ℕ) → get nat_cmp numbers index ≡ place_among c.deref.result.now index)
     (λ numbers. (index : ℕ) → get nat_cmp numbers index ≡ place_among (invocations_of (operations c.args.history.now)) index)
-    (λ numbers told index. told index ∙ ap (λ xs. place_among xs index) known) c.places_of.ensures
+    (λ numbers given index. given index ∙ ap (λ xs. place_among xs index) known) c.places_of.ensures

@@ -12,8 +12,8 @@ returns g c =
     let contents = g.W.Write.contents in
     let start = contents c.args.writer.now in
     let number = c.args.number in
-    let told = anchor_text (codes "<h2 id=\"") number ++ escaped_bytes c.args.heading.now ++ codes "</h2>\n<p>" in
+    let given = anchor_text (codes "<h2 id=\"") number ++ escaped_bytes c.args.heading.now ++ codes "</h2>\n<p>" in
     let one = appends_then start (contents c.write_name-2.new.writer) (contents c.write_escaped_bytes.new.writer) _ _ c.in_ok-write_name.ensures c.in_ok-write_escaped_bytes.ensures in
-    subst (λ none. OnOk c.put.result (Appends start (contents c.put.new.writer) (cond none (anchor_text (codes "<p id=\"") number) told)))
+    subst (λ none. OnOk c.put.result (Appends start (contents c.put.new.writer) (cond none (anchor_text (codes "<p id=\"") number) given)))
     (sym c.if-is_empty.false ∙ c.is_empty.ensures)
     (on_ok_weaker c.put.result (λ end. appends_then start (contents c.write_escaped_bytes.new.writer) (contents c.put.new.writer) _ _ one end) c.put.ensures.bytes)

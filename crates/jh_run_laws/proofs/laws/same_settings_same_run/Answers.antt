@@ -2,4 +2,4 @@ use Rattle.jh_run_laws.proofs.SettingsLemmas.{same_run}
 use Rattle.jh_run_laws.proofs.laws.same_settings_same_run.Goals as goal
 
 pub returns : goal.returns
-returns c = same_run c.environments_read_back.ensures.tells_one c.one_run.ensures
+returns c = same_run c.environments_read_back.ensures.means_one c.one_run.ensures

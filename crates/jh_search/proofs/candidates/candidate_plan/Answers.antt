@@ -43,4 +43,4 @@ returns c =
     let generator : generator_of c.in_ok-copy-2.field-0 ≡ p.generator = c.in_ok-copy-2.ensures ∙ c.generator.ensures.generator in
     let same : q ≡ candidate_plan p c.args.entries.items c.args.seed = search (rules, generator) in
     made_so _ c.new-made.result c.made_plan.result c.made_plan.ensures
-    (IfOk-weaker c.new-made.result _ _ (λ made told. told.0 ∙ same) (where_ok _ _ c.new-made.result c.new-made.ensures))
+    (IfOk-weaker c.new-made.result _ _ (λ made given. given.0 ∙ same) (where_ok _ _ c.new-made.result c.new-made.ensures))

@@ -5,7 +5,7 @@ use Rattle.jh_slots.specs.Seats.{Words, Void, Knowledge, knowledge_after_read}
 use Rattle.jh_slots.specs.Stored.{View, place_at}
 use Rattle.jh_slots.proofs.LoadLemmas.{peeks_at, gathers_at}
 use Rattle.jh_slots.proofs.SeatLemmas.{stays, cap_is}
-use Rattle.jh_slots.proofs.ReadLemmas.{none_of, status_told, absent, voids, noted, small, peek_stay, starts, read_stay, reads_on, whole}
+use Rattle.jh_slots.proofs.ReadLemmas.{none_of, status_place, absent, voids, noted, small, peek_stay, starts, read_stay, reads_on, whole}
 use Rattle.jh_slots.proofs.slots.Slots.read.Goals as goal
 
 pub returns-then-row-self-clause-read : goal.returns-then-row-self-clause-read
@@ -29,7 +29,7 @@ invariant_of-seat c =
     let size = ap (λ z. z.words) same ∙ c.self.invariant.1 in
     let here : c.seat.inside.inner.me.0.cap ≡ c.self.inside.rows = cap_is _ _ _ c.seat.invariant.1 size in
     let e = c.load-status.ensures in
-    let t = e.2.1 c.args.row (status_told _ _ _ c.args.row c.seat.invariant.1 size) in
+    let t = e.2.1 c.args.row (status_place _ _ _ c.args.row c.seat.invariant.1 size) in
     stays _ _ _ _ _ _ c.seat.invariant.0 e.2.0 e.0 refl (peek_stay _ c.seat.inside.inner.me.0 _ c.args.row _ t c.seat.invariant.1 (let lt = c.if-row-self.false in omega arith))
 
 pub returns-then-status-eq0-clause-read : goal.returns-then-status-eq0-clause-read
@@ -38,7 +38,7 @@ returns-then-status-eq0-clause-read c =
     let size = ap (λ z. z.words) same ∙ c.self.invariant.1 in
     let here : c.seat.inside.inner.me.0.cap ≡ c.self.inside.rows = cap_is _ _ _ c.seat.invariant.1 size in
     let e = c.load-status.ensures in
-    let t = e.2.1 c.args.row (status_told _ _ _ c.args.row c.seat.invariant.1 size) in
+    let t = e.2.1 c.args.row (status_place _ _ _ c.args.row c.seat.invariant.1 size) in
     let a = absent c.seat.inside.inner.me.0 _ c.args.row _ t c.if-status-eq0.true in
     (ap (λ s. map.get s.knows.seen c.args.row) (sym c.seat.view_is) ∙ a.0, a.1 ∙ ap (λ s. s.knows) c.seat.view_is, refl)
 
@@ -48,7 +48,7 @@ invariant_of-seat-then-status-eq1 c =
     let size = ap (λ z. z.words) same ∙ c.self.invariant.1 in
     let here : c.seat.inside.inner.me.0.cap ≡ c.self.inside.rows = cap_is _ _ _ c.seat.invariant.1 size in
     let e = c.load-status.ensures in
-    let t = e.2.1 c.args.row (status_told _ _ _ c.args.row c.seat.invariant.1 size) in
+    let t = e.2.1 c.args.row (status_place _ _ _ c.args.row c.seat.invariant.1 size) in
     stays _ _ _ _ _ _ c.seat.invariant.0 e.2.0 e.0 refl (peek_stay _ c.seat.inside.inner.me.0 _ c.args.row _ t c.seat.invariant.1 (let lt = c.if-row-self.false in omega arith))
 
 pub returns-then-status-eq1-clause-read : goal.returns-then-status-eq1-clause-read
@@ -57,7 +57,7 @@ returns-then-status-eq1-clause-read c =
     let size = ap (λ z. z.words) same ∙ c.self.invariant.1 in
     let here : c.seat.inside.inner.me.0.cap ≡ c.self.inside.rows = cap_is _ _ _ c.seat.invariant.1 size in
     let e = c.load-status.ensures in
-    let t = e.2.1 c.args.row (status_told _ _ _ c.args.row c.seat.invariant.1 size) in
+    let t = e.2.1 c.args.row (status_place _ _ _ c.args.row c.seat.invariant.1 size) in
     let a = voids c.seat.inside.inner.me.0 _ c.args.row _ t c.if-status-eq1.true in
     (a.0 ∙ ap (λ s. knowledge_after_read c.args.row Void s.knows) c.seat.view_is, (λ m is. a.1 m (ap (λ s. map.get s.knows.seen c.args.row) c.seat.view_is ∙ is)), refl)
 
@@ -67,7 +67,7 @@ invariant_of-seat-then-len-buffer c =
     let size = ap (λ z. z.words) same ∙ c.self.invariant.1 in
     let here : c.seat.inside.inner.me.0.cap ≡ c.self.inside.rows = cap_is _ _ _ c.seat.invariant.1 size in
     let e = c.load-status.ensures in
-    let t = e.2.1 c.args.row (status_told _ _ _ c.args.row c.seat.invariant.1 size) in
+    let t = e.2.1 c.args.row (status_place _ _ _ c.args.row c.seat.invariant.1 size) in
     stays _ _ _ _ _ _ c.seat.invariant.0 e.2.0 e.0 refl (peek_stay _ c.seat.inside.inner.me.0 _ c.args.row _ t c.seat.invariant.1 (let lt = c.if-row-self.false in omega arith))
 
 pub returns-then-len-buffer-clause-read : goal.returns-then-len-buffer-clause-read
@@ -76,7 +76,7 @@ returns-then-len-buffer-clause-read c =
     let size = ap (λ z. z.words) same ∙ c.self.invariant.1 in
     let here : c.seat.inside.inner.me.0.cap ≡ c.self.inside.rows = cap_is _ _ _ c.seat.invariant.1 size in
     let e = c.load-status.ensures in
-    let t = e.2.1 c.args.row (status_told _ _ _ c.args.row c.seat.invariant.1 size) in
+    let t = e.2.1 c.args.row (status_place _ _ _ c.args.row c.seat.invariant.1 size) in
     let n = noted c.seat.inside.inner.me.0 _ c.args.row _ t c.if-status-eq0.false c.if-status-eq1.false in
     (c.if-len-buffer.true, ap (λ (u : View). u.knows) n ∙ ap (λ s. s.knows) c.seat.view_is, refl, λ m is. small c.seat.inside.inner.me.0 _ c.args.row _ t c.if-status-eq0.false c.if-status-eq1.false m (ap (λ s. map.get s.knows.seen c.args.row) c.seat.view_is ∙ is))
 
@@ -86,7 +86,7 @@ loop-place-init c =
     let size = ap (λ z. z.words) same ∙ c.self.invariant.1 in
     let here : c.seat.inside.inner.me.0.cap ≡ c.self.inside.rows = cap_is _ _ _ c.seat.invariant.1 size in
     let e = c.load-status.ensures in
-    let t = e.2.1 c.args.row (status_told _ _ _ c.args.row c.seat.invariant.1 size) in
+    let t = e.2.1 c.args.row (status_place _ _ _ c.args.row c.seat.invariant.1 size) in
     let n = noted c.seat.inside.inner.me.0 _ c.args.row _ t c.if-status-eq0.false c.if-status-eq1.false in
     let a = c.if-status-eq0.false in let b = c.if-status-eq1.false in
     (refl, e.2.0 ∙ c.seat.invariant.0, starts c.seat.inside.inner.me.0 c.load-status.new.seat.me.0 _ _ n (omega arith), refl, λ z. absurd (omega arith))
@@ -97,7 +97,7 @@ invariant_of-seat-in-loop-place c =
     let size = ap (λ z. z.words) same ∙ c.self.invariant.1 in
     let here : c.seat.inside.inner.me.0.cap ≡ c.self.inside.rows = cap_is _ _ _ c.seat.invariant.1 size in
     let e = c.load-status.ensures in
-    let t = e.2.1 c.args.row (status_told _ _ _ c.args.row c.seat.invariant.1 size) in
+    let t = e.2.1 c.args.row (status_place _ _ _ c.args.row c.seat.invariant.1 size) in
     let n = noted c.seat.inside.inner.me.0 _ c.args.row _ t c.if-status-eq0.false c.if-status-eq1.false in
     let i = c.loop-place.invariant in
     let cap : c.load-status.new.seat.me.0.cap ≡ c.seat.inside.inner.me.0.cap = ap (λ (u : View). u.cap) n in
@@ -111,7 +111,7 @@ load-requires c =
     let size = ap (λ z. z.words) same ∙ c.self.invariant.1 in
     let here : c.seat.inside.inner.me.0.cap ≡ c.self.inside.rows = cap_is _ _ _ c.seat.invariant.1 size in
     let e = c.load-status.ensures in
-    let t = e.2.1 c.args.row (status_told _ _ _ c.args.row c.seat.invariant.1 size) in
+    let t = e.2.1 c.args.row (status_place _ _ _ c.args.row c.seat.invariant.1 size) in
     let i = c.loop-place.invariant in
     let last = c.loop-place-test.true in
     let long = c.if-len-buffer.false in
@@ -140,7 +140,7 @@ returns-clause-read c =
     let size = ap (λ z. z.words) same ∙ c.self.invariant.1 in
     let here : c.seat.inside.inner.me.0.cap ≡ c.self.inside.rows = cap_is _ _ _ c.seat.invariant.1 size in
     let e = c.load-status.ensures in
-    let t = e.2.1 c.args.row (status_told _ _ _ c.args.row c.seat.invariant.1 size) in
+    let t = e.2.1 c.args.row (status_place _ _ _ c.args.row c.seat.invariant.1 size) in
     let n = noted c.seat.inside.inner.me.0 _ c.args.row _ t c.if-status-eq0.false c.if-status-eq1.false in
     let i = c.loop-place.invariant in
     let end = c.loop-place-test.false in

@@ -53,7 +53,7 @@ fn completion_kind(reply: &Reply) -> &'static str {
 }
 
 /// Whether a completion is that of a call of this process, with this request and reply.
-fn is_told_by_call(
+fn is_given_by_call(
     alloc: Global,
     process: u64,
     request: Request,
@@ -83,14 +83,14 @@ fn code_of(answer: StepAnswer) -> &'static str {
 }
 
 /// Whether a completion is that of the event.
-pub(crate) fn is_told(alloc: Global, event: &Event, line: &Line<'_>) -> Option<bool> {
+pub(crate) fn is_completed(alloc: Global, event: &Event, line: &Line<'_>) -> Option<bool> {
     match event {
         Event::Call {
             process,
             request,
             reply,
             ..
-        } => is_told_by_call(alloc, *process, *request, reply, line),
+        } => is_given_by_call(alloc, *process, *request, reply, line),
         Event::Step { answer, .. } => Some(
             line.is_nemesis()
                 && pair_in(line.value).is_some_and(|(_, code)| code == code_of(*answer)),

@@ -3,11 +3,11 @@ use Rattle.jh_ops.specs.HistoryText.{AreParsed}
 use Rattle.jh_ops.specs.Operation.{Operation}
 use Rattle.jh_ops.specs.OperationWritten.{value_written}
 use Rattle.jh_run_laws.proofs.LineLemmas.{are_parsed}
-use Rattle.jh_run_laws.proofs.laws.own_lines_tell.Goals as goal
+use Rattle.jh_run_laws.proofs.laws.own_lines_are_text.Goals as goal
 
 pub returns : goal.returns
 returns c = λ p journal history run can. (
   map value_written history,
   (c.operation_lines_read_back.ensures.lines history can).0,
-  subst (λ (h : List Operation). AreParsed (map value_written h) h) (sym run.told) (are_parsed journal),
+  subst (λ (h : List Operation). AreParsed (map value_written h) h) (sym run.given) (are_parsed journal),
 )

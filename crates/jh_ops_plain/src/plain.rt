@@ -7,7 +7,7 @@ use std::alloc::Global;
 
 /// An operation, its values as texts.
 #[derive(Drop)]
-pub struct Told {
+pub struct PlainOp {
     pub kind: Kind,
     pub f: &'static str,
     pub value: &'static str,
@@ -87,14 +87,14 @@ fn is_part(key: &str, value: &str) -> bool {
 }
 
 /// The operation of pairs with which nothing is wrong. None: memory was refused.
-fn told_by(alloc: Global, pairs: &[Words]) -> Option<Told> {
+fn given_by(alloc: Global, pairs: &[Words]) -> Option<PlainOp> {
     let mut rest = Vec::new(alloc);
     for pair in pairs {
         if !is_part(pair.0, pair.1) {
             rest.push(*pair).ok()?;
         }
     }
-    Some(Told {
+    Some(PlainOp {
         kind: kind_named(value_under(pairs, ":type")?)?,
         f: value_under(pairs, ":f")?,
         value: value_under(pairs, ":value").unwrap_or("nil"),
@@ -106,13 +106,13 @@ fn told_by(alloc: Global, pairs: &[Words]) -> Option<Told> {
 }
 
 /// The operation that a record means.
-pub fn op_slowly(alloc: Global, record: &Record) -> Result<Told, OpError> {
+pub fn op_slowly(alloc: Global, record: &Record) -> Result<PlainOp, OpError> {
     let Record::Map(pairs) = record else {
         return Err(OpError::NotMap);
     };
     match refusal(pairs) {
         Some(error) => Err(error),
-        None => told_by(alloc, pairs).ok_or(OpError::OutOfMemory),
+        None => given_by(alloc, pairs).ok_or(OpError::OutOfMemory),
     }
 }
 
@@ -123,7 +123,7 @@ fn is_nothing(records: &Records) -> bool {
 }
 
 /// The history that records mean.
-pub fn history_slowly(alloc: Global, records: &Records) -> Result<Vec<Told>, HistoryError> {
+pub fn history_slowly(alloc: Global, records: &Records) -> Result<Vec<PlainOp>, HistoryError> {
     let mut history = Vec::new(alloc);
     if is_nothing(records) {
         return Ok(history);
