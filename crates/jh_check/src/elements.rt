@@ -53,7 +53,8 @@ pub trait Element {
     /// Errors: `Write` where the writer failed, and no other.
     fn write_to<W: Write>(&self, writer: &mut W) -> Result<(), EdnError>
         ensures bytes { OnOk result
-            (Appends (W.contents writer.old) (W.contents writer.new) (print (Self.value self.now))) }
+            (Appends (W.contents writer.old) (W.contents writer.new)
+            (print (Self.value self.now))) }
         ensures error { IfErr result (λ e. e ≡ EdnError.Write) };
 }
 

@@ -75,7 +75,8 @@ pub fn write_set<W: Write>(judged: &SetResult, writer: &mut W) -> Result<(), Edn
 /// Errors: `Write` where the writer failed, and no other.
 pub fn write_counter<W: Write>(judged: &CounterResult, writer: &mut W) -> Result<(), EdnError>
     ensures bytes { OnOk result
-        (Appends (W.contents writer.old) (W.contents writer.new) (print (counter_value judged.now))) }
+        (Appends (W.contents writer.old) (W.contents writer.new)
+        (print (counter_value judged.now))) }
     ensures error { IfErr result (λ e. e ≡ EdnError.Write) }
 {
     write_verdict(judged.verdict, writer)?;

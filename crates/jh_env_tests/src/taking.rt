@@ -21,7 +21,8 @@ fn calm(alloc: Global) -> Option<Env>
 /// Puts two faults on an environment that has none.
 fn put_both(env: &mut Env, first: &Fault, second: &Fault)
     requires none { StandsWith env.old [] }
-    requires fits { FitsCount (length env.old.names) first.now × FitsCount (length env.old.names) second.now }
+    requires first { FitsCount (length env.old.names) first.now }
+    requires second { FitsCount (length env.old.names) second.now }
     ensures { StandsWith env.new ((0, first.now) ∷ (1, second.now) ∷ []) }
 {
     env.put(first, 0);
@@ -52,7 +53,8 @@ fn link(alloc: Global, env: &Env) -> Option<String> {
 /// The link with both faults and with the second alone; in the end both are taken.
 fn links(alloc: Global, env: &mut Env, first: &Fault, second: &Fault) -> Option<String>
     requires none { StandsWith env.old [] }
-    requires fits { FitsCount (length env.old.names) first.now × FitsCount (length env.old.names) second.now }
+    requires first { FitsCount (length env.old.names) first.now }
+    requires second { FitsCount (length env.old.names) second.now }
 {
     put_both(env, first, second);
     let both = link(alloc, env)?;

@@ -43,7 +43,9 @@ impl Parsing {
     /// The element behind those parsed is refused, unless memory ran out.
     fn refuse(&mut self, error: OpError) -> Result<(), AllocError>
         ensures refusal { OnOk result (self.new ≡
-            record self.old { refusal = Some (history_error_at (length self.old.ops.items) error) }) }
+            record self.old {
+              refusal = Some (history_error_at (length self.old.ops.items) error);
+            }) }
         ensures other { OnOk result (error ≢ OpError.OutOfMemory) }
     {
         match error {

@@ -105,7 +105,8 @@ pub fn read_history<R: Read>(
     turns: u32,
 ) -> Result<Vec<Op>, ReadHistoryError>
     ensures parsed { IfOk result
-        (λ ops. IfSome (R.remaining reader.old) (λ bytes. IsHistoryOf bytes (operations ops.items))) }
+        (λ ops. IfSome (R.remaining reader.old)
+        (λ bytes. IsHistoryOf bytes (operations ops.items))) }
     ensures writable { IfOk result (λ ops. All (λ op. IsWritable op.process) ops.items) }
     ensures refused { IfErr result
         (λ e. IfSome (R.remaining reader.old) (λ bytes. RefusesHistoryOf bytes e)) }

@@ -75,7 +75,8 @@ fn write_pair<W: Write>(pair: &(Value, Value), writer: &mut W) -> Result<(), Edn
 /// Writes pairs behind others.
 fn write_rest<W: Write>(rest: &[(Value, Value)], writer: &mut W) -> Result<(), EdnError>
     ensures bytes { OnOk result
-        (Appends (W.contents writer.old) (W.contents writer.new) (rest_text (view_pairs rest.now))) }
+        (Appends (W.contents writer.old) (W.contents writer.new)
+        (rest_text (view_pairs rest.now))) }
     ensures error { IfErr result (λ e. e ≡ EdnError.Write) }
 {
     for pair in rest {

@@ -69,7 +69,8 @@ fn first_bad(history: &[Op]) -> Option<usize>
 /// Puts the key of an operation last, where a client did it.
 fn push_key(alloc: Global, place: usize, op: &Op, keyed: &mut Vec<Keyed>) -> Result<(), AllocError>
     ensures { OnOk result (view_keyed keyed.new.items
-        ≡ view_keyed keyed.old.items ++ filter_map key_with_place ((place, operation op.now) ∷ [])) }
+        ≡ view_keyed keyed.old.items
+        ++ filter_map key_with_place ((place, operation op.now) ∷ [])) }
 {
     if !op.process.is_client() {
         return Ok(());

@@ -79,7 +79,8 @@ fn put_unknown(problem: &Problem, config: &Config, wanted: &mut Wanted) -> Resul
     requires problem { IsProblem problem.now }
     requires stage { config.now.stage < stages_in problem.now }
     ensures unknown { OnOk result
-        (HoldsUnknown problem.now config.now wanted.new (length problem.now.history.classes.items)) }
+        (HoldsUnknown problem.now config.now wanted.new
+        (length problem.now.history.classes.items)) }
     ensures more { OnOk result (HoldsMore wanted.old wanted.new) }
 {
     for class in 0..problem.history.classes.len() {
@@ -97,7 +98,8 @@ pub(crate) fn wanted_by(
     requires problem { IsProblem problem.now }
     requires stage { config.now.stage < stages_in problem.now }
     ensures { IfOk result
-        (λ wanted. (value : Option ℤ) → IsWanted problem.now config.now value → Holds wanted value) }
+        (λ wanted. (value : Option ℤ) → IsWanted problem.now config.now value
+        → Holds wanted value) }
 {
     let mut wanted = Wanted {
         values: HashSet::new(alloc),

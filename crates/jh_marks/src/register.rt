@@ -68,7 +68,8 @@ fn valid_marks(
     bars: &[Bar],
 ) -> Result<Vec<Mark>, AllocError>
     ensures { IfOk result
-        (λ marks. marks.items ≡ marks_by (placed_note order.now (operations history.now)) bars.now) }
+        (λ marks. marks.items
+        ≡ marks_by (placed_note order.now (operations history.now)) bars.now) }
 {
     let numbers = numbers_of(alloc, history)?;
     let places = places_of(alloc, order)?;

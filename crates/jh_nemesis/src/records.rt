@@ -114,7 +114,8 @@ pub fn stamp_of(records: &[Record], stamps: &[usize], id: u32) -> Option<usize>
     requires { AreStamps records.now stamps.now }
     ensures variant { is_some result ≡ spec.is_active (faults_at records.now stamps.now) id }
     ensures stamp { IfSome result
-        (λ stamp. Contains stamps.now stamp × ((begun_fault (record_at records.now stamp)).0 ≡ id)) }
+        (λ stamp. Contains stamps.now stamp
+        × ((begun_fault (record_at records.now stamp)).0 ≡ id)) }
 {
     for stamp in stamps {
         if is_begin_of(&records[*stamp], id) {

@@ -145,7 +145,8 @@ pub(crate) fn start_under(alloc: Global, table: &Table) -> Result<Env, SettingsE
 pub(crate) fn generator_under(alloc: Global, table: &Table) -> Result<Gen, SettingsError>
     ensures { MatchResult result
         (λ source. IsParsedGenerator (table_view table.now) (generator_of source))
-        (RefusesValue ((g : Generator) × IsParsedGenerator (table_view table.now) g) Key.Generator) }
+        (RefusesValue ((g : Generator) × IsParsedGenerator (table_view table.now) g)
+        Key.Generator) }
 {
     let element = element_under(alloc, table, Key::Generator)?;
     match gen_of_value(alloc, &element) {

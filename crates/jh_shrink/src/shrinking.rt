@@ -147,7 +147,8 @@ fn pass<F: Fn(&Schedule) -> Option<bool>, O: Observer>(
         (λ spared. spared ≡ true → length schedule.new < length schedule.old) }
     ensures same { IfOk result (λ spared. spared ≡ false → schedule.new ≡ schedule.old) }
     ensures needed { IfOk result
-        (λ spared. spared ≡ false → size ≡ 1 → NeedsEach (FnReturnsAt F.Fn judge.now) schedule.new) }
+        (λ spared. spared ≡ false → size ≡ 1
+        → NeedsEach (FnReturnsAt F.Fn judge.now) schedule.new) }
     ensures halted { IfErr result (HaltsWork (FnReturnsAt F.Fn judge.now) schedule.old) }
 {
     let mut place = 0;

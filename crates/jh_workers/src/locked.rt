@@ -119,7 +119,8 @@ impl<L: Ledger> Counted<L> {
         ensures added { MatchResult result
             (λ given. AddsEvent self.old.world (Event.Step step given.1) given.0 self.new.world)
             (λ e. (self.new.world ≡ self.old.world)
-            × Refuses (FitsNodes (length self.old.world.setup.names) step) self.old.world.journal e) }
+            × Refuses (FitsNodes (length self.old.world.setup.names) step)
+            self.old.world.journal e) }
         ensures accepted { OnOk result (mine.new.count ≡ mine.old.count + 1) }
         ensures refused { OnErr result (mine.new.count ≡ mine.old.count) }
         ensures numbered { IfOk result (λ given. given.0 < max_events) }

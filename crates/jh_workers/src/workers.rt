@@ -139,7 +139,8 @@ fn record_begin<B: OfLog, P: Port>(
 ) -> Result<(), RunError>
     requires { entry < 2 ^ 63 }
     ensures { OnOk result
-        (Publishes pass.old.seat.knows.seen (rule.entry_invocation entry) pass.new.seat.knows.seen) }
+        (Publishes pass.old.seat.knows.seen (rule.entry_invocation entry)
+        pass.new.seat.knows.seen) }
 {
     let claim = pass.claim(site.slots, 1)?;
     let made = entry_invocation(site.alloc, entry);

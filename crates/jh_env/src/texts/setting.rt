@@ -103,7 +103,8 @@ fn repeats(entry: &Entry, other: &Entry) -> bool
 /// Whether an entry before names the same link or node under one key.
 fn is_repeated(before: &[Entry], entry: &Entry) -> bool
     ensures { result
-        ≡ list_any (λ other. rule.repeats (entry_parsed entry.now) (entry_parsed other)) before.now }
+        ≡ list_any (λ other. rule.repeats (entry_parsed entry.now) (entry_parsed other))
+        before.now }
 {
     before.iter().any(|other| repeats(entry, other))
 }

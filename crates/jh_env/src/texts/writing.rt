@@ -92,7 +92,8 @@ fn push_links<'a>(
 ) -> Result<(), AllocError>
     ensures { OnOk result (entries_parsed entries.new.items
         ≡ entries_parsed entries.old.items
-        ++ flat_map (λ from. filter_map (text.link_entry env.now section from) nodes.now) nodes.now) }
+        ++ flat_map (λ from. filter_map (text.link_entry env.now section from) nodes.now)
+        nodes.now) }
 {
     for from in nodes {
         push_links_from(env, section, *from, nodes, entries)?;
