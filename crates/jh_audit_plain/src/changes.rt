@@ -20,9 +20,9 @@ fn place_in(random: &mut Random, len: usize) -> usize {
 }
 
 /// One of some texts.
-fn one_of(random: &mut Random, words: &'static [&'static str]) -> &'static str {
-    let place = place_in(random, words.len());
-    words.get(place).copied().unwrap_or("")
+fn one_of(random: &mut Random, choices: &'static [&'static str]) -> &'static str {
+    let place = place_in(random, choices.len());
+    choices.get(place).copied().unwrap_or("")
 }
 
 /// A line that says something else.

@@ -63,7 +63,7 @@ impl Client {
 }
 
 /// The function and the value of a call.
-fn words(alloc: Global, call: RegCall) -> Result<String, AllocError> {
+fn call_text(alloc: Global, call: RegCall) -> Result<String, AllocError> {
     match call {
         RegCall::Read(None) => ":read nil".to_string(alloc),
         RegCall::Read(Some(value)) => format!(in alloc; ":read {value}"),
@@ -93,8 +93,8 @@ pub fn busy_history(alloc: Global, count: usize) -> Result<String, AllocError> {
             made += 1;
         }
         if let Some((kind, call)) = client.act(&mut dice, &mut register) {
-            let words = words(alloc, call)?;
-            text.push_str(&format!(in alloc; "{process} {kind} {words}; ")?)?;
+            let text_of_call = call_text(alloc, call)?;
+            text.push_str(&format!(in alloc; "{process} {kind} {text_of_call}; ")?)?;
         }
     }
     Ok(text)

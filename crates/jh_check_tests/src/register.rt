@@ -126,8 +126,8 @@ fn finds_an_order_of_two_swaps(rt: HostRuntime) {
 }
 
 #[test]
-fn errors_have_words(rt: HostRuntime) -> Result<(), Fail> {
-    let words = format!(in rt.alloc();
+fn errors_have_messages(rt: HostRuntime) -> Result<(), Fail> {
+    let message = format!(in rt.alloc();
         "{}, {}, {}, {}, {}, {}; {}, {}",
         OrderFault::NoSuch,
         OrderFault::Repeat,
@@ -142,8 +142,8 @@ fn errors_have_words(rt: HostRuntime) -> Result<(), Fail> {
         "no such operation, repeated operation, failed operation, missing operation, precedence, illegal; \
         operation 3: bad value, out of memory";
     // A refused growth leaves no text to compare.
-    if let Ok(words) = words {
-        assert_eq!(rt; words.as_str(), expected);
+    if let Ok(message) = message {
+        assert_eq!(rt; message.as_str(), expected);
     }
     Ok(())
 }

@@ -29,10 +29,10 @@ fn workload_of(name: &str) -> Option<Workload> {
 }
 
 /// The question that a text asks.
-fn question_of(words: &str) -> Option<TimelineQuestion> {
-    let mut words = words.split_whitespace();
-    let workload = workload_of(words.next()?);
-    let initial = words.next()?.parse().ok();
+fn question_of(pieces: &str) -> Option<TimelineQuestion> {
+    let mut pieces = pieces.split_whitespace();
+    let workload = workload_of(pieces.next()?);
+    let initial = pieces.next()?.parse().ok();
     Some(TimelineQuestion {
         judging: workload.map(|workload| TimelineJudging {
             workload,
@@ -40,10 +40,10 @@ fn question_of(words: &str) -> Option<TimelineQuestion> {
             budget: BUDGET,
         }),
         choice: Choice {
-            from: words.next()?.parse().ok(),
-            to: words.next()?.parse().ok(),
+            from: pieces.next()?.parse().ok(),
+            to: pieces.next()?.parse().ok(),
         },
-        independent: words.next() == Some("keys"),
+        independent: pieces.next() == Some("keys"),
     })
 }
 
@@ -89,10 +89,10 @@ fn is_right_once(alloc: Global, row: &str) -> Option<bool> {
     let Some((text, parts)) = row.split_once('→') else {
         return Some(false);
     };
-    let Some((words, input)) = text.trim().split_once('\n') else {
+    let Some((pieces, input)) = text.trim().split_once('\n') else {
         return Some(false);
     };
-    let Some(question) = question_of(words) else {
+    let Some(question) = question_of(pieces) else {
         return Some(false);
     };
     let answer = answer_once(alloc, question, input)?;

@@ -37,7 +37,7 @@ const ERRORS: [EdnError; 13] = [
 ];
 
 /// The message of each error, each ended by a line's end.
-fn words(alloc: Global) -> Result<String, AllocError> {
+fn all_messages(alloc: Global) -> Result<String, AllocError> {
     let mut lines = String::new(alloc);
     for error in ERRORS {
         lines.push_str(format!(in alloc; "{error}\n")?.as_str())?;
@@ -47,8 +47,8 @@ fn words(alloc: Global) -> Result<String, AllocError> {
 
 #[test]
 fn says_what_failed(rt: HostRuntime) -> Result<(), Fail> {
-    let lines = match words(rt.alloc()) {
-        Err(_) => words(rt.alloc())?,
+    let lines = match all_messages(rt.alloc()) {
+        Err(_) => all_messages(rt.alloc())?,
         Ok(lines) => lines,
     };
     let expected = "\

@@ -27,9 +27,9 @@ fn place_of(turns: &[usize], part: usize, count: usize) -> Option<usize> {
 
 /// The message of an error in the history of a part, reported at the place in the whole one.
 fn given(alloc: Global, turns: &[usize], part: usize, error: &str) -> Option<String> {
-    let (count, words) = error.split_once(": ")?;
+    let (count, message) = error.split_once(": ")?;
     let place = place_of(turns, part, count.parse::<usize>().ok()?)?;
-    format!(in alloc; "operation {place}: {words}").ok()
+    format!(in alloc; "operation {place}: {message}").ok()
 }
 
 /// Whether a client did something.

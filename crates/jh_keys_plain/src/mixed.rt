@@ -55,9 +55,9 @@ fn keyed(
     op: &str,
     is_spoiled: bool,
 ) -> Option<String> {
-    let mut words = op.splitn(4, ' ');
-    let (process, kind, f) = (words.next()?, words.next()?, words.next()?);
-    let value = words.next()?;
+    let mut pieces = op.splitn(4, ' ');
+    let (process, kind, f) = (pieces.next()?, pieces.next()?, pieces.next()?);
+    let value = pieces.next()?;
     let value = match is_spoiled {
         true => no_tuple(alloc, dice, part, value)?,
         false => tuple(alloc, dice, part, value)?,

@@ -10,10 +10,10 @@ fn spelled(alloc: Global, history: &str) -> Option<String> {
     for op in history.trim().split_terminator(';') {
         text.push_str("{").ok()?;
         let mut keys = ":process :type :f :value".split(' ');
-        for word in op.trim().splitn(4, ' ') {
+        for piece in op.trim().splitn(4, ' ') {
             text.push_str(keys.next()?).ok()?;
             text.push_str(" ").ok()?;
-            text.push_str(word).ok()?;
+            text.push_str(piece).ok()?;
             text.push_str(" ").ok()?;
         }
         text.push_str("}\n").ok()?;

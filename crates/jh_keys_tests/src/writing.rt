@@ -198,8 +198,8 @@ fn clients_have_their_numbers(rt: HostRuntime) {
 }
 
 #[test]
-fn errors_have_words(rt: HostRuntime) {
-    let words = format!(in rt.alloc();
+fn errors_have_messages(rt: HostRuntime) {
+    let message = format!(in rt.alloc();
         "{}, {}, {}, {}, {}",
         KeysError::BadValue(3),
         KeysError::Key(CheckError::NegativeAdd(4)),
@@ -211,7 +211,7 @@ fn errors_have_words(rt: HostRuntime) {
         "operation 3: bad value, operation 4: negative add, operation 5: after crash, thread failed, \
         out of memory";
     // A refused growth leaves no text to compare.
-    if let Ok(words) = words {
-        assert_eq!(rt; words.as_str(), expected);
+    if let Ok(message) = message {
+        assert_eq!(rt; message.as_str(), expected);
     }
 }

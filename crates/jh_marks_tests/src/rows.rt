@@ -32,10 +32,10 @@ fn spelled(alloc: Global, history: &str) -> Option<String> {
     for op in history.trim().split_terminator(';') {
         text.push_str("{").ok()?;
         let mut keys = ":process :type :f :value".split(' ');
-        for word in op.trim().splitn(4, ' ') {
+        for piece in op.trim().splitn(4, ' ') {
             text.push_str(keys.next()?).ok()?;
             text.push_str(" ").ok()?;
-            text.push_str(word).ok()?;
+            text.push_str(piece).ok()?;
             text.push_str(" ").ok()?;
         }
         text.push_str("}\n").ok()?;
@@ -70,11 +70,11 @@ fn note_of(name: &str, first: Option<i128>, second: Option<i128>) -> Option<Note
 
 /// The mark that a text spells.
 fn mark_of(text: &str) -> Option<Mark> {
-    let mut words = text.split_whitespace();
-    let bar = words.next()?.parse().ok()?;
-    let name = words.next()?;
-    let first = words.next().and_then(|word| word.parse().ok());
-    let second = words.next().and_then(|word| word.parse().ok());
+    let mut pieces = text.split_whitespace();
+    let bar = pieces.next()?.parse().ok()?;
+    let name = pieces.next()?;
+    let first = pieces.next().and_then(|piece| piece.parse().ok());
+    let second = pieces.next().and_then(|piece| piece.parse().ok());
     Some(Mark {
         bar,
         note: note_of(name, first, second)?,

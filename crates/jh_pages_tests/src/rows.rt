@@ -36,8 +36,8 @@ const LEGEND: &str = "<p class=\"legend\"><span class=\"ok\">&#10003; ok</span> 
 const ROOM: usize = 20_000;
 
 /// A number, if there is one.
-fn number(word: Option<&str>) -> Option<i128> {
-    word.and_then(|word| word.parse().ok())
+fn number(piece: Option<&str>) -> Option<i128> {
+    piece.and_then(|piece| piece.parse().ok())
 }
 
 /// An index, if there is one.
@@ -65,11 +65,11 @@ fn note_of(name: &str, first: Option<i128>, second: Option<i128>) -> Option<Note
 
 /// The mark that a text spells.
 fn mark_of(text: &str) -> Option<Mark> {
-    let mut words = text.split_whitespace();
-    let bar = words.next()?.parse().ok()?;
-    let name = words.next()?;
-    let first = number(words.next());
-    let second = number(words.next());
+    let mut pieces = text.split_whitespace();
+    let bar = pieces.next()?.parse().ok()?;
+    let name = pieces.next()?;
+    let first = number(pieces.next());
+    let second = number(pieces.next());
     Some(Mark {
         bar,
         note: note_of(name, first, second)?,
@@ -89,10 +89,16 @@ fn marks_of(alloc: Global, text: &str) -> Result<Vec<Mark>, PageError> {
 
 /// The window of a section.
 fn window_of(text: &str) -> Window {
-    let mut words = text.split(|c| c == ' ' || c == ';');
+    let mut pieces = text.split(|c| c == ' ' || c == ';');
     Window {
-        from: words.next().and_then(|word| word.parse().ok()).unwrap_or(0),
-        to: words.next().and_then(|word| word.parse().ok()).unwrap_or(0),
+        from: pieces
+            .next()
+            .and_then(|piece| piece.parse().ok())
+            .unwrap_or(0),
+        to: pieces
+            .next()
+            .and_then(|piece| piece.parse().ok())
+            .unwrap_or(0),
     }
 }
 

@@ -1,7 +1,7 @@
 //! Documents of settings, and what they mean.
 
 use crate::plans::put_plan;
-use crate::runs::words;
+use crate::runs::message_of;
 use jh_settings::{RunSettings, SettingsError, settings_of};
 use std::alloc::{AllocError, Global};
 use std::io::Write;
@@ -74,7 +74,7 @@ fn document_of(alloc: Global, lines: &str) -> Result<String, AllocError> {
 fn refusal(alloc: Global, error: &SettingsError) -> Option<Vec<u8>> {
     match error {
         SettingsError::OutOfMemory => None,
-        error => words(alloc, error),
+        error => message_of(alloc, error),
     }
 }
 

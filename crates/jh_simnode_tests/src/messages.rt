@@ -3,8 +3,8 @@
 use jh_simnode::{PlanError, RunError, TooLong, WorldError};
 
 #[test]
-fn errors_have_words(rt: HostRuntime) {
-    let words = format!(in rt.alloc();
+fn errors_have_messages(rt: HostRuntime) {
+    let message = format!(in rt.alloc();
         "{}, {}; {}, {}, {}, {}, {}",
         PlanError::OutOfMemory,
         TooLong,
@@ -17,7 +17,7 @@ fn errors_have_words(rt: HostRuntime) {
     let expected =
         "out of memory, too long; unknown node, too many events, out of memory, stuck, out of memory";
     // A refused growth leaves no text to compare.
-    if let Ok(words) = words {
-        assert_eq!(rt; words.as_str(), expected);
+    if let Ok(message) = message {
+        assert_eq!(rt; message.as_str(), expected);
     }
 }

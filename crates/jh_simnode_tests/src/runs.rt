@@ -14,7 +14,7 @@ use std::io::Write;
 use std::test::Fail;
 
 /// The message of an error.
-pub(crate) fn words<E: Display>(alloc: Global, error: &E) -> Option<Vec<u8>> {
+pub(crate) fn message_of<E: Display>(alloc: Global, error: &E) -> Option<Vec<u8>> {
     let mut text = Vec::new(alloc);
     write!(&mut text, "{error}").ok()?;
     Some(text)
@@ -44,7 +44,7 @@ fn run_text(alloc: Global, plan: &Plan) -> Option<Vec<u8>> {
     match run_serial(alloc, plan) {
         Ok((world, history)) => history_text(alloc, world.journal().len(), &history),
         Err(RunError::OutOfMemory | RunError::World(WorldError::OutOfMemory)) => None,
-        Err(error) => words(alloc, &error),
+        Err(error) => message_of(alloc, &error),
     }
 }
 
@@ -60,7 +60,7 @@ pub(crate) fn run_answer(alloc: Global, settings: &str) -> Option<Vec<u8>> {
 pub(crate) fn refusal(alloc: Global, error: PlanError) -> Option<Vec<u8>> {
     match error {
         PlanError::OutOfMemory => None,
-        error => words(alloc, &error),
+        error => message_of(alloc, &error),
     }
 }
 
