@@ -6,20 +6,20 @@ use rand_pcg::Lcg128Xsl64;
 /// A row of random numbers.
 #[derive(Drop)]
 pub struct Random {
-    words: Lcg128Xsl64,
+    numbers: Lcg128Xsl64,
 }
 
 impl Random {
     /// The row of a seed.
     pub fn new(seed: u64) -> Random {
         Random {
-            words: Lcg128Xsl64::new(u128::from(seed), 0),
+            numbers: Lcg128Xsl64::new(u128::from(seed), 0),
         }
     }
 
     /// A number below a bound, and 0 where there is none.
     pub fn below(&mut self, bound: u64) -> u64 {
-        self.words.next_word().checked_rem(bound).unwrap_or(0)
+        self.numbers.next_word().checked_rem(bound).unwrap_or(0)
     }
 
     /// Whether a number below four is below this one: never at 0, always at 4.

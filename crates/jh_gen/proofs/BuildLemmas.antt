@@ -11,20 +11,20 @@ use Rattle.jh_gen.specs.Falls.{gen_falls}
 use Rattle.jh_gen.specs.declared.node.Node.{Node}
 use Rattle.jh_gen.specs.declared.node.Member.{Member}
 use Rattle.jh_gen.specs.declared.node.Lot.{Lot}
-use Rattle.jh_gen.specs.Scope.{Scope, is_share_seat, is_beyond}
+use Rattle.jh_gen.specs.Scope.{Scope, is_share_thread, is_beyond}
 use Rattle.jh_gen.specs.Fits.{shares_sum, shares_fit, all_fit, fits}
 use Rattle.jh_gen.specs.State.{GeneratorState, split, state, no_lots, lot, joined_lots, state_left, states_left, lots_of, lots_each, states_from, lots_from}
 
 -- the states of the trees so far, with those of the rest, are those of all
-pub record Rows (made : List (Bool × GeneratorState)) (rest all : List Generator) (seats : Scope) : Type 0 where
-  pub same : ((tail : List (Bool × GeneratorState)) → (k : ℕ) → states_from tail ≡ states_left (row_of rest) k [] seats → states_from (made ++ tail) ≡ states_left (row_of all) 0 [] seats)
+pub record Rows (made : List (Bool × GeneratorState)) (rest all : List Generator) (threads : Scope) : Type 0 where
+  pub same : ((tail : List (Bool × GeneratorState)) → (k : ℕ) → states_from tail ≡ states_left (row_of rest) k [] threads → states_from (made ++ tail) ≡ states_left (row_of all) 0 [] threads)
   pub fit : all_fit 16 (row_of rest) ≡ true
 
 pub record Copies (made : List (List ℕ × GeneratorState)) (g : Generator) (rest all : List ℕ) : Type 0 where
   pub same : ((tail : List (List ℕ × GeneratorState)) → lots_from tail ≡ lots_each (λ x. state_left g [] (x ∷ [])) rest → lots_from (made ++ tail) ≡ lots_each (λ x. state_left g [] (x ∷ [])) all)
 
-pub record Parts (made : List (List ℕ × GeneratorState)) (first : ℕ) (rest all : List (ℕ × Generator)) (seats : Scope) : Type 0 where
-  pub same : ((tail : List (List ℕ × GeneratorState)) → (k : ℕ) → lots_from tail ≡ lots_of (share_list rest) k first [] seats → lots_from (made ++ tail) ≡ lots_of (share_list all) 0 0 [] seats)
+pub record Parts (made : List (List ℕ × GeneratorState)) (first : ℕ) (rest all : List (ℕ × Generator)) (threads : Scope) : Type 0 where
+  pub same : ((tail : List (List ℕ × GeneratorState)) → (k : ℕ) → lots_from tail ≡ lots_of (share_list rest) k first [] threads → lots_from (made ++ tail) ≡ lots_of (share_list all) 0 0 [] threads)
   pub sum : first + shares_sum (share_list rest) ≡ shares_sum (share_list all)
   pub fit : shares_fit 16 (share_list rest) ≡ true
 
@@ -78,7 +78,7 @@ copies_done made g all c = ap lots_from (sym (append-nil made)) ∙ c.same [] re
 
 lots_any : (ms : ShareList) (j k first : ℕ) (S : Scope) → lots_of ms j first [] S ≡ lots_of ms k first [] S
 lots_any no_shares j k first S = refl
-lots_any (share n g ms) j k first S = ap (lot (filter (is_share_seat first n) S) (state_left g [] (filter (is_share_seat first n) S))) (lots_any ms (suc j) (suc k) (first + n) S)
+lots_any (share n g ms) j k first S = ap (lot (filter (is_share_thread first n) S) (state_left g [] (filter (is_share_thread first n) S))) (lots_any ms (suc j) (suc k) (first + n) S)
 
 lots_append : (xs ys : List (List ℕ × GeneratorState)) → lots_from (xs ++ ys) ≡ joined_lots (lots_from xs) (lots_from ys)
 lots_append [] ys = refl
@@ -94,17 +94,17 @@ lots_push (x ∷ made) l = ap (λ ls. lot_of x ∷ ls) (lots_push made l)
 pub parts_done : (made : List (List ℕ × GeneratorState)) (first : ℕ) (all : List (ℕ × Generator)) (S : Scope) → Parts made first [] all S → lots_from made ≡ lots_of (share_list all) 0 0 [] S
 parts_done made first all S p = ap lots_from (sym (append-nil made)) ∙ p.same [] 0 refl
 
--- the shares, and all other seats
+-- the shares, and all other threads
 pub reserve_done : (made : List Lot) (l : Lot) (ms : ShareList) (g : Generator) (S others : Scope) → lots_from (lots_view made) ≡ lots_of ms 0 0 [] S → others ≡ filter (is_beyond (shares_sum ms)) S → lot_of l ≡ (others, state_left g [] others) → split (lots_from (lots_view (made ++ l ∷ []))) ≡ state_left (reserve ms g) [] S
 reserve_done made l ms g S others h e lot_is =
     ap split (ap lots_from (lots_push made l)
     ∙ lots_append (lots_view made) (lot_of l ∷ [])
     ∙ ap₂ joined_lots h (ap (λ x. lot x.0 x.1 no_lots) lot_is ∙ ap (λ ys. lot ys (state_left g [] ys) no_lots) e))
 
-parts_more : (made : List (List ℕ × GeneratorState)) (first n : ℕ) (g : Generator) (rest all : List (ℕ × Generator)) (S : Scope) (own : List ℕ) (s : GeneratorState) → Parts made first ((n, g) ∷ rest) all S → own ≡ filter (is_share_seat first n) S → s ≡ state_left g [] (filter (is_share_seat first n) S) → Parts (made ++ (own, s) ∷ []) (first + n) rest all S
+parts_more : (made : List (List ℕ × GeneratorState)) (first n : ℕ) (g : Generator) (rest all : List (ℕ × Generator)) (S : Scope) (own : List ℕ) (s : GeneratorState) → Parts made first ((n, g) ∷ rest) all S → own ≡ filter (is_share_thread first n) S → s ≡ state_left g [] (filter (is_share_thread first n) S) → Parts (made ++ (own, s) ∷ []) (first + n) rest all S
 parts_more made first n g rest all S own s p e h = record {
   same = λ tail k t. ap lots_from (append_assoc made ((own, s) ∷ []) tail)
-      ∙ p.same ((own, s) ∷ tail) 0 (ap₂ (λ y r. lot y s r) e (t ∙ lots_any (share_list rest) k 1 (first + n) S) ∙ ap (λ r. lot (filter (is_share_seat first n) S) r (lots_of (share_list rest) 1 (first + n) [] S)) h);
+      ∙ p.same ((own, s) ∷ tail) 0 (ap₂ (λ y r. lot y s r) e (t ∙ lots_any (share_list rest) k 1 (first + n) S) ∙ ap (λ r. lot (filter (is_share_thread first n) S) r (lots_of (share_list rest) 1 (first + n) [] S)) h);
   sum = omega (arith, p.sum);
   fit = (and_parts (fits 16 g) (shares_fit 16 (share_list rest)) p.fit).1;
 }
@@ -117,10 +117,10 @@ parts_fit made first xs i x all S p lt e =
     let h = here_parts made first xs i x all S p lt e in
     ((and_parts (fits 16 (generator_of x.1)) _ h.fit).0, omega (arith, h.sum))
 
-pub parts_push : (made : List Lot) (first : ℕ) (xs : List (ℕ × Gen)) (i : ℕ) (x : ℕ × Gen) (all : List (ℕ × Generator)) (S : Scope) (own : Vec ℕ Global) (n : Node) → Parts (lots_view made) first (shares_of (drop i xs)) all S → i < length xs → x ≡ get_or xs i x → own.items ≡ filter (is_share_seat first x.0) S → node_state n ≡ state_left (generator_of x.1) [] own.items → Parts (lots_view (made ++ record { seats = own; node = n } ∷ [])) (first + x.0) (shares_of (drop (i + 1) xs)) all S
-parts_push made first xs i x all S own n p lt e seats h =
-    subst (λ ls. Parts ls (first + x.0) (shares_of (drop (i + 1) xs)) all S) (sym (lots_push made (record { seats = own; node = n })))
-    (parts_more (lots_view made) first x.0 (generator_of x.1) _ all S own.items (node_state n) (here_parts _ first xs i x all S p lt e) seats (h ∙ ap (state_left (generator_of x.1) []) seats))
+pub parts_push : (made : List Lot) (first : ℕ) (xs : List (ℕ × Gen)) (i : ℕ) (x : ℕ × Gen) (all : List (ℕ × Generator)) (S : Scope) (own : Vec ℕ Global) (n : Node) → Parts (lots_view made) first (shares_of (drop i xs)) all S → i < length xs → x ≡ get_or xs i x → own.items ≡ filter (is_share_thread first x.0) S → node_state n ≡ state_left (generator_of x.1) [] own.items → Parts (lots_view (made ++ record { threads = own; node = n } ∷ [])) (first + x.0) (shares_of (drop (i + 1) xs)) all S
+parts_push made first xs i x all S own n p lt e threads h =
+    subst (λ ls. Parts ls (first + x.0) (shares_of (drop (i + 1) xs)) all S) (sym (lots_push made (record { threads = own; node = n })))
+    (parts_more (lots_view made) first x.0 (generator_of x.1) _ all S own.items (node_state n) (here_parts _ first xs i x all S p lt e) threads (h ∙ ap (state_left (generator_of x.1) []) threads))
 
 pub no_more : {X : Type 0} (xs : List X) (i : ℕ) → length xs ≤ i → drop i xs ≡ []
 no_more [] zero le = refl

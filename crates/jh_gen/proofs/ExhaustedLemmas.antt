@@ -5,7 +5,7 @@ use Rattle.std.specs.List.{list_all}
 use Rattle.std.proofs.lemmas.Bool.{cond-true, cond-false, and_parts, cases_Bool}
 use Rattle.jh_gen.specs.Generator.{Generator, nothing, once, rising, forever, seq, limit, mix, phases, reserve, each_thread, clients, nemesis_only, Generators, no_generators, generator, ShareList, no_shares, share}
 use Rattle.jh_gen.specs.Tally.{Tally, tally_under}
-use Rattle.jh_gen.specs.Scope.{Scope, is_client_thread, is_nemesis_thread, is_share_seat, is_beyond, is_in_scope, Question}
+use Rattle.jh_gen.specs.Scope.{Scope, is_client_thread, is_nemesis_thread, is_share_thread, is_beyond, is_in_scope, Question}
 use Rattle.jh_gen.specs.Offers.{shares_len, is_exhausted, are_all_exhausted, are_shares_exhausted, head_of, first_some, picked_value}
 use Rattle.jh_gen.specs.Fits.{shares_sum}
 use Rattle.jh_gen.specs.State.{GeneratorState, gone, one, counting, endless, in_turn, limited, mixed, split, GeneratorStates, no_states, state, Lots, no_lots, lot, is_done, are_all_done, are_lots_done, taking_within, taking, open_takings, lot_taking, state_left, states_left, lots_of, joined_lots, lots_each}
@@ -27,9 +27,9 @@ and_assoc : (a b c : Bool) → ((a && b) && c) ≡ (a && (b && c))
 and_assoc true b c = refl
 and_assoc false b c = refl
 
-done_and : (ls : Lots) (seats : List ℕ) (s : GeneratorState) → are_lots_done (joined_lots ls (lot seats s no_lots)) ≡ (are_lots_done ls && is_done s)
-done_and no_lots seats s = and_true (is_done s)
-done_and (lot xs r ls) seats s = ap (λ b. is_done r && b) (done_and ls seats s) ∙ sym (and_assoc (is_done r) (are_lots_done ls) (is_done s))
+done_and : (ls : Lots) (threads : List ℕ) (s : GeneratorState) → are_lots_done (joined_lots ls (lot threads s no_lots)) ≡ (are_lots_done ls && is_done s)
+done_and no_lots threads s = and_true (is_done s)
+done_and (lot xs r ls) threads s = ap (λ b. is_done r && b) (done_and ls threads s) ∙ sym (and_assoc (is_done r) (are_lots_done ls) (is_done s))
 
 mutual
   pub done_of : (g : Generator) (t : Tally) (S : Scope) → is_done (state_left g t S) ≡ is_exhausted g t S
@@ -55,7 +55,7 @@ mutual
   pub done_shares : (ms : ShareList) (i first : ℕ) (t : Tally) (S : Scope) → are_lots_done (lots_of ms i first t S) ≡ are_shares_exhausted ms i first t S
   done_shares no_shares i first t S = refl
   done_shares (share n g ms) i first t S =
-      ap₂ (λ a b. a && b) (done_of g (tally_under i t) (filter (is_share_seat first n) S)) (done_shares ms (suc i) (first + n) t S)
+      ap₂ (λ a b. a && b) (done_of g (tally_under i t) (filter (is_share_thread first n) S)) (done_shares ms (suc i) (first + n) t S)
 
 drop_nil : {X : Type 0} (k : ℕ) → drop {A = X} k [] ≡ []
 drop_nil zero = refl
@@ -93,9 +93,9 @@ mutual
 
   pub done_lots : (ls : Lots) (q : Question) → are_lots_done ls ≡ true → lot_taking ls q ≡ None
   done_lots no_lots q h = refl
-  done_lots (lot seats s ls) q h =
+  done_lots (lot threads s ls) q h =
       let parts = and_parts (is_done s) (are_lots_done ls) h in
-      elim (cases_Bool (is_in_scope seats q.seat)) [
-        | inl hit ↦ cond-true (is_in_scope seats q.seat) _ _ hit ∙ ap (taking_within (λ r. lot seats r ls)) (done_taken s q parts.0)
-        | inr miss ↦ cond-false (is_in_scope seats q.seat) _ _ miss ∙ ap (taking_within (lot seats s)) (done_lots ls q parts.1)
+      elim (cases_Bool (is_in_scope threads q.asker)) [
+        | inl hit ↦ cond-true (is_in_scope threads q.asker) _ _ hit ∙ ap (taking_within (λ r. lot threads r ls)) (done_taken s q parts.0)
+        | inr miss ↦ cond-false (is_in_scope threads q.asker) _ _ miss ∙ ap (taking_within (lot threads s)) (done_lots ls q parts.1)
       ]

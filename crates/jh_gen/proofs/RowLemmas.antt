@@ -227,24 +227,24 @@ in_turn_is awaited ms q =
 mixed_is : (ms : RowMembers) (q : Question) → taking (mixed (states_from ms)) q ≡ taking_within (λ ns. mixed (states_from ns)) (any_turn ms q)
 mixed_is ms q = ap (taking_within mixed) (picked_tries ms q) ∙ within_within mixed states_from (any_turn ms q)
 
-lots_is : (ls : List (List ℕ × GeneratorState)) (q : Question) → lot_taking (lots_from ls) q ≡ taking_within lots_from (lot_turn ls (lot_at ls q.seat) q)
+lots_is : (ls : List (List ℕ × GeneratorState)) (q : Question) → lot_taking (lots_from ls) q ≡ taking_within lots_from (lot_turn ls (lot_at ls q.asker) q)
 lots_is [] q = refl
 lots_is (l ∷ ls) q =
-    elim (cases_Bool (is_in_scope l.0 q.seat)) [
+    elim (cases_Bool (is_in_scope l.0 q.asker)) [
       | inl hit ↦
-          cond-true (is_in_scope l.0 q.seat) _ _ hit
+          cond-true (is_in_scope l.0 q.asker) _ _ hit
           ∙ sym (within_within lots_from (λ r. (l.0, r) ∷ ls) (taking l.1 q))
-          ∙ sym (ap (λ k. taking_within lots_from (lot_turn (l ∷ ls) k q)) (cond-true (is_in_scope l.0 q.seat) 0 (suc (lot_at ls q.seat)) hit))
+          ∙ sym (ap (λ k. taking_within lots_from (lot_turn (l ∷ ls) k q)) (cond-true (is_in_scope l.0 q.asker) 0 (suc (lot_at ls q.asker)) hit))
       | inr miss ↦
-          cond-false (is_in_scope l.0 q.seat) _ _ miss
+          cond-false (is_in_scope l.0 q.asker) _ _ miss
           ∙ ap (taking_within (lot l.0 l.1)) (lots_is ls q)
-          ∙ within_within (lot l.0 l.1) lots_from (lot_turn ls (lot_at ls q.seat) q)
-          ∙ sym (within_within lots_from (λ ns. l ∷ ns) (lot_turn ls (lot_at ls q.seat) q))
-          ∙ sym (ap (λ k. taking_within lots_from (lot_turn (l ∷ ls) k q)) (cond-false (is_in_scope l.0 q.seat) 0 (suc (lot_at ls q.seat)) miss))
+          ∙ within_within (lot l.0 l.1) lots_from (lot_turn ls (lot_at ls q.asker) q)
+          ∙ sym (within_within lots_from (λ ns. l ∷ ns) (lot_turn ls (lot_at ls q.asker) q))
+          ∙ sym (ap (λ k. taking_within lots_from (lot_turn (l ∷ ls) k q)) (cond-false (is_in_scope l.0 q.asker) 0 (suc (lot_at ls q.asker)) miss))
     ]
 
-split_is : (ls : List (List ℕ × GeneratorState)) (q : Question) → taking (split (lots_from ls)) q ≡ taking_within (λ ns. split (lots_from ns)) (lot_turn ls (lot_at ls q.seat) q)
-split_is ls q = ap (taking_within split) (lots_is ls q) ∙ within_within split lots_from (lot_turn ls (lot_at ls q.seat) q)
+split_is : (ls : List (List ℕ × GeneratorState)) (q : Question) → taking (split (lots_from ls)) q ≡ taking_within (λ ns. split (lots_from ns)) (lot_turn ls (lot_at ls q.asker) q)
+split_is ls q = ap (taking_within split) (lots_is ls q) ∙ within_within split lots_from (lot_turn ls (lot_at ls q.asker) q)
 
 pub in_turn_call : (awaited : List ℕ) (ms : RowMembers) (q : Question) → taken_call (first_turn awaited ms q) ≡ taken_call (taking (in_turn awaited (states_from ms)) q)
 in_turn_call awaited ms q = sym (ap taken_call (in_turn_is awaited ms q) ∙ call_within _ (first_turn awaited ms q))
@@ -258,11 +258,11 @@ mixed_call ms q = sym (ap taken_call (mixed_is ms q) ∙ call_within _ (any_turn
 pub mixed_rest : (ms : RowMembers) (q : Question) → mixed (states_from (rest_of ms (any_turn ms q))) ≡ rest_of (mixed (states_from ms)) (taking (mixed (states_from ms)) q)
 mixed_rest ms q = sym (ap (rest_of (mixed (states_from ms))) (mixed_is ms q) ∙ rest_within (λ ns. mixed (states_from ns)) ms (any_turn ms q))
 
-pub split_call : (ls : List (List ℕ × GeneratorState)) (q : Question) → taken_call (lot_turn ls (lot_at ls q.seat) q) ≡ taken_call (taking (split (lots_from ls)) q)
-split_call ls q = sym (ap taken_call (split_is ls q) ∙ call_within _ (lot_turn ls (lot_at ls q.seat) q))
+pub split_call : (ls : List (List ℕ × GeneratorState)) (q : Question) → taken_call (lot_turn ls (lot_at ls q.asker) q) ≡ taken_call (taking (split (lots_from ls)) q)
+split_call ls q = sym (ap taken_call (split_is ls q) ∙ call_within _ (lot_turn ls (lot_at ls q.asker) q))
 
-pub split_rest : (ls : List (List ℕ × GeneratorState)) (q : Question) → split (lots_from (rest_of ls (lot_turn ls (lot_at ls q.seat) q))) ≡ rest_of (split (lots_from ls)) (taking (split (lots_from ls)) q)
-split_rest ls q = sym (ap (rest_of (split (lots_from ls))) (split_is ls q) ∙ rest_within (λ ns. split (lots_from ns)) ls (lot_turn ls (lot_at ls q.seat) q))
+pub split_rest : (ls : List (List ℕ × GeneratorState)) (q : Question) → split (lots_from (rest_of ls (lot_turn ls (lot_at ls q.asker) q))) ≡ rest_of (split (lots_from ls)) (taking (split (lots_from ls)) q)
+split_rest ls q = sym (ap (rest_of (split (lots_from ls))) (split_is ls q) ∙ rest_within (λ ns. split (lots_from ns)) ls (lot_turn ls (lot_at ls q.asker) q))
 
 -- One member of a row.
 
@@ -387,14 +387,14 @@ lots_past_end [] k q le = refl
 lots_past_end (l ∷ ls) zero q le = absurd (omega arith)
 lots_past_end (l ∷ ls) (suc k) q le = ap (taking_within (λ ns. l ∷ ns)) (lots_past_end ls k q (omega arith))
 
-lot_get : (xs : List Lot) (k : ℕ) (l : Lot) (q : Question) → k < length xs → l ≡ get_or xs k l → lot_turn (lots_view xs) k q ≡ taking_within (λ r. set (lots_view xs) k (l.seats.items, r)) (taking (node_state l.node) q)
+lot_get : (xs : List Lot) (k : ℕ) (l : Lot) (q : Question) → k < length xs → l ≡ get_or xs k l → lot_turn (lots_view xs) k q ≡ taking_within (λ r. set (lots_view xs) k (l.threads.items, r)) (taking (node_state l.node) q)
 lot_get [] k l q lt e = absurd (omega arith)
-lot_get (x ∷ xs) zero l q lt e = subst (λ y. lot_turn (lots_view (x ∷ xs)) zero q ≡ taking_within (λ r. set (lots_view (x ∷ xs)) zero (y.seats.items, r)) (taking (node_state y.node) q)) (sym e) refl
+lot_get (x ∷ xs) zero l q lt e = subst (λ y. lot_turn (lots_view (x ∷ xs)) zero q ≡ taking_within (λ r. set (lots_view (x ∷ xs)) zero (y.threads.items, r)) (taking (node_state y.node) q)) (sym e) refl
 lot_get (x ∷ xs) (suc k) l q lt e =
     ap (taking_within (λ ns. lot_of x ∷ ns)) (lot_get xs k l q (omega arith) e)
-    ∙ within_within (λ ns. lot_of x ∷ ns) (λ r. set (lots_view xs) k (l.seats.items, r)) (taking (node_state l.node) q)
+    ∙ within_within (λ ns. lot_of x ∷ ns) (λ r. set (lots_view xs) k (l.threads.items, r)) (taking (node_state l.node) q)
 
-lot_rest : (xs : List Lot) (k : ℕ) (l : Lot) (n : Node) → lots_view (set xs k (record { seats = l.seats; node = n })) ≡ set (lots_view xs) k (l.seats.items, node_state n)
+lot_rest : (xs : List Lot) (k : ℕ) (l : Lot) (n : Node) → lots_view (set xs k (record { threads = l.threads; node = n })) ≡ set (lots_view xs) k (l.threads.items, node_state n)
 lot_rest [] k l n = refl
 lot_rest (x ∷ xs) zero l n = refl
 lot_rest (x ∷ xs) (suc k) l n = ap (λ ns. lot_of x ∷ ns) (lot_rest xs k l n)
@@ -421,14 +421,14 @@ lot_call xs ls k l q e lt is_at =
     ∙ ap taken_call (lot_get xs k l q (lots_long xs ls k e lt) is_at)
     ∙ call_within _ (taking (node_state l.node) q)
 
-pub lot_left : (xs : List Lot) (ls : List (List ℕ × GeneratorState)) (k : ℕ) (l : Lot) (n : Node) (q : Question) → lots_view xs ≡ ls → k < length ls → l ≡ get_or xs k l → node_state n ≡ rest_of (node_state l.node) (taking (node_state l.node) q) → lots_view (set xs k (record { seats = l.seats; node = n })) ≡ rest_of ls (lot_turn ls k q)
+pub lot_left : (xs : List Lot) (ls : List (List ℕ × GeneratorState)) (k : ℕ) (l : Lot) (n : Node) (q : Question) → lots_view xs ≡ ls → k < length ls → l ≡ get_or xs k l → node_state n ≡ rest_of (node_state l.node) (taking (node_state l.node) q) → lots_view (set xs k (record { threads = l.threads; node = n })) ≡ rest_of ls (lot_turn ls k q)
 lot_left xs ls k l n q e lt is_at h =
     lot_rest xs k l n
-    ∙ ap (λ s. set (lots_view xs) k (l.seats.items, s)) h
+    ∙ ap (λ s. set (lots_view xs) k (l.threads.items, s)) h
     ∙ sym (ap (λ r. rest_of r (lot_turn r k q)) (sym e)
     ∙ ap (rest_of (lots_view xs)) (lot_get xs k l q (lots_long xs ls k e lt) is_at)
-    ∙ ap (λ r. rest_of r (taking_within (λ s. set (lots_view xs) k (l.seats.items, s)) (taking (node_state l.node) q))) (sym (set_lot xs k l is_at))
-    ∙ rest_within (λ s. set (lots_view xs) k (l.seats.items, s)) (node_state l.node) (taking (node_state l.node) q))
+    ∙ ap (λ r. rest_of r (taking_within (λ s. set (lots_view xs) k (l.threads.items, s)) (taking (node_state l.node) q))) (sym (set_lot xs k l is_at))
+    ∙ rest_within (λ s. set (lots_view xs) k (l.threads.items, s)) (node_state l.node) (taking (node_state l.node) q))
 
 -- A range of places.
 

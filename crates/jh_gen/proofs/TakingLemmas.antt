@@ -11,7 +11,7 @@ use Rattle.jh_ops.specs.declared.call.Call.{Call}
 use Rattle.jh_ops.specs.declared.call.Call.TheVariants.{Client}
 use Rattle.jh_ops.specs.declared.call.Request.TheVariants.{Add}
 use Rattle.jh_gen.specs.Tally.{Path, Tally, tally_under}
-use Rattle.jh_gen.specs.Scope.{Scope, is_client_thread, is_nemesis_thread, is_share_seat, is_beyond, is_in_scope, Question, has_busy_thread}
+use Rattle.jh_gen.specs.Scope.{Scope, is_client_thread, is_nemesis_thread, is_share_thread, is_beyond, is_in_scope, Question, has_busy_thread}
 use Rattle.jh_gen.specs.Offers.{max_number, shares_len, is_exhausted, Offer, member_offer, head_of, first_some, picked_value, offer_unless_exhausted, offer, open_offers, share_offer}
 use Rattle.jh_gen.specs.Fits.{shares_sum}
 use Rattle.jh_gen.specs.State.{GeneratorState, gone, one, counting, endless, in_turn, limited, mixed, split, GeneratorStates, state, Lots, no_lots, lot, Taking, taking_within, counting_after, taking, open_takings, lot_taking, state_left, states_left, lots_of, joined_lots, lots_each}
@@ -83,17 +83,17 @@ picked_map f w os =
 -- Guards.
 
 -- a spent generator
-guarded : {X : Type 0} (b : Bool) (S : Scope) (q : Question) (left : Path → X) (x : Taking X) (o : Offer) → is_in_scope S q.seat ≡ true → (b ≡ true → x ≡ None) → (b ≡ false → x ≡ with_left left o) → x ≡ with_left left (offer_unless_exhausted b S q o)
+guarded : {X : Type 0} (b : Bool) (S : Scope) (q : Question) (left : Path → X) (x : Taking X) (o : Offer) → is_in_scope S q.asker ≡ true → (b ≡ true → x ≡ None) → (b ≡ false → x ≡ with_left left o) → x ≡ with_left left (offer_unless_exhausted b S q o)
 guarded true S q left x o here done unspent =
-    done refl ∙ ap (with_left left) (sym (cond-true (is_in_scope S q.seat) None None here))
+    done refl ∙ ap (with_left left) (sym (cond-true (is_in_scope S q.asker) None None here))
 guarded false S q left x o here done unspent =
-    unspent refl ∙ ap (with_left left) (sym (cond-true (is_in_scope S q.seat) o None here))
+    unspent refl ∙ ap (with_left left) (sym (cond-true (is_in_scope S q.asker) o None here))
 
-unless_outside : (b : Bool) (S : Scope) (q : Question) (o : Offer) → is_in_scope S q.seat ≡ false → offer_unless_exhausted b S q o ≡ None
-unless_outside b S q o out = cond-false (is_in_scope S q.seat) _ _ out
+unless_outside : (b : Bool) (S : Scope) (q : Question) (o : Offer) → is_in_scope S q.asker ≡ false → offer_unless_exhausted b S q o ≡ None
+unless_outside b S q o out = cond-false (is_in_scope S q.asker) _ _ out
 
 -- a thread outside the scope
-pub outside : (g : Generator) (t : Tally) (S : Scope) (q : Question) → is_in_scope S q.seat ≡ false → offer g t S q ≡ None
+pub outside : (g : Generator) (t : Tally) (S : Scope) (q : Question) → is_in_scope S q.asker ≡ false → offer g t S q ≡ None
 outside nothing t S q out = refl
 outside (once c) t S q out = unless_outside (is_exhausted (once c) t S) S q _ out
 outside (rising n) t S q out = unless_outside (is_exhausted (rising n) t S) S q _ out
@@ -117,7 +117,7 @@ lefts_other (generator g gs) k j p t S lt =
 lots_other : (ms : ShareList) (k first j : ℕ) (p : Path) (t : Tally) (S : Scope) → j < k → lots_of ms k first ((j ∷ p) ∷ t) S ≡ lots_of ms k first t S
 lots_other no_shares k first j p t S lt = refl
 lots_other (share n g ms) k first j p t S lt =
-    ap₂ (λ u r. lot (filter (is_share_seat first n) S) (state_left g u (filter (is_share_seat first n) S)) r) (under_other k j p t (omega arith)) (lots_other ms (suc k) (first + n) j p t S (omega arith))
+    ap₂ (λ u r. lot (filter (is_share_thread first n) S) (state_left g u (filter (is_share_thread first n) S)) r) (under_other k j p t (omega arith)) (lots_other ms (suc k) (first + n) j p t S (omega arith))
 
 -- an offer's path begins with a member's number that is at least k
 abbrev pub Above : ℕ → Offer → Type 0
@@ -177,14 +177,14 @@ all_behind k t f left (o ∷ os) h = ap₂ (λ x xs. x ∷ xs) (behind k t f lef
 
 -- The kinds of one call each.
 
-one_left : (c : Call) (t : Tally) (S : Scope) (q : Question) → is_in_scope S q.seat ≡ true → (is_exhausted (once c) t S) ≡ false → taking (state_left (once c) t S) q ≡ with_left (λ p. state_left (once c) (p ∷ t) S) (Some ([], c))
+one_left : (c : Call) (t : Tally) (S : Scope) (q : Question) → is_in_scope S q.asker ≡ true → (is_exhausted (once c) t S) ≡ false → taking (state_left (once c) t S) q ≡ with_left (λ p. state_left (once c) (p ∷ t) S) (Some ([], c))
 one_left c t S q here unspent =
     ap (λ s. taking s q) (cond-false (is_exhausted (once c) t S) gone (one c) unspent)
     ∙ ap (λ s. Some (c, s)) (sym (cond-true (is_empty S || true) gone (one c) (or_right (is_empty S) true refl)))
 
-endless_left : (c : Call) (t : Tally) (S : Scope) (q : Question) → is_in_scope S q.seat ≡ true → taking (state_left (forever c) t S) q ≡ with_left (λ p. state_left (forever c) (p ∷ t) S) (Some ([], c))
+endless_left : (c : Call) (t : Tally) (S : Scope) (q : Question) → is_in_scope S q.asker ≡ true → taking (state_left (forever c) t S) q ≡ with_left (λ p. state_left (forever c) (p ∷ t) S) (Some ([], c))
 endless_left c t S q here =
-    let some = cond-false (is_empty S) gone (endless c) (some_in S q.seat here) in
+    let some = cond-false (is_empty S) gone (endless c) (some_in S q.asker here) in
     ap (λ s. taking s q) some ∙ ap (λ s. Some (c, s)) (sym some)
 
 one_more : (n : ℤ) (k : ℕ) → (n +ℤ pos (suc k)) ≡ ((n +ℤ pos k) +ℤ pos 1)
@@ -200,12 +200,12 @@ swapped : (b : Bool) (x y : GeneratorState) → cond (not b) x y ≡ cond b y x
 swapped true x y = refl
 swapped false x y = refl
 
-counting_left : (n : ℤ) (t : Tally) (S : Scope) (q : Question) → is_in_scope S q.seat ≡ true → (is_exhausted (rising n) t S) ≡ false → taking (state_left (rising n) t S) q ≡ with_left (λ p. state_left (rising n) (p ∷ t) S) (Some ([], Client (Add (n +ℤ pos (length t)))))
+counting_left : (n : ℤ) (t : Tally) (S : Scope) (q : Question) → is_in_scope S q.asker ≡ true → (is_exhausted (rising n) t S) ≡ false → taking (state_left (rising n) t S) q ≡ with_left (λ p. state_left (rising n) (p ∷ t) S) (Some ([], Client (Add (n +ℤ pos (length t)))))
 counting_left n t S q here unspent =
     let m : ℤ = n +ℤ pos (length t) in
     let count : ℤ → GeneratorState = λ k. cond (int_lt max_number k) gone (counting k) in
     let next : state_left (rising n) ([] ∷ t) S ≡ counting_after m =
-    ap (λ e. cond (e || int_lt max_number (n +ℤ pos (suc (length t)))) gone (counting (n +ℤ pos (suc (length t))))) (some_in S q.seat here)
+    ap (λ e. cond (e || int_lt max_number (n +ℤ pos (suc (length t)))) gone (counting (n +ℤ pos (suc (length t))))) (some_in S q.asker here)
     ∙ ap count (one_more n (length t))
     ∙ ap (λ b. cond b gone (counting (m +ℤ pos 1))) (at_end m)
     ∙ swapped (int_lt m max_number) gone (counting (m +ℤ pos 1)) in
@@ -224,15 +224,15 @@ chosen true left x xs o os h hs = hs
 chosen false left x xs o os h hs = ap₂ (λ y ys. y ∷ ys) h hs
 
 -- a member of a scope of its own
-scoped : {X : Type 0} (f : GeneratorState → X) (g : Generator) (u : Tally) (S : Scope) (q : Question) → (is_in_scope S q.seat ≡ true → taking (state_left g u S) q ≡ with_left (λ p. state_left g (p ∷ u) S) (offer g u S q)) → cond (is_in_scope S q.seat) (taking_within f (taking (state_left g u S) q)) None ≡ with_left (λ p. f (state_left g (p ∷ u) S)) (offer g u S q)
+scoped : {X : Type 0} (f : GeneratorState → X) (g : Generator) (u : Tally) (S : Scope) (q : Question) → (is_in_scope S q.asker ≡ true → taking (state_left g u S) q ≡ with_left (λ p. state_left g (p ∷ u) S) (offer g u S q)) → cond (is_in_scope S q.asker) (taking_within f (taking (state_left g u S) q)) None ≡ with_left (λ p. f (state_left g (p ∷ u) S)) (offer g u S q)
 scoped f g u S q h =
-    elim (cases_Bool (is_in_scope S q.seat)) [
-      | inl hit ↦ cond-true (is_in_scope S q.seat) _ _ hit ∙ ap (taking_within f) (h hit) ∙ within_left f (λ p. state_left g (p ∷ u) S) (offer g u S q)
-      | inr miss ↦ cond-false (is_in_scope S q.seat) _ _ miss ∙ ap (with_left (λ p. f (state_left g (p ∷ u) S))) (sym (outside g u S q miss))
+    elim (cases_Bool (is_in_scope S q.asker)) [
+      | inl hit ↦ cond-true (is_in_scope S q.asker) _ _ hit ∙ ap (taking_within f) (h hit) ∙ within_left f (λ p. state_left g (p ∷ u) S) (offer g u S q)
+      | inr miss ↦ cond-false (is_in_scope S q.asker) _ _ miss ∙ ap (with_left (λ p. f (state_left g (p ∷ u) S))) (sym (outside g u S q miss))
     ]
 
 -- a part of the scope for one member, with number 0
-part_left : (g : Generator) (t : Tally) (S : Scope) (q : Question) → (is_in_scope S q.seat ≡ true → taking (state_left g (tally_under 0 t) S) q ≡ with_left (λ p. state_left g (p ∷ tally_under 0 t) S) (offer g (tally_under 0 t) S q)) → taking (split (lot S (state_left g (tally_under 0 t) S) no_lots)) q ≡ with_left (λ p. split (lot S (state_left g (tally_under 0 (p ∷ t)) S) no_lots)) (member_offer 0 (offer g (tally_under 0 t) S q))
+part_left : (g : Generator) (t : Tally) (S : Scope) (q : Question) → (is_in_scope S q.asker ≡ true → taking (state_left g (tally_under 0 t) S) q ≡ with_left (λ p. state_left g (p ∷ tally_under 0 t) S) (offer g (tally_under 0 t) S q)) → taking (split (lot S (state_left g (tally_under 0 t) S) no_lots)) q ≡ with_left (λ p. split (lot S (state_left g (tally_under 0 (p ∷ t)) S) no_lots)) (member_offer 0 (offer g (tally_under 0 t) S q))
 part_left g t S q h =
     let o = offer g (tally_under 0 t) S q in
     let f : GeneratorState → Lots = λ r. lot S r no_lots in
@@ -249,43 +249,43 @@ copies_other g t x p (y ∷ xs) out =
     let other : x ≡ y → ⊥ = λ e. let f = eq-eqb y x (sym e) in let z = parts.0 in absurd cc in
     ap₂ (λ u r. lot (y ∷ []) (state_left g u (y ∷ [])) r) (under_other y x p t other) (copies_other g t x p xs parts.1)
 
-copies_left : (g : Generator) (t : Tally) (q : Question) (xs : List ℕ) → is_distinct xs ≡ true → is_in_scope xs q.seat ≡ true → taking (state_left g (tally_under q.seat t) (q.seat ∷ [])) q ≡ with_left (λ p. state_left g (p ∷ tally_under q.seat t) (q.seat ∷ [])) (offer g (tally_under q.seat t) (q.seat ∷ []) q) → lot_taking (lots_each (λ x. state_left g (tally_under x t) (x ∷ [])) xs) q ≡ with_left (λ p. lots_each (λ x. state_left g (tally_under x (p ∷ t)) (x ∷ [])) xs) (member_offer q.seat (offer g (tally_under q.seat t) (q.seat ∷ []) q))
+copies_left : (g : Generator) (t : Tally) (q : Question) (xs : List ℕ) → is_distinct xs ≡ true → is_in_scope xs q.asker ≡ true → taking (state_left g (tally_under q.asker t) (q.asker ∷ [])) q ≡ with_left (λ p. state_left g (p ∷ tally_under q.asker t) (q.asker ∷ [])) (offer g (tally_under q.asker t) (q.asker ∷ []) q) → lot_taking (lots_each (λ x. state_left g (tally_under x t) (x ∷ [])) xs) q ≡ with_left (λ p. lots_each (λ x. state_left g (tally_under x (p ∷ t)) (x ∷ [])) xs) (member_offer q.asker (offer g (tally_under q.asker t) (q.asker ∷ []) q))
 copies_left g t q [] d here h = absurd cc
 copies_left g t q (x ∷ xs) d here h =
-    let o = offer g (tally_under q.seat t) (q.seat ∷ []) q in
+    let o = offer g (tally_under q.asker t) (q.asker ∷ []) q in
     let copy : ℕ → GeneratorState = λ y. state_left g (tally_under y t) (y ∷ []) in
     let rest = lots_each copy xs in
     let left : Path → Lots = λ p. lots_each (λ y. state_left g (tally_under y (p ∷ t)) (y ∷ [])) (x ∷ xs) in
     let parts = and_parts (not (is_in_scope xs x)) (is_distinct xs) d in
-    elim (cases_Bool (x == q.seat)) [
+    elim (cases_Bool (x == q.asker)) [
       | inl hit ↦
-          let same : x ≡ q.seat = eqb-true x q.seat hit in
+          let same : x ≡ q.asker = eqb-true x q.asker hit in
           let own : taking (copy x) q ≡ with_left (λ p. state_left g (p ∷ tally_under x t) (x ∷ [])) o =
           subst (λ y. taking (copy y) q ≡ with_left (λ p. state_left g (p ∷ tally_under y t) (y ∷ [])) o) (sym same) h in
-          let out : is_in_scope xs q.seat ≡ false = subst (λ y. is_in_scope xs y ≡ false) same (not-false' (is_in_scope xs x) parts.0) in
-          cond-true ((x == q.seat) || false) _ _ (or_left (x == q.seat) false hit)
+          let out : is_in_scope xs q.asker ≡ false = subst (λ y. is_in_scope xs y ≡ false) same (not-false' (is_in_scope xs x) parts.0) in
+          cond-true ((x == q.asker) || false) _ _ (or_left (x == q.asker) false hit)
           ∙ ap (taking_within (λ r. lot (x ∷ []) r rest)) own
           ∙ within_left (λ r. lot (x ∷ []) r rest) (λ p. state_left g (p ∷ tally_under x t) (x ∷ [])) o
           ∙ same_left _ _ (λ p. ap₂ (λ u r. lot (x ∷ []) (state_left g u (x ∷ [])) r)
-          (sym (ap (λ y. tally_under y ((q.seat ∷ p) ∷ t)) same ∙ under_same q.seat p t ∙ ap (λ y. p ∷ tally_under y t) (sym same)))
-          (sym (copies_other g t q.seat p xs out))) o
-          ∙ sym (member_left q.seat left o)
+          (sym (ap (λ y. tally_under y ((q.asker ∷ p) ∷ t)) same ∙ under_same q.asker p t ∙ ap (λ y. p ∷ tally_under y t) (sym same)))
+          (sym (copies_other g t q.asker p xs out))) o
+          ∙ sym (member_left q.asker left o)
       | inr miss ↦
-          let other : q.seat ≡ x → ⊥ = λ e. let f = eq-eqb x q.seat (sym e) in absurd cc in
-          let there : is_in_scope xs q.seat ≡ true = ap (λ b. b || is_in_scope xs q.seat) (sym miss) ∙ here in
-          cond-false ((x == q.seat) || false) _ _ (ap (λ b. b || false) miss)
-          ∙ ap (taking_within (lot (x ∷ []) (copy x))) (copies_left g t q xs parts.1 there h ∙ member_left q.seat (λ p. lots_each (λ y. state_left g (tally_under y (p ∷ t)) (y ∷ [])) xs) o)
-          ∙ within_left (lot (x ∷ []) (copy x)) (λ p. lots_each (λ y. state_left g (tally_under y ((q.seat ∷ p) ∷ t)) (y ∷ [])) xs) o
-          ∙ same_left _ _ (λ p. ap (λ u. lot (x ∷ []) (state_left g u (x ∷ [])) (lots_each (λ y. state_left g (tally_under y ((q.seat ∷ p) ∷ t)) (y ∷ [])) xs)) (sym (under_other x q.seat p t other))) o
-          ∙ sym (member_left q.seat left o)
+          let other : q.asker ≡ x → ⊥ = λ e. let f = eq-eqb x q.asker (sym e) in absurd cc in
+          let there : is_in_scope xs q.asker ≡ true = ap (λ b. b || is_in_scope xs q.asker) (sym miss) ∙ here in
+          cond-false ((x == q.asker) || false) _ _ (ap (λ b. b || false) miss)
+          ∙ ap (taking_within (lot (x ∷ []) (copy x))) (copies_left g t q xs parts.1 there h ∙ member_left q.asker (λ p. lots_each (λ y. state_left g (tally_under y (p ∷ t)) (y ∷ [])) xs) o)
+          ∙ within_left (lot (x ∷ []) (copy x)) (λ p. lots_each (λ y. state_left g (tally_under y ((q.asker ∷ p) ∷ t)) (y ∷ [])) xs) o
+          ∙ same_left _ _ (λ p. ap (λ u. lot (x ∷ []) (state_left g u (x ∷ [])) (lots_each (λ y. state_left g (tally_under y ((q.asker ∷ p) ∷ t)) (y ∷ [])) xs)) (sym (under_other x q.asker p t other))) o
+          ∙ sym (member_left q.asker left o)
     ]
 
 -- shares of a reserve
 share_above : (ms : ShareList) (k j first : ℕ) (t : Tally) (S : Scope) (q : Question) (others : Offer) → k ≤ j → Above k others → Above k (share_offer ms j first t S q others)
 share_above no_shares k j first t S q others le h = h
 share_above (share n g ms) k j first t S q others le h =
-    above_choice k (is_share_seat first n q.seat) _ _
-    (above_member k j (offer g (tally_under j t) (filter (is_share_seat first n) S) q) le)
+    above_choice k (is_share_thread first n q.asker) _ _
+    (above_member k j (offer g (tally_under j t) (filter (is_share_thread first n) S) q) le)
     (share_above ms k (suc j) (first + n) t S q others (omega arith) h)
 
 -- All kinds.
@@ -306,7 +306,7 @@ abbrev pub TakenIs : Generator → Tally → Scope → Question → Type 0
 TakenIs g t S q = taking (state_left g t S) q ≡ with_left (λ p. state_left g (p ∷ t) S) (offer g t S q)
 
 mutual
-  pub taken_is : (g : Generator) (t : Tally) (S : Scope) (q : Question) → is_distinct S ≡ true → is_in_scope S q.seat ≡ true → taking (state_left g t S) q ≡ with_left (λ p. state_left g (p ∷ t) S) (offer g t S q)
+  pub taken_is : (g : Generator) (t : Tally) (S : Scope) (q : Question) → is_distinct S ≡ true → is_in_scope S q.asker ≡ true → taking (state_left g t S) q ≡ with_left (λ p. state_left g (p ∷ t) S) (offer g t S q)
   taken_is nothing t S q d here = refl
   taken_is (once c) t S q d here =
       guarded (is_exhausted (once c) t S) S q _ _ _ here (λ b. done_taken (state_left (once c) t S) q (done_of (once c) t S ∙ b)) (one_left c t S q here)
@@ -345,10 +345,10 @@ mutual
       (λ b. ap (taking_within split) (shares_is ms k 0 0 last t S q others d here (above_member k k (offer g (tally_under k t) xs q) (omega arith)) base (omega arith))
       ∙ within_left split (λ p. joined_lots (lots_of ms 0 0 (p ∷ t) S) (last (tally_under k (p ∷ t)))) (share_offer ms 0 0 t S q others))
   taken_is (each_thread g) t S q d here =
-      let o = offer g (tally_under q.seat t) (q.seat ∷ []) q in
+      let o = offer g (tally_under q.asker t) (q.asker ∷ []) q in
       guarded (is_exhausted (each_thread g) t S) S q _ _ _ here (λ b. done_taken (state_left (each_thread g) t S) q (done_of (each_thread g) t S ∙ b))
-      (λ b. ap (taking_within split) (copies_left g t q S d here (taken_is g (tally_under q.seat t) (q.seat ∷ []) q refl (or_left (q.seat == q.seat) false (eq-eqb q.seat q.seat refl))))
-      ∙ within_left split (λ p. lots_each (λ x. state_left g (tally_under x (p ∷ t)) (x ∷ [])) S) (member_offer q.seat o))
+      (λ b. ap (taking_within split) (copies_left g t q S d here (taken_is g (tally_under q.asker t) (q.asker ∷ []) q refl (or_left (q.asker == q.asker) false (eq-eqb q.asker q.asker refl))))
+      ∙ within_left split (λ p. lots_each (λ x. state_left g (tally_under x (p ∷ t)) (x ∷ [])) S) (member_offer q.asker o))
   taken_is (clients g) t S q d here =
       guarded (is_exhausted (clients g) t S) S q _ _ _ here (λ b. done_taken (state_left (clients g) t S) q (done_of (clients g) t S ∙ b))
       (λ b. part_left g t (filter is_client_thread S) q (taken_is g (tally_under 0 t) (filter is_client_thread S) q (distinct_filter is_client_thread S d)))
@@ -356,7 +356,7 @@ mutual
       guarded (is_exhausted (nemesis_only g) t S) S q _ _ _ here (λ b. done_taken (state_left (nemesis_only g) t S) q (done_of (nemesis_only g) t S ∙ b))
       (λ b. part_left g t (filter is_nemesis_thread S) q (taken_is g (tally_under 0 t) (filter is_nemesis_thread S) q (distinct_filter is_nemesis_thread S d)))
 
-  pub open_is : (awaited : Scope) (gs : Generators) (j : ℕ) (t : Tally) (S : Scope) (q : Question) → is_distinct S ≡ true → is_in_scope S q.seat ≡ true → open_takings awaited (states_left gs j t S) q ≡ map (with_left (λ p. states_left gs j (p ∷ t) S)) (open_offers awaited gs j t S q)
+  pub open_is : (awaited : Scope) (gs : Generators) (j : ℕ) (t : Tally) (S : Scope) (q : Question) → is_distinct S ≡ true → is_in_scope S q.asker ≡ true → open_takings awaited (states_left gs j t S) q ≡ map (with_left (λ p. states_left gs j (p ∷ t) S)) (open_offers awaited gs j t S q)
   open_is awaited no_generators j t S q d here = refl
   open_is awaited (generator g gs) j t S q d here =
       let u = tally_under j t in
@@ -377,33 +377,33 @@ mutual
       ap (λ e. cond e (map (taking_within (state b s)) (open_takings awaited ss q)) (cond (not b && has_busy_thread q.busy awaited) None (taking_within (λ r. state true r ss) (taking s q)) ∷ map (taking_within (state b s)) (open_takings awaited ss q))) (done_of g u S)
       ∙ chosen (is_exhausted g u S) left _ _ _ rest (waits (is_empty u) (has_busy_thread q.busy awaited) _ left (member_offer j o) own) later
 
-  pub shares_is : (ms : ShareList) (k j first : ℕ) (last : Tally → Lots) (t : Tally) (S : Scope) (q : Question) (others : Offer) → is_distinct S ≡ true → is_in_scope S q.seat ≡ true → Above k others → lot_taking (last (tally_under k t)) q ≡ with_left (λ p. last (tally_under k (p ∷ t))) others → j + shares_len ms ≤ k → lot_taking (joined_lots (lots_of ms j first t S) (last (tally_under k t))) q ≡ with_left (λ p. joined_lots (lots_of ms j first (p ∷ t) S) (last (tally_under k (p ∷ t)))) (share_offer ms j first t S q others)
+  pub shares_is : (ms : ShareList) (k j first : ℕ) (last : Tally → Lots) (t : Tally) (S : Scope) (q : Question) (others : Offer) → is_distinct S ≡ true → is_in_scope S q.asker ≡ true → Above k others → lot_taking (last (tally_under k t)) q ≡ with_left (λ p. last (tally_under k (p ∷ t))) others → j + shares_len ms ≤ k → lot_taking (joined_lots (lots_of ms j first t S) (last (tally_under k t))) q ≡ with_left (λ p. joined_lots (lots_of ms j first (p ∷ t) S) (last (tally_under k (p ∷ t)))) (share_offer ms j first t S q others)
   shares_is no_shares k j first last t S q others d here above base le = base
   shares_is (share n g ms) k j first last t S q others d here above base le =
       let u = tally_under j t in
-      let xs = filter (is_share_seat first n) S in
+      let xs = filter (is_share_thread first n) S in
       let s = state_left g u xs in
       let rest = joined_lots (lots_of ms (suc j) (first + n) t S) (last (tally_under k t)) in
       let o = offer g u xs q in
       let left : Path → Lots = λ p. joined_lots (lots_of (share n g ms) j first (p ∷ t) S) (last (tally_under k (p ∷ t))) in
       let lt : j < k = omega arith in
       let le2 : suc j + shares_len ms ≤ k = omega arith in
-      elim (cases_Bool (is_share_seat first n q.seat)) [
+      elim (cases_Bool (is_share_thread first n q.asker)) [
         | inl hit ↦
-            let in_xs : is_in_scope xs q.seat ≡ true = filter_in (is_share_seat first n) S q.seat here hit in
-            cond-true (is_in_scope xs q.seat) _ _ in_xs
-            ∙ ap (taking_within (λ r. lot xs r rest)) (taken_is g u xs q (distinct_filter (is_share_seat first n) S d) in_xs)
+            let in_xs : is_in_scope xs q.asker ≡ true = filter_in (is_share_thread first n) S q.asker here hit in
+            cond-true (is_in_scope xs q.asker) _ _ in_xs
+            ∙ ap (taking_within (λ r. lot xs r rest)) (taken_is g u xs q (distinct_filter (is_share_thread first n) S d) in_xs)
             ∙ within_left (λ r. lot xs r rest) (λ p. state_left g (p ∷ u) xs) o
             ∙ same_left _ _ (λ p. ap₂ (λ v r. lot xs (state_left g v xs) r) (sym (under_same j p t))
             (sym (ap₂ (λ ls v. joined_lots ls (last v)) (lots_other ms (suc j) (first + n) j p t S (omega arith)) (under_other k j p t (λ e. omega arith))))) o
             ∙ sym (member_left j left o)
-            ∙ ap (with_left left) (sym (cond-true (is_share_seat first n q.seat) (member_offer j o) _ hit))
+            ∙ ap (with_left left) (sym (cond-true (is_share_thread first n q.asker) (member_offer j o) _ hit))
         | inr miss ↦
-            let out : is_in_scope xs q.seat ≡ false = filter_out (is_share_seat first n) S q.seat miss in
+            let out : is_in_scope xs q.asker ≡ false = filter_out (is_share_thread first n) S q.asker miss in
             let later = share_offer ms (suc j) (first + n) t S q others in
-            cond-false (is_in_scope xs q.seat) _ _ out
+            cond-false (is_in_scope xs q.asker) _ _ out
             ∙ ap (taking_within (lot xs s)) (shares_is ms k (suc j) (first + n) last t S q others d here above base le2)
             ∙ behind j t (λ v r. lot xs (state_left g v xs) r) (λ p. joined_lots (lots_of ms (suc j) (first + n) (p ∷ t) S) (last (tally_under k (p ∷ t)))) later
             (share_above ms (suc j) (suc j) (first + n) t S q others (omega arith) (above_less (suc j) k others (omega arith) above))
-            ∙ ap (with_left left) (sym (cond-false (is_share_seat first n q.seat) (member_offer j o) later miss))
+            ∙ ap (with_left left) (sym (cond-false (is_share_thread first n q.asker) (member_offer j o) later miss))
       ]

@@ -16,7 +16,7 @@ pub some_in : (S : Scope) (x : ℕ) → is_in_scope S x ≡ true → is_empty S 
 some_in [] x h = absurd cc
 some_in (y ∷ S) x h = refl
 
--- each seat stands once in the list
+-- each thread stands once in the list
 abbrev pub is_distinct : Scope → Bool
 is_distinct [] = true
 is_distinct (x ∷ xs) = not (is_in_scope xs x) && is_distinct xs
@@ -48,7 +48,7 @@ distinct_filter p (y ∷ S) h =
       | inr miss ↦ ap is_distinct (cond-false (p y) (y ∷ filter p S) (filter p S) miss) ∙ distinct_filter p S parts.1
     ]
 
--- a seat in the scope that passes the test is in the part that passes
+-- a thread in the scope that passes the test is in the part that passes
 pub filter_in : (p : ℕ → Bool) (S : Scope) (x : ℕ) → is_in_scope S x ≡ true → p x ≡ true → is_in_scope (filter p S) x ≡ true
 filter_in p [] x h hit = h
 filter_in p (y ∷ S) x h hit =

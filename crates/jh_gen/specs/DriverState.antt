@@ -36,8 +36,8 @@ abbrev pub max_calls : ℕ
 max_calls = 1000000
 
 -- The number of client threads, what is left of the generator, how many calls were given; and by
--- seat, whether its thread has an operation outstanding, and its process number (that at the
--- nemesis's seat means nothing).
+-- thread, whether it has an operation outstanding, and its process number (that of the nemesis
+-- means nothing).
 pub record DriverState : Type 0 where
   pub clients : ℕ
   pub state : GeneratorState
@@ -55,35 +55,35 @@ driver_coded =
     { clients = p.0; state = p.1.0; given = p.1.1.0; busy = p.1.1.1.0; processes = p.1.1.1.1 })
     (λ _. refl)
 
-abbrev pub seat_of : Thread → ℕ
-seat_of (thread.Client n) = n + 1
-seat_of thread.Nemesis = 0
+abbrev pub thread_number : Thread → ℕ
+thread_number (thread.Client n) = n + 1
+thread_number thread.Nemesis = 0
 
--- so many seats from one on
-abbrev pub seats_from : ℕ → ℕ → Scope
-seats_from first zero = []
-seats_from first (suc n) = first ∷ seats_from (first + 1) n
+-- so many threads from one on
+abbrev pub threads_from : ℕ → ℕ → Scope
+threads_from first zero = []
+threads_from first (suc n) = first ∷ threads_from (first + 1) n
 
--- the top scope: the seats of the nemesis and of all client threads
-abbrev pub all_seats : ℕ → Scope
-all_seats clients = seats_from 0 (suc clients)
+-- the top scope: the nemesis and all client threads
+abbrev pub all_threads : ℕ → Scope
+all_threads clients = threads_from 0 (suc clients)
 
 -- The driver is that of this generator after this tally: what is left in it is what the tally
 -- leaves, and it gave as many calls as the tally has.
 pub record IsDriverOf (d : DriverState) (g : Generator) (t : Tally) : Type 0 where
-  pub left : d.state ≡ state_left g t (all_seats d.clients)
+  pub left : d.state ≡ state_left g t (all_threads d.clients)
   pub count : d.given ≡ length t
 
 -- the thread is one of the driver's
 abbrev pub IsKnown : DriverState → Thread → Type 0
-IsKnown d x = seat_of x ≤ d.clients
+IsKnown d x = thread_number x ≤ d.clients
 
 abbrev pub IsUnknown : DriverState → Thread → Type 0
-IsUnknown d x = d.clients < seat_of x
+IsUnknown d x = d.clients < thread_number x
 
 -- the thread has an operation outstanding
 abbrev pub is_thread_busy : DriverState → Thread → Bool
-is_thread_busy d x = slice_index_or d.busy (seat_of x) false
+is_thread_busy d x = slice_index_or d.busy (thread_number x) false
 
 abbrev pub process_of_thread : List ℕ → Thread → Process
 process_of_thread processes (thread.Client n) = process.Client (slice_index processes (n + 1))
@@ -129,7 +129,7 @@ RefusesAsking d x NothingOpen = ⊥
 
 abbrev pub question_by : DriverState → Thread → ℕ → Question
 question_by d x random_number =
-    record { seat = seat_of x; random_number = random_number; busy = d.busy }
+    record { asker = thread_number x; random_number = random_number; busy = d.busy }
 
 -- The driver d becomes e by giving thread x a call: its generator has given one more call, by this
 -- path, the thread is busy, and nothing else changes.
@@ -137,20 +137,20 @@ pub record GivesCall (d e : DriverState) (x : Thread) (g : Generator) (t : Tally
     (path : Path) : Type 0 where
   pub stands : IsDriverOf e g (path ∷ t)
   pub clients : e.clients ≡ d.clients
-  pub busy : e.busy ≡ set d.busy (seat_of x) true
+  pub busy : e.busy ≡ set d.busy (thread_number x) true
   pub processes : e.processes ≡ d.processes
 
 -- What a thread is answered, after this tally: `Done` exactly where the generator is spent, else
 -- what it offers, or `Pending` where it offers nothing.
 abbrev pub Answers : Generator → Tally → DriverState → Thread → ℕ → GenAnswer → DriverState → Type 0
-Answers g t d x random_number Done e = (is_exhausted g t (all_seats d.clients) ≡ true) × (e ≡ d)
+Answers g t d x random_number Done e = (is_exhausted g t (all_threads d.clients) ≡ true) × (e ≡ d)
 Answers g t d x random_number Pending e =
-    (is_exhausted g t (all_seats d.clients) ≡ false)
-    × (offer g t (all_seats d.clients) (question_by d x random_number) ≡ None) × (e ≡ d)
+    (is_exhausted g t (all_threads d.clients) ≡ false)
+    × (offer g t (all_threads d.clients) (question_by d x random_number) ≡ None) × (e ≡ d)
 Answers g t d x random_number (Call p c) e =
-    (is_exhausted g t (all_seats d.clients) ≡ false) × (p ≡ next_process d x)
+    (is_exhausted g t (all_threads d.clients) ≡ false) × (p ≡ next_process d x)
     × (path : Path)
-    × (offer g t (all_seats d.clients) (question_by d x random_number) ≡ Some (path, c))
+    × (offer g t (all_threads d.clients) (question_by d x random_number) ≡ Some (path, c))
     × GivesCall d e x g t path
 
 -- Ending an operation.
@@ -175,9 +175,9 @@ processes_after d _ _ = d.processes
 -- the driver after an operation's end: its generator and its tally stay
 abbrev pub driver_after_end : DriverState → Thread → Ended → DriverState
 driver_after_end d x end =
-    record d { busy = set d.busy (seat_of x) false; processes = processes_after d x end }
+    record d { busy = set d.busy (thread_number x) false; processes = processes_after d x end }
 
--- What each driver keeps: its lists are as long as it has seats, and no process number can outgrow
+-- What each driver keeps: its lists are as long as it has threads, and no process number can outgrow
 -- its bound, since an operation that is outstanding was given.
 pub record IsKept (d : DriverState) : Type 0 where
   pub clients : d.clients ≤ max_clients

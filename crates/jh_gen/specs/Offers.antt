@@ -14,7 +14,7 @@ use Rattle.jh_gen.specs.Generator.{Generator, nothing, once, rising, forever, se
 use Rattle.jh_gen.specs.Generator.{phases, reserve, each_thread, clients, nemesis_only, Generators}
 use Rattle.jh_gen.specs.Generator.{no_generators, generator, ShareList, no_shares, share}
 use Rattle.jh_gen.specs.Tally.{Path, Tally, tally_under}
-use Rattle.jh_gen.specs.Scope.{Scope, is_client_thread, is_nemesis_thread, is_share_seat, is_beyond}
+use Rattle.jh_gen.specs.Scope.{Scope, is_client_thread, is_nemesis_thread, is_share_thread, is_beyond}
 use Rattle.jh_gen.specs.Scope.{is_in_scope, Question, has_busy_thread}
 use Rattle.jh_gen.specs.Fits.{shares_sum}
 use Rattle.jh_ops.specs.declared.call.Call.{Call}
@@ -57,7 +57,7 @@ abbrev mutual
       && is_exhausted g (tally_under (shares_len ms) t)
       (filter (is_beyond (shares_sum ms)) scope)
   -- `each-thread`: an independent copy of the generator for each thread; a copy's number is its
-  -- thread's seat
+  -- thread's number
   is_exhausted (each_thread g) t scope =
       list_all (λ x. is_exhausted g (tally_under x t) (x ∷ [])) scope
   -- `clients`: only client threads ask the generator
@@ -77,7 +77,7 @@ abbrev mutual
   pub are_shares_exhausted : ShareList → ℕ → ℕ → Tally → Scope → Bool
   are_shares_exhausted no_shares i first t scope = true
   are_shares_exhausted (share n g ms) i first t scope =
-      is_exhausted g (tally_under i t) (filter (is_share_seat first n) scope)
+      is_exhausted g (tally_under i t) (filter (is_share_thread first n) scope)
       && are_shares_exhausted ms (suc i) (first + n) t scope
 
 -- a call, and the path by which it comes
@@ -106,7 +106,7 @@ picked_value random_number os =
 -- A spent generator offers nothing, and a thread outside the scope is offered nothing.
 abbrev pub offer_unless_exhausted : Bool → Scope → Question → Offer → Offer
 offer_unless_exhausted exhausted scope q offer =
-    if is_in_scope scope q.seat then (if exhausted then None else offer) else None
+    if is_in_scope scope q.asker then (if exhausted then None else offer) else None
 
 -- What a generator offers after a tally, in a scope. A member is asked with the same random number.
 abbrev mutual
@@ -150,7 +150,7 @@ abbrev mutual
   -- what the thread's copy offers
   offer (each_thread g) t scope q =
       offer_unless_exhausted (is_exhausted (each_thread g) t scope) scope q
-      (member_offer q.seat (offer g (tally_under q.seat t) (q.seat ∷ []) q))
+      (member_offer q.asker (offer g (tally_under q.asker t) (q.asker ∷ []) q))
   -- what the generator offers to clients
   offer (clients g) t scope q =
       offer_unless_exhausted (is_exhausted (clients g) t scope) scope q
@@ -174,6 +174,6 @@ abbrev mutual
   pub share_offer : ShareList → ℕ → ℕ → Tally → Scope → Question → Offer → Offer
   share_offer no_shares i first t scope q others = others
   share_offer (share n g ms) i first t scope q others =
-      if is_share_seat first n q.seat
-      then member_offer i (offer g (tally_under i t) (filter (is_share_seat first n) scope) q)
+      if is_share_thread first n q.asker
+      then member_offer i (offer g (tally_under i t) (filter (is_share_thread first n) scope) q)
       else share_offer ms (suc i) (first + n) t scope q others

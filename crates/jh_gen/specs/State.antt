@@ -10,7 +10,7 @@ use Rattle.jh_gen.specs.Generator.{Generator, nothing, once, rising, forever, se
 use Rattle.jh_gen.specs.Generator.{phases, reserve, each_thread, clients, nemesis_only, Generators}
 use Rattle.jh_gen.specs.Generator.{no_generators, generator, ShareList, no_shares, share}
 use Rattle.jh_gen.specs.Tally.{Tally, tally_under}
-use Rattle.jh_gen.specs.Scope.{Scope, is_client_thread, is_nemesis_thread, is_share_seat, is_beyond}
+use Rattle.jh_gen.specs.Scope.{Scope, is_client_thread, is_nemesis_thread, is_share_thread, is_beyond}
 use Rattle.jh_gen.specs.Scope.{is_in_scope, Question, has_busy_thread}
 use Rattle.jh_gen.specs.Offers.{max_number, shares_len, is_exhausted, head_of, picked_value}
 use Rattle.jh_gen.specs.Fits.{shares_sum}
@@ -28,13 +28,13 @@ mutual
     counting : ℤ → GeneratorState
     -- a call again and again
     endless : Call → GeneratorState
-    -- members in their turn, which begin when none of these seats is busy
+    -- members in their turn, which begin when none of these threads is busy
     in_turn : List ℕ → GeneratorStates → GeneratorState
     -- so many calls of another
     limited : ℕ → GeneratorState → GeneratorState
     -- members in a mixture
     mixed : GeneratorStates → GeneratorState
-    -- others, each for some seats
+    -- others, each for some threads
     split : Lots → GeneratorState
 
   -- states of members, each with whether it has given a call
@@ -42,7 +42,7 @@ mutual
     no_states : GeneratorStates
     state : Bool → GeneratorState → GeneratorStates → GeneratorStates
 
-  -- states, each for the seats that use it
+  -- states, each for the threads that use it
   pub data Lots : Type 0 where
     no_lots : Lots
     lot : List ℕ → GeneratorState → Lots → Lots
@@ -65,7 +65,7 @@ abbrev mutual
 
   pub are_lots_done : Lots → Bool
   are_lots_done no_lots = true
-  are_lots_done (lot seats s ls) = is_done s && are_lots_done ls
+  are_lots_done (lot threads s ls) = is_done s && are_lots_done ls
 
 -- a call, and what is left after it
 abbrev pub Taking : Type 0 → Type 0
@@ -77,7 +77,7 @@ taking_within f o = option_map (λ r. (r.0, f r.1)) o
 abbrev pub counting_after : ℤ → GeneratorState
 counting_after n = if int_lt n max_number then counting (n +ℤ pos 1) else gone
 
--- the call that a seat gets now, if any
+-- the call that a thread gets now, if any
 abbrev mutual
   pub taking : GeneratorState → Question → Taking GeneratorState
   taking gone q = None
@@ -102,15 +102,15 @@ abbrev mutual
 
   pub lot_taking : Lots → Question → Taking Lots
   lot_taking no_lots q = None
-  lot_taking (lot seats s ls) q =
-      if is_in_scope seats q.seat then taking_within (λ r. lot seats r ls) (taking s q)
-      else taking_within (lot seats s) (lot_taking ls q)
+  lot_taking (lot threads s ls) q =
+      if is_in_scope threads q.asker then taking_within (λ r. lot threads r ls) (taking s q)
+      else taking_within (lot threads s) (lot_taking ls q)
 
 abbrev pub joined_lots : Lots → Lots → Lots
 joined_lots no_lots ls = ls
-joined_lots (lot seats s rest) ls = lot seats s (joined_lots rest ls)
+joined_lots (lot threads s rest) ls = lot threads s (joined_lots rest ls)
 
--- a lot for each seat
+-- a lot for each thread
 abbrev pub lots_each : (ℕ → GeneratorState) → List ℕ → Lots
 lots_each f [] = no_lots
 lots_each f (x ∷ xs) = lot (x ∷ []) (f x) (lots_each f xs)
@@ -151,8 +151,8 @@ abbrev mutual
   pub lots_of : ShareList → ℕ → ℕ → Tally → Scope → Lots
   lots_of no_shares i first t scope = no_lots
   lots_of (share n g ms) i first t scope =
-      lot (filter (is_share_seat first n) scope)
-      (state_left g (tally_under i t) (filter (is_share_seat first n) scope))
+      lot (filter (is_share_thread first n) scope)
+      (state_left g (tally_under i t) (filter (is_share_thread first n) scope))
       (lots_of ms (suc i) (first + n) t scope)
 
 -- The lists that contracts see, as states.
@@ -182,7 +182,7 @@ abbrev mutual
 
   pub lots_size : Lots → ℕ
   lots_size no_lots = 0
-  lots_size (lot seats s ls) = suc (state_size s + lots_size ls)
+  lots_size (lot threads s ls) = suc (state_size s + lots_size ls)
 
 abbrev pub row_size : List (Bool × GeneratorState) → ℕ
 row_size ms = states_size (states_from ms)

@@ -8,7 +8,7 @@ use Rattle.jh_gen.specs.State.{GeneratorState, is_done, Taking, taking_within, t
 use Rattle.jh_gen.specs.declared.node.Asked.{Asked}
 
 abbrev pub question : Asked → Question
-question a = record { seat = a.seat; random_number = a.random_number; busy = a.busy.now }
+question a = record { asker = a.asker; random_number = a.random_number; busy = a.busy.now }
 
 abbrev pub RowMembers : Type 0
 RowMembers = List (Bool × GeneratorState)
@@ -26,10 +26,10 @@ turn_at awaited (m ∷ ms) zero q =
     else taking_within (λ r. (true, r) ∷ ms) (taking m.1 q)
 turn_at awaited (m ∷ ms) (suc k) q = taking_within (λ ns. m ∷ ns) (turn_at awaited ms k q)
 
--- the place of the first lot for a seat
+-- the place of the first lot for a thread
 abbrev pub lot_at : List (List ℕ × GeneratorState) → ℕ → ℕ
-lot_at [] seat = 0
-lot_at (l ∷ ls) seat = if is_in_scope l.0 seat then 0 else suc (lot_at ls seat)
+lot_at [] thread = 0
+lot_at (l ∷ ls) thread = if is_in_scope l.0 thread then 0 else suc (lot_at ls thread)
 
 abbrev pub lot_turn : List (List ℕ × GeneratorState) → ℕ → Question
     → Taking (List (List ℕ × GeneratorState))

@@ -1,4 +1,4 @@
-//! What is left of a generator before its first call: all copies and seats are made here, so that
+//! What is left of a generator before its first call: all copies are made here, so that
 //! taking a call needs no memory. `specs/State.antt` has the rule, `specs/Fits.antt` which
 //! generators are taken.
 
@@ -6,7 +6,7 @@ ghost use Rattle.std.specs.Prelude.{◌≡◌, ◌+◌, ◌≤◌, ◌<◌, [], 
 ghost use Rattle.jh_gen.specs.Fits as rule;
 ghost use Rattle.jh_gen.specs.Generator.{row_of, share_list};
 ghost use Rattle.jh_gen.specs.View.{generator_of};
-ghost use Rattle.jh_gen.specs.Scope.{is_client_thread, is_nemesis_thread, is_share_seat, is_beyond};
+ghost use Rattle.jh_gen.specs.Scope.{is_client_thread, is_nemesis_thread, is_share_thread, is_beyond};
 ghost use Rattle.jh_gen.specs.Fits.{shares_sum, fits, all_fit, shares_fit};
 ghost use Rattle.jh_gen.specs.State.{state_left, states_left, lots_of, lots_each, states_from};
 ghost use Rattle.jh_gen.specs.State.{lots_from};
@@ -83,83 +83,83 @@ impl Shares {
     }
 }
 
-/// What is left of a generator for some seats, before its first call.
+/// What is left of a generator for some threads, before its first call.
 #[cycle(build)]
-pub(crate) fn build(alloc: Global, source: &Gen, seats: &[usize]) -> Result<Node, AllocError>
+pub(crate) fn build(alloc: Global, source: &Gen, threads: &[usize]) -> Result<Node, AllocError>
     requires { fits 16 (generator_of source.now) ≡ true }
-    ensures { IfOk result (λ n. node_state n ≡ state_left (generator_of source.now) [] seats.now) }
+    ensures { IfOk result (λ n. node_state n ≡ state_left (generator_of source.now) [] threads.now) }
 {
     match source {
         Gen::Nil => Ok(Node::Gone),
         Gen::Once(call) => {
-            if seats.is_empty() {
+            if threads.is_empty() {
                 Ok(Node::Gone)
             } else {
                 Ok(Node::One(*call))
             }
         }
         Gen::Rising(first) => {
-            if seats.is_empty() {
+            if threads.is_empty() {
                 Ok(Node::Gone)
             } else {
                 Ok(Node::Counting(*first))
             }
         }
         Gen::Forever(call) => {
-            if seats.is_empty() {
+            if threads.is_empty() {
                 Ok(Node::Gone)
             } else {
                 Ok(Node::Endless(*call))
             }
         }
-        Gen::Seq(members) => Ok(Node::InTurn(Vec::new(alloc), build_row(alloc, members, seats)?)),
-        Gen::Limit(limit, inner) => Ok(Node::Limited(*limit, build_within(alloc, inner, seats)?)),
-        Gen::Mix(members) => Ok(Node::Mixed(build_row(alloc, members, seats)?)),
+        Gen::Seq(members) => Ok(Node::InTurn(Vec::new(alloc), build_row(alloc, members, threads)?)),
+        Gen::Limit(limit, inner) => Ok(Node::Limited(*limit, build_within(alloc, inner, threads)?)),
+        Gen::Mix(members) => Ok(Node::Mixed(build_row(alloc, members, threads)?)),
         Gen::Phases(members) => {
-            let awaited = seats.to_vec(alloc)?;
-            Ok(Node::InTurn(awaited, build_row(alloc, members, seats)?))
+            let awaited = threads.to_vec(alloc)?;
+            Ok(Node::InTurn(awaited, build_row(alloc, members, threads)?))
         }
         Gen::Reserve(shares, inner) => {
-            let mut items = build_shares(alloc, shares, seats)?;
-            let others = seats_beyond(alloc, seats, shares.sum())?;
+            let mut items = build_shares(alloc, shares, threads)?;
+            let others = threads_beyond(alloc, threads, shares.sum())?;
             items.push(build_lot(alloc, inner, others)?)?;
             Ok(Node::Split(Lots { items }))
         }
-        Gen::EachThread(inner) => Ok(Node::Split(build_copies(alloc, inner, seats)?)),
+        Gen::EachThread(inner) => Ok(Node::Split(build_copies(alloc, inner, threads)?)),
         Gen::Clients(inner) => Ok(Node::Split(build_part(
             alloc,
             inner,
-            client_seats(alloc, seats)?,
+            client_threads(alloc, threads)?,
         )?)),
         Gen::NemesisOnly(inner) => Ok(Node::Split(build_part(
             alloc,
             inner,
-            nemesis_seats(alloc, seats)?,
+            nemesis_threads(alloc, threads)?,
         )?)),
     }
 }
 
-/// What is left of an inner generator for some seats, before its first call.
+/// What is left of an inner generator for some threads, before its first call.
 #[cycle(build)]
-fn build_within(alloc: Global, inner: &Inner, seats: &[usize]) -> Result<Within, AllocError>
+fn build_within(alloc: Global, inner: &Inner, threads: &[usize]) -> Result<Within, AllocError>
     requires { fits 16 inner.now ≡ true }
-    ensures { IfOk result (λ w. w ≡ state_left inner.now [] seats.now) }
+    ensures { IfOk result (λ w. w ≡ state_left inner.now [] threads.now) }
 {
-    let node = build(alloc, &inner.boxed, seats)?;
+    let node = build(alloc, &inner.boxed, threads)?;
     Ok(Within {
         boxed: Box::new(alloc, node)?,
     })
 }
 
-/// What is left of each member for some seats, before its first call.
+/// What is left of each member for some threads, before its first call.
 #[cycle(build)]
-fn build_row(alloc: Global, members: &Gens, seats: &[usize]) -> Result<Row, AllocError>
+fn build_row(alloc: Global, members: &Gens, threads: &[usize]) -> Result<Row, AllocError>
     requires { all_fit 16 (row_of members.now) ≡ true }
-    ensures { IfOk result (λ r. states_from r ≡ states_left (row_of members.now) 0 [] seats.now) }
+    ensures { IfOk result (λ r. states_from r ≡ states_left (row_of members.now) 0 [] threads.now) }
 {
     let mut row = Vec::new(alloc);
     for member in &members.items {
-        let node = build(alloc, member, seats)?;
+        let node = build(alloc, member, threads)?;
         row.push(Member {
             started: false,
             node,
@@ -168,17 +168,20 @@ fn build_row(alloc: Global, members: &Gens, seats: &[usize]) -> Result<Row, Allo
     Ok(Row { members: row })
 }
 
-/// One generator for a part of the seats.
+/// One generator for a part of the threads.
 #[cycle(build)]
 fn build_lot(alloc: Global, inner: &Inner, part: Vec<usize>) -> Result<Lot, AllocError>
     requires { fits 16 inner.now ≡ true }
     ensures { IfOk result (λ l. lot_of l ≡ (part.items, state_left inner.now [] part.items)) }
 {
     let node = build(alloc, &inner.boxed, part.as_slice())?;
-    Ok(Lot { seats: part, node })
+    Ok(Lot {
+        threads: part,
+        node,
+    })
 }
 
-/// The one lot of a generator that only a part of the seats reaches.
+/// The one lot of a generator that only a part of the threads reaches.
 #[cycle(build)]
 fn build_part(alloc: Global, inner: &Inner, part: Vec<usize>) -> Result<Lots, AllocError>
     requires { fits 16 inner.now ≡ true }
@@ -189,36 +192,36 @@ fn build_part(alloc: Global, inner: &Inner, part: Vec<usize>) -> Result<Lots, Al
     Ok(Lots { items })
 }
 
-/// A copy for each seat.
+/// A copy for each thread.
 #[cycle(build)]
-fn build_copies(alloc: Global, inner: &Inner, seats: &[usize]) -> Result<Lots, AllocError>
+fn build_copies(alloc: Global, inner: &Inner, threads: &[usize]) -> Result<Lots, AllocError>
     requires { fits 16 inner.now ≡ true }
     ensures { IfOk result
-        (λ ls. lots_from ls ≡ lots_each (λ x. state_left inner.now [] (x ∷ [])) seats.now) }
+        (λ ls. lots_from ls ≡ lots_each (λ x. state_left inner.now [] (x ∷ [])) threads.now) }
 {
     let mut items = Vec::new(alloc);
-    for seat in seats {
-        let own = vec![in alloc; *seat]?;
+    for thread in threads {
+        let own = vec![in alloc; *thread]?;
         let node = build(alloc, &inner.boxed, own.as_slice())?;
-        items.push(Lot { seats: own, node })?;
+        items.push(Lot { threads: own, node })?;
     }
     Ok(Lots { items })
 }
 
 /// The shares in order.
 #[cycle(build)]
-fn build_shares(alloc: Global, shares: &Shares, seats: &[usize]) -> Result<Vec<Lot>, AllocError>
+fn build_shares(alloc: Global, shares: &Shares, threads: &[usize]) -> Result<Vec<Lot>, AllocError>
     requires sum { shares_sum (share_list shares.now) ≤ 16 }
     requires fit { shares_fit 16 (share_list shares.now) ≡ true }
     ensures { IfOk result
-        (λ v. lots_from (lots_view v.items) ≡ lots_of (share_list shares.now) 0 0 [] seats.now) }
+        (λ v. lots_from (lots_view v.items) ≡ lots_of (share_list shares.now) 0 0 [] threads.now) }
 {
     let mut items = Vec::new(alloc);
     let mut first = 0;
     for (count, member) in &shares.items {
-        let own = seats_among(alloc, seats, first, *count as usize)?;
+        let own = threads_among(alloc, threads, first, *count as usize)?;
         let node = build(alloc, member, own.as_slice())?;
-        items.push(Lot { seats: own, node })?;
+        items.push(Lot { threads: own, node })?;
         first += *count as usize;
     }
     Ok(items)
@@ -238,43 +241,43 @@ impl Shares {
     }
 }
 
-/// The seats of client threads among these.
-fn client_seats(alloc: Global, seats: &[usize]) -> Result<Vec<usize>, AllocError>
-    ensures { IfOk result (λ v. v.items ≡ filter is_client_thread seats.now) }
+/// The client threads among these.
+fn client_threads(alloc: Global, threads: &[usize]) -> Result<Vec<usize>, AllocError>
+    ensures { IfOk result (λ v. v.items ≡ filter is_client_thread threads.now) }
 {
-    seats.iter().copied().filter(|x| *x != 0).collect(alloc)
+    threads.iter().copied().filter(|x| *x != 0).collect(alloc)
 }
 
-/// The seat of the nemesis, where it is among these.
-fn nemesis_seats(alloc: Global, seats: &[usize]) -> Result<Vec<usize>, AllocError>
-    ensures { IfOk result (λ v. v.items ≡ filter is_nemesis_thread seats.now) }
+/// The nemesis, where it is among these.
+fn nemesis_threads(alloc: Global, threads: &[usize]) -> Result<Vec<usize>, AllocError>
+    ensures { IfOk result (λ v. v.items ≡ filter is_nemesis_thread threads.now) }
 {
-    seats.iter().copied().filter(|x| *x == 0).collect(alloc)
+    threads.iter().copied().filter(|x| *x == 0).collect(alloc)
 }
 
-/// The seats, among these, of the `count` client threads from number `first` on.
-fn seats_among(
+/// The `count` client threads from number `first` on, of those among these.
+fn threads_among(
     alloc: Global,
-    seats: &[usize],
+    threads: &[usize],
     first: usize,
     count: usize,
 ) -> Result<Vec<usize>, AllocError>
     requires { first + count ≤ 16 }
-    ensures { IfOk result (λ v. v.items ≡ filter (is_share_seat first count) seats.now) }
+    ensures { IfOk result (λ v. v.items ≡ filter (is_share_thread first count) threads.now) }
 {
     let last = first + count;
-    seats
+    threads
         .iter()
         .copied()
         .filter(|x| first < *x && *x <= last)
         .collect(alloc)
 }
 
-/// The seats without those of the first `count` client threads.
-fn seats_beyond(alloc: Global, seats: &[usize], count: usize) -> Result<Vec<usize>, AllocError>
-    ensures { IfOk result (λ v. v.items ≡ filter (is_beyond count) seats.now) }
+/// These without the first `count` client threads.
+fn threads_beyond(alloc: Global, threads: &[usize], count: usize) -> Result<Vec<usize>, AllocError>
+    ensures { IfOk result (λ v. v.items ≡ filter (is_beyond count) threads.now) }
 {
-    seats
+    threads
         .iter()
         .copied()
         .filter(|x| *x == 0 || count < *x)

@@ -10,7 +10,7 @@ ghost use Rattle.jh_gen.specs.DriverState as rule;
 ghost use Rattle.jh_gen.specs.DriverState.{Answers, CanDrive, IsFresh, IsKnown, MayAsk, MayEnd};
 ghost use Rattle.jh_gen.specs.DriverState.{RefusesAsking};
 ghost use Rattle.jh_gen.specs.DriverState.{RefusesDriver, RefusesEnding, IsDriverOf};
-ghost use Rattle.jh_gen.specs.DriverState.{driver_after_end, next_process, seat_of};
+ghost use Rattle.jh_gen.specs.DriverState.{driver_after_end, next_process, thread_number};
 
 use crate::answers::{DriverError, Ended, GenAnswer, GenError, Thread};
 use crate::build::{build, fits};
@@ -51,19 +51,19 @@ impl Model for Driver {
     ghost invariant = { IsSoundDriver };
 }
 
-/// The seats of the nemesis and of all client threads, in order.
-fn all_seats(alloc: Global, clients: usize) -> Result<Vec<usize>, AllocError>
+/// The nemesis and all client threads, in order.
+fn all_threads(alloc: Global, clients: usize) -> Result<Vec<usize>, AllocError>
     requires { clients ≤ 16 }
-    ensures { IfOk result (λ v. v.items ≡ rule.all_seats clients) }
+    ensures { IfOk result (λ v. v.items ≡ rule.all_threads clients) }
 {
-    let mut seats = Vec::new(alloc);
-    for seat in 0..clients + 1 {
-        seats.push(seat)?;
+    let mut threads = Vec::new(alloc);
+    for thread in 0..clients + 1 {
+        threads.push(thread)?;
     }
-    Ok(seats)
+    Ok(threads)
 }
 
-/// The process of each seat. The nemesis's place is there so that places are seats.
+/// The process of each thread. The nemesis has a place too, so that places are threads.
 fn first_processes(alloc: Global, clients: usize) -> Result<Vec<u64>, AllocError>
     requires { clients ≤ 16 }
     ensures long { IfOk result (λ v. length v.items ≡ clients + 1) }
@@ -77,9 +77,9 @@ fn first_processes(alloc: Global, clients: usize) -> Result<Vec<u64>, AllocError
     Ok(processes)
 }
 
-/// The seat of a thread.
-fn seat(thread: Thread) -> usize
-    ensures { result ≡ seat_of thread }
+/// The number of a thread.
+fn number_of(thread: Thread) -> usize
+    ensures { result ≡ thread_number thread }
 {
     match thread {
         Thread::Client(number) => number as usize + 1,
@@ -87,9 +87,9 @@ fn seat(thread: Thread) -> usize
     }
 }
 
-/// The process of a thread, by the numbers of the processes of all seats.
+/// The process of a thread, by the numbers of the processes of all threads.
 fn process_in(processes: &[u64], thread: Thread) -> Process
-    requires { seat_of thread < length processes.now }
+    requires { thread_number thread < length processes.now }
     ensures { result ≡ rule.process_of_thread processes.now thread }
 {
     match thread {
@@ -119,10 +119,10 @@ impl Driver {
             return Err(DriverError::BadReserve);
         }
         let clients = clients as usize;
-        let seats = all_seats(alloc, clients)?;
+        let threads = all_threads(alloc, clients)?;
         Ok(Driver {
             clients,
-            root: build(alloc, &source, &seats)?,
+            root: build(alloc, &source, &threads)?,
             given: 0,
             busy: vec![in alloc; false; clients + 1]?,
             processes: first_processes(alloc, clients)?,
@@ -135,7 +135,7 @@ impl Driver {
     pub fn process(&self, thread: Thread) -> Option<Process>
         ensures { SomeIff result (IsKnown self.now thread) (next_process self.now thread) }
     {
-        if seat(thread) > self.clients {
+        if number_of(thread) > self.clients {
             return None;
         }
         Some(process_in(self.processes.as_slice(), thread))
@@ -156,11 +156,11 @@ impl Driver {
         ensures answered { (g : Generator) (t : Tally) → IsDriverOf self.old g t
             → IfOk result (λ answer. Answers g t self.old thread random_number answer self.new) }
     {
-        let seat = seat(thread);
-        if seat > self.clients {
+        let number = number_of(thread);
+        if number > self.clients {
             return Err(GenError::NoSuchThread);
         }
-        if self.busy[seat] {
+        if self.busy[number] {
             return Err(GenError::BusyThread);
         }
         if self.given >= MAX_CALLS {
@@ -170,14 +170,14 @@ impl Driver {
             return Ok(GenAnswer::Done);
         }
         let asked = Asked {
-            seat,
+            asker: number,
             random_number,
             busy: self.busy.as_slice(),
         };
         let Some(call) = self.root.take(asked) else {
             return Ok(GenAnswer::Pending);
         };
-        self.busy[seat] = true;
+        self.busy[number] = true;
         self.given += 1;
         let process = process_in(self.processes.as_slice(), thread);
         Ok(GenAnswer::Call(process, call))
@@ -193,16 +193,16 @@ impl Driver {
         ensures unchanged { OnErr result (self.new ≡ self.old) }
         ensures ended { OnOk result (self.new ≡ driver_after_end self.old thread ended) }
     {
-        let seat = seat(thread);
-        if seat > self.clients {
+        let number = number_of(thread);
+        if number > self.clients {
             return Err(GenError::NoSuchThread);
         }
-        if !self.busy[seat] {
+        if !self.busy[number] {
             return Err(GenError::NothingOpen);
         }
-        self.busy[seat] = false;
+        self.busy[number] = false;
         if let (Thread::Client(_), Ended::Info) = (thread, ended) {
-            self.processes[seat] += self.clients as u64;
+            self.processes[number] += self.clients as u64;
         }
         Ok(())
     }

@@ -14,10 +14,10 @@ ghost use Rattle.jh_gen.specs.Turns.{turn_among, any_turn, lot_at, lot_turn};
 use jh_ops::{Call, Request};
 use std::marker::Model;
 
-/// Who asks, with which random number, and which seats have an operation outstanding.
+/// Who asks, with which random number, and which threads have an operation outstanding.
 #[derive(Clone, Copy)]
 pub(crate) struct Asked<'a> {
-    pub(crate) seat: usize,
+    pub(crate) asker: usize,
     pub(crate) random_number: u64,
     pub(crate) busy: &'a [bool],
 }
@@ -100,15 +100,15 @@ impl Model for Within {
     ghost size_decreases = { λ a h. Prim.omega (arith, node_falls a.boxed.value) };
 }
 
-/// A node, and the seats that use it.
+/// A node, and the threads that use it.
 #[cycle(node)]
 #[derive(Drop)]
 pub(crate) struct Lot {
-    pub(crate) seats: Vec<usize>,
+    pub(crate) threads: Vec<usize>,
     pub(crate) node: Node,
 }
 
-/// Nodes, each for some seats.
+/// Nodes, each for some threads.
 #[cycle(node)]
 #[derive(Drop)]
 pub(crate) struct Lots {
@@ -186,12 +186,12 @@ impl Lots {
     }
 }
 
-/// Whether one of the seats has an operation outstanding.
-fn is_any_busy(busy: &[bool], seats: &[usize]) -> bool
-    ensures { result ≡ has_busy_thread busy.now seats.now }
+/// Whether one of the threads has an operation outstanding.
+fn is_any_busy(busy: &[bool], threads: &[usize]) -> bool
+    ensures { result ≡ has_busy_thread busy.now threads.now }
 {
-    for seat in seats {
-        if *seat < busy.len() && busy[*seat] {
+    for thread in threads {
+        if *thread < busy.len() && busy[*thread] {
             return true;
         }
     }
@@ -199,7 +199,7 @@ fn is_any_busy(busy: &[bool], seats: &[usize]) -> bool
 }
 
 impl Node {
-    /// The call that a seat gets now. It is gone from what is left.
+    /// The call that a thread gets now. It is gone from what is left.
     #[cycle(take)]
     pub(crate) fn take(&mut self, asked: Asked) -> Option<Call>
         ensures call { result ≡ taken_call (taking (node_state self.old) (question asked.entry)) }
@@ -251,8 +251,8 @@ impl Row {
         self.members.len()
     }
 
-    /// The call that a seat gets from the member at a place. A member that has given none waits for
-    /// the awaited seats.
+    /// The call that a thread gets from the member at a place. A member that has given none waits for
+    /// the awaited threads.
     #[cycle(take)]
     fn take_at(&mut self, at: usize, awaited: &[usize], asked: Asked) -> Option<Call>
         requires { at < length self.old }
@@ -270,7 +270,7 @@ impl Row {
         Some(call)
     }
 
-    /// The call that a seat gets from the first member that isn't done.
+    /// The call that a thread gets from the first member that isn't done.
     #[cycle(take)]
     fn take_first(&mut self, awaited: &[usize], asked: Asked) -> Option<Call>
         ensures call { result
@@ -359,29 +359,29 @@ impl Row {
 }
 
 impl Lots {
-    /// The place of the first lot for a seat.
-    fn lot_at(&self, seat: usize) -> usize
-        ensures { result ≡ lot_at self.now seat }
+    /// The place of the first lot for a thread.
+    fn lot_at(&self, thread: usize) -> usize
+        ensures { result ≡ lot_at self.now thread }
     {
         for (at, lot) in self.items.iter().enumerate() {
-            if is_seat_in(&lot.seats, seat) {
+            if is_thread_in(&lot.threads, thread) {
                 return at;
             }
         }
         self.items.len()
     }
 
-    /// The call that a seat gets from the first lot for it.
+    /// The call that a thread gets from the first lot for it.
     #[cycle(take)]
     fn take(&mut self, asked: Asked) -> Option<Call>
         ensures call { result
             ≡ taken_call
-            (lot_turn self.old (lot_at self.old asked.entry.seat) (question asked.entry)) }
+            (lot_turn self.old (lot_at self.old asked.entry.asker) (question asked.entry)) }
         ensures rest { self.new
             ≡ rest_of self.old
-            (lot_turn self.old (lot_at self.old asked.entry.seat) (question asked.entry)) }
+            (lot_turn self.old (lot_at self.old asked.entry.asker) (question asked.entry)) }
     {
-        let at = self.lot_at(asked.seat);
+        let at = self.lot_at(asked.asker);
         if at < self.items.len() {
             self.items[at].node.take(asked)
         } else {
@@ -390,9 +390,9 @@ impl Lots {
     }
 }
 
-/// Whether a seat is among these.
-fn is_seat_in(seats: &[usize], seat: usize) -> bool
-    ensures { result ≡ is_in_scope seats.now seat }
+/// Whether a thread is among these.
+fn is_thread_in(threads: &[usize], thread: usize) -> bool
+    ensures { result ≡ is_in_scope threads.now thread }
 {
-    seats.iter().any(|x| *x == seat)
+    threads.iter().any(|x| *x == thread)
 }

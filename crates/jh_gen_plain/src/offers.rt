@@ -64,8 +64,8 @@ fn are_shares_spent(shares: &[(u32, Gen)], part: Part, depth: u32) -> bool {
 /// Whether the copy of each thread is spent.
 #[cycle(spent)]
 fn is_each_spent(inner: &Gen, part: Part, depth: u32) -> bool {
-    for seat in 0..MAX_SEATS {
-        if part.scope.contains(seat) && !is_spent(inner, copy_of(seat, part), depth) {
+    for thread in 0..MAX_THREADS {
+        if part.scope.contains(thread) && !is_spent(inner, copy_of(thread, part), depth) {
             return false;
         }
     }
@@ -84,7 +84,7 @@ fn open_count(members: &[Gen], part: Part, depth: u32) -> u64 {
 }
 
 /// A driver's nemesis and its clients.
-const MAX_SEATS: usize = 17;
+const MAX_THREADS: usize = 17;
 
 /// The inner generator of one for clients, which only client threads ask.
 fn clients(part: Part) -> Part {
@@ -96,9 +96,9 @@ fn nemesis(part: Part) -> Part {
     part.member(0).asked_by(Scope::of(1, 1, true))
 }
 
-/// The copy of an inner generator that only the thread of a seat asks.
-fn copy_of(seat: usize, part: Part) -> Part {
-    part.member(seat).asked_by(Scope::only(seat))
+/// The copy of an inner generator that only one thread asks.
+fn copy_of(thread: usize, part: Part) -> Part {
+    part.member(thread).asked_by(Scope::only(thread))
 }
 
 /// The default of a reserve, which all threads ask that have no share.
@@ -118,7 +118,7 @@ pub(crate) type Offer = Option<(u64, Call)>;
 /// What a generator, as this part of the whole, offers to the thread that asks.
 #[cycle(offer)]
 pub(crate) fn offer_of(source: &Gen, part: Part, question: Question, depth: u32) -> Offer {
-    if depth == 0 || !part.scope.contains(question.seat) || is_spent(source, part, depth) {
+    if depth == 0 || !part.scope.contains(question.asker) || is_spent(source, part, depth) {
         return None;
     }
     let below = depth - 1;
@@ -142,7 +142,7 @@ pub(crate) fn offer_of(source: &Gen, part: Part, question: Question, depth: u32)
         Gen::Limit(_, inner) => offer_of(inner.as_gen(), part.member(0), question, below),
         Gen::Reserve(shares, inner) => {
             let rest = others(shares, part);
-            if rest.scope.contains(question.seat) {
+            if rest.scope.contains(question.asker) {
                 return offer_of(inner.as_gen(), rest, question, below);
             }
             shared_offer(shares.as_slice(), part, question, below)
@@ -150,7 +150,7 @@ pub(crate) fn offer_of(source: &Gen, part: Part, question: Question, depth: u32)
         Gen::EachThread(inner) => {
             offer_of(
                 inner.as_gen(),
-                copy_of(question.seat, part),
+                copy_of(question.asker, part),
                 question,
                 below,
             )
@@ -186,7 +186,7 @@ fn first_offer(
 /// the first that there is.
 #[cycle(offer)]
 fn mixed_offer(members: &[Gen], part: Part, question: Question, depth: u32) -> Offer {
-    let from = question.word.checked_rem(open_count(members, part, depth))?;
+    let from = question.draw.checked_rem(open_count(members, part, depth))?;
     let mut before = None;
     let mut open = 0u64;
     for (place, member) in members.iter().enumerate() {
@@ -210,7 +210,7 @@ fn shared_offer(shares: &[(u32, Gen)], part: Part, question: Question, depth: u3
     for (place, (count, member)) in shares.iter().enumerate() {
         let behind = first.saturating_add(*count as usize);
         let own = Scope::of(first, behind, false);
-        if own.contains(question.seat) {
+        if own.contains(question.asker) {
             return offer_of(member, part.member(place).asked_by(own), question, depth);
         }
         first = behind;

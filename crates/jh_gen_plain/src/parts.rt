@@ -2,7 +2,7 @@
 
 use std::cmp::{max, min};
 
-/// Threads by seat: the nemesis has seat 0, client n has seat n + 1.
+/// Threads by number: the nemesis is thread 0, client n is thread n + 1.
 #[derive(Clone, Copy)]
 pub(crate) struct Scope {
     first: usize,
@@ -11,7 +11,7 @@ pub(crate) struct Scope {
 }
 
 impl Scope {
-    /// The clients from one seat to another, which is behind the last, and the nemesis, if it is
+    /// The clients from one thread to another, which is behind the last, and the nemesis, if it is
     /// wanted.
     pub(crate) fn of(first: usize, behind: usize, has_nemesis: bool) -> Scope {
         Scope {
@@ -21,11 +21,11 @@ impl Scope {
         }
     }
 
-    /// The thread of one seat alone.
-    pub(crate) fn only(seat: usize) -> Scope {
-        match seat {
+    /// One thread alone.
+    pub(crate) fn only(thread: usize) -> Scope {
+        match thread {
             0 => Scope::of(1, 1, true),
-            _ => Scope::of(seat, seat.saturating_add(1), false),
+            _ => Scope::of(thread, thread.saturating_add(1), false),
         }
     }
 
@@ -38,11 +38,11 @@ impl Scope {
         )
     }
 
-    /// Whether the thread of a seat is one of these.
-    pub(crate) fn contains(self, seat: usize) -> bool {
-        match seat {
+    /// Whether a thread is one of these.
+    pub(crate) fn contains(self, thread: usize) -> bool {
+        match thread {
             0 => self.has_nemesis,
-            _ => self.first <= seat && seat < self.behind,
+            _ => self.first <= thread && thread < self.behind,
         }
     }
 
@@ -55,15 +55,15 @@ impl Scope {
     pub(crate) fn is_any_busy(self, busy: &[bool]) -> bool {
         busy.iter()
             .enumerate()
-            .any(|(seat, is_busy)| *is_busy && self.contains(seat))
+            .any(|(thread, is_busy)| *is_busy && self.contains(thread))
     }
 }
 
-/// Who asks, with which random number, and who is busy, by seat.
+/// Who asks, with which random number, and who is busy, by thread.
 #[derive(Clone, Copy)]
 pub(crate) struct Question<'a> {
-    pub(crate) seat: usize,
-    pub(crate) word: u64,
+    pub(crate) asker: usize,
+    pub(crate) draw: u64,
     pub(crate) busy: &'a [bool],
 }
 

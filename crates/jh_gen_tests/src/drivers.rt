@@ -96,8 +96,8 @@ fn a_million_calls_are_the_most(rt: HostRuntime) -> Result<(), Fail> {
 }
 
 #[test]
-fn errors_have_words(rt: HostRuntime) -> Result<(), Fail> {
-    let words = format!(in rt.alloc();
+fn errors_have_messages(rt: HostRuntime) -> Result<(), Fail> {
+    let message = format!(in rt.alloc();
         "{}, {}; {}, {}, {}; {}, {}, {}, {}",
         GenTextError::BadGenerator,
         GenTextError::OutOfMemory,
@@ -113,8 +113,8 @@ fn errors_have_words(rt: HostRuntime) -> Result<(), Fail> {
         "bad generator, out of memory; bad clients, bad reserve, out of memory; no such thread, busy thread, \
         too many operations, nothing open";
     // A refused growth leaves no text to compare.
-    if let Ok(words) = words {
-        assert_eq!(rt; words.as_str(), expected);
+    if let Ok(message) = message {
+        assert_eq!(rt; message.as_str(), expected);
     }
     Ok(())
 }

@@ -82,8 +82,8 @@ fn renewed(alloc: Global, driver: &mut Driver, text: &str) -> Result<String, Fai
 }
 
 fn asked(alloc: Global, driver: &mut Driver, text: &str) -> Result<String, Fail> {
-    let (word, thread) = numbered(text)?;
-    let answer = driver.ask(thread_of(thread), u64::from(word));
+    let (draw, thread) = numbered(text)?;
+    let answer = driver.ask(thread_of(thread), u64::from(draw));
     printed(alloc, &answer)
 }
 

@@ -8,11 +8,11 @@ use jh_gen_plain::{PlainDriver, Random, random_source};
 use std::alloc::{AllocError, Global};
 use std::test::Fail;
 
-/// The thread of a seat: the nemesis has seat 0, client n has seat n + 1.
-fn thread_of(seat: u32) -> Thread {
-    match seat {
+/// The thread of a number: 0 is the nemesis, n + 1 is client n.
+fn thread_of(thread: u32) -> Thread {
+    match thread {
         0 => Thread::Nemesis,
-        _ => Thread::Client(seat - 1),
+        _ => Thread::Client(thread - 1),
     }
 }
 
@@ -20,18 +20,18 @@ fn thread_of(seat: u32) -> Thread {
 fn is_same_answer(
     driver: &mut Driver,
     plain: &mut PlainDriver,
-    seat: u32,
-    word: u64,
+    thread: u32,
+    draw: u64,
 ) -> Result<bool, AllocError> {
-    let expected = plain.ask(seat as usize, word)?;
-    Ok(driver.ask(thread_of(seat), word) == Ok(expected))
+    let expected = plain.ask(thread as usize, draw)?;
+    Ok(driver.ask(thread_of(thread), draw) == Ok(expected))
 }
 
 /// Ends a thread's operation in both.
-fn end(driver: &mut Driver, plain: &mut PlainDriver, seat: u32, is_lost: bool) -> bool {
-    plain.complete(seat as usize, is_lost);
+fn end(driver: &mut Driver, plain: &mut PlainDriver, thread: u32, is_lost: bool) -> bool {
+    plain.complete(thread as usize, is_lost);
     let ended = if is_lost { Ended::Info } else { Ended::Ok };
-    driver.complete(thread_of(seat), ended).is_ok()
+    driver.complete(thread_of(thread), ended).is_ok()
 }
 
 /// Whether both give the same answers in a random run of twelve turns: a busy thread ends its operation, another asks.
@@ -39,17 +39,17 @@ fn is_same_run(
     driver: &mut Driver,
     plain: &mut PlainDriver,
     random: &mut Random,
-    seats: u32,
+    threads: u32,
 ) -> Result<bool, AllocError>
-    requires { 0 < seats }
+    requires { 0 < threads }
 {
     for _ in 0..12u32 {
-        let seat = random.below(u64::from(seats)) as u32;
-        let word = random.below(1_000_000);
-        let is_same = if plain.is_busy(seat as usize) {
-            end(driver, plain, seat, word < 300_000)
+        let thread = random.below(u64::from(threads)) as u32;
+        let draw = random.below(1_000_000);
+        let is_same = if plain.is_busy(thread as usize) {
+            end(driver, plain, thread, draw < 300_000)
         } else {
-            is_same_answer(driver, plain, seat, word)?
+            is_same_answer(driver, plain, thread, draw)?
         };
         if !is_same {
             return Ok(false);

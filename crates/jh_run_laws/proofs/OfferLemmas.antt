@@ -11,7 +11,7 @@ use Rattle.jh_ops.specs.declared.call.Workload.TheVariants.{Register, Counter, S
 use Rattle.jh_gen.specs.Generator.{Generator, nothing, once, rising, forever, seq, limit, mix, phases, reserve, each_thread, clients, nemesis_only, Generators, no_generators, generator, ShareList, no_shares, share}
 use Rattle.jh_gen.specs.Fits.{shares_sum}
 use Rattle.jh_gen.specs.Tally.{Tally, tally_under}
-use Rattle.jh_gen.specs.Scope.{Scope, Question, is_client_thread, is_share_seat, is_beyond, is_in_scope, has_busy_thread}
+use Rattle.jh_gen.specs.Scope.{Scope, Question, is_client_thread, is_share_thread, is_beyond, is_in_scope, has_busy_thread}
 use Rattle.jh_gen.specs.Offers.{Offer, offer, open_offers, share_offer, member_offer, head_of, first_some, picked_value, offer_unless_exhausted, is_exhausted, shares_len}
 use Rattle.jh_gen.specs.Suits.{has_only, all_have_only, shares_have_only, is_call_for}
 use Rattle.jh_run_laws.specs.OwnHistory.{Passes, OffersSuit}
@@ -36,7 +36,7 @@ module _ (passes : Call → Bool) (more : (n : ℤ) (k : ℕ) → passes (Client
 
   unless_passes : (b : Bool) (scope : Scope) (q : Question) (o : Offer) → Passes passes o → Passes passes (offer_unless_exhausted b scope q o)
   unless_passes b scope q o h =
-      elim (is_in_scope scope q.seat) as (λ c. Passes passes (if c then (if b then None else o) else None)) [
+      elim (is_in_scope scope q.asker) as (λ c. Passes passes (if c then (if b then None else o) else None)) [
         | true ↦ if_passes b o h
         | false ↦ tt
       ]
@@ -86,7 +86,7 @@ module _ (passes : Call → Bool) (more : (n : ℤ) (k : ℕ) → passes (Client
         let p = both (shares_have_only passes ms) (has_only passes g) h in
         unless_passes _ scope q _ (share_passes ms p.0 0 0 t scope q _
         (member_passes (shares_len ms) _ (offer_passes g p.1 (tally_under (shares_len ms) t) (filter (is_beyond (shares_sum ms)) scope) q)))
-    offer_passes (each_thread g) h t scope q = unless_passes _ scope q _ (member_passes q.seat _ (offer_passes g h (tally_under q.seat t) (q.seat ∷ []) q))
+    offer_passes (each_thread g) h t scope q = unless_passes _ scope q _ (member_passes q.asker _ (offer_passes g h (tally_under q.asker t) (q.asker ∷ []) q))
     offer_passes (clients g) h t scope q = unless_passes _ scope q _ (member_passes 0 _ (offer_passes g h (tally_under 0 t) (filter is_client_thread scope) q))
     offer_passes (nemesis_only g) h t scope q = absurd cc
 
@@ -105,9 +105,9 @@ module _ (passes : Call → Bool) (more : (n : ℤ) (k : ℕ) → passes (Client
     share_passes no_shares h i first t scope q others k = k
     share_passes (share n g ms) h i first t scope q others k =
         let p = both (has_only passes g) (shares_have_only passes ms) h in
-        let own = member_passes i _ (offer_passes g p.0 (tally_under i t) (filter (is_share_seat first n) scope) q) in
+        let own = member_passes i _ (offer_passes g p.0 (tally_under i t) (filter (is_share_thread first n) scope) q) in
         let rest = share_passes ms p.1 (suc i) (first + n) t scope q others k in
-        elim (is_share_seat first n q.seat) as (λ b. Passes passes (if b then member_offer i (offer g (tally_under i t) (filter (is_share_seat first n) scope) q) else share_offer ms (suc i) (first + n) t scope q others)) [
+        elim (is_share_thread first n q.asker) as (λ b. Passes passes (if b then member_offer i (offer g (tally_under i t) (filter (is_share_thread first n) scope) q) else share_offer ms (suc i) (first + n) t scope q others)) [
           | true ↦ own
           | false ↦ rest
         ]

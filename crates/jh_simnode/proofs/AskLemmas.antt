@@ -10,7 +10,7 @@ use Rattle.jh_ops.specs.declared.operation.Process.{Process}
 use Rattle.jh_gen.specs.Tally.{Path}
 use Rattle.jh_gen.specs.Scope.{Question}
 use Rattle.jh_gen.specs.Offers.{Offer, offer, is_exhausted}
-use Rattle.jh_gen.specs.DriverState.{Answers, DriverState, MayAsk, RefusesAsking, all_seats, question_by}
+use Rattle.jh_gen.specs.DriverState.{Answers, DriverState, MayAsk, RefusesAsking, all_threads, question_by}
 use Rattle.jh_gen.specs.declared.answers.Thread.TheVariants as thread
 use Rattle.jh_gen.specs.declared.answers.Thread.{Thread}
 use Rattle.jh_gen.specs.declared.answers.GenAnswer.TheVariants as answer
@@ -55,28 +55,28 @@ module _ (p : PlanValue) (r : Turns) (journal : List Event) (run : Run) (t rando
   asked_is : question_by run.driver (thread.Client t) random_number ≡ turn_question p r journal
   asked_is =
       let d = i.keeps.driver i.going in
-      let seat : t + 1 ≡ thread_of p r + 1 = ap (λ n. n + 1) i.turn in
+      let asker : t + 1 ≡ thread_of p r + 1 = ap (λ n. n + 1) i.turn in
       let same_random_number : random_number ≡ (pcg64 (random_numbers_after p.seed (numbers_taken r journal))).0 = random_number_is run.random_numbers random_numbers random_number next ∙ ap (λ (g : Lcg). (pcg64 g).0) i.keeps.random_numbers in
-      ap₂ (λ s w. let q : Question = record { seat = s; random_number = w; busy = run.driver.busy } in q) seat same_random_number
-      ∙ ap (λ b. let q : Question = record { seat = thread_of p r + 1; random_number = (pcg64 (random_numbers_after p.seed (numbers_taken r journal))).0; busy = b } in q) d.idle
+      ap₂ (λ s w. let q : Question = record { asker = s; random_number = w; busy = run.driver.busy } in q) asker same_random_number
+      ∙ ap (λ b. let q : Question = record { asker = thread_of p r + 1; random_number = (pcg64 (random_numbers_after p.seed (numbers_taken r journal))).0; busy = b } in q) d.idle
 
-  spent_is : (b : Bool) → is_exhausted (run_generator p) r.tally (all_seats run.driver.clients) ≡ b → is_exhausted (run_generator p) r.tally (all_seats p.clients) ≡ b
-  spent_is b h = subst (λ n. is_exhausted (run_generator p) r.tally (all_seats n) ≡ b) (i.keeps.driver i.going).clients h
+  spent_is : (b : Bool) → is_exhausted (run_generator p) r.tally (all_threads run.driver.clients) ≡ b → is_exhausted (run_generator p) r.tally (all_threads p.clients) ≡ b
+  spent_is b h = subst (λ n. is_exhausted (run_generator p) r.tally (all_threads n) ≡ b) (i.keeps.driver i.going).clients h
 
-  offer_is : (o : Offer) → offer (run_generator p) r.tally (all_seats run.driver.clients) (question_by run.driver (thread.Client t) random_number) ≡ o
-      → offer (run_generator p) r.tally (all_seats p.clients) (turn_question p r journal) ≡ o
+  offer_is : (o : Offer) → offer (run_generator p) r.tally (all_threads run.driver.clients) (question_by run.driver (thread.Client t) random_number) ≡ o
+      → offer (run_generator p) r.tally (all_threads p.clients) (turn_question p r journal) ≡ o
   offer_is o h =
-      subst (λ n. offer (run_generator p) r.tally (all_seats n) (turn_question p r journal) ≡ o) (i.keeps.driver i.going).clients
-      (subst (λ q. offer (run_generator p) r.tally (all_seats run.driver.clients) q ≡ o) asked_is h)
+      subst (λ n. offer (run_generator p) r.tally (all_threads n) (turn_question p r journal) ≡ o) (i.keeps.driver i.going).clients
+      (subst (λ q. offer (run_generator p) r.tally (all_threads run.driver.clients) q ≡ o) asked_is h)
 
-  goes_by : (o : Offer) → is_exhausted (run_generator p) r.tally (all_seats run.driver.clients) ≡ false
-      → offer (run_generator p) r.tally (all_seats run.driver.clients) (question_by run.driver (thread.Client t) random_number) ≡ o → ask_move p r journal ≡ move_offered o
+  goes_by : (o : Offer) → is_exhausted (run_generator p) r.tally (all_threads run.driver.clients) ≡ false
+      → offer (run_generator p) r.tally (all_threads run.driver.clients) (question_by run.driver (thread.Client t) random_number) ≡ o → ask_move p r journal ≡ move_offered o
   goes_by o unspent h =
-      ap (λ b. cond b Ends (move_offered (offer (run_generator p) r.tally (all_seats p.clients) (turn_question p r journal)))) (spent_is false unspent) ∙ ap move_offered (offer_is o h)
+      ap (λ b. cond b Ends (move_offered (offer (run_generator p) r.tally (all_threads p.clients) (turn_question p r journal)))) (spent_is false unspent) ∙ ap move_offered (offer_is o h)
 
   pub asks_done : (d' : DriverState) → Answers (run_generator p) r.tally run.driver (thread.Client t) random_number answer.Done d'
       → Asks p r journal asked.Ends (record run { driver = d'; random_numbers = random_numbers; asks = run.asks + 1; has_ended = true })
-  asks_done d' h = (ap (λ b. cond b Ends (move_offered (offer (run_generator p) r.tally (all_seats p.clients) (turn_question p r journal)))) (spent_is true h.0), ends_on p r journal run d' random_numbers i.keeps (random_numbers_are run.random_numbers random_numbers random_number next))
+  asks_done d' h = (ap (λ b. cond b Ends (move_offered (offer (run_generator p) r.tally (all_threads p.clients) (turn_question p r journal)))) (spent_is true h.0), ends_on p r journal run d' random_numbers i.keeps (random_numbers_are run.random_numbers random_numbers random_number next))
 
   pub asks_step : (d' : DriverState) (x : Process) (entry : ℕ) → Answers (run_generator p) r.tally run.driver (thread.Client t) random_number (answer.Call x (call.Step entry)) d'
       → Asks p r journal asked.Ends (record run { driver = d'; random_numbers = random_numbers; asks = run.asks + 1; has_ended = true })

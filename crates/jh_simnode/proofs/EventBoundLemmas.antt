@@ -7,7 +7,7 @@ use Rattle.jh_ops.specs.declared.call.Call.TheVariants.{Client, Step}
 use Rattle.jh_ops.specs.declared.call.Request.{Request}
 use Rattle.jh_ops.specs.declared.call.Workload.{Workload}
 use Rattle.jh_ops.specs.declared.call.Workload.TheVariants.{Register, Counter, Set, Ids}
-use Rattle.jh_gen.specs.DriverState.{all_seats}
+use Rattle.jh_gen.specs.DriverState.{all_threads}
 use Rattle.jh_gen.specs.Generator.{clients}
 use Rattle.jh_gen.specs.Offers.{Offer, member_offer, offer, is_exhausted, offer_unless_exhausted}
 use Rattle.jh_gen.specs.Scope.{Scope, Question, is_in_scope}
@@ -40,7 +40,7 @@ under_zero (path ∷ t) h = rw h.0.1 (ap suc (under_zero t h.1))
 
 unless_some : (b : Bool) (scope : Scope) (q : Question) (o : Offer) (x : Path × Call) → offer_unless_exhausted b scope q o ≡ Some x → (b ≡ false) × (o ≡ Some x)
 unless_some b scope q o x =
-    elim (is_in_scope scope q.seat) as (λ c. (if c then (if b then None else o) else None) ≡ Some x → (b ≡ false) × (o ≡ Some x)) [
+    elim (is_in_scope scope q.asker) as (λ c. (if c then (if b then None else o) else None) ≡ Some x → (b ≡ false) × (o ≡ Some x)) [
       | true ↦ inner b
       | false ↦ λ h. absurd cc
     ] where
@@ -60,7 +60,7 @@ first_false false b h = refl
 call_given : (p : PlanValue) (r : Turns) (journal : List Event) (path : Path) (request : Request) → StartZero r.tally → move_of p r journal ≡ Calls path request
     → (length r.tally < p.ops) × ((rest : Path) × (path ≡ 0 ∷ rest))
 call_given p r journal path request zeros h =
-    let scope = all_seats p.clients in
+    let scope = all_threads p.clients in
     let q = turn_question p r journal in
     let found = unless_some (is_exhausted (run_generator p) r.tally scope) scope q _ (path, Client request) (call_is p r journal path request h) in
     let room = leb-false p.ops (length (tally_under 0 r.tally)) (first_false (nat_le p.ops (length (tally_under 0 r.tally))) _ found.0) in
@@ -97,7 +97,7 @@ offered_turn (Some (path, Step entry)) = refl
 turn_turns : (p : PlanValue) (r : Turns) (journal : List Event) → is_turn (turn_move p r journal) ≡ true
 turn_turns p r journal =
     both_ways (λ (m : Move). is_turn m ≡ true) _ Rests (ask_move p r journal) refl
-    (both_ways (λ (m : Move). is_turn m ≡ true) _ Ends _ refl (offered_turn (offer (run_generator p) r.tally (all_seats p.clients) (turn_question p r journal))))
+    (both_ways (λ (m : Move). is_turn m ≡ true) _ Ends _ refl (offered_turn (offer (run_generator p) r.tally (all_threads p.clients) (turn_question p r journal))))
 
 turn_no_tick : (m : Move) → is_turn m ≡ true → is_tick m ≡ false
 turn_no_tick Ticks h = absurd cc

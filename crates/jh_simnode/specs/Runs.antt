@@ -15,7 +15,7 @@ use Rattle.jh_gen.specs.Generator.{Generator, limit, clients}
 use Rattle.jh_gen.specs.Tally.{Path, Tally}
 use Rattle.jh_gen.specs.Scope.{Question}
 use Rattle.jh_gen.specs.Offers.{is_exhausted, offer, Offer}
-use Rattle.jh_gen.specs.DriverState.{all_seats}
+use Rattle.jh_gen.specs.DriverState.{all_threads}
 use Rattle.jh_nemesis.specs.declared.steps.StepAnswer.{StepAnswer}
 use Rattle.jh_simnode.specs.declared.replicas.Reply.{Reply}
 use Rattle.jh_simnode.specs.declared.events.Event.{Event}
@@ -69,7 +69,7 @@ numbers_taken r journal = r.asks + answered_count journal
 -- nobody has an operation outstanding
 abbrev pub turn_question : PlanValue → Turns → List Event → Question
 turn_question p r journal = record {
-  seat = thread_of p r + 1;
+  asker = thread_of p r + 1;
   random_number = random_number_at p.seed (numbers_taken r journal);
   busy = replicate (p.clients + 1) false;
 }
@@ -109,9 +109,9 @@ move_offered (Some (path, call.Step entry)) = Ends
 -- the move of the thread whose turn it is
 abbrev pub ask_move : PlanValue → Turns → List Event → Move
 ask_move p r journal =
-    if is_exhausted (run_generator p) r.tally (all_seats p.clients) then Ends
+    if is_exhausted (run_generator p) r.tally (all_threads p.clients) then Ends
     else move_offered
-    (offer (run_generator p) r.tally (all_seats p.clients) (turn_question p r journal))
+    (offer (run_generator p) r.tally (all_threads p.clients) (turn_question p r journal))
 
 -- the calls have ended, or each thread in a round got nothing
 abbrev pub turn_move : PlanValue → Turns → List Event → Move

@@ -179,13 +179,13 @@ Lots::take-returns-then-at-len-clause-rest t c =
 pub Lots::take-returns-else-at-len-clause-call : goal.Lots::take-returns-else-at-len-clause-call
 Lots::take-returns-else-at-len-clause-call t c =
     let same = lots_length c.self.inside.items.items c.args.self.now c.self.view_is in
-    let over : length c.args.self.now ≤ lot_at c.args.self.now c.args.asked.seat = omega (arith, c.lot_at-at.ensures, c.len.ensures, same) in
+    let over : length c.args.self.now ≤ lot_at c.args.self.now c.args.asked.asker = omega (arith, c.lot_at-at.ensures, c.len.ensures, same) in
     sym (ap taken_call (lots_past_end c.args.self.now _ (question c.args.asked) over))
 
 pub Lots::take-returns-else-at-len-clause-rest : goal.Lots::take-returns-else-at-len-clause-rest
 Lots::take-returns-else-at-len-clause-rest t c =
     let same = lots_length c.self.inside.items.items c.args.self.now c.self.view_is in
-    let over : length c.args.self.now ≤ lot_at c.args.self.now c.args.asked.seat = omega (arith, c.lot_at-at.ensures, c.len.ensures, same) in
+    let over : length c.args.self.now ≤ lot_at c.args.self.now c.args.asked.asker = omega (arith, c.lot_at-at.ensures, c.len.ensures, same) in
     sym (ap (rest_of c.args.self.now) (lots_past_end c.args.self.now _ (question c.args.asked) over))
 
 pub Node::take-returns-in-InTurn-clause-call : goal.Node::take-returns-in-InTurn-clause-call

@@ -5,7 +5,7 @@ use Rattle.jh_gen.specs.Tally.{Tally}
 use Rattle.jh_gen.specs.Scope.{Question}
 use Rattle.jh_gen.specs.State.{taking, taken_call, rest_of}
 use Rattle.jh_gen.specs.NodeView.{node_state}
-use Rattle.jh_gen.specs.DriverState.{DriverState, IsDriverOf, Answers, seat_of, question_by, next_process}
+use Rattle.jh_gen.specs.DriverState.{DriverState, IsDriverOf, Answers, thread_number, question_by, next_process}
 use Rattle.jh_gen.specs.DriverInside.{driver_state}
 use Rattle.jh_gen.specs.declared.answers.GenAnswer.TheVariants as answer
 use Rattle.jh_gen.proofs.DriverLemmas.{answers_done, answers_pending, Gave, answers_call}
@@ -20,10 +20,10 @@ returns-then-is_done-clause-answered c =
 pub returns-in_default-clause-answered : goal.returns-in_default-clause-answered
 returns-in_default-clause-answered c =
     let d = driver_state c.self.inside in
-    let known : seat_of c.args.thread ≤ d.clients = omega (arith, c.seat-seat.ensures) in
-    let read : Question = record { seat = c.seat-seat.result; random_number = c.args.random_number; busy = c.as_slice.result.now } in
+    let known : thread_number c.args.thread ≤ d.clients = omega (arith, c.number_of-number.ensures) in
+    let read : Question = record { asker = c.number_of-number.result; random_number = c.args.random_number; busy = c.as_slice.result.now } in
     let asked : read ≡ question_by d c.args.thread c.args.random_number =
-    ap₂ (λ s b. let q : Question = record { seat = s; random_number = c.args.random_number; busy = b } in q) c.seat-seat.ensures c.as_slice.ensures.value in
+    ap₂ (λ s b. let q : Question = record { asker = s; random_number = c.args.random_number; busy = b } in q) c.number_of-number.ensures c.as_slice.ensures.value in
     let none : taking d.state read ≡ None = none_call (taking d.state read) (sym c.in_default.is ∙ c.take.ensures.call) in
     let kept : node_state c.take.new.self ≡ d.state = c.take.ensures.rest ∙ ap (rest_of d.state) none in
     subst (λ e. (g : Generator) (t : Tally) → IsDriverOf e g t → Answers g t e c.args.thread c.args.random_number answer.Pending (record d { state = node_state c.take.new.self })) c.self.view_is
@@ -34,15 +34,15 @@ returns-in_default-clause-answered c =
 pub returns-clause-answered : goal.returns-clause-answered
 returns-clause-answered c =
     let d = driver_state c.self.inside in
-    let known : seat_of c.args.thread ≤ d.clients = omega (arith, c.seat-seat.ensures) in
-    let read : Question = record { seat = c.seat-seat.result; random_number = c.args.random_number; busy = c.as_slice.result.now } in
+    let known : thread_number c.args.thread ≤ d.clients = omega (arith, c.number_of-number.ensures) in
+    let read : Question = record { asker = c.number_of-number.result; random_number = c.args.random_number; busy = c.as_slice.result.now } in
     let asked : read ≡ question_by d c.args.thread c.args.random_number =
-    ap₂ (λ s b. let q : Question = record { seat = s; random_number = c.args.random_number; busy = b } in q) c.seat-seat.ensures c.as_slice.ensures.value in
+    ap₂ (λ s b. let q : Question = record { asker = s; random_number = c.args.random_number; busy = b } in q) c.number_of-number.ensures c.as_slice.ensures.value in
     let e : DriverState = record {
       clients = d.clients;
       state = node_state c.take.new.self;
       given = d.given + 1;
-      busy = set d.busy c.seat-seat.result true;
+      busy = set d.busy c.number_of-number.result true;
       processes = d.processes;
     } in
     let process : c.process_in-process.result ≡ next_process d c.args.thread = search rules in
@@ -53,7 +53,7 @@ returns-clause-answered c =
       rest = c.take.ensures.rest ∙ ap (λ q. rest_of d.state (taking d.state q)) asked;
       given = refl;
       clients = refl;
-      busy = ap (λ k. set d.busy k true) c.seat-seat.ensures;
+      busy = ap (λ k. set d.busy k true) c.number_of-number.ensures;
       processes = refl;
       process = process;
     } in
