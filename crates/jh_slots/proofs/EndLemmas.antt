@@ -164,3 +164,9 @@ ends_at cap slots id f x j me c m e live here has fits is = subst (λ (k : ℕ).
 pub mark_of-len : (len : ℕ) (ws : List ℕ) → 1 ≤ len → mark_of (len + 1) ws ≡ Some (Words (take len ws))
 mark_of-len zero ws h = absurd (omega arith)
 mark_of-len (suc k) ws h = let e : suc k + 1 ≡ suc (suc k) = omega arith in ap (λ n. mark_of n ws) e
+
+-- each status from 1 on is that of a mark
+pub mark_there : (status : ℕ) (words : List ℕ) → 1 ≤ status → (m : Mark) × (mark_of status words ≡ Some m)
+mark_there zero words least = absurd (omega arith)
+mark_there (suc zero) words least = (Void, refl)
+mark_there (suc (suc k)) words least = (Words (take (suc k) words), refl)

@@ -2,13 +2,14 @@
 //! seat knows, `specs/States.antt` what is true of the log and all its seats at every moment.
 
 ghost use Rattle.std.specs.Prelude.{◌≡◌, ◌+◌, ◌*◌, ◌<◌, ◌≤◌, ◌==◌, IfOk, IfErr, MatchBool};
-ghost use Rattle.std.specs.Prelude.{MatchResult, [], take, replicate};
+ghost use Rattle.std.specs.Prelude.{MatchResult, [], take, replicate, Some};
 ghost use Rattle.jh_slots.specs.Seats.{newcomer, knowledge_after_look, knowledge_after_claim};
 ghost use Rattle.jh_slots.specs.Seats.{knowledge_after_write, knowledge_after_publish};
 ghost use Rattle.jh_slots.specs.Seats.{knowledge_after_void, knowledge_after_split};
 ghost use Rattle.jh_slots.specs.Seats.{knowledge_after_join, Agree, HoldsClaim, AreClaimsApart};
-ghost use Rattle.jh_slots.specs.Seats.{BeginsAbove};
+ghost use Rattle.jh_slots.specs.Seats.{BeginsAbove, Mark, claim_at, knowledge_after_end};
 ghost use Rattle.jh_slots.specs.Reading.{ReadsRow};
+ghost use Rattle.jh_slots.specs.Stored.{mark_of};
 ghost use Rattle.jh_slots.specs.Sizes.{IsSize, RefusesSize, max_claimed};
 
 use crate::answers::{Full, MAX_ROWS, Read, Receipt, SlotsError};
@@ -222,6 +223,25 @@ impl Slots {
         );
     }
 
+    /// Ends a claim with a status of its first row: 1 for no record, else one more than the number
+    /// of the record's words.
+    fn end(&self, seat: &mut Seat, claim: Claim, status: u64)
+        requires own { seat.old.table ≡ self.now.table }
+        requires holds { HoldsClaim seat.old.knows claim.first claim.rows }
+        requires status { (1 ≤ status) × (status ≤ 5 * claim.rows + 1) }
+        ensures table { seat.new.table ≡ seat.old.table }
+        ensures ended { (mark : Mark)
+            → mark_of status (claim_at seat.old.knows claim.first).words ≡ Some mark
+            → seat.new.knows ≡ knowledge_after_end claim.first mark seat.old.knows }
+    {
+        let Claim { first, rows: _ } = claim;
+        self.table.shared.store::<End>(
+            &mut seat.inner,
+            1 + (5 * self.rows + first as usize),
+            status,
+        );
+    }
+
     /// Publishes the first `len` words of a claim at its first row, and ends it. `len` is from 1 to
     /// five times the claim's rows; words that were not written are 0. The claim's other rows are
     /// never free again.
@@ -234,13 +254,9 @@ impl Slots {
             ≡ knowledge_after_publish claim.first len seat.old.knows }
         ensures receipt { (result.row ≡ claim.first) × (result.len ≡ len) }
     {
-        let Claim { first, rows: _ } = claim;
-        self.table.shared.store::<End>(
-            &mut seat.inner,
-            1 + (5 * self.rows + first as usize),
-            len as u64 + 1,
-        );
-        Receipt { row: first, len }
+        let row = claim.first;
+        self.end(seat, claim, len as u64 + 1);
+        Receipt { row, len }
     }
 
     /// Ends a claim with nothing published. Its rows are never free again.
@@ -250,10 +266,7 @@ impl Slots {
         ensures table { seat.new.table ≡ seat.old.table }
         ensures voided { seat.new.knows ≡ knowledge_after_void claim.first seat.old.knows }
     {
-        let Claim { first, rows: _ } = claim;
-        self.table
-            .shared
-            .store::<End>(&mut seat.inner, 1 + (5 * self.rows + first as usize), 1);
+        self.end(seat, claim, 1);
     }
 
     /// Reads the record of a row into a buffer, whose further places stay as they are. A row that
