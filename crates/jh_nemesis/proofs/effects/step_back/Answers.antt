@@ -1,4 +1,4 @@
-use Rattle.std.proofs.Common.{◌≡◌, ◌∙◌, ◌+◌, [], add-one, arith, length, refl, subst, sym}
+use Rattle.std.proofs.Common.{◌≡◌, ◌∙◌, ◌+◌, [], add-one, arith, length, refl, rules, subst, sym}
 use Rattle.std.proofs.lemmas.List.{append-nil}
 use Rattle.jh_env.specs.Overlay.{StandsWith}
 use Rattle.jh_env.specs.Standing.{AreInOrder}
@@ -13,104 +13,63 @@ take_begun-requires-clause-stands c =
     step_read c.args.records.now c.args.index c.index-records-index.result c.requires.known c.index-records-index.is ∙ c.in-Begun.is in
     (faults_with_stamps c.args.records.now (active_after c.args.records.now c.args.index), [], subst (StandsWith c.args.env.now) (begun_stamped (length c.args.env.now.names) c.args.records.now c.requires.right c.args.index c.requires.known c.in-Begun.field-0 c.in-Begun.field-1 at) c.requires.stands)
 
-pub put_begun-requires-clause-begin : goal.put_begun-requires-clause-begin
-put_begun-requires-clause-begin c =
+pub put_begun-requires : goal.put_begun-requires
+put_begun-requires c =
     let at : record_at c.args.records.now c.args.index ≡ Withdrawn c.in-Withdrawn.stamp =
     step_read c.args.records.now c.args.index c.index-records-index.result c.requires.known c.index-records-index.is ∙ c.in-Withdrawn.is in
-    withdrawn_begin (length c.args.env.now.names) c.args.records.now c.requires.right c.args.index c.requires.known c.in-Withdrawn.stamp at
+    record {
+      begin = withdrawn_begin (length c.args.env.now.names) c.args.records.now c.requires.right c.args.index c.requires.known c.in-Withdrawn.stamp at;
+      few = search rules;
+      fits = withdrawn_fits (length c.args.env.now.names) c.args.records.now c.requires.right c.args.index c.requires.known c.in-Withdrawn.stamp at;
+      room = withdrawn_room (length c.args.env.now.names) c.args.records.now c.requires.right c.args.index c.requires.known c.in-Withdrawn.stamp at c.args.env.now.laid c.requires.stands.laid;
+    }
 
-pub put_begun-requires-clause-fits : goal.put_begun-requires-clause-fits
-put_begun-requires-clause-fits c =
-    let at : record_at c.args.records.now c.args.index ≡ Withdrawn c.in-Withdrawn.stamp =
-    step_read c.args.records.now c.args.index c.index-records-index.result c.requires.known c.index-records-index.is ∙ c.in-Withdrawn.is in
-    withdrawn_fits (length c.args.env.now.names) c.args.records.now c.requires.right c.args.index c.requires.known c.in-Withdrawn.stamp at
-
-pub put_begun-requires-clause-room : goal.put_begun-requires-clause-room
-put_begun-requires-clause-room c =
-    let at : record_at c.args.records.now c.args.index ≡ Withdrawn c.in-Withdrawn.stamp =
-    step_read c.args.records.now c.args.index c.index-records-index.result c.requires.known c.index-records-index.is ∙ c.in-Withdrawn.is in
-    withdrawn_room (length c.args.env.now.names) c.args.records.now c.requires.right c.args.index c.requires.known c.in-Withdrawn.stamp at c.args.env.now.laid c.requires.stands.laid
-
-pub put_each-requires-clause-begins : goal.put_each-requires-clause-begins
-put_each-requires-clause-begins c =
+pub put_each-requires : goal.put_each-requires
+put_each-requires c =
     let at : record_at c.args.records.now c.args.index ≡ WithdrawnAll c.in-WithdrawnAll.stamps =
     step_read c.args.records.now c.args.index c.index-records-index.result c.requires.known c.index-records-index.is ∙ c.in-WithdrawnAll.is in
     let is : c.deref.result.now ≡ active_after c.args.records.now c.args.index = c.deref.ensures.value ∙ subst (IsRight (length c.args.env.now.names) c.args.records.now c.args.index) at (c.requires.right c.args.index c.requires.known) in
     let none : active_after c.args.records.now (c.args.index + 1) ≡ [] = rw (add-one c.args.index, at) refl in
-    all_begins (length c.args.env.now.names) c.args.records.now c.requires.right c.args.index c.requires.known c.deref.result.now is none
+    record {
+      begins = all_begins (length c.args.env.now.names) c.args.records.now c.requires.right c.args.index c.requires.known c.deref.result.now is none;
+      few = (c.requires.few, all_few (length c.args.env.now.names) c.args.records.now c.requires.right c.args.index c.requires.known c.deref.result.now is none);
+      fit = all_fit (length c.args.env.now.names) c.args.records.now c.requires.right c.args.index c.requires.known c.deref.result.now is none;
+      rise = all_rise (length c.args.env.now.names) c.args.records.now c.requires.right c.args.index c.requires.known c.deref.result.now is none;
+      stands = subst (λ active. StandsWith c.args.env.now (faults_with_stamps c.args.records.now active)) none c.requires.stands;
+    }
 
-pub put_each-requires-clause-few : goal.put_each-requires-clause-few
-put_each-requires-clause-few c =
-    let at : record_at c.args.records.now c.args.index ≡ WithdrawnAll c.in-WithdrawnAll.stamps =
-    step_read c.args.records.now c.args.index c.index-records-index.result c.requires.known c.index-records-index.is ∙ c.in-WithdrawnAll.is in
-    let is : c.deref.result.now ≡ active_after c.args.records.now c.args.index = c.deref.ensures.value ∙ subst (IsRight (length c.args.env.now.names) c.args.records.now c.args.index) at (c.requires.right c.args.index c.requires.known) in
-    let none : active_after c.args.records.now (c.args.index + 1) ≡ [] = rw (add-one c.args.index, at) refl in
-    (c.requires.few, all_few (length c.args.env.now.names) c.args.records.now c.requires.right c.args.index c.requires.known c.deref.result.now is none)
-
-pub put_each-requires-clause-fit : goal.put_each-requires-clause-fit
-put_each-requires-clause-fit c =
-    let at : record_at c.args.records.now c.args.index ≡ WithdrawnAll c.in-WithdrawnAll.stamps =
-    step_read c.args.records.now c.args.index c.index-records-index.result c.requires.known c.index-records-index.is ∙ c.in-WithdrawnAll.is in
-    let is : c.deref.result.now ≡ active_after c.args.records.now c.args.index = c.deref.ensures.value ∙ subst (IsRight (length c.args.env.now.names) c.args.records.now c.args.index) at (c.requires.right c.args.index c.requires.known) in
-    let none : active_after c.args.records.now (c.args.index + 1) ≡ [] = rw (add-one c.args.index, at) refl in
-    all_fit (length c.args.env.now.names) c.args.records.now c.requires.right c.args.index c.requires.known c.deref.result.now is none
-
-pub put_each-requires-clause-rise : goal.put_each-requires-clause-rise
-put_each-requires-clause-rise c =
-    let at : record_at c.args.records.now c.args.index ≡ WithdrawnAll c.in-WithdrawnAll.stamps =
-    step_read c.args.records.now c.args.index c.index-records-index.result c.requires.known c.index-records-index.is ∙ c.in-WithdrawnAll.is in
-    let is : c.deref.result.now ≡ active_after c.args.records.now c.args.index = c.deref.ensures.value ∙ subst (IsRight (length c.args.env.now.names) c.args.records.now c.args.index) at (c.requires.right c.args.index c.requires.known) in
-    let none : active_after c.args.records.now (c.args.index + 1) ≡ [] = rw (add-one c.args.index, at) refl in
-    all_rise (length c.args.env.now.names) c.args.records.now c.requires.right c.args.index c.requires.known c.deref.result.now is none
-
-pub put_each-requires-clause-stands : goal.put_each-requires-clause-stands
-put_each-requires-clause-stands c =
-    let at : record_at c.args.records.now c.args.index ≡ WithdrawnAll c.in-WithdrawnAll.stamps =
-    step_read c.args.records.now c.args.index c.index-records-index.result c.requires.known c.index-records-index.is ∙ c.in-WithdrawnAll.is in
-    let is : c.deref.result.now ≡ active_after c.args.records.now c.args.index = c.deref.ensures.value ∙ subst (IsRight (length c.args.env.now.names) c.args.records.now c.args.index) at (c.requires.right c.args.index c.requires.known) in
-    let none : active_after c.args.records.now (c.args.index + 1) ≡ [] = rw (add-one c.args.index, at) refl in
-    subst (λ active. StandsWith c.args.env.now (faults_with_stamps c.args.records.now active)) none c.requires.stands
-
-pub returns-in-Begun-clause-stands : goal.returns-in-Begun-clause-stands
-returns-in-Begun-clause-stands c =
+pub returns-in-Begun : goal.returns-in-Begun
+returns-in-Begun c =
     let at : record_at c.args.records.now c.args.index ≡ Begun c.in-Begun.field-0 c.in-Begun.field-1 =
     step_read c.args.records.now c.args.index c.index-records-index.result c.requires.known c.index-records-index.is ∙ c.in-Begun.is in
     let before = faults_with_stamps c.args.records.now (active_after c.args.records.now c.args.index) in
-    subst (StandsWith c.take_begun.new.env) (append-nil before)
-    (c.take_begun.ensures.stands before [] (subst (StandsWith c.args.env.now) (begun_stamped (length c.args.env.now.names) c.args.records.now c.requires.right c.args.index c.requires.known c.in-Begun.field-0 c.in-Begun.field-1 at) c.requires.stands))
+    record {
+      stands = subst (StandsWith c.take_begun.new.env) (append-nil before)
+          (c.take_begun.ensures.stands before [] (subst (StandsWith c.args.env.now) (begun_stamped (length c.args.env.now.names) c.args.records.now c.requires.right c.args.index c.requires.known c.in-Begun.field-0 c.in-Begun.field-1 at) c.requires.stands));
+      kept = search rules;
+      work = omega (arith, c.take_begun.ensures.work, begun_size (length c.args.env.now.names) c.args.records.now c.requires.right c.args.index c.requires.known c.in-Begun.field-0 c.in-Begun.field-1 at);
+    }
 
-pub returns-in-Begun-clause-work : goal.returns-in-Begun-clause-work
-returns-in-Begun-clause-work c =
-    let at : record_at c.args.records.now c.args.index ≡ Begun c.in-Begun.field-0 c.in-Begun.field-1 =
-    step_read c.args.records.now c.args.index c.index-records-index.result c.requires.known c.index-records-index.is ∙ c.in-Begun.is in
-    omega (arith, c.take_begun.ensures.work, begun_size (length c.args.env.now.names) c.args.records.now c.requires.right c.args.index c.requires.known c.in-Begun.field-0 c.in-Begun.field-1 at)
-
-pub returns-in-Withdrawn-clause-stands : goal.returns-in-Withdrawn-clause-stands
-returns-in-Withdrawn-clause-stands c =
+pub returns-in-Withdrawn : goal.returns-in-Withdrawn
+returns-in-Withdrawn c =
     let at : record_at c.args.records.now c.args.index ≡ Withdrawn c.in-Withdrawn.stamp =
     step_read c.args.records.now c.args.index c.index-records-index.result c.requires.known c.index-records-index.is ∙ c.in-Withdrawn.is in
-    subst (StandsWith c.put_begun.new.env) (sym (withdrawn_before (length c.args.env.now.names) c.args.records.now c.requires.right c.args.index c.requires.known c.in-Withdrawn.stamp at))
-    (c.put_begun.ensures.stands (first (length c.args.env.now.names) c.args.records.now c.requires.right c.args.index c.requires.known c.in-Withdrawn.stamp at) (last (length c.args.env.now.names) c.args.records.now c.requires.right c.args.index c.requires.known c.in-Withdrawn.stamp at) (subst AreInOrder (withdrawn_before (length c.args.env.now.names) c.args.records.now c.requires.right c.args.index c.requires.known c.in-Withdrawn.stamp at) (before_order (length c.args.env.now.names) c.args.records.now c.requires.right c.args.index c.requires.known))
-    (subst (StandsWith c.args.env.now) (withdrawn_after (length c.args.env.now.names) c.args.records.now c.requires.right c.args.index c.requires.known c.in-Withdrawn.stamp at) c.requires.stands))
+    record {
+      stands = subst (StandsWith c.put_begun.new.env) (sym (withdrawn_before (length c.args.env.now.names) c.args.records.now c.requires.right c.args.index c.requires.known c.in-Withdrawn.stamp at))
+          (c.put_begun.ensures.stands (first (length c.args.env.now.names) c.args.records.now c.requires.right c.args.index c.requires.known c.in-Withdrawn.stamp at) (last (length c.args.env.now.names) c.args.records.now c.requires.right c.args.index c.requires.known c.in-Withdrawn.stamp at) (subst AreInOrder (withdrawn_before (length c.args.env.now.names) c.args.records.now c.requires.right c.args.index c.requires.known c.in-Withdrawn.stamp at) (before_order (length c.args.env.now.names) c.args.records.now c.requires.right c.args.index c.requires.known))
+          (subst (StandsWith c.args.env.now) (withdrawn_after (length c.args.env.now.names) c.args.records.now c.requires.right c.args.index c.requires.known c.in-Withdrawn.stamp at) c.requires.stands));
+      kept = search rules;
+      work = omega (arith, c.put_begun.ensures.work, withdrawn_size (length c.args.env.now.names) c.args.records.now c.requires.right c.args.index c.requires.known c.in-Withdrawn.stamp at);
+    }
 
-pub returns-in-Withdrawn-clause-work : goal.returns-in-Withdrawn-clause-work
-returns-in-Withdrawn-clause-work c =
-    let at : record_at c.args.records.now c.args.index ≡ Withdrawn c.in-Withdrawn.stamp =
-    step_read c.args.records.now c.args.index c.index-records-index.result c.requires.known c.index-records-index.is ∙ c.in-Withdrawn.is in
-    omega (arith, c.put_begun.ensures.work, withdrawn_size (length c.args.env.now.names) c.args.records.now c.requires.right c.args.index c.requires.known c.in-Withdrawn.stamp at)
-
-pub returns-in-WithdrawnAll-clause-stands : goal.returns-in-WithdrawnAll-clause-stands
-returns-in-WithdrawnAll-clause-stands c =
+pub returns-in-WithdrawnAll : goal.returns-in-WithdrawnAll
+returns-in-WithdrawnAll c =
     let at : record_at c.args.records.now c.args.index ≡ WithdrawnAll c.in-WithdrawnAll.stamps =
     step_read c.args.records.now c.args.index c.index-records-index.result c.requires.known c.index-records-index.is ∙ c.in-WithdrawnAll.is in
     let is : c.deref.result.now ≡ active_after c.args.records.now c.args.index = c.deref.ensures.value ∙ subst (IsRight (length c.args.env.now.names) c.args.records.now c.args.index) at (c.requires.right c.args.index c.requires.known) in
     let none : active_after c.args.records.now (c.args.index + 1) ≡ [] = rw (add-one c.args.index, at) refl in
-    subst (λ stamps. StandsWith c.put_each.new.env (faults_with_stamps c.args.records.now stamps)) is c.put_each.ensures.stands
-
-pub returns-in-WithdrawnAll-clause-work : goal.returns-in-WithdrawnAll-clause-work
-returns-in-WithdrawnAll-clause-work c =
-    let at : record_at c.args.records.now c.args.index ≡ WithdrawnAll c.in-WithdrawnAll.stamps =
-    step_read c.args.records.now c.args.index c.index-records-index.result c.requires.known c.index-records-index.is ∙ c.in-WithdrawnAll.is in
-    let is : c.deref.result.now ≡ active_after c.args.records.now c.args.index = c.deref.ensures.value ∙ subst (IsRight (length c.args.env.now.names) c.args.records.now c.args.index) at (c.requires.right c.args.index c.requires.known) in
-    let none : active_after c.args.records.now (c.args.index + 1) ≡ [] = rw (add-one c.args.index, at) refl in
-    omega (arith, c.put_each.ensures.work, all_size (length c.args.env.now.names) c.args.records.now c.requires.right c.args.index c.requires.known c.deref.result.now is none)
+    record {
+      stands = subst (λ stamps. StandsWith c.put_each.new.env (faults_with_stamps c.args.records.now stamps)) is c.put_each.ensures.stands;
+      kept = search rules;
+      work = omega (arith, c.put_each.ensures.work, all_size (length c.args.env.now.names) c.args.records.now c.requires.right c.args.index c.requires.known c.deref.result.now is none);
+    }
