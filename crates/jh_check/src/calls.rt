@@ -52,8 +52,8 @@ fn value_at(history: &[Op], place: usize) -> Option<&Value>
     Some(&op_at(history, place)?.value)
 }
 
-/// The place of the call's outcome, or where there is none that of its invocation.
-pub(crate) fn end_of(call: Pair) -> usize
+/// The place of a call's outcome, or where there is none that of its invocation.
+pub fn end_of(call: Pair) -> usize
     ensures { result ≡ rule.end_place call }
 {
     call.outcome.unwrap_or(call.invoke)
@@ -109,8 +109,9 @@ pub(crate) fn may_be_added(history: &[Op], call: Pair) -> bool
     asks("add", history, call) && !has_ended(Kind::Fail, history, call)
 }
 
-/// Whether the call is a read that happened.
-pub(crate) fn is_ok_read(history: &[Op], call: Pair) -> bool
+/// Whether a call of a counter's history is a read that happened: its invocation asks for `:read`,
+/// and it is completed as `:ok`. A place that the history does not have makes it none.
+pub fn is_ok_read(history: &[Op], call: Pair) -> bool
     ensures { result ≡ rule.is_ok_read (operations history.now) call }
 {
     asks("read", history, call) && has_ended(Kind::Ok, history, call)

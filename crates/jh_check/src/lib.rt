@@ -14,6 +14,7 @@ mod set;
 mod totals;
 mod verdict;
 
+pub use calls::{end_of, is_ok_read};
 pub use counter::{CounterResult, ReadBounds, Reads, check_counter};
 pub use elements::{Element, put, write_part};
 pub use error::CheckError;

@@ -1,11 +1,11 @@
 //! Histories, and the line of each or why there is none; and the verdicts on nothing and on several.
 
-use crate::rows::{Ask, ask_all};
+use crate::rows::{Ask, ask_all, ops_of};
 use jh_check::{
     CheckError, CounterResult, IdsResult, SetResult, Verdict, check_counter, check_set,
-    check_unique, merge, same_values_are_equal,
+    check_unique, end_of, is_ok_read, merge, same_values_are_equal,
 };
-use jh_ops::Workload;
+use jh_ops::{Pair, Workload};
 use std::alloc::Global;
 use std::test::Fail;
 
@@ -101,4 +101,23 @@ fn judges_nothing(rt: HostRuntime) -> Result<(), Fail> {
     };
     assert_eq!(rt; found, [Verdict::Unknown, Verdict::True, Verdict::True]);
     Ok(())
+}
+
+/// Whether a call is a read that happened, and where it ends. None: memory was refused.
+fn read_and_end(alloc: Global, history: &str, call: Pair) -> Option<(bool, usize)> {
+    let ops = ops_of(alloc, history)?;
+    Some((is_ok_read(&ops, call), end_of(call)))
+}
+
+#[test]
+fn knows_reads_that_happened(rt: HostRuntime) {
+    let history = "1 :invoke :read; 1 :ok :read 6; 2 :invoke :add 1; 2 :ok :add 1; 3 :invoke :read";
+    for (invoke, outcome, expected) in [
+        (0, Some(1), (true, 1)),
+        (2, Some(3), (false, 3)),
+        (4, None, (false, 4)),
+    ] {
+        let found = read_and_end(rt.alloc(), history, Pair { invoke, outcome });
+        assert!(rt; found.is_none_or(|found| found == expected));
+    }
 }

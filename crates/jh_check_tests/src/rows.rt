@@ -34,10 +34,10 @@ fn spelled(alloc: Global, history: &str) -> Option<String> {
     for op in history.trim().split_terminator(';') {
         text.push_str("{").ok()?;
         let mut keys = ":process :type :f :value".split(' ');
-        for word in op.trim().splitn(4, ' ') {
+        for piece in op.trim().splitn(4, ' ') {
             text.push_str(keys.next()?).ok()?;
             text.push_str(" ").ok()?;
-            text.push_str(word).ok()?;
+            text.push_str(piece).ok()?;
             text.push_str(" ").ok()?;
         }
         text.push_str("}\n").ok()?;
@@ -46,7 +46,7 @@ fn spelled(alloc: Global, history: &str) -> Option<String> {
 }
 
 /// The operations of a history. None: memory was refused.
-fn ops_of(alloc: Global, history: &str) -> Option<Vec<Op>> {
+pub(crate) fn ops_of(alloc: Global, history: &str) -> Option<Vec<Op>> {
     let text = spelled(alloc, history)?;
     let values = read_all(alloc, &mut text.as_bytes(), 1_000).ok()?;
     history_of(alloc, values).ok()
@@ -54,13 +54,13 @@ fn ops_of(alloc: Global, history: &str) -> Option<Vec<Op>> {
 
 /// The operations of a register in a history. None: memory was refused.
 pub(crate) fn calls_in(alloc: Global, history: &str) -> Option<Result<Vec<RegOp>, RegOpsError>>
-    ensures { IfSome result (λ calls_in. IfOk calls_in (λ calls. EndAfterInvoked calls.items)) }
+    ensures { IfSome result (λ made. IfOk made (λ calls. EndAfterInvoked calls.items)) }
 {
     let ops = ops_of(alloc, history)?;
     let pairs = pair(alloc, &ops).ok()?;
     match reg_ops(alloc, &ops, &pairs) {
         Err(RegOpsError::OutOfMemory) => None,
-        calls_in => Some(calls_in),
+        made => Some(made),
     }
 }
 

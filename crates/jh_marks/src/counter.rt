@@ -1,6 +1,6 @@
 //! The marks of counters. `specs/Marked.antt` has the rule.
 
-ghost use Rattle.std.specs.Prelude.{◌≡◌, [], ◌∷◌, ◌++◌, codes, nat_lt, IfOk, OnOk, option_and_then};
+ghost use Rattle.std.specs.Prelude.{◌≡◌, [], ◌∷◌, ◌++◌, nat_lt, IfOk, OnOk, option_and_then};
 ghost use Rattle.std.specs.Ordering.{is_lt};
 ghost use Rattle.jh_ops.specs.Operation.{operations};
 ghost use Rattle.jh_ops.specs.Pairing.{history_pairs};
@@ -10,51 +10,20 @@ ghost use Rattle.jh_marks.specs.Marked.{marks_by};
 ghost use Rattle.jh_marks.specs.MarkedInside.{bounds_with, ok_read_ends, pair_with};
 
 use crate::notes::{noted, push_note};
-use crate::operations::op_at;
 use crate::places::{place_of, places_of};
-use jh_check::ReadBounds;
+use jh_check::{ReadBounds, end_of, is_ok_read};
 use jh_ops::{Kind, Op, Pair, Process};
 use jh_timeline::{Bar, Call, Mark, Note};
 use std::alloc::{AllocError, Global};
 use std::cmp::Ordering;
 use std::collections::BTreeMap;
 
-/// Whether a call is a read.
-fn is_read(history: &[Op], pair: Pair) -> bool
-    ensures { result ≡ counter.asks (codes "read") (operations history.now) pair }
-{
-    match op_at(history, pair.invoke) {
-        Some(op) => op.f.is_keyword("read"),
-        None => false,
-    }
-}
-
-/// Whether a call happened.
-fn is_done(history: &[Op], pair: Pair) -> bool
-    ensures { result ≡ counter.has_ended Kind.Ok (operations history.now) pair }
-{
-    let Some(outcome) = pair.outcome else {
-        return false;
-    };
-    match op_at(history, outcome) {
-        Some(op) => Kind::Ok.is(op.kind),
-        None => false,
-    }
-}
-
-/// Where a call ends, or else where it is invoked.
-fn end_of(pair: Pair) -> usize
-    ensures { result ≡ counter.end_place pair }
-{
-    pair.outcome.unwrap_or(pair.invoke)
-}
-
 /// Puts the end of a call last, if it is a read that happened.
 fn push_end(history: &[Op], pair: Pair, ends: &mut Vec<usize>) -> Result<(), AllocError>
     ensures { OnOk result (ends.new.items
         ≡ ends.old.items ++ ok_read_ends (operations history.now) (pair ∷ [])) }
 {
-    if is_read(history, pair) && is_done(history, pair) {
+    if is_ok_read(history, pair) {
         ends.push(end_of(pair))?;
     }
     Ok(())
