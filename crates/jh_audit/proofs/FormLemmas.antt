@@ -202,7 +202,7 @@ is_done Generate (Got.One None) may = refl
 is_done Generate (Got.One (Some z)) may = refl
 is_done Generate (Got.Many xs) may = absurd may
 
--- a client's completion of this kind tells the request, with this reply
+-- a client's completion of this kind is of the request, with this reply
 abbrev pub IsTelling : Kind → List ℕ → Edn → Request → Reply → Type 0
 IsTelling kind name value request reply =
     MayReply request reply × (kind ≡ completion_kind reply) × (name ≡ request_name request)
@@ -355,7 +355,7 @@ made_says place Process.Nemesis kind f value event form e =
       | inr t ↦ absurd (let clash = t.1 in cc)
     ]
 
--- what is found is said
+-- what is found stands there
 pub form_says : (place : ℕ) (op : Operation) (form : Form) → form_of place op ≡ Some form → Says place op form
 form_says place op form e =
     elim (chosen (is_index_of place op.index && is_none op.time) (option_and_then (form_by op.process op.kind (name_in op.f) op.value) (event_by op.rest)) None form e) [
@@ -392,7 +392,7 @@ is_code_of answer.NothingActive = refl
 is_code_of answer.NothingToUndo = refl
 is_code_of answer.NothingToRedo = refl
 
--- what is said is found
+-- what stands there is found
 pub says_form : (place : ℕ) (op : Operation) (form : Form) → Says place op form → form_of place op ≡ Some form
 says_form place op (Asks process request) says =
     ap (form_of place) says ∙ made_form place (Process.Client process) Kind.Invoke (keyword (request_name request)) (content_value (asked_content request)) None

@@ -56,7 +56,7 @@ abbrev pub SaysAt : List Operation → ℕ → Form → Type 0
 SaysAt history place form =
     (op : Operation) × (slice_get history place ≡ Some op) × Says place op form
 
--- the event that completes what is said
+-- the event that a form names
 abbrev pub event_in : Form → Option ℕ
 event_in (Asks process request) = None
 event_in (Completes process request number) = Some number

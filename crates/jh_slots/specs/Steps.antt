@@ -1,4 +1,4 @@
--- What each atomic step on the words tells its seat (this project's own).
+-- What each atomic step on the words shows its seat (this project's own).
 use Rattle.std.specs.Prelude.{◌≡◌, ℕ, zero, suc, ◌+◌, ◌*◌, ◌-◌, ◌<◌, ◌≤◌, ◌==◌, List, [], ◌∷◌, ◌++◌}
 use Rattle.std.specs.Prelude.{length, if◌then◌else◌, MatchBool, true, None, Some}
 use Rattle.std.specs.FinMap as fin
@@ -28,7 +28,7 @@ view_noting v row len =
       before = v.before;
     }
 
--- what a look at the next free row tells
+-- what a look at the next free row shows
 abbrev pub Looks : Step ℕ → OwnView → ℕ → OwnView → Type 0
 Looks s me n you =
     (you.1 ≡ me.1) × (you.0 ≡ view_knowing me.0 (knowledge_after_look n me.0.knows))
@@ -114,7 +114,7 @@ view_reading v row len ws =
       before = v.before;
     }
 
--- a load after a join tells what held of the two seats
+-- a load after a join shows what held of the two seats
 abbrev pub view_forgetting : View → View
 view_forgetting v =
     record { live = v.live; cap = v.cap; knows = v.knows; note = v.note; before = None }
