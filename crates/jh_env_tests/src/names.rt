@@ -1,10 +1,9 @@
-//! Which names are taken, who is found by them, and the messages of errors.
+//! Which names are taken, and who is found by them.
 //!
 //! A row is names, each with a `,` behind it, and `ok` or the refusal; or a question about three nodes and its answer.
 
-use jh_env::{FaultError, Nodes, NodesError, StartError};
-use std::alloc::{AllocError, Global};
-use std::fmt::Display;
+use jh_env::{Nodes, NodesError};
+use std::alloc::Global;
 
 /// `ok`, or why names are refused. None: memory was refused.
 fn refusal_once(alloc: Global, names: &str) -> Option<String> {
@@ -56,13 +55,14 @@ fn three(alloc: Global) -> Option<Nodes> {
     Nodes::of(alloc, &["n1", "n2", "n3"]).ok()
 }
 
-/// What nodes answer to a question, as a number; for a name, its length. None: they know no such node.
+/// What nodes answer to a question, as a number; for a name, its number. None: they know no such node.
 fn known(nodes: &Nodes, question: &str, about: &str) -> Option<usize> {
     let place = about.parse::<u8>().unwrap_or(u8::MAX);
     match question {
         "len" => Some(nodes.len()),
         "find" => Some(usize::from(nodes.find(about)?.place())),
         "at" => Some(usize::from(nodes.at(place)?.place())),
+        "all" => Some(usize::from(nodes.all().as_slice().get(usize::from(place))?.place())),
         _ => nodes
             .name(nodes.at(place)?)?
             .strip_prefix("n")?
@@ -88,65 +88,9 @@ fn is_known(alloc: Global, row: &str) -> bool {
 
 #[test]
 fn nodes_are_found(rt: HostRuntime) {
-    let rows = "len n,3\nfind n2,1\nfind n4,\nat 1,1\nat 3,\nat 2,2\nname 2,3";
+    let rows =
+        "len n,3\nfind n2,1\nfind n4,\nat 1,1\nat 3,\nat 2,2\nall 0,0\nall 2,2\nall 3,\nname 2,3";
     for row in rows.lines() {
         assert!(rt; is_known(rt.alloc(), row), "at {row}");
     }
-}
-
-/// The messages of errors, with a `;` behind each.
-fn messages_once<E: Display>(alloc: Global, errors: &[E]) -> Result<String, AllocError> {
-    let mut messages = String::new(alloc);
-    for error in errors {
-        messages.push_str(&format!(in alloc; "{error};")?)?;
-    }
-    Ok(messages)
-}
-
-/// Whether these are the messages of errors. They are written once more where memory was refused.
-fn are_messages<E: Display>(alloc: Global, errors: &[E], wanted: &str) -> bool {
-    let messages = match messages_once(alloc, errors) {
-        Err(_) => messages_once(alloc, errors),
-        messages => messages,
-    };
-    match messages {
-        Ok(messages) => messages.as_str() == wanted,
-        Err(_) => false,
-    }
-}
-
-#[test]
-fn names_have_messages(rt: HostRuntime) {
-    let errors = [
-        NodesError::NoNodes,
-        NodesError::TooManyNodes,
-        NodesError::BadName,
-        NodesError::DuplicateName,
-        NodesError::OutOfMemory,
-    ];
-    let wanted = "no nodes;too many nodes;bad name;duplicate name;out of memory;";
-    assert!(rt; are_messages(rt.alloc(), &errors, wanted));
-}
-
-#[test]
-fn faults_have_messages(rt: HostRuntime) {
-    let errors = [
-        FaultError::UnknownNode,
-        FaultError::SelfLink,
-        FaultError::BadAmount,
-        FaultError::OutOfMemory,
-    ];
-    let wanted = "unknown node;self link;bad amount;out of memory;";
-    assert!(rt; are_messages(rt.alloc(), &errors, wanted));
-}
-
-#[test]
-fn starts_have_messages(rt: HostRuntime) {
-    let errors = [
-        StartError::UnknownNode,
-        StartError::SelfLink,
-        StartError::BadAmount,
-    ];
-    let wanted = "unknown node;self link;bad amount;";
-    assert!(rt; are_messages(rt.alloc(), &errors, wanted));
 }

@@ -1,5 +1,6 @@
-//! The messages of errors.
+//! The messages of errors of environments, the nemesis, and texts of steps.
 
+use jh_env::{FaultError, NodesError, StartError};
 use jh_nemesis::{BeginError, NothingToRedo, NothingToUndo, WithdrawAllError, WithdrawError};
 use jh_step_texts::StepTextError;
 use std::alloc::{AllocError, Global};
@@ -24,6 +25,42 @@ fn are_messages<E: Display>(alloc: Global, errors: &[E], wanted: &str) -> bool {
         Ok(messages) => messages.as_str() == wanted,
         Err(_) => false,
     }
+}
+
+#[test]
+fn names_have_messages(rt: HostRuntime) {
+    let errors = [
+        NodesError::NoNodes,
+        NodesError::TooManyNodes,
+        NodesError::BadName,
+        NodesError::DuplicateName,
+        NodesError::OutOfMemory,
+    ];
+    let wanted = "no nodes;too many nodes;bad name;duplicate name;out of memory;";
+    assert!(rt; are_messages(rt.alloc(), &errors, wanted));
+}
+
+#[test]
+fn faults_have_messages(rt: HostRuntime) {
+    let errors = [
+        FaultError::UnknownNode,
+        FaultError::SelfLink,
+        FaultError::BadAmount,
+        FaultError::OutOfMemory,
+    ];
+    let wanted = "unknown node;self link;bad amount;out of memory;";
+    assert!(rt; are_messages(rt.alloc(), &errors, wanted));
+}
+
+#[test]
+fn starts_have_messages(rt: HostRuntime) {
+    let errors = [
+        StartError::UnknownNode,
+        StartError::SelfLink,
+        StartError::BadAmount,
+    ];
+    let wanted = "unknown node;self link;bad amount;";
+    assert!(rt; are_messages(rt.alloc(), &errors, wanted));
 }
 
 #[test]
