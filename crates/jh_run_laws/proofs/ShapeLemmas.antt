@@ -23,7 +23,8 @@ use Rattle.jh_simnode.specs.declared.settings.Store.{Store}
 use Rattle.jh_simnode.specs.declared.settings.Store.TheVariants.{Quorum, Lww, Local}
 use Rattle.jh_simnode.specs.Replicas.{blank_replica, contents_of, replica_at, first_replica, got_of, version}
 use Rattle.jh_simnode.specs.Effects.{add_change, cas_change, generate_change, effect, is_small}
-use Rattle.jh_simnode.specs.Reach.{Cells, responding_nodes, ordered_places, reached_nodes}
+use Rattle.jh_env.specs.Names.{node_places}
+use Rattle.jh_simnode.specs.Reach.{Cells, responding_nodes, reached_nodes}
 use Rattle.jh_simnode.specs.Requests.{is_read_request, only_asks}
 use Rattle.jh_simnode.specs.Stores.{ReplyAndReplicas, reply_alone, reply_to, reply_at, reply_in, running_reply, local_change, lww_change, quorum, quorum_change, quorum_read, quorum_write, newest_place, newer_place, version_at, replicas_with_new_at, older_places, replicas_after_tick, replicas_after_sending, replicas_after_sending_all, replicas_after_kills, replicas_after_kill}
 use Rattle.jh_simnode.proofs.PlaceLemmas.{places_below}
@@ -101,8 +102,8 @@ below_filter n q (p ∷ ps) h =
       | false ↦ below_filter n q ps h.1
     ]
 
-all_places : (n : ℕ) → Below n (ordered_places n)
-all_places n = below_from n (ordered_places n) (places_below n)
+all_places : (n : ℕ) → Below n (node_places n)
+all_places n = below_from n (node_places n) (places_below n)
 
 newer_below : (n : ℕ) (replicas : List Replica) (best p : ℕ) → best < n → p < n → newer_place replicas best p < n
 newer_below n replicas best p b h =
@@ -199,7 +200,7 @@ quorum_served : (w : Workload) (c : ℕ) (env : Cells) (all : List Replica) (nod
 quorum_served w c env all node request draw r t =
     let reached = reached_nodes env (length all) draw node in
     let answering = responding_nodes env node reached in
-    let low : Below (length all) reached = below_filter (length all) _ (ordered_places (length all)) (all_places (length all)) in
+    let low : Below (length all) reached = below_filter (length all) _ (node_places (length all)) (all_places (length all)) in
     let near : Below (length all) answering = below_filter (length all) _ reached low in
     either (IsServed w c request) (is_read_request request) (quorum_read all answering) (quorum_write all reached (length answering) request)
     (λ reads. either (IsServed w c request) (nat_lt (length answering) (quorum (length all))) (reply_alone all reply_of.Fail) (reply_alone all (reply_of.Ok (got_of (replica_at all (newest_place all answering)).contents)))
@@ -249,8 +250,8 @@ unfolding replicas_after_tick
 ticked_shaped Quorum w c env all t = t
 ticked_shaped Lww w c env all t =
     let n = length all in
-    let low : Below c (ordered_places n) = rw t.sized (all_places c) in
-    fold_keeps (AreShaped w c) c (replicas_after_sending_all env n) (λ a from short k. fold_keeps (AreShaped w c) c (replicas_after_sending env from) (λ b to _ h. sent_shaped w c env from b to short h) a (ordered_places n) low k) all (ordered_places n) low t
+    let low : Below c (node_places n) = rw t.sized (all_places c) in
+    fold_keeps (AreShaped w c) c (replicas_after_sending_all env n) (λ a from short k. fold_keeps (AreShaped w c) c (replicas_after_sending env from) (λ b to _ h. sent_shaped w c env from b to short h) a (node_places n) low k) all (node_places n) low t
 ticked_shaped Local w c env all t = t
 
 first_shaped : (w : Workload) (initial : Option ℤ) → IsShaped w (contents_of w initial)
@@ -265,7 +266,7 @@ forgotten_shaped s c before after all t =
     either (AreShaped s.workload c) s.volatile _ all
     (λ _. fold_keeps (AreShaped s.workload c) (length all) (replicas_after_kill s before after)
     (λ a p _ k. either (AreShaped s.workload c) _ (set a p (first_replica s)) a (λ _. set_shaped s.workload c a p (first_replica s) k (first_shaped s.workload s.initial)) (λ _. k))
-    all (ordered_places (length all)) (all_places (length all)) t)
+    all (node_places (length all)) (all_places (length all)) t)
     (λ _. t)
 
 -- ---- a legal journal

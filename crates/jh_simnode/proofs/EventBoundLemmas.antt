@@ -8,7 +8,6 @@ use Rattle.jh_ops.specs.declared.call.Request.{Request}
 use Rattle.jh_ops.specs.declared.call.Workload.{Workload}
 use Rattle.jh_ops.specs.declared.call.Workload.TheVariants.{Register, Counter, Set, Ids}
 use Rattle.jh_gen.specs.DriverState.{all_threads}
-use Rattle.jh_gen.specs.Generator.{clients}
 use Rattle.jh_gen.specs.Offers.{Offer, member_offer, offer, is_exhausted, offer_unless_exhausted}
 use Rattle.jh_gen.specs.Scope.{Scope, Question, is_in_scope}
 use Rattle.jh_gen.specs.Tally.{Path, Tally, tally_under}

@@ -18,7 +18,8 @@ use Rattle.jh_simnode.specs.Requests.{is_read_request}
 use Rattle.jh_simnode.specs.Replicas.{blank_replica, replica_at, version, first_replica}
 use Rattle.jh_simnode.specs.Effects.{effect}
 use Rattle.jh_simnode.specs.declared.effects.Change.{Change}
-use Rattle.jh_simnode.specs.Reach.{Cells, ordered_places, reached_nodes, responding_nodes}
+use Rattle.jh_env.specs.Names.{node_places}
+use Rattle.jh_simnode.specs.Reach.{Cells, reached_nodes, responding_nodes}
 use Rattle.jh_simnode.specs.Stores.{ReplyAndReplicas, reply_to, reply_at, reply_in, running_reply, local_change, lww_change, quorum_change, newest_place, version_at, replicas_with_new, replicas_with_new_at, older_places, replicas_after_tick, replicas_after_sending, replicas_after_sending_all, replicas_after_kills, replicas_after_kill}
 use Rattle.jh_simnode.specs.Events.{AreTidy}
 
@@ -92,18 +93,18 @@ unfolding reply_to
 serve_tidy s env c n all node r draw t =
     either (λ (s : ReplyAndReplicas). AreTidy c (n + 1) s.replicas) (is_request_of r s.workload) _ _ (at_tidy s env c n all node r draw (env.node node) t) (later_tidy c n all t)
 
-tell_tidy : (c n : ℕ) (env : Cells) (from : ℕ) (all : List Replica) (to : ℕ) → AreTidy c n all → AreTidy c n (replicas_after_sending env from all to)
-tell_tidy c n env from all to t = either (AreTidy c n) _ (set all to (replica_at all from)) all (set_tidy c n all to (replica_at all from) t (t.low from)) t
+send_tidy : (c n : ℕ) (env : Cells) (from : ℕ) (all : List Replica) (to : ℕ) → AreTidy c n all → AreTidy c n (replicas_after_sending env from all to)
+send_tidy c n env from all to t = either (AreTidy c n) _ (set all to (replica_at all from)) all (set_tidy c n all to (replica_at all from) t (t.low from)) t
 
 pub ticked_tidy : (store : Store) (env : Cells) (c n : ℕ) (all : List Replica) → AreTidy c n all → AreTidy c (n + 1) (replicas_after_tick store env all)
 unfolding replicas_after_tick
 ticked_tidy Quorum env c n all t = later_tidy c n all t
 ticked_tidy Lww env c n all t =
-    later_tidy c n _ (fold_keeps (AreTidy c n) (replicas_after_sending_all env (length all)) (λ a from k. fold_keeps (AreTidy c n) (replicas_after_sending env from) (λ b to h. tell_tidy c n env from b to h) a (ordered_places (length all)) k) all (ordered_places (length all)) t)
+    later_tidy c n _ (fold_keeps (AreTidy c n) (replicas_after_sending_all env (length all)) (λ a from k. fold_keeps (AreTidy c n) (replicas_after_sending env from) (λ b to h. send_tidy c n env from b to h) a (node_places (length all)) k) all (node_places (length all)) t)
 ticked_tidy Local env c n all t = later_tidy c n all t
 
 pub forgotten_tidy : (s : Settings) (before : List Bool) (after : Cells) (c n : ℕ) (all : List Replica) → AreTidy c n all → AreTidy c (n + 1) (replicas_after_kills s before after all)
 unfolding replicas_after_kills
 forgotten_tidy s before after c n all t =
     later_tidy c n _ (either (AreTidy c n) s.volatile _ _
-    (fold_keeps (AreTidy c n) (replicas_after_kill s before after) (λ a p k. either (AreTidy c n) _ (set a p (first_replica s)) a (set_tidy c n a p (first_replica s) k (omega arith)) k) all (ordered_places (length all)) t) t)
+    (fold_keeps (AreTidy c n) (replicas_after_kill s before after) (λ a p k. either (AreTidy c n) _ (set a p (first_replica s)) a (set_tidy c n a p (first_replica s) k (omega arith)) k) all (node_places (length all)) t) t)

@@ -1,12 +1,13 @@
 -- Whom a call of a node reaches, and whom it hears in time (this project's own).
-use Rattle.std.specs.Prelude.{ℕ, zero, suc, ◌+◌, ◌%◌, ◌==◌, ◌&&◌, ◌||◌, Bool, true, false, not}
-use Rattle.std.specs.Prelude.{List, [], ◌∷◌, ◌++◌, Option, Some, None, nat_le, filter, option_map}
+use Rattle.std.specs.Prelude.{ℕ, ◌+◌, ◌%◌, ◌==◌, ◌&&◌, ◌||◌, Bool, true, false, not}
+use Rattle.std.specs.Prelude.{List, Option, Some, None, nat_le, filter, option_map}
 use Rattle.jh_env.specs.Cells.{Life}
 use Rattle.jh_env.specs.Cells.{Running, Paused, Killed}
 use Rattle.jh_env.specs.Cells.{Link}
 use Rattle.jh_env.specs.Cells.{NodeCell}
 use Rattle.jh_env.specs.Faults.{FaultValue}
 use Rattle.jh_env.specs.Cells.{Table, link_at, node_at}
+use Rattle.jh_env.specs.Names.{node_places}
 use Rattle.jh_env.specs.Overlay.{EnvValue, link_over, node_over}
 
 -- an environment as a client meets it: the link between two places, and the node at a place, where
@@ -58,11 +59,6 @@ abbrev pub delay_of : Option Link → ℕ
 delay_of None = 0
 delay_of (Some l) = l.delay
 
--- the places below a number, in order
-abbrev pub ordered_places : ℕ → List ℕ
-ordered_places zero = []
-ordered_places (suc n) = ordered_places n ++ n ∷ []
-
 -- a call of a node reaches another, and its answer comes back
 abbrev pub is_reached : Cells → ℕ → ℕ → ℕ → Bool
 is_reached env draw node other =
@@ -77,7 +73,7 @@ is_timely env node other =
 
 -- the nodes, of so many, that a call of a node reaches, and those that respond in time
 abbrev pub reached_nodes : Cells → ℕ → ℕ → ℕ → List ℕ
-reached_nodes env count draw node = filter (is_reached env draw node) (ordered_places count)
+reached_nodes env count draw node = filter (is_reached env draw node) (node_places count)
 
 abbrev pub responding_nodes : Cells → ℕ → List ℕ → List ℕ
 responding_nodes env node reached = filter (is_timely env node) reached

@@ -7,6 +7,7 @@ use Rattle.jh_env.specs.Cells.{Life}
 use Rattle.jh_env.specs.Cells.{Running, Paused, Killed}
 use Rattle.jh_env.specs.Cells.{Link}
 use Rattle.jh_env.specs.Cells.{NodeCell}
+use Rattle.jh_env.specs.Names.{node_places}
 use Rattle.jh_ops.specs.declared.call.Request.{Request}
 use Rattle.jh_simnode.specs.declared.settings.Settings.{Settings}
 use Rattle.jh_simnode.specs.declared.settings.Store.{Store}
@@ -21,7 +22,7 @@ use Rattle.jh_simnode.specs.Requests.{only_asks, is_read_request}
 use Rattle.jh_simnode.specs.Replicas.{version, is_lower, replica_at, got_of, first_replica}
 use Rattle.jh_simnode.specs.Effects.{effect}
 use Rattle.jh_simnode.specs.declared.effects.Change.{Change}
-use Rattle.jh_simnode.specs.Reach.{Cells, is_node_running, is_node_killed, ordered_places}
+use Rattle.jh_simnode.specs.Reach.{Cells, is_node_running, is_node_killed}
 use Rattle.jh_simnode.specs.Reach.{reached_nodes, responding_nodes}
 
 -- a reply, and the replicas after it
@@ -175,15 +176,15 @@ replicas_after_sending env from replicas to =
     && is_lower (replica_at replicas to).mark (replica_at replicas from).mark
     then slice_set replicas to (replica_at replicas from) else replicas
 
--- one node tells each in turn
+-- one node sends to each in turn
 abbrev pub replicas_after_sending_all : Cells → ℕ → List Replica → ℕ → List Replica
 replicas_after_sending_all env count replicas from =
-    fold (replicas_after_sending env from) replicas (ordered_places count)
+    fold (replicas_after_sending env from) replicas (node_places count)
 
--- each node in turn tells all, in order
+-- each node in turn sends to all, in order
 abbrev pub replicas_after_spread : Cells → ℕ → List Replica → List Replica
 replicas_after_spread env count replicas =
-    fold (replicas_after_sending_all env count) replicas (ordered_places count)
+    fold (replicas_after_sending_all env count) replicas (node_places count)
 
 -- the replicas after a tick
 unfoldable pub replicas_after_tick : Store → Cells → List Replica → List Replica
@@ -193,7 +194,7 @@ replicas_after_tick Local env replicas = replicas
 
 -- which of so many nodes are killed
 abbrev pub killed_flags : Cells → ℕ → List Bool
-killed_flags env count = map (λ p. is_node_killed (env.node p)) (ordered_places count)
+killed_flags env count = map (λ p. is_node_killed (env.node p)) (node_places count)
 
 -- the replica of a node that is killed now and wasn't before is as at first
 abbrev pub replicas_after_kill : Settings → List Bool → Cells → List Replica → ℕ → List Replica
@@ -205,5 +206,5 @@ replicas_after_kill s before after replicas place =
 unfoldable pub replicas_after_kills : Settings → List Bool → Cells → List Replica → List Replica
 replicas_after_kills s before after replicas =
     if s.volatile
-    then fold (replicas_after_kill s before after) replicas (ordered_places (length replicas))
+    then fold (replicas_after_kill s before after) replicas (node_places (length replicas))
     else replicas

@@ -21,10 +21,10 @@ pub record AreTaken (old : List Replica) (taken : List Taken) (new : List Replic
   pub replicas : replicas_with_all old taken ≡ new
 
 -- an outcome, over these replicas, is what is due
-pub record GivesReply (old : List Replica) (told : ReplyAndTaken)
+pub record GivesReply (old : List Replica) (served : ReplyAndTaken)
     (due : ReplyAndReplicas) : Type 0 where
-  pub reply : told.reply ≡ due.reply
-  pub replicas : AreTaken old told.taken.items due.replicas
+  pub reply : served.reply ≡ due.reply
+  pub replicas : AreTaken old served.taken.items due.replicas
 
 -- of each place the place whose replica it has: there are so many, and each is there
 pub record AreSources (count : ℕ) (sources : List ℕ) : Type 0 where

@@ -10,8 +10,8 @@ ghost use Rattle.jh_simnode.specs.Stores.{is_uncut};
 use arrayvec::ArrayVec;
 use jh_env::{Env, Life, Link, Node};
 
-/// Places of nodes, in order.
-pub(crate) type NodePlaces = ArrayVec<usize, 64>;
+/// Some of the nodes, in order.
+pub(crate) type SomeNodes = ArrayVec<Node, 64>;
 
 /// Whether a node runs.
 pub(crate) fn is_node_running(env: &Env, node: Node) -> bool
@@ -75,32 +75,19 @@ fn is_reached(env: &Env, draw: u64, node: Node, other: Node) -> bool
         && is_carried(env.link(other, node), draw)
 }
 
-/// Whether a call of a node reaches the node at a place.
-fn reaches_place(env: &Env, draw: u64, node: Node, place: usize) -> bool
-    requires { place < length env.now.names }
-    ensures { result ≡ is_reached (env_cells env.now) draw node place }
-{
-    let _count = env.nodes().len();
-    match env.nodes().at(place as u8) {
-        Some(other) => is_reached(env, draw, node, other),
-        None => false,
-    }
-}
-
 /// The nodes that a call of a node reaches.
-#[tactic(auto, using(crate::proofs::PlaceLemmas::filter_places_kept, crate::proofs::PlaceLemmas::filter_places_dropped, crate::proofs::PlaceLemmas::filter_below))]
-pub(crate) fn reached_nodes(env: &Env, draw: u64, node: Node) -> NodePlaces
-    ensures places { result.items
+pub(crate) fn reached_nodes(env: &Env, draw: u64, node: Node) -> SomeNodes
+    ensures nodes { result.items
         ≡ reached_nodes (env_cells env.now) (length env.now.names) draw node }
     ensures known { All (λ p. p < length env.now.names) result.items }
 {
-    let mut these = NodePlaces::new();
-    for place in 0..env.nodes().len() {
-        if reaches_place(env, draw, node, place) {
-            these.push(place);
+    let mut reached = SomeNodes::new();
+    for other in env.nodes().all().as_slice() {
+        if is_reached(env, draw, node, *other) {
+            reached.push(*other);
         }
     }
-    these
+    reached
 }
 
 /// Whether a node that was reached responds in time.
@@ -113,30 +100,18 @@ fn is_timely(env: &Env, node: Node, other: Node) -> bool
     delay_on(env.link(node, other)) as u128 + delay_on(env.link(other, node)) as u128 <= 1000
 }
 
-/// Whether the answer of the node at a place comes in time.
-fn comes_in_time(env: &Env, node: Node, place: usize) -> bool
-    requires { place < length env.now.names }
-    ensures { result ≡ is_timely (env_cells env.now) node place }
-{
-    let _count = env.nodes().len();
-    match env.nodes().at(place as u8) {
-        Some(other) => is_timely(env, node, other),
-        None => false,
-    }
-}
-
 /// Those of the nodes reached whose answers come in time.
-pub(crate) fn responding_nodes(env: &Env, node: Node, reached: &[usize]) -> NodePlaces
+pub(crate) fn responding_nodes(env: &Env, node: Node, reached: &[Node]) -> SomeNodes
     requires known { All (λ p. p < length env.now.names) reached.now }
     requires few { length reached.now ≤ 64 }
-    ensures places { result.items ≡ responding_nodes (env_cells env.now) node reached.now }
+    ensures nodes { result.items ≡ responding_nodes (env_cells env.now) node reached.now }
     ensures known { All (λ p. p < length env.now.names) result.items }
 {
-    let mut these = NodePlaces::new();
-    for place in reached {
-        if comes_in_time(env, node, *place) {
-            these.push(*place);
+    let mut responding = SomeNodes::new();
+    for other in reached {
+        if is_timely(env, node, *other) {
+            responding.push(*other);
         }
     }
-    these
+    responding
 }

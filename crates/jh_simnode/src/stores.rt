@@ -1,10 +1,10 @@
-//! What a node does with a request, and what nodes tell each other in a tick. `specs/Stores.antt`
+//! What a node does with a request, and what nodes send each other in a tick. `specs/Stores.antt`
 //! has the rule of each store.
 
 ghost use Rattle.std.specs.Prelude.{◌≡◌, ℕ, pos, ◌+ℤ◌, ◌<◌, ◌≤◌, ◌&&◌, [], length, IfOk};
 ghost use Rattle.std.specs.List.{All};
-ghost use Rattle.jh_simnode.specs.Reach.{env_cells, is_node_killed, ordered_places};
-ghost use Rattle.jh_simnode.specs.Reach.{is_node_running};
+ghost use Rattle.jh_simnode.specs.Reach.{env_cells, is_node_running};
+ghost use Rattle.jh_simnode.specs.Replicas.{is_lower, replica_at};
 ghost use Rattle.jh_simnode.specs.TakingInside.{GivesReply, AreTaken, AreSources};
 ghost use Rattle.jh_simnode.specs.TakingInside.{replicas_with_all, replicas_from};
 ghost use Rattle.jh_simnode.specs.Stores.{local_reply, lww_reply, quorum_reply, quorum_read};
@@ -17,7 +17,7 @@ ghost use Rattle.jh_simnode.specs.Stores.{reply_to};
 
 use crate::effects::effect;
 use crate::reach::{
-    NodePlaces, is_node_killed, is_node_running, is_open, reached_nodes, responding_nodes,
+    SomeNodes, is_node_killed, is_node_running, is_open, reached_nodes, responding_nodes,
 };
 use crate::replicas::{Mark, Replica, Reply};
 use crate::requests::{is_read_request, only_asks};
@@ -41,39 +41,26 @@ pub(crate) struct ReplyAndTaken {
     pub(crate) taken: Vec<Taken>,
 }
 
-/// Of each place, in order, the place whose replica its node has in the end.
-type Sources = ArrayVec<usize, 64>;
+/// Of each node, in order, the node whose replica it has in the end.
+type Sources = ArrayVec<Node, 64>;
 
 /// Of each node, in order, whether it is killed.
 pub(crate) type Flags = ArrayVec<bool, 64>;
 
-/// Whether the node at a place is killed.
-fn is_killed_at(env: &Env, place: usize) -> bool
-    requires { place < length env.now.names }
-    ensures { result ≡ is_node_killed ((env_cells env.now).node place) }
-{
-    let _count = env.nodes().len();
-    match env.nodes().at(place as u8) {
-        Some(node) => is_node_killed(env, node),
-        None => false,
-    }
-}
-
 /// Which nodes are killed. Takes no memory.
-#[tactic(auto, using(crate::proofs::PlaceLemmas::map_places_more))]
 pub(crate) fn killed_nodes(env: &Env) -> Flags
     ensures { result.items ≡ killed_flags (env_cells env.now) (length env.now.names) }
 {
-    let mut all = Flags::new();
-    for place in 0..env.nodes().len() {
-        all.push(is_killed_at(env, place));
+    let mut flags = Flags::new();
+    for node in env.nodes().all().as_slice() {
+        flags.push(is_node_killed(env, *node));
     }
-    all
+    flags
 }
 
 /// Makes the replica of each node that is killed now and wasn't before as it is at first, where the
 /// settings say so.
-#[tactic(auto, using(crate::proofs::PlaceLemmas::fold_places_more), unfolding(crate::specs::Stores::replicas_after_kills))]
+#[tactic(auto, unfolding(crate::specs::Stores::replicas_after_kills))]
 pub(crate) fn forget(
     alloc: Global,
     settings: &Settings,
@@ -89,88 +76,77 @@ pub(crate) fn forget(
     if !settings.volatile {
         return;
     }
-    for place in 0..env.nodes().len() {
-        if is_killed_at(env, place) && !before[place] {
+    for node in env.nodes().all().as_slice() {
+        let place = node.place() as usize;
+        if is_node_killed(env, *node) && !before[place] {
             replicas[place] = Replica::first(alloc, settings);
         }
     }
 }
 
-/// Whether one node can tell another what it has.
-fn tells(env: &Env, from: usize, to: usize) -> bool
-    requires from { from < length env.now.names }
-    requires to { to < length env.now.names }
+/// Whether one node can send another what it has.
+fn can_send(env: &Env, from: Node, to: Node) -> bool
     ensures { let cells = env_cells env.now in result
         ≡ ((is_node_running (cells.node from) && is_node_running (cells.node to))
         && is_uncut (cells.link from to)) }
 {
-    let _count = env.nodes().len();
-    let Some(source) = env.nodes().at(from as u8) else {
-        return false;
-    };
-    let Some(target) = env.nodes().at(to as u8) else {
-        return false;
-    };
-    is_node_running(env, source)
-        && is_node_running(env, target)
-        && is_open(env.link(source, target))
+    is_node_running(env, from) && is_node_running(env, to) && is_open(env.link(from, to))
 }
 
-/// One node tells another what it has: the other takes it where its own stamp is lower.
-fn tell(env: &Env, replicas: &[Replica], from: usize, sources: &mut [usize], to: usize)
+/// Whether the stamp of one node's replica is lower than that of another's.
+fn is_older(replicas: &[Replica], node: Node, other: Node) -> bool
+    requires node { node < length replicas.now }
+    requires other { other < length replicas.now }
+    ensures { result
+        ≡ is_lower (replica_at replicas.now node).mark (replica_at replicas.now other).mark }
+{
+    let mark = replicas[other.place() as usize].mark;
+    replicas[node.place() as usize].mark.is_lower(mark)
+}
+
+/// One node sends another what it has: the other takes it where its own stamp is lower.
+fn send(env: &Env, replicas: &[Replica], from: Node, sources: &mut [Node], to: Node)
     requires from { from < length env.now.names }
     requires to { to < length env.now.names }
     requires sized { length replicas.now ≡ length env.now.names }
     requires sources { AreSources (length env.now.names) sources.old }
-    ensures told { replicas_from replicas.now sources.new
+    ensures sent { replicas_from replicas.now sources.new
         ≡ replicas_after_sending (env_cells env.now) from
         (replicas_from replicas.now sources.old) to }
     ensures sources { AreSources (length env.now.names) sources.new }
 {
-    let source = sources[from];
-    if tells(env, from, to) && replicas[sources[to]].mark.is_lower(replicas[source].mark) {
-        sources[to] = source;
+    let source = sources[from.place() as usize];
+    let target = sources[to.place() as usize];
+    if can_send(env, from, to) && is_older(replicas, target, source) {
+        sources[to.place() as usize] = source;
     }
 }
 
-/// One node tells all what it has.
-#[tactic(auto, using(crate::proofs::PlaceLemmas::fold_places_more))]
-fn tell_all(env: &Env, replicas: &[Replica], sources: &mut [usize], from: usize)
+/// One node sends all what it has.
+fn send_to_all(env: &Env, replicas: &[Replica], sources: &mut [Node], from: Node)
     requires from { from < length env.now.names }
     requires sized { length replicas.now ≡ length env.now.names }
     requires sources { AreSources (length env.now.names) sources.old }
-    ensures told { replicas_from replicas.now sources.new
+    ensures sent { replicas_from replicas.now sources.new
         ≡ replicas_after_sending_all (env_cells env.now) (length env.now.names)
         (replicas_from replicas.now sources.old) from }
     ensures sources { AreSources (length env.now.names) sources.new }
 {
-    for to in 0..env.nodes().len() {
-        tell(env, replicas, from, sources, to);
+    for to in env.nodes().all().as_slice() {
+        send(env, replicas, from, sources, *to);
     }
 }
 
-/// Each node's own place.
-fn own_sources(env: &Env) -> Sources
-    ensures { result.items ≡ ordered_places (length env.now.names) }
-{
-    let mut sources = Sources::new();
-    for place in 0..env.nodes().len() {
-        sources.push(place);
-    }
-    sources
-}
-
-/// All nodes tell all what they have.
-#[tactic(auto, using(crate::proofs::PlaceLemmas::fold_places_more))]
+/// All nodes send all what they have.
 fn spread(env: &Env, replicas: &[Replica]) -> Sources
     requires sized { length replicas.now ≡ length env.now.names }
-    ensures told { replicas_from replicas.now result.items
+    ensures sent { replicas_from replicas.now result.items
         ≡ replicas_after_spread (env_cells env.now) (length env.now.names) replicas.now }
     ensures sources { AreSources (length env.now.names) result.items }
 {
-    let mut sources = own_sources(env);
-    for from in 0..env.nodes().len() {
-        tell_all(env, replicas, &mut sources, from);
+    let mut sources = env.nodes().all();
+    for from in env.nodes().all().as_slice() {
+        send_to_all(env, replicas, &mut sources, *from);
     }
     sources
 }
@@ -179,24 +155,24 @@ fn spread(env: &Env, replicas: &[Replica]) -> Sources
 fn taken_from(
     alloc: Global,
     replicas: &[Replica],
-    sources: &[usize],
+    sources: &[Node],
 ) -> Result<Vec<Taken>, AllocError>
     requires { AreSources (length replicas.now) sources.now }
     ensures { IfOk result
         (λ taken. AreTaken replicas.now taken.items (replicas_from replicas.now sources.now)) }
 {
     let mut taken = Vec::new(alloc);
-    for place in 0..sources.len() {
-        let source = sources[place];
-        if source != place {
-            let replica = replicas[source].copy(alloc)?;
+    for (place, source) in sources.iter().enumerate() {
+        let from = source.place() as usize;
+        if from != place {
+            let replica = replicas[from].copy(alloc)?;
             taken.push(Taken { place, replica })?;
         }
     }
     Ok(taken)
 }
 
-/// The replicas that nodes take over after they told each other what they have, if the store does
+/// The replicas that nodes take over after they sent each other what they have, if the store does
 /// so.
 #[tactic(auto, unfolding(crate::specs::Stores::replicas_after_tick))]
 pub(crate) fn tick_replicas(
@@ -234,7 +210,7 @@ fn give_all(
     alloc: Global,
     replicas: &[Replica],
     new: &Replica,
-    these: &[usize],
+    these: &[Node],
 ) -> Result<Vec<Taken>, AllocError>
     requires { All (λ p. p < length replicas.now) these.now }
     ensures { IfOk result
@@ -242,59 +218,58 @@ fn give_all(
         (replicas_with_new_at new.now replicas.now these.now)) }
 {
     let mut taken = Vec::new(alloc);
-    for place in these {
+    for node in these {
         let replica = new.copy(alloc)?;
-        taken.push(Taken {
-            place: *place,
-            replica,
-        })?;
+        let place = node.place() as usize;
+        taken.push(Taken { place, replica })?;
     }
     Ok(taken)
 }
 
 /// Those of these nodes whose own stamp is lower.
-fn older(replicas: &[Replica], stamp: Mark, these: &[usize]) -> NodePlaces
+fn older(replicas: &[Replica], stamp: Mark, these: &[Node]) -> SomeNodes
     requires known { All (λ p. p < length replicas.now) these.now }
     requires few { length these.now ≤ 64 }
-    ensures places { result.items ≡ older_places replicas.now stamp these.now }
+    ensures nodes { result.items ≡ older_places replicas.now stamp these.now }
     ensures known { All (λ p. p < length replicas.now) result.items }
 {
-    let mut those = NodePlaces::new();
-    for place in these {
-        if replicas[*place].mark.is_lower(stamp) {
-            those.push(*place);
+    let mut those = SomeNodes::new();
+    for node in these {
+        if replicas[node.place() as usize].mark.is_lower(stamp) {
+            those.push(*node);
         }
     }
     those
 }
 
-/// The place of the greater version of two, or else the first of them.
-fn newer_place(replicas: &[Replica], best: usize, place: usize) -> usize
+/// The node of the greater version of two, or else the first of them.
+fn newer(replicas: &[Replica], best: Node, node: Node) -> Node
     requires best { best < length replicas.now }
-    requires place { place < length replicas.now }
-    ensures value { result ≡ newer_place replicas.now best place }
+    requires node { node < length replicas.now }
+    ensures value { result ≡ newer_place replicas.now best node }
     ensures known { result < length replicas.now }
 {
-    if replicas[best].mark.version() < replicas[place].mark.version() {
-        place
+    let version = replicas[node.place() as usize].mark.version();
+    if replicas[best.place() as usize].mark.version() < version {
+        node
     } else {
         best
     }
 }
 
-/// The place of the greatest version among these places, of equals the first.
-fn newest(replicas: &[Replica], these: &[usize]) -> usize
+/// The node of the greatest version among these, of equals the first.
+fn newest(replicas: &[Replica], these: &[Node]) -> Node
     requires known { All (λ p. p < length replicas.now) these.now }
     requires some { 0 < length replicas.now }
     ensures value { result ≡ newest_place replicas.now these.now }
     ensures known { result < length replicas.now }
 {
     if these.is_empty() {
-        return 0;
+        return Node::at(0);
     }
     let mut best = these[0];
-    for place in &these[1..] {
-        best = newer_place(replicas, best, *place);
+    for node in &these[1..] {
+        best = newer(replicas, best, *node);
     }
     best
 }
@@ -319,7 +294,7 @@ fn serve_local(
 ) -> Result<ReplyAndTaken, AllocError>
     requires { node < length replicas.now }
     ensures { IfOk result
-        (λ told. GivesReply replicas.now told (local_reply replicas.now node request)) }
+        (λ served. GivesReply replicas.now served (local_reply replicas.now node request)) }
 {
     let place = node.place() as usize;
     if is_read_request(request) {
@@ -363,7 +338,7 @@ fn serve_lww(
     requires known { node < length replicas.now }
     requires sized { length replicas.now ≡ length env.now.names }
     ensures { IfOk result
-        (λ told. GivesReply replicas.now told
+        (λ served. GivesReply replicas.now served
         (lww_reply (env_cells env.now) replicas.now at node request draw)) }
 {
     let place = node.place() as usize;
@@ -392,17 +367,17 @@ fn serve_lww(
 fn quorum_read(
     alloc: Global,
     replicas: &[Replica],
-    answering: &[usize],
+    answering: &[Node],
 ) -> Result<ReplyAndTaken, AllocError>
     requires known { All (λ p. p < length replicas.now) answering.now }
     requires some { 0 < length replicas.now }
     ensures { IfOk result
-        (λ told. GivesReply replicas.now told (quorum_read replicas.now answering.now)) }
+        (λ served. GivesReply replicas.now served (quorum_read replicas.now answering.now)) }
 {
     if answering.len() < replicas.len() / 2 + 1 {
         return Ok(unchanged(alloc, Reply::Fail));
     }
-    let best = newest(replicas, answering);
+    let best = newest(replicas, answering).place() as usize;
     let got = replicas[best].contents.got(alloc)?;
     Ok(unchanged(alloc, Reply::Ok(got)))
 }
@@ -412,7 +387,7 @@ fn quorum_read(
 fn quorum_write(
     alloc: Global,
     replicas: &[Replica],
-    reached: &[usize],
+    reached: &[Node],
     answering: usize,
     request: Request,
 ) -> Result<ReplyAndTaken, AllocError>
@@ -420,13 +395,13 @@ fn quorum_write(
     requires some { 0 < length replicas.now }
     requires low { (place : ℕ) → version_at replicas.now place < 65536 }
     ensures { IfOk result
-        (λ told. GivesReply replicas.now told
+        (λ served. GivesReply replicas.now served
         (quorum_write replicas.now reached.now answering request)) }
 {
     if reached.len() < replicas.len() / 2 + 1 {
         return Ok(unchanged(alloc, Reply::Fail));
     }
-    let best = newest(replicas, reached);
+    let best = newest(replicas, reached).place() as usize;
     match effect(alloc, request, &replicas[best].contents)? {
         Some(change) => {
             let new = Replica {
@@ -458,7 +433,7 @@ fn serve_quorum(
     requires sized { length replicas.now ≡ length env.now.names }
     requires low { (place : ℕ) → version_at replicas.now place < 65536 }
     ensures { IfOk result
-        (λ told. GivesReply replicas.now told
+        (λ served. GivesReply replicas.now served
         (quorum_reply (env_cells env.now) replicas.now node request draw)) }
 {
     let reached = reached_nodes(env, draw, node);
@@ -486,7 +461,7 @@ pub(crate) fn serve(
     requires low { (place : ℕ) → version_at replicas.now place ≤ number }
     requires few { number < 65536 }
     ensures { IfOk result
-        (λ told. GivesReply replicas.now told
+        (λ served. GivesReply replicas.now served
         (reply_to settings.now (env_cells env.now) replicas.now number node request draw)) }
 {
     if !request.is_of(settings.workload) {
@@ -497,14 +472,8 @@ pub(crate) fn serve(
     };
     match cell.process {
         Life::Killed => Ok(unchanged(alloc, Reply::Fail)),
-        Life::Paused => {
-            let reply = if only_asks(request) {
-                Reply::Fail
-            } else {
-                Reply::Info
-            };
-            Ok(unchanged(alloc, reply))
-        }
+        Life::Paused if only_asks(request) => Ok(unchanged(alloc, Reply::Fail)),
+        Life::Paused => Ok(unchanged(alloc, Reply::Info)),
         Life::Running => match settings.store {
             Store::Quorum => serve_quorum(alloc, env, replicas, node, request, draw),
             Store::Lww => {

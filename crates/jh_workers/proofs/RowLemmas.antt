@@ -3,9 +3,11 @@ use Rattle.std.proofs.Common.{◌≡◌, ℕ, zero, suc, ◌+◌, ◌<◌, ◌�
 use Rattle.std.specs.Prelude.{Option, ℤ}
 use Rattle.std.specs.Option.{unwrap_or}
 use Rattle.std.specs.Int.{w64, cast_signed}
+use Rattle.std.specs.List.{range_with_len}
 use Rattle.std.specs.FinMap as map
 use Rattle.std.proofs.lemmas.List.{append-nil, length-append, length-map}
 use Rattle.std.proofs.lemmas.List.Elements.{filter-append, All-push}
+use Rattle.jh_env.proofs.NameLemmas.{place_push}
 use Rattle.jh_ops.specs.Operation.{Operation, operation}
 use Rattle.jh_ops.specs.OperationWritten.{IsWritable}
 use Rattle.jh_ops.specs.declared.operation.Op.{Op}
@@ -13,7 +15,6 @@ use Rattle.jh_ops.specs.Words.{IsRecordedAs, RefusesWords, heading}
 use Rattle.jh_ops.specs.declared.words.WordsError.{WordsError}
 use Rattle.jh_ops.specs.declared.words.WordsError.TheVariants.{BadWords, OutOfMemory, NotRecordable, TooSmall}
 use Rattle.jh_simnode.specs.Histories.{placed_operation}
-use Rattle.jh_simnode.specs.Reach.{ordered_places}
 use Rattle.jh_slots.specs.Seats.{Mark, Marks, Words, Void, Knowledge, knowledge_after_read}
 use Rattle.jh_slots.proofs.MapLemmas.{get_new, get_else}
 use Rattle.jh_workers.specs.Gather.{is_record, record_rows, IsBadMark, IsRecordOf, AreRecordsOf, RefusesGather, rows_of_log}
@@ -66,16 +67,19 @@ seen_is_bad s row words (gather.BadWords at) is bad =
 abbrev pub AgreeBelow : Marks → Marks → ℕ → Type 0
 AgreeBelow s t n = (r : ℕ) → r < n → map.get t r ≡ map.get s r
 
+rows_more : (t : Marks) (n : ℕ) → record_rows t (n + 1) ≡ record_rows t n ++ filter (λ r. is_record (map.get t r)) (n ∷ [])
+rows_more t n = ap (filter (λ r. is_record (map.get t r))) (place_push n) ∙ filter-append (λ r. is_record (map.get t r)) (range_with_len 0 n) (n ∷ [])
+
+rows_suc : (t : Marks) (n : ℕ) → record_rows t (suc n) ≡ record_rows t n ++ filter (λ r. is_record (map.get t r)) (n ∷ [])
+rows_suc t n = ap (record_rows t) (sym (add-one n)) ∙ rows_more t n
+
 pub rows_same : (s t : Marks) (n : ℕ) → AgreeBelow s t n → record_rows t n ≡ record_rows s n
 rows_same s t zero same = refl
 rows_same s t (suc n) same =
-    filter-append (λ r. is_record (map.get t r)) (ordered_places n) (n ∷ [])
+    rows_suc t n
     ∙ ap (λ xs. xs ++ filter (λ r. is_record (map.get t r)) (n ∷ [])) (rows_same s t n (λ r low. same r (omega (arith, low))))
     ∙ ap (λ m. record_rows s n ++ filter (λ r. is_record m) (n ∷ [])) (same n (omega arith))
-    ∙ sym (filter-append (λ r. is_record (map.get s r)) (ordered_places n) (n ∷ []))
-
-rows_more : (t : Marks) (n : ℕ) → record_rows t (n + 1) ≡ record_rows t n ++ filter (λ r. is_record (map.get t r)) (n ∷ [])
-rows_more t n = ap (record_rows t) (add-one n) ∙ filter-append (λ r. is_record (map.get t r)) (ordered_places n) (n ∷ [])
+    ∙ sym (rows_suc s n)
 
 pub rows_with : (s t : Marks) (n : ℕ) (words : List ℕ) → AgreeBelow s t n → map.get t n ≡ Some (Words words) → record_rows t (n + 1) ≡ record_rows s n ++ n ∷ []
 rows_with s t n words same shown =
@@ -110,7 +114,7 @@ below_one s n (Some (Words ws)) rs all = below_append (suc n) rs n (below_more n
 pub rows_below : (s : Marks) (n : ℕ) → AreBelow n (record_rows s n)
 rows_below s zero = tt
 rows_below s (suc n) =
-    subst (AreBelow (suc n)) (sym (filter-append (λ r. is_record (map.get s r)) (ordered_places n) (n ∷ [])))
+    subst (AreBelow (suc n)) (sym (rows_suc s n))
     (below_one s n (map.get s n) (record_rows s n) (rows_below s n))
 
 -- the operations are those that another seat has seen, which agrees

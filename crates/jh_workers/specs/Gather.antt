@@ -1,12 +1,12 @@
 -- The history that a seat has seen in the rows of a log (this project's own).
 use Rattle.std.specs.Prelude.{◌≡◌, ℕ, ◌+◌, ◌<◌, min, Bool, true, false, List, [], ◌∷◌, filter}
 use Rattle.std.specs.Prelude.{Option, Some, None, ⊤}
+use Rattle.std.specs.List.{range_with_len}
 use Rattle.std.specs.FinMap as map
 use Rattle.jh_slots.specs.Seats.{Mark, Marks, Words, Void}
 use Rattle.jh_ops.specs.Operation.{Operation}
 use Rattle.jh_ops.specs.Words.{IsRecordedAs}
 use Rattle.jh_simnode.specs.Histories.{placed_operation}
-use Rattle.jh_simnode.specs.Reach.{ordered_places}
 use Rattle.jh_workers.specs.declared.records.GatherError.{GatherError}
 use Rattle.jh_workers.specs.declared.records.GatherError.TheVariants.{BadWords, OutOfMemory}
 
@@ -18,7 +18,7 @@ is_record (Some Void) = false
 
 -- the rows below a number in which a record was seen, in order
 abbrev pub record_rows : Marks → ℕ → List ℕ
-record_rows seen count = filter (λ row. is_record (map.get seen row)) (ordered_places count)
+record_rows seen count = filter (λ row. is_record (map.get seen row)) (range_with_len 0 count)
 
 -- the row shows the record of an operation that stands at this place of a history
 pub record IsRecordOf (seen : Marks) (place row : ℕ) (op : Operation) : Type 0 where

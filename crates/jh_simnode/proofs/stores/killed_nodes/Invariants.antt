@@ -1,10 +1,9 @@
-use Rattle.std.proofs.Common.{◌≡◌, ◌≤◌, length}
-use Rattle.jh_simnode.specs.Reach.{env_cells}
-use Rattle.jh_simnode.specs.Stores.{killed_flags}
+use Rattle.std.proofs.Common.{◌≡◌, ◌≤◌, length, map, take}
+use Rattle.jh_simnode.specs.Reach.{env_cells, is_node_killed}
 use Rattle.jh_simnode.proofs.stores.killed_nodes.Given as goal
 
-abbrev pub invariant-loop-place : goal.invariant-loop-place
-invariant-loop-place l = record {
-  so_far : l.all.items ≡ killed_flags (env_cells l.env) l.place;
-  few : length l.all.items ≤ l.place;
+abbrev pub invariant-loop-node : goal.invariant-loop-node
+invariant-loop-node l = record {
+  so_far : l.flags.items ≡ map (λ p. is_node_killed ((env_cells l.env).node p)) (take l.node-index l.node-items);
+  few : length l.flags.items ≤ l.node-index;
 }
