@@ -13,13 +13,14 @@ use Rattle.jh_edn.specs.Order.{in_order}
 use Rattle.jh_edn.proofs.CitedLemmas.{list_of-items_of}
 use Rattle.jh_env.specs.Faults.{FaultValue, AreApart, IsBumpAmount, kept_links, kept_nodes, is_self_link, is_same_link, is_same_node, is_same_bumped}
 use Rattle.jh_env.specs.Faults.{Cut, Slow, Loss, Fix, Pause, Kill, Bump}
+use Rattle.jh_tables.specs.Plain.{fault_on_links, fault_on_nodes}
+use Rattle.jh_tables.specs.declared.faults.LinkFault.{LinkFault}
+use Rattle.jh_tables.specs.declared.faults.NodeFault.{NodeFault}
 use Rattle.jh_step_texts.specs.FaultWritten.{is_link_before, is_node_before, is_bump_before, fault_in_order, name_text, link_text, links_text, nodes_text, bump_text, bumps_text, text_of_fault}
 use Rattle.jh_env.specs.Names.{AreNodeNames}
 use Rattle.jh_env.proofs.TextPlaceLemmas.{place_of-at}
 use Rattle.jh_env.specs.TextErrors.{place_of}
-use Rattle.jh_step_texts.specs.FaultText.{Links, Nodes, Bumps, link_names, node_name, bump_spelled, all_of, links_in, nodes_in, bumps_in, ends_of, named_node, bump_of, amount_within, is_bump_amount, are_apart_after, are_bumps, links_fault, nodes_fault, parsed_links, parsed_nodes, parsed_bumps}
-use Rattle.jh_step_texts.specs.declared.shapes.OnLinks.{OnLinks}
-use Rattle.jh_step_texts.specs.declared.shapes.OnNodes.{OnNodes}
+use Rattle.jh_step_texts.specs.FaultText.{Links, Nodes, Bumps, link_names, node_name, bump_spelled, all_of, links_in, nodes_in, bumps_in, ends_of, named_node, bump_of, amount_within, slow_kind, loss_kind, fix_kind, is_bump_amount, are_apart_after, are_bumps, parsed_links, parsed_nodes, parsed_bumps}
 use Rattle.jh_laws.specs.StepLines.{IsFaultOn, IsTextOfFault}
 use Rattle.jh_laws.proofs.OrderLemmas.{Apart, apart_behind, apart_in_order, all_in_order, none_in_order, none_each}
 
@@ -65,38 +66,38 @@ bump_again : (names : List (List ℕ)) → AreNodeNames names → (b : ℕ × �
 bump_again names named b below = ap (option_map (λ node. (node, b.1))) (place_again names named b.0 below)
 
 -- what a list of texts means, where each means what it was written of
-module _ {A B : Type 0} (text : A → B) (tell : B → Option A) (P : A → Type 0) (again : (x : A) → P x → tell (text x) ≡ Some x) where
-  all_known : (xs : List A) → AllByRecursion P xs → list_any (λ v. is_none (tell v)) (map text xs) ≡ false
+module _ {A B : Type 0} (text : A → B) (parsed : B → Option A) (P : A → Type 0) (again : (x : A) → P x → parsed (text x) ≡ Some x) where
+  all_known : (xs : List A) → AllByRecursion P xs → list_any (λ v. is_none (parsed v)) (map text xs) ≡ false
   all_known [] all = refl
-  all_known (x ∷ xs) all = or_from (is_none (tell (text x))) (list_any (λ v. is_none (tell v)) (map text xs)) (ap is_none (again x all.0)) (all_known xs all.1)
+  all_known (x ∷ xs) all = or_from (is_none (parsed (text x))) (list_any (λ v. is_none (parsed v)) (map text xs)) (ap is_none (again x all.0)) (all_known xs all.1)
 
-  all_again : (xs : List A) → AllByRecursion P xs → filter_map tell (map text xs) ≡ xs
+  all_again : (xs : List A) → AllByRecursion P xs → filter_map parsed (map text xs) ≡ xs
   all_again [] all = refl
-  all_again (x ∷ xs) all = ap (λ o. cons_option o (filter_map tell (map text xs))) (again x all.0) ∙ ap (λ ys. x ∷ ys) (all_again xs all.1)
+  all_again (x ∷ xs) all = ap (λ o. cons_option o (filter_map parsed (map text xs))) (again x all.0) ∙ ap (λ ys. x ∷ ys) (all_again xs all.1)
 
 -- ---- faults of links
 
 abbrev AreKnown : List (List ℕ) → List (ℕ × ℕ) → Type 0
 AreKnown names links = AllByRecursion (λ l. (l.0 < length names) × (l.1 < length names)) links
 
-links_again : (names : List (List ℕ)) → AreNodeNames names → (effect : OnLinks) (links : List (ℕ × ℕ)) (fault : FaultValue) → AreKnown names links
-    → list_any is_self_link links ≡ false → links_fault effect links ≡ Some fault → parsed_links names effect (map (link_text names) links) ≡ Ok fault
-links_again names named effect links fault known others made =
-    let tell = all_known (link_text names) (ends_of names) (λ l. (l.0 < length names) × (l.1 < length names)) (ends_again names named) links known in
-    let again = all_again (link_text names) (ends_of names) (λ l. (l.0 < length names) × (l.1 < length names)) (ends_again names named) links known in
-    rw (tell, again, others, made) refl
+links_again : (names : List (List ℕ)) → AreNodeNames names → (kind : LinkFault) (links : List (ℕ × ℕ)) → AreKnown names links
+    → list_any is_self_link links ≡ false → parsed_links names (Some kind) (map (link_text names) links) ≡ Ok (fault_on_links kind (kept_links links))
+links_again names named kind links those others =
+    let known = all_known (link_text names) (ends_of names) (λ l. (l.0 < length names) × (l.1 < length names)) (ends_again names named) links those in
+    let again = all_again (link_text names) (ends_of names) (λ l. (l.0 < length names) × (l.1 < length names)) (ends_again names named) links those in
+    rw (known, again, others) refl
 
 within : (least most n : ℕ) → least ≤ n → n ≤ most → amount_within least most (pos n) ≡ Some n
 within least most n low high = rw (le-leb least n low, le-leb n most high) refl
 
 -- ---- faults of nodes
 
-nodes_again : (names : List (List ℕ)) → AreNodeNames names → (effect : OnNodes) (nodes : List ℕ) → AllByRecursion (λ n. n < length names) nodes
-    → parsed_nodes names effect (map (name_text names) nodes) ≡ Ok (nodes_fault effect nodes)
-nodes_again names named effect nodes known =
-    let tell = all_known (name_text names) (named_node names) (λ n. n < length names) (node_again names named) nodes known in
-    let again = all_again (name_text names) (named_node names) (λ n. n < length names) (node_again names named) nodes known in
-    rw (tell, again) refl
+nodes_again : (names : List (List ℕ)) → AreNodeNames names → (kind : NodeFault) (nodes : List ℕ) → AllByRecursion (λ n. n < length names) nodes
+    → parsed_nodes names kind (map (name_text names) nodes) ≡ Ok (fault_on_nodes kind (kept_nodes nodes))
+nodes_again names named kind nodes those =
+    let known = all_known (name_text names) (named_node names) (λ n. n < length names) (node_again names named) nodes those in
+    let again = all_again (name_text names) (named_node names) (λ n. n < length names) (node_again names named) nodes those in
+    rw (known, again) refl
 
 -- ---- bumps
 
@@ -138,10 +139,10 @@ are_bumps_again bumps right apart =
 
 bumps_again : (names : List (List ℕ)) → AreNodeNames names → (bumps : List (ℕ × ℤ)) → AllByRecursion (λ b. b.0 < length names) bumps
     → are_bumps bumps ≡ true → parsed_bumps names (map (bump_text names) bumps) ≡ Ok (Bump bumps)
-bumps_again names named bumps known right =
-    let tell = all_known (bump_text names) (bump_of names) (λ b. b.0 < length names) (bump_again names named) bumps known in
-    let again = all_again (bump_text names) (bump_of names) (λ b. b.0 < length names) (bump_again names named) bumps known in
-    rw (tell, again, right) refl
+bumps_again names named bumps those right =
+    let known = all_known (bump_text names) (bump_of names) (λ b. b.0 < length names) (bump_again names named) bumps those in
+    let again = all_again (bump_text names) (bump_of names) (λ b. b.0 < length names) (bump_again names named) bumps those in
+    rw (known, again, right) refl
 
 -- ---- any fault
 
@@ -169,58 +170,60 @@ abbrev pub NodesKept : Type 0
 NodesKept = (nodes : List ℕ) → AreApart is_same_node nodes → kept_nodes (in_order is_node_before nodes) ≡ in_order is_node_before nodes
 
 module _ (links_kept : LinksKept) (nodes_kept : NodesKept) (names : List (List ℕ)) (named : AreNodeNames names) where
-  links_tell : (effect : OnLinks) (links : List (ℕ × ℕ)) (fault : FaultValue) → All (λ l. (l.0 < length names) × (l.1 < length names)) links
-      → list_any is_self_link links ≡ false → links_fault effect (in_order is_link_before links) ≡ Some fault
-      → parsed_links names effect (map (link_text names) (in_order is_link_before links)) ≡ Ok fault
-  links_tell effect links fault fits others made =
-      links_again names named effect (in_order is_link_before links) fault
+  links_parsed : (kind : LinkFault) (links : List (ℕ × ℕ)) → All (λ l. (l.0 < length names) × (l.1 < length names)) links
+      → list_any is_self_link links ≡ false → AreApart is_same_link links
+      → parsed_links names (Some kind) (map (link_text names) (in_order is_link_before links)) ≡ Ok (fault_on_links kind (in_order is_link_before links))
+  links_parsed kind links fits others apart =
+      links_again names named kind (in_order is_link_before links)
       (all_in_order is_link_before (λ l. (l.0 < length names) × (l.1 < length names)) links (recursion_from_All (λ l. (l.0 < length names) × (l.1 < length names)) links fits))
-      (none_in_order is_link_before is_self_link links others) made
+      (none_in_order is_link_before is_self_link links others)
+      ∙ ap (λ kept. Ok (fault_on_links kind kept)) (links_kept links apart)
 
-  nodes_tell : (effect : OnNodes) (nodes : List ℕ) → All (λ n. n < length names) nodes
-      → parsed_nodes names effect (map (name_text names) (in_order is_node_before nodes)) ≡ Ok (nodes_fault effect (in_order is_node_before nodes))
-  nodes_tell effect nodes fits =
-      nodes_again names named effect (in_order is_node_before nodes) (all_in_order is_node_before (λ n. n < length names) nodes (recursion_from_All (λ n. n < length names) nodes fits))
+  nodes_parsed : (kind : NodeFault) (nodes : List ℕ) → All (λ n. n < length names) nodes → AreApart is_same_node nodes
+      → parsed_nodes names kind (map (name_text names) (in_order is_node_before nodes)) ≡ Ok (fault_on_nodes kind (in_order is_node_before nodes))
+  nodes_parsed kind nodes fits apart =
+      nodes_again names named kind (in_order is_node_before nodes) (all_in_order is_node_before (λ n. n < length names) nodes (recursion_from_All (λ n. n < length names) nodes fits))
+      ∙ ap (λ kept. Ok (fault_on_nodes kind kept)) (nodes_kept nodes apart)
 
   pub fault_again : (fault : FaultValue) → IsFaultOn (length names) fault → IsTextOfFault (text_of_fault names fault) names (fault_in_order fault)
   fault_again (Cut links) h =
       let ls = in_order is_link_before links in (
-        Links OnLinks.Cut (map (link_text names) ls),
-        ap (option_map (Links OnLinks.Cut)) (links_are names ls),
-        links_tell OnLinks.Cut links (Cut ls) h.fits h.others (ap (λ kept. Some (Cut kept)) (links_kept links h.is_fault)),
+        Links (Some LinkFault.Cut) (map (link_text names) ls),
+        ap (option_map (Links (Some LinkFault.Cut))) (links_are names ls),
+        links_parsed LinkFault.Cut links h.fits h.others h.is_fault,
       )
   fault_again (Slow ms links) h =
-      let ls = in_order is_link_before links in (
-        Links (OnLinks.Slow (pos ms)) (map (link_text names) ls),
-        ap (option_map (Links (OnLinks.Slow (pos ms)))) (links_are names ls),
-        links_tell (OnLinks.Slow (pos ms)) links (Slow ms ls) h.fits h.others
-            (ap (option_map (λ n. Slow n (kept_links ls))) (within 1 60000 ms (omega (arith, h.is_fault.0.0)) h.is_fault.0.1) ∙ ap (λ kept. Some (Slow ms kept)) (links_kept links h.is_fault.1)),
+      let ls = in_order is_link_before links in
+      let right : slow_kind (pos ms) ≡ Some (LinkFault.Slow ms) = ap (option_map LinkFault.Slow) (within 1 60000 ms (omega (arith, h.is_fault.0.0)) h.is_fault.0.1) in (
+        Links (Some (LinkFault.Slow ms)) (map (link_text names) ls),
+        ap (option_map (Links (slow_kind (pos ms)))) (links_are names ls) ∙ ap (λ kind. Some (Links kind (map (link_text names) ls))) right,
+        links_parsed (LinkFault.Slow ms) links h.fits h.others h.is_fault.1,
       )
   fault_again (Loss level links) h =
-      let ls = in_order is_link_before links in (
-        Links (OnLinks.Loss (pos level)) (map (link_text names) ls),
-        ap (option_map (Links (OnLinks.Loss (pos level)))) (links_are names ls),
-        links_tell (OnLinks.Loss (pos level)) links (Loss level ls) h.fits h.others
-            (ap (option_map (λ n. Loss n (kept_links ls))) (within 1 20 level (omega (arith, h.is_fault.0.0)) h.is_fault.0.1) ∙ ap (λ kept. Some (Loss level kept)) (links_kept links h.is_fault.1)),
+      let ls = in_order is_link_before links in
+      let right : loss_kind (pos level) ≡ Some (LinkFault.Loss level) = ap (option_map LinkFault.Loss) (within 1 20 level (omega (arith, h.is_fault.0.0)) h.is_fault.0.1) in (
+        Links (Some (LinkFault.Loss level)) (map (link_text names) ls),
+        ap (option_map (Links (loss_kind (pos level)))) (links_are names ls) ∙ ap (λ kind. Some (Links kind (map (link_text names) ls))) right,
+        links_parsed (LinkFault.Loss level) links h.fits h.others h.is_fault.1,
       )
   fault_again (Fix ms links) h =
-      let ls = in_order is_link_before links in (
-        Links (OnLinks.Fix (pos ms)) (map (link_text names) ls),
-        ap (option_map (Links (OnLinks.Fix (pos ms)))) (links_are names ls),
-        links_tell (OnLinks.Fix (pos ms)) links (Fix ms ls) h.fits h.others
-            (ap (option_map (λ n. Fix n (kept_links ls))) (within 0 60000 ms (omega arith) h.is_fault.0) ∙ ap (λ kept. Some (Fix ms kept)) (links_kept links h.is_fault.1)),
+      let ls = in_order is_link_before links in
+      let right : fix_kind (pos ms) ≡ Some (LinkFault.Fix ms) = ap (option_map LinkFault.Fix) (within 0 60000 ms (omega arith) h.is_fault.0) in (
+        Links (Some (LinkFault.Fix ms)) (map (link_text names) ls),
+        ap (option_map (Links (fix_kind (pos ms)))) (links_are names ls) ∙ ap (λ kind. Some (Links kind (map (link_text names) ls))) right,
+        links_parsed (LinkFault.Fix ms) links h.fits h.others h.is_fault.1,
       )
   fault_again (Pause nodes) h =
       let ns = in_order is_node_before nodes in (
-        Nodes OnNodes.Pause (map (name_text names) ns),
-        ap (option_map (Nodes OnNodes.Pause)) (nodes_are names ns),
-        nodes_tell OnNodes.Pause nodes h.fits ∙ ap (λ kept. Ok (Pause kept)) (nodes_kept nodes h.is_fault),
+        Nodes NodeFault.Pause (map (name_text names) ns),
+        ap (option_map (Nodes NodeFault.Pause)) (nodes_are names ns),
+        nodes_parsed NodeFault.Pause nodes h.fits h.is_fault,
       )
   fault_again (Kill nodes) h =
       let ns = in_order is_node_before nodes in (
-        Nodes OnNodes.Kill (map (name_text names) ns),
-        ap (option_map (Nodes OnNodes.Kill)) (nodes_are names ns),
-        nodes_tell OnNodes.Kill nodes h.fits ∙ ap (λ kept. Ok (Kill kept)) (nodes_kept nodes h.is_fault),
+        Nodes NodeFault.Kill (map (name_text names) ns),
+        ap (option_map (Nodes NodeFault.Kill)) (nodes_are names ns),
+        nodes_parsed NodeFault.Kill nodes h.fits h.is_fault,
       )
   fault_again (Bump bumps) h =
       let bs = in_order is_bump_before bumps in (

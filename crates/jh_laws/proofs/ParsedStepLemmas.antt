@@ -10,20 +10,24 @@ use Rattle.std.proofs.lemmas.List.Quantifiers.{position-Some}
 use Rattle.std.proofs.lemmas.Nat.{mod-mul-add}
 use Rattle.std.proofs.lemmas.Option.{slice_get_within, get_or_from_slice_get}
 use Rattle.jh_edn.specs.Edn.{Edn, int, keyword, list, vector, Items, no_items, item, list_of}
-use Rattle.jh_env.specs.Faults.{FaultValue, AreApart, kept_links, is_self_link, is_same_link, is_same_node}
-use Rattle.jh_env.specs.Faults.{Slow, Loss, Fix, Bump}
+use Rattle.jh_env.specs.Faults.{FaultValue, AreApart, kept_links, kept_nodes, is_self_link, is_same_link, is_same_node}
+use Rattle.jh_env.specs.Faults.{Bump}
+use Rattle.jh_env.specs.Effects.{IsLinkAmount}
+use Rattle.jh_env.specs.Names.{node_places}
+use Rattle.jh_tables.specs.Plain.{fault_on_links, fault_on_nodes}
+use Rattle.jh_tables.specs.declared.faults.LinkFault.{LinkFault}
+use Rattle.jh_tables.specs.declared.faults.NodeFault.{NodeFault}
 use Rattle.jh_env.proofs.FaultLemmas.{kept_apart, kept_all, none_apart}
 use Rattle.jh_env.specs.TextErrors.{place_of}
-use Rattle.jh_step_texts.specs.FaultText.{FaultSpelling, Links, Nodes, Bumps, SplitOne, Grudge, IsRingOverAll, result_or_refusal, link_names, node_name, bump_spelled, known_pair, ends_of, named_node, bump_of, amount_within, are_bumps, links_fault, nodes_fault, parsed_links, parsed_nodes, parsed_bumps, cut_of, parsed_split, parsed_named, parsed_fault, fault_spelling}
-use Rattle.jh_step_texts.specs.NamedFaults.{AreLinksAmong, node_places, links_that, crosses, crosses_halves, crosses_bridge, touches, leaves_majority, is_at, is_option_of, ring_links, seeded_order}
+use Rattle.jh_step_texts.specs.FaultText.{FaultSpelling, Links, Nodes, Bumps, SplitOne, Grudge, IsRingOverAll, result_or_refusal, link_names, node_name, bump_spelled, known_pair, ends_of, named_node, bump_of, links_in, nodes_in, bumps_in, amount_within, slow_kind, loss_kind, fix_kind, named_fault, shuffled_ring, plain_fault, measured_fault, spelling_in, are_bumps, parsed_links, parsed_nodes, parsed_bumps, cut_of, parsed_split, parsed_named, parsed_fault, fault_spelling}
+use Rattle.jh_step_texts.specs.ShapeInside.{IsRightSpelling}
+use Rattle.jh_step_texts.specs.NamedFaults.{AreLinksAmong, links_that, crosses, crosses_halves, crosses_bridge, touches, leaves_majority, is_at, is_option_of, ring_links, seeded_order}
 use Rattle.jh_step_texts.specs.StepText.{id_of, begin_of_fault, parsed_begin, parsed_withdraw, parsed_keyword, step_of_elements, parsed_step, fault_of_begin}
 use Rattle.jh_nemesis.specs.declared.steps.Step.{Step}
 use Rattle.jh_nemesis.specs.declared.steps.Step.TheVariants.{Withdraw, WithdrawAll, Undo, Redo}
 use Rattle.jh_step_texts.specs.declared.steps.StepTextError.{StepTextError}
 use Rattle.jh_step_texts.specs.declared.steps.StepTextError.TheVariants.{BadStep, BadId, UnknownNode, SelfLink, BadAmount}
 use Rattle.jh_step_texts.specs.declared.shapes.Named.{Named}
-use Rattle.jh_step_texts.specs.declared.shapes.OnLinks.{OnLinks}
-use Rattle.jh_step_texts.specs.declared.shapes.OnNodes.{OnNodes}
 use Rattle.jh_step_texts.proofs.FaultTextLemmas.{bumps_right}
 use Rattle.jh_step_texts.proofs.GrudgeLemmas.{made_crossing, places_apart, order_distinct}
 use Rattle.jh_step_texts.proofs.LinkLemmas.{some_of_any, in_range, in_links}
@@ -68,9 +72,9 @@ moved_below n ms (Some i) h = h
 
 bump_below : (names : List (List ℕ)) (value : Edn × Edn) → IfSome (bump_of names value) (λ b. b.0 < length names)
 bump_below names value =
-    elim (bump_spelled value) as (λ o. IfSome {T = ℕ × ℤ} (option_and_then (λ said. option_map (λ node. (node, said.1)) (place_of names said.0)) o) (λ b. b.0 < length names)) [
+    elim (bump_spelled value) as (λ o. IfSome {T = ℕ × ℤ} (option_and_then (λ written. option_map (λ node. (node, written.1)) (place_of names written.0)) o) (λ b. b.0 < length names)) [
       | None ↦ tt
-      | Some said ↦ moved_below (length names) said.1 (place_of names said.0) (below_place names said.0)
+      | Some written ↦ moved_below (length names) written.1 (place_of names written.0) (below_place names written.0)
     ]
 
 -- ---- faults of links
@@ -99,54 +103,50 @@ if_mapped : {A B : Type 0} (o : Option A) (f : A → B) (P : A → Type 0) (Q : 
 if_mapped None f P Q h each = tt
 if_mapped (Some x) f P Q h each = each x h
 
-links_made : (n : ℕ) (effect : OnLinks) (links : List (ℕ × ℕ)) → All (Joins n) links → list_any is_self_link links ≡ false → IfSome (links_fault effect links) (IsFaultOn n)
-links_made n OnLinks.Cut links known others = record { fits = kept_known n links known; is_fault = kept_once links; others = kept_others links others }
-links_made n (OnLinks.Slow z) links known others =
-    if_mapped (amount_within 1 60000 z) (λ ms. Slow ms (kept_links links)) (λ ms. (1 ≤ ms) × (ms ≤ 60000)) (IsFaultOn n) (amount_is 1 60000 z)
-    (λ ms h. record { fits = kept_known n links known; is_fault = ((omega (arith, h.0), h.1), kept_once links); others = kept_others links others })
-links_made n (OnLinks.Loss z) links known others =
-    if_mapped (amount_within 1 20 z) (λ level. Loss level (kept_links links)) (λ level. (1 ≤ level) × (level ≤ 20)) (IsFaultOn n) (amount_is 1 20 z)
-    (λ level h. record { fits = kept_known n links known; is_fault = ((omega (arith, h.0), h.1), kept_once links); others = kept_others links others })
-links_made n (OnLinks.Fix z) links known others =
-    if_mapped (amount_within 0 60000 z) (λ ms. Fix ms (kept_links links)) (λ ms. (0 ≤ ms) × (ms ≤ 60000)) (IsFaultOn n) (amount_is 0 60000 z)
-    (λ ms h. record { fits = kept_known n links known; is_fault = (h.1, kept_once links); others = kept_others links others })
+links_made : (n : ℕ) (kind : LinkFault) (links : List (ℕ × ℕ)) → IsLinkAmount kind → All (Joins n) links → list_any is_self_link links ≡ false
+    → IsFaultOn n (fault_on_links kind (kept_links links))
+links_made n LinkFault.Cut links right known others = record { fits = kept_known n links known; is_fault = kept_once links; others = kept_others links others }
+links_made n (LinkFault.Slow ms) links right known others = record { fits = kept_known n links known; is_fault = (right, kept_once links); others = kept_others links others }
+links_made n (LinkFault.Loss level) links right known others = record { fits = kept_known n links known; is_fault = (right, kept_once links); others = kept_others links others }
+links_made n (LinkFault.Fix ms) links right known others = record { fits = kept_known n links known; is_fault = (right, kept_once links); others = kept_others links others }
 
 if_needed : {A B : Type 0} (o : Option A) (refusal : StepTextError) (made : A → Result B StepTextError) (P : A → Type 0) (Q : B → Type 0) → IfSome o P
     → ((x : A) → P x → IfOk (made x) Q) → IfOk (result_or_refusal o refusal made) Q
 if_needed None refusal made P Q h each = tt
 if_needed (Some x) refusal made P Q h each = each x h
 
-links_parsed : (names : List (List ℕ)) (effect : OnLinks) (values : List Edn) → IfOk (parsed_links names effect values) (IsFaultOn (length names))
-links_parsed names effect values =
+links_parsed : (names : List (List ℕ)) (kind : Option LinkFault) (values : List Edn) → IfSome kind IsLinkAmount → IfOk (parsed_links names kind values) (IsFaultOn (length names))
+links_parsed names kind values right =
     let n = length names in
     let ends = filter_map (ends_of names) values in
+    let made : LinkFault → Result FaultValue StepTextError = λ kind. Ok (fault_on_links kind (kept_links ends)) in
     let known = All-from_recursion (Joins n) ends (all_kept (ends_of names) (Joins n) (ends_below names) values) in
     elim (list_any (λ l. is_none (ends_of names l)) values)
-    as (λ t. IfOk (if t then Err UnknownNode else if list_any is_self_link ends then Err SelfLink else result_or_refusal (links_fault effect ends) BadAmount (λ fault. Ok fault)) (IsFaultOn n)) [
+    as (λ t. IfOk (if t then Err UnknownNode else if list_any is_self_link ends then Err SelfLink else result_or_refusal kind BadAmount made) (IsFaultOn n)) [
       | true ↦ tt
       | false ↦ elim (list_any is_self_link ends)
-          as (λ t. list_any is_self_link ends ≡ t → IfOk (if t then Err SelfLink else result_or_refusal (links_fault effect ends) BadAmount (λ fault. Ok fault)) (IsFaultOn n)) [
+          as (λ t. list_any is_self_link ends ≡ t → IfOk (if t then Err SelfLink else result_or_refusal kind BadAmount made) (IsFaultOn n)) [
             | true ↦ λ is. tt
-            | false ↦ λ is. if_needed (links_fault effect ends) BadAmount (λ fault. Ok fault) (IsFaultOn n) (IsFaultOn n) (links_made n effect ends known is) (λ fault h. h)
+            | false ↦ λ is. if_needed kind BadAmount made IsLinkAmount (IsFaultOn n) right (λ kind right. links_made n kind ends right known is)
           ] refl
     ]
 
 -- ---- faults of nodes, and bumps
 
-nodes_made : (n : ℕ) (effect : OnNodes) (nodes : List ℕ) → All (λ a. a < n) nodes → IsFaultOn n (nodes_fault effect nodes)
-nodes_made n OnNodes.Pause nodes known =
+nodes_made : (n : ℕ) (kind : NodeFault) (nodes : List ℕ) → All (λ a. a < n) nodes → IsFaultOn n (fault_on_nodes kind (kept_nodes nodes))
+nodes_made n NodeFault.Pause nodes known =
     record { fits = kept_all (λ a. a < n) is_same_node nodes [] (All-nil (λ a. a < n)) known; is_fault = kept_apart is_same_node nodes [] (none_apart is_same_node); others = refl }
-nodes_made n OnNodes.Kill nodes known =
+nodes_made n NodeFault.Kill nodes known =
     record { fits = kept_all (λ a. a < n) is_same_node nodes [] (All-nil (λ a. a < n)) known; is_fault = kept_apart is_same_node nodes [] (none_apart is_same_node); others = refl }
 
-nodes_parsed : (names : List (List ℕ)) (effect : OnNodes) (values : List Edn) → IfOk (parsed_nodes names effect values) (IsFaultOn (length names))
-nodes_parsed names effect values =
+nodes_parsed : (names : List (List ℕ)) (kind : NodeFault) (values : List Edn) → IfOk (parsed_nodes names kind values) (IsFaultOn (length names))
+nodes_parsed names kind values =
     let n = length names in
     let nodes = filter_map (named_node names) values in
     let known = All-from_recursion (λ a. a < n) nodes (all_kept (named_node names) (λ a. a < n) (node_below names) values) in
-    elim (list_any (λ v. is_none (named_node names v)) values) as (λ t. IfOk (if t then Err UnknownNode else Ok (nodes_fault effect nodes)) (IsFaultOn n)) [
+    elim (list_any (λ v. is_none (named_node names v)) values) as (λ t. IfOk (if t then Err UnknownNode else Ok (fault_on_nodes kind (kept_nodes nodes))) (IsFaultOn n)) [
       | true ↦ tt
-      | false ↦ nodes_made n effect nodes known
+      | false ↦ nodes_made n kind nodes known
     ]
 
 bumps_parsed : (names : List (List ℕ)) (values : List (Edn × Edn)) → IfOk (parsed_bumps names values) (IsFaultOn (length names))
@@ -247,14 +247,69 @@ split_parsed names loner =
     if_needed (place_of names loner) UnknownNode (λ place. Ok (cut_of (links_that (touches place) (length names)))) (λ place. place < length names) (IsFaultOn (length names))
     (below_place names loner) (λ place below. cut_made (length names) (links_that (touches place) (length names)) (crossing (λ a. a == place) (length names)))
 
+-- ---- amounts that are spelled
+
+if_either : (t : Bool) (x y : Option FaultSpelling) → IfSome x IsRightSpelling → IfSome y IsRightSpelling → IfSome (if t then x else y) IsRightSpelling
+if_either true x y h k = h
+if_either false x y h k = k
+
+if_made : {A : Type 0} (o : Option A) (spelling : A → FaultSpelling) → ((x : A) → IsRightSpelling (spelling x)) → IfSome (option_map spelling o) IsRightSpelling
+if_made None spelling each = tt
+if_made (Some x) spelling each = each x
+
+ring_right : (v : Edn) → IfSome (shuffled_ring v) IsRightSpelling
+ring_right (int seed) = tt
+ring_right v = tt
+
+named_right : (name : List ℕ) → IfSome (named_fault name) IsRightSpelling
+named_right name =
+    if_either (bytes_eq name (codes "halves")) _ _ tt
+    (if_either (bytes_eq name (codes "bridge")) _ _ tt (if_either (bytes_eq name (codes "ring")) _ _ tt tt))
+
+plain_right : (name : List ℕ) (v : Edn) → IfSome (plain_fault name v) IsRightSpelling
+plain_right name v =
+    if_either (bytes_eq name (codes "cut")) _ _ (if_made (links_in v) (Links (Some LinkFault.Cut)) (λ links. tt))
+    (if_either (bytes_eq name (codes "pause")) _ _ (if_made (nodes_in v) (Nodes NodeFault.Pause) (λ nodes. tt))
+    (if_either (bytes_eq name (codes "kill")) _ _ (if_made (nodes_in v) (Nodes NodeFault.Kill) (λ nodes. tt))
+    (if_either (bytes_eq name (codes "bump")) _ _ (if_made (bumps_in v) Bumps (λ bumps. tt))
+    (if_either (bytes_eq name (codes "split-one")) _ _ (if_made (node_name v) SplitOne (λ loner. tt))
+    (if_either (bytes_eq name (codes "ring")) _ _ (ring_right v) tt)))))
+
+slow_right : (z : ℤ) → IfSome (slow_kind z) IsLinkAmount
+slow_right z = if_mapped (amount_within 1 60000 z) LinkFault.Slow (λ ms. (1 ≤ ms) × (ms ≤ 60000)) IsLinkAmount (amount_is 1 60000 z) (λ ms h. (omega (arith, h.0), h.1))
+
+loss_right : (z : ℤ) → IfSome (loss_kind z) IsLinkAmount
+loss_right z = if_mapped (amount_within 1 20 z) LinkFault.Loss (λ level. (1 ≤ level) × (level ≤ 20)) IsLinkAmount (amount_is 1 20 z) (λ level h. (omega (arith, h.0), h.1))
+
+fix_right : (z : ℤ) → IfSome (fix_kind z) IsLinkAmount
+fix_right z = if_mapped (amount_within 0 60000 z) LinkFault.Fix (λ ms. (0 ≤ ms) × (ms ≤ 60000)) IsLinkAmount (amount_is 0 60000 z) (λ ms h. h.1)
+
+measured_right : (name : List ℕ) (z : ℤ) (v : Edn) → IfSome (measured_fault name z v) IsRightSpelling
+measured_right name z v =
+    if_either (bytes_eq name (codes "slow")) _ _ (if_made (links_in v) (Links (slow_kind z)) (λ links. slow_right z))
+    (if_either (bytes_eq name (codes "loss")) _ _ (if_made (links_in v) (Links (loss_kind z)) (λ links. loss_right z))
+    (if_either (bytes_eq name (codes "fix")) _ _ (if_made (links_in v) (Links (fix_kind z)) (λ links. fix_right z)) tt))
+
+parts_right : (xs : Items) → IfSome (spelling_in (list_of xs)) IsRightSpelling
+parts_right (item (keyword name) no_items) = named_right name
+parts_right (item (keyword name) (item v no_items)) = plain_right name v
+parts_right (item (keyword name) (item (int z) (item v no_items))) = measured_right name z v
+parts_right xs = tt
+
+spelling_right : (value : Edn) → IfSome (fault_spelling value) IsRightSpelling
+spelling_right (list xs) = parts_right xs
+spelling_right (vector xs) = parts_right xs
+spelling_right value = tt
+
 -- ---- steps
 
-fault_parsed : (names : List (List ℕ)) (parts : FaultSpelling) → IsRingOverAll (length names) (Some parts) → IfOk (parsed_fault names parts) (IsFaultOn (length names))
-fault_parsed names (Links effect links) ring = links_parsed names effect links
-fault_parsed names (Nodes effect nodes) ring = nodes_parsed names effect nodes
-fault_parsed names (Bumps bumps) ring = bumps_parsed names bumps
-fault_parsed names (SplitOne loner) ring = split_parsed names loner
-fault_parsed names (Grudge named) ring = named_parsed (length names) named ring
+fault_parsed : (names : List (List ℕ)) (parts : FaultSpelling) → IsRightSpelling parts → IsRingOverAll (length names) (Some parts)
+    → IfOk (parsed_fault names parts) (IsFaultOn (length names))
+fault_parsed names (Links kind links) right ring = links_parsed names kind links right
+fault_parsed names (Nodes kind nodes) right ring = nodes_parsed names kind nodes
+fault_parsed names (Bumps bumps) right ring = bumps_parsed names bumps
+fault_parsed names (SplitOne loner) right ring = split_parsed names loner
+fault_parsed names (Grudge named) right ring = named_parsed (length names) named ring
 
 id_below : (z : ℤ) → IfSome (id_of z) (λ id. id < 2 ^ 32)
 id_below (pos n) =
@@ -271,12 +326,13 @@ begun_is n id (Err refusal) less h = tt
 begin_parsed : (names : List (List ℕ)) (z : ℤ) (fault : Edn) → IsRingOverAll (length names) (fault_spelling fault) → IfOk (parsed_begin names z fault) (IsStepOver (length names))
 begin_parsed names z fault ring =
     elim (fault_spelling fault)
-    as (λ o. IsRingOverAll (length names) o → IfOk (result_or_refusal o BadStep (λ parts. result_or_refusal (id_of z) BadId (λ id. begin_of_fault id (parsed_fault names parts)))) (IsStepOver (length names))) [
-      | None ↦ λ h. tt
-      | Some parts ↦ λ h.
+    as (λ o. IfSome o IsRightSpelling → IsRingOverAll (length names) o
+    → IfOk (result_or_refusal o BadStep (λ parts. result_or_refusal (id_of z) BadId (λ id. begin_of_fault id (parsed_fault names parts)))) (IsStepOver (length names))) [
+      | None ↦ λ right h. tt
+      | Some parts ↦ λ right h.
           if_needed (id_of z) BadId (λ id. begin_of_fault id (parsed_fault names parts)) (λ id. id < 2 ^ 32) (IsStepOver (length names)) (id_below z)
-          (λ id less. begun_is (length names) id (parsed_fault names parts) less (fault_parsed names parts h))
-    ] ring
+          (λ id less. begun_is (length names) id (parsed_fault names parts) less (fault_parsed names parts right h))
+    ] (spelling_right fault) ring
 
 withdraw_parsed : (n : ℕ) (z : ℤ) → IfOk (parsed_withdraw z) (IsStepOver n)
 withdraw_parsed n z = if_needed (id_of z) BadId (λ id. Ok (Withdraw id)) (λ id. id < 2 ^ 32) (IsStepOver n) (id_below z) (λ id less. less)

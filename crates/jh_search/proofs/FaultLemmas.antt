@@ -11,7 +11,8 @@ use Rattle.jh_env.specs.declared.faults.FaultError.TheVariants as FaultError
 use Rattle.jh_env.proofs.FaultLemmas.{known_bumps, known_nodes}
 use Rattle.jh_grudge.specs.Grudges.{JoinsTwoOf}
 use Rattle.jh_grudge.specs.Lists.{AreDistinct}
-use Rattle.jh_step_texts.specs.NamedFaults.{AreLinksAmong, node_places}
+use Rattle.jh_env.specs.Names.{node_places}
+use Rattle.jh_step_texts.specs.NamedFaults.{AreLinksAmong}
 use Rattle.jh_step_texts.proofs.FaultTextLemmas.{cut_refused}
 use Rattle.jh_step_texts.proofs.LinkLemmas.{all_pairs_head, all_pairs_tail, contains_cons, contains_head, contains_none, contains_tail, some_of_any}
 use Rattle.jh_step_texts.proofs.GrudgeLemmas.{made_among, order_below, order_distinct, order_long}

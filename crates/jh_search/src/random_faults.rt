@@ -7,9 +7,10 @@ ghost use Rattle.std.specs.List.{All};
 ghost use Rattle.jh_env.specs.Faults as env;
 ghost use Rattle.jh_env.specs.Faults.{Bump, Cut, FitsCount, Fix, Kill, Loss, Pause, Slow};
 ghost use Rattle.jh_env.specs.Faults.{kept_links, kept_nodes};
+ghost use Rattle.jh_env.specs.Names.{node_places};
 ghost use Rattle.jh_env.specs.declared.faults.FaultError.TheVariants.{OutOfMemory};
 ghost use Rattle.jh_step_texts.specs.NamedFaults as named;
-ghost use Rattle.jh_step_texts.specs.NamedFaults.{AreLinksAmong, node_places};
+ghost use Rattle.jh_step_texts.specs.NamedFaults.{AreLinksAmong};
 ghost use Rattle.jh_search.specs.RandomFaults as rule;
 ghost use Rattle.jh_search.specs.FaultsInside.{AreNodesOf, HasNamed};
 

@@ -1,6 +1,6 @@
 -- What the values of a fault's text mean, by the tests that the code makes.
 use Rattle.std.proofs.Common.{◌≡◌, ◌≢◌, ℕ, ◌+◌, ◌<◌, Bool, true, false, suc, List, [], ◌∷◌, ◌++◌, length, get_or, take, drop, refl, arith, ap, sym, ◌∙◌, zero, append_assoc, subst, add-one, drop-cons}
-use Rattle.std.specs.Prelude.{⊤, ℤ, pos, negsuc, is_none, is_some, Option, Some, None, Ok, Err, ◌==◌, not, IsOk, nat_le, nat_lt, option_map, option_and_then, ◌^◌}
+use Rattle.std.specs.Prelude.{⊤, ℤ, pos, negsuc, is_none, Option, Some, None, Ok, Err, ◌==◌, not, nat_le, nat_lt, option_map, option_and_then, ◌^◌}
 use Rattle.std.specs.List.{cons_option, filter_map, list_all, list_any}
 use Rattle.std.specs.Str.{bytes_eq}
 use Rattle.std.proofs.lemmas.Grind.{common_steps}
@@ -14,68 +14,40 @@ use Rattle.std.proofs.lemmas.List.Sums.{AllPass-from_list_all}
 use Rattle.jh_edn.specs.Edn.{Edn}
 use Rattle.jh_edn.specs.View.{view, views, view_pair, view_pairs}
 use Rattle.jh_edn.specs.declared.value.Value.{Value}
-use Rattle.jh_env.specs.Faults.{FaultValue, kept_links, is_self_link, is_unknown_link, is_unknown_node, is_unknown_bump, is_same_bumped, AreBumps, IsBumpAmount, RefusesLinks, RefusesNodes, RefusesBumps}
-use Rattle.jh_env.specs.Faults.{Slow, Loss, Fix, Bump}
+use Rattle.jh_env.specs.Faults.{kept_links, kept_nodes, is_self_link, is_unknown_link, is_unknown_node, is_unknown_bump, is_same_bumped, AreBumps, IsBumpAmount, RefusesLinks, RefusesNodes, RefusesBumps}
+use Rattle.jh_env.specs.Faults.{Bump}
+use Rattle.jh_tables.specs.Plain.{fault_on_links, fault_on_nodes}
+use Rattle.jh_tables.specs.declared.faults.LinkFault.{LinkFault}
+use Rattle.jh_tables.specs.declared.faults.NodeFault.{NodeFault}
 use Rattle.jh_env.specs.TextErrors.{place_of}
 use Rattle.jh_env.specs.declared.faults.FaultError.TheVariants as FaultError
-use Rattle.jh_step_texts.specs.FaultText.{parsed_links, parsed_nodes, parsed_bumps, links_fault, nodes_fault, ends_of, named_node, bump_of, known_pair, link_names, node_name, bump_spelled, amount_within, is_bump_amount, are_apart_after, are_bumps}
-use Rattle.jh_step_texts.specs.declared.shapes.OnLinks.{OnLinks}
-use Rattle.jh_step_texts.specs.declared.shapes.OnNodes.{OnNodes}
+use Rattle.jh_step_texts.specs.FaultText.{parsed_links, parsed_nodes, parsed_bumps, ends_of, named_node, bump_of, known_pair, link_names, node_name, bump_spelled, is_bump_amount, are_apart_after, are_bumps}
 use Rattle.jh_step_texts.specs.declared.steps.StepTextError.TheVariants.{UnknownNode, SelfLink, BadAmount}
 use Rattle.jh_step_texts.specs.NamedFaults.{AreLinksAmong}
 use Rattle.jh_step_texts.proofs.LinkLemmas.{some_of_any}
 use Rattle.jh_step_texts.proofs.ListLemmas.{filter_map-map, list_any-map}
 
 -- an unknown node is reported first
-pub parsed_links-unknown : (names : List (List ℕ)) (effect : OnLinks) (links : List Value) → list_any (λ l. is_none (ends_of names (view l))) links ≡ true
-    → parsed_links names effect (views links) ≡ Err UnknownNode
-parsed_links-unknown names effect links unknown = rw (list_any-map (λ l. is_none (ends_of names l)) view links, unknown) refl
+pub parsed_links-unknown : (names : List (List ℕ)) (kind : Option LinkFault) (links : List Value) → list_any (λ l. is_none (ends_of names (view l))) links ≡ true
+    → parsed_links names kind (views links) ≡ Err UnknownNode
+parsed_links-unknown names kind links unknown = rw (list_any-map (λ l. is_none (ends_of names l)) view links, unknown) refl
 
 -- then a link of a node with itself
-pub parsed_links-self : (names : List (List ℕ)) (effect : OnLinks) (links : List Value) → list_any (λ l. is_none (ends_of names (view l))) links ≡ false
+pub parsed_links-self : (names : List (List ℕ)) (kind : Option LinkFault) (links : List Value) → list_any (λ l. is_none (ends_of names (view l))) links ≡ false
     → list_any is_self_link (filter_map (λ l. ends_of names (view l)) links) ≡ true
-    → parsed_links names effect (views links) ≡ Err SelfLink
-parsed_links-self names effect links known self = rw (list_any-map (λ l. is_none (ends_of names l)) view links, known, filter_map-map (ends_of names) view links, self) refl
-
--- whether an amount is in its range, whatever the links
-right_anywhere : (effect : OnLinks) (links : List (ℕ × ℕ)) → is_some (links_fault effect links) ≡ is_some (links_fault effect [])
-right_anywhere OnLinks.Cut links = refl
-right_anywhere (OnLinks.Slow z) links = elim (amount_within 1 60000 z) as (λ o. is_some (option_map (λ ms. Slow ms (kept_links links)) o) ≡ is_some (option_map (λ ms. Slow ms (kept_links [])) o)) [ None ↦ refl | Some ms ↦ refl ]
-right_anywhere (OnLinks.Loss z) links = elim (amount_within 1 20 z) as (λ o. is_some (option_map (λ level. Loss level (kept_links links)) o) ≡ is_some (option_map (λ level. Loss level (kept_links [])) o)) [ None ↦ refl | Some level ↦ refl ]
-right_anywhere (OnLinks.Fix z) links = elim (amount_within 0 60000 z) as (λ o. is_some (option_map (λ ms. Fix ms (kept_links links)) o) ≡ is_some (option_map (λ ms. Fix ms (kept_links [])) o)) [ None ↦ refl | Some ms ↦ refl ]
-
-none_there : {A : Type 0} (o : Option A) → is_some o ≡ false → o ≡ None
-none_there None e = refl
-none_there (Some x) e = absurd cc
+    → parsed_links names kind (views links) ≡ Err SelfLink
+parsed_links-self names kind links known self = rw (list_any-map (λ l. is_none (ends_of names l)) view links, known, filter_map-map (ends_of names) view links, self) refl
 
 -- then an amount out of range
-pub parsed_links-bad : (names : List (List ℕ)) (effect : OnLinks) (links : List Value) → list_any (λ l. is_none (ends_of names (view l))) links ≡ false
-    → list_any is_self_link (filter_map (λ l. ends_of names (view l)) links) ≡ false → is_some (links_fault effect []) ≡ false
-    → parsed_links names effect (views links) ≡ Err BadAmount
-parsed_links-bad names effect links known other bad =
-    let ends : List (ℕ × ℕ) = filter_map (λ l. ends_of names (view l)) links in
-    rw (list_any-map (λ l. is_none (ends_of names l)) view links, known, filter_map-map (ends_of names) view links, other, none_there (links_fault effect ends) (right_anywhere effect ends ∙ bad)) refl
+pub parsed_links-bad : (names : List (List ℕ)) (links : List Value) → list_any (λ l. is_none (ends_of names (view l))) links ≡ false
+    → list_any is_self_link (filter_map (λ l. ends_of names (view l)) links) ≡ false → parsed_links names None (views links) ≡ Err BadAmount
+parsed_links-bad names links known other = rw (list_any-map (λ l. is_none (ends_of names l)) view links, known, filter_map-map (ends_of names) view links, other) refl
 
 -- else the fault
-pub parsed_links-fault : (names : List (List ℕ)) (effect : OnLinks) (links : List Value) (fault : FaultValue) → list_any (λ l. is_none (ends_of names (view l))) links ≡ false
+pub parsed_links-fault : (names : List (List ℕ)) (kind : LinkFault) (links : List Value) → list_any (λ l. is_none (ends_of names (view l))) links ≡ false
     → list_any is_self_link (filter_map (λ l. ends_of names (view l)) links) ≡ false
-    → links_fault effect (filter_map (λ l. ends_of names (view l)) links) ≡ Some fault
-    → parsed_links names effect (views links) ≡ Ok fault
-parsed_links-fault names effect links fault known other made =
-    rw (list_any-map (λ l. is_none (ends_of names l)) view links, known, filter_map-map (ends_of names) view links, other, made) refl
-
-some_there : {A : Type 0} (o : Option A) → is_some o ≡ true → (x : A) × (o ≡ Some x)
-some_there None e = absurd cc
-some_there (Some x) e = (x, refl)
-
--- something is parsed, so that out of memory may be answered
-pub parsed_links-ok : (names : List (List ℕ)) (effect : OnLinks) (links : List Value) → list_any (λ l. is_none (ends_of names (view l))) links ≡ false
-    → list_any is_self_link (filter_map (λ l. ends_of names (view l)) links) ≡ false → is_some (links_fault effect []) ≡ true
-    → IsOk (parsed_links names effect (views links))
-parsed_links-ok names effect links known other right =
-    let ends : List (ℕ × ℕ) = filter_map (λ l. ends_of names (view l)) links in
-    let made = some_there (links_fault effect ends) (right_anywhere effect ends ∙ right) in
-    rw (parsed_links-fault names effect links made.0 known other made.1) refl
+    → parsed_links names (Some kind) (views links) ≡ Ok (fault_on_links kind (kept_links (filter_map (λ l. ends_of names (view l)) links)))
+parsed_links-fault names kind links known other = rw (list_any-map (λ l. is_none (ends_of names l)) view links, known, filter_map-map (ends_of names) view links, other) refl
 
 both_known : (n : ℕ) (a b : Option ℕ) (e : ℕ × ℕ) → ((i : ℕ) → a ≡ Some i → i < n) → ((i : ℕ) → b ≡ Some i → i < n) → known_pair a b ≡ Some e
     → is_unknown_link n e ≡ false
@@ -102,8 +74,16 @@ all_found h fails (x ∷ xs) each =
     ] refl
 
 -- links that were found are links of the nodes
-pub links_found : (names : List (List ℕ)) (links : List Value) → list_any (is_unknown_link (length names)) (filter_map (λ l. ends_of names (view l)) links) ≡ false
+links_found : (names : List (List ℕ)) (links : List Value) → list_any (is_unknown_link (length names)) (filter_map (λ l. ends_of names (view l)) links) ≡ false
 links_found names links = all_found (λ l. ends_of names (view l)) (is_unknown_link (length names)) links (λ l e. ends_known names (view l) e)
+
+-- links that were found, none from a node to itself, and a right amount are refused only as out of memory
+pub links_refused : (names : List (List ℕ)) (links : List Value) (amount : Type 0) (refusal : FaultError.the_data) → list_any is_self_link (filter_map (λ l. ends_of names (view l)) links) ≡ false
+    → amount → RefusesLinks (length names) (filter_map (λ l. ends_of names (view l)) links) amount refusal → refusal ≡ FaultError.OutOfMemory
+links_refused names links amount FaultError.UnknownNode other right refused = absurd (false≢true (sym (links_found names links) ∙ refused))
+links_refused names links amount FaultError.SelfLink other right refused = absurd (false≢true (sym other ∙ refused.1))
+links_refused names links amount FaultError.BadAmount other right refused = absurd (refused.1 right)
+links_refused names links amount FaultError.OutOfMemory other right refused = refl
 
 node_known : (names : List (List ℕ)) (v : Edn) (n : ℕ) → named_node names v ≡ Some n → is_unknown_node (length names) n ≡ false
 node_known names v n h =
@@ -124,22 +104,22 @@ placed names name ms (Some n) b at h =
 
 bump_known : (names : List (List ℕ)) (v : Edn × Edn) (b : ℕ × ℤ) → bump_of names v ≡ Some b → is_unknown_bump (length names) b ≡ false
 bump_known names v b h =
-    elim (bump_spelled v) as (λ o. option_and_then (λ said. option_map (λ node. (node, said.1)) (place_of names said.0)) o ≡ Some b → is_unknown_bump (length names) b ≡ false) [
+    elim (bump_spelled v) as (λ o. option_and_then (λ written. option_map (λ node. (node, written.1)) (place_of names written.0)) o ≡ Some b → is_unknown_bump (length names) b ≡ false) [
       | None ↦ λ h. absurd cc
-      | Some said ↦ λ h. placed names said.0 said.1 (place_of names said.0) b refl h
+      | Some written ↦ λ h. placed names written.0 written.1 (place_of names written.0) b refl h
     ] h
 
 pub bumps_found : (names : List (List ℕ)) (bumps : List (Value × Value)) → list_any (is_unknown_bump (length names)) (filter_map (λ b. bump_of names (view_pair b)) bumps) ≡ false
 bumps_found names bumps = all_found (λ b. bump_of names (view_pair b)) (is_unknown_bump (length names)) bumps (λ v b. bump_known names (view_pair v) b)
 
 -- a fault on nodes
-pub parsed_nodes-unknown : (names : List (List ℕ)) (effect : OnNodes) (nodes : List Value) → list_any (λ n. is_none (named_node names (view n))) nodes ≡ true
-    → parsed_nodes names effect (views nodes) ≡ Err UnknownNode
-parsed_nodes-unknown names effect nodes unknown = rw (list_any-map (λ n. is_none (named_node names n)) view nodes, unknown) refl
+pub parsed_nodes-unknown : (names : List (List ℕ)) (kind : NodeFault) (nodes : List Value) → list_any (λ n. is_none (named_node names (view n))) nodes ≡ true
+    → parsed_nodes names kind (views nodes) ≡ Err UnknownNode
+parsed_nodes-unknown names kind nodes unknown = rw (list_any-map (λ n. is_none (named_node names n)) view nodes, unknown) refl
 
-pub parsed_nodes-fault : (names : List (List ℕ)) (effect : OnNodes) (nodes : List Value) → list_any (λ n. is_none (named_node names (view n))) nodes ≡ false
-    → parsed_nodes names effect (views nodes) ≡ Ok (nodes_fault effect (filter_map (λ n. named_node names (view n)) nodes))
-parsed_nodes-fault names effect nodes known = rw (list_any-map (λ n. is_none (named_node names n)) view nodes, known, filter_map-map (named_node names) view nodes) refl
+pub parsed_nodes-fault : (names : List (List ℕ)) (kind : NodeFault) (nodes : List Value) → list_any (λ n. is_none (named_node names (view n))) nodes ≡ false
+    → parsed_nodes names kind (views nodes) ≡ Ok (fault_on_nodes kind (kept_nodes (filter_map (λ n. named_node names (view n)) nodes)))
+parsed_nodes-fault names kind nodes known = rw (list_any-map (λ n. is_none (named_node names n)) view nodes, known, filter_map-map (named_node names) view nodes) refl
 
 -- nodes that were found are refused only as out of memory
 pub nodes_refused : (names : List (List ℕ)) (nodes : List Value) (refusal : FaultError.the_data)

@@ -14,7 +14,8 @@ use Rattle.std.proofs.lemmas.Map.Made.{AllPairs-from_IsDistinct, IsDistinct-from
 use Rattle.std.proofs.lemmas.Option.{slice_get_within, get_or_from_slice_get}
 use Rattle.jh_grudge.specs.Lists.{AreDistinct, first_half, second_half, split_of}
 use Rattle.jh_grudge.specs.Grudges.{CutsExactly, IsAscending, JoinsTwoOf, CompleteDrops, BridgeDrops, RingDrops, nodes_beyond_bridge}
-use Rattle.jh_step_texts.specs.NamedFaults.{AreLinksAmong, node_places, links_that, crosses, crosses_halves, touches, crosses_bridge, leaves_majority, is_at, is_option_of}
+use Rattle.jh_env.specs.Names.{node_places}
+use Rattle.jh_step_texts.specs.NamedFaults.{AreLinksAmong, links_that, crosses, crosses_halves, touches, crosses_bridge, leaves_majority, is_at, is_option_of}
 use Rattle.jh_step_texts.proofs.LinkLemmas.{all_from, links_are, contains_none, contains_cons, kept, keeps, any_from, some_of_any, in_range, range_has, range_take, range_drop, in_links, links_have}
 
 first_is : (n : ℕ) → first_half (node_places n) ≡ range_with_len 0 (n / 2)

@@ -11,22 +11,24 @@ use Rattle.std.specs.List.{filter_map, list_all, list_any}
 use Rattle.std.specs.Str.{bytes_eq}
 use Rattle.jh_edn.specs.Edn.{Edn, int, str, keyword, mapping, elements_of, pairs_in}
 use Rattle.jh_env.specs.Faults.{FaultValue, kept_links, kept_nodes, is_self_link, is_same_bumped}
-use Rattle.jh_env.specs.Faults.{Cut, Slow, Loss, Fix, Pause, Kill, Bump}
+use Rattle.jh_env.specs.Faults.{Cut, Bump}
 use Rattle.jh_env.specs.TextErrors.{place_of}
 use Rattle.jh_env.specs.declared.faults.FaultError.TheVariants as FaultError
+use Rattle.jh_tables.specs.Plain.{fault_on_links, fault_on_nodes}
+use Rattle.jh_tables.specs.declared.faults.LinkFault.{LinkFault}
+use Rattle.jh_tables.specs.declared.faults.NodeFault.{NodeFault}
 use Rattle.jh_step_texts.specs.declared.steps.StepTextError.{StepTextError}
 use Rattle.jh_step_texts.specs.declared.steps.StepTextError.TheVariants.{UnknownNode, SelfLink}
 use Rattle.jh_step_texts.specs.declared.steps.StepTextError.TheVariants.{BadAmount, OutOfMemory}
 use Rattle.jh_step_texts.specs.NamedFaults.{links_that, named_links, touches, IsOverAll}
 use Rattle.jh_step_texts.specs.declared.shapes.Named.{Named}
-use Rattle.jh_step_texts.specs.declared.shapes.OnLinks.{OnLinks}
-use Rattle.jh_step_texts.specs.declared.shapes.OnNodes.{OnNodes}
 
--- a fault as it is spelled: what is done, and the values of its links, its nodes or its bumps; or
--- the loner's name; or the name of its grudge
+-- a fault as it is spelled: its kind, none where the amount is out of its range, and the values of
+-- its links; its kind and the values of its nodes; those of its bumps; or the loner's name; or the
+-- name of its grudge
 pub data FaultSpelling : Type 0 where
-  Links : OnLinks → List Edn → FaultSpelling
-  Nodes : OnNodes → List Edn → FaultSpelling
+  Links : Option LinkFault → List Edn → FaultSpelling
+  Nodes : NodeFault → List Edn → FaultSpelling
   Bumps : List (Edn × Edn) → FaultSpelling
   SplitOne : List ℕ → FaultSpelling
   Grudge : Named → FaultSpelling
@@ -79,20 +81,37 @@ shuffled_ring _ = None
 -- a keyword and what it is about
 abbrev pub plain_fault : List ℕ → Edn → Option FaultSpelling
 plain_fault name v =
-    if bytes_eq name (codes "cut") then option_map (Links OnLinks.Cut) (links_in v)
-    else if bytes_eq name (codes "pause") then option_map (Nodes OnNodes.Pause) (nodes_in v)
-    else if bytes_eq name (codes "kill") then option_map (Nodes OnNodes.Kill) (nodes_in v)
+    if bytes_eq name (codes "cut") then option_map (Links (Some LinkFault.Cut)) (links_in v)
+    else if bytes_eq name (codes "pause") then option_map (Nodes NodeFault.Pause) (nodes_in v)
+    else if bytes_eq name (codes "kill") then option_map (Nodes NodeFault.Kill) (nodes_in v)
     else if bytes_eq name (codes "bump") then option_map Bumps (bumps_in v)
     else if bytes_eq name (codes "split-one") then option_map SplitOne (node_name v)
     else if bytes_eq name (codes "ring") then shuffled_ring v
     else None
 
+-- an integer from the least to the most
+abbrev pub amount_within : ℕ → ℕ → ℤ → Option ℕ
+amount_within least most (pos n) = if nat_le least n && nat_le n most then Some n else None
+amount_within least most (negsuc n) = None
+
+-- the kind of a fault that slows by this amount, if it is 1 to 60,000 milliseconds
+abbrev pub slow_kind : ℤ → Option LinkFault
+slow_kind z = option_map LinkFault.Slow (amount_within 1 60000 z)
+
+-- the kind of a fault that loses at this amount, if it is a level of 1 to 20
+abbrev pub loss_kind : ℤ → Option LinkFault
+loss_kind z = option_map LinkFault.Loss (amount_within 1 20 z)
+
+-- the kind of a fault that fixes the delay at this amount, if it is 0 to 60,000 milliseconds
+abbrev pub fix_kind : ℤ → Option LinkFault
+fix_kind z = option_map LinkFault.Fix (amount_within 0 60000 z)
+
 -- a keyword, an amount and what it is about
 abbrev pub measured_fault : List ℕ → ℤ → Edn → Option FaultSpelling
 measured_fault name z v =
-    if bytes_eq name (codes "slow") then option_map (Links (OnLinks.Slow z)) (links_in v)
-    else if bytes_eq name (codes "loss") then option_map (Links (OnLinks.Loss z)) (links_in v)
-    else if bytes_eq name (codes "fix") then option_map (Links (OnLinks.Fix z)) (links_in v)
+    if bytes_eq name (codes "slow") then option_map (Links (slow_kind z)) (links_in v)
+    else if bytes_eq name (codes "loss") then option_map (Links (loss_kind z)) (links_in v)
+    else if bytes_eq name (codes "fix") then option_map (Links (fix_kind z)) (links_in v)
     else None
 
 abbrev pub spelling_in : List Edn → Option FaultSpelling
@@ -126,13 +145,8 @@ named_node names v = option_and_then (place_of names) (node_name v)
 -- the place of a node and by how much its clock is moved, where it is known
 abbrev pub bump_of : List (List ℕ) → Edn × Edn → Option (ℕ × ℤ)
 bump_of names b =
-    option_and_then (λ said. option_map (λ node. (node, said.1)) (place_of names said.0))
+    option_and_then (λ written. option_map (λ node. (node, written.1)) (place_of names written.0))
     (bump_spelled b)
-
--- an integer from the least to the most
-abbrev pub amount_within : ℕ → ℕ → ℤ → Option ℕ
-amount_within least most (pos n) = if nat_le least n && nat_le n most then Some n else None
-amount_within least most (negsuc n) = None
 
 -- some milliseconds, at most 10^9 either way
 abbrev pub is_bump_amount : ℤ → Bool
@@ -149,38 +163,24 @@ are_apart_after before (b ∷ bs) =
 abbrev pub are_bumps : List (ℕ × ℤ) → Bool
 are_bumps bumps = list_all (λ b. is_bump_amount b.1) bumps && are_apart_after [] bumps
 
--- the fault on these links, if its amount is in its range: 1 to 60,000 milliseconds, a level of 1
--- to 20, 0 to 60,000 milliseconds
-abbrev pub links_fault : OnLinks → List (ℕ × ℕ) → Option FaultValue
-links_fault OnLinks.Cut links = Some (Cut (kept_links links))
-links_fault (OnLinks.Slow z) links =
-    option_map (λ ms. Slow ms (kept_links links)) (amount_within 1 60000 z)
-links_fault (OnLinks.Loss z) links =
-    option_map (λ level. Loss level (kept_links links)) (amount_within 1 20 z)
-links_fault (OnLinks.Fix z) links =
-    option_map (λ ms. Fix ms (kept_links links)) (amount_within 0 60000 z)
-
-abbrev pub nodes_fault : OnNodes → List ℕ → FaultValue
-nodes_fault OnNodes.Pause nodes = Pause (kept_nodes nodes)
-nodes_fault OnNodes.Kill nodes = Kill (kept_nodes nodes)
-
 -- what follows from a part that has to be there, or else the refusal
 abbrev pub result_or_refusal : {A B : Type 0} → Option A → StepTextError
     → (A → Result B StepTextError) → Result B StepTextError
 result_or_refusal None refusal parsed = Err refusal
 result_or_refusal (Some part) refusal parsed = parsed part
 
-abbrev pub parsed_links : List (List ℕ) → OnLinks → List Edn → Result FaultValue StepTextError
-parsed_links names effect links =
+abbrev pub parsed_links : List (List ℕ) → Option LinkFault → List Edn
+    → Result FaultValue StepTextError
+parsed_links names kind links =
     if list_any (λ l. is_none (ends_of names l)) links then Err UnknownNode
     else if list_any is_self_link (filter_map (ends_of names) links) then Err SelfLink
-    else result_or_refusal (links_fault effect (filter_map (ends_of names) links)) BadAmount
-    (λ fault. Ok fault)
+    else result_or_refusal kind BadAmount
+    (λ kind. Ok (fault_on_links kind (kept_links (filter_map (ends_of names) links))))
 
-abbrev pub parsed_nodes : List (List ℕ) → OnNodes → List Edn → Result FaultValue StepTextError
-parsed_nodes names effect nodes =
+abbrev pub parsed_nodes : List (List ℕ) → NodeFault → List Edn → Result FaultValue StepTextError
+parsed_nodes names kind nodes =
     if list_any (λ n. is_none (named_node names n)) nodes then Err UnknownNode
-    else Ok (nodes_fault effect (filter_map (named_node names) nodes))
+    else Ok (fault_on_nodes kind (kept_nodes (filter_map (named_node names) nodes)))
 
 abbrev pub parsed_bumps : List (List ℕ) → List (Edn × Edn) → Result FaultValue StepTextError
 parsed_bumps names bumps =
@@ -206,8 +206,8 @@ parsed_named count named =
 -- node, a link of a node with itself, an amount or a seed out of range or a node that is bumped
 -- twice.
 abbrev pub parsed_fault : List (List ℕ) → FaultSpelling → Result FaultValue StepTextError
-parsed_fault names (Links effect links) = parsed_links names effect links
-parsed_fault names (Nodes effect nodes) = parsed_nodes names effect nodes
+parsed_fault names (Links kind links) = parsed_links names kind links
+parsed_fault names (Nodes kind nodes) = parsed_nodes names kind nodes
 parsed_fault names (Bumps bumps) = parsed_bumps names bumps
 parsed_fault names (SplitOne loner) = parsed_split names loner
 parsed_fault names (Grudge named) = parsed_named (length names) named

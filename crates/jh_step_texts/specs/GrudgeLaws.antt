@@ -2,8 +2,9 @@
 use Rattle.std.specs.Prelude.{ℕ, ◌<◌, List, [], ◌∷◌, IsPermutation}
 use Rattle.jh_grudge.specs.Lists.{first_half, second_half, split_of}
 use Rattle.jh_grudge.specs.Grudges.{CutsExactly, CompleteDrops, BridgeDrops, RingDrops}
-use Rattle.jh_step_texts.specs.NamedFaults.{node_places, links_that, crosses_halves, touches}
-use Rattle.jh_step_texts.specs.NamedFaults.{crosses_bridge, ring_links}
+use Rattle.jh_env.specs.Names.{node_places}
+use Rattle.jh_step_texts.specs.NamedFaults.{links_that, crosses_halves, touches, crosses_bridge}
+use Rattle.jh_step_texts.specs.NamedFaults.{ring_links}
 
 -- The halves of all nodes are the components of a complete grudge.
 abbrev pub HalvesAreComplete : Type 0

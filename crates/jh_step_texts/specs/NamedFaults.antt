@@ -11,11 +11,8 @@ use Rattle.rand_core.specs.Pcg32Seed.{pcg32_seed}
 use Rattle.rand_core.specs.Steps.{steps_u32, stream_of}
 use Rattle.rand_pcg.specs.Pcg.{pcg32, pcg32_of_seed}
 use Rattle.rand.specs.Shuffle.{shuffled}
+use Rattle.jh_env.specs.Names.{node_places}
 use Rattle.jh_step_texts.specs.declared.shapes.Named.{Named}
-
--- the places of n nodes, in order
-abbrev pub node_places : ℕ → List ℕ
-node_places n = range_with_len 0 n
 
 -- all pairs of places, by the first and then by the second
 abbrev pub all_pairs : ℕ → List (ℕ × ℕ)

@@ -1,13 +1,20 @@
 -- What a contract sees of a fault as a program reads it.
+use Rattle.std.specs.Prelude.{⊤, IfSome}
 use Rattle.jh_edn.specs.View.{views, view_pairs}
+use Rattle.jh_env.specs.Effects.{IsLinkAmount}
 use Rattle.jh_step_texts.specs.FaultText.{FaultSpelling}
 use Rattle.jh_step_texts.specs.FaultText.FaultSpelling.{Links, Nodes, Bumps, SplitOne, Grudge}
 use Rattle.jh_step_texts.specs.declared.shapes.Shape.{Shape}
 
 -- a fault, by the values that it borrows
 abbrev pub shape_spelling : Shape → FaultSpelling
-shape_spelling (Shape.Links effect links) = Links effect (views links.now)
-shape_spelling (Shape.Nodes effect nodes) = Nodes effect (views nodes.now)
+shape_spelling (Shape.Links kind links) = Links kind (views links.now)
+shape_spelling (Shape.Nodes kind nodes) = Nodes kind (views nodes.now)
 shape_spelling (Shape.Bumps bumps) = Bumps (view_pairs bumps.now)
 shape_spelling (Shape.SplitOne loner) = SplitOne loner.now
 shape_spelling (Shape.Grudge named) = Grudge named
+
+-- the amount of a fault of links, where it has a kind, is in its range
+abbrev pub IsRightSpelling : FaultSpelling → Type 0
+IsRightSpelling (Links kind links) = IfSome kind IsLinkAmount
+IsRightSpelling spelling = ⊤

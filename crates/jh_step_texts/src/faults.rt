@@ -1,20 +1,23 @@
 //! Faults as EDN values: which fault is parsed. `specs/FaultText.antt` has the rule, case by case.
 
-ghost use Rattle.std.specs.Prelude.{◌≡◌, ◌==◌, [], Some, IfOk, MatchResult, length, is_some};
-ghost use Rattle.std.specs.Prelude.{is_none, true};
+ghost use Rattle.std.specs.Prelude.{◌≡◌, ◌==◌, [], Some, IfOk, IfSome, MatchResult, length};
+ghost use Rattle.std.specs.Prelude.{is_none};
 ghost use Rattle.std.specs.List.{filter_map, list_all, list_any};
 ghost use Rattle.jh_edn.specs.View.{view, views, view_pair, view_pairs};
-ghost use Rattle.jh_env.specs.Faults.{FitsCount, AreLinksOf, RefusesNodes, is_self_link};
+ghost use Rattle.jh_tables.specs.Plain.{fault_on_links, fault_on_nodes};
+ghost use Rattle.jh_env.specs.Effects.{IsLinkAmount};
+ghost use Rattle.jh_env.specs.Faults.{FitsCount, RefusesLinks, RefusesNodes, is_self_link};
+ghost use Rattle.jh_env.specs.Faults.{kept_links, kept_nodes};
 ghost use Rattle.jh_step_texts.specs.FaultText as rule;
 ghost use Rattle.jh_step_texts.specs.FaultText.{IsParsedAs, IsRingOverAll, parsed_fault, parsed_links};
 ghost use Rattle.jh_step_texts.specs.FaultText.{parsed_nodes, parsed_bumps};
-ghost use Rattle.jh_step_texts.specs.ShapeInside.{shape_spelling};
+ghost use Rattle.jh_step_texts.specs.ShapeInside.{IsRightSpelling, shape_spelling};
 
 use crate::named::{named_fault, split_fault};
-use crate::shapes::{OnLinks, OnNodes, Shape, bump_spelled, link_names, node_name};
+use crate::shapes::{Shape, bump_spelled, link_names, node_name};
 use crate::steps::StepTextError;
 use jh_edn::Value;
-use jh_env::{Fault, FaultError, MAX_BUMPED, MAX_FIXED, MAX_LOSS, MAX_SLOWED, Node, Nodes};
+use jh_env::{Fault, FaultError, LinkFault, MAX_BUMPED, Node, NodeFault, Nodes};
 use std::alloc::{AllocError, Global};
 
 /// The nodes of a link, where both are known.
@@ -109,18 +112,6 @@ fn all_bumps(
         .collect(alloc)
 }
 
-/// Whether the amount is in its range.
-fn is_right(effect: OnLinks) -> bool
-    ensures { result ≡ is_some (rule.links_fault effect []) }
-{
-    match effect {
-        OnLinks::Cut => true,
-        OnLinks::Slow(ms) => ms >= 1 && ms <= MAX_SLOWED as i64,
-        OnLinks::Loss(level) => level >= 1 && level <= i64::from(MAX_LOSS),
-        OnLinks::Fix(ms) => ms >= 0 && ms <= MAX_FIXED as i64,
-    }
-}
-
 /// Whether the amount of a bump is in its range.
 fn is_bump_amount(ms: i64) -> bool
     ensures { result ≡ rule.is_bump_amount ms }
@@ -169,53 +160,54 @@ fn are_apart(nodes: &Nodes, bumps: &[(Value, Value)]) -> bool
     true
 }
 
-/// The fault on these links. An amount that does not fit its type becomes one that is out of range.
+/// The fault of this kind on these links.
 fn links_fault(
     alloc: Global,
     nodes: &Nodes,
-    effect: OnLinks,
+    kind: LinkFault,
     ends: &[(Node, Node)],
 ) -> Result<Fault, FaultError>
     ensures made { MatchResult result
-        (λ fault. rule.links_fault effect ends.now ≡ Some fault)
-        (λ e. AreLinksOf (length nodes.now) ends.now → is_some (rule.links_fault effect []) ≡ true
-        → e ≡ FaultError.OutOfMemory) }
+        (λ fault. fault ≡ fault_on_links kind (kept_links ends.now))
+        (RefusesLinks (length nodes.now) ends.now (IsLinkAmount kind)) }
     ensures fits { IfOk result (FitsCount (length nodes.now)) }
 {
-    match effect {
-        OnLinks::Cut => Fault::cut(alloc, nodes, ends),
-        OnLinks::Slow(ms) => Fault::slow(alloc, nodes, ends, u64::try_from(ms).unwrap_or(0)),
-        OnLinks::Loss(level) => Fault::loss(alloc, nodes, ends, u8::try_from(level).unwrap_or(0)),
-        OnLinks::Fix(ms) => Fault::fix(alloc, nodes, ends, u64::try_from(ms).unwrap_or(u64::MAX)),
+    match kind {
+        LinkFault::Cut => Fault::cut(alloc, nodes, ends),
+        LinkFault::Slow(ms) => Fault::slow(alloc, nodes, ends, ms),
+        LinkFault::Loss(level) => Fault::loss(alloc, nodes, ends, level),
+        LinkFault::Fix(ms) => Fault::fix(alloc, nodes, ends, ms),
     }
 }
 
-/// The fault on these nodes.
+/// The fault of this kind on these nodes.
 fn nodes_fault(
     alloc: Global,
     nodes: &Nodes,
-    effect: OnNodes,
+    kind: NodeFault,
     places: &[Node],
 ) -> Result<Fault, FaultError>
     ensures made { MatchResult result
-        (λ fault. fault ≡ rule.nodes_fault effect places.now)
+        (λ fault. fault ≡ fault_on_nodes kind (kept_nodes places.now))
         (RefusesNodes (length nodes.now) places.now) }
     ensures fits { IfOk result (FitsCount (length nodes.now)) }
 {
-    match effect {
-        OnNodes::Pause => Fault::pause(alloc, nodes, places),
-        OnNodes::Kill => Fault::kill(alloc, nodes, places),
+    match kind {
+        NodeFault::Pause => Fault::pause(alloc, nodes, places),
+        NodeFault::Kill => Fault::kill(alloc, nodes, places),
     }
 }
 
-/// All is judged before memory is asked for.
+/// The fault of this kind on the links that are spelled, or why it is refused. All is judged before
+/// memory is asked for.
 fn on_links(
     alloc: Global,
     nodes: &Nodes,
-    effect: OnLinks,
+    kind: Option<LinkFault>,
     links: &[Value],
 ) -> Result<Fault, StepTextError>
-    ensures parsed { IsParsedAs result (parsed_links nodes.now effect (views links.now)) }
+    requires { IfSome kind IsLinkAmount }
+    ensures parsed { IsParsedAs result (parsed_links nodes.now kind (views links.now)) }
     ensures fits { IfOk result (FitsCount (length nodes.now)) }
 {
     if is_any_end_unknown(nodes, links) {
@@ -224,26 +216,26 @@ fn on_links(
     if is_any_self(nodes, links) {
         return Err(StepTextError::SelfLink);
     }
-    if !is_right(effect) {
+    let Some(kind) = kind else {
         return Err(StepTextError::BadAmount);
-    }
+    };
     let Ok(ends) = all_ends(alloc, nodes, links) else {
         return Err(StepTextError::OutOfMemory);
     };
-    match links_fault(alloc, nodes, effect, &ends) {
+    match links_fault(alloc, nodes, kind, &ends) {
         Ok(fault) => Ok(fault),
         Err(refusal) => Err(StepTextError::from(refusal)),
     }
 }
 
-/// The fault on the nodes that are named, or why it is refused.
+/// The fault of this kind on the nodes that are named, or why it is refused.
 fn on_nodes(
     alloc: Global,
     nodes: &Nodes,
-    effect: OnNodes,
+    kind: NodeFault,
     named: &[Value],
 ) -> Result<Fault, StepTextError>
-    ensures parsed { IsParsedAs result (parsed_nodes nodes.now effect (views named.now)) }
+    ensures parsed { IsParsedAs result (parsed_nodes nodes.now kind (views named.now)) }
     ensures fits { IfOk result (FitsCount (length nodes.now)) }
 {
     if is_any_node_unknown(nodes, named) {
@@ -252,7 +244,7 @@ fn on_nodes(
     let Ok(places) = all_nodes(alloc, nodes, named) else {
         return Err(StepTextError::OutOfMemory);
     };
-    match nodes_fault(alloc, nodes, effect, &places) {
+    match nodes_fault(alloc, nodes, kind, &places) {
         Ok(fault) => Ok(fault),
         Err(refusal) => Err(StepTextError::from(refusal)),
     }
@@ -280,14 +272,15 @@ fn of_bumps(alloc: Global, nodes: &Nodes, bumps: &[(Value, Value)]) -> Result<Fa
 
 /// The fault of this shape, if its nodes are known and its amounts are in their ranges.
 pub fn fault_of(alloc: Global, nodes: &Nodes, shape: Shape) -> Result<Fault, StepTextError>
+    requires { IsRightSpelling (shape_spelling shape) }
     ensures parsed { IsParsedAs result (parsed_fault nodes.now (shape_spelling shape.entry)) }
     ensures ring { IfOk result
         (λ _. IsRingOverAll (length nodes.now) (Some (shape_spelling shape.entry))) }
     ensures fits { IfOk result (FitsCount (length nodes.now)) }
 {
     match shape {
-        Shape::Links(effect, links) => on_links(alloc, nodes, effect, links),
-        Shape::Nodes(effect, named) => on_nodes(alloc, nodes, effect, named),
+        Shape::Links(kind, links) => on_links(alloc, nodes, kind, links),
+        Shape::Nodes(kind, named) => on_nodes(alloc, nodes, kind, named),
         Shape::Bumps(bumps) => of_bumps(alloc, nodes, bumps),
         Shape::SplitOne(loner) => split_fault(alloc, nodes, loner),
         Shape::Grudge(named) => named_fault(alloc, nodes, named),

@@ -4,6 +4,7 @@
 ghost use Rattle.std.specs.Prelude.{◌≡◌, ◌<◌, IfOk, IfSome, IsPermutation, IsSome, MatchOption};
 ghost use Rattle.std.specs.Prelude.{MatchResult, None, Some, length};
 ghost use Rattle.jh_env.specs.Faults.{FitsCount};
+ghost use Rattle.jh_env.specs.Names.{node_places};
 ghost use Rattle.jh_step_texts.specs.FaultText.{IsParsedAs, cut_of, parsed_named, parsed_split};
 ghost use Rattle.jh_step_texts.specs.declared.steps.StepTextError.TheVariants.{OutOfMemory};
 ghost use Rattle.jh_step_texts.specs.NamedFaults.{
@@ -14,7 +15,6 @@ ghost use Rattle.jh_step_texts.specs.NamedFaults.{
   links_that,
   named_links,
   seeded_order,
-  node_places,
   ring_links,
   touches,
 };
@@ -28,20 +28,13 @@ use rand::seq::SliceRandom;
 use rand_pcg::Lcg64Xsh32;
 use std::alloc::{AllocError, Global};
 
-/// How many nodes there are.
-fn count(nodes: &Nodes) -> u8
-    ensures { result ≡ length nodes.now }
-{
-    nodes.len() as u8
-}
-
 /// The places of all nodes, in order.
 fn all_places(alloc: Global, nodes: &Nodes) -> Result<Vec<u8>, AllocError>
     ensures { IfOk result (λ all. all.items ≡ node_places (length nodes.now)) }
 {
     let mut all = Vec::new(alloc);
-    for place in 0..count(nodes) {
-        all.push(place)?;
+    for node in nodes.all().as_slice() {
+        all.push(node.place())?;
     }
     Ok(all)
 }
@@ -119,8 +112,8 @@ fn shuffled_ring(alloc: Global, nodes: &Nodes, seed: u64) -> Result<Grudge, Allo
     ensures links { IfOk result (λ grudge. grudge
         ≡ ring_links (seeded_order seed (length nodes.now)) (length nodes.now)) }
     ensures among { IfOk result (AreLinksAmong (length nodes.now)) }
-    ensures all { IfOk result
-        (λ _. IsPermutation (node_places (length nodes.now)) (seeded_order seed (length nodes.now))) }
+    ensures all { IfOk result (λ _. IsPermutation (node_places (length nodes.now))
+        (seeded_order seed (length nodes.now))) }
 {
     let order = ring_order(alloc, nodes, seed)?;
     ring(alloc, nodes, &order)

@@ -1,28 +1,13 @@
 //! Faults as EDN values: how they are spelled. `specs/FaultText.antt` has the rule, case by case.
 
-ghost use Rattle.std.specs.Prelude.{◌≡◌, option_map, is_some};
+ghost use Rattle.std.specs.Prelude.{◌≡◌, IfSome, option_map, is_some};
 ghost use Rattle.std.specs.List.{list_all};
 ghost use Rattle.jh_edn.specs.View.{view, views, view_pair, view_pairs};
 ghost use Rattle.jh_step_texts.specs.FaultText as rule;
-ghost use Rattle.jh_step_texts.specs.ShapeInside.{shape_spelling};
+ghost use Rattle.jh_step_texts.specs.ShapeInside.{IsRightSpelling, shape_spelling};
 
 use jh_edn::Value;
-
-/// What is done to links, with its amount as it is written.
-#[derive(Clone, Copy, Debug, PartialEq, Eq)]
-pub enum OnLinks {
-    Cut,
-    Slow(i64),
-    Loss(i64),
-    Fix(i64),
-}
-
-/// What is done to nodes.
-#[derive(Clone, Copy, Debug, PartialEq, Eq)]
-pub enum OnNodes {
-    Pause,
-    Kill,
-}
+use jh_env::{LinkFault, MAX_FIXED, MAX_LOSS, MAX_SLOWED, NodeFault};
 
 /// A cut that is named by its grudge over all nodes.
 #[derive(Clone, Copy, Debug, PartialEq, Eq)]
@@ -35,11 +20,12 @@ pub enum Named {
 }
 
 /// A fault as it is spelled: the values of its links, its nodes or its bumps, each of the right
-/// shape, or the name of the node that is split off, or the name of its grudge.
+/// shape, or the name of the node that is split off, or the name of its grudge. A fault of links
+/// has no kind where its amount is out of its range.
 #[derive(Clone, Copy, Debug)]
 pub enum Shape<'a> {
-    Links(OnLinks, &'a [Value]),
-    Nodes(OnNodes, &'a [Value]),
+    Links(Option<LinkFault>, &'a [Value]),
+    Nodes(NodeFault, &'a [Value]),
     Bumps(&'a [(Value, Value)]),
     SplitOne(&'a str),
     Grudge(Named),
@@ -194,13 +180,49 @@ fn plain_fault<'a>(name: &str, value: &'a Value) -> Option<Shape<'a>>
     ensures { option_map shape_spelling result ≡ rule.plain_fault name.now (view value.now) }
 {
     match name {
-        "cut" => Some(Shape::Links(OnLinks::Cut, links_in(value)?)),
-        "pause" => Some(Shape::Nodes(OnNodes::Pause, nodes_in(value)?)),
-        "kill" => Some(Shape::Nodes(OnNodes::Kill, nodes_in(value)?)),
+        "cut" => Some(Shape::Links(Some(LinkFault::Cut), links_in(value)?)),
+        "pause" => Some(Shape::Nodes(NodeFault::Pause, nodes_in(value)?)),
+        "kill" => Some(Shape::Nodes(NodeFault::Kill, nodes_in(value)?)),
         "bump" => Some(Shape::Bumps(bumps_in(value)?)),
         "split-one" => Some(Shape::SplitOne(node_name(value)?)),
         "ring" => shuffled_ring(value),
         _ => None,
+    }
+}
+
+/// The kind of a fault that slows by this amount, if it is in its range.
+fn slow_kind(amount: i64) -> Option<LinkFault>
+    ensures { result ≡ rule.slow_kind amount }
+{
+    let ms = u64::try_from(amount).ok()?;
+    if ms >= 1 && ms <= MAX_SLOWED {
+        Some(LinkFault::Slow(ms))
+    } else {
+        None
+    }
+}
+
+/// The kind of a fault that loses at this amount, if it is in its range.
+fn loss_kind(amount: i64) -> Option<LinkFault>
+    ensures { result ≡ rule.loss_kind amount }
+{
+    let level = u8::try_from(amount).ok()?;
+    if level >= 1 && level <= MAX_LOSS {
+        Some(LinkFault::Loss(level))
+    } else {
+        None
+    }
+}
+
+/// The kind of a fault that fixes the delay at this amount, if it is in its range.
+fn fix_kind(amount: i64) -> Option<LinkFault>
+    ensures { result ≡ rule.fix_kind amount }
+{
+    let ms = u64::try_from(amount).ok()?;
+    if ms <= MAX_FIXED {
+        Some(LinkFault::Fix(ms))
+    } else {
+        None
     }
 }
 
@@ -210,16 +232,17 @@ fn measured_fault<'a>(name: &str, amount: i64, value: &'a Value) -> Option<Shape
         ≡ rule.measured_fault name.now amount (view value.now) }
 {
     match name {
-        "slow" => Some(Shape::Links(OnLinks::Slow(amount), links_in(value)?)),
-        "loss" => Some(Shape::Links(OnLinks::Loss(amount), links_in(value)?)),
-        "fix" => Some(Shape::Links(OnLinks::Fix(amount), links_in(value)?)),
+        "slow" => Some(Shape::Links(slow_kind(amount), links_in(value)?)),
+        "loss" => Some(Shape::Links(loss_kind(amount), links_in(value)?)),
+        "fix" => Some(Shape::Links(fix_kind(amount), links_in(value)?)),
         _ => None,
     }
 }
 
 /// How a value spells a fault, if it does.
 pub fn shape_of(fault: &Value) -> Option<Shape<'_>>
-    ensures { option_map shape_spelling result ≡ rule.fault_spelling (view fault.now) }
+    ensures spelled { option_map shape_spelling result ≡ rule.fault_spelling (view fault.now) }
+    ensures right { IfSome result (λ shape. IsRightSpelling (shape_spelling shape)) }
 {
     match fault.elements()? {
         [Value::Keyword(name)] => named_fault(name.as_str()),

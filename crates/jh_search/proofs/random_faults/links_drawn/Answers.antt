@@ -1,7 +1,8 @@
 use Rattle.std.proofs.Common.{◌%◌, ℕ, List, length, subst, sym, ap, ◌∙◌, arith}
 use Rattle.std.specs.Prelude.{IsPermutation}
 use Rattle.std.proofs.lemmas.Result.{IfOk-weaker}
-use Rattle.jh_step_texts.specs.NamedFaults.{AreLinksAmong, node_places}
+use Rattle.jh_env.specs.Names.{node_places}
+use Rattle.jh_step_texts.specs.NamedFaults.{AreLinksAmong}
 use Rattle.jh_step_texts.proofs.GrudgeLemmas.{order_long}
 use Rattle.jh_search.specs.RandomFaults.{links_named}
 use Rattle.jh_search.proofs.random_faults.links_drawn.Goals as goal

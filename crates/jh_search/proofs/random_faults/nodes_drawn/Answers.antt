@@ -2,7 +2,7 @@ use Rattle.std.proofs.Common.{length, sym, subst, ◌∙◌, ap, arith}
 use lib.Seq.{length-take-le}
 use Rattle.std.specs.Prelude.{IsPermutation}
 use Rattle.std.proofs.lemmas.Result.{IfOk-weaker}
-use Rattle.jh_step_texts.specs.NamedFaults.{node_places}
+use Rattle.jh_env.specs.Names.{node_places}
 use Rattle.jh_step_texts.proofs.GrudgeLemmas.{order_long}
 use Rattle.jh_search.specs.FaultsInside.{AreNodesOf}
 use Rattle.jh_search.proofs.FaultLemmas.{taken_nodes}

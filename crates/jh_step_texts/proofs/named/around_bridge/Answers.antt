@@ -1,6 +1,7 @@
 use Rattle.std.proofs.Common.{◌≡◌, length, ◌∙◌}
 use Rattle.jh_grudge.specs.Grudges.{BridgeDrops}
-use Rattle.jh_step_texts.specs.NamedFaults.{crosses_bridge, node_places}
+use Rattle.jh_env.specs.Names.{node_places}
+use Rattle.jh_step_texts.specs.NamedFaults.{crosses_bridge}
 use Rattle.jh_step_texts.proofs.GrudgeLemmas.{places_apart, places_below, bridge_exact, made_of, made_among}
 use Rattle.jh_step_texts.proofs.named.around_bridge.Goals as goal
 

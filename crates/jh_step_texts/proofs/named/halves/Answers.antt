@@ -3,7 +3,8 @@ use Rattle.std.specs.Prelude.{nat_lt}
 use Rattle.std.proofs.lemmas.List.{append-nil}
 use Rattle.jh_grudge.specs.Grudges.{CompleteDrops}
 use Rattle.jh_grudge.specs.Lists.{first_half, second_half}
-use Rattle.jh_step_texts.specs.NamedFaults.{crosses_halves, node_places}
+use Rattle.jh_env.specs.Names.{node_places}
+use Rattle.jh_step_texts.specs.NamedFaults.{crosses_halves}
 use Rattle.jh_step_texts.proofs.GrudgeLemmas.{places_apart, halves_exact, made_of, made_crossing}
 use Rattle.jh_step_texts.proofs.named.halves.Goals as goal
 

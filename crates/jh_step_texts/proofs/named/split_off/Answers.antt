@@ -3,7 +3,8 @@ use Rattle.std.specs.Prelude.{◌==◌}
 use Rattle.std.specs.List.{Contains}
 use Rattle.jh_grudge.specs.Grudges.{CompleteDrops}
 use Rattle.jh_grudge.specs.Lists.{split_of, lists_of, AreDistinct}
-use Rattle.jh_step_texts.specs.NamedFaults.{touches, node_places}
+use Rattle.jh_env.specs.Names.{node_places}
+use Rattle.jh_step_texts.specs.NamedFaults.{touches}
 use Rattle.jh_step_texts.proofs.LinkLemmas.{range_has}
 use Rattle.jh_step_texts.proofs.GrudgeLemmas.{places_apart, split_exact, made_of, made_crossing}
 use Rattle.jh_step_texts.proofs.named.split_off.Goals as goal
