@@ -1,11 +1,12 @@
 -- Characters, as a loop over none of them reads one.
-use Rattle.std.proofs.Common.{◌≡◌, ℕ, suc, ◌+◌, ◌-◌, ◌<◌, ◌≤◌, ◌^◌, inl, inr, true, false, cond, List, [], ◌∷◌, ◌++◌, length, take, drop, get_or, Option, Some, None, refl, sym, ap, subst, ◌∙◌, arith}
+use Rattle.std.proofs.Common.{◌≡◌, ℕ, ◌+◌, ◌-◌, ◌<◌, ◌≤◌, ◌^◌, inl, inr, true, false, cond, List, [], ◌∷◌, ◌++◌, length, take, drop, get_or, Option, Some, None, refl, sym, ap, subst, ◌∙◌, arith}
 use Rattle.std.specs.Prelude.{slice_get, chars, encode_utf8, not, SomeIff, MatchOption, ◌*◌, ◌≢◌}
 use Rattle.std.specs.Char.{IsScalar, InScalarRange, OutOfScalarRange, digit_value}
 use Rattle.std.specs.Str.{IsUtf8}
-use Rattle.std.specs.List.{slice_range}
+use Rattle.std.specs.List.{slice_range, prefix_len}
 use Rattle.std.specs.Str.Parse.{digits_value}
 use lib.Utf8.{scalar, scalars}
+use Rattle.std.proofs.lemmas.List.Folds.{length-prefix_len}
 use Rattle.std.proofs.lemmas.Str.{chars-encodes}
 use Rattle.std.proofs.lemmas.Bool.{ltb-true}
 use Rattle.std.proofs.lemmas.Grind.{common_steps}
@@ -13,25 +14,25 @@ use Rattle.jh_edn.specs.Spelling.{is_surrogate, char_numbered}
 use Rattle.jh_edn.proofs.NumberLemmas.{and_both}
 use Rattle.jh_edn.proofs.ReadTokenLemmas.{chosen}
 use Rattle.std.proofs.lemmas.List.{drop_at}
-use Rattle.jh_edn.specs.Bytes.{is_hex, is_token_byte, leading_len}
+use Rattle.jh_edn.specs.Bytes.{is_hex, is_token_byte}
 use Rattle.jh_edn.specs.Reading.{token_of, atom_or_error, char_value, lone_char, char_spelled, char_of, character_at, character}
 use Rattle.jh_edn.proofs.TokenReadsLemmas.{char_begins}
 use Rattle.jh_edn.proofs.TextFrontLemmas.{take_past}
 
 -- the character behind the backslash, and what stands behind it
 pub gives : (s t after : List ℕ) (first : ℕ) (found : Option ℕ) → t ≡ drop 1 s → slice_get (chars t) 0 ≡ Some first → t ≡ encode_utf8 first ++ after → IsScalar first
-    → found ≡ char_of first (token_of after) → character s ≡ atom_or_error (char_value found) s (drop (leading_len is_token_byte after) after)
+    → found ≡ char_of first (token_of after) → character s ≡ atom_or_error (char_value found) s (drop (prefix_len is_token_byte after) after)
 unfolding character
 gives s t after first found is one parts scalar e =
     let front = encode_utf8 first in
     let behind : drop (length front) (front ++ after) ≡ after = drop_at front after (length front) refl in
-    let there : character_at (Some first) s (front ++ after) ≡ atom_or_error (char_value found) s (drop (leading_len is_token_byte after) after) = rw (char_begins first after scalar, behind, e) refl in
+    let there : character_at (Some first) s (front ++ after) ≡ atom_or_error (char_value found) s (drop (prefix_len is_token_byte after) after) = rw (char_begins first after scalar, behind, e) refl in
     ap (λ (w : List ℕ). character_at (slice_get (chars w) 0) s w) (sym is)
     ∙ ap (λ (o : Option ℕ). character_at o s t) one
     ∙ ap (character_at (Some first) s) parts
     ∙ there
 
-pub char_alone : (c : ℕ) (after : List ℕ) → leading_len is_token_byte after ≡ 0 → char_of c (token_of after) ≡ lone_char c
+pub char_alone : (c : ℕ) (after : List ℕ) → prefix_len is_token_byte after ≡ 0 → char_of c (token_of after) ≡ lone_char c
 unfolding char_of
 char_alone c after e = rw e refl
 
@@ -44,21 +45,16 @@ head_scalar : (cs : List ℕ) (c : ℕ) → scalars cs ≡ true → slice_get cs
 head_scalar [] c h e = absurd cc
 head_scalar (d ∷ cs) c h e = let same : d ≡ c = cc in subst IsScalar same (and_both (scalar d) (scalars cs) h).0
 
-token_some : (s : List ℕ) → leading_len is_token_byte s ≢ 0 → 0 < length (token_of s)
-token_some [] h = absurd (h refl)
-token_some (c ∷ s) h =
-    elim (is_token_byte c) as (λ b. cond b (suc (leading_len is_token_byte s)) 0 ≢ 0 → 0 < length (take (cond b (suc (leading_len is_token_byte s)) 0) (c ∷ s))) [
-      | true ↦ λ k. omega arith
-      | false ↦ λ k. absurd (k refl)
-    ] h
+token_some : (s : List ℕ) → prefix_len is_token_byte s ≢ 0 → 0 < length (token_of s)
+token_some s h = omega (arith, length-prefix_len is_token_byte s, h)
 
 -- the character and the token behind it, as a slice has them
-pub by_name : (c : ℕ) (t after name : List ℕ) (m n : ℕ) (found : Option ℕ) → t ≡ encode_utf8 c ++ after → name ≡ slice_range t 0 (m + n) → m ≡ length (encode_utf8 c) → n ≡ leading_len is_token_byte after → n ≢ 0
+pub by_name : (c : ℕ) (t after name : List ℕ) (m n : ℕ) (found : Option ℕ) → t ≡ encode_utf8 c ++ after → name ≡ slice_range t 0 (m + n) → m ≡ length (encode_utf8 c) → n ≡ prefix_len is_token_byte after → n ≢ 0
     → found ≡ char_spelled name → found ≡ char_of c (token_of after)
 by_name c t after name m n found parts is e f some h =
     let front = encode_utf8 c in
-    let k : m + n - 0 ≡ length front + leading_len is_token_byte after = omega (arith, e, f) in
-    let whole : name ≡ front ++ token_of after = is ∙ ap (λ (i : ℕ). take i t) k ∙ ap (take (length front + leading_len is_token_byte after)) parts ∙ take_past front after (leading_len is_token_byte after) in
+    let k : m + n - 0 ≡ length front + prefix_len is_token_byte after = omega (arith, e, f) in
+    let whole : name ≡ front ++ token_of after = is ∙ ap (λ (i : ℕ). take i t) k ∙ ap (take (length front + prefix_len is_token_byte after)) parts ∙ take_past front after (prefix_len is_token_byte after) in
     h ∙ sym (char_called c (token_of after) name (token_some after (λ z. some (f ∙ z))) whole)
 
 -- the first character of a text is one

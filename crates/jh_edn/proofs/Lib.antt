@@ -1,5 +1,6 @@
 pub mod SequenceLemmas
 pub mod TextFrontLemmas
+pub mod PrefixLemmas
 pub mod StringBodyLemmas
 pub mod NumberLemmas
 pub mod SortLemmas

@@ -4,11 +4,13 @@ use Rattle.std.specs.Prelude.{ℤ, pos, negsuc, FitsSigned, ◌&&◌, ◌||◌}
 use Rattle.std.specs.Int.{w64}
 use Rattle.std.specs.Str.Parse.{IsNumeral, AllDigits, signed_digits_value, without_leading_sign}
 use Rattle.std.specs.Char.{digit_value}
+use Rattle.std.specs.List.{prefix_len}
 use Rattle.std.proofs.lemmas.Bool.{ltb-true}
 use Rattle.std.proofs.lemmas.Grind.{common_steps}
 use Rattle.std.proofs.lemmas.List.{take_all, length-drop}
-use Rattle.jh_edn.specs.Bytes.{plus, minus, is_digit, leading_len}
+use Rattle.jh_edn.specs.Bytes.{plus, minus, is_digit}
 use Rattle.jh_edn.specs.Reading.{magnitude, sign_len, digits_len, digits_end, begins_number}
+use Rattle.jh_edn.proofs.PrefixLemmas.{prefix_len-cases}
 
 digit_below : (c : ℕ) → is_digit c ≡ true → digit_value c < 10
 unfolding is_digit
@@ -19,13 +21,10 @@ and_both true b h = (refl, h)
 and_both false b h = absurd cc
 
 -- the first digits are digits
-pub digits_lead : (s : List ℕ) → AllDigits 10 (take (leading_len is_digit s) s)
+pub digits_lead : (s : List ℕ) → AllDigits 10 (take (prefix_len is_digit s) s)
 digits_lead [] = tt
 digits_lead (c ∷ s) =
-    elim (is_digit c) as (λ b. is_digit c ≡ b → AllDigits 10 (take (cond b (suc (leading_len is_digit s)) 0) (c ∷ s))) [
-      | true ↦ λ e. (digit_below c e, digits_lead s)
-      | false ↦ λ e. tt
-    ] refl
+    prefix_len-cases is_digit (λ n. AllDigits 10 (take n (c ∷ s))) c s (λ e. (digit_below c e, digits_lead s)) (λ e. tt)
 
 pub sign_or : (s : List ℕ) (p q : Bool) → drop (cond (p || q) 1 0) s ≡ cond q (drop 1 s) (drop (cond p 1 0) s)
 sign_or s true true = refl
@@ -51,7 +50,7 @@ cut_unsigned [] zero = refl
 cut_unsigned [] (suc n) = let k : 0 + suc n ≡ suc n = omega arith in rw k refl
 cut_unsigned (c ∷ s) n = cut_by c s n (eqb c plus) (eqb c minus) refl refl
 
-first_leads : (s : List ℕ) → is_digit (get_or s 0 0) ≡ true → (0 < leading_len is_digit s) × (0 < length s)
+first_leads : (s : List ℕ) → is_digit (get_or s 0 0) ≡ true → (0 < prefix_len is_digit s) × (0 < length s)
 unfolding is_digit
 first_leads [] h = absurd cc
 first_leads (c ∷ s) h = rw h (omega arith, omega arith)
@@ -66,7 +65,7 @@ pub numeral_cut : (token : List ℕ) → begins_number token ≡ true → IsNume
 numeral_cut token h =
     let s = drop (sign_len token) token in
     let some = first_leads s h in
-    rw (cut_unsigned token (digits_len token)) (length_cut (leading_len is_digit s) s some.0 some.1, digits_lead s)
+    rw (cut_unsigned token (digits_len token)) (length_cut (prefix_len is_digit s) s some.0 some.1, digits_lead s)
 
 pub fits_from : (z : ℤ) → ltb (magnitude z) (2 ^ 63) ≡ true → FitsSigned w64 z
 fits_from (pos n) h = record { sfits = ltb-true _ _ h }

@@ -1,7 +1,8 @@
 -- What is read is spelled so.
-use Rattle.std.proofs.Common.{◌≡◌, ℕ, zero, suc, ◌+◌, ◌⊎◌, inl, inr, true, false, cond, eqb, List, [], ◌∷◌, ◌++◌, length, drop, get_or, Option, Some, None, Result, Ok, Err, refl, sym, ap, subst, ◌∙◌, append_assoc, arith}
+use Rattle.std.proofs.Common.{◌≡◌, ℕ, zero, suc, ◌⊎◌, inl, inr, true, false, cond, eqb, List, [], ◌∷◌, ◌++◌, length, drop, get_or, Option, Some, None, Result, Ok, Err, refl, sym, ap, subst, ◌∙◌, append_assoc, arith}
 use Rattle.std.specs.Prelude.{◌&&◌, slice_get, chars, encode_utf8, codes}
 use Rattle.std.specs.Str.{bytes_eq}
+use Rattle.std.specs.List.{prefix_len}
 use Rattle.std.proofs.lemmas.Grind.{common_steps}
 use Rattle.std.proofs.lemmas.Bool.{eqb-true}
 use Rattle.std.proofs.lemmas.List.{take-append-drop}
@@ -9,7 +10,7 @@ use Rattle.jh_edn.specs.declared.syntax_error.SyntaxError.{SyntaxError}
 use Rattle.jh_edn.specs.declared.syntax_error.Kind.{Kind}
 use Rattle.jh_edn.specs.declared.syntax_error.Kind.TheVariants.{BadToken}
 use Rattle.jh_edn.specs.Edn.{Edn, nil, boolean, str, keyword, symbol, list, vector, mapping, set, tagged, Items, items_of, members_of}
-use Rattle.jh_edn.specs.Bytes.{open_paren, close_paren, quote, backslash, colon, open_bracket, close_bracket, open_brace, close_brace, semicolon, hash, underscore, line_feed, begins_discard, is_space, is_token_byte, leading_len}
+use Rattle.jh_edn.specs.Bytes.{open_paren, close_paren, quote, backslash, colon, open_bracket, close_bracket, open_brace, close_brace, semicolon, hash, underscore, line_feed, begins_discard, is_space, is_token_byte}
 use Rattle.jh_edn.specs.Spelling.{is_name, is_symbol_name, is_tag, BeginsNoToken, IsLine, EndsLine, BeginsWithGap, nothing, white, comment, discard, Inner, SpellsElements, SpellsFront, grammar_around, inside}
 use Rattle.jh_edn.specs.Reading.{◌>>=◌, syntax_error, read_with_front, body, token_of, begins_number, number_of, int_value, constant_of, constant_or_symbol, char_of, char_value, begins_char, char_before, character_at, character, set_or_error, hash_element, atom_of, atom, Read, DeeperReads, text_after_blank, text_after_comment, element, gap_turns, gap_in, items_step, items, deeper_reads, gap, read, pairs_of, map_or_error}
 use Rattle.jh_edn.proofs.NumberLemmas.{and_both}
@@ -73,8 +74,8 @@ module _ (deep : DeeperReads) (inner : Inner) where
   atom_sound : (s : List ℕ) (x : Edn) (r : List ℕ) → atom s ≡ Ok (x, r) → SpellsFront inner x s r
   unfolding atom
   atom_sound s x r e =
-      let p = placed_ok (atom_of (token_of s)) s (drop (leading_len is_token_byte s) s) x r e in
-      let whole : s ≡ token_of s ++ r = sym (take-append-drop (leading_len is_token_byte s) s) ∙ ap (λ (w : List ℕ). token_of s ++ w) p.1 in
+      let p = placed_ok (atom_of (token_of s)) s (drop (prefix_len is_token_byte s) s) x r e in
+      let whole : s ≡ token_of s ++ r = sym (take-append-drop (prefix_len is_token_byte s) s) ∙ ap (λ (w : List ℕ). token_of s ++ w) p.1 in
       subst (λ (w : List ℕ). SpellsFront inner x w r) (sym whole) (atom_of-sound (token_of s) x p.0 r (subst BeginsNoToken p.1 (token_ends s)))
 
   -- the backslash stands first
@@ -82,10 +83,10 @@ module _ (deep : DeeperReads) (inner : Inner) where
   char_before-sound c t x r b e =
       let front = encode_utf8 c in
       let after = drop (length front) t in
-      let p = placed_ok (char_value (char_of c (token_of after))) (backslash ∷ t) (drop (leading_len is_token_byte after) after) x r e in
+      let p = placed_ok (char_value (char_of c (token_of after))) (backslash ∷ t) (drop (prefix_len is_token_byte after) after) x r e in
       let a = as_char_ok (char_of c (token_of after)) x p.0 in
       let whole : t ≡ (front ++ token_of after) ++ r =
-      begins_with_char c t b ∙ ap (λ (w : List ℕ). front ++ w) (sym (take-append-drop (leading_len is_token_byte after) after) ∙ ap (λ (w : List ℕ). token_of after ++ w) p.1) ∙ sym (append_assoc front (token_of after) r) in
+      begins_with_char c t b ∙ ap (λ (w : List ℕ). front ++ w) (sym (take-append-drop (prefix_len is_token_byte after) after) ∙ ap (λ (w : List ℕ). token_of after ++ w) p.1) ∙ sym (append_assoc front (token_of after) r) in
       subst (λ (y : Edn). SpellsFront inner y (backslash ∷ t) r) a.2
       (front ++ token_of after, char_of-sound c (token_of after) a.0 (is_scalar c t b) a.1, ap (λ (w : List ℕ). backslash ∷ w) whole, subst BeginsNoToken p.1 (token_ends after))
 
@@ -113,7 +114,7 @@ module _ (deep : DeeperReads) (inner : Inner) where
     hashed_sound s x r e =
         let begin = hash ∷ s in
         let tag = token_of s in
-        let more = drop (leading_len is_token_byte s) s in
+        let more = drop (prefix_len is_token_byte s) s in
         let braced : Result (Edn × List ℕ) SyntaxError = deep.elements close_brace begin (drop 1 s) >>= λ q. set_or_error q.0 q.1 in
         let tagging : Result (Edn × List ℕ) SyntaxError = deep.one begin more >>= λ q. Ok (tagged tag q.0, q.1) in
         let second : Result (Edn × List ℕ) SyntaxError = cond (is_tag tag) tagging (syntax_error BadToken begin) in
@@ -129,7 +130,7 @@ module _ (deep : DeeperReads) (inner : Inner) where
                 | inl q ↦
                     let a = bind_ok (deep.one begin more) (λ w. Ok (tagged tag w.0, w.1)) (x, r) q.1 in
                     subst (λ (y : Edn × List ℕ). SpellsFront inner y.0 begin y.1) (ok_is (tagged tag a.0.0, a.0.1) (x, r) a.2)
-                    (more, q.0, ap (λ (w : List ℕ). hash ∷ w) (sym (take-append-drop (leading_len is_token_byte s) s)), token_ends s, one begin more a.0.0 a.0.1 a.1)
+                    (more, q.0, ap (λ (w : List ℕ). hash ∷ w) (sym (take-append-drop (prefix_len is_token_byte s) s)), token_ends s, one begin more a.0.0 a.0.1 a.1)
                 | inr q ↦ absurd (err_not _ _ q.1)
               ]
         ]

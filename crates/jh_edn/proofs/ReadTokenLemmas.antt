@@ -1,11 +1,12 @@
 -- A token, a character or a set that is read is spelled so.
-use Rattle.std.proofs.Common.{◌≡◌, ℕ, suc, ◌+◌, ◌^◌, ◌<◌, ◌⊎◌, inl, inr, Bool, true, false, cond, eqb, ltb, List, [], ◌∷◌, ◌++◌, length, take, drop, get_or, Option, Some, None, Result, Ok, Err, refl, sym, ap, subst, ◌∙◌, arith}
+use Rattle.std.proofs.Common.{◌≡◌, ℕ, ◌+◌, ◌^◌, ◌<◌, ◌⊎◌, inl, inr, Bool, true, false, cond, eqb, ltb, List, [], ◌∷◌, ◌++◌, length, take, drop, get_or, Option, Some, None, Result, Ok, Err, refl, sym, ap, subst, ◌∙◌, arith}
 use Rattle.std.specs.Prelude.{◌&&◌, encode_utf8, ℤ, FitsSigned, option_map}
 use Rattle.std.specs.Int.{w64}
 use Rattle.std.specs.Char.{IsScalar}
 use lib.Utf8.{scalar}
 use Rattle.std.specs.Str.{bytes_eq}
 use Rattle.std.specs.Str.Parse.{signed_digits_value, without_leading_sign}
+use Rattle.std.specs.List.{prefix_len}
 use Rattle.std.proofs.lemmas.Grind.{common_steps}
 use Rattle.std.proofs.lemmas.Slice.Eq.{bytes_eq-Decides}
 use Rattle.std.proofs.lemmas.Bool.{eqb-true}
@@ -14,12 +15,13 @@ use Rattle.jh_edn.specs.declared.syntax_error.SyntaxError.{SyntaxError}
 use Rattle.jh_edn.specs.declared.syntax_error.Kind.{Kind}
 use Rattle.jh_edn.specs.declared.syntax_error.Kind.TheVariants.{UnexpectedEnd, BadToken, FloatUnsupported, IntegerRange, DuplicateKey}
 use Rattle.jh_edn.specs.Edn.{Edn, int, char, mapping, set, no_items, item, items_of, members_of}
-use Rattle.jh_edn.specs.Bytes.{is_blank, quote, backslash, capital_n, digit_zero, is_token_byte, is_plain, escaped_byte, leading_len}
+use Rattle.jh_edn.specs.Bytes.{is_blank, quote, backslash, capital_n, digit_zero, is_token_byte, is_plain, escaped_byte}
 use Rattle.jh_edn.specs.Spelling.{HasNoLeadingZero, IsInteger, IsBody, char_named, char_numbered, IsCharacter, BeginsNoToken, items_of_members}
 use Rattle.jh_edn.specs.Equality.{Differ, KeysDiffer}
-use Rattle.jh_edn.specs.Reading.{◌>>=◌, syntax_error, read_with_front, read_after_escape, body, sign_len, digits_end, begins_number, begins_fraction, is_suffix, magnitude, integer_spelled, number_of, int_value, lone_char, either_char, char_spelled, char_of, char_value, begins_char, set_or_error, repeats_element, atom_or_error, Read, read, pairs_of, repeats_key, map_or_error}
+use Rattle.jh_edn.specs.Reading.{◌>>=◌, syntax_error, read_with_front, read_after_escape, body, sign_len, digits_end, begins_number, begins_fraction, is_suffix, magnitude, integer_spelled, number_of, int_value, lone_char, either_char, char_spelled, char_of, char_value, begins_char, set_or_error, repeats_element, atom_or_error, pairs_of, repeats_key, map_or_error}
 use Rattle.jh_edn.proofs.NumberLemmas.{numeral_cut, unsigned_is, fits_from, and_both}
 use Rattle.jh_edn.proofs.KeyLemmas.{keys_differ, elements_differ}
+use Rattle.jh_edn.proofs.PrefixLemmas.{prefix_len-cases}
 
 pub chosen : {A : Type 0} (b : Bool) (x y z : A) → cond b x y ≡ z → ((b ≡ true) × (x ≡ z)) ⊎ ((b ≡ false) × (y ≡ z))
 chosen true x y z e = inl (refl, e)
@@ -160,10 +162,9 @@ pub begins_with : (c : ℕ) (s : List ℕ) → 0 < c → get_or s 0 0 ≡ c → 
 begins_with c [] some e = absurd (omega arith)
 begins_with c (a ∷ s) some e = ap (λ (n : ℕ). n ∷ s) e
 
-pub token_ends : (s : List ℕ) → BeginsNoToken (drop (leading_len is_token_byte s) s)
+pub token_ends : (s : List ℕ) → BeginsNoToken (drop (prefix_len is_token_byte s) s)
 token_ends [] = tt
-token_ends (c ∷ s) =
-    elim (is_token_byte c) as (λ b. is_token_byte c ≡ b → BeginsNoToken (drop (cond b (suc (leading_len is_token_byte s)) 0) (c ∷ s))) [ true ↦ λ e. token_ends s | false ↦ λ e. e ] refl
+token_ends (c ∷ s) = prefix_len-cases is_token_byte (λ n. BeginsNoToken (drop n (c ∷ s))) c s (λ e. token_ends s) (λ e. e)
 
 pub pairs_items : (xs : List Edn) (ms : List (Edn × Edn)) → pairs_of xs ≡ Some ms → items_of xs ≡ items_of_members (members_of ms)
 pairs_items [] ms e = let same : [] ≡ ms = cc in subst (λ w. no_items ≡ items_of_members (members_of w)) same refl

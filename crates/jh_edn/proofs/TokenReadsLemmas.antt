@@ -1,5 +1,5 @@
 -- What spells a token or a character is read.
-use Rattle.std.proofs.Common.{◌≡◌, ℕ, suc, ◌+◌, ◌-◌, ◌^◌, ◌<◌, ◌⊎◌, inl, inr, Bool, true, false, eqb, ltb, List, [], ◌∷◌, ◌++◌, length, take, drop, get_or, Option, Some, None, cond, Ok, refl, sym, ap, subst, ◌∙◌, arith, append_assoc}
+use Rattle.std.proofs.Common.{◌≡◌, ℕ, ◌+◌, ◌-◌, ◌^◌, ◌<◌, ◌⊎◌, inl, inr, Bool, true, false, eqb, ltb, List, [], ◌∷◌, ◌++◌, length, take, drop, get_or, Option, Some, None, cond, Ok, refl, sym, ap, subst, ◌∙◌, arith, append_assoc}
 use Rattle.std.specs.Prelude.{◌&&◌, ◌||◌, slice_get, chars, encode_utf8, codes, not, ℤ, pos, negsuc, FitsSigned, option_map}
 use Rattle.std.specs.Int.{w64}
 use Rattle.std.specs.Char.{digit_value}
@@ -13,10 +13,10 @@ use Rattle.std.proofs.lemmas.Slice.Eq.{bytes_eq-Decides}
 use Rattle.std.proofs.lemmas.Bool.{eqb-true, ne_eqb, cases_Bool}
 use Rattle.std.proofs.lemmas.List.{take_at, drop_at, length-append, append-nil}
 use Rattle.jh_edn.specs.Edn.{Edn, nil, boolean, int, char, keyword, symbol, Items, no_items, item, items_of, Members, no_members, member, members_of}
-use Rattle.jh_edn.specs.Bytes.{backspace, tab, line_feed, form_feed, carriage_return, space, is_blank, is_hex, open_paren, quote, backslash, colon, plus, minus, slash, capital_n, digit_zero, open_bracket, open_brace, line_feed, is_space, is_delimiter, is_token_byte, is_plain, is_digit, is_symbol, is_first, escaped_byte, leading_len}
-use Rattle.std.specs.List.{list_all, count_by}
+use Rattle.jh_edn.specs.Bytes.{backspace, tab, line_feed, form_feed, carriage_return, space, is_blank, is_hex, open_paren, quote, backslash, colon, plus, minus, slash, capital_n, digit_zero, open_bracket, open_brace, line_feed, is_space, is_delimiter, is_token_byte, is_plain, is_digit, is_symbol, is_first, escaped_byte}
+use Rattle.std.specs.List.{list_all, count_by, prefix_len}
 use Rattle.jh_edn.specs.Spelling.{HasNoLeadingZero, IsInteger, IsBody, is_name, is_constant, looks_numeric, is_symbol_name, char_named, char_numbered, is_surrogate, IsCharacter, BeginsNoToken, items_of_members}
-use Rattle.jh_edn.specs.Reading.{read_with_front, body, sign_len, digits_end, begins_number, begins_fraction, is_suffix, magnitude, integer_spelled, number_of, atom_of, atom, token_of, constant_of, lone_char, char_spelled, char_of, begins_char, character_at, character, Read, pairs_of}
+use Rattle.jh_edn.specs.Reading.{read_with_front, body, sign_len, digits_end, begins_number, begins_fraction, is_suffix, magnitude, integer_spelled, number_of, atom_of, atom, token_of, constant_of, lone_char, char_spelled, char_of, begins_char, character_at, character, pairs_of}
 use Rattle.jh_edn.proofs.NumberLemmas.{and_both, unsigned_is}
 use Rattle.jh_edn.proofs.ReadTokenLemmas.{chosen, same_bytes}
 use Rattle.jh_edn.proofs.StringBodyLemmas.{not_special}
@@ -49,11 +49,11 @@ body_complete (x ∷ t) b r h =
 
 -- ---- runs
 
-leading_all : (p : ℕ → Bool) (a b : List ℕ) → list_all p a ≡ true → leading_len p b ≡ 0 → leading_len p (a ++ b) ≡ length a
+leading_all : (p : ℕ → Bool) (a b : List ℕ) → list_all p a ≡ true → prefix_len p b ≡ 0 → prefix_len p (a ++ b) ≡ length a
 leading_all p [] b h e = e
-leading_all p (c ∷ a) b h e = let q = and_both (p c) (list_all p a) h in rw q.0 (ap suc (leading_all p a b q.1 e))
+leading_all p (c ∷ a) b h e = let q = and_both (p c) (list_all p a) h in rw q.0 (omega (arith, leading_all p a b q.1 e))
 
-no_token : (r : List ℕ) → BeginsNoToken r → leading_len is_token_byte r ≡ 0
+no_token : (r : List ℕ) → BeginsNoToken r → prefix_len is_token_byte r ≡ 0
 no_token [] h = refl
 no_token (c ∷ r) h = rw h refl
 
@@ -139,10 +139,10 @@ pub record Number (core tail : List ℕ) : Type 0 where
   pub front : take (digits_end (core ++ tail)) (core ++ tail) ≡ core
   pub back : drop (digits_end (core ++ tail)) (core ++ tail) ≡ tail
 
-number_at : (core ds tail : List ℕ) → Cases core ds → AllDigits 10 ds → 0 < length ds → leading_len is_digit tail ≡ 0 → Number core tail
+number_at : (core ds tail : List ℕ) → Cases core ds → AllDigits 10 ds → 0 < length ds → prefix_len is_digit tail ≡ 0 → Number core tail
 number_at core ds tail k h lt none =
     let cut = cut_core core ds tail k h lt in
-    let digits : leading_len is_digit (drop (sign_len (core ++ tail)) (core ++ tail)) ≡ length ds = rw cut.unsigned (leading_all is_digit ds tail (digits_are ds h) none) in
+    let digits : prefix_len is_digit (drop (sign_len (core ++ tail)) (core ++ tail)) ≡ length ds = rw cut.unsigned (leading_all is_digit ds tail (digits_are ds h) none) in
     let end : digits_end (core ++ tail) ≡ length core = omega (arith, digits, cut.end) in
     record { begins = rw cut.unsigned (first_digit ds tail h lt); front = rw end (take_at core tail (length core) refl); back = rw end (drop_at core tail (length core) refl) }
 
@@ -459,7 +459,7 @@ char_begins c t h =
     let taken : take (length front) (front ++ t) ≡ front = take_at front t (length front) refl in
     both_and (scalar c) (bytes_eq (take (length front) (front ++ t)) front) h (ap (λ (w : List ℕ). bytes_eq w front) taken ∙ bytes_self front)
 
-pub token_before : (token r : List ℕ) → list_all is_token_byte token ≡ true → BeginsNoToken r → (token_of (token ++ r) ≡ token) × (drop (leading_len is_token_byte (token ++ r)) (token ++ r) ≡ r)
+pub token_before : (token r : List ℕ) → list_all is_token_byte token ≡ true → BeginsNoToken r → (token_of (token ++ r) ≡ token) × (drop (prefix_len is_token_byte (token ++ r)) (token ++ r) ≡ r)
 token_before token r h apart =
     let n = leading_all is_token_byte token r h (no_token r apart) in
     (rw n (take_at token r (length token) refl), rw n (drop_at token r (length token) refl))

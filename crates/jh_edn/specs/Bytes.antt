@@ -1,8 +1,8 @@
 -- The bytes of EDN texts (EDN's format description, "General considerations", "Strings", "Symbols",
 -- "Keywords", "Characters", "Comments", "Discard"). A text is the list of its UTF-8 bytes. Every
 -- byte that means something by itself is ASCII.
-use Rattle.std.specs.Prelude.{ℕ, suc, ◌<◌, Bool, not, ◌&&◌, ◌||◌, ◌==◌, nat_le, nat_lt, List, []}
-use Rattle.std.specs.Prelude.{◌∷◌, slice_index, Option, Some, None, if◌then◌else◌, codes}
+use Rattle.std.specs.Prelude.{ℕ, ◌<◌, Bool, not, ◌&&◌, ◌||◌, ◌==◌, nat_le, nat_lt, List}
+use Rattle.std.specs.Prelude.{slice_index, Option, Some, None, if◌then◌else◌, codes}
 use Rattle.std.specs.List.{list_any}
 use Rattle.std.specs.Char.{digit_value}
 use Rattle.std.specs.Str.{byte}
@@ -147,11 +147,6 @@ is_blank c = c == space || is_between tab carriage_return c
 -- what may be the first character of a keyword's name
 unfoldable pub is_first : ℕ → Bool
 is_first c = is_symbol c && not (is_among (codes ":#'/") c)
-
--- how many of the first bytes are such
-abbrev pub leading_len : (ℕ → Bool) → List ℕ → ℕ
-leading_len p [] = 0
-leading_len p (c ∷ s) = if p c then suc (leading_len p s) else 0
 
 -- a discard stands first: #_
 unfoldable pub begins_discard : List ℕ → Bool

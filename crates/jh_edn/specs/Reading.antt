@@ -4,7 +4,7 @@ use Rattle.std.specs.Prelude.{◌≡◌, ℕ, zero, suc, ◌+◌, ◌-◌, ◌^�
 use Rattle.std.specs.Prelude.{nat_lt, if◌then◌else◌, List, [], ◌∷◌, ◌++◌, length, map, take, drop}
 use Rattle.std.specs.Prelude.{slice_index, slice_get, encode_utf8, chars, ℤ, pos, negsuc, Option}
 use Rattle.std.specs.Prelude.{Some, None, option_map, Result, Ok, Err, codes}
-use Rattle.std.specs.List.{count_by}
+use Rattle.std.specs.List.{count_by, prefix_len}
 use Rattle.std.specs.Str.{bytes_eq}
 use lib.Utf8.{scalar}
 use Rattle.std.specs.Str.Parse.{signed_digits_value}
@@ -24,7 +24,6 @@ use Rattle.jh_edn.specs.Bytes.{open_paren, close_paren, hash, is_blank, quote, p
 use Rattle.jh_edn.specs.Bytes.{digit_zero, line_feed, colon, semicolon, begins_discard, capital_n}
 use Rattle.jh_edn.specs.Bytes.{open_bracket, close_bracket, backslash, open_brace, close_brace}
 use Rattle.jh_edn.specs.Bytes.{is_among, is_space, is_token_byte, is_digit, escaped_byte}
-use Rattle.jh_edn.specs.Bytes.{leading_len}
 use Rattle.jh_edn.specs.Spelling.{is_name, is_symbol_name, is_tag, char_named, char_numbered}
 use Rattle.jh_edn.specs.Spelling.{depth_limit, Reads}
 use Rattle.jh_edn.specs.Key.{key_of, item_keys, has_twice}
@@ -84,7 +83,7 @@ abbrev mutual
 
 -- the token that the text begins with
 abbrev pub token_of : List ℕ → List ℕ
-token_of s = take (leading_len is_token_byte s) s
+token_of s = take (prefix_len is_token_byte s) s
 
 -- 1 where a sign stands first
 unfoldable pub sign_len : List ℕ → ℕ
@@ -92,7 +91,7 @@ sign_len token = if slice_index token 0 == plus || slice_index token 0 == minus 
 
 -- how many digits a number has
 abbrev pub digits_len : List ℕ → ℕ
-digits_len token = leading_len is_digit (drop (sign_len token) token)
+digits_len token = prefix_len is_digit (drop (sign_len token) token)
 
 -- where they end
 abbrev pub digits_end : List ℕ → ℕ
@@ -166,7 +165,7 @@ atom_or_error (Err k) s after = syntax_error k s
 
 -- a token, and what follows it
 unfoldable pub atom : Read Edn
-atom s = atom_or_error (atom_of (token_of s)) s (drop (leading_len is_token_byte s) s)
+atom s = atom_or_error (atom_of (token_of s)) s (drop (prefix_len is_token_byte s) s)
 
 -- a character by itself
 unfoldable pub lone_char : ℕ → Option ℕ
@@ -200,7 +199,7 @@ begins_char c s = scalar c && bytes_eq (take (length (encode_utf8 c)) s) (encode
 abbrev pub char_before : ℕ → List ℕ → Read Edn
 char_before c begin after =
     atom_or_error (char_value (char_of c (token_of after))) begin
-    (drop (leading_len is_token_byte after) after)
+    (drop (prefix_len is_token_byte after) after)
 
 -- what stands behind the backslash where the text begins: UnexpectedEnd where there is nothing
 abbrev pub character_at : Option ℕ → List ℕ → List ℕ → Result (Edn × List ℕ) SyntaxError
@@ -254,7 +253,7 @@ tag_of begin = token_of (drop 1 begin)
 
 -- what stands behind that
 abbrev pub text_after_tag : List ℕ → List ℕ
-text_after_tag begin = drop (leading_len is_token_byte (drop 1 begin)) (drop 1 begin)
+text_after_tag begin = drop (prefix_len is_token_byte (drop 1 begin)) (drop 1 begin)
 
 -- a set or a tagged element, from its # on: BadToken before anything else
 unfoldable pub hash_element : DeeperReads → Read Edn

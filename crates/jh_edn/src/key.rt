@@ -88,8 +88,8 @@ fn push<'a>(part: Part<'a>, key: &mut Vec<Part<'a>>) -> Result<(), AllocError>
 
 /// Appends the keys, each led by a mark, and an end.
 fn push_marked<'a>(codes: &[Vec<Part<'a>>], key: &mut Vec<Part<'a>>) -> Result<(), AllocError>
-    ensures { OnOk result
-        (key_parts key.new.items ≡ key_parts key.old.items ++ keys.marked_keys (keys_in codes.now)) }
+    ensures { OnOk result (key_parts key.new.items
+        ≡ key_parts key.old.items ++ keys.marked_keys (keys_in codes.now)) }
 {
     for code in codes {
         push(Part::bare(Mark::More), key)?;

@@ -4,8 +4,9 @@
 
 ghost use Rattle.std.specs.Prelude.{◌≡◌, ◌≤◌, ◌<◌, drop, length, slice_index, ◌==◌, IfSome};
 ghost use Rattle.std.specs.Str.{IsCharBoundary};
+ghost use Rattle.std.specs.List.{prefix_len};
 ghost use Rattle.jh_edn.specs.Bytes as bytes;
-ghost use Rattle.jh_edn.specs.Bytes.{IsAscii, leading_len, escaped_byte};
+ghost use Rattle.jh_edn.specs.Bytes.{IsAscii, escaped_byte};
 ghost use Rattle.jh_edn.specs.Reading as reading;
 
 /// White space, with the comma.
@@ -140,48 +141,30 @@ fn blank_len(rest: &str) -> usize
 /// How many bytes of a token the text begins with.
 #[tactic(auto, using(crate::proofs::TextFrontLemmas::token_stops))]
 pub(crate) fn token_len(rest: &str) -> usize
-    ensures len { result ≡ leading_len bytes.is_token_byte rest.now }
+    ensures len { result ≡ prefix_len bytes.is_token_byte rest.now }
     ensures boundary { IsCharBoundary rest.now result }
 {
-    let mut len = 0;
-    for b in rest.as_bytes() {
-        if !is_token_byte(*b) {
-            return len;
-        }
-        len += 1;
-    }
-    len
+    rest.as_bytes()
+        .iter()
+        .take_while(|b| is_token_byte(**b))
+        .count()
 }
 
 /// How many bytes the text begins with that stand for themselves in a string.
 #[tactic(auto, using(crate::proofs::TextFrontLemmas::plain_stops))]
 pub(crate) fn plain_len(rest: &str) -> usize
-    ensures len { result ≡ leading_len bytes.is_plain rest.now }
+    ensures len { result ≡ prefix_len bytes.is_plain rest.now }
     ensures boundary { IsCharBoundary rest.now result }
 {
-    let mut len = 0;
-    for b in rest.as_bytes() {
-        if !is_plain(*b) {
-            return len;
-        }
-        len += 1;
-    }
-    len
+    rest.as_bytes().iter().take_while(|b| is_plain(**b)).count()
 }
 
 /// How many digits the bytes begin with.
 pub(crate) fn digits_len(token: &[u8]) -> usize
-    ensures len { result ≡ leading_len bytes.is_digit token.now }
+    ensures len { result ≡ prefix_len bytes.is_digit token.now }
     ensures within { result ≤ length token.now }
 {
-    let mut len = 0;
-    for b in token {
-        if !is_digit(*b) {
-            return len;
-        }
-        len += 1;
-    }
-    len
+    token.iter().take_while(|b| is_digit(**b)).count()
 }
 
 /// The text after the white space and the comments that it begins with.

@@ -4,7 +4,8 @@
 
 ghost use Rattle.std.specs.Prelude.{◌≡◌, IfOk};
 ghost use Rattle.std.specs.Str.{IsUtf8};
-ghost use Rattle.jh_edn.specs.Bytes.{leading_len, is_plain};
+ghost use Rattle.std.specs.List.{prefix_len};
+ghost use Rattle.jh_edn.specs.Bytes.{is_plain};
 ghost use Rattle.jh_edn.specs.Gives.{Gives, rest_at_stop, IsShorter};
 ghost use Rattle.jh_edn.specs.Reading.{body};
 
@@ -25,7 +26,7 @@ enum Stop<'a> {
 /// The stop that the text begins with.
 #[tactic(auto, using(crate::proofs::StringBodyLemmas::escape_ascii), unfolding(crate::specs::Reading::body))]
 fn stop_at(rest: &str) -> Stop<'_>
-    requires { leading_len is_plain rest.now ≡ 0 }
+    requires { prefix_len is_plain rest.now ≡ 0 }
     ensures gives { body rest.now ≡ rest_at_stop result rest.now }
     ensures shorter { IsShorter result rest.now }
 {

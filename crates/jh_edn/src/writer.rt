@@ -7,8 +7,8 @@ ghost use Rattle.std.specs.Prelude.{codes, encode_utf8};
 ghost use Rattle.std.specs.Char.{digit_char};
 ghost use Rattle.std.specs.Fmt.{signed_decimal};
 ghost use Rattle.std.specs.Io.KnownBytes.{Appends};
-ghost use Rattle.std.specs.List.{flat_map};
-ghost use Rattle.jh_edn.specs.Bytes.{leading_len, quote};
+ghost use Rattle.std.specs.List.{flat_map, prefix_len};
+ghost use Rattle.jh_edn.specs.Bytes.{quote};
 ghost use Rattle.jh_edn.specs.Edn.{items_of, members_of};
 ghost use Rattle.jh_edn.specs.Print.{print, joined_text, item_texts, member_texts};
 ghost use Rattle.jh_edn.specs.Print.{separator_before, escape, is_printed_bare, char_number};
@@ -80,17 +80,10 @@ fn is_bare(b: u8) -> bool
 
 /// How many bytes from that place on stand for themselves.
 fn bare_len(bytes: &[u8]) -> usize
-    ensures len { result ≡ leading_len is_printed_bare bytes.now }
+    ensures len { result ≡ prefix_len is_printed_bare bytes.now }
     ensures within { result ≤ length bytes.now }
 {
-    let mut len = 0;
-    for b in bytes {
-        if !is_bare(*b) {
-            return len;
-        }
-        len += 1;
-    }
-    len
+    bytes.iter().take_while(|b| is_bare(**b)).count()
 }
 
 /// What stands behind the byte at that place.

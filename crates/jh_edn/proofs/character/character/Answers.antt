@@ -1,7 +1,8 @@
 use Rattle.std.proofs.Common.{◌≡◌, get_or, Some, ◌++◌, refl, sym, ◌∙◌, arith}
 use Rattle.std.specs.Prelude.{encode_utf8, slice_get, chars}
+use Rattle.std.specs.List.{prefix_len}
 use Rattle.std.proofs.lemmas.Str.{IsCharBoundary-after_ascii}
-use Rattle.jh_edn.specs.Bytes.{backslash, is_token_byte, leading_len}
+use Rattle.jh_edn.specs.Bytes.{backslash, is_token_byte}
 use Rattle.jh_edn.specs.Reading.{token_of, char_of}
 use Rattle.jh_edn.proofs.TextFrontLemmas.{within}
 use Rattle.jh_edn.proofs.CharacterLemmas.{gives, scalar_first, char_alone, by_name}
@@ -22,7 +23,7 @@ returns-in-Some-found-clause-gives c =
     let steps = c.in-Some.ensures.steps in
     let one : slice_get (chars t) 0 ≡ Some first = rw (← c.chars-chars.ensures.rest) (sym steps.2) in
     let parts : t ≡ encode_utf8 first ++ after = rw (← c.chars-chars.ensures.rest, c.as_str-after.ensures) steps.0 in
-    let token : c.token_len-len.result ≡ leading_len is_token_byte after = c.token_len-len.ensures.len in
+    let token : c.token_len-len.result ≡ prefix_len is_token_byte after = c.token_len-len.ensures.len in
     let found : c.if-len-eq0.found ≡ char_of first (token_of after) =
     elim c.if-len-eq0.branch [
       | then-len-eq0 w ↦ w.found-is ∙ w.alone-found.ensures ∙ sym (char_alone first after (sym token ∙ w.if-len-eq0.true))
@@ -39,7 +40,7 @@ returns-in-None-clause-gives c =
     let steps = c.in-Some.ensures.steps in
     let one : slice_get (chars t) 0 ≡ Some first = rw (← c.chars-chars.ensures.rest) (sym steps.2) in
     let parts : t ≡ encode_utf8 first ++ after = rw (← c.chars-chars.ensures.rest, c.as_str-after.ensures) steps.0 in
-    let token : c.token_len-len.result ≡ leading_len is_token_byte after = c.token_len-len.ensures.len in
+    let token : c.token_len-len.result ≡ prefix_len is_token_byte after = c.token_len-len.ensures.len in
     let found : c.if-len-eq0.found ≡ char_of first (token_of after) =
     elim c.if-len-eq0.branch [
       | then-len-eq0 w ↦ w.found-is ∙ w.alone-found.ensures ∙ sym (char_alone first after (sym token ∙ w.if-len-eq0.true))

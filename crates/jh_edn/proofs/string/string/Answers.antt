@@ -1,11 +1,12 @@
 use Rattle.std.proofs.Common.{◌≡◌, [], Ok, drop, take, rules}
 use Rattle.jh_edn.specs.Bytes.{is_plain}
 use Rattle.jh_edn.specs.Reading.{body}
-use Rattle.jh_edn.proofs.StringBodyLemmas.{leading_len-past, closed}
+use Rattle.jh_edn.proofs.PrefixLemmas.{prefix_len-past}
+use Rattle.jh_edn.proofs.StringBodyLemmas.{closed}
 use Rattle.jh_edn.proofs.string.string.Goals as goal
 
 pub stop_at-requires : goal.stop_at-requires
-stop_at-requires c = rw (c.range_from.ensures.value, c.plain_len-len.ensures.len) (leading_len-past is_plain c.args.rest.now)
+stop_at-requires c = rw (c.range_from.ensures.value, c.plain_len-len.ensures.len) (prefix_len-past is_plain c.args.rest.now)
 
 pub returns-in_ok-of-in-Close-clause-gives : goal.returns-in_ok-of-in-Close-clause-gives
 returns-in_ok-of-in-Close-clause-gives c =

@@ -4,11 +4,12 @@ use Rattle.std.proofs.lemmas.Str.{encode_ascii}
 use Rattle.std.proofs.lemmas.List.{append-nil}
 use Rattle.jh_edn.specs.Bytes.{is_plain}
 use Rattle.jh_edn.specs.Reading.{body}
-use Rattle.jh_edn.proofs.StringBodyLemmas.{leading_len-past, read_with_front-append, moved, ended}
+use Rattle.jh_edn.proofs.PrefixLemmas.{prefix_len-past}
+use Rattle.jh_edn.proofs.StringBodyLemmas.{read_with_front-append, moved, ended}
 use Rattle.jh_edn.proofs.string.string_in_pieces.Goals as goal
 
 pub stop_at-requires : goal.stop_at-requires
-stop_at-requires c = rw (c.range_from-left.ensures.value, c.plain_len-len.ensures.len) (leading_len-past is_plain c.pieces.left.now)
+stop_at-requires c = rw (c.range_from-left.ensures.value, c.plain_len-len.ensures.len) (prefix_len-past is_plain c.pieces.left.now)
 
 pub returns-in-End-clause-gives : goal.returns-in-End-clause-gives
 returns-in-End-clause-gives c =
