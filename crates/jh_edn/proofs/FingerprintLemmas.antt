@@ -15,34 +15,18 @@ use Rattle.jh_edn.specs.Edn.{Edn, nil, boolean, int, char, str, keyword, symbol,
 use Rattle.jh_edn.specs.Equality.{IsSequence, PicksItem, Picks, Equals, AreEqualItems, AreEqualElements, AreEqualMembers, IsNew, Differ, keys_of}
 use Rattle.jh_edn.specs.Fingerprint.{mix, text_number, items_number, sum_of_items, sum_of_members, fingerprint, fingerprints, StandOnce}
 use Rattle.jh_edn.specs.Reading.{repeats_key, repeats_element}
-use Rattle.jh_edn.proofs.KeyLemmas.{no_key_twice, no_element_twice}
+use Rattle.jh_edn.proofs.KeyLemmas.{sum_taken, sum_picked, no_key_twice, no_element_twice}
 
 -- ---- equal values have one
-
-sum_taken : (x : Edn) (ys others : Items) → PicksItem x ys others → sum_of_items ys ≡ fingerprint x + sum_of_items others
-sum_taken x no_items others h = absurd h
-sum_taken x (item y ys) others h =
-    elim h [
-      | inl p ↦ rw (p.0, p.1) refl
-      | inr p ↦
-          let below = sum_taken x ys p.0 p.2 in
-          let same : sum_of_items others ≡ fingerprint y + sum_of_items p.0 = ap sum_of_items p.1 in
-          omega (arith, below, same)
-    ]
 
 abbrev of_pair : Edn → Edn → ℕ
 of_pair k v = mix (fingerprint k) (fingerprint v)
 
-sum_picked : (key value : Edn) (ns others : Members) → Picks key value ns others → sum_of_members ns ≡ of_pair key value + sum_of_members others
-sum_picked key value no_members others h = absurd h
-sum_picked key value (member k v ns) others h =
-    elim h [
-      | inl p ↦ rw (p.0, p.1, p.2) refl
-      | inr p ↦
-          let below = sum_picked key value ns p.0 p.2 in
-          let same : sum_of_members others ≡ of_pair k v + sum_of_members p.0 = ap sum_of_members p.1 in
-          omega (arith, below, same)
-    ]
+number_taken : (x : Edn) (ys others : Items) → PicksItem x ys others → sum_of_items ys ≡ fingerprint x + sum_of_items others
+number_taken = sum_taken fingerprint sum_of_items (λ y ys. refl)
+
+number_picked : (key value : Edn) (ns others : Members) → Picks key value ns others → sum_of_members ns ≡ of_pair key value + sum_of_members others
+number_picked = sum_picked of_pair sum_of_members (λ k v ns. refl)
 
 sequence_number : (y : Edn) (ys : Items) → IsSequence y ys → mix 7 (items_number 0 ys) ≡ fingerprint y
 sequence_number y ys h = elim h [ inl p ↦ ap fingerprint (sym p) | inr p ↦ ap fingerprint (sym p) ]
@@ -71,13 +55,13 @@ mutual
   same_elements no_items ys h = ap sum_of_items (sym h)
   same_elements (item x xs) ys h =
       let head : fingerprint x ≡ fingerprint h.0 = same_fingerprint x h.0 h.3 in
-      omega (arith, head, same_elements xs h.1 h.4, sum_taken h.0 ys h.1 h.2)
+      omega (arith, head, same_elements xs h.1 h.4, number_taken h.0 ys h.1 h.2)
 
   same_members : (ms ns : Members) → AreEqualMembers ms ns → sum_of_members ms ≡ sum_of_members ns
   same_members no_members ns h = ap sum_of_members (sym h)
   same_members (member k v ms) ns h =
       let head : of_pair k v ≡ of_pair h.0 h.1 = λ i. mix (same_fingerprint k h.0 h.4 i) (same_fingerprint v h.1 h.5 i) in
-      omega (arith, head, same_members ms h.2 h.6, sum_picked h.0 h.1 ns h.2 h.3)
+      omega (arith, head, same_members ms h.2 h.6, number_picked h.0 h.1 ns h.2 h.3)
 
 -- ---- numbers that stand once
 

@@ -51,33 +51,25 @@ nothing_spelled text at h (z ∷ zs) s = h.1 z (length text - length s.0) (made 
 pub spells_nothing : (xs : List Edn) (text : List ℕ) (at : ℕ) → IsUtf8 text → Behind xs text at → NothingReads text at → SpellsNothing text
 spells_nothing xs text at utf8 behind h = (utf8, λ ys spelled. let p = behind ys spelled in nothing_spelled text at h p.0 p.2)
 
-refuses_at : (text : List ℕ) (kind : Kind) (line : ℕ) → SpellsNothing text → RefusesText text (error_at kind line)
-refuses_at text UnexpectedEnd line h = h
-refuses_at text BadToken line h = h
-refuses_at text FloatUnsupported line h = h
-refuses_at text IntegerRange line h = h
-refuses_at text BadEscape line h = h
-refuses_at text OddMap line h = h
-refuses_at text DuplicateKey line h = h
-refuses_at text TooDeep line h = h
+-- each kind's error is one with a line
+with_line : (text : List ℕ) (kind : Kind) (line : ℕ)
+    → (SpellsNothing text → RefusesText text (error_at kind line)) × (IsErrorBehind text (error_at kind line) → IsFirstError text (error_at kind line))
+with_line text UnexpectedEnd line = (λ h. h, λ h. h)
+with_line text BadToken line = (λ h. h, λ h. h)
+with_line text FloatUnsupported line = (λ h. h, λ h. h)
+with_line text IntegerRange line = (λ h. h, λ h. h)
+with_line text BadEscape line = (λ h. h, λ h. h)
+with_line text OddMap line = (λ h. h, λ h. h)
+with_line text DuplicateKey line = (λ h. h, λ h. h)
+with_line text TooDeep line = (λ h. h, λ h. h)
 
 pub refuses : (text : List ℕ) (at : ℕ) (e : EdnError) → SpellsNothing text → IsFirstErrorAt text at e → RefusesText text e
-refuses text at e h f = subst (RefusesText text) (sym f.is) (refuses_at text f.found.kind _ h)
-
-first_at : (text : List ℕ) (kind : Kind) (line : ℕ) → IsErrorBehind text (error_at kind line) → IsFirstError text (error_at kind line)
-first_at text UnexpectedEnd line h = h
-first_at text BadToken line h = h
-first_at text FloatUnsupported line h = h
-first_at text IntegerRange line h = h
-first_at text BadEscape line h = h
-first_at text OddMap line h = h
-first_at text DuplicateKey line h = h
-first_at text TooDeep line h = h
+refuses text at e h f = subst (RefusesText text) (sym f.is) ((with_line text f.found.kind _).0 h)
 
 pub first_behind : (text : List ℕ) (at : ℕ) (e : EdnError) → IsReached text at → IsFirstErrorAt text at e → IsFirstError text e
 first_behind text at e reached f =
     let behind : IsErrorBehind text (error_at f.found.kind (line_at text f.found.left)) = subst (IsErrorBehind text) f.is (at, reached, f) in
-    subst (IsFirstError text) (sym f.is) (first_at text f.found.kind _ behind)
+    subst (IsFirstError text) (sym f.is) ((with_line text f.found.kind _).1 behind)
 
 -- a text spells at most one list of values
 pub once : (text : List ℕ) (xs ys : List Edn) → SpellsAll xs text → SpellsAll ys text → xs ≡ ys

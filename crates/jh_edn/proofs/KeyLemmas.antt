@@ -18,7 +18,7 @@ abbrev pub Key : Type 0
 Key = List KeyPart
 
 -- 1 where the two are one key
-abbrev one : Key → Key → ℕ
+abbrev pub one : Key → Key → ℕ
 one z w = cond (ties is_key_below z w) 1 0
 
 abbrev pub count : Key → List Key → ℕ
@@ -35,28 +35,31 @@ same_order ks ls h =
 
 -- ---- equal values have one key
 
+-- what is summed over elements, or over pairs, of which one is picked
+module _ (of : Edn → ℕ) (total : Items → ℕ) (more : (y : Edn) (ys : Items) → total (item y ys) ≡ of y + total ys) where
+  pub sum_taken : (x : Edn) (ys others : Items) → PicksItem x ys others → total ys ≡ of x + total others
+  sum_taken x no_items others h = absurd h
+  sum_taken x (item y ys) others h =
+      elim h [
+        | inl p ↦ rw (p.0, p.1) (more x ys)
+        | inr p ↦ (let same = ap total p.1 ∙ more y p.0 in omega (arith, more y ys, sum_taken x ys p.0 p.2, same))
+      ]
+
+module _ (of : Edn → Edn → ℕ) (total : Members → ℕ) (more : (k v : Edn) (ns : Members) → total (member k v ns) ≡ of k v + total ns) where
+  pub sum_picked : (key value : Edn) (ns others : Members) → Picks key value ns others → total ns ≡ of key value + total others
+  sum_picked key value no_members others h = absurd h
+  sum_picked key value (member k v ns) others h =
+      elim h [
+        | inl p ↦ rw (p.0, p.1, p.2) (more key value ns)
+        | inr p ↦ (let same = ap total p.1 ∙ more k v p.0 in omega (arith, more k v ns, sum_picked key value ns p.0 p.2, same))
+      ]
+
 taken_count : (z : Key) (x : Edn) (ys others : Items) → PicksItem x ys others → count z (item_keys ys) ≡ one z (key_of x) + count z (item_keys others)
-taken_count z x no_items others h = absurd h
-taken_count z x (item y ys) others h =
-    elim h [
-      | inl p ↦ rw (p.0, p.1) refl
-      | inr p ↦
-          let below = taken_count z x ys p.0 p.2 in
-          let same : count z (item_keys others) ≡ one z (key_of y) + count z (item_keys p.0) = ap (λ w. count z (item_keys w)) p.1 in
-          omega (arith, below, same)
-    ]
+taken_count z = sum_taken (λ x. one z (key_of x)) (λ ys. count z (item_keys ys)) (λ y ys. refl)
 
 picked_count : (z : Key) (key value : Edn) (ns others : Members) → Picks key value ns others
     → count z (pair_keys ns) ≡ one z (key_of key ++ key_of value) + count z (pair_keys others)
-picked_count z key value no_members others h = absurd h
-picked_count z key value (member k v ns) others h =
-    elim h [
-      | inl p ↦ rw (p.0, p.1, p.2) refl
-      | inr p ↦
-          let below = picked_count z key value ns p.0 p.2 in
-          let same : count z (pair_keys others) ≡ one z (key_of k ++ key_of v) + count z (pair_keys p.0) = ap (λ w. count z (pair_keys w)) p.1 in
-          omega (arith, below, same)
-    ]
+picked_count z = sum_picked (λ k v. one z (key_of k ++ key_of v)) (λ ns. count z (pair_keys ns)) (λ k v ns. refl)
 
 abbrev sequence : List Key → Key
 sequence ks = bare_part mark.Sequence ∷ marked_keys ks

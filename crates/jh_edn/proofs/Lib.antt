@@ -7,6 +7,7 @@ pub mod SortLemmas
 pub mod KeyOrderLemmas
 pub mod KeyListLemmas
 pub mod PairLemmas
+pub mod PushLemmas
 pub mod RepeatedKeyLemmas
 pub mod KeyLemmas
 pub mod FingerprintLemmas

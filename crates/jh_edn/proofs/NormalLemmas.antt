@@ -1,5 +1,5 @@
 -- The normal form of a value is equal to it, and is in normal form; what is in normal form can be printed.
-use Rattle.std.proofs.Common.{◌≡◌, ℕ, ◌-◌, ◌<◌, Bool, true, false, cond, ◌&&◌, List, [], ◌∷◌, ◌++◌, refl, sym, ap, ◌∙◌, arith}
+use Rattle.std.proofs.Common.{◌≡◌, ℕ, ◌-◌, ◌<◌, Bool, true, false, ◌&&◌, List, [], ◌∷◌, ◌++◌, refl, sym, ap, ◌∙◌, arith}
 use Rattle.std.specs.Prelude.{nat_lt, ◌^◌, ℤ, pos, negsuc, FitsSigned}
 use Rattle.std.specs.Int.{w64}
 use Rattle.std.specs.declared.cmp.Ordering.{Ordering}
@@ -12,7 +12,7 @@ use Rattle.std.proofs.lemmas.Grind.{common_steps}
 use Rattle.jh_edn.specs.declared.key.Mark.TheVariants as mark
 use Rattle.jh_edn.specs.Edn.{Edn, nil, boolean, int, char, str, keyword, symbol, list, vector, mapping, set, tagged, Items, no_items, item, items_of, Members, no_members, member, members_of}
 use Rattle.jh_edn.specs.Equality.{Equals, IsNew, Differ, keys_of, KeysDiffer}
-use Rattle.jh_edn.specs.Order.{put_in_order, in_order, text_cmp, edn_cmp, items_cmp, members_cmp, is_below, has_key_below}
+use Rattle.jh_edn.specs.Order.{in_order, text_cmp, edn_cmp, items_cmp, members_cmp, is_below, has_key_below}
 use Rattle.jh_edn.specs.Key.{bare_part, text_part, key_cmp, is_key_below, marked_keys, key_of, item_keys, pair_keys}
 use Rattle.jh_edn.specs.Normal.{normal, normal_list, normal_pairs, ascends, is_normal_within, are_normal_within, are_normal_pairs_within}
 use Rattle.jh_edn.specs.Printable.{IsPrintable, ArePrintable, ArePrintablePairs}
@@ -23,34 +23,16 @@ use Rattle.jh_edn.proofs.NumberLemmas.{fits_from}
 use Rattle.jh_edn.proofs.SortLemmas as sorting
 use Rattle.jh_edn.proofs.SortLemmas.{both}
 use Rattle.jh_edn.proofs.KeyOrderLemmas.{key_order, key_total, then_equal, tie_equal}
-use Rattle.jh_edn.proofs.KeyLemmas.{Key, count, sorted, same_order, same_key, equal_from_key}
+use Rattle.jh_edn.proofs.KeyLemmas.{Key, count, one, sorted, same_order, same_key, equal_from_key}
 use Rattle.jh_edn.proofs.OrderLemmas.{parts, item_parts, pair_parts, parts_first, by_parts, edn_total, below_order, key_below_order}
 
 -- ---- the normal form has the key of its value
 
-put_item_count : (z : Key) (x : Edn) (ys : List Edn) → count z (item_keys (items_of (put_in_order is_below x ys))) ≡ count z (item_keys (items_of (x ∷ ys)))
-put_item_count z x [] = refl
-put_item_count z x (y ∷ ys) =
-    elim (is_below y x) as (λ t. count z (item_keys (items_of (cond t (y ∷ put_in_order is_below x ys) (x ∷ y ∷ ys)))) ≡ count z (item_keys (items_of (x ∷ y ∷ ys)))) [
-      | true ↦ omega (arith, put_item_count z x ys)
-      | false ↦ refl
-    ]
-
 items_count : (z : Key) (xs : List Edn) → count z (item_keys (items_of (in_order is_below xs))) ≡ count z (item_keys (items_of xs))
-items_count z [] = refl
-items_count z (x ∷ xs) = omega (arith, put_item_count z x (in_order is_below xs), items_count z xs)
-
-put_pair_count : (z : Key) (m : Edn × Edn) (ms : List (Edn × Edn)) → count z (pair_keys (members_of (put_in_order has_key_below m ms))) ≡ count z (pair_keys (members_of (m ∷ ms)))
-put_pair_count z m [] = refl
-put_pair_count z m (n ∷ ms) =
-    elim (has_key_below n m) as (λ t. count z (pair_keys (members_of (cond t (n ∷ put_in_order has_key_below m ms) (m ∷ n ∷ ms)))) ≡ count z (pair_keys (members_of (m ∷ n ∷ ms)))) [
-      | true ↦ omega (arith, put_pair_count z m ms)
-      | false ↦ refl
-    ]
+items_count z = sorting.in_order_total is_below (λ x. one z (key_of x)) (λ xs. count z (item_keys (items_of xs))) (λ x xs. refl)
 
 pairs_count : (z : Key) (ms : List (Edn × Edn)) → count z (pair_keys (members_of (in_order has_key_below ms))) ≡ count z (pair_keys (members_of ms))
-pairs_count z [] = refl
-pairs_count z (m ∷ ms) = omega (arith, put_pair_count z m (in_order has_key_below ms), pairs_count z ms)
+pairs_count z = sorting.in_order_total has_key_below (λ m. one z (key_of m.0 ++ key_of m.1)) (λ ms. count z (pair_keys (members_of ms))) (λ m ms. refl)
 
 mutual
   pub normal_key : (x : Edn) → key_of (normal x) ≡ key_of x

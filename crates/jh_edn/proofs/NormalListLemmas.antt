@@ -1,32 +1,25 @@
 -- Normal forms, built one by one and put in order.
-use Rattle.std.proofs.Common.{◌≡◌, ℕ, zero, suc, ◌+◌, ◌<◌, Bool, List, [], ◌∷◌, ◌++◌, length, take, get_or, refl, ap, ◌∙◌, arith}
+use Rattle.std.proofs.Common.{◌≡◌, ℕ, ◌+◌, ◌<◌, Bool, List, [], ◌∷◌, ◌++◌, length, take, get_or, refl, ap, ◌∙◌}
 use Rattle.std.specs.List.Sorted.{IsSortedBy, IsStableBy}
 use Rattle.std.proofs.lemmas.List.MinMax.{ranks_by}
-use Rattle.jh_edn.specs.Edn.{Edn, items_of, members_of}
+use Rattle.jh_edn.specs.Edn.{items_of, members_of}
 use Rattle.jh_edn.specs.Normal.{normal, normal_list, normal_pairs}
 use Rattle.jh_edn.specs.Order.{in_order, is_below, has_key_below}
 use Rattle.jh_edn.specs.View.{view, views, view_pair, view_pairs}
 use Rattle.jh_edn.specs.declared.value.Value.{Value}
 use Rattle.jh_edn.proofs.OrderLemmas.{edn_total}
+use Rattle.jh_edn.proofs.PushLemmas.{push_from_clauses}
 use Rattle.jh_edn.proofs.SortLemmas.{sorted_is, map_in_order}
 
 -- one element more
 pub normal_list_push : (vs : List Value) (i : ℕ) (d : Value) → i < length vs
     → normal_list (items_of (views (take (i + 1) vs))) ≡ normal_list (items_of (views (take i vs))) ++ normal (view (get_or vs i d)) ∷ []
-normal_list_push [] i d h = absurd (omega arith)
-normal_list_push (v ∷ vs) zero d h = refl
-normal_list_push (v ∷ vs) (suc i) d h =
-    let k : suc i + 1 ≡ suc (i + 1) = omega arith in
-    rw k (ap (λ (w : List Edn). normal (view v) ∷ w) (normal_list_push vs i d (omega arith)))
+normal_list_push = push_from_clauses (λ vs. normal_list (items_of (views vs))) (λ v. normal (view v)) refl (λ v vs. refl)
 
 -- one pair more
 pub normal_pairs_push : (ps : List (Value × Value)) (i : ℕ) (d : Value × Value) → i < length ps
     → normal_pairs (members_of (view_pairs (take (i + 1) ps))) ≡ normal_pairs (members_of (view_pairs (take i ps))) ++ (normal (view (get_or ps i d).0), normal (view (get_or ps i d).1)) ∷ []
-normal_pairs_push [] i d h = absurd (omega arith)
-normal_pairs_push (p ∷ ps) zero d h = refl
-normal_pairs_push (p ∷ ps) (suc i) d h =
-    let k : suc i + 1 ≡ suc (i + 1) = omega arith in
-    rw k (ap (λ (w : List (Edn × Edn)). (normal (view p.0), normal (view p.1)) ∷ w) (normal_pairs_push ps i d (omega arith)))
+normal_pairs_push = push_from_clauses (λ ps. normal_pairs (members_of (view_pairs ps))) (λ p. (normal (view p.0), normal (view p.1))) refl (λ p ps. refl)
 
 -- the first is below the second, of values and of pairs that a program holds
 abbrev pub held_below : Value → Value → Bool

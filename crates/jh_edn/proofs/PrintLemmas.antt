@@ -6,6 +6,7 @@ use Rattle.jh_edn.specs.Edn.{items_of, members_of}
 use Rattle.jh_edn.specs.View.{view, views, view_pairs}
 use Rattle.jh_edn.specs.Print.{print, joined_text, item_texts, member_texts, separator_before}
 use Rattle.jh_edn.specs.declared.value.Value.{Value}
+use Rattle.jh_edn.proofs.PushLemmas.{push_from_clauses}
 
 pub appends_then : (a b c : Option (List ℕ)) (s t : List ℕ) → Appends a b s → Appends b c t → Appends a c (s ++ t)
 appends_then None b c s t h k = tt
@@ -28,49 +29,34 @@ joined_push separator t (u ∷ v ∷ ts) =
     ∙ sym (append_assoc u ((separator ++ inner) ++ separator) t)
     ∙ ap (λ (w : List ℕ). w ++ t) (sym (append_assoc u (separator ++ inner) separator))
 
-item_texts_push : (vs : List Value) (i : ℕ) (d : Value) → i < length vs
-    → item_texts (items_of (views (take (suc i) vs))) ≡ item_texts (items_of (views (take i vs))) ++ print (view (get_or vs i d)) ∷ []
-item_texts_push [] i d h = absurd (omega arith)
-item_texts_push (v ∷ vs) zero d h = refl
-item_texts_push (v ∷ vs) (suc i) d h = ap (λ (w : List (List ℕ)). print (view v) ∷ w) (item_texts_push vs i d (omega arith))
+-- texts joined, one element more
+module _ {X : Type 0} (texts : List X → List (List ℕ)) (text : X → List ℕ) (none : texts [] ≡ []) (more : (x : X) (xs : List X) → texts (x ∷ xs) ≡ text x ∷ texts xs) where
+  begin : (xs : List X) (i : ℕ) → i < length xs → is_none (texts (take i xs)) ≡ eqb i 0
+  begin [] i h = absurd (omega arith)
+  begin (x ∷ xs) zero h = rw none refl
+  begin (x ∷ xs) (suc i) h = rw (more x (take i xs)) (sym (ne_eqb (suc i) 0 (λ e. omega arith)))
 
-items_begin : (vs : List Value) (i : ℕ) → i < length vs → is_none (item_texts (items_of (views (take i vs)))) ≡ eqb i 0
-items_begin [] i h = absurd (omega arith)
-items_begin (v ∷ vs) zero h = refl
-items_begin (v ∷ vs) (suc i) h = sym (ne_eqb (suc i) 0 (λ e. omega arith))
+  joined_more : (separator : List ℕ) (xs : List X) (i : ℕ) (d : X) → i < length xs
+      → joined_text separator (texts (take (i + 1) xs)) ≡ (joined_text separator (texts (take i xs)) ++ separator_before (eqb i 0) separator) ++ text (get_or xs i d)
+  joined_more separator xs i d h =
+      let pushed = joined_push separator (text (get_or xs i d)) (texts (take i xs)) in
+      ap (joined_text separator) (push_from_clauses texts text none more xs i d h) ∙ (rw (begin xs i h) at pushed)
 
 -- one element more
 pub items_push : (vs : List Value) (i : ℕ) (d : Value) → i < length vs
     → joined_text (codes " ") (item_texts (items_of (views (take (i + 1) vs))))
     ≡ (joined_text (codes " ") (item_texts (items_of (views (take i vs)))) ++ separator_before (eqb i 0) (codes " ")) ++ print (view (get_or vs i d))
-items_push vs i d h =
-    let k : i + 1 ≡ suc i = omega arith in
-    let pushed = joined_push (codes " ") (print (view (get_or vs i d))) (item_texts (items_of (views (take i vs)))) in
-    rw k (ap (joined_text (codes " ")) (item_texts_push vs i d h) ∙ rw (items_begin vs i h) at pushed)
+items_push = joined_more (λ vs. item_texts (items_of (views vs))) (λ v. print (view v)) refl (λ v vs. refl) (codes " ")
 
 abbrev pair_text : Value × Value → List ℕ
 pair_text p = print (view p.0) ++ (codes " " ++ print (view p.1))
-
-member_texts_push : (ps : List (Value × Value)) (i : ℕ) (d : Value × Value) → i < length ps
-    → member_texts (members_of (view_pairs (take (suc i) ps))) ≡ member_texts (members_of (view_pairs (take i ps))) ++ pair_text (get_or ps i d) ∷ []
-member_texts_push [] i d h = absurd (omega arith)
-member_texts_push (p ∷ ps) zero d h = refl
-member_texts_push (p ∷ ps) (suc i) d h = ap (λ (w : List (List ℕ)). pair_text p ∷ w) (member_texts_push ps i d (omega arith))
-
-members_begin : (ps : List (Value × Value)) (i : ℕ) → i < length ps → is_none (member_texts (members_of (view_pairs (take i ps)))) ≡ eqb i 0
-members_begin [] i h = absurd (omega arith)
-members_begin (p ∷ ps) zero h = refl
-members_begin (p ∷ ps) (suc i) h = sym (ne_eqb (suc i) 0 (λ e. omega arith))
 
 -- one pair more
 pub members_push : (ps : List (Value × Value)) (i : ℕ) (d : Value × Value) → i < length ps
     → joined_text (codes ", ") (member_texts (members_of (view_pairs (take (i + 1) ps))))
     ≡ (((joined_text (codes ", ") (member_texts (members_of (view_pairs (take i ps)))) ++ separator_before (eqb i 0) (codes ", ")) ++ print (view (get_or ps i d).0)) ++ codes " ") ++ print (view (get_or ps i d).1)
 members_push ps i d h =
-    let k : i + 1 ≡ suc i = omega arith in
     let p = get_or ps i d in
     let front = joined_text (codes ", ") (member_texts (members_of (view_pairs (take i ps)))) ++ separator_before (eqb i 0) (codes ", ") in
-    let pushed = joined_push (codes ", ") (pair_text p) (member_texts (members_of (view_pairs (take i ps)))) in
-    let parts : front ++ pair_text p ≡ ((front ++ print (view p.0)) ++ codes " ") ++ print (view p.1) =
-    sym (append_assoc (front ++ print (view p.0)) (codes " ") (print (view p.1)) ∙ append_assoc front (print (view p.0)) (codes " " ++ print (view p.1))) in
-    rw k (ap (joined_text (codes ", ")) (member_texts_push ps i d h) ∙ (rw (members_begin ps i h) at pushed) ∙ parts)
+    joined_more (λ qs. member_texts (members_of (view_pairs qs))) pair_text refl (λ q qs. refl) (codes ", ") ps i d h
+    ∙ sym (append_assoc (front ++ print (view p.0)) (codes " ") (print (view p.1)) ∙ append_assoc front (print (view p.0)) (codes " " ++ print (view p.1)))

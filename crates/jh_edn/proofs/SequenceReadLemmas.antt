@@ -21,6 +21,24 @@ takes_more Had Has Then xs ys h k = λ before had. subst Then (append_assoc befo
 
 -- ---- the brackets of lists and of vectors
 
+-- what is so at the bracket of a list and at that of a vector
+by_bracket : (P : List ℕ → ℕ → Type 0) → ((s : List ℕ) → P (open_paren ∷ s) close_paren) → ((s : List ℕ) → P (open_bracket ∷ s) close_bracket)
+    → (here : List ℕ) (close : ℕ) → closing_bracket here ≡ Some close → P here close
+by_bracket P of_list of_vector [] close e = absurd cc
+by_bracket P of_list of_vector (c ∷ s) close e =
+    elim (chosen (eqb c open_paren) (Some close_paren) (cond (eqb c open_bracket) (Some close_bracket) None) (Some close) e) [
+      | inl p ↦
+          let is : close_paren ≡ close = let same = p.1 in cc in
+          subst (λ (k : ℕ). P (k ∷ s) close) (sym (eqb-true c open_paren p.0)) (subst (P (open_paren ∷ s)) is (of_list s))
+      | inr p ↦
+          elim (chosen (eqb c open_bracket) (Some close_bracket) None (Some close) p.1) [
+            | inl q ↦
+                let is : close_bracket ≡ close = let same = q.1 in cc in
+                subst (λ (k : ℕ). P (k ∷ s) close) (sym (eqb-true c open_bracket q.0)) (subst (P (open_bracket ∷ s)) is (of_vector s))
+            | inr q ↦ absurd (let bad = q.1 in cc)
+          ]
+    ]
+
 -- what stands first where a list or a vector begins
 pub record Opens (here : List ℕ) (close : ℕ) : Type 0 where
   pub ascii : IsAscii close
@@ -28,22 +46,10 @@ pub record Opens (here : List ℕ) (close : ℕ) : Type 0 where
   pub first : get_or here 0 0 < 128
 
 pub opens : (here : List ℕ) (close : ℕ) → closing_bracket here ≡ Some close → Opens here close
-opens [] close e = absurd cc
-opens (c ∷ s) close e =
-    elim (chosen (eqb c open_paren) (Some close_paren) (cond (eqb c open_bracket) (Some close_bracket) None) (Some close) e) [
-      | inl p ↦
-          let is : close_paren ≡ close = let same = p.1 in cc in
-          let first = eqb-true c open_paren p.0 in
-          record { ascii = omega (arith, is); some = omega arith; first = omega (arith, first) }
-      | inr p ↦
-          elim (chosen (eqb c open_bracket) (Some close_bracket) None (Some close) p.1) [
-            | inl q ↦
-                let is : close_bracket ≡ close = let same = q.1 in cc in
-                let first = eqb-true c open_bracket q.0 in
-                record { ascii = omega (arith, is); some = omega arith; first = omega (arith, first) }
-            | inr q ↦ absurd (let bad = q.1 in cc)
-          ]
-    ]
+opens =
+    by_bracket Opens
+    (λ s. record { ascii = omega arith; some = omega arith; first = omega arith })
+    (λ s. record { ascii = omega arith; some = omega arith; first = omega arith })
 
 pub behind_bracket : (here : List ℕ) (close : ℕ) → IsUtf8 here → closing_bracket here ≡ Some close → IsCharBoundary here 1
 behind_bracket here close utf8 e =
@@ -65,30 +71,10 @@ unfolding element
 vector_read s = ap (λ w. w >>= λ x. Ok (vector (items_of x.0), x.1)) (elements_below depth_limit close_bracket (open_bracket ∷ s) s (omega arith))
 
 is_sequence : (here : List ℕ) (close : ℕ) → closing_bracket here ≡ Some close → IsSequence here close
-is_sequence [] close e = absurd cc
-is_sequence (c ∷ s) close e =
-    elim (chosen (eqb c open_paren) (Some close_paren) (cond (eqb c open_bracket) (Some close_bracket) None) (Some close) e) [
-      | inl p ↦
-          let is : close_paren ≡ close = let same = p.1 in cc in
-          let first : open_paren ≡ c = sym (eqb-true c open_paren p.0) in
-          subst (λ (k : ℕ). IsSequence (k ∷ s) close) first (subst (IsSequence (open_paren ∷ s)) is (record {
-            of = λ xs. list (items_of xs);
-            elements = λ xs. ap Some (list_of-items_of xs);
-            is_read = list_read s;
-          }))
-      | inr p ↦
-          elim (chosen (eqb c open_bracket) (Some close_bracket) None (Some close) p.1) [
-            | inl q ↦
-                let is : close_bracket ≡ close = let same = q.1 in cc in
-                let first : open_bracket ≡ c = sym (eqb-true c open_bracket q.0) in
-                subst (λ (k : ℕ). IsSequence (k ∷ s) close) first (subst (IsSequence (open_bracket ∷ s)) is (record {
-                  of = λ xs. vector (items_of xs);
-                  elements = λ xs. ap Some (list_of-items_of xs);
-                  is_read = vector_read s;
-                }))
-            | inr q ↦ absurd (let bad = q.1 in cc)
-          ]
-    ]
+is_sequence =
+    by_bracket IsSequence
+    (λ s. record { of = λ xs. list (items_of xs); elements = λ xs. ap Some (list_of-items_of xs); is_read = list_read s })
+    (λ s. record { of = λ xs. vector (items_of xs); elements = λ xs. ap Some (list_of-items_of xs); is_read = vector_read s })
 
 sequence_read : (here : List ℕ) (close : ℕ) (xs : List Edn) (after : List ℕ) → closing_bracket here ≡ Some close → elements_to close (drop 1 here) ≡ Ok (xs, after)
     → (x : Edn) × (elements_of x ≡ Some xs) × (read depth_limit here ≡ Ok (x, after))

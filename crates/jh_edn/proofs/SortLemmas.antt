@@ -17,6 +17,20 @@ not_true : (b : Bool) → not b ≡ true → b ≡ false
 not_true true h = absurd cc
 not_true false h = refl
 
+-- a sum over a list in order
+module _ {X : Type 0} (lt : X → X → Bool) (of : X → ℕ) (total : List X → ℕ) (more : (x : X) (xs : List X) → total (x ∷ xs) ≡ of x + total xs) where
+  put_total : (x : X) (ys : List X) → total (put_in_order lt x ys) ≡ total (x ∷ ys)
+  put_total x [] = refl
+  put_total x (y ∷ ys) =
+      elim (lt y x) as (λ t. total (cond t (y ∷ put_in_order lt x ys) (x ∷ y ∷ ys)) ≡ total (x ∷ y ∷ ys)) [
+        | true ↦ omega (arith, more y (put_in_order lt x ys), put_total x ys, more x ys, more y ys, more x (y ∷ ys))
+        | false ↦ refl
+      ]
+
+  pub in_order_total : (xs : List X) → total (in_order lt xs) ≡ total xs
+  in_order_total [] = refl
+  in_order_total (x ∷ xs) = omega (arith, put_total x (in_order lt xs), more x (in_order lt xs), in_order_total xs, more x xs)
+
 module _ {X : Type 0} (lt : X → X → Bool) (o : IsStrictWeakOrder lt) where
   pub below_itself : (x : X) → lt x x ≡ false
   below_itself x = elim (lt x x) as (λ b. lt x x ≡ b → b ≡ false) [ true ↦ λ e. sym e ∙ o.one_way x x e | false ↦ λ e. refl ] refl
@@ -146,17 +160,8 @@ module _ {X : Type 0} (lt : X → X → Bool) (o : IsStrictWeakOrder lt) where
   count z [] = 0
   count z (x ∷ xs) = cond (ties lt z x) 1 0 + count z xs
 
-  put_count : (z x : X) (ys : List X) → count z (put_in_order lt x ys) ≡ count z (x ∷ ys)
-  put_count z x [] = refl
-  put_count z x (y ∷ ys) =
-      elim (lt y x) as (λ t. count z (cond t (y ∷ put_in_order lt x ys) (x ∷ y ∷ ys)) ≡ count z (x ∷ y ∷ ys)) [
-        | true ↦ omega (arith, put_count z x ys)
-        | false ↦ refl
-      ]
-
   pub in_order_count : (z : X) (xs : List X) → count z (in_order lt xs) ≡ count z xs
-  in_order_count z [] = refl
-  in_order_count z (x ∷ xs) = omega (arith, put_count z x (in_order lt xs), in_order_count z xs)
+  in_order_count z = in_order_total lt (λ x. cond (ties lt z x) 1 0) (count z) (λ x xs. refl)
 
   pub own : (x : X) (xs : List X) → 0 < count x (x ∷ xs)
   own x xs = rw (ties_from x x (below_itself x) (below_itself x)) (omega arith)
