@@ -32,7 +32,7 @@ pub(crate) fn first_wrong(alloc: Global, rows: &str) -> Result<Option<&str>, Fai
 fn answer(alloc: Global, driver: &mut Driver, call: &str) -> Result<String, Fail> {
     let (name, rest) = call.split_once(' ').ok_or("no call")?;
     match name {
-        "read" => told(alloc, rest),
+        "read" => given(alloc, rest),
         "copy" => copied(alloc, rest),
         "suits" => suited(alloc, rest),
         "driver" => renewed(alloc, driver, rest),
@@ -42,7 +42,7 @@ fn answer(alloc: Global, driver: &mut Driver, call: &str) -> Result<String, Fail
     }
 }
 
-fn told(alloc: Global, text: &str) -> Result<String, Fail> {
+fn given(alloc: Global, text: &str) -> Result<String, Fail> {
     printed(alloc, &read(alloc, text)?)
 }
 

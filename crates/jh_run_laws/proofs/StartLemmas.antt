@@ -152,5 +152,5 @@ serial_with p env named same journal history run = record {
   };
   ended = run.ended;
   over = run.over;
-  given = run.given;
+  is_history = run.is_history;
 }

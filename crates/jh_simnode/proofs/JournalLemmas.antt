@@ -73,12 +73,12 @@ pub call_goes_on : (s : State) (settings : Settings) (all new : List Replica) (e
     → IsWorldOf (world_setup s settings) s all es → length es < 65536 → StandsFor env (faults_in s.active) → env.start ≡ s.start → number ≡ length es → node < length s.names
     → (let due = reply_to settings (env_cells env) all number node request draw in (reply ≡ due.reply) × (new ≡ due.replicas))
     → IsWorldOf (world_setup s settings) s new (es ++ Event.Call process node request draw reply ∷ [])
-call_goes_on s settings all new es env number process node request draw reply w few stands start at known told =
+call_goes_on s settings all new es env number process node request draw reply w few stands start at known given =
     let cells = cells_are env s stands start in
     let Got : Cells → ℕ → Type 0 = λ env k. reply ≡ (reply_to settings env all k node request draw).reply in
     let Left : Cells → ℕ → Type 0 = λ env k. new ≡ (reply_to settings env all k node request draw).replicas in
-    let got : Got (env_of s) (length es) = subst (Got (env_of s)) at (subst (λ env. Got env number) cells told.0) in
-    let left : Left (env_of s) (length es) = subst (Left (env_of s)) at (subst (λ env. Left env number) cells told.1) in
+    let got : Got (env_of s) (length es) = subst (Got (env_of s)) at (subst (λ env. Got env number) cells given.0) in
+    let left : Left (env_of s) (length es) = subst (Left (env_of s)) at (subst (λ env. Left env number) cells given.1) in
     goes_on (world_setup s settings) s s all new es (Event.Call process node request draw reply) w few ((known, got), refl, left)
     (rw left (serve_tidy settings (env_of s) (length s.names) (length es) all node request draw w.tidy))
 
@@ -86,9 +86,9 @@ pub tick_goes_on : (s : State) (settings : Settings) (all new : List Replica) (e
     → IsWorldOf (world_setup s settings) s all es → length es < 65536 → StandsFor env (faults_in s.active) → env.start ≡ s.start
     → new ≡ replicas_after_tick settings.store (env_cells env) all
     → IsWorldOf (world_setup s settings) s new (es ++ Event.Tick ∷ [])
-tick_goes_on s settings all new es env w few stands start told =
+tick_goes_on s settings all new es env w few stands start given =
     let Left : Cells → Type 0 = λ env. new ≡ replicas_after_tick settings.store env all in
-    let left : Left (env_of s) = subst Left (cells_are env s stands start) told in
+    let left : Left (env_of s) = subst Left (cells_are env s stands start) given in
     goes_on (world_setup s settings) s s all new es Event.Tick w few (tt, refl, left)
     (rw left (ticked_tidy settings.store (env_of s) (length s.names) (length es) all w.tidy))
 
@@ -101,11 +101,11 @@ pub step_goes_on : (s t : State) (settings : Settings) (all new : List Replica) 
     → answer ≡ answer_of s step → t ≡ state_after s step → StandsFor after (faults_in t.active) → after.start ≡ t.start
     → new ≡ replicas_after_kills settings (killed_flags (env_cells before) (length s.names)) (env_cells after) all
     → IsWorldOf (world_setup t settings) t new (es ++ Event.Step step answer ∷ [])
-step_goes_on s t settings all new es before after step answer w few stands start fits told moved stands' start' forgot =
+step_goes_on s t settings all new es before after step answer w few stands start fits given moved stands' start' forgot =
     let u = world_setup s settings in
     let Left : Cells → Cells → Type 0 = λ was is. new ≡ replicas_after_kills settings (killed_flags was (length s.names)) is all in
     let at_t : Left (env_of s) (env_of t) = subst (Left (env_of s)) (cells_are after t stands' start') (subst (λ was. Left was (env_cells after)) (cells_are before s stands start) forgot) in
     let left : Left (env_of s) (env_of (state_after s step)) = subst (λ (r : State). Left (env_of s) (env_of r)) moved at_t in
     rw (same_setup s t settings step moved)
-    (goes_on u s t all new es (Event.Step step answer) w few ((fits, told), moved, left)
+    (goes_on u s t all new es (Event.Step step answer) w few ((fits, given), moved, left)
     (rw left (forgotten_tidy settings (killed_flags (env_of s) (length s.names)) (env_of (state_after s step)) (length s.names) (length es) all w.tidy)))

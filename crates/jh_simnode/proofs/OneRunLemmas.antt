@@ -87,7 +87,7 @@ only_run p ja jb ha hb s t =
       | inr not_below ↦ elim (cases_eq n m) as (λ x. (ja ≡ jb) × (ha ≡ hb)) [
         | inl same ↦
             (let e = (reaches_once p u m s.turns t.turns ja jb (subst (λ (i : ℕ). Reaches p i s.turns ja) same s.reached.run.1) t.reached.run.1 s.reached.legal t.reached.legal).1 in
-            (e, s.told ∙ ap journal_history e ∙ sym t.told))
+            (e, s.is_history ∙ ap journal_history e ∙ sym t.is_history))
         | inr other ↦ absurd (no_further p u m t.turns jb t.reached.run.1 t.reached.legal t.over n s.turns ja s.reached.run.1 s.reached.legal (omega (arith, other)))
       ]
     ]

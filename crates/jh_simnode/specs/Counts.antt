@@ -30,7 +30,7 @@ applied_count journal = count_by is_step journal
 abbrev pub is_process_of : ℕ → ℕ → ℕ → Bool
 is_process_of clients thread process = (process % clients) == thread
 
--- the reply doesn't tell whether it was done
+-- the reply leaves open whether it was done
 abbrev pub is_unknown_reply : Reply → Bool
 is_unknown_reply (Ok got) = false
 is_unknown_reply Fail = false

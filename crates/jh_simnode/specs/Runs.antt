@@ -183,7 +183,7 @@ pub record IsSerialRun (p : PlanValue) (journal : List Event)
   pub reached : RunReaches p turns journal
   pub ended : turns.has_ended ≡ true
   pub over : move_of p turns journal ≡ Rests
-  pub told : history ≡ journal_history journal
+  pub is_history : history ≡ journal_history journal
 
 -- why a run of a plan is not completed: no thread got a call in a whole round, or memory was
 -- refused

@@ -106,7 +106,7 @@ pub(crate) fn effect(
     request: Request,
     contents: &Contents,
 ) -> Result<Option<Change>, AllocError>
-    ensures { IfOk result (λ told. told ≡ effect request contents.now) }
+    ensures { IfOk result (λ given. given ≡ effect request contents.now) }
 {
     match (request, contents) {
         (Request::Read, _) => Ok(Some(Change {

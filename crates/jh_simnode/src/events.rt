@@ -30,7 +30,7 @@ pub enum Event {
         step: Step,
         answer: StepAnswer,
     },
-    /// The nodes told each other what they have.
+    /// The nodes sent each other what they have.
     Tick,
 }
 

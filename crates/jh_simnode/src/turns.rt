@@ -38,7 +38,7 @@ pub(crate) struct Run {
     pub(crate) has_ended: bool,
 }
 
-/// What a thread is told to do.
+/// What a thread is asked to do.
 #[derive(Clone, Copy)]
 enum Asked {
     /// To make a request, as an operation of this process.

@@ -117,8 +117,8 @@ impl World {
         draw: u64,
     ) -> Result<(u64, Reply), WorldError>
         ensures added { MatchResult result
-            (λ told. AddsEvent self.old
-            (Event.Call process node request draw told.1) told.0 self.new)
+            (λ given. AddsEvent self.old
+            (Event.Call process node request draw given.1) given.0 self.new)
             (λ e. (self.new ≡ self.old)
             × Refuses (node < length self.old.setup.names) self.old.journal e) }
         ensures work { self.new.work ≡ self.old.work }
@@ -161,7 +161,7 @@ impl World {
     /// `TooManyEvents` after 65,536 events; `OutOfMemory`.
     pub fn step(&mut self, step: Step) -> Result<(u64, StepAnswer), WorldError>
         ensures added { MatchResult result
-            (λ told. AddsEvent self.old (Event.Step step told.1) told.0 self.new)
+            (λ given. AddsEvent self.old (Event.Step step given.1) given.0 self.new)
             (λ e. (self.new ≡ self.old)
             × Refuses (FitsNodes (length self.old.setup.names) step) self.old.journal e) }
         ensures work { self.new.work
@@ -190,13 +190,13 @@ impl World {
         Ok((number, answer))
     }
 
-    /// A moment in which the nodes of a last-writer-wins store tell each other what they have.
+    /// A moment in which the nodes of a last-writer-wins store send each other what they have.
     /// Answers the number of the event.
     ///
     /// Errors, which change nothing: `TooManyEvents` after 65,536 events; `OutOfMemory`.
     pub fn tick(&mut self) -> Result<u64, WorldError>
         ensures added { MatchResult result
-            (λ told. AddsEvent self.old Event.Tick told self.new)
+            (λ given. AddsEvent self.old Event.Tick given self.new)
             (λ e. (self.new ≡ self.old) × Refuses ⊤ self.old.journal e) }
         ensures work { self.new.work ≡ self.old.work }
     {

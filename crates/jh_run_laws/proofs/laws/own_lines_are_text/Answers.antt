@@ -9,5 +9,5 @@ pub returns : goal.returns
 returns c = λ p journal history run can. (
   map value_written history,
   (c.operation_lines_read_back.ensures.lines history can).0,
-  subst (λ (h : List Operation). AreParsed (map value_written h) h) (sym run.given) (are_parsed journal),
+  subst (λ (h : List Operation). AreParsed (map value_written h) h) (sym run.is_history) (are_parsed journal),
 )

@@ -9,7 +9,7 @@ use Rattle.jh_simnode.proofs.serial.run_serial.Goals as goal
 pub returns-clause-judged : goal.returns-clause-judged
 returns-clause-judged c =
     let o = c.in_ok-run_turns.ensures.over in
-    (c.in_ok-run_turns.ensures.setup, record { turns = o.turns; reached = o.reached; ended = o.ended; over = o.rests; told = c.in_ok-history.ensures ∙ ap journal_history c.journal.ensures.events })
+    (c.in_ok-run_turns.ensures.setup, record { turns = o.turns; reached = o.reached; ended = o.ended; over = o.rests; is_history = c.in_ok-history.ensures ∙ ap journal_history c.journal.ensures.events })
 
 pub returns-clause-writable : goal.returns-clause-writable
 returns-clause-writable c =

@@ -37,22 +37,22 @@ call-requires c =
     let going : r.has_ended ≡ false = sym k.ended ∙ c.requires.going in
     let turn = c.next_thread-thread.ensures.turn ∙ ap (λ n. n % p.clients) k.asks in
     let asking : IsAsking p r w.journal c.args.self.now c.next_thread-thread.result = record { keeps = k; going = going; turn = turn; within = c.journal-events.ensures.few } in
-    let told : Asks p r w.journal (asked.Calls c.in-Calls.process c.in-Calls.request) c.ask.new.self =
+    let given : Asks p r w.journal (asked.Calls c.in-Calls.process c.in-Calls.request) c.ask.new.self =
     subst (λ a. Asks p r w.journal a c.ask.new.self) c.in-Calls.is (c.ask.ensures r w.journal asking) in
     record {
       turns = r;
-      path = told.0;
+      path = given.0;
       settled = s.settled;
       quiet = s.stands.quiet;
       going = going;
       patient = (let few = c.requires.patient in let same = k.waits in omega (arith, few, same));
       led = s.stands.led;
-      move = told.1;
+      move = given.1;
       thread_is = turn;
       within = c.next_thread-thread.ensures.within;
       crowd = c.requires.crowd;
-      process_is = told.2;
-      has = told.3;
+      process_is = given.2;
+      has = given.3;
       legal = c.journal-events.ensures.legal;
       few = c.journal-events.ensures.few;
       few_asks = k.few going;
@@ -70,10 +70,10 @@ returns-in-Waits c =
     let patient : r.waits < p.clients = (let few = c.requires.patient in let same = k.waits in omega (arith, few, same)) in
     let asking : IsAsking p r w.journal c.args.self.now c.next_thread-thread.result =
     record { keeps = k; going = going; turn = c.next_thread-thread.ensures.turn ∙ ap (λ n. n % p.clients) k.asks; within = c.journal-events.ensures.few } in
-    let told : Asks p r w.journal asked.Waits c.ask.new.self = subst (λ a. Asks p r w.journal a c.ask.new.self) c.in-Waits.is (c.ask.ensures r w.journal asking) in
-    let after = told.1 in
+    let given : Asks p r w.journal asked.Waits c.ask.new.self = subst (λ a. Asks p r w.journal a c.ask.new.self) c.in-Waits.is (c.ask.ensures r w.journal asking) in
+    let after = given.1 in
     record {
-      stands = waited_stands p c.args.self.now c.ask.new.self w s going patient told;
+      stands = waited_stands p c.args.self.now c.ask.new.self w s going patient given;
       falls = falls_waiting c.args.self.now c.ask.new.self w (after.waits ∙ ap (λ n. n + 1) (sym k.waits)) (after.ended ∙ sym k.ended)
           (let few = c.requires.patient in let crowd = c.requires.crowd in omega (arith, few, crowd));
       stopped = tt;
@@ -90,10 +90,10 @@ returns-in-Ends c =
     let patient : r.waits < p.clients = (let few = c.requires.patient in let same = k.waits in omega (arith, few, same)) in
     let asking : IsAsking p r w.journal c.args.self.now c.next_thread-thread.result =
     record { keeps = k; going = going; turn = c.next_thread-thread.ensures.turn ∙ ap (λ n. n % p.clients) k.asks; within = c.journal-events.ensures.few } in
-    let told : Asks p r w.journal asked.Ends c.ask.new.self = subst (λ a. Asks p r w.journal a c.ask.new.self) c.in-Ends.is (c.ask.ensures r w.journal asking) in
-    let after = told.1 in
+    let given : Asks p r w.journal asked.Ends c.ask.new.self = subst (λ a. Asks p r w.journal a c.ask.new.self) c.in-Ends.is (c.ask.ensures r w.journal asking) in
+    let after = given.1 in
     record {
-      stands = ended_stands p c.args.self.now c.ask.new.self w s going patient told;
+      stands = ended_stands p c.args.self.now c.ask.new.self w s going patient given;
       falls = falls_ending c.args.self.now c.ask.new.self w (after.waits ∙ sym k.waits) after.ended c.requires.going;
       stopped = tt;
     }
