@@ -1,4 +1,4 @@
-use Rattle.std.proofs.Common.{◌≡◌, ◌<◌, length, drop, arith, Ok, Some, sym, ◌∙◌}
+use Rattle.std.proofs.Common.{◌≡◌, ◌<◌, length, drop, arith, rules, Ok, Some, sym, ◌∙◌}
 use Rattle.std.proofs.lemmas.List.{length-drop}
 use Rattle.jh_edn.specs.Gives.{Fails}
 use Rattle.jh_edn.specs.Reading.{gap}
@@ -8,20 +8,20 @@ use Rattle.jh_edn.proofs.SequenceReadLemmas.{opens, behind_bracket, sequence_nex
 use Rattle.jh_edn.proofs.ReadAtLemmas.{whole_ending, place, made, refused_or, refused_gap, first_or, gap_error, read_error, not_at_end}
 use Rattle.jh_edn.proofs.sequence.read_sequence.Goals as goal
 
-pub returns-in-Err-clause-refused : goal.returns-in-Err-clause-refused
-returns-in-Err-clause-refused g c =
-    let text = c.args.text.now in
-    let parsed = c.in-Err.error in
-    let e : Fails parsed (gap depth_limit (drop c.args.at text)) = rw (← c.range_from.ensures.value) c.in-Err.ensures.gives in
-    rw c.error_in.ensures (refused_gap text c.args.at parsed e)
-
-pub returns-in-Err-clause-first_error : goal.returns-in-Err-clause-first_error
-returns-in-Err-clause-first_error g c =
+pub returns-in-Err : goal.returns-in-Err
+returns-in-Err g c =
     let text = c.args.text.now in
     let s = drop c.args.at text in
     let parsed = c.in-Err.error in
     let e : Fails parsed (gap depth_limit s) = rw (← c.range_from.ensures.value) c.in-Err.ensures.gives in
-    rw c.error_in.ensures (first_or text c.args.at parsed (gap_error s parsed e))
+    record {
+      some = search rules;
+      place = search rules;
+      none = search rules;
+      unchanged = search rules;
+      refused = rw c.error_in.ensures (refused_gap text c.args.at parsed e);
+      first_error = rw c.error_in.ensures (first_or text c.args.at parsed (gap_error s parsed e));
+    }
 
 pub returns-in_default-clause-none : goal.returns-in_default-clause-none
 returns-in_default-clause-none g c =
@@ -45,20 +45,8 @@ overflow_sub-result g c =
     let is : elements_to c.in-Some.close (drop 1 here) ≡ Ok (taken.0, after) = rw (← c.range_from-2.ensures.value) taken.1 in
     omega (arith, (sequence_next s here c.in-Some.close taken.0 after e some is).3, length-drop c.args.at c.args.text.now)
 
-pub returns-in-Ok-give_elements-clause-some : goal.returns-in-Ok-give_elements-clause-some
-returns-in-Ok-give_elements-clause-some g c =
-    let s = drop c.args.at c.args.text.now in
-    let here = c.in-Ok.here.now in
-    let after = c.in-Ok-give_elements.after.now in
-    let taken = c.in-Ok-give_elements.ensures.taken in
-    let e : gap depth_limit s ≡ Ok here = rw (← c.range_from.ensures.value) c.in-Ok.ensures.gives in
-    let some : closing_bracket here ≡ Some c.in-Some.close = sym c.closing.ensures ∙ c.in-Some.is in
-    let is : elements_to c.in-Some.close (drop 1 here) ≡ Ok (taken.0, after) = rw (← c.range_from-2.ensures.value) taken.1 in
-    let q = sequence_next s here c.in-Some.close taken.0 after e some is in
-    (q.0, taken.0, made c.args.text.now c.args.at q.0 after q.2, q.1, taken.2)
-
-pub returns-in-Ok-give_elements-clause-place : goal.returns-in-Ok-give_elements-clause-place
-returns-in-Ok-give_elements-clause-place g c =
+pub returns-in-Ok-give_elements : goal.returns-in-Ok-give_elements
+returns-in-Ok-give_elements g c =
     let text = c.args.text.now in
     let s = drop c.args.at text in
     let here = c.in-Ok.here.now in
@@ -69,10 +57,17 @@ returns-in-Ok-give_elements-clause-place g c =
     let is : elements_to c.in-Some.close (drop 1 here) ≡ Ok (taken.0, after) = rw (← c.range_from-2.ensures.value) taken.1 in
     let q = sequence_next s here c.in-Some.close taken.0 after e some is in
     let p = place text c.args.at after (whole_ending s q.0 after q.2) in
-    (omega (arith, q.3, length-drop c.args.at text), p.seam c.in-Ok-give_elements.ensures.text)
+    record {
+      some = (q.0, taken.0, made text c.args.at q.0 after q.2, q.1, taken.2);
+      place = (omega (arith, q.3, length-drop c.args.at text), p.seam c.in-Ok-give_elements.ensures.text);
+      none = search rules;
+      unchanged = search rules;
+      refused = search rules;
+      first_error = search rules;
+    }
 
-pub returns-in-Err-give_elements-clause-refused : goal.returns-in-Err-give_elements-clause-refused
-returns-in-Err-give_elements-clause-refused g c =
+pub returns-in-Err-give_elements : goal.returns-in-Err-give_elements
+returns-in-Err-give_elements g c =
     let text = c.args.text.now in
     let s = drop c.args.at text in
     let here = c.in-Ok.here.now in
@@ -81,15 +76,12 @@ returns-in-Err-give_elements-clause-refused g c =
     let some : closing_bracket here ≡ Some c.in-Some.close = sym c.closing.ensures ∙ c.in-Some.is in
     let fails : Fails parsed (elements_to c.in-Some.close (drop 1 here)) = rw (← c.range_from-2.ensures.value) c.in-Err-give_elements.ensures.fails in
     let bracket : 0 < length here = (opens here c.in-Some.close some).some in
-    rw c.error_in-in-Err-give_elements.ensures (refused_or text c.args.at parsed (read_error s here parsed e (sequence_error here c.in-Some.close parsed some fails)) (not_at_end s here e (λ none. omega (arith, bracket, none))))
-
-pub returns-in-Err-give_elements-clause-first_error : goal.returns-in-Err-give_elements-clause-first_error
-returns-in-Err-give_elements-clause-first_error g c =
-    let text = c.args.text.now in
-    let s = drop c.args.at text in
-    let here = c.in-Ok.here.now in
-    let parsed = c.in-Err-give_elements.error in
-    let e : gap depth_limit s ≡ Ok here = rw (← c.range_from.ensures.value) c.in-Ok.ensures.gives in
-    let some : closing_bracket here ≡ Some c.in-Some.close = sym c.closing.ensures ∙ c.in-Some.is in
-    let fails : Fails parsed (elements_to c.in-Some.close (drop 1 here)) = rw (← c.range_from-2.ensures.value) c.in-Err-give_elements.ensures.fails in
-    rw c.error_in-in-Err-give_elements.ensures (first_or text c.args.at parsed (read_error s here parsed e (sequence_error here c.in-Some.close parsed some fails)))
+    let error = read_error s here parsed e (sequence_error here c.in-Some.close parsed some fails) in
+    record {
+      some = search rules;
+      place = search rules;
+      none = search rules;
+      unchanged = search rules;
+      refused = rw c.error_in-in-Err-give_elements.ensures (refused_or text c.args.at parsed error (not_at_end s here e (λ none. omega (arith, bracket, none))));
+      first_error = rw c.error_in-in-Err-give_elements.ensures (first_or text c.args.at parsed error);
+    }
