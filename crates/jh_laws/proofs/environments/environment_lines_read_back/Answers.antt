@@ -25,4 +25,4 @@ returns-clause-one c = λ env other starts more alike.
     let spelled = subst (SpellsAll (text_of other ∷ [])) (sym alike) (c.print_laws.ensures.spells (text_of other) (environment_printable other more)) in
     let same = one_value (c.print_laws.ensures.alone (text_of env) (text_of other ∷ []) (environment_printable env starts) spelled) in
     let parsed = subst (λ v. IsTextOf v other.names (cells_of other)) same (c.environments_read_back.ensures.written other more) in
-    c.environments_read_back.ensures.tells_one (text_of env) env.names other.names (cells_of env) (cells_of other) (c.environments_read_back.ensures.written env starts) parsed
+    c.environments_read_back.ensures.means_one (text_of env) env.names other.names (cells_of env) (cells_of other) (c.environments_read_back.ensures.written env starts) parsed

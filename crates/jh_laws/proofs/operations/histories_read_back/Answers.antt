@@ -7,11 +7,11 @@ use Rattle.jh_laws.proofs.HistoryLemmas.{parsed_histories_print, parsed_again, b
 use Rattle.jh_laws.proofs.operations.histories_read_back.Goals as goal
 
 pub returns-clause-again : goal.returns-clause-again
-returns-clause-again c = λ bytes history tells.
-    let print = parsed_histories_print tells.0 history (c.print_laws.ensures.spelled bytes tells.0 tells.1) tells.2 in (
+returns-clause-again c = λ bytes history decides.
+    let print = parsed_histories_print decides.0 history (c.print_laws.ensures.spelled bytes decides.0 decides.1) decides.2 in (
       map value_written history,
       (c.operation_lines_read_back.ensures.lines history print).0,
-      parsed_again c.operations_read_back.ensures tells.0 history tells.2,
+      parsed_again c.operations_read_back.ensures decides.0 history decides.2,
     )
 
 pub returns-clause-made : goal.returns-clause-made
@@ -21,6 +21,6 @@ returns-clause-made c = λ history all.
     (map value_written history, (c.operation_lines_read_back.ensures.lines history print).0, bare_parsed history bare)
 
 pub returns-clause-one : goal.returns-clause-one
-returns-clause-one c = λ bytes history others tells more.
-    let same = c.spelled_once.ensures bytes more.0 tells.0 more.1 tells.1 in
-    one_history tells.0 history others tells.2 (subst (λ values. AreParsed values others) same more.2)
+returns-clause-one c = λ bytes history others decides more.
+    let same = c.spelled_once.ensures bytes more.0 decides.0 more.1 decides.1 in
+    one_history decides.0 history others decides.2 (subst (λ values. AreParsed values others) same more.2)

@@ -5,12 +5,12 @@ use Rattle.jh_laws.proofs.HistoryLemmas.{parsed_histories_print}
 use Rattle.jh_laws.proofs.results.read_histories_are_judged_by_equality.Goals as goal
 
 pub returns-clause-ids : goal.returns-clause-ids
-returns-clause-ids c = λ bytes history tells.
-    held_printable Kind.Ok (codes "generate") history (parsed_histories_print tells.0 history (c.print_laws.ensures.spelled bytes tells.0 tells.1) tells.2)
+returns-clause-ids c = λ bytes history decides.
+    held_printable Kind.Ok (codes "generate") history (parsed_histories_print decides.0 history (c.print_laws.ensures.spelled bytes decides.0 decides.1) decides.2)
 
 pub returns-clause-sets : goal.returns-clause-sets
-returns-clause-sets c = λ bytes history read tells shown.
-    let print = parsed_histories_print tells.0 history (c.print_laws.ensures.spelled bytes tells.0 tells.1) tells.2 in
+returns-clause-sets c = λ bytes history read decides shown.
+    let print = parsed_histories_print decides.0 history (c.print_laws.ensures.spelled bytes decides.0 decides.1) decides.2 in
     record {
       shown = shown;
       read_printable = read_printable history read print shown;

@@ -26,6 +26,6 @@ pub returns-clause-one : goal.returns-clause-one
 returns-clause-one c = λ bytes names others cells more steps those one other.
     let same = c.spelled_once.ensures bytes (other.first ∷ other.others) (one.first ∷ one.others) other.spelled one.spelled in
     let environment = subst (λ value. IsTextOf value others more) (ap first_in same) other.environment in
-    let alike = c.environments_read_back.ensures.tells_one one.first names others cells more one.environment environment in
+    let alike = c.environments_read_back.ensures.means_one one.first names others cells more one.environment environment in
     let parsed = subst (λ names. map (parsed_step names) other.others ≡ map Ok those) alike.0 other.parsed in
     (alike.0, alike.1, one_list steps those (sym parsed ∙ ap (λ values. map (parsed_step names) (rest_in values)) same ∙ one.parsed))
