@@ -1,7 +1,6 @@
 -- Texts of elements, one after another.
-use Rattle.std.proofs.Common.{◌≡◌, ℕ, zero, suc, ◌+◌, ◌<◌, Bool, true, false, eqb, List, [], ◌∷◌, ◌++◌, codes, length, take, get_or, map, refl, sym, ap, ◌∙◌, append_assoc, arith}
-use Rattle.std.proofs.lemmas.Bool.{ne_eqb}
-use Rattle.std.proofs.lemmas.List.{map_more}
+use Rattle.std.proofs.Common.{◌≡◌, ℕ, ◌+◌, ◌<◌, eqb, List, [], ◌∷◌, ◌++◌, codes, length, take, get_or, map, refl, sym, ap, ◌∙◌, append_assoc}
+use Rattle.jh_edn.proofs.CitedLemmas.{joined_more}
 use Rattle.jh_edn.specs.Edn.{Edn, keyword, items_of, members_of}
 use Rattle.jh_edn.specs.Print.{print, joined_text, item_texts, member_texts, separator_before}
 use Rattle.jh_check.specs.Lines.{verdict_value, behind_pair_text, map_of}
@@ -11,31 +10,10 @@ pub item_texts_map : {X : Type 0} (value : X → Edn) (xs : List X) → item_tex
 item_texts_map value [] = refl
 item_texts_map value (x ∷ xs) = ap (λ w. print (value x) ∷ w) (item_texts_map value xs)
 
-abbrev is_none : List (List ℕ) → Bool
-is_none [] = true
-is_none (t ∷ ts) = false
-
-joined_push : (separator t : List ℕ) (ts : List (List ℕ)) → joined_text separator (ts ++ t ∷ []) ≡ (joined_text separator ts ++ separator_before (is_none ts) separator) ++ t
-joined_push separator t [] = refl
-joined_push separator t (u ∷ []) = sym (append_assoc u separator t)
-joined_push separator t (u ∷ v ∷ ts) =
-    let inner = joined_text separator (v ∷ ts) in
-    ap (λ (w : List ℕ). u ++ (separator ++ w)) (joined_push separator t (v ∷ ts))
-    ∙ ap (λ (w : List ℕ). u ++ w) (sym (append_assoc separator (inner ++ separator) t) ∙ ap (λ (w : List ℕ). w ++ t) (sym (append_assoc separator inner separator)))
-    ∙ sym (append_assoc u ((separator ++ inner) ++ separator) t)
-    ∙ ap (λ (w : List ℕ). w ++ t) (sym (append_assoc u (separator ++ inner) separator))
-
-begins : {X : Type 0} (text : X → List ℕ) (xs : List X) (i : ℕ) → i < length xs → is_none (map text (take i xs)) ≡ eqb i 0
-begins text [] i h = absurd (omega arith)
-begins text (x ∷ xs) zero h = refl
-begins text (x ∷ xs) (suc i) h = sym (ne_eqb (suc i) 0 (λ e. omega arith))
-
 -- the text of one element more
 pub texts_push : {X : Type 0} (text : X → List ℕ) (xs : List X) (i : ℕ) (d : X) → i < length xs
     → joined_text (codes " ") (map text (take (i + 1) xs)) ≡ (joined_text (codes " ") (map text (take i xs)) ++ separator_before (eqb i 0) (codes " ")) ++ text (get_or xs i d)
-texts_push text xs i d h =
-    ap (joined_text (codes " ")) (map_more text xs i d h) ∙ joined_push (codes " ") (text (get_or xs i d)) (map text (take i xs))
-    ∙ ap (λ b. (joined_text (codes " ") (map text (take i xs)) ++ separator_before b (codes " ")) ++ text (get_or xs i d)) (begins text xs i h)
+texts_push text = joined_more (map text) text refl (λ x xs. refl) (codes " ")
 
 -- ---- a map, pair by pair
 

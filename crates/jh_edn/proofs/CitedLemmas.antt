@@ -8,8 +8,8 @@ pub use Rattle.jh_edn.proofs.SortLemmas.{sorted_is, map_in_order, in_order_ascen
 pub use Rattle.jh_edn.proofs.NormalListLemmas.{held_below, sorted_items}
 -- the items of a list are its values
 pub use Rattle.jh_edn.proofs.SequenceLemmas.{list_of-items_of}
--- a text that is written after another
-pub use Rattle.jh_edn.proofs.PrintLemmas.{appends_then}
+-- a text that is written after another, and one more text behind joined ones
+pub use Rattle.jh_edn.proofs.PrintLemmas.{appends_then, joined_more}
 -- one text has one next value, or a gap, and what spells a value reads as it
 pub use Rattle.jh_edn.proofs.ReadAtLemmas.{made, no_gap, one_next}
 -- elements read one by one are those of the whole text, and the first error behind them is the text's

@@ -36,7 +36,7 @@ module _ {X : Type 0} (texts : List X → List (List ℕ)) (text : X → List �
   begin (x ∷ xs) zero h = rw none refl
   begin (x ∷ xs) (suc i) h = rw (more x (take i xs)) (sym (ne_eqb (suc i) 0 (λ e. omega arith)))
 
-  joined_more : (separator : List ℕ) (xs : List X) (i : ℕ) (d : X) → i < length xs
+  pub joined_more : (separator : List ℕ) (xs : List X) (i : ℕ) (d : X) → i < length xs
       → joined_text separator (texts (take (i + 1) xs)) ≡ (joined_text separator (texts (take i xs)) ++ separator_before (eqb i 0) separator) ++ text (get_or xs i d)
   joined_more separator xs i d h =
       let pushed = joined_push separator (text (get_or xs i d)) (texts (take i xs)) in
