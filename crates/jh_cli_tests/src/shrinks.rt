@@ -151,7 +151,7 @@ fn an_observer_is_told(rt: HostRuntime) {
     assert!(rt; output.as_slice().starts_with(b":budget\n"));
 }
 
-fn told_once(alloc: Global) -> Option<Vec<u8>> {
+fn shrunk_once(alloc: Global) -> Option<Vec<u8>> {
     let mut output = Vec::new(alloc);
     let mut input = STALE_READ.as_bytes();
     shrink_run(alloc, &mut input, &mut output, 10_000).ok()?;
@@ -160,7 +160,7 @@ fn told_once(alloc: Global) -> Option<Vec<u8>> {
 
 #[test]
 fn nobody_need_be_told(rt: HostRuntime) {
-    let told = told_once(rt.alloc()).or_else(|| told_once(rt.alloc()));
+    let given = shrunk_once(rt.alloc()).or_else(|| shrunk_once(rt.alloc()));
     let wanted =
         ":minimal\n[0 [:begin 1 [:pause [\"n3\"]]]]\n[1 [:begin 2 [:kill [\"n1\" \"n2\"]]]]\n[1 [:withdraw 2]]\n";
     assert!(rt; given.is_some_and(|given| given.as_slice() == wanted.as_bytes()));
