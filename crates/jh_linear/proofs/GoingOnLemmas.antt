@@ -19,7 +19,7 @@ use Rattle.jh_linear.specs.declared.judge.Progress.TheVariants.{More, Complete a
 use Rattle.jh_linear.specs.declared.walk.WalkEnd.TheVariants.{Several, Stuck, Complete}
 use Rattle.jh_linear.specs.Order.{Allows, has, op_at}
 use Rattle.jh_linear.specs.Reached.{order_at}
-use Rattle.jh_linear.specs.Search.{Adds, AreMoves, AreSame, AreTried, CanReach, EachIsMove, EndsAs, ComesOfEntering, Grows, GrowsTo, HasGone, IsSearchSoFar, IsFurthest, IsGoneOn, IsMadeBy, IsMove, IsMoved, IsProblem, CanBePlaced, IsWholeOrder, LeadsOn, Notes, LeadsTo, ComesOfTurn, ComesOfMove, WasReached, WereTried, source_call, class_at, end_at, invocation_at, next_at, source_place, stage_place, stages_in, unknown_place}
+use Rattle.jh_linear.specs.Search.{Adds, AreMoves, AreSame, AreTried, CanReach, EachIsMove, EndsAs, ComesOfEntering, Grows, GrowsTo, HasGone, IsSearchSoFar, IsFurthest, IsGoneOn, IsMadeBy, IsMove, IsMoved, IsProblem, CanBePlaced, IsWholeOrder, LeadsOn, Notes, LeadsTo, ComesOfTurn, ComesOfMove, SearchLists, WasReached, WereTried, search_lists, source_call, class_at, end_at, invocation_at, next_at, source_place, stage_place, stages_in, unknown_place}
 use Rattle.jh_linear.proofs.GrowthLemmas.{below, grows_far, grows_none, grows_order, grows_push, grows_trans, known_leads, leads_more, new_leads, stands_copy}
 use Rattle.jh_linear.specs.TurnsInside.{IsWith, awaits, turns_left}
 use Rattle.jh_linear.proofs.LeadLemmas.{one_leads}
@@ -54,11 +54,12 @@ move_same problem a b same move h = (
 
 -- ---- what is kept where lists are the same
 
+lists_same : (a b : SearchLists) → a.configs ≡ b.configs → a.steps ≡ b.steps → a.waiting ≡ b.waiting → a.furthest ≡ b.furthest → a ≡ b
+lists_same a b p q r s = ap (λ x. record a { configs = x }) p ∙ ap (λ x. record a { configs = b.configs; steps = x }) q ∙ ap (λ x. record b { waiting = x; furthest = a.furthest }) r ∙ ap (λ x. record b { furthest = x }) s
+
 module _ (problem : Problem) where
-  pub grows_is : (cs : List Config) (ss : List Step) (ws : List Turn) (f : Furthest) (a a' : List Config) (b b' : List Step) (c c' : List Turn) (d d' : Furthest) → a' ≡ a → b' ≡ b → c' ≡ c → d' ≡ d
-      → Grows problem cs ss ws f a b c d → Grows problem cs ss ws f a' b' c' d'
-  grows_is cs ss ws f a a' b b' c c' d d' p q r s h =
-      subst (λ x. Grows problem cs ss ws f x b' c' d') (sym p) (subst (λ x. Grows problem cs ss ws f a x c' d') (sym q) (subst (λ x. Grows problem cs ss ws f a b x d') (sym r) (subst (λ x. Grows problem cs ss ws f a b c x) (sym s) h)))
+  grows_is : (old new new' : SearchLists) → new'.configs ≡ new.configs → new'.steps ≡ new.steps → new'.waiting ≡ new.waiting → new'.furthest ≡ new.furthest → Grows problem old new → Grows problem old new'
+  grows_is old new new' p q r s h = subst (Grows problem old) (sym (lists_same new' new p q r s)) h
 
   leads_is : (a a' : List Config) (b b' : List Step) (size n : ℕ) → a' ≡ a → b' ≡ b → LeadsOn problem a b size n → LeadsOn problem a' b' size n
   leads_is a a' b b' size n p q h = subst (λ x. LeadsOn problem x b' size n) (sym p) (subst (λ x. LeadsOn problem a x size n) (sym q) h)
@@ -75,7 +76,7 @@ module _ (problem : Problem) (stood : IsProblem problem) (old new : Search) (beg
       let cs = old.configs.keys in
       let ss = old.steps.items in
       let order : List ℕ = order_at ss at in (
-        grows_is problem cs ss old.waiting old.furthest cs new.configs.keys ss new.steps.items old.waiting new.waiting old.furthest new.furthest e.0 e.1 e.2 e.3 (grows_none problem stood cs ss old.waiting old.furthest begun.known begun.far begun.few),
+        grows_is problem (search_lists old) (search_lists old) (search_lists new) e.0 e.1 e.2 e.3 (grows_none problem stood (search_lists old) begun.known begun.far begun.few),
         e.3,
         λ n reach. leads_is problem cs new.configs.keys ss new.steps.items (length order) n e.0 e.1
             (known_leads problem stood cs ss begun.known config e.4.1 e.4.0 (length order) n (order ++ placed) stands e.4.2 e.4.3 (longer_with order placed some) reach),
@@ -87,8 +88,8 @@ module _ (problem : Problem) (stood : IsProblem problem) (old new : Search) (beg
       let ss = old.steps.items in
       let order : List ℕ = order_at ss at in
       let step : Step = record { parent = at; placed = placed } in (
-        grows_is problem cs ss old.waiting old.furthest (cs ++ config ∷ []) new.configs.keys (ss ++ step ∷ []) new.steps.items new.waiting new.waiting old.furthest new.furthest e.0 e.1 refl e.3
-            (grows_push problem stood cs ss old.waiting new.waiting old.furthest config step e.2.0 begun.known begun.far begun.few e.5 low stands open'' near e.4 e.2.1 (ap (λ b. if b then 1 else 2) e.2.2) e.2.3),
+        grows_is problem (search_lists old) (record { configs = cs ++ config ∷ []; steps = ss ++ step ∷ []; waiting = new.waiting; furthest = old.furthest }) (search_lists new) e.0 e.1 refl e.3
+            (grows_push problem stood (search_lists old) new.waiting config step e.2.0 begun.known begun.far begun.few e.5 low stands open'' near e.4 e.2.1 (ap (λ b. if b then 1 else 2) e.2.2) e.2.3),
         e.3,
         λ n reach. leads_is problem (cs ++ config ∷ []) new.configs.keys (ss ++ step ∷ []) new.steps.items (length order) n e.0 e.1
             (new_leads problem stood cs ss begun.known config step (length order) n (longer_with order placed some) reach),
@@ -99,16 +100,14 @@ module _ (problem : Problem) (stood : IsProblem problem) (old new : Search) (beg
 pub noted : (problem : Problem) (stood : IsProblem problem) (old new : Search) (at : ℕ) (placed : List ℕ) (config : Config) → IsSearchSoFar problem old → at < length old.steps.items → LeadsTo problem (order_at old.steps.items at ++ placed) config → config.stage < stages_in problem
     → Notes old new at placed config.stage → GrowsTo problem old new × (config.stage ≤ new.furthest.stage)
 noted problem stood old new at placed config begun low stands open'' notes =
-    let cs = old.configs.keys in
-    let ss = old.steps.items in
     elim notes.furthest as (λ _. GrowsTo problem old new × (config.stage ≤ new.furthest.stage)) [
       | inl same ↦ (
-        grows_is problem cs ss old.waiting old.furthest cs new.configs.keys ss new.steps.items old.waiting new.waiting old.furthest new.furthest notes.configs notes.steps notes.waiting same.1 (grows_none problem stood cs ss old.waiting old.furthest begun.known begun.far begun.few),
+        grows_is problem (search_lists old) (search_lists old) (search_lists new) notes.configs notes.steps notes.waiting same.1 (grows_none problem stood (search_lists old) begun.known begun.far begun.few),
         subst (λ (f : Furthest). config.stage ≤ f.stage) (sym same.1) same.0,
       )
       | inr more ↦
           let here : Furthest = record { stage = config.stage; step = record { parent = at; placed = placed } } in
-          let far : IsFurthest problem cs ss here = record {
+          let far : IsFurthest problem old.configs.keys old.steps.items here = record {
             named = low;
             open' = open'';
             value = config.value;
@@ -116,7 +115,7 @@ noted problem stood old new at placed config begun low stands open'' notes =
             passed = stands.known.passed;
             most = λ i c is. omega (arith, begun.far.most i c is, more.0);
           } in (
-            grows_is problem cs ss old.waiting old.furthest cs new.configs.keys ss new.steps.items old.waiting new.waiting here new.furthest notes.configs notes.steps notes.waiting more.1 (grows_far problem stood cs ss old.waiting old.furthest here begun.known far begun.few (omega (arith, more.0))),
+            grows_is problem (search_lists old) (record (search_lists old) { furthest = here }) (search_lists new) notes.configs notes.steps notes.waiting more.1 (grows_far problem stood (search_lists old) here begun.known far begun.few (omega (arith, more.0))),
             subst (λ (f : Furthest). config.stage ≤ f.stage) (sym more.1) (omega arith),
           )
     ]
@@ -170,7 +169,7 @@ module _ (problem : Problem) (stood : IsProblem problem) (old : Search) (begun :
   pub tried_several : (mid new : Search) → EndsAs problem next placed Several → Notes old mid at placed next.stage → ComesOfEntering problem mid new at placed next More → ComesOfMove problem old new at config step More
   tried_several mid new ends notes entered =
       let n = noted problem stood old mid at placed next begun at_low stands_next ends notes in (
-        grows_trans problem stood old.configs.keys old.steps.items old.waiting old.furthest mid.configs.keys mid.steps.items mid.waiting mid.furthest new.configs.keys new.steps.items new.waiting new.furthest n.0 entered.0,
+        grows_trans problem stood (search_lists old) (search_lists mid) (search_lists new) n.0 entered.0,
         λ stages past few reach.
             let beyond : next.stage < stages = omega (arith, n.1, ap (λ (f : Furthest). f.stage) entered.1, past) in
             let there = reach_next stages beyond few reach in
@@ -188,7 +187,7 @@ module _ (problem : Problem) (stood : IsProblem problem) (old : Search) (begun :
 -- what led on past the furthest stage still does
 moved_more : (problem : Problem) (stood : IsProblem problem) (old mid new : Search) (at : ℕ) (config : Config) (move : Move) → IsSearchSoFar problem mid → GrowsTo problem mid new → IsMoved problem old mid at config move → IsMoved problem old new at config move
 moved_more problem stood old mid new at config move begun on moved stages past few reach =
-    leads_more problem stood mid.configs.keys mid.steps.items mid.waiting mid.furthest new.configs.keys new.steps.items new.waiting new.furthest (length (order_at old.steps.items at)) stages begun.known on
+    leads_more problem stood (search_lists mid) (search_lists new) (length (order_at old.steps.items at)) stages begun.known on
     (moved stages (omega (arith, on.further, past)) few reach)
 
 pub tried_more : (problem : Problem) (stood : IsProblem problem) (old mid new : Search) (at : ℕ) (config : Config) (moves : List Move) (step index : ℕ) (d : Move) → at < length old.steps.items → index ≡ length moves - 1 - step → step < length moves → IsSearchSoFar problem mid → GrowsTo problem old mid → GrowsTo problem mid new
@@ -244,16 +243,14 @@ module _ (problem : Problem) (stood : IsProblem problem) (old : Search) (turn : 
   taken_first later mid new moves first at last with' e f g More tried =
       let one : turns_left later ≡ 1 = ap (λ b. if b then 1 else 2) last in
       let two : turns_left turn ≡ 2 = ap (λ b. if b then 1 else 2) first in
-      let on : Grows problem old.configs.keys old.steps.items mid.waiting old.furthest new.configs.keys new.steps.items new.waiting new.furthest =
-      subst (λ x. Grows problem x.keys old.steps.items mid.waiting old.furthest new.configs.keys new.steps.items new.waiting new.furthest) e
-      (subst (λ x. Grows problem mid.configs.keys x.items mid.waiting old.furthest new.configs.keys new.steps.items new.waiting new.furthest) f
-      (subst (λ x. Grows problem mid.configs.keys mid.steps.items mid.waiting x new.configs.keys new.steps.items new.waiting new.furthest) g tried.0)) in
+      let waits : SearchLists = record (search_lists old) { waiting = mid.waiting } in
+      let same : search_lists mid ≡ waits = lists_same (search_lists mid) waits (ap (λ x. x.keys) e) (ap (λ x. x.items) f) refl g in
       record {
         again = later ∷ [];
         fewer = omega (arith, one, two, turns_only later);
         own = λ i h. sym (only_at later i h) ∙ at;
-        on = grows_order problem stood old.configs.keys old.steps.items mid.waiting (later ∷ old.waiting) old.furthest new.configs.keys new.steps.items new.waiting new.furthest
-            (λ i. sym (awaits_is later old.waiting mid.waiting with' i)) (turns_is later old.waiting mid.waiting with') on;
+        on = grows_order problem stood waits (search_lists new) (later ∷ old.waiting) (λ i. sym (awaits_is later old.waiting mid.waiting with' i)) (turns_is later old.waiting mid.waiting with')
+            (subst (λ x. Grows problem x (search_lists new)) same tried.0);
         gone = inl (subst (λ n. awaits (later ∷ []) n ≡ true) at (awaits_only later));
       }
   taken_first later mid new moves first at last with' e f g (Whole placed) tried = tried

@@ -13,7 +13,7 @@ use Rattle.jh_linear.specs.declared.queue.Turn.{Turn}
 use Rattle.jh_linear.specs.declared.verdict.Step.{Step}
 use Rattle.jh_linear.specs.Order.{has}
 use Rattle.jh_linear.specs.Reached.{order_at, root}
-use Rattle.jh_linear.specs.Search.{AreSame, CanReach, GoesOnWith, Grows, IsAt, IsFurthest, IsProblem, IsSearch, LeadsOn, LeadsTo, AreNext, arrivals_by, furthest_order, stage_place, stages_in, places_without}
+use Rattle.jh_linear.specs.Search.{AreSame, CanReach, GoesOnWith, Grows, IsAt, IsFurthest, IsProblem, IsSearch, LeadsOn, LeadsTo, AreNext, SearchLists, arrivals_by, furthest_order, stage_place, stages_in, places_without}
 use Rattle.jh_linear.specs.TurnsInside.{IsWith, awaits, turns_in, turns_left}
 use Rattle.jh_linear.proofs.TurnLemmas.{awaits_cases, awaits_kept, awaits_own, turns_more}
 use Rattle.jh_linear.proofs.PlaceSetLemmas.{has_append, has_without, in_without, not_true, same_tests, true_if}
@@ -174,12 +174,9 @@ module _ (problem : Problem) (stood : IsProblem problem) where
           ];
         }
 
-  abbrev pub On : List Config → List Step → List Turn → Furthest → List Config → List Step → List Turn → Furthest → Type 0
-  On = Grows problem
-
   -- a further order was noted
-  pub grows_far : (cs : List Config) (ss : List Step) (ws : List Turn) (f f' : Furthest) → IsSearch problem cs ss → IsFurthest problem cs ss f' → length ss ≤ problem.budget → f.stage ≤ f'.stage → On cs ss ws f cs ss ws f'
-  grows_far cs ss ws f f' known far few further = record {
+  pub grows_far : (old : SearchLists) (furthest : Furthest) → IsSearch problem old.configs old.steps → IsFurthest problem old.configs old.steps furthest → length old.steps ≤ problem.budget → old.furthest.stage ≤ furthest.stage → Grows problem old (record old { furthest = furthest })
+  grows_far old furthest known far few further = record {
     known = known;
     far = far;
     few = few;
@@ -193,37 +190,39 @@ module _ (problem : Problem) (stood : IsProblem problem) where
     balance = refl;
   }
 
-  pub grows_none : (cs : List Config) (ss : List Step) (ws : List Turn) (f : Furthest) → IsSearch problem cs ss → IsFurthest problem cs ss f → length ss ≤ problem.budget → On cs ss ws f cs ss ws f
-  grows_none cs ss ws f known far few = grows_far cs ss ws f f known far few (omega arith)
+  pub grows_none : (old : SearchLists) → IsSearch problem old.configs old.steps → IsFurthest problem old.configs old.steps old.furthest → length old.steps ≤ problem.budget → Grows problem old old
+  grows_none old known far few = grows_far old old.furthest known far few (omega arith)
 
-  pub grows_push : (cs : List Config) (ss : List Step) (ws ws' : List Turn) (f : Furthest) (config : Config) (step : Step) (turn : Turn) → IsSearch problem cs ss → IsFurthest problem cs ss f → length ss ≤ problem.budget → (length ss ≡ problem.budget → ⊥) → step.parent < length ss
-      → LeadsTo problem (order_at ss step.parent ++ step.placed) config → config.stage < stages_in problem → config.stage ≤ f.stage → ((i : ℕ) (found : Config) → slice_get cs i ≡ Some found → AreSame config found → ⊥)
-      → turn.at ≡ length cs → turns_left turn ≡ 2 → IsWith turn ws ws'
-      → On cs ss ws f (cs ++ config ∷ []) (ss ++ step ∷ []) ws' f
-  grows_push cs ss ws ws' f config step turn known far few room lt stands open'' low none at two with' =
+  pub grows_push : (old : SearchLists) (waiting : List Turn) (config : Config) (step : Step) (turn : Turn) → IsSearch problem old.configs old.steps → IsFurthest problem old.configs old.steps old.furthest → length old.steps ≤ problem.budget → (length old.steps ≡ problem.budget → ⊥) → step.parent < length old.steps
+      → LeadsTo problem (order_at old.steps step.parent ++ step.placed) config → config.stage < stages_in problem → config.stage ≤ old.furthest.stage → ((i : ℕ) (found : Config) → slice_get old.configs i ≡ Some found → AreSame config found → ⊥)
+      → turn.at ≡ length old.configs → turns_left turn ≡ 2 → IsWith turn old.waiting waiting
+      → Grows problem old (record { configs = old.configs ++ config ∷ []; steps = old.steps ++ step ∷ []; waiting = waiting; furthest = old.furthest })
+  grows_push old waiting config step turn known far few room lt stands open'' low none at two with' =
+      let cs = old.configs in
+      let ss = old.steps in
+      let ws = old.waiting in
       record {
         known = search_push cs ss known config step lt stands open'' none;
-        far = far_push cs ss known f config step far low;
+        far = far_push cs ss known old.furthest config step far low;
         few = omega (arith, length_push ss step, few, room);
         longer = omega (arith, length_push ss step);
         further = omega arith;
         orders = λ i low'. order_kept ss step i low';
         kept = λ i c is. get_kept cs config c i is;
-        fresh = λ i c is. elim (get_cases cs config c i is) as (λ _. (slice_get cs i ≡ Some c) ⊎ (awaits ws' i ≡ true)) [
-          | inl old ↦ inl old
-          | inr new ↦ inr (subst (λ n. awaits ws' n ≡ true) (at ∙ sym new.0) (awaits_own turn ws ws' with'))
+        fresh = λ i c is. elim (get_cases cs config c i is) as (λ _. (slice_get cs i ≡ Some c) ⊎ (awaits waiting i ≡ true)) [
+          | inl before ↦ inl before
+          | inr new ↦ inr (subst (λ n. awaits waiting n ≡ true) (at ∙ sym new.0) (awaits_own turn ws waiting with'))
         ];
-        waits = λ i h. awaits_kept turn ws ws' with' i h;
-        inside = λ g i h. elim (awaits_cases turn ws ws' with' i h) as (λ _. i < length (ss ++ step ∷ [])) [
-          | inl old ↦ omega (arith, g i old, length_push ss step)
+        waits = λ i h. awaits_kept turn ws waiting with' i h;
+        inside = λ g i h. elim (awaits_cases turn ws waiting with' i h) as (λ _. i < length (ss ++ step ∷ [])) [
+          | inl before ↦ omega (arith, g i before, length_push ss step)
           | inr new ↦ omega (arith, new, at, known.sizes, length_push ss step)
         ];
-        balance = omega (arith, length_push ss step, turns_more turn ws ws' with', two);
+        balance = omega (arith, length_push ss step, turns_more turn ws waiting with', two);
       }
 
-  pub grows_trans : (cs : List Config) (ss : List Step) (ws : List Turn) (f : Furthest) (cs' : List Config) (ss' : List Step) (ws' : List Turn) (f' : Furthest) (cs'' : List Config) (ss'' : List Step) (ws'' : List Turn) (f'' : Furthest)
-      → On cs ss ws f cs' ss' ws' f' → On cs' ss' ws' f' cs'' ss'' ws'' f'' → On cs ss ws f cs'' ss'' ws'' f''
-  grows_trans cs ss ws f cs' ss' ws' f' cs'' ss'' ws'' f'' a b = record {
+  pub grows_trans : (old mid new : SearchLists) → Grows problem old mid → Grows problem mid new → Grows problem old new
+  grows_trans old mid new a b = record {
     known = b.known;
     far = b.far;
     few = b.few;
@@ -231,8 +230,8 @@ module _ (problem : Problem) (stood : IsProblem problem) where
     further = omega (arith, a.further, b.further);
     orders = λ i lt. b.orders i (omega (arith, a.longer, lt)) ∙ a.orders i lt;
     kept = λ i c is. b.kept i c (a.kept i c is);
-    fresh = λ i c is. elim (b.fresh i c is) as (λ _. (slice_get cs i ≡ Some c) ⊎ (awaits ws'' i ≡ true)) [
-      | inl old ↦ elim (a.fresh i c old) as (λ _. (slice_get cs i ≡ Some c) ⊎ (awaits ws'' i ≡ true)) [ inl older ↦ inl older | inr w ↦ inr (b.waits i w) ]
+    fresh = λ i c is. elim (b.fresh i c is) as (λ _. (slice_get old.configs i ≡ Some c) ⊎ (awaits new.waiting i ≡ true)) [
+      | inl there ↦ elim (a.fresh i c there) as (λ _. (slice_get old.configs i ≡ Some c) ⊎ (awaits new.waiting i ≡ true)) [ inl older ↦ inl older | inr w ↦ inr (b.waits i w) ]
       | inr w ↦ inr w
     ];
     waits = λ i h. b.waits i (a.waits i h);
@@ -241,9 +240,8 @@ module _ (problem : Problem) (stood : IsProblem problem) where
   }
 
   -- in which order the turns were does not matter
-  pub grows_order : (cs : List Config) (ss : List Step) (ws ws° : List Turn) (f : Furthest) (cs' : List Config) (ss' : List Step) (ws' : List Turn) (f' : Furthest)
-      → ((i : ℕ) → awaits ws i ≡ awaits ws° i) → turns_in ws ≡ turns_in ws° → On cs ss ws f cs' ss' ws' f' → On cs ss ws° f cs' ss' ws' f'
-  grows_order cs ss ws ws° f cs' ss' ws' f' same count on = record {
+  pub grows_order : (old new : SearchLists) (waiting : List Turn) → ((i : ℕ) → awaits old.waiting i ≡ awaits waiting i) → turns_in old.waiting ≡ turns_in waiting → Grows problem old new → Grows problem (record old { waiting = waiting }) new
+  grows_order old new waiting same count on = record {
     known = on.known;
     far = on.far;
     few = on.few;
@@ -258,7 +256,7 @@ module _ (problem : Problem) (stood : IsProblem problem) where
   }
 
   -- what led on still does
-  pub leads_more : (cs : List Config) (ss : List Step) (ws : List Turn) (f : Furthest) (cs' : List Config) (ss' : List Step) (ws' : List Turn) (f' : Furthest) (size n : ℕ) → IsSearch problem cs ss → On cs ss ws f cs' ss' ws' f' → LeadsOn problem cs ss size n → LeadsOn problem cs' ss' size n
-  leads_more cs ss ws f cs' ss' ws' f' size n known on led =
-      let same : order_at ss' led.0 ≡ order_at ss led.0 = on.orders led.0 (below cs ss known led.0 led.1 led.2) in
+  pub leads_more : (old new : SearchLists) (size n : ℕ) → IsSearch problem old.configs old.steps → Grows problem old new → LeadsOn problem old.configs old.steps size n → LeadsOn problem new.configs new.steps size n
+  leads_more old new size n known on led =
+      let same : order_at new.steps led.0 ≡ order_at old.steps led.0 = on.orders led.0 (below old.configs old.steps known led.0 led.1 led.2) in
       (led.0, led.1, on.kept led.0 led.1 led.2, subst (λ o. size < length o) (sym same) led.3, subst (λ o. CanReach problem n o led.1.value) (sym same) led.4)

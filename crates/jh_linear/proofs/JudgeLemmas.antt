@@ -13,7 +13,7 @@ use Rattle.jh_linear.specs.declared.search.Search.{Search}
 use Rattle.jh_linear.specs.declared.verdict.Step.{Step}
 use Rattle.jh_linear.specs.Order.{has, IsDone, IsOrder}
 use Rattle.jh_linear.specs.Reached.{AreReached, order_at, root}
-use Rattle.jh_linear.specs.Search.{CanReach, IsExhausted, IsFull, IsFurthest, IsGoneOn, IsSearchKept, IsProblem, IsSearch, IsTurnTaken, IsWholeOrder, LeadsTo, stages_in}
+use Rattle.jh_linear.specs.Search.{CanReach, IsExhausted, IsFull, IsFurthest, IsGoneOn, IsSearchKept, IsProblem, IsSearch, IsTurnTaken, IsWholeOrder, LeadsTo, search_lists, stages_in}
 use Rattle.jh_linear.specs.TurnsInside.{IsWith, awaits, turns_in}
 use Rattle.jh_linear.proofs.PlaceSetLemmas.{or_cases, or_left, or_right, place_of}
 use Rattle.jh_linear.proofs.TurnLemmas.{awaits_both, awaits_cases, awaits_kept, awaits_own, turns_both, turns_more}
@@ -123,7 +123,7 @@ module _ (problem : Problem) (stood : IsProblem problem) where
             | inr here ↦ subst (λ n. slice_get old.configs.keys n ≡ Some c → order_at new.steps.items n ≡ order_at old.steps.items n → Done n c) here (turn_done c) is same
           ]
           | inr went ↦ inr (subst (λ o. IsGoneOn problem new.configs.keys new.steps.items new.furthest.stage o c.value) (sym same) (λ n past few reach.
-              leads_more problem stood old.configs.keys old.steps.items (taken.again ++ rest) old.furthest new.configs.keys new.steps.items new.waiting new.furthest (length (order_at old.steps.items i)) n kept.begun.known taken.on
+              leads_more problem stood (record (search_lists old) { waiting = taken.again ++ rest }) (search_lists new) (length (order_at old.steps.items i)) n kept.begun.known taken.on
               (went n (omega (arith, taken.on.further, past)) few reach)))
         ]
 

@@ -479,30 +479,42 @@ pub record Notes (old new : Search) (parent : ℕ) (placed : List ℕ) (stage : 
       × (new.furthest
       ≡ record { stage = stage; step = record { parent = parent; placed = placed } }))
 
+-- the lists of a search, and how far it came
+pub record SearchLists : Type 0 where
+  pub configs : List Config
+  pub steps : List Step
+  pub waiting : List Turn
+  pub furthest : Furthest
+
+-- those of a search that a program holds
+abbrev pub search_lists : Search → SearchLists
+search_lists search = record {
+  configs = search.configs.keys;
+  steps = search.steps.items;
+  waiting = search.waiting;
+  furthest = search.furthest;
+}
+
 -- What is kept of the lists while the search goes on.
-pub record Grows (problem : Problem) (configs : List Config) (steps : List Step)
-    (waiting : List Turn) (furthest : Furthest)
-    (configs' : List Config) (steps' : List Step) (waiting' : List Turn)
-    (furthest' : Furthest) : Type 0 where
-  pub known : IsSearch problem configs' steps'
-  pub far : IsFurthest problem configs' steps' furthest'
-  pub few : length steps' ≤ problem.budget
-  pub longer : length steps ≤ length steps'
-  pub further : furthest.stage ≤ furthest'.stage
-  pub orders : (i : ℕ) → i < length steps → order_at steps' i ≡ order_at steps i
-  pub kept : (i : ℕ) (config : Config) → slice_get configs i ≡ Some config
-      → slice_get configs' i ≡ Some config
-  pub fresh : (i : ℕ) (config : Config) → slice_get configs' i ≡ Some config
-      → (slice_get configs i ≡ Some config) ⊎ (awaits waiting' i ≡ true)
-  pub waits : (i : ℕ) → awaits waiting i ≡ true → awaits waiting' i ≡ true
-  pub inside : ((i : ℕ) → awaits waiting i ≡ true → i < length steps) → (i : ℕ)
-      → awaits waiting' i ≡ true → i < length steps'
-  pub balance : turns_in waiting' + 2 * length steps ≡ turns_in waiting + 2 * length steps'
+pub record Grows (problem : Problem) (old new : SearchLists) : Type 0 where
+  pub known : IsSearch problem new.configs new.steps
+  pub far : IsFurthest problem new.configs new.steps new.furthest
+  pub few : length new.steps ≤ problem.budget
+  pub longer : length old.steps ≤ length new.steps
+  pub further : old.furthest.stage ≤ new.furthest.stage
+  pub orders : (i : ℕ) → i < length old.steps → order_at new.steps i ≡ order_at old.steps i
+  pub kept : (i : ℕ) (config : Config) → slice_get old.configs i ≡ Some config
+      → slice_get new.configs i ≡ Some config
+  pub fresh : (i : ℕ) (config : Config) → slice_get new.configs i ≡ Some config
+      → (slice_get old.configs i ≡ Some config) ⊎ (awaits new.waiting i ≡ true)
+  pub waits : (i : ℕ) → awaits old.waiting i ≡ true → awaits new.waiting i ≡ true
+  pub inside : ((i : ℕ) → awaits old.waiting i ≡ true → i < length old.steps) → (i : ℕ)
+      → awaits new.waiting i ≡ true → i < length new.steps
+  pub balance : turns_in new.waiting + 2 * length old.steps
+      ≡ turns_in old.waiting + 2 * length new.steps
 
 abbrev pub GrowsTo : Problem → Search → Search → Type 0
-GrowsTo problem old new =
-    Grows problem old.configs.keys old.steps.items old.waiting old.furthest
-    new.configs.keys new.steps.items new.waiting new.furthest
+GrowsTo problem old new = Grows problem (search_lists old) (search_lists new)
 
 -- An order that passes every stage.
 abbrev pub IsWholeOrder : Problem → List ℕ → Type 0
@@ -584,8 +596,8 @@ pub record IsTurnTaken (problem : Problem) (old new : Search) (turn : Turn) : Ty
   pub again : List Turn
   pub fewer : turns_in again < turns_left turn
   pub own : (i : ℕ) → awaits again i ≡ true → i ≡ turn.at
-  pub on : Grows problem old.configs.keys old.steps.items (again ++ old.waiting) old.furthest
-      new.configs.keys new.steps.items new.waiting new.furthest
+  pub on : Grows problem (record (search_lists old) { waiting = again ++ old.waiting })
+      (search_lists new)
   pub gone : (awaits again turn.at ≡ true)
       ⊎ ((config : Config) → slice_get old.configs.keys turn.at ≡ Some config
       → IsGoneOn problem new.configs.keys new.steps.items new.furthest.stage

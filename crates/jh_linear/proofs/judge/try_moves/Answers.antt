@@ -5,7 +5,7 @@ use Rattle.jh_linear.specs.declared.moves.Move.{Move}
 use Rattle.jh_linear.specs.declared.moves.Source.TheVariants.{Happened}
 use Rattle.jh_linear.specs.declared.verdict.Step.{Step}
 use Rattle.jh_linear.specs.Reached.{order_at, NameEarlier}
-use Rattle.jh_linear.specs.Search.{IsSearchSoFar, IsWholeOrder, ComesOfMove}
+use Rattle.jh_linear.specs.Search.{IsSearchSoFar, IsWholeOrder, ComesOfMove, search_lists}
 use Rattle.jh_linear.proofs.GrowthLemmas.{below, grows_trans}
 use Rattle.jh_linear.proofs.GoingOnLemmas.{tried_more}
 use Rattle.jh_linear.proofs.judge.try_moves.Goals as goal
@@ -46,7 +46,7 @@ loop-step-preserved c =
     let this : Move = get_or moves index first_move in
     let tried : ComesOfMove p m n c.args.at c.args.config.now this More = subst (ComesOfMove p m n c.args.at c.args.config.now this) c.in-More.is c.in_ok-try_move.ensures in
     record {
-      on = grows_trans p c.requires.problem s.configs.keys s.steps.items s.waiting s.furthest m.configs.keys m.steps.items m.waiting m.furthest n.configs.keys n.steps.items n.waiting n.furthest on tried.0;
+      on = grows_trans p c.requires.problem (search_lists s) (search_lists m) (search_lists n) on tried.0;
       tried = tried_more p c.requires.problem s m n c.args.at c.args.config.now moves l.step index first_move low refl c.loop-step-test.true begun on tried.0 tried.1 l.invariant.tried;
     }
 
