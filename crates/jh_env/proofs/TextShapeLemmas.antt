@@ -62,8 +62,8 @@ node_change-read Section.Loss cell name says spelled = absurd cc
 entries_read : (env : EnvValue) (section : Section) → All (λ e. entry_in section (edn_of_entry e) ≡ Some e) (entries_written env section)
 entries_read env section =
     all_written env (λ e. entry_in section (edn_of_entry e) ≡ Some e) section
-    (λ a b e made. let p = link_parts env section a b e made in rw p.is (link_change-read section p.link p.from p.to p.says p.spelled))
-    (λ a e made. let p = node_parts env section a e made in rw p.is (node_change-read section p.cell p.name p.says p.spelled))
+    (λ a b e made. let p = link_parts env section a b e made in rw p.is (link_change-read section p.link p.from p.to p.says p.is_written))
+    (λ a e made. let p = node_parts env section a e made in rw p.is (node_change-read section p.cell p.name p.says p.is_written))
 
 section_read : (env : EnvValue) (section : Section) → entries_of section (vector (items_of (map edn_of_entry (entries_written env section)))) ≡ Some (entries_written env section)
 section_read env section =

@@ -15,6 +15,6 @@ returns c =
       | then-loop-src-test+in_ok-push_links_from+else-src-lt255 w ↦
           links_end (drops_in c.args.rule c.args.ranks.now) w.push_links_from.new.links.items c.loop-src-test.links.items c.loop-src.src (ap (λ v. v.items) w.links-is) (omega arith) w.in_ok-push_links_from.ensures
     ] in record {
-      exact = whole_list (drops_in c.args.rule c.args.ranks.now) c.loop-src-test.links.items 256 (src_below_in c.args.rule c.args.ranks.now 256 c.given-ranks) all;
+      exact = whole_list (drops_in c.args.rule c.args.ranks.now) c.loop-src-test.links.items 256 (src_below_in c.args.rule c.args.ranks.now 256 c.told-ranks) all;
       ascending = all.ascending;
     }
