@@ -215,7 +215,7 @@ quorum_served w c env all node request draw r t =
     (effect_fits w request (replica_at all (newest_place all reached)).contents r (t.each (newest_place all reached) best)) t))
 
 running_served : (store : Store) (w : Workload) (c : ℕ) (env : Cells) (all : List Replica) (number : ℕ) (clock : ℤ) (node : ℕ) (request : Request) (draw : ℕ) → is_request_of request w ≡ true → node < c → AreShaped w c all
-    → IsServed w c request (running_reply store env all number clock node request draw)
+    → IsServed w c request (running_reply store env all clock (record { number = number; node = node; request = request; draw = draw }))
 running_served Quorum w c env all number clock node request draw r n t = quorum_served w c env all node request draw r t
 running_served Lww w c env all number clock node request draw r n t =
     either (IsServed w c request) (is_read_request request) _ _ (λ reads. read_served w c all node request reads n t)
@@ -223,13 +223,13 @@ running_served Lww w c env all number clock node request draw r n t =
 running_served Local w c env all number clock node request draw r n t = local_served_fits w c all node request r n t
 
 in_served : (life : Life) (s : Settings) (c : ℕ) (env : Cells) (all : List Replica) (number : ℕ) (clock : ℤ) (node : ℕ) (request : Request) (draw : ℕ) → is_request_of request s.workload ≡ true → node < c → AreShaped s.workload c all
-    → IsServed s.workload c request (reply_in life s env all number clock node request draw)
+    → IsServed s.workload c request (reply_in life s env all clock (record { number = number; node = node; request = request; draw = draw }))
 in_served Running s c env all number clock node request draw r n t = running_served s.store s.workload c env all number clock node request draw r n t
 in_served Paused s c env all number clock node request draw r n t = (t, either (ReplyFits s.workload request) (only_asks request) reply_of.Fail reply_of.Info (λ _. tt) (λ _. tt))
 in_served Killed s c env all number clock node request draw r n t = (t, tt)
 
 at_served : (s : Settings) (c : ℕ) (env : Cells) (all : List Replica) (number node : ℕ) (request : Request) (draw : ℕ) (cell : Option NodeCell) → is_request_of request s.workload ≡ true → node < c → AreShaped s.workload c all
-    → IsServed s.workload c request (reply_at s env all number node request draw cell)
+    → IsServed s.workload c request (reply_at s env all (record { number = number; node = node; request = request; draw = draw }) cell)
 at_served s c env all number node request draw None r n t = (t, tt)
 at_served s c env all number node request draw (Some cell) r n t = in_served cell.process s c env all number cell.clock node request draw r n t
 

@@ -66,7 +66,7 @@ changed_tidy c n all best these k (Some e) t =
     give_tidy c (n + 1) (record { mark = Version (version (replica_at all best).mark + 1); contents = e.after }) all these (omega arith) (later_tidy c n all t)
 
 running_tidy : (store : Store) (env : Cells) (c n : ℕ) (all : List Replica) (clock : ℤ) (node : ℕ) (r : Request) (draw : ℕ) → AreTidy c n all
-    → AreTidy c (n + 1) (running_reply store env all n clock node r draw).replicas
+    → AreTidy c (n + 1) (running_reply store env all clock (record { number = n; node = node; request = r; draw = draw })).replicas
 running_tidy Quorum env c n all clock node r draw t =
     let l = later_tidy c n all t in
     let reached = reached_nodes env (length all) draw node in
@@ -78,13 +78,13 @@ running_tidy Lww env c n all clock node r draw t =
 running_tidy Local env c n all clock node r draw t = local_tidy c n all node (effect r (replica_at all node).contents) t
 
 in_tidy : (life : Life) (s : Settings) (env : Cells) (c n : ℕ) (all : List Replica) (clock : ℤ) (node : ℕ) (r : Request) (draw : ℕ) → AreTidy c n all
-    → AreTidy c (n + 1) (reply_in life s env all n clock node r draw).replicas
+    → AreTidy c (n + 1) (reply_in life s env all clock (record { number = n; node = node; request = r; draw = draw })).replicas
 in_tidy Running s env c n all clock node r draw t = running_tidy s.store env c n all clock node r draw t
 in_tidy Paused s env c n all clock node r draw t = later_tidy c n all t
 in_tidy Killed s env c n all clock node r draw t = later_tidy c n all t
 
 at_tidy : (s : Settings) (env : Cells) (c n : ℕ) (all : List Replica) (node : ℕ) (r : Request) (draw : ℕ) (cell : Option NodeCell) → AreTidy c n all
-    → AreTidy c (n + 1) (reply_at s env all n node r draw cell).replicas
+    → AreTidy c (n + 1) (reply_at s env all (record { number = n; node = node; request = r; draw = draw }) cell).replicas
 at_tidy s env c n all node r draw None t = later_tidy c n all t
 at_tidy s env c n all node r draw (Some cell) t = in_tidy cell.process s env c n all cell.clock node r draw t
 

@@ -131,35 +131,40 @@ quorum_reply env replicas node request draw =
     else quorum_write replicas (reached_nodes env (length replicas) draw node)
     (length (responding_nodes env node (reached_nodes env (length replicas) draw node))) request
 
--- what a running node does, at this event number and time of its clock
-abbrev pub running_reply : Store → Cells → List Replica → ℕ → ℤ → ℕ → Request → ℕ → ReplyAndReplicas
-running_reply Quorum env replicas number clock node request draw =
-    quorum_reply env replicas node request draw
-running_reply Lww env replicas number clock node request draw =
-    lww_reply env replicas (pos number +ℤ clock) node request draw
-running_reply Local env replicas number clock node request draw = local_reply replicas node request
+-- a request at a node, with the number of its event and its draw
+pub record NodeRequest : Type 0 where
+  pub number : ℕ
+  pub node : ℕ
+  pub request : Request
+  pub draw : ℕ
+
+-- what a running node does, at this time of its clock
+abbrev pub running_reply : Store → Cells → List Replica → ℤ → NodeRequest → ReplyAndReplicas
+running_reply Quorum env replicas clock asked =
+    quorum_reply env replicas asked.node asked.request asked.draw
+running_reply Lww env replicas clock asked =
+    lww_reply env replicas (pos asked.number +ℤ clock) asked.node asked.request asked.draw
+running_reply Local env replicas clock asked = local_reply replicas asked.node asked.request
 
 -- the same, by what the node's process does
-abbrev pub reply_in : Life → Settings → Cells → List Replica → ℕ → ℤ → ℕ → Request → ℕ
-    → ReplyAndReplicas
-reply_in Running s env replicas number clock node request draw =
-    running_reply s.store env replicas number clock node request draw
-reply_in Paused s env replicas number clock node request draw =
-    reply_alone replicas (if only_asks request then Fail else Info)
-reply_in Killed s env replicas number clock node request draw = reply_alone replicas Fail
+abbrev pub reply_in : Life → Settings → Cells → List Replica → ℤ → NodeRequest → ReplyAndReplicas
+reply_in Running s env replicas clock asked = running_reply s.store env replicas clock asked
+reply_in Paused s env replicas clock asked =
+    reply_alone replicas (if only_asks asked.request then Fail else Info)
+reply_in Killed s env replicas clock asked = reply_alone replicas Fail
 
 -- the same, where there is such a node
-abbrev pub reply_at : Settings → Cells → List Replica → ℕ → ℕ → Request → ℕ → Option NodeCell
+abbrev pub reply_at : Settings → Cells → List Replica → NodeRequest → Option NodeCell
     → ReplyAndReplicas
-reply_at s env replicas number node request draw None = reply_alone replicas Fail
-reply_at s env replicas number node request draw (Some n) =
-    reply_in n.process s env replicas number n.clock node request draw
+reply_at s env replicas asked None = reply_alone replicas Fail
+reply_at s env replicas asked (Some n) = reply_in n.process s env replicas n.clock asked
 
 -- the reply of a node to a request, at this event number with this draw, and the replicas after it
 unfoldable pub reply_to : Settings → Cells → List Replica → ℕ → ℕ → Request → ℕ → ReplyAndReplicas
 reply_to s env replicas number node request draw =
     if is_request_of request s.workload
-    then reply_at s env replicas number node request draw (env.node node)
+    then reply_at s env replicas
+        (record { number = number; node = node; request = request; draw = draw }) (env.node node)
     else reply_alone replicas Fail
 
 -- there is such a link, and it is uncut
