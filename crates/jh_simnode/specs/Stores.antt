@@ -164,7 +164,7 @@ unfoldable pub reply_to : Settings → Cells → List Replica → ℕ → ℕ �
 reply_to s env replicas number node request draw =
     if is_request_of request s.workload
     then reply_at s env replicas
-        (record { number = number; node = node; request = request; draw = draw }) (env.node node)
+    (record { number = number; node = node; request = request; draw = draw }) (env.node node)
     else reply_alone replicas Fail
 
 -- there is such a link, and it is uncut
