@@ -42,7 +42,8 @@ HasEvent journal form = (e : ℕ) → event_in form ≡ Some e → e < length jo
 
 -- the operation is the completion of this event
 abbrev pub IsCompletionBy : Event → ℕ → Operation → Form → Type 0
-IsCompletionBy (Event.Call process node request draw reply) place op (Completes completer given number) =
+IsCompletionBy (Event.Call process node request draw reply) place op
+    (Completes completer given number) =
     (process ≡ completer) × (request ≡ given)
     × (op ≡ placed_completion place number process request reply)
 IsCompletionBy (Event.Step step answer) place op (Ends entry number) =

@@ -1,4 +1,5 @@
 -- What the code finds of an operation, one part after another; `Forms` has the rule.
+-- This project's own.
 use Rattle.std.specs.Prelude.{ℕ, ◌==◌, nat_lt, ◌&&◌, Bool, true, false, ℤ, pos, List, [], ◌∷◌}
 use Rattle.std.specs.Prelude.{codes, if◌then◌else◌, Option, Some, None, option_and_then, slice_get}
 use Rattle.std.specs.Option.{option_map}

@@ -1,5 +1,6 @@
 -- How far the operations of a history are known to name low events only, so that a search need not
 -- look at them.
+-- This project's own.
 use Rattle.std.specs.Prelude.{◌≡◌, ℕ, ◌<◌, ◌≤◌, List, Some, length}
 use Rattle.jh_ops.specs.Operation.{Operation}
 use Rattle.jh_audit.specs.declared.horizon.Horizon.{Horizon}

@@ -1,4 +1,4 @@
--- Which value a reply has, as the code compares them; `Audit` has the rule.
+-- Which value a reply has, as the code compares them; `Audit` has the rule (this project's own).
 use Rattle.std.specs.Prelude.{◌&&◌, Bool, true, false, ℤ, List, [], ◌∷◌, Some, None}
 use Rattle.std.specs.Ordering.{int_eq}
 use Rattle.jh_edn.specs.Edn.{Edn, int, vector, list_of}

@@ -1,4 +1,5 @@
 -- What the counter checker keeps on its way: the first error so far, and sums by place.
+-- This project's own.
 use Rattle.std.specs.Prelude.{◌≡◌, ℕ, ◌+◌, ◌^◌, ◌<◌, ◌≤◌, nat_lt, pos, List, [], length}
 use Rattle.std.specs.Prelude.{slice_index, MatchOption, Option, Some, None, if◌then◌else◌}
 use Rattle.jh_ops.specs.Operation.{Operation}

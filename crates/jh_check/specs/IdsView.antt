@@ -1,4 +1,4 @@
--- What a contract sees of duplicates that a program holds.
+-- What a contract sees of duplicates that a program holds (this project's own).
 use Rattle.std.specs.Prelude.{ℕ, List, map}
 use Rattle.jh_edn.specs.Edn.{Edn}
 use Rattle.jh_edn.specs.View.{view}

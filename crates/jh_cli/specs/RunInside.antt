@@ -1,4 +1,4 @@
--- What the command `run` makes of a refusal of its own history.
+-- What the command `run` makes of a refusal of its own history (this project's own).
 use Rattle.jh_cli.specs.declared.error.CliError.{CliError}
 use Rattle.jh_cli.specs.declared.error.CliError.TheVariants.{Mismatch, OutOfMemory}
 

@@ -1,5 +1,6 @@
 -- A code for values: a tree of numbers for each, and no two values with one tree. Rattle wants it
 -- of a type that a contract sees; nothing else reads it.
+-- This project's own.
 use Rattle.std.specs.Prelude.{◌≡◌, refl}
 use Rattle.std.proofs.Common.{ap}
 use Rattle.std.specs.Coded.{Coded, coded_ℕ, coded_ℤ, coded_bool, coded_list}

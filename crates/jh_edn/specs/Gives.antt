@@ -1,4 +1,5 @@
 -- How the reader's functions relate to the reading of Reading: what they return is what it gives.
+-- This project's own.
 use Rattle.std.specs.Prelude.{◌≡◌, ℕ, ◌<◌, length, List, [], ◌∷◌, Result, Ok, Err}
 use Rattle.std.specs.Str.{IsUtf8}
 use Rattle.jh_edn.specs.declared.syntax_error.SyntaxError.{SyntaxError}

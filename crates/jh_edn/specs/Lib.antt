@@ -1,7 +1,7 @@
 pub mod Edn
 pub mod Code
 pub mod View
-pub mod Falls
+pub mod FallsInside
 pub mod Bytes
 pub mod Equality
 pub mod Order

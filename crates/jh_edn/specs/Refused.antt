@@ -1,4 +1,4 @@
--- When a whole text is refused, and by which errors.
+-- When a whole text is refused, and by which errors (this project's own).
 use Rattle.std.specs.Prelude.{ℕ, List}
 use Rattle.std.specs.Str.{IsUtf8}
 use Rattle.jh_edn.specs.declared.error.EdnError.{EdnError}

@@ -1,4 +1,4 @@
--- Lists and vectors whose elements are taken one by one, as they are read.
+-- Lists and vectors whose elements are taken one by one, as they are read (this project's own).
 use Rattle.std.specs.Prelude.{◌≡◌, ℕ, suc, ◌-◌, ◌==◌, if◌then◌else◌, length, List, [], ◌∷◌, ◌++◌}
 use Rattle.std.specs.Prelude.{Option, Some, None, Result, Ok}
 use Rattle.jh_edn.specs.declared.syntax_error.SyntaxError.{SyntaxError}

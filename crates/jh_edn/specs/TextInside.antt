@@ -1,4 +1,4 @@
--- Where the bytes of a text lie, and what they are.
+-- Where the bytes of a text lie, and what they are (this project's own).
 use Rattle.std.specs.Prelude.{ℕ, List}
 use Rattle.std.specs.String.{string_bytes}
 use Rattle.jh_edn.specs.declared.text.Kept.{Kept}

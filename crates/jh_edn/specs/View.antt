@@ -1,4 +1,4 @@
--- What a contract sees of a value that a program holds.
+-- What a contract sees of a value that a program holds (this project's own).
 use Rattle.std.specs.Prelude.{List, map}
 use Rattle.jh_edn.specs.Edn.{Edn, nil, boolean, int, char, str, keyword, symbol, list, vector}
 use Rattle.jh_edn.specs.Edn.{mapping, set, tagged, items_of, members_of}

@@ -61,7 +61,7 @@ impl Model for Values {
     ghost size = { size_list };
 
     ghost use Rattle.std.proofs.Common.{arith};
-    ghost use Rattle.jh_edn.specs.Falls.{values_fall};
+    ghost use Rattle.jh_edn.specs.FallsInside.{values_fall};
 
     ghost size_decreases = { λ a h. Prim.omega (arith, values_fall a.items.items) };
 }
@@ -89,7 +89,7 @@ impl Model for Pairs {
 
     ghost size = { size_pairs };
 
-    ghost use Rattle.jh_edn.specs.Falls.{pairs_fall};
+    ghost use Rattle.jh_edn.specs.FallsInside.{pairs_fall};
 
     ghost size_decreases = { λ a h. pairs_fall a };
 }
@@ -118,7 +118,7 @@ impl Model for Tagged {
     ghost size = { λ t. size_of t.1 };
 
     ghost use Rattle.std.proofs.Common.{arith};
-    ghost use Rattle.jh_edn.specs.Falls.{deep};
+    ghost use Rattle.jh_edn.specs.FallsInside.{deep};
 
     ghost size_decreases = { λ a h. Prim.omega (arith, deep a.inside.value.1) };
 }

@@ -1,4 +1,4 @@
--- The cells of an environment are those of its tables.
+-- The cells of an environment are those of its tables (this project's own).
 pub use Rattle.jh_tables.specs.Cells.{Table, calm_link, running_node, link_at, node_at}
 pub use Rattle.jh_tables.specs.declared.cells.Life.{Life}
 pub use Rattle.jh_tables.specs.declared.cells.Life.TheVariants.{Running, Paused, Killed}

@@ -1,4 +1,4 @@
--- What a contract sees of an environment's fields, and what holds of them.
+-- What a contract sees of an environment's fields, and what holds of them (this project's own).
 use Rattle.std.specs.Prelude.{◌≡◌, length}
 use Rattle.jh_env.specs.Names.{AreFew, AreNodeNames}
 use Rattle.jh_env.specs.Overlay.{EnvValue}

@@ -1,4 +1,4 @@
--- What a contract sees of a fault's fields, and what holds of them.
+-- What a contract sees of a fault's fields, and what holds of them (this project's own).
 use Rattle.jh_tables.specs.Faults.{FaultValue, IsFault}
 use Rattle.jh_tables.specs.Plain.{fault_of}
 use Rattle.jh_env.specs.declared.faults.Fault.TheInside.{Inside}

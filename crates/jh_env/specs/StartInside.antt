@@ -1,4 +1,5 @@
 -- What a contract sees of a starting environment's fields, and what holds of them.
+-- This project's own.
 use Rattle.std.specs.Prelude.{◌≡◌, ◌*◌, ◌≤◌, length}
 use Rattle.std.specs.List.{All}
 use Rattle.jh_env.specs.Names.{AreFew, AreNodeNames}

@@ -1,4 +1,4 @@
--- What a contract sees of what a program reads of a text.
+-- What a contract sees of what a program reads of a text (this project's own).
 use Rattle.std.specs.Prelude.{◌≡◌, ◌<◌, ℕ, List, length, ◌++◌, map, Option, Some}
 use Rattle.std.specs.Prelude.{None, option_map, ⊤, Bool, true, pos, int_le}
 use Rattle.jh_tables.specs.declared.cells.Link.{Link}

@@ -6,7 +6,7 @@ ghost use Rattle.std.specs.Prelude.{◌≡◌, ◌≢◌, ◌↔◌, ◌==◌, l
 ghost use Rattle.std.specs.Prelude.{IfOk, ⊤};
 ghost use Rattle.std.specs.List.{All, list_any};
 ghost use Rattle.jh_tables.specs.Plain.{fault_of, fault_on_links, fault_on_nodes};
-ghost use Rattle.jh_env.specs.Effects.{IsLinkAmount};
+ghost use Rattle.jh_env.specs.EffectsInside.{IsLinkAmount};
 ghost use Rattle.jh_env.specs.Faults.{
   IsFault,
   kept_list,

@@ -7,7 +7,7 @@ use Rattle.jh_gen.specs.View.{generator_of, generators_of, shares_of}
 use Rattle.jh_gen.specs.NodeView.{node_state, member_of, row_view, lot_of, lots_view}
 use Rattle.jh_gen.specs.declared.generator.Gen.{Gen}
 use Rattle.jh_gen.specs.declared.generator.Gens.TheDeep.{deep-Gen}
-use Rattle.jh_gen.specs.Falls.{gen_falls}
+use Rattle.jh_gen.specs.FallsInside.{gen_falls}
 use Rattle.jh_gen.specs.declared.node.Node.{Node}
 use Rattle.jh_gen.specs.declared.node.Member.{Member}
 use Rattle.jh_gen.specs.declared.node.Lot.{Lot}

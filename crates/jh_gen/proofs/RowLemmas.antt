@@ -12,7 +12,7 @@ use Rattle.jh_gen.specs.Scope.{Question, has_busy_thread, is_in_scope}
 use Rattle.jh_gen.specs.Offers.{head_of, first_some, picked_value}
 use Rattle.jh_gen.specs.State.{GeneratorState, in_turn, mixed, split, state, lot, is_done, Taking, taking_within, taking, open_takings, lot_taking, states_from, lots_from, taken_call, rest_of, row_size, split_size}
 use Rattle.jh_gen.specs.NodeView.{node_state, member_of, row_view, lot_of, lots_view}
-use Rattle.jh_gen.specs.NodeFalls.{node_falls}
+use Rattle.jh_gen.specs.NodeFallsInside.{node_falls}
 use Rattle.jh_gen.specs.Turns.{RowMembers, first_open_place, turn_at, first_turn, open_len, open_place, is_done_at, turn_among, any_turn, lot_at, lot_turn}
 use Rattle.jh_gen.proofs.TakingLemmas.{picked_map, or_map, head_map, first_map, drop_map, take_map, length_map}
 

@@ -1,4 +1,4 @@
--- A code of a generator, by which a proof tells generators apart.
+-- A code of a generator, by which a proof tells generators apart (this project's own).
 use Rattle.std.specs.Prelude.{◌≡◌, refl}
 use Rattle.jh_edn.specs.Code.{head, tail}
 use Rattle.std.proofs.Common.{ap}

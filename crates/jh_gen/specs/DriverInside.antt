@@ -1,4 +1,4 @@
--- What contracts see of a driver.
+-- What contracts see of a driver (this project's own).
 use Rattle.jh_gen.specs.DriverState.{DriverState, IsKept}
 use Rattle.jh_gen.specs.NodeView.{node_state}
 use Rattle.jh_gen.specs.declared.driver.Driver.TheInside.{Inside}

@@ -177,7 +177,7 @@ abbrev pub driver_after_end : DriverState → Thread → Ended → DriverState
 driver_after_end d x end =
     record d { busy = set d.busy (thread_number x) false; processes = processes_after d x end }
 
--- What each driver keeps: its lists are as long as it has threads, and no process number can outgrow
+-- What each driver keeps: its lists have a place for each thread, and no process number can outgrow
 -- its bound, since an operation that is outstanding was given.
 pub record IsKept (d : DriverState) : Type 0 where
   pub clients : d.clients ≤ max_clients

@@ -1,4 +1,4 @@
--- Generators as plain data.
+-- Generators as plain data (this project's own).
 use Rattle.std.specs.Prelude.{ℕ, suc, ◌+◌, ℤ, List, [], ◌∷◌}
 use Rattle.jh_ops.specs.declared.call.Call.{Call}
 

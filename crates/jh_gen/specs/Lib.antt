@@ -1,7 +1,7 @@
 pub mod Generator
 pub mod Code
 pub mod View
-pub mod Falls
+pub mod FallsInside
 pub mod GeneratorText
 pub mod ShapeInside
 pub mod Tally
@@ -12,7 +12,7 @@ pub mod Suits
 pub mod State
 pub mod StateCode
 pub mod NodeView
-pub mod NodeFalls
+pub mod NodeFallsInside
 pub mod Turns
 pub mod DriverState
 pub mod DriverInside

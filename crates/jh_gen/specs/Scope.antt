@@ -1,6 +1,7 @@
 -- Which threads can reach a generator, and who asks.
 --
--- Threads go by their numbers: the nemesis is thread 0, and client thread n, from 0, is thread n + 1.
+-- Threads go by their numbers: the nemesis is thread 0, and client thread n, from 0, is n + 1.
+-- This project's own.
 use Rattle.std.specs.Prelude.{ℕ, ◌+◌, ◌==◌, nat_le, nat_lt, Bool, false, not, ◌&&◌, ◌||◌}
 use Rattle.std.specs.Prelude.{List, slice_index_or}
 use Rattle.std.specs.List.{list_any}

@@ -1,4 +1,4 @@
--- What a contract sees of a generator's form as a program reads it.
+-- What a contract sees of a generator's form as a program reads it (this project's own).
 use Rattle.std.specs.Prelude.{◌≡◌, ℕ, List, Option, Some, None, option_map}
 use Rattle.jh_edn.specs.Edn.{Edn, items_of, size_of, size_list}
 use Rattle.jh_edn.specs.View.{view, views}

@@ -1,6 +1,7 @@
 -- What is left of a generator, as plain data, and how a call is taken from it. The code keeps this
 -- and no tally: counts, next numbers and which members have begun. `state_left` says what a tally
 -- leaves of a generator.
+-- This project's own.
 use Rattle.std.specs.Prelude.{ℕ, suc, ◌+◌, ◌-◌, ◌==◌, ℤ, pos, ◌+ℤ◌, Bool, true, false, not, ◌&&◌}
 use Rattle.jh_edn.specs.Edn.{is_empty}
 use Rattle.std.specs.Prelude.{◌||◌, if◌then◌else◌, List, [], ◌∷◌, map, length, filter}
@@ -10,8 +11,8 @@ use Rattle.jh_gen.specs.Generator.{Generator, nothing, once, rising, forever, se
 use Rattle.jh_gen.specs.Generator.{phases, reserve, each_thread, clients, nemesis_only, Generators}
 use Rattle.jh_gen.specs.Generator.{no_generators, generator, ShareList, no_shares, share}
 use Rattle.jh_gen.specs.Tally.{Tally, tally_under}
-use Rattle.jh_gen.specs.Scope.{Scope, is_client_thread, is_nemesis_thread, is_share_thread, is_beyond}
-use Rattle.jh_gen.specs.Scope.{is_in_scope, Question, has_busy_thread}
+use Rattle.jh_gen.specs.Scope.{Scope, is_client_thread, is_nemesis_thread, is_share_thread}
+use Rattle.jh_gen.specs.Scope.{is_beyond, is_in_scope, Question, has_busy_thread}
 use Rattle.jh_gen.specs.Offers.{max_number, shares_len, is_exhausted, head_of, picked_value}
 use Rattle.jh_gen.specs.Fits.{shares_sum}
 use Rattle.jh_ops.specs.declared.call.Call.{Call}

@@ -1,4 +1,4 @@
--- Calls taken from a row of members, by their places.
+-- Calls taken from a row of members, by their places (this project's own).
 use Rattle.std.specs.Prelude.{ℕ, zero, suc, ◌-◌, ◌%◌, Bool, true, not, ◌&&◌, List, [], ◌∷◌}
 use Rattle.std.specs.Prelude.{if◌then◌else◌}
 use Rattle.std.specs.Prelude.{length, None}

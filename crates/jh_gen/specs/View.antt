@@ -1,4 +1,4 @@
--- What contracts see of a generator.
+-- What contracts see of a generator (this project's own).
 use Rattle.std.specs.Prelude.{ℕ, List, map}
 use Rattle.jh_gen.specs.Generator.{Generator, nothing, once, rising, forever, seq, limit, mix}
 use Rattle.jh_gen.specs.Generator.{phases, reserve, each_thread, clients, nemesis_only, row_of}

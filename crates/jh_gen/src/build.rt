@@ -87,7 +87,8 @@ impl Shares {
 #[cycle(build)]
 pub(crate) fn build(alloc: Global, source: &Gen, threads: &[usize]) -> Result<Node, AllocError>
     requires { fits 16 (generator_of source.now) ≡ true }
-    ensures { IfOk result (λ n. node_state n ≡ state_left (generator_of source.now) [] threads.now) }
+    ensures { IfOk result
+        (λ n. node_state n ≡ state_left (generator_of source.now) [] threads.now) }
 {
     match source {
         Gen::Nil => Ok(Node::Gone),

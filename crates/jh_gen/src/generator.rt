@@ -65,7 +65,7 @@ impl Model for Gens {
     ghost size = { generator_list_size };
 
     ghost use Rattle.std.proofs.Common.{arith};
-    ghost use Rattle.jh_gen.specs.Falls.{gens_fall};
+    ghost use Rattle.jh_gen.specs.FallsInside.{gens_fall};
 
     ghost size_decreases = { λ a h. Prim.omega (arith, gens_fall a.items.items) };
 }
@@ -94,7 +94,7 @@ impl Model for Shares {
 
     ghost size = { size_shares };
 
-    ghost use Rattle.jh_gen.specs.Falls.{shares_fall};
+    ghost use Rattle.jh_gen.specs.FallsInside.{shares_fall};
 
     ghost size_decreases = { λ a h. shares_fall a };
 }
@@ -121,7 +121,7 @@ impl Model for Inner {
     ghost size = { generator_size };
 
     ghost use Rattle.std.proofs.Common.{arith};
-    ghost use Rattle.jh_gen.specs.Falls.{gen_falls};
+    ghost use Rattle.jh_gen.specs.FallsInside.{gen_falls};
 
     ghost size_decreases = { λ a h. Prim.omega (arith, gen_falls a.boxed.value) };
 }

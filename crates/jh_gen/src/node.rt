@@ -68,7 +68,7 @@ impl Model for Row {
     ghost size = { row_size };
 
     ghost use Rattle.std.proofs.Common.{arith};
-    ghost use Rattle.jh_gen.specs.NodeFalls.{row_falls};
+    ghost use Rattle.jh_gen.specs.NodeFallsInside.{row_falls};
 
     ghost size_decreases = { λ a h. Prim.omega (arith, row_falls a.members.items) };
 }
@@ -95,7 +95,7 @@ impl Model for Within {
     ghost size = { state_size };
 
     ghost use Rattle.std.proofs.Common.{arith};
-    ghost use Rattle.jh_gen.specs.NodeFalls.{node_falls};
+    ghost use Rattle.jh_gen.specs.NodeFallsInside.{node_falls};
 
     ghost size_decreases = { λ a h. Prim.omega (arith, node_falls a.boxed.value) };
 }
@@ -132,7 +132,7 @@ impl Model for Lots {
     ghost size = { split_size };
 
     ghost use Rattle.std.proofs.Common.{arith};
-    ghost use Rattle.jh_gen.specs.NodeFalls.{split_falls};
+    ghost use Rattle.jh_gen.specs.NodeFallsInside.{split_falls};
 
     ghost size_decreases = { λ a h. Prim.omega (arith, split_falls a.items.items) };
 }

@@ -1,5 +1,6 @@
 -- What elements leave that are parsed one after another: operations, or the refusal of the first
 -- that is none. They are several values of a text, or the elements of a single list or vector.
+-- This project's own.
 use Rattle.std.specs.Prelude.{◌≡◌, ℕ, ◌<◌, List, [], ◌∷◌, ◌++◌, length, map, All, Option, Some}
 use Rattle.std.specs.Prelude.{None, Ok}
 use Rattle.jh_edn.specs.Edn.{Edn, elements_of}

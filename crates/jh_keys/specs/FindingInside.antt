@@ -1,4 +1,5 @@
 -- What one history's checks go by: proofs rest on it, and no public clause names it.
+-- This project's own.
 use Rattle.jh_check.specs.declared.error.CheckError.{CheckError}
 use Rattle.jh_check.specs.declared.error.CheckError.TheVariants.{BadValue, OutOfMemory}
 use Rattle.jh_linear.specs.declared.calls.RegOpsError.{RegOpsError}

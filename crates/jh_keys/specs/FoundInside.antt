@@ -1,4 +1,5 @@
 -- What is found so far, of the keys in front: proofs rest on it, and no public clause names it.
+-- This project's own.
 use Rattle.std.specs.Prelude.{◌≡◌, ℕ, ◌+◌, List, length, map, ◌++◌, All, slice_get, Option, Some}
 use Rattle.std.specs.Prelude.{Result}
 use Rattle.jh_edn.specs.View.{view}

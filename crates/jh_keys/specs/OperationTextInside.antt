@@ -1,4 +1,5 @@
 -- The text of an operation, piece by piece: proofs rest on it, and no public clause names it.
+-- This project's own.
 use Rattle.std.specs.Prelude.{ℕ, ℤ, List, [], ◌++◌, codes, Option, Some, None}
 use Rattle.std.specs.List.{flat_map}
 use Rattle.jh_edn.specs.Edn.{Edn, int, keyword}

@@ -1,4 +1,5 @@
 -- What judging one key goes by: proofs rest on it, and no public clause names it.
+-- This project's own.
 use Rattle.std.specs.Prelude.{ℕ, List, [], None, slice_index_or}
 use Rattle.jh_edn.specs.Edn.{nil}
 use Rattle.jh_ops.specs.Operation.{Operation}

@@ -1,4 +1,5 @@
 -- What splitting a history goes by: proofs rest on it, and no public clause names it.
+-- This project's own.
 use Rattle.std.specs.Prelude.{◌≡◌, ℕ, Bool, List, ◌++◌, map, filter, filter_map, All, Option}
 use Rattle.std.specs.Prelude.{option_map}
 use Rattle.std.specs.List.{enumerate_from}

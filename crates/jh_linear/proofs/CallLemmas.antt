@@ -11,7 +11,7 @@ use Rattle.jh_ops.specs.declared.pairs.Pair.{Pair}
 use Rattle.jh_linear.specs.declared.register.RegOp.{RegOp}
 use Rattle.jh_linear.specs.Order.{EndAfterInvoked}
 use Rattle.jh_linear.specs.Calls.{AreRegOps, IsLeastBad, bad_place, reg_op_of, op_with_call}
-use Rattle.jh_linear.specs.Checking.{lesser_place}
+use Rattle.jh_linear.specs.CheckingInside.{lesser_place}
 
 module _ (history : List Operation) (pairs : List Pair) (pair : Pair) where
   abbrev Above : ℕ → Pair → Type 0

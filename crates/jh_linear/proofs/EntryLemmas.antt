@@ -11,7 +11,7 @@ use Rattle.std.proofs.lemmas.List.Folds.{list_any_none}
 use Rattle.std.proofs.lemmas.List.Elements.{All-nil, All-push, All-map, Contains-append_left, Contains-push}
 use Rattle.std.proofs.lemmas.List.Sorted.{All-permutation, Contains-permutation, IsPermutation-map, IsNonDecreasingBy-from_all_adjacent}
 use Rattle.std.proofs.lemmas.Map.Keys.{IsDistinct-IsPermutation, IsDistinct-from_apart, IsDistinct-push}
-use Rattle.jh_linear.specs.Search.{ArePlaceEntries, DoNotFall}
+use Rattle.jh_linear.specs.SearchInside.{ArePlaceEntries, DoNotFall}
 use Rattle.jh_linear.proofs.PlaceSetLemmas.{same_tests, eqb_self}
 
 flips : (x y : ℕ) → eqb x y ≡ eqb y x

@@ -19,7 +19,7 @@ use Rattle.jh_linear.specs.declared.judge.Progress.TheVariants.{More, Complete a
 use Rattle.jh_linear.specs.declared.walk.WalkEnd.TheVariants.{Several, Stuck, Complete}
 use Rattle.jh_linear.specs.Order.{Allows, has, op_at}
 use Rattle.jh_linear.specs.Reached.{order_at}
-use Rattle.jh_linear.specs.Search.{Adds, AreMoves, AreSame, AreTried, CanReach, EachIsMove, EndsAs, ComesOfEntering, Grows, GrowsTo, HasGone, IsSearchSoFar, IsFurthest, IsGoneOn, IsMadeBy, IsMove, IsMoved, IsProblem, CanBePlaced, IsWholeOrder, LeadsOn, Notes, LeadsTo, ComesOfTurn, ComesOfMove, SearchLists, WasReached, WereTried, search_lists, source_call, class_at, end_at, invocation_at, next_at, source_place, stage_place, stages_in, unknown_place}
+use Rattle.jh_linear.specs.SearchInside.{Adds, AreMoves, AreSame, AreTried, CanReach, EachIsMove, EndsAs, ComesOfEntering, Grows, GrowsTo, HasGone, IsSearchSoFar, IsFurthest, IsGoneOn, IsMadeBy, IsMove, IsMoved, IsProblem, CanBePlaced, IsWholeOrder, LeadsOn, Notes, LeadsTo, ComesOfTurn, ComesOfMove, SearchLists, WasReached, WereTried, search_lists, source_call, class_at, end_at, invocation_at, next_at, source_place, stage_place, stages_in, unknown_place}
 use Rattle.jh_linear.proofs.GrowthLemmas.{below, grows_far, grows_none, grows_order, grows_push, grows_trans, known_leads, leads_more, new_leads, stands_copy}
 use Rattle.jh_linear.specs.TurnsInside.{IsWith, awaits, turns_left}
 use Rattle.jh_linear.proofs.LeadLemmas.{one_leads}

@@ -13,7 +13,7 @@ use Rattle.jh_linear.specs.declared.queue.Turn.{Turn}
 use Rattle.jh_linear.specs.declared.verdict.Step.{Step}
 use Rattle.jh_linear.specs.Order.{has}
 use Rattle.jh_linear.specs.Reached.{order_at, root}
-use Rattle.jh_linear.specs.Search.{AreSame, CanReach, GoesOnWith, Grows, IsAt, IsFurthest, IsProblem, IsSearch, LeadsOn, LeadsTo, AreNext, SearchLists, arrivals_by, furthest_order, stage_place, stages_in, places_without}
+use Rattle.jh_linear.specs.SearchInside.{AreSame, CanReach, GoesOnWith, Grows, IsAt, IsFurthest, IsProblem, IsSearch, LeadsOn, LeadsTo, AreNext, SearchLists, arrivals_by, furthest_order, stage_place, stages_in, places_without}
 use Rattle.jh_linear.specs.TurnsInside.{IsWith, awaits, turns_in, turns_left}
 use Rattle.jh_linear.proofs.TurnLemmas.{awaits_cases, awaits_kept, awaits_own, turns_more}
 use Rattle.jh_linear.proofs.PlaceSetLemmas.{has_append, has_without, in_without, not_true, same_tests, true_if}

@@ -8,7 +8,7 @@ use Rattle.jh_linear.specs.declared.register.RegOp.{RegOp}
 use Rattle.jh_linear.specs.declared.history.Class.{Class}
 use Rattle.jh_linear.specs.declared.history.Stage.{Stage}
 use Rattle.jh_linear.specs.Order.{op_at, has, IsDone, Precedes, EndsBefore}
-use Rattle.jh_linear.specs.Search.{AreClasses, ArePlaceEntries, AreClassesUpTo, AreStages, AreTwins, DoNotFall, GoTogether, IsHistory, IsOfClass, IsUnsureChange, arrival_entry, class_at, end_at, end_entry, invocation_at, no_call, no_class, no_entry, stage_at, unknown_place, unknown_entry}
+use Rattle.jh_linear.specs.SearchInside.{AreClasses, ArePlaceEntries, AreClassesUpTo, AreStages, AreTwins, DoNotFall, GoTogether, IsHistory, IsOfClass, IsUnsureChange, arrival_entry, class_at, end_at, end_entry, invocation_at, no_call, no_class, no_entry, stage_at, unknown_place, unknown_entry}
 use Rattle.jh_linear.proofs.PlaceSetLemmas.{has_here, place_of}
 use Rattle.jh_linear.proofs.StageLemmas.{done_there, end_before, possible_there, unknown_possible}
 

@@ -13,7 +13,7 @@ use Rattle.jh_linear.specs.declared.search.Search.{Search}
 use Rattle.jh_linear.specs.declared.verdict.Step.{Step}
 use Rattle.jh_linear.specs.Order.{has, IsDone, IsOrder}
 use Rattle.jh_linear.specs.Reached.{AreReached, order_at, root}
-use Rattle.jh_linear.specs.Search.{CanReach, IsExhausted, IsFull, IsFurthest, IsGoneOn, IsSearchKept, IsProblem, IsSearch, IsTurnTaken, IsWholeOrder, LeadsTo, search_lists, stages_in}
+use Rattle.jh_linear.specs.SearchInside.{CanReach, IsExhausted, IsFull, IsFurthest, IsGoneOn, IsSearchKept, IsProblem, IsSearch, IsTurnTaken, IsWholeOrder, LeadsTo, search_lists, stages_in}
 use Rattle.jh_linear.specs.TurnsInside.{IsWith, awaits, turns_in}
 use Rattle.jh_linear.proofs.PlaceSetLemmas.{or_cases, or_left, or_right, place_of}
 use Rattle.jh_linear.proofs.TurnLemmas.{awaits_both, awaits_cases, awaits_kept, awaits_own, turns_both, turns_more}

@@ -12,7 +12,7 @@ use Rattle.jh_linear.specs.declared.config.Config.{Config}
 use Rattle.jh_linear.specs.declared.moves.Move.{Move}
 use Rattle.jh_linear.specs.declared.moves.Source.TheVariants.{Happened, Unknown}
 use Rattle.jh_linear.specs.Order.{op_at, IsDone, Precedes, IsPossible, EndsBefore, has, Allows}
-use Rattle.jh_linear.specs.Search.{AreMoves, CanReach, GoesOnWith, HasHappened, HasUnknown, IsNoneSettled, IsProblem, IsReady, IsUnsureChange, IsWanted, LeavesValue, MayComeNext, Needs, LeadsTo, source_call, class_at, is_unsure_change, next_at, source_place, stage_place, stages_in}
+use Rattle.jh_linear.specs.SearchInside.{AreMoves, CanReach, GoesOnWith, HasHappened, HasUnknown, IsNoneSettled, IsProblem, IsReady, IsUnsureChange, IsWanted, LeavesValue, MayComeNext, Needs, LeadsTo, source_call, class_at, is_unsure_change, next_at, source_place, stage_place, stages_in}
 use Rattle.jh_linear.proofs.PlaceSetLemmas.{has_append, has_here, has_kept, has_one, has_self, not_true, or_cases, or_left, or_right, place_of as index_of, test_cases}
 use Rattle.jh_linear.proofs.StageLemmas.{is_pending, of_pending, unknown_not_done}
 use Rattle.jh_linear.proofs.NextLemmas.{class_of, is_unknown_at}

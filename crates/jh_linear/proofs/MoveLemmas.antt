@@ -7,7 +7,7 @@ use Rattle.jh_linear.specs.declared.config.Config.{Config}
 use Rattle.jh_linear.specs.declared.moves.Move.{Move}
 use Rattle.jh_linear.specs.declared.moves.Source.TheVariants.{Happened, Unknown}
 use Rattle.jh_linear.specs.Order.{Allows}
-use Rattle.jh_linear.specs.Search.{EachIsMove, HasHappened, HasUnknown, IsAmong, IsMove, IsReady, IsWanted, MovesMore, source_call}
+use Rattle.jh_linear.specs.SearchInside.{EachIsMove, HasHappened, HasUnknown, IsAmong, IsMove, IsReady, IsWanted, MovesMore, source_call}
 
 pub get_kept : {X : Type 0} (xs : List X) (y x : X) (i : ℕ) → slice_get xs i ≡ Some x → slice_get (xs ++ y ∷ []) i ≡ Some x
 get_kept [] y x i h = absurd (let bad = h in cc)

@@ -7,7 +7,7 @@ use Rattle.std.proofs.lemmas.Map.Keys.{apart_from_distinct}
 use Rattle.jh_linear.specs.declared.register.RegOp.{RegOp}
 use Rattle.jh_linear.specs.declared.history.Class.{Class}
 use Rattle.jh_linear.specs.Order.{has}
-use Rattle.jh_linear.specs.Search.{AreClasses, AreNext, IsOfClass, IsUnsureChange, class_at, next_at, no_class, unknown_place}
+use Rattle.jh_linear.specs.SearchInside.{AreClasses, AreNext, IsOfClass, IsUnsureChange, class_at, next_at, no_class, unknown_place}
 use Rattle.jh_linear.proofs.PlaceSetLemmas.{has_kept, has_self, has_push_cases, has_here, place_of, not_true, same_tests}
 
 -- lists of one length with the same elements are one

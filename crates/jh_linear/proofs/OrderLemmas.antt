@@ -12,7 +12,7 @@ use Rattle.jh_linear.specs.declared.register.Outcome.{Outcome}
 use Rattle.jh_linear.specs.declared.register.Outcome.TheVariants.{Done, Failed, Unsure}
 use Rattle.jh_linear.specs.declared.register.RegOp.{RegOp}
 use Rattle.jh_linear.specs.Order.{op_at, IsDone, Precedes, EndsBefore, has, StandBefore, HasNoneTwice, HasAllDone, KeepsPrecedence, EndAfterInvoked}
-use Rattle.jh_linear.specs.Checking.{IsNoneLate, is_outcome_done, is_op_done, done_places_below}
+use Rattle.jh_linear.specs.CheckingInside.{IsNoneLate, is_outcome_done, is_op_done, done_places_below}
 use Rattle.jh_linear.proofs.PlaceSetLemmas.{eqb_self, or_left, or_right, or_cases, not_true, true_if, false_if, same_tests, has_here, place_of, has_filter, passes_filter, distinct_filter}
 use Rattle.jh_linear.proofs.StageLemmas.{not_before_itself, done_there}
 

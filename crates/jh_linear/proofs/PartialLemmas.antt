@@ -9,7 +9,7 @@ use Rattle.jh_linear.specs.declared.register.RegOp.{RegOp}
 use Rattle.jh_linear.specs.declared.register.RegCall.{RegCall}
 use Rattle.jh_linear.specs.declared.register.RegCall.TheVariants.{Read, Write, Cas}
 use Rattle.jh_linear.specs.Order.{op_at, IsPossible, Precedes, has, Allows, IsLegalFrom, StandBefore, IsPartialOrder}
-use Rattle.jh_linear.specs.Search.{GoesOnWith}
+use Rattle.jh_linear.specs.SearchInside.{GoesOnWith}
 use Rattle.jh_linear.proofs.PlaceSetLemmas.{has_self, has_kept, has_push_cases, or_left, or_right, or_cases, eqb_self, not_true, false_if, apart_head}
 
 pub second_there : (order : List ℕ) (a b : ℕ) → StandBefore order a b → has order b ≡ true

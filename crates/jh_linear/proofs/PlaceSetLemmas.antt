@@ -6,7 +6,7 @@ use Rattle.std.proofs.lemmas.Bool.{false≢true, eqb-true}
 use Rattle.std.proofs.lemmas.List.Folds.{list_any-append}
 use Rattle.std.proofs.lemmas.Map.Keys.{IsDistinct-head, IsDistinct-tail, IsDistinct-cons}
 use Rattle.jh_linear.specs.Order.{has}
-use Rattle.jh_linear.specs.Search.{places_without}
+use Rattle.jh_linear.specs.SearchInside.{places_without}
 
 pub eqb_self : (n : ℕ) → eqb n n ≡ true
 eqb_self n = eq-eqb n n refl

@@ -10,7 +10,7 @@ use Rattle.jh_linear.specs.declared.history.Stage.{Stage}
 use Rattle.jh_linear.specs.declared.config.Config.{Config}
 use Rattle.jh_linear.specs.declared.moves.Source.TheVariants.{Happened, Unknown}
 use Rattle.jh_linear.specs.Order.{op_at, has, Allows, IsDone}
-use Rattle.jh_linear.specs.Search.{AreNext, GoesOnWith, IsAfter, IsAt, IsProblem, CanBePlaced, IsUnsureChange, MayComeNext, PassesStages, source_call, arrivals_after, next_at, source_place, stage_at, stage_place, stages_in}
+use Rattle.jh_linear.specs.SearchInside.{AreNext, GoesOnWith, IsAfter, IsAt, IsProblem, CanBePlaced, IsUnsureChange, MayComeNext, PassesStages, source_call, arrivals_after, next_at, source_place, stage_at, stage_place, stages_in}
 use Rattle.jh_linear.proofs.PlaceSetLemmas.{has_here, has_push_cases, false_if, place_of as index_of}
 use Rattle.jh_linear.proofs.StageLemmas.{at_next, at_other, at_placed, done_possible, is_placed, may_come, not_arrival, of_pending, unknown_not_done, unknown_possible}
 use Rattle.jh_linear.proofs.NextLemmas.{is_unknown_at, next_other, next_placed}

@@ -11,7 +11,7 @@ use Rattle.jh_linear.specs.Order.{no_op, op_at, IsPossible, IsDone, Precedes, En
 use Rattle.jh_linear.specs.declared.register.Outcome.{Outcome}
 use Rattle.jh_linear.specs.declared.register.Outcome.TheVariants.{Done, Failed, Unsure}
 use Rattle.jh_linear.specs.declared.register.RegCall.{RegCall}
-use Rattle.jh_linear.specs.Search.{is_unsure_change, IsUnsureChange, MayComeNext, stage_at, arrivals_by, IsHistory, places_without, IsAt, invocation_at, end_at, arrivals_after}
+use Rattle.jh_linear.specs.SearchInside.{is_unsure_change, IsUnsureChange, MayComeNext, stage_at, arrivals_by, IsHistory, places_without, IsAt, invocation_at, end_at, arrivals_after}
 use Rattle.jh_linear.proofs.PlaceSetLemmas.{has_append, has_kept, has_push_cases, has_here, place_of, has_without, in_without, apart_halves, has_taken, has_dropped, without_none, without_push, not_true, true_if, false_if, or_left, or_right, eqb_self, same_tests}
 
 -- nothing is before itself

@@ -9,9 +9,9 @@ use Rattle.jh_linear.specs.declared.register.RegOp.{RegOp}
 use Rattle.jh_linear.specs.declared.history.Problem.{Problem}
 use Rattle.jh_linear.specs.declared.search.Search.{Search}
 use Rattle.jh_linear.specs.declared.verdict.Stuck.{Stuck}
-use Rattle.jh_linear.specs.Checking.{IsNoneLate, is_outcome_done}
+use Rattle.jh_linear.specs.CheckingInside.{IsNoneLate, is_outcome_done}
 use Rattle.jh_linear.specs.Order.{Allows, HasNoneTwice, EndAfterInvoked, EndsBefore, HasAllDone, Precedes, IsDone, IsOrder, IsPartialOrder, IsPossible, IsLegalFrom, has, no_op, op_at}
-use Rattle.jh_linear.specs.Search.{CanReach, IsExhausted, IsProblem, end_at, furthest_order, stage_place, stages_in}
+use Rattle.jh_linear.specs.SearchInside.{CanReach, IsExhausted, IsProblem, end_at, furthest_order, stage_place, stages_in}
 use Rattle.jh_linear.specs.Stuck.{IsStuck, ops_before, op_end, op_in, outcome_before_end, outcome_in}
 use Rattle.jh_linear.specs.StuckInside.{IsKnownUntil, is_known, is_known_at}
 use Rattle.jh_linear.specs.Verdict.{HaveNoOrder}

@@ -4,7 +4,7 @@ use Rattle.std.proofs.lemmas.List.{append_assoc, length_push}
 use Rattle.jh_linear.specs.declared.history.Problem.{Problem}
 use Rattle.jh_linear.specs.declared.config.Config.{Config}
 use Rattle.jh_linear.specs.declared.moves.Move.{Move}
-use Rattle.jh_linear.specs.Search.{AreMoves, CanReach, HasGone, IsDead, IsMadeBy, IsProblem, LeadsTo, source_place}
+use Rattle.jh_linear.specs.SearchInside.{AreMoves, CanReach, HasGone, IsDead, IsMadeBy, IsProblem, LeadsTo, source_place}
 use Rattle.jh_linear.proofs.LeadLemmas.{one_leads}
 use Rattle.jh_linear.proofs.MoveLemmas.{nothing_there}
 

@@ -1,8 +1,8 @@
 pub mod Calls
-pub mod Checking
+pub mod CheckingInside
 pub mod Order
 pub mod Reached
-pub mod Search
+pub mod SearchInside
 pub mod Stuck
 pub mod StuckInside
 pub mod TurnsInside

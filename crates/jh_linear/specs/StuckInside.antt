@@ -1,9 +1,10 @@
 -- What finding the place where a search got stuck goes by: proofs rest on it, and no public clause
 -- names it.
+-- This project's own.
 use Rattle.std.specs.Prelude.{◌≡◌, ℕ, ◌+◌, ◌<◌, ◌≤◌, ◌&&◌, Bool, true, false, List, length, nat_lt}
 use Rattle.std.specs.Prelude.{slice_index_or}
 use Rattle.jh_linear.specs.declared.register.RegOp.{RegOp}
-use Rattle.jh_linear.specs.Checking.{is_outcome_done}
+use Rattle.jh_linear.specs.CheckingInside.{is_outcome_done}
 use Rattle.jh_linear.specs.Order.{op_at}
 use Rattle.jh_linear.specs.Stuck.{op_end}
 

@@ -1,4 +1,5 @@
 -- The turns of the configurations of a search: proofs rest on it, and no public clause names it.
+-- This project's own.
 use Rattle.std.specs.Prelude.{◌==◌, ℕ, Bool, List, ◌∷◌, if◌then◌else◌}
 use Rattle.std.specs.List.{list_any, sum_by}
 use Rattle.std.specs.List.Sorted.{IsPermutation}

@@ -1,4 +1,5 @@
 -- A set of values of the register: proofs rest on it, and no public clause names it.
+-- This project's own.
 use Rattle.std.specs.Prelude.{◌≡◌, ℕ, ◌<◌, ℤ, true, Option, Some}
 use Rattle.std.specs.Ordering.{int_eq}
 use Rattle.std.specs.HashSet.{contains}
@@ -6,7 +7,7 @@ use Rattle.jh_linear.specs.declared.config.Config.{Config}
 use Rattle.jh_linear.specs.declared.history.Problem.{Problem}
 use Rattle.jh_linear.specs.declared.moves.Source.TheVariants.{Happened, Unknown}
 use Rattle.jh_linear.specs.declared.wanted.Wanted.{Wanted}
-use Rattle.jh_linear.specs.Search.{IsReady, Needs, source_call}
+use Rattle.jh_linear.specs.SearchInside.{IsReady, Needs, source_call}
 
 -- the value is in the set
 abbrev pub Holds : Wanted → Option ℤ → Type 0

@@ -7,7 +7,7 @@ ghost use Rattle.jh_edn.specs.View.{view};
 ghost use Rattle.jh_ops.specs.Operation.{operation, operations};
 ghost use Rattle.jh_ops.specs.Pairing.{IsPairWithin};
 ghost use Rattle.jh_linear.specs.Calls as rule;
-ghost use Rattle.jh_linear.specs.Checking as place;
+ghost use Rattle.jh_linear.specs.CheckingInside as place;
 ghost use Rattle.jh_linear.specs.Calls.{AreRegOps, IsLeastBad, RefusesPairs};
 ghost use Rattle.jh_linear.specs.Order.{EndAfterInvoked};
 ghost use Rattle.jh_linear.specs.declared.calls.RegOpsError.TheVariants.{OutOfMemory};

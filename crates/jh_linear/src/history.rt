@@ -1,16 +1,16 @@
 //! A history, sorted for the search: what happened by invocations and, stage by stage, by ends; and
-//! what is not known to have happened by calls. `specs/Search.antt` says what it keeps of the
+//! what is not known to have happened by calls. `specs/SearchInside.antt` says what it keeps of the
 //! operations.
 
 ghost use Rattle.std.specs.Prelude.{◌≡◌, ℕ, ◌<◌, ◌≤◌, ◌-◌, ◌^◌, IfOk, length, map, slice_index_or};
 ghost use Rattle.std.specs.Prelude.{true};
-ghost use Rattle.jh_linear.specs.Search.{IsHistory, AreClasses, ArePlaceEntries, DoNotFall};
-ghost use Rattle.jh_linear.specs.Search.{AreStages, AreClassesUpTo, IsUnsureChange};
-ghost use Rattle.jh_linear.specs.Search.{GoTogether, arrival_entry, end_entry, unknown_entry};
-ghost use Rattle.jh_linear.specs.Search.{no_entry};
-ghost use Rattle.jh_linear.specs.Search.{no_call};
+ghost use Rattle.jh_linear.specs.SearchInside.{IsHistory, AreClasses, ArePlaceEntries, DoNotFall};
+ghost use Rattle.jh_linear.specs.SearchInside.{AreStages, AreClassesUpTo, IsUnsureChange};
+ghost use Rattle.jh_linear.specs.SearchInside.{GoTogether, arrival_entry, end_entry, unknown_entry};
+ghost use Rattle.jh_linear.specs.SearchInside.{no_entry};
+ghost use Rattle.jh_linear.specs.SearchInside.{no_call};
 ghost use Rattle.jh_linear.specs.Order.{IsDone};
-ghost use Rattle.jh_linear.specs.Checking.{is_outcome_done};
+ghost use Rattle.jh_linear.specs.CheckingInside.{is_outcome_done};
 ghost use Rattle.std.specs.Prelude.{false};
 
 use crate::register::{Outcome, RegCall, RegOp, is_same, is_unknown};

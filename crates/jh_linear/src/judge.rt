@@ -1,7 +1,7 @@
 //! The search for an order.
 //!
 //! It goes through configurations, each entered once, with the one that it was reached from.
-//! `specs/Search.antt` says what it keeps: each configuration that was entered waits, or all that
+//! `specs/SearchInside.antt` says what it keeps: each configuration that was entered waits, or all that
 //! may lead past the furthest stage was reached from it. Where none waits, no order passes that
 //! stage. Which one is taken next may be changed: `queue.rt` has the ranks.
 
@@ -11,9 +11,9 @@ ghost use Rattle.jh_linear.specs.declared.config.Config.{Config};
 ghost use Rattle.jh_linear.specs.Order.{EndAfterInvoked};
 ghost use Rattle.jh_linear.specs.Reached.{order_at, root};
 ghost use Rattle.jh_linear.specs.Verdict.{IsJudged};
-ghost use Rattle.jh_linear.specs.Search.{AreSame, EachIsMove, ComesOfEntering, IsSearchSoFar};
-ghost use Rattle.jh_linear.specs.Search.{IsSearchKept, IsMove, IsProblem, LeadsTo, ComesOfTurn};
-ghost use Rattle.jh_linear.specs.Search.{ComesOfMove, WasReached, WereTried, stages_in};
+ghost use Rattle.jh_linear.specs.SearchInside.{AreSame, EachIsMove, ComesOfEntering, IsSearchSoFar};
+ghost use Rattle.jh_linear.specs.SearchInside.{IsSearchKept, IsMove, IsProblem, LeadsTo, ComesOfTurn};
+ghost use Rattle.jh_linear.specs.SearchInside.{ComesOfMove, WasReached, WereTried, stages_in};
 
 use crate::config::{Config, copy_config, first_config};
 use crate::history::{Problem, history_of};

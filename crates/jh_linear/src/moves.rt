@@ -1,6 +1,6 @@
 //! The ways to go on from a configuration.
 //!
-//! `specs/Search.antt` says which are enough for no order to be lost (`AreEnough`), and what is
+//! `specs/SearchInside.antt` says which are enough for no order to be lost (`AreEnough`), and what is
 //! left out may be changed where none is. Here a read that happened and matches the value is placed
 //! at once and alone; of the operations of unknown outcome with one call only the one invoked first
 //! is tried, and only where something that may come next needs its value.
@@ -8,10 +8,10 @@
 ghost use Rattle.std.specs.Prelude.{◌≡◌, ℤ, ◌<◌, ◌≤◌, length, vec_len, true, false, IfSome, OnOk};
 ghost use Rattle.std.specs.Prelude.{Option, None};
 ghost use Rattle.jh_linear.specs.Order.{Allows, EndsBefore};
-ghost use Rattle.jh_linear.specs.Search as rule;
-ghost use Rattle.jh_linear.specs.Search.{AreMoves, HasHappened, HasUnknown, IsProblem, IsReady};
-ghost use Rattle.jh_linear.specs.Search.{IsSettledAt, CanBePlaced, IsWanted};
-ghost use Rattle.jh_linear.specs.Search.{IsAmong, MovesMore, IsNoneSettled, source_call, stages_in};
+ghost use Rattle.jh_linear.specs.SearchInside as rule;
+ghost use Rattle.jh_linear.specs.SearchInside.{AreMoves, HasHappened, HasUnknown, IsProblem, IsReady};
+ghost use Rattle.jh_linear.specs.SearchInside.{IsSettledAt, CanBePlaced, IsWanted};
+ghost use Rattle.jh_linear.specs.SearchInside.{IsAmong, MovesMore, IsNoneSettled, source_call, stages_in};
 ghost use Rattle.jh_linear.specs.WantedInside.{Holds};
 ghost use Rattle.jh_linear.specs.Stuck.{op_end};
 ghost use Rattle.jh_linear.specs.declared.moves.Source.TheVariants as source;

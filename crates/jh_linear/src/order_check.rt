@@ -6,7 +6,7 @@
 
 ghost use Rattle.std.specs.Prelude.{◌≡◌, ◌+◌, ◌<◌, ◌↔◌, ◌∷◌, ℤ, Option, length, drop, filter, true};
 ghost use Rattle.std.specs.Prelude.{IsTrue, MatchResult};
-ghost use Rattle.jh_linear.specs.Checking.{IsNoneLate, is_op_done, done_places_below};
+ghost use Rattle.jh_linear.specs.CheckingInside.{IsNoneLate, is_op_done, done_places_below};
 ghost use Rattle.jh_linear.specs.Order.{IsOrder, AreThere, HasNoneTwice, ArePossible, HasAllDone};
 ghost use Rattle.jh_linear.specs.Order.{IsLegalFrom};
 ghost use Rattle.jh_linear.specs.Order.{IsPossible, EndAfterInvoked, EndsBefore, has};

@@ -1,12 +1,12 @@
 //! The operations of a register, as the judge takes them, and the register itself.
 //!
 //! `specs/Order.antt` has the register's rule. What the search leaves out, and what it places at
-//! once, stands in `specs/Search.antt`, and may be changed where no order is lost.
+//! once, stands in `specs/SearchInside.antt`, and may be changed where no order is lost.
 
 ghost use Rattle.std.specs.Prelude.{◌≡◌, ℤ, Option, Some, IfSome, IsTrue, ◌↔◌, true};
 ghost use Rattle.jh_linear.specs.Order.{Allows};
-ghost use Rattle.jh_linear.specs.Search as rule;
-ghost use Rattle.jh_linear.specs.Search.{IsSettled, Needs};
+ghost use Rattle.jh_linear.specs.SearchInside as rule;
+ghost use Rattle.jh_linear.specs.SearchInside.{IsSettled, Needs};
 ghost use Rattle.std.specs.Prelude.{false, None};
 ghost use Rattle.jh_linear.specs.declared.register.Outcome.TheVariants.{Done};
 ghost use Rattle.jh_linear.specs.declared.register.RegCall.TheVariants.{Read};

@@ -3,7 +3,7 @@
 ghost use Rattle.std.specs.Prelude.{◌≡◌, ◌++◌, ℤ, ◌<◌, Option, length, reverse, IfOk, OnOk};
 ghost use Rattle.jh_linear.specs.Order.{IsLegalFrom};
 ghost use Rattle.jh_linear.specs.Reached.{NameEarlier, order_at};
-ghost use Rattle.jh_linear.specs.Search.{IsExhausted, IsProblem};
+ghost use Rattle.jh_linear.specs.SearchInside.{IsExhausted, IsProblem};
 ghost use Rattle.jh_linear.specs.Stuck as rule;
 ghost use Rattle.jh_linear.specs.Stuck.{IsStuck};
 ghost use Rattle.jh_linear.specs.StuckInside as inside;

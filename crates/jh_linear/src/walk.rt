@@ -1,8 +1,8 @@
-//! A configuration that goes on in place, as long as there is one way to go on. `specs/Search.antt`
+//! A configuration that goes on in place, as long as there is one way to go on. `specs/SearchInside.antt`
 //! says that no order is lost by it (`HasGone`).
 
 ghost use Rattle.std.specs.Prelude.{◌≡◌, ◌<◌, length, vec_len, IfOk, OnOk};
-ghost use Rattle.jh_linear.specs.Search.{EndsAs, HasGone, IsMadeBy, IsMove, IsProblem, stages_in};
+ghost use Rattle.jh_linear.specs.SearchInside.{EndsAs, HasGone, IsMadeBy, IsMove, IsProblem, stages_in};
 
 use crate::config::{Config, place};
 use crate::history::Problem;

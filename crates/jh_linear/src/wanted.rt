@@ -2,8 +2,8 @@
 //! to go on, since there may be as many of these as operations.
 
 ghost use Rattle.std.specs.Prelude.{◌≡◌, ℤ, ◌<◌, false, Option, Some, OnOk, IfOk, length, vec_len};
-ghost use Rattle.jh_linear.specs.Search.{IsProblem, IsReady, IsWanted, Needs, source_call};
-ghost use Rattle.jh_linear.specs.Search.{stages_in};
+ghost use Rattle.jh_linear.specs.SearchInside.{IsProblem, IsReady, IsWanted, Needs, source_call};
+ghost use Rattle.jh_linear.specs.SearchInside.{stages_in};
 ghost use Rattle.jh_linear.specs.declared.moves.Source.TheVariants as source;
 ghost use Rattle.jh_linear.specs.WantedInside.{Holds, HoldsHappened, HoldsMore, HoldsUnknown};
 

@@ -1,4 +1,4 @@
--- What the loops of this crate keep.
+-- What the loops of this crate keep (this project's own).
 use Rattle.std.specs.Prelude.{ℕ, ◌==◌, Bool, false, List, [], ◌∷◌, length, map, filter, codes}
 use Rattle.std.specs.Prelude.{if◌then◌else◌, slice_get, Option, Some, None, option_map}
 use Rattle.std.specs.Prelude.{option_and_then}

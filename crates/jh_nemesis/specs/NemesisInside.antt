@@ -1,4 +1,4 @@
--- What a contract sees of a nemesis's fields, and what holds of them.
+-- What a contract sees of a nemesis's fields, and what holds of them (this project's own).
 use Rattle.std.specs.Prelude.{ℕ, List, ◌-◌, length}
 use Rattle.jh_env.specs.Overlay.{EnvValue, work_of}
 use Rattle.jh_nemesis.specs.State.{State}

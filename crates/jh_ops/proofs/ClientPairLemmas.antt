@@ -7,7 +7,7 @@ use Rattle.std.proofs.lemmas.Bool.{eq-eqb, ne_eqb, eqb-true, cases_Bool}
 use Rattle.std.proofs.lemmas.List.{map-append, append_assoc, append-nil}
 use Rattle.jh_ops.specs.Operation.{Operation}
 use Rattle.jh_ops.specs.Pairing.{is_of_client, first_of, pair_of, pairs_from}
-use Rattle.jh_ops.specs.Stage.{pairs_with_outcome}
+use Rattle.jh_ops.specs.StageInside.{pairs_with_outcome}
 use Rattle.jh_ops.specs.declared.operation.Kind.{Kind}
 use Rattle.jh_ops.specs.declared.operation.Process.{Process}
 use Rattle.jh_ops.specs.declared.pairs.Pair.{Pair}

@@ -15,7 +15,7 @@ use Rattle.jh_ops.specs.declared.op_text.OpError.{OpError}
 use Rattle.jh_ops.specs.declared.op_text.OpError.TheVariants.{MissingF, MissingProcess, BadProcess}
 use Rattle.jh_ops.specs.declared.operation.Kind.{Kind}
 use Rattle.jh_ops.specs.declared.operation.Process.{Process}
-use Rattle.jh_ops.specs.Parts.{pairs_without_first}
+use Rattle.jh_ops.specs.PartsInside.{pairs_without_first}
 
 pub pairs_in-members_of : (ms : List (Edn × Edn)) → pairs_in (members_of ms) ≡ ms
 pairs_in-members_of [] = refl

@@ -10,7 +10,7 @@ use Rattle.std.proofs.lemmas.Option.{slice_get_within, get_or_from_slice_get}
 use borrow.Author.Count.{below_more}
 use Rattle.jh_ops.specs.Operation.{Operation, operation, operations}
 use Rattle.jh_ops.specs.Pairing.{is_of_client, kinds_of, IsWellFormed, pair_error_of, pair_error_at, HasPairError, RefusesHistory, history_pairs}
-use Rattle.jh_ops.specs.Stage.{stage_after, pairs_after, pair_awaited}
+use Rattle.jh_ops.specs.StageInside.{stage_after, pairs_after, pair_awaited}
 use Rattle.jh_ops.specs.declared.operation.Kind.{Kind}
 use Rattle.jh_ops.specs.declared.operation.Op.{Op}
 use Rattle.jh_ops.specs.declared.operation.Process.{Process}

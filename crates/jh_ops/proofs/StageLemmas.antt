@@ -8,7 +8,7 @@ use Rattle.std.proofs.lemmas.List.Sums.{fold_push}
 use Rattle.std.proofs.Math.Bool.{or-false}
 use Rattle.jh_ops.specs.Operation.{Operation}
 use Rattle.jh_ops.specs.Pairing.{is_of_client, kinds_of, is_invoke, is_info, has_crashed, is_waiting, pair_error_after, pair_error_of, history_pairs}
-use Rattle.jh_ops.specs.Stage.{stage_after, pairs_after}
+use Rattle.jh_ops.specs.StageInside.{stage_after, pairs_after}
 use Rattle.jh_ops.specs.declared.operation.Kind.{Kind}
 use Rattle.jh_ops.specs.declared.operation.Process.{Process}
 use Rattle.jh_ops.specs.declared.pairs.Pair.{Pair}

@@ -1,10 +1,10 @@
 pub mod Operation
 pub mod OperationText
-pub mod Parts
+pub mod PartsInside
 pub mod OperationWritten
 pub mod Requests
 pub mod HistoryText
 pub mod Pairing
-pub mod Stage
+pub mod StageInside
 pub mod Words
 pub mod RecordParts

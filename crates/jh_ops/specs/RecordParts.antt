@@ -1,4 +1,5 @@
 -- What the code finds of the parts of a recorded operation, one after another; Words has the rule.
+-- This project's own.
 use Rattle.std.specs.Prelude.{◌≡◌, ℕ, suc, ◌+◌, ◌*◌, ◌^◌, ◌<◌, ◌≤◌, ◌==◌, nat_le, ◌&&◌, Bool, true}
 use Rattle.std.specs.Prelude.{false, ℤ, pos, List, [], ◌∷◌, length, drop, ◌-◌, map, codes}
 use Rattle.std.specs.Prelude.{if◌then◌else◌, Option, Some, None}

@@ -8,7 +8,7 @@ ghost use Rattle.jh_ops.specs.OperationText as rule;
 ghost use Rattle.jh_ops.specs.OperationText.{IsOperationParsed, parsed_op, op_of_pairs};
 ghost use Rattle.jh_ops.specs.OperationText.{untagged_value};
 ghost use Rattle.jh_ops.specs.OperationWritten.{IsWritable};
-ghost use Rattle.jh_ops.specs.Parts.{pairs_without_first};
+ghost use Rattle.jh_ops.specs.PartsInside.{pairs_without_first};
 
 use crate::operation::{Kind, Op, Process};
 use jh_edn::{Pairs, Value};

@@ -1,14 +1,14 @@
 //! Invocations paired with their completions, in one pass.
 //!
 //! `specs/Pairing.antt` says which histories are well formed, which pairs they have and why others
-//! are refused, each process by itself over the whole history. `specs/Stage.antt` says what is kept
+//! are refused, each process by itself over the whole history. `specs/StageInside.antt` says what is kept
 //! of a process on the way.
 
 ghost use Rattle.std.specs.Prelude.{◌≡◌, ◌<◌, length, All, IfOk, IsOkUnless, MatchResult, OnOk};
 ghost use Rattle.std.specs.Option.{ForSome};
 ghost use Rattle.jh_ops.specs.Operation.{operations};
 ghost use Rattle.jh_ops.specs.Pairing.{IsWellFormed, IsPairWithin, RefusesHistory, history_pairs};
-ghost use Rattle.jh_ops.specs.Stage.{pair_awaited, pairs_after, stage_after};
+ghost use Rattle.jh_ops.specs.StageInside.{pair_awaited, pairs_after, stage_after};
 ghost use Rattle.jh_ops.specs.declared.pairs.PairError.TheVariants.{OutOfMemory};
 
 use crate::operation::{Kind, Op, Process};

@@ -1,4 +1,4 @@
--- What is known of nodes and kinds while a random fault is made.
+-- What is known of nodes and kinds while a random fault is made (this project's own).
 use Rattle.std.specs.Prelude.{◌≡◌, ℕ, ◌<◌, true, List}
 use Rattle.std.specs.List.{All}
 use Rattle.jh_grudge.specs.Lists.{AreDistinct}

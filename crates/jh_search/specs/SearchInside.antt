@@ -1,4 +1,4 @@
--- What is known while candidates are tried.
+-- What is known while candidates are tried (this project's own).
 use Rattle.std.specs.Prelude.{◌≡◌, ℕ, ◌+◌, ◌^◌, ◌<◌, List, length}
 use Rattle.jh_simnode.specs.Plans.{PlanValue}
 use Rattle.jh_search.specs.declared.options.Options.{Options}

@@ -1,4 +1,5 @@
 -- Keys with their histories: proofs rest on it, and no public clause names it.
+-- This project's own.
 use Rattle.std.specs.Prelude.{◌≡◌, Bool, List, ◌++◌, map, All, Option}
 use Rattle.std.specs.List.{AllZip}
 use Rattle.jh_edn.specs.Edn.{Edn}

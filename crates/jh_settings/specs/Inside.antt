@@ -1,4 +1,4 @@
--- What the parts of the code say to each other.
+-- What the parts of the code say to each other (this project's own).
 use Rattle.std.specs.Prelude.{◌≡◌, ℕ, List, [], ◌∷◌, Option, Some, None, Result, MatchResult}
 use Rattle.std.specs.Prelude.{MatchOption}
 use Rattle.toml.specs.Data.{Data, Members}

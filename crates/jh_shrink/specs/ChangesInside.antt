@@ -1,4 +1,5 @@
 -- What an editor keeps of each edit: the change that takes it back, or that makes it again.
+-- This project's own.
 use Rattle.std.specs.Prelude.{◌≡◌, ◌+◌, ◌<◌, ◌≤◌, List, [], ◌∷◌, length, reverse, slice_index_or}
 use Rattle.std.specs.Prelude.{slice_set, ⊤}
 use Rattle.std.specs.List.{insert, remove}

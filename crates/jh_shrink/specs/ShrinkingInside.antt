@@ -1,4 +1,4 @@
--- What is known while a schedule is made small.
+-- What is known while a schedule is made small (this project's own).
 use Rattle.std.specs.Prelude.{ℕ, ◌<◌, Bool, false, List, length, Option, Some, None, ⊤}
 use Rattle.std.specs.List.{remove}
 use Rattle.jh_simnode.specs.declared.schedule.Entry.{Entry}

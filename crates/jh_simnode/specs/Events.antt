@@ -130,8 +130,8 @@ pub record IsWorldOf (u : Setup) (state : State) (all : List Replica)
   pub few : length events ≤ max_events
 
 -- the event is the last, its number is given, and what the world keeps for good stays
-pub record AddsEvent (old : WorldValue) (event : Event) (given : ℕ) (new : WorldValue) : Type 0 where
-  pub number : given ≡ length old.journal
+pub record AddsEvent (old : WorldValue) (event : Event) (at : ℕ) (new : WorldValue) : Type 0 where
+  pub number : at ≡ length old.journal
   pub setup : new.setup ≡ old.setup
   pub journal : new.journal ≡ old.journal ++ event ∷ []
 

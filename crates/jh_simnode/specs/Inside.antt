@@ -1,4 +1,5 @@
 -- What a contract sees of the fields of a world and of a plan, and what holds of them.
+-- This project's own.
 use Rattle.jh_nemesis.specs.State.{State}
 use Rattle.jh_simnode.specs.declared.settings.Settings.{Settings}
 use Rattle.jh_simnode.specs.Events.{Setup, WorldValue, IsWorldOf}

@@ -8,6 +8,7 @@
 --          +-------------------------------------+-------- a tick, if due ----- HasReply
 --
 -- A run begins with BeforeFirstTurn, which is between turns, and ends with IsOver.
+-- This project's own.
 use Rattle.std.specs.Prelude.{◌≡◌, ℕ, ◌+◌, ◌-◌, ◌*◌, ◌^◌, ◌<◌, ◌≤◌, ◌||◌, nat_le, Bool, true, false}
 use Rattle.std.specs.Prelude.{List, [], ◌∷◌, length, set, replicate, slice_get, slice_index, IfSome}
 use Rattle.std.specs.Prelude.{if◌then◌else◌}

@@ -57,8 +57,12 @@ impl World {
     ) -> Result<World, AllocError>
         requires { StandsFor env [] }
         ensures { IfOk result
-            (IsNewWorld env
-            (record { store = store; volatile = volatile; workload = workload; initial = initial })) }
+            (IsNewWorld env (record {
+              store = store;
+              volatile = volatile;
+              workload = workload;
+              initial = initial;
+            })) }
     {
         let settings = Settings {
             store,

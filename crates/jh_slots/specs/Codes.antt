@@ -1,4 +1,4 @@
--- How a view is stored as plain data, so that proofs can tell two apart.
+-- How a view is stored as plain data, so that proofs can tell two apart (this project's own).
 use Rattle.std.specs.Prelude.{◌≡◌, ℕ, List, Bool, Some, None, Option, refl}
 use Rattle.std.specs.Coded.{Coded, code_by, coded×, coded_ℕ, coded_list, coded_bool, coded_option}
 use Rattle.std.specs.FinMap as map

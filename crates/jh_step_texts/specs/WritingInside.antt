@@ -1,4 +1,4 @@
--- What a contract sees of the values that are written of a fault.
+-- What a contract sees of the values that are written of a fault (this project's own).
 use Rattle.std.specs.Prelude.{List, [], ◌∷◌, codes, pos}
 use Rattle.jh_edn.specs.Edn.{Edn, int, keyword}
 use Rattle.jh_tables.specs.declared.faults.LinkFault.{LinkFault}

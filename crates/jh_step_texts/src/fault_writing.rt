@@ -8,7 +8,7 @@ ghost use Rattle.std.specs.Ordering.{is_lt};
 ghost use Rattle.jh_edn.specs.Order.{in_order};
 ghost use Rattle.jh_edn.specs.View.{view, views, view_pairs};
 ghost use Rattle.jh_tables.specs.Plain.{fault_on_links, fault_on_nodes};
-ghost use Rattle.jh_env.specs.Effects.{IsLinkAmount};
+ghost use Rattle.jh_env.specs.EffectsInside.{IsLinkAmount};
 ghost use Rattle.jh_env.specs.Faults.{FitsCount};
 ghost use Rattle.jh_tables.specs.Faults.FaultValue.{Bump};
 ghost use Rattle.jh_step_texts.specs.FaultWritten as text;

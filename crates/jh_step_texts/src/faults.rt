@@ -5,7 +5,7 @@ ghost use Rattle.std.specs.Prelude.{is_none};
 ghost use Rattle.std.specs.List.{filter_map, list_all, list_any};
 ghost use Rattle.jh_edn.specs.View.{view, views, view_pair, view_pairs};
 ghost use Rattle.jh_tables.specs.Plain.{fault_on_links, fault_on_nodes};
-ghost use Rattle.jh_env.specs.Effects.{IsLinkAmount};
+ghost use Rattle.jh_env.specs.EffectsInside.{IsLinkAmount};
 ghost use Rattle.jh_env.specs.Faults.{FitsCount, RefusesLinks, RefusesNodes, is_self_link};
 ghost use Rattle.jh_env.specs.Faults.{kept_links, kept_nodes};
 ghost use Rattle.jh_step_texts.specs.FaultText as rule;

@@ -1,4 +1,4 @@
--- What a contract sees of the fields of tables, and what holds of them.
+-- What a contract sees of the fields of tables, and what holds of them (this project's own).
 use Rattle.std.specs.Prelude.{◌≡◌, ◌*◌, ◌≤◌, List, length, Option, Some, None, ⊤}
 use Rattle.jh_tables.specs.declared.counted.FixEntry.{FixEntry}
 use Rattle.std.specs.List.{All}

@@ -1,5 +1,6 @@
 -- What is kept on the way to the calls of a history, and what bars are made of: proofs rest on it,
 -- and no public clause names it.
+-- This project's own.
 use Rattle.std.specs.Prelude.{◌≡◌, ℕ, ◌<◌, ◌≤◌, Bool, true, false, nat_lt, List, [], ◌∷◌, ◌++◌}
 use Rattle.std.specs.Prelude.{if◌then◌else◌, filter, length, slice_index, slice_set, All}
 use Rattle.std.specs.Prelude.{MatchOption, Option, Some, None, option_map}

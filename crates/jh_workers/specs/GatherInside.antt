@@ -1,4 +1,4 @@
--- What the code finds in a row; `Gather` has the rule.
+-- What the code finds in a row; `Gather` has the rule (this project's own).
 use Rattle.std.specs.Prelude.{◌≡◌, ℕ, false, List, [], ◌∷◌, ◌++◌, length, Option, Some, None, ⊤}
 use Rattle.std.specs.FinMap as map
 use Rattle.jh_slots.specs.Seats.{Mark, Marks, Words}

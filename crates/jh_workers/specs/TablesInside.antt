@@ -1,4 +1,4 @@
--- What stands for a log's table where none was picked.
+-- What stands for a log's table where none was picked (this project's own).
 use Rattle.std.specs.Prelude.{[]}
 use Rattle.atomic_table.specs.Seated.{TableId}
 

@@ -1,7 +1,7 @@
 use Rattle.std.proofs.Common.{◌≡◌, ℕ, List, [], subst, sym, rules, length, false}
 use Rattle.std.specs.List.{list_any}
 use Rattle.jh_tables.specs.Plain.{fault_on_links}
-use Rattle.jh_env.specs.Effects.{IsLinkAmount}
+use Rattle.jh_env.specs.EffectsInside.{IsLinkAmount}
 use Rattle.jh_env.specs.Faults.{AreApart, FitsCount, kept_links, is_same_link, is_unknown_link}
 use Rattle.jh_env.proofs.FaultLemmas.{kept_apart, none_apart, kept_links_known, fits_links, right_links}
 use Rattle.jh_env.proofs.faults.on_links_of.Goals as goal

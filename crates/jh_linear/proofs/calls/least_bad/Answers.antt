@@ -2,7 +2,7 @@ use Rattle.std.proofs.Common.{◌+◌, ◌<◌, length, take, sym, subst, arith}
 use Rattle.std.proofs.lemmas.List.{take_more}
 use Rattle.jh_ops.specs.Operation.{operations}
 use Rattle.jh_linear.specs.Calls.{IsLeastBad}
-use Rattle.jh_linear.specs.Checking.{lesser_place}
+use Rattle.jh_linear.specs.CheckingInside.{lesser_place}
 use Rattle.jh_linear.proofs.CallLemmas.{least_more}
 use Rattle.jh_linear.proofs.calls.least_bad.Goals as goal
 

@@ -1,7 +1,7 @@
 use Rattle.std.proofs.Common.{[], take, map, ap, sym, ◌∙◌, refl, subst, arith}
 use Rattle.std.proofs.lemmas.Bool.{false≢true}
 use Rattle.std.proofs.lemmas.List.{get_or_read}
-use Rattle.jh_linear.specs.Search.{IsAt, no_stage}
+use Rattle.jh_linear.specs.SearchInside.{IsAt, no_stage}
 use Rattle.jh_linear.proofs.StageLemmas.{at_first}
 use Rattle.jh_linear.proofs.NextLemmas.{next_first}
 use Rattle.jh_linear.proofs.config.first_config.Goals as goal

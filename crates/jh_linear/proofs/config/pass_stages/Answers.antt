@@ -1,5 +1,5 @@
 use Rattle.std.proofs.Common.{◌<◌, ◌++◌, length, ap, ◌∙◌, subst, arith}
-use Rattle.jh_linear.specs.Search.{stages_in}
+use Rattle.jh_linear.specs.SearchInside.{stages_in}
 use Rattle.jh_linear.proofs.PlacingLemmas.{passes_one, seen_at, coming_same}
 use Rattle.jh_linear.proofs.config.pass_stages.Goals as goal
 use Rattle.jh_linear.proofs.config.pass_stages.Goals.{then-later-stages+in_ok-extend_from_slice, else-later-stages}

@@ -1,5 +1,5 @@
 use Rattle.std.proofs.Common.{◌-◌, ◌≤◌, List, ℕ}
-use Rattle.jh_linear.specs.Search.{IsAt, stages_in}
+use Rattle.jh_linear.specs.SearchInside.{IsAt, stages_in}
 use Rattle.jh_linear.proofs.config.pass_stages.Given as goal
 
 abbrev pub invariant-stages : goal.invariant-stages

@@ -1,5 +1,5 @@
 use Rattle.jh_linear.specs.Order.{IsDone}
-use Rattle.jh_linear.specs.Search.{ArePlaceEntries, arrival_entry}
+use Rattle.jh_linear.specs.SearchInside.{ArePlaceEntries, arrival_entry}
 use Rattle.jh_linear.proofs.history.arrivals_of.Given as goal
 
 abbrev pub invariant-loop-place : goal.invariant-loop-place

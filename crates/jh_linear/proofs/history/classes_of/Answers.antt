@@ -1,5 +1,5 @@
 use Rattle.std.proofs.Common.{◌≡◌, ◌+◌, length, sym, ap, subst, ◌∙◌, arith}
-use Rattle.jh_linear.specs.Search.{AreClassesUpTo}
+use Rattle.jh_linear.specs.SearchInside.{AreClassesUpTo}
 use Rattle.jh_linear.proofs.HistoryLemmas.{AreTogether, runs_none, runs_push, together_more, together_one}
 use Rattle.jh_linear.proofs.history.classes_of.Goals as goal
 use Rattle.jh_linear.proofs.history.classes_of.Goals.{then-ends_at+in_ok-push, else-ends_at}

@@ -1,5 +1,5 @@
 use Rattle.std.proofs.Common.{◌+◌, ◌<◌, ◌≤◌, length}
-use Rattle.jh_linear.specs.Search.{AreClassesUpTo}
+use Rattle.jh_linear.specs.SearchInside.{AreClassesUpTo}
 use Rattle.jh_linear.proofs.HistoryLemmas.{AreTogether}
 use Rattle.jh_linear.proofs.history.classes_of.Given as goal
 

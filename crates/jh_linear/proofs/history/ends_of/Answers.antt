@@ -1,9 +1,9 @@
 use Rattle.std.proofs.Common.{◌≡◌, ℕ, ◌+◌, ◌-◌, ◌^◌, ◌<◌, length, unwrap_or, refl, sym, ap, subst, ◌∙◌, arith}
 use Rattle.std.proofs.lemmas.List.{get_or_default}
 use Rattle.jh_linear.specs.declared.register.RegOp.{RegOp}
-use Rattle.jh_linear.specs.Checking.{is_outcome_done}
+use Rattle.jh_linear.specs.CheckingInside.{is_outcome_done}
 use Rattle.jh_linear.specs.Order.{no_op, IsDone}
-use Rattle.jh_linear.specs.Search.{ArePlaceEntries, end_entry}
+use Rattle.jh_linear.specs.SearchInside.{ArePlaceEntries, end_entry}
 use Rattle.jh_linear.proofs.PlaceSetLemmas.{not_true}
 use Rattle.jh_linear.proofs.OrderLemmas.{done_test, is_done_if}
 use Rattle.jh_linear.proofs.EntryLemmas.{entries_none, entries_skip, entries_push, entries_moved, do_not_fall}

@@ -1,5 +1,5 @@
 use Rattle.std.proofs.Common.{length, map, sym, ap, subst, ◌∙◌}
-use Rattle.jh_linear.specs.Search.{AreClasses, AreClassesUpTo, AreStages, IsHistory}
+use Rattle.jh_linear.specs.SearchInside.{AreClasses, AreClassesUpTo, AreStages, IsHistory}
 use Rattle.jh_linear.proofs.HistoryLemmas.{are_classes, is_history}
 use Rattle.jh_linear.proofs.history.history_of.Goals as goal
 

@@ -1,6 +1,6 @@
 use Rattle.std.proofs.Common.{ℕ, ◌<◌, ◌≤◌, take, length, get_or}
-use Rattle.jh_linear.specs.Search.{no_entry}
-use Rattle.jh_linear.specs.Search.{AreStages}
+use Rattle.jh_linear.specs.SearchInside.{no_entry}
+use Rattle.jh_linear.specs.SearchInside.{AreStages}
 use Rattle.jh_linear.proofs.history.stages_of.Given as goal
 
 abbrev pub invariant-ending : goal.invariant-ending

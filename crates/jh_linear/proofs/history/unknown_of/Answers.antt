@@ -2,7 +2,7 @@ use Rattle.std.proofs.Common.{◌≡◌, ℕ, ◌+◌, ◌<◌, length, refl, sy
 use Rattle.std.proofs.lemmas.List.{get_or_default}
 use Rattle.jh_linear.specs.declared.register.RegOp.{RegOp}
 use Rattle.jh_linear.specs.Order.{no_op}
-use Rattle.jh_linear.specs.Search.{ArePlaceEntries, IsUnsureChange, is_unsure_change, unknown_entry}
+use Rattle.jh_linear.specs.SearchInside.{ArePlaceEntries, IsUnsureChange, is_unsure_change, unknown_entry}
 use Rattle.jh_linear.proofs.PlaceSetLemmas.{not_true}
 use Rattle.jh_linear.proofs.EntryLemmas.{entries_none, entries_skip, entries_push, entries_moved}
 use Rattle.jh_linear.proofs.history.unknown_of.Goals as goal

@@ -1,4 +1,4 @@
-use Rattle.jh_linear.specs.Search.{ArePlaceEntries, IsUnsureChange, unknown_entry}
+use Rattle.jh_linear.specs.SearchInside.{ArePlaceEntries, IsUnsureChange, unknown_entry}
 use Rattle.jh_linear.proofs.history.unknown_of.Given as goal
 
 abbrev pub invariant-loop-place : goal.invariant-loop-place

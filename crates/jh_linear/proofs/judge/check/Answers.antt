@@ -4,7 +4,7 @@ use Rattle.jh_linear.specs.declared.history.Problem.{Problem}
 use Rattle.jh_linear.specs.declared.verdict.Step.{Step}
 use Rattle.jh_linear.specs.Order.{IsOrder}
 use Rattle.jh_linear.specs.Reached.{order_at, AreReached, NameEarlier}
-use Rattle.jh_linear.specs.Search.{IsProblem}
+use Rattle.jh_linear.specs.SearchInside.{IsProblem}
 use Rattle.jh_linear.specs.TurnsInside.{awaits}
 use Rattle.jh_linear.proofs.JudgeLemmas.{empty_order, is_order, all_reached, fewer_turns, kept_emptied, kept_on}
 use Rattle.jh_linear.proofs.StuckLemmas.{no_order}

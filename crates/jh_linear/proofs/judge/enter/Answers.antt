@@ -1,6 +1,6 @@
 use Rattle.std.proofs.Common.{subst, arith}
 use Rattle.jh_linear.specs.declared.search.Added.TheVariants.{Known, New}
-use Rattle.jh_linear.specs.Search.{Adds}
+use Rattle.jh_linear.specs.SearchInside.{Adds}
 use Rattle.jh_linear.proofs.GoingOnLemmas.{entered_known, entered_new}
 use Rattle.jh_linear.proofs.judge.enter.Goals as goal
 

@@ -1,5 +1,5 @@
 use Rattle.std.proofs.Common.{sym, subst}
-use Rattle.jh_linear.specs.Search.{AreMoves, EachIsMove}
+use Rattle.jh_linear.specs.SearchInside.{AreMoves, EachIsMove}
 use Rattle.jh_linear.proofs.GoingOnLemmas.{each_taken, if_ok, taken_all}
 use Rattle.jh_linear.proofs.judge.expand.Goals as goal
 

@@ -2,7 +2,7 @@ use Rattle.std.proofs.Common.{◌++◌, [], List, length, refl, rules, sym, ap, 
 use Rattle.jh_linear.specs.declared.walk.WalkEnd.TheVariants.{Several, Stuck, Complete}
 use Rattle.jh_linear.specs.declared.verdict.Step.{Step}
 use Rattle.jh_linear.specs.Reached.{order_at}
-use Rattle.jh_linear.specs.Search.{EndsAs, IsMadeBy, Notes, LeadsTo}
+use Rattle.jh_linear.specs.SearchInside.{EndsAs, IsMadeBy, Notes, LeadsTo}
 use Rattle.jh_linear.proofs.GrowthLemmas.{stands_copy}
 use Rattle.jh_linear.proofs.GoingOnLemmas.{at_low, begun_mid, if_ok, move_same, some_placed, stands_next, tried_entered, tried_stuck, whole}
 use Rattle.jh_linear.proofs.judge.try_move.Goals as goal

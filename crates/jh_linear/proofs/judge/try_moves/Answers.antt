@@ -5,7 +5,7 @@ use Rattle.jh_linear.specs.declared.moves.Move.{Move}
 use Rattle.jh_linear.specs.declared.moves.Source.TheVariants.{Happened}
 use Rattle.jh_linear.specs.declared.verdict.Step.{Step}
 use Rattle.jh_linear.specs.Reached.{order_at, NameEarlier}
-use Rattle.jh_linear.specs.Search.{IsSearchSoFar, IsWholeOrder, ComesOfMove, search_lists}
+use Rattle.jh_linear.specs.SearchInside.{IsSearchSoFar, IsWholeOrder, ComesOfMove, search_lists}
 use Rattle.jh_linear.proofs.GrowthLemmas.{below, grows_trans}
 use Rattle.jh_linear.proofs.GoingOnLemmas.{tried_more}
 use Rattle.jh_linear.proofs.judge.try_moves.Goals as goal

@@ -1,6 +1,6 @@
 use Rattle.std.proofs.Common.{◌≡◌, length, refl, inl, inr, arith}
 use Rattle.std.proofs.lemmas.Grind.{common_steps}
-use Rattle.jh_linear.specs.Search.{IsNoneSettled}
+use Rattle.jh_linear.specs.SearchInside.{IsNoneSettled}
 use Rattle.jh_linear.proofs.MoveLemmas.{each_none}
 use Rattle.jh_linear.proofs.moves.find_moves.Goals as goal
 

@@ -1,4 +1,4 @@
-use Rattle.jh_linear.specs.Search.{HasHappened, MovesMore}
+use Rattle.jh_linear.specs.SearchInside.{HasHappened, MovesMore}
 use Rattle.jh_linear.proofs.moves.push_happened.Given as goal
 
 abbrev pub invariant-loop-index : goal.invariant-loop-index

@@ -1,6 +1,6 @@
 use Rattle.std.proofs.Common.{◌≡◌, Some, sym, subst}
 use Rattle.jh_linear.specs.Order.{Allows}
-use Rattle.jh_linear.specs.Search.{IsAmong}
+use Rattle.jh_linear.specs.SearchInside.{IsAmong}
 use Rattle.jh_linear.specs.declared.moves.Move.{Move}
 use Rattle.jh_linear.proofs.MoveLemmas.{among_push, more_push}
 use Rattle.jh_linear.proofs.moves.push_move.Goals as goal

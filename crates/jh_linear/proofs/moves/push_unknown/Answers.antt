@@ -1,5 +1,5 @@
 use Rattle.std.proofs.Common.{◌+◌, sym, ap, subst, arith}
-use Rattle.jh_linear.specs.Search.{HasUnknown, MovesMore}
+use Rattle.jh_linear.specs.SearchInside.{HasUnknown, MovesMore}
 use Rattle.jh_linear.proofs.MoveLemmas.{more_same, more_trans, unknown_more}
 use Rattle.jh_linear.proofs.moves.push_unknown.Goals as goal
 use Rattle.jh_linear.proofs.moves.push_unknown.Goals.{then-is_worth+in_ok-push_move, else-is_worth}

@@ -1,4 +1,4 @@
-use Rattle.jh_linear.specs.Search.{HasUnknown, MovesMore}
+use Rattle.jh_linear.specs.SearchInside.{HasUnknown, MovesMore}
 use Rattle.jh_linear.proofs.moves.push_unknown.Given as goal
 
 abbrev pub invariant-loop-class : goal.invariant-loop-class

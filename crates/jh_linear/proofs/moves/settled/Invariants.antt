@@ -1,4 +1,4 @@
-use Rattle.jh_linear.specs.Search.{IsNoneSettled}
+use Rattle.jh_linear.specs.SearchInside.{IsNoneSettled}
 use Rattle.jh_linear.proofs.moves.settled.Given as goal
 
 abbrev pub invariant-loop-index : goal.invariant-loop-index

@@ -1,6 +1,6 @@
 use Rattle.std.proofs.Common.{◌≡◌, ℕ, ◌+◌, List, ◌∷◌, true, drop, length, get_or, refl, sym, subst, ◌∙◌, arith}
 use Rattle.jh_linear.specs.Order.{has}
-use Rattle.jh_linear.specs.Checking.{IsNoneLate}
+use Rattle.jh_linear.specs.CheckingInside.{IsNoneLate}
 use Rattle.std.proofs.lemmas.Bool.{false≢true}
 use Rattle.jh_linear.proofs.OrderLemmas.{not_apart, apart_if, none_behind}
 use Rattle.jh_linear.proofs.order_check.are_apart.Goals as goal

@@ -1,5 +1,5 @@
 use Rattle.std.proofs.Common.{◌≡◌, ◌≤◌, length}
-use Rattle.jh_linear.specs.Checking.{done_places_below}
+use Rattle.jh_linear.specs.CheckingInside.{done_places_below}
 use Rattle.jh_linear.proofs.order_check.count_all_done.Given as goal
 
 abbrev pub invariant-loop-place : goal.invariant-loop-place

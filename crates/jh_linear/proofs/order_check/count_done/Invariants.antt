@@ -1,5 +1,5 @@
 use Rattle.std.proofs.Common.{◌≡◌, ◌≤◌, length, take, filter}
-use Rattle.jh_linear.specs.Checking.{is_op_done}
+use Rattle.jh_linear.specs.CheckingInside.{is_op_done}
 use Rattle.jh_linear.proofs.order_check.count_done.Given as goal
 
 abbrev pub invariant-loop-place : goal.invariant-loop-place

@@ -5,7 +5,7 @@ use Rattle.jh_linear.specs.declared.register.RegOp.{RegOp}
 use Rattle.jh_linear.specs.declared.verdict.Step.{Step}
 use Rattle.jh_linear.specs.Order.{IsLegalFrom, op_at}
 use Rattle.jh_linear.specs.Reached.{order_at}
-use Rattle.jh_linear.specs.Search.{furthest_order, no_stage, stage_at}
+use Rattle.jh_linear.specs.SearchInside.{furthest_order, no_stage, stage_at}
 use Rattle.jh_linear.specs.Stuck.{op_end}
 use Rattle.jh_linear.specs.StuckInside.{IsKnownUntil}
 use Rattle.jh_linear.proofs.StuckLemmas.{End, stuck_is}

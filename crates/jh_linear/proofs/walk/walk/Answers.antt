@@ -1,6 +1,6 @@
 use Rattle.std.proofs.Common.{◌≡◌, List, [], sym, subst, arith}
 use Rattle.jh_linear.specs.declared.moves.Move.{Move}
-use Rattle.jh_linear.specs.Search.{AreMoves}
+use Rattle.jh_linear.specs.SearchInside.{AreMoves}
 use Rattle.jh_linear.proofs.MoveLemmas.{is_first, is_only, no_moves}
 use Rattle.jh_linear.proofs.WalkLemmas.{dead_end, gone_on}
 use Rattle.jh_linear.proofs.walk.walk.Goals as goal

@@ -1,4 +1,4 @@
-use Rattle.jh_linear.specs.Search.{HasGone}
+use Rattle.jh_linear.specs.SearchInside.{HasGone}
 use Rattle.jh_linear.proofs.walk.walk.Given as goal
 
 abbrev pub invariant-loop : goal.invariant-loop

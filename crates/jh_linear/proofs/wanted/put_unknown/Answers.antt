@@ -1,7 +1,7 @@
 use Rattle.std.proofs.Common.{◌≡◌, subst, sym, inl, inr, arith}
 use Rattle.std.proofs.lemmas.Bool.{cases_lt}
 use Rattle.jh_linear.specs.WantedInside.{Holds}
-use Rattle.jh_linear.specs.Search.{IsReady, Needs, source_call}
+use Rattle.jh_linear.specs.SearchInside.{IsReady, Needs, source_call}
 use Rattle.jh_linear.specs.declared.moves.Source.TheVariants.{Unknown}
 use Rattle.jh_linear.proofs.wanted.put_unknown.Goals as goal
 

@@ -4,7 +4,7 @@ use Rattle.std.proofs.lemmas.Result.{err_from_is_err_and}
 use Rattle.jh_edn.specs.Edn.{nil, value_under}
 use Rattle.jh_edn.specs.View.{view, view_pairs}
 use Rattle.jh_ops.specs.OperationText.{kind_in, process_in, integer_under, is_other}
-use Rattle.jh_ops.specs.Parts.{pairs_without_first}
+use Rattle.jh_ops.specs.PartsInside.{pairs_without_first}
 use Rattle.jh_ops.proofs.MapPairLemmas.{unwrapped, filter-viewed, parsed-bad_process, parsed-whole}
 use Rattle.jh_ops.proofs.op_text.op_in.Goals as goal
 

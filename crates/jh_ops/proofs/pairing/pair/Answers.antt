@@ -2,7 +2,7 @@ use Rattle.std.proofs.Common.{◌≡◌, ap, ◌∙◌, sym, length, Ok, Err, ru
 use Rattle.std.specs.Prelude.{unwrap_or}
 use Rattle.std.proofs.lemmas.Result.{err_from_is_err_and}
 use Rattle.jh_ops.specs.Operation.{operations}
-use Rattle.jh_ops.specs.Stage.{stage_after, pairs_after, pair_awaited}
+use Rattle.jh_ops.specs.StageInside.{stage_after, pairs_after, pair_awaited}
 use Rattle.jh_ops.specs.declared.pairing.Stage.TheVariants.{Idle}
 use Rattle.jh_ops.proofs.PlaceLemmas.{stages_in, put_here, put_apart, stands_skip, stands_more, first_error, refuses, wants_memory, awaited_is_there, stands_end, not_well_formed}
 use Rattle.jh_ops.proofs.PairPlaceLemmas.{pairs_within}

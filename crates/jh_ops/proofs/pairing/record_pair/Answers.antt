@@ -1,5 +1,5 @@
 use Rattle.std.proofs.Common.{ap, ◌∙◌, sym, ◌<◌, length, rules}
-use Rattle.jh_ops.specs.Stage.{pair_awaited, pairs_after}
+use Rattle.jh_ops.specs.StageInside.{pair_awaited, pairs_after}
 use Rattle.jh_ops.proofs.ClientPairLemmas.{pairs_with_outcome-set}
 use Rattle.jh_ops.proofs.pairing.record_pair.Goals as goal
 

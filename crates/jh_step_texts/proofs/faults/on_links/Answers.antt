@@ -2,7 +2,7 @@ use Rattle.std.proofs.Common.{◌≡◌, refl, inl, inr, sym, ◌∙◌, ap, sub
 use Rattle.std.specs.Prelude.{IfSome}
 use Rattle.std.specs.List.{filter_map}
 use Rattle.jh_edn.specs.View.{view}
-use Rattle.jh_env.specs.Effects.{IsLinkAmount}
+use Rattle.jh_env.specs.EffectsInside.{IsLinkAmount}
 use Rattle.jh_env.specs.Faults.{RefusesLinks}
 use Rattle.jh_step_texts.specs.FaultText.{ends_of, refusal_of}
 use Rattle.jh_step_texts.proofs.FaultTextLemmas.{parsed_links-unknown, parsed_links-self, parsed_links-bad, parsed_links-fault, links_refused}

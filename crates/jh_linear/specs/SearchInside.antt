@@ -1,4 +1,5 @@
 -- What the search for an order keeps: proofs rest on it, and no public clause names it.
+-- This project's own.
 use Rattle.std.specs.Prelude.{◌⊎◌, ◌≡◌, ◌==◌, ℕ, ◌+◌, ◌*◌, ◌<◌, ◌≤◌, ℤ, Bool, true, false, not}
 use Rattle.std.specs.Prelude.{Option, Some, None, List, [], ◌∷◌, ◌++◌, length, take, drop, ◌-◌}
 use Rattle.std.specs.Prelude.{slice_index_or, slice_get, nat_lt}

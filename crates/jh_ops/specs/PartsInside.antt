@@ -1,4 +1,5 @@
 -- What is left of the pairs of a map when the first with a keyword was taken out.
+-- This project's own.
 use Rattle.std.specs.Prelude.{ℕ, List, [], ◌∷◌, if◌then◌else◌}
 use Rattle.jh_edn.specs.Edn.{Edn, is_keyword}
 

@@ -1,4 +1,4 @@
--- A value is larger than those in it, so that a walk down a value ends.
+-- A value is larger than those in it, so that a walk down a value ends (this project's own).
 use Rattle.std.specs.Prelude.{◌≤◌, List, [], ◌∷◌}
 use Rattle.std.proofs.Common.{arith}
 use denote.Param.Weighed.{most}

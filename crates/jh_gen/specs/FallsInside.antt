@@ -1,4 +1,4 @@
--- A generator is larger than those in it.
+-- A generator is larger than those in it (this project's own).
 use Rattle.std.specs.Prelude.{ℕ, ◌≤◌, List, [], ◌∷◌}
 use Rattle.std.proofs.Common.{arith}
 use denote.Param.Weighed.{most}

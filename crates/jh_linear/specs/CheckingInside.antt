@@ -1,5 +1,6 @@
 -- What the parts of checking an order, and of looking for a bad value, go by: proofs rest on it,
 -- and no public clause names it.
+-- This project's own.
 use Rattle.std.specs.Prelude.{ℕ, zero, suc, ◌<◌, min, Bool, true, false, if◌then◌else◌, Option}
 use Rattle.std.specs.Prelude.{Some, None, List, [], ◌∷◌, length, slice_index_or}
 use Rattle.jh_linear.specs.declared.register.Outcome.{Outcome}

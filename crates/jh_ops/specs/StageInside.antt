@@ -1,4 +1,5 @@
 -- What pairing keeps of each process while it goes over a history: how far it has come.
+-- This project's own.
 use Rattle.std.specs.Prelude.{ℕ, List, [], ◌∷◌, ◌++◌, zero, suc, Option, Some, None, Result, Ok}
 use Rattle.std.specs.Prelude.{Err}
 use Rattle.jh_ops.specs.declared.operation.Kind.{Kind}
