@@ -1,7 +1,7 @@
 //! The text of an environment, written. `specs/TextWritten.antt` says what is written, and how.
 
-ghost use Rattle.std.specs.Prelude.{◌≡◌, ◌∷◌, ◌++◌, length, map, option_map, filter_map, flat_map};
-ghost use Rattle.std.specs.Prelude.{slice_get, IfOk, OnOk};
+ghost use Rattle.std.specs.Prelude.{◌≡◌, ◌∷◌, ◌++◌, map, option_map, filter_map, flat_map};
+ghost use Rattle.std.specs.Prelude.{IfOk, OnOk};
 ghost use Rattle.jh_edn.specs.Edn.{str, keyword, vector, items_of};
 ghost use Rattle.jh_edn.specs.View.{view, views, view_pair, view_pairs};
 ghost use Rattle.jh_tables.specs.Standing.{IsLinkInRange};
