@@ -1,19 +1,19 @@
 -- The first bad value, one group of settings after another.
-use Rattle.std.proofs.Common.{◌≡◌, inl, inr, List, [], ◌∷◌, ◌++◌, Option, Some, IsSome, refl, sym, subst}
+use Rattle.std.proofs.Common.{◌≡◌, ℕ, ℤ, Bool, inl, inr, List, [], ◌∷◌, ◌++◌, Option, Some, IsSome, refl, sym, subst}
 use Rattle.toml.specs.Data.{Members}
 use Rattle.jh_env.specs.Overlay.{EnvValue}
-use Rattle.jh_gen.specs.View.{generator_of}
+use Rattle.jh_gen.specs.Generator.{Generator}
+use Rattle.jh_ops.specs.declared.call.Workload.{Workload}
+use Rattle.jh_simnode.specs.declared.settings.Store.{Store}
+use Rattle.jh_settings.specs.declared.choices.Mode.{Mode}
 use Rattle.jh_simnode.specs.declared.schedule.Entry.{Entry}
 use Rattle.jh_settings.specs.Inside.{RefusesValue, RefusesKeyValues, RefusesDocumentValues, IsParsedCluster, IsParsedLoad, AreParsedLimits, cluster_keys, load_keys, limit_keys}
 use Rattle.jh_settings.specs.Keys.{keys}
 use Rattle.jh_settings.specs.Refusals.{IsGood, AreGood, IsFirstBadKey}
-use Rattle.jh_settings.specs.Parsed.{IsParsedStart, parsed_store, parsed_workload, parsed_clients, parsed_ops, parsed_mode, parsed_volatile, parsed_initial, parsed_tick_every, parsed_rows, parsed_seed, parsed_budget, IsParsedSchedule}
+use Rattle.jh_settings.specs.Parsed.{IsParsedStart, IsParsedSchedule}
 use Rattle.jh_settings.specs.declared.error.SettingsError.{SettingsError}
 use Rattle.jh_settings.specs.declared.error.SettingsError.TheVariants.{NotToml, Unknown, Missing, BadValue, OutOfMemory}
 use Rattle.jh_settings.specs.declared.keys.Key.{Key}
-use Rattle.jh_settings.specs.declared.settings.Cluster.{Cluster}
-use Rattle.jh_settings.specs.declared.settings.Load.{Load}
-use Rattle.jh_settings.specs.declared.settings.Limits.{Limits}
 use Rattle.jh_settings.proofs.StartLemmas.{nodes_once}
 
 first_front : (document : Members) (some more : List Key) (key : Key) → IsFirstBadKey document some key → IsFirstBadKey document (some ++ more) key
@@ -52,31 +52,21 @@ pub good_append : (document : Members) (some more : List Key) → AreGood docume
 good_append document [] more h k = k
 good_append document (key ∷ some) more h k = (h.0, good_append document some more h.1 k)
 
-is_parsed : {A : Type 0} (o : Option A) (x : A) → o ≡ Some x → IsSome o
-is_parsed o x e = subst IsSome (sym e) refl
+-- what is parsed is good
+is_parsed : {A : Type 0} {o : Option A} {x : A} → o ≡ Some x → IsSome o
+is_parsed e = subst IsSome (sym e) refl
 
-pub cluster_good : (document : Members) (cluster : Cluster) → IsParsedCluster document cluster → AreGood document cluster_keys
-cluster_good document cluster h =
-    let store = is_parsed (parsed_store document) cluster.store h.store in
-    let workload = is_parsed (parsed_workload document) cluster.workload h.workload in
-    ((cluster.environment, h.start), (store, (workload, ((generator_of cluster.generator, h.generator), tt))))
+module _ {document : Members} where
+  pub cluster_good : {environment : EnvValue} {store : Store} {workload : Workload} {g : Generator}
+      → IsParsedCluster document environment store workload g → AreGood document cluster_keys
+  cluster_good h = ((_, h.start), (is_parsed h.in_store, (is_parsed h.of_workload, ((_, h.source), tt))))
 
-pub load_good : (document : Members) (load : Load) → IsParsedLoad document load → AreGood document load_keys
-load_good document load h =
-    let clients = is_parsed (parsed_clients document) load.clients h.clients in
-    let ops = is_parsed (parsed_ops document) load.ops h.ops in
-    let mode = is_parsed (parsed_mode document) load.mode h.mode in
-    let volatile = is_parsed (parsed_volatile document) load.volatile h.volatile in
-    let initial = is_parsed (parsed_initial document) load.initial h.initial in
-    (clients, (ops, (mode, (volatile, (initial, tt)))))
+  pub load_good : {clients ops : ℕ} {mode : Mode} {volatile : Bool} {initial : Option ℤ}
+      → IsParsedLoad document clients ops mode volatile initial → AreGood document load_keys
+  load_good h = (is_parsed h.by_clients, (is_parsed h.calls, (is_parsed h.in_mode, (is_parsed h.forgets, (is_parsed h.holds, tt)))))
 
-pub limits_good : (document : Members) (limits : Limits) → AreParsedLimits document limits → AreGood document limit_keys
-limits_good document limits h =
-    let tick_every = is_parsed (parsed_tick_every document) limits.tick_every h.tick_every in
-    let rows = is_parsed (parsed_rows document) limits.rows h.rows in
-    let seed = is_parsed (parsed_seed document) limits.seed h.seed in
-    let budget = is_parsed (parsed_budget document) limits.budget h.budget in
-    (tick_every, (rows, (seed, (budget, tt))))
+  pub limits_good : {tick_every rows seed budget : ℕ} → AreParsedLimits document tick_every rows seed budget → AreGood document limit_keys
+  limits_good h = (is_parsed h.ticks, (is_parsed h.of_rows, (is_parsed h.from_seed, (is_parsed h.within, tt))))
 
 no_schedule : (document : Members) (env : EnvValue) → IsParsedStart document env → (((entries : List Entry) × IsParsedSchedule env.names document entries) → ⊥) → IsGood document Key.Schedule → ⊥
 no_schedule document env start none good =

@@ -1,29 +1,25 @@
 -- The plan of parts that are good by themselves.
-use Rattle.std.proofs.Common.{◌≡◌, ℕ, ◌≤◌, pos, ◌&&◌, nat_le, inl, inr, List, [], ◌∷◌, ◌++◌, All, length, Option, Some, None, Result, Ok, Err, refl, sym, ap, subst, ◌∙◌, arith}
+use Rattle.std.proofs.Common.{◌≡◌, ℕ, ◌≤◌, pos, ◌&&◌, nat_le, inl, inr, [], ◌∷◌, ◌++◌, All, length, Option, Some, None, refl, sym, ap, subst, ◌∙◌, arith}
 use Rattle.std.proofs.lemmas.Bool.{cases_Bool, and_parts, leb-true, cond-true, cond-false}
 use Rattle.std.proofs.lemmas.Option.{same_Some}
 use Rattle.std.specs.Option.{option_and_then, option_map_or}
-use Rattle.std.specs.Result.{MatchResult}
 use Rattle.toml.specs.Data.{Data, integer, Members}
 use Rattle.jh_ops.specs.declared.call.Workload.{Workload}
 use Rattle.jh_nemesis.specs.Steps.{FitsNodes}
 use Rattle.jh_gen.specs.View.{generator_of}
 use Rattle.jh_ops.specs.Requests.{max_calls_of}
-use Rattle.jh_simnode.specs.Plans.{IsFit, RefusesPlan}
+use Rattle.jh_simnode.specs.Plans.{PlanValue, IsFit, RefusesPlan, plan_of_data}
+use Rattle.jh_simnode.specs.declared.plan.PlanData.{PlanData}
 use Rattle.jh_simnode.specs.declared.plan.PlanError.{PlanError}
-use Rattle.jh_simnode.specs.declared.schedule.Entry.{Entry}
-use Rattle.jh_settings.specs.Inside.{RefusesDocumentValues, RefusesWith, IsParsedCluster, IsParsedLoad, AreParsedLimits, plan_with, plan_refusal, cluster_keys, load_keys, limit_keys}
+use Rattle.jh_settings.specs.Inside.{RefusesDocumentValues, RefusesWith, IsParsedCluster, IsParsedLoad, AreParsedLimits, plan_refusal, cluster_keys, load_keys, limit_keys}
 use Rattle.jh_settings.specs.Keys.{HasKnownKeys, keys, data_under}
 use Rattle.jh_settings.specs.Kinds.{whole_number_in, needed_value}
 use Rattle.jh_settings.specs.Refusals.{AreGood}
 use Rattle.jh_settings.specs.Settings.{AreSettings}
 use Rattle.jh_settings.specs.Parsed.{IsParsedSchedule, parsed_clients, parsed_ops, parsed_rows, parsed_workload}
+use Rattle.jh_settings.specs.declared.choices.Mode.{Mode}
 use Rattle.jh_settings.specs.declared.error.SettingsError.{SettingsError}
 use Rattle.jh_settings.specs.declared.keys.Key.{Key}
-use Rattle.jh_settings.specs.declared.settings.Cluster.{Cluster}
-use Rattle.jh_settings.specs.declared.settings.Limits.{Limits}
-use Rattle.jh_settings.specs.declared.settings.Load.{Load}
-use Rattle.jh_settings.specs.declared.settings.RunSettings.{RunSettings}
 use Rattle.jh_settings.proofs.ElementLemmas.{none_not}
 use Rattle.jh_settings.proofs.OrderLemmas.{cluster_good, load_good, limits_good, good_append}
 
@@ -58,59 +54,57 @@ has_ops document workload n parsed e =
     sym (ap (option_and_then (λ w. needed_value (whole_number_in 1 (max_calls_of w)) Key.Ops document)) parsed) ∙ e in
     needed_is 1 (max_calls_of workload) (data_under Key.Ops document) n known
 
--- parts of a plan that a document means
-pub record Parts (document : Members) (c : Cluster) (l : Load) (n : Limits) (entries : List Entry) : Type 0 where
+-- the parts of a plan, the mode and the budget that a document means
+pub record AreParsedParts (document : Members) (parts : PlanData) (mode : Mode) (budget : ℕ) : Type 0 where
   pub known : HasKnownKeys document
-  pub cluster : IsParsedCluster document c
-  pub load : IsParsedLoad document l
-  pub limits : AreParsedLimits document n
-  pub schedule : IsParsedSchedule c.environment.names document entries
-  pub fit : All (λ entry. FitsNodes (length c.environment.names) entry.step) entries
+  pub cluster : IsParsedCluster document parts.environment parts.settings.store parts.settings.workload (generator_of parts.generator)
+  pub load : IsParsedLoad document parts.clients parts.ops mode parts.settings.volatile parts.settings.initial
+  pub limits : AreParsedLimits document parts.tick_every parts.rows parts.seed budget
+  pub schedule : IsParsedSchedule parts.environment.names document parts.schedule
+  pub steps : All (λ entry. FitsNodes (length parts.environment.names) entry.step) parts.schedule
 
-module _ (document : Members) (cluster : Cluster) (load : Load) (limits : Limits) (schedule : List Entry) (parts : Parts document cluster load limits schedule) where
-  planned : IsFit (plan_with cluster load limits schedule) → AreSettings document (plan_with cluster load limits schedule) load.mode limits.budget
+module _ (document : Members) (parts : PlanData) (mode : Mode) (budget : ℕ) (parsed : AreParsedParts document parts mode budget) where
+  planned : IsFit (plan_of_data parts) → AreSettings document (plan_of_data parts) mode budget
   planned fit = record {
-    known = parts.known;
-    start = parts.cluster.start;
-    store = parts.cluster.store;
-    workload = parts.cluster.workload;
-    generator = parts.cluster.generator;
-    clients = parts.load.clients;
-    ops = parts.load.ops;
-    mode = parts.load.mode;
-    volatile = parts.load.volatile;
-    initial = parts.load.initial;
-    tick_every = parts.limits.tick_every;
-    rows = parts.limits.rows;
-    seed = parts.limits.seed;
-    budget = parts.limits.budget;
-    schedule = parts.schedule;
+    known = parsed.known;
+    start = parsed.cluster.start;
+    store = parsed.cluster.in_store;
+    workload = parsed.cluster.of_workload;
+    generator = parsed.cluster.source;
+    clients = parsed.load.by_clients;
+    ops = parsed.load.calls;
+    mode = parsed.load.in_mode;
+    volatile = parsed.load.forgets;
+    initial = parsed.load.holds;
+    tick_every = parsed.limits.ticks;
+    rows = parsed.limits.of_rows;
+    seed = parsed.limits.from_seed;
+    budget = parsed.limits.within;
+    schedule = parsed.schedule;
     fit = fit;
   }
 
   all_good : AreGood document keys
   all_good =
-      let last : AreGood document (Key.Schedule ∷ []) = ((cluster.environment, schedule, parts.cluster.start, parts.schedule), tt) in
-      let limits = good_append document limit_keys (Key.Schedule ∷ []) (limits_good document limits parts.limits) last in
-      let load = good_append document load_keys (limit_keys ++ Key.Schedule ∷ []) (load_good document load parts.load) limits in
-      good_append document cluster_keys (load_keys ++ (limit_keys ++ Key.Schedule ∷ [])) (cluster_good document cluster parts.cluster) load
+      let last : AreGood document (Key.Schedule ∷ []) = ((parts.environment, parts.schedule, parsed.cluster.start, parsed.schedule), tt) in
+      let limits = good_append document limit_keys (Key.Schedule ∷ []) (limits_good parsed.limits) last in
+      let load = good_append document load_keys (limit_keys ++ Key.Schedule ∷ []) (load_good parsed.load) limits in
+      good_append document cluster_keys (load_keys ++ (limit_keys ++ Key.Schedule ∷ [])) (cluster_good parsed.cluster) load
 
   -- a plan of good parts is refused for its generator alone
-  refused : (error : PlanError) → RefusesPlan (plan_with cluster load limits schedule) error → RefusesDocumentValues document (plan_refusal error)
-  refused PlanError.BadClients h = absurd (h (has_clients document load.clients parts.load.clients))
-  refused PlanError.BadOps h = absurd (h.1 (has_ops document cluster.workload load.ops parts.cluster.workload parts.load.ops))
-  refused PlanError.BadRows h = absurd (h.2 (has_rows document limits.rows parts.limits.rows))
+  refused : (error : PlanError) → RefusesPlan (plan_of_data parts) error → RefusesDocumentValues document (plan_refusal error)
+  refused PlanError.BadClients h = absurd (h (has_clients document parts.clients parsed.load.by_clients))
+  refused PlanError.BadOps h = absurd (h.1 (has_ops document parts.settings.workload parts.ops parsed.cluster.of_workload parsed.load.calls))
+  refused PlanError.BadRows h = absurd (h.2 (has_rows document parts.rows parsed.limits.of_rows))
   refused PlanError.BadGenerator h =
-      inr (refl, (cluster.workload, load.clients, generator_of cluster.generator, all_good, parts.cluster.workload, parts.load.clients, parts.cluster.generator, h.3))
-  refused PlanError.BadStep h = absurd (h.4 parts.fit)
+      inr (refl, (parts.settings.workload, parts.clients, generator_of parts.generator, all_good, parsed.cluster.of_workload, parsed.load.by_clients, parsed.cluster.source, h.3))
+  refused PlanError.BadStep h = absurd (h.4 parsed.steps)
   refused PlanError.OutOfMemory h = tt
 
-  pub settled : (r : Result RunSettings SettingsError)
-      → MatchResult r (λ s. (s.plan ≡ plan_with cluster load limits schedule) × (s.mode ≡ load.mode) × (s.budget ≡ limits.budget) × IsFit s.plan) (RefusesWith (plan_with cluster load limits schedule))
-      → MatchResult r (λ s. AreSettings document s.plan s.mode s.budget) (RefusesDocumentValues document)
-  settled (Ok s) h =
-      let fit = subst IsFit h.0 h.3 in
-      let settings = subst (λ p. AreSettings document p load.mode limits.budget) (sym h.0) (planned fit) in
-      let in_mode = subst (λ m. AreSettings document s.plan m limits.budget) (sym h.1) settings in
-      subst (AreSettings document s.plan s.mode) (sym h.2) in_mode
-  settled (Err e) h = subst (RefusesDocumentValues document) (sym h.2) (refused h.0 h.1)
+  -- so a plan of these parts is what the document means
+  pub planned_settings : (plan : PlanValue) → (plan ≡ plan_of_data parts) × IsFit plan → AreSettings document plan mode budget
+  planned_settings plan h = subst (λ p. AreSettings document p mode budget) (sym h.0) (planned (subst IsFit h.0 h.1))
+
+  -- and why it is refused is why the document is
+  pub planned_refusal : (e : SettingsError) → RefusesWith (plan_of_data parts) e → RefusesDocumentValues document e
+  planned_refusal e h = subst (RefusesDocumentValues document) (sym h.2) (refused h.0 h.1)

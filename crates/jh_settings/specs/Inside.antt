@@ -1,5 +1,5 @@
 -- What the parts of the code say to each other (this project's own).
-use Rattle.std.specs.Prelude.{◌≡◌, ℕ, List, [], ◌∷◌, Option, Some, None, Result, MatchResult}
+use Rattle.std.specs.Prelude.{◌≡◌, ℕ, ℤ, Bool, List, [], ◌∷◌, Option, Some, None, Result, MatchResult}
 use Rattle.std.specs.Prelude.{MatchOption}
 use Rattle.toml.specs.Data.{Data, Members}
 use Rattle.jh_edn.specs.Edn.{Edn}
@@ -8,7 +8,12 @@ use Rattle.jh_edn.specs.View.{view}
 use Rattle.jh_edn.specs.declared.value.Value.{Value}
 use Rattle.jh_env.specs.declared.texts.EnvTextError.{EnvTextError}
 use Rattle.jh_settings.specs.declared.keys.Key.{Key}
+use Rattle.jh_settings.specs.declared.choices.Mode.{Mode}
+use Rattle.jh_env.specs.Overlay.{EnvValue}
+use Rattle.jh_gen.specs.Generator.{Generator}
+use Rattle.jh_ops.specs.declared.call.Workload.{Workload}
 use Rattle.jh_simnode.specs.declared.schedule.Entry.{Entry}
+use Rattle.jh_simnode.specs.declared.settings.Store.{Store}
 use Rattle.jh_settings.specs.declared.error.SettingsError.{SettingsError}
 use Rattle.jh_settings.specs.declared.error.SettingsError.TheVariants.{NotToml, Unknown, Missing}
 use Rattle.jh_settings.specs.declared.error.SettingsError.TheVariants.{BadValue, OutOfMemory}
@@ -20,10 +25,6 @@ use Rattle.jh_settings.specs.Parsed.{parsed_rows, parsed_seed, parsed_budget}
 use Rattle.jh_settings.specs.Refusals.{IsFirstBadKey}
 use Rattle.jh_settings.specs.Settings.{IsBadValue}
 use Rattle.jh_settings.specs.Keys.{IsDocument, HasKnownKeys, IsFirstUnknown, first_missing}
-use Rattle.jh_settings.specs.declared.settings.Cluster.{Cluster}
-use Rattle.jh_settings.specs.declared.settings.Load.{Load}
-use Rattle.jh_settings.specs.declared.settings.Limits.{Limits}
-use Rattle.jh_gen.specs.View.{generator_of}
 use Rattle.jh_simnode.specs.Plans.{PlanValue, RefusesPlan}
 use Rattle.jh_simnode.specs.declared.plan.PlanError.{PlanError}
 
@@ -65,34 +66,36 @@ abbrev pub start_refusal : EnvTextError → SettingsError
 start_refusal EnvTextError.OutOfMemory = OutOfMemory
 start_refusal _ = BadValue Key.Start
 
--- the parts of a plan
+-- the keys of a plan's parts, some behind others, and what a document means under them
 abbrev pub cluster_keys : List Key
 cluster_keys = Key.Start ∷ Key.Store ∷ Key.Workload ∷ Key.Generator ∷ []
 
-pub record IsParsedCluster (document : Members) (cluster : Cluster) : Type 0 where
-  pub start : IsParsedStart document cluster.environment
-  pub store : parsed_store document ≡ Some cluster.store
-  pub workload : parsed_workload document ≡ Some cluster.workload
-  pub generator : IsParsedGenerator document (generator_of cluster.generator)
+pub record IsParsedCluster (document : Members) (environment : EnvValue) (store : Store)
+    (workload : Workload) (generator : Generator) : Type 0 where
+  pub start : IsParsedStart document environment
+  pub in_store : parsed_store document ≡ Some store
+  pub of_workload : parsed_workload document ≡ Some workload
+  pub source : IsParsedGenerator document generator
 
 abbrev pub load_keys : List Key
 load_keys = Key.Clients ∷ Key.Ops ∷ Key.Mode ∷ Key.Volatile ∷ Key.Initial ∷ []
 
-pub record IsParsedLoad (document : Members) (load : Load) : Type 0 where
-  pub clients : parsed_clients document ≡ Some load.clients
-  pub ops : parsed_ops document ≡ Some load.ops
-  pub mode : parsed_mode document ≡ Some load.mode
-  pub volatile : parsed_volatile document ≡ Some load.volatile
-  pub initial : parsed_initial document ≡ Some load.initial
+pub record IsParsedLoad (document : Members) (clients ops : ℕ) (mode : Mode) (volatile : Bool)
+    (initial : Option ℤ) : Type 0 where
+  pub by_clients : parsed_clients document ≡ Some clients
+  pub calls : parsed_ops document ≡ Some ops
+  pub in_mode : parsed_mode document ≡ Some mode
+  pub forgets : parsed_volatile document ≡ Some volatile
+  pub holds : parsed_initial document ≡ Some initial
 
 abbrev pub limit_keys : List Key
 limit_keys = Key.TickEvery ∷ Key.Rows ∷ Key.Seed ∷ Key.Budget ∷ []
 
-pub record AreParsedLimits (document : Members) (limits : Limits) : Type 0 where
-  pub tick_every : parsed_tick_every document ≡ Some limits.tick_every
-  pub rows : parsed_rows document ≡ Some limits.rows
-  pub seed : parsed_seed document ≡ Some limits.seed
-  pub budget : parsed_budget document ≡ Some limits.budget
+pub record AreParsedLimits (document : Members) (tick_every rows seed budget : ℕ) : Type 0 where
+  pub ticks : parsed_tick_every document ≡ Some tick_every
+  pub of_rows : parsed_rows document ≡ Some rows
+  pub from_seed : parsed_seed document ≡ Some seed
+  pub within : parsed_budget document ≡ Some budget
 
 -- why bytes are no table
 abbrev pub RefusesBytes : List ℕ → SettingsError → Type 0
@@ -123,25 +126,6 @@ plan_refusal PlanError.BadGenerator = BadValue Key.Generator
 plan_refusal PlanError.BadStep = BadValue Key.Schedule
 plan_refusal PlanError.OutOfMemory = OutOfMemory
 
-abbrev pub plan_with : Cluster → Load → Limits → List Entry → PlanValue
-plan_with cluster load limits schedule =
-    record {
-      env = cluster.environment;
-      settings =
-          record {
-            store = cluster.store;
-            volatile = load.volatile;
-            workload = cluster.workload;
-            initial = load.initial;
-          };
-      clients = load.clients;
-      ops = load.ops;
-      generator = generator_of cluster.generator;
-      schedule = schedule;
-      tick_every = limits.tick_every;
-      rows = limits.rows;
-      seed = limits.seed;
-    }
-
+-- why a plan is refused, as the settings say it
 abbrev pub RefusesWith : PlanValue → SettingsError → Type 0
 RefusesWith plan e = (error : PlanError) × RefusesPlan plan error × (e ≡ plan_refusal error)

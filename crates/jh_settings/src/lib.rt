@@ -5,6 +5,7 @@ mod choices;
 mod elements;
 mod error;
 mod keys;
+mod numbers;
 mod settings;
 mod table;
 

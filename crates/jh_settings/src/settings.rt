@@ -4,35 +4,31 @@
 ghost use Rattle.std.specs.Prelude.{◌≡◌, Some, None, [], MatchResult};
 ghost use Rattle.toml.specs.View.{table_view};
 ghost use Rattle.jh_env.specs.Overlay.{StandsFor};
-ghost use Rattle.jh_simnode.specs.Plans.{IsFit};
-ghost use Rattle.jh_settings.specs.Inside.{RefusesKeyValues, RefusesBytes, RefusesDocumentKeys};
-ghost use Rattle.jh_settings.specs.Inside.{RefusesDocumentValues};
-ghost use Rattle.jh_settings.specs.Inside.{RefusesWith, IsParsedCluster, AreParsedLimits};
-ghost use Rattle.jh_settings.specs.Inside.{IsParsedLoad};
+ghost use Rattle.jh_gen.specs.View.{generator_of};
+ghost use Rattle.jh_simnode.specs.Plans.{IsFit, plan_of_data};
+ghost use Rattle.jh_settings.specs.Inside.{RefusesBytes, RefusesDocumentKeys};
+ghost use Rattle.jh_settings.specs.Inside.{AreParsedLimits, IsParsedCluster, IsParsedLoad};
+ghost use Rattle.jh_settings.specs.Inside.{RefusesDocumentValues, RefusesKeyValues, RefusesWith};
 ghost use Rattle.jh_settings.specs.Inside.{cluster_keys, limit_keys, load_keys, plan_refusal};
-ghost use Rattle.jh_settings.specs.Inside.{plan_with};
 ghost use Rattle.jh_settings.specs.Keys as rule;
 ghost use Rattle.jh_settings.specs.Keys.{HasKnownKeys, IsDocument};
-ghost use Rattle.jh_settings.specs.Settings.{AreSettings, AreSettingsOf, RefusesSettings};
 ghost use Rattle.jh_settings.specs.Parsed.{parsed_workload};
+ghost use Rattle.jh_settings.specs.Settings.{AreSettings, AreSettingsOf, RefusesSettings};
 
 use crate::choices::{Mode, initial_under, mode_under, store_under, workload_under};
 use crate::elements::{generator_under, schedule_under, start_under};
 use crate::error::{KeyText, SettingsError};
 use crate::keys::{Key, first_missing, first_unknown};
-use crate::table::{number_or, number_under, truth_or};
+use crate::numbers::{
+    budget_under, clients_under, ops_under, rows_under, seed_under, tick_every_under,
+};
+use crate::table::truth_or;
 use jh_env::Env;
-use jh_gen::{Gen, MAX_CLIENTS};
+use jh_gen::Gen;
 use jh_ops::Workload;
-use jh_simnode::{MAX_ROWS, Plan, PlanData, PlanError, Schedule, Settings, Store};
+use jh_simnode::{Plan, PlanData, PlanError, Settings, Store};
 use std::alloc::Global;
 use toml::Table;
-
-/// After how many of its calls a client thread ticks at most.
-const MAX_TICK_EVERY: u64 = 10_000;
-
-/// The greatest budget of a judgement.
-const MAX_BUDGET: u64 = 10_000_000;
 
 /// What is run, and how much the judgement of its history may take.
 #[derive(Debug, Drop)]
@@ -41,91 +37,6 @@ pub struct RunSettings {
     pub mode: Mode,
     /// How many configurations the judge of a register may reach, from 0 to 10,000,000.
     pub budget: u64,
-}
-
-/// The database, what is asked of it, and where it stands.
-#[derive(Drop)]
-pub(crate) struct Cluster {
-    environment: Env,
-    store: Store,
-    workload: Workload,
-    generator: Gen,
-}
-
-/// How much is asked of it, and how it begins.
-#[derive(Clone, Copy)]
-pub(crate) struct Load {
-    clients: u32,
-    ops: u32,
-    mode: Mode,
-    volatile: bool,
-    initial: Option<i64>,
-}
-
-/// Numbers that have defaults.
-#[derive(Clone, Copy)]
-pub(crate) struct Limits {
-    tick_every: u32,
-    rows: u32,
-    seed: u64,
-    budget: u64,
-}
-
-/// The cluster that a table means, under `start`, `store`, `workload` and `generator`.
-fn cluster_of(alloc: Global, table: &Table) -> Result<Cluster, SettingsError>
-    ensures { MatchResult result
-        (IsParsedCluster (table_view table.now))
-        (RefusesKeyValues (table_view table.now) cluster_keys) }
-{
-    let environment = start_under(alloc, table)?;
-    let store = store_under(table)?;
-    let workload = workload_under(table)?;
-    let generator = generator_under(alloc, table)?;
-    Ok(Cluster {
-        environment,
-        store,
-        workload,
-        generator,
-    })
-}
-
-/// The load that a table means, under `clients`, `ops`, `mode`, `volatile` and `initial`.
-fn load_of(table: &Table, workload: Workload) -> Result<Load, SettingsError>
-    requires { parsed_workload (table_view table.now) ≡ Some workload }
-    ensures { MatchResult result
-        (IsParsedLoad (table_view table.now))
-        (RefusesKeyValues (table_view table.now) load_keys) }
-{
-    let clients = number_under(table, Key::Clients, 1, u64::from(MAX_CLIENTS))?;
-    let ops = number_under(table, Key::Ops, 1, u64::from(workload.max_calls()))?;
-    let mode = mode_under(table)?;
-    let volatile = truth_or(table, Key::Volatile, false)?;
-    let initial = initial_under(table, workload)?;
-    Ok(Load {
-        clients: clients as u32,
-        ops: ops as u32,
-        mode,
-        volatile,
-        initial,
-    })
-}
-
-/// The limits that a table means; one whose key does not stand there has its default.
-fn limits_of(table: &Table) -> Result<Limits, SettingsError>
-    ensures { MatchResult result
-        (AreParsedLimits (table_view table.now))
-        (RefusesKeyValues (table_view table.now) limit_keys) }
-{
-    let tick_every = number_or(table, Key::TickEvery, 0, 0, MAX_TICK_EVERY)?;
-    let rows = number_or(table, Key::Rows, 4_096, 1, u64::from(MAX_ROWS))?;
-    let seed = number_or(table, Key::Seed, 0, 0, i64::MAX as u64)?;
-    let budget = number_or(table, Key::Budget, 100_000, 0, MAX_BUDGET)?;
-    Ok(Limits {
-        tick_every: tick_every as u32,
-        rows: rows as u32,
-        seed,
-        budget,
-    })
 }
 
 /// What the refusal of a plan means, whose parts are good by themselves.
@@ -142,64 +53,94 @@ fn plan_error(error: PlanError) -> SettingsError
     }
 }
 
-/// The settings of these parts.
-fn settings_with(
-    alloc: Global,
-    cluster: Cluster,
-    load: Load,
-    limits: Limits,
-    schedule: Schedule,
-) -> Result<RunSettings, SettingsError>
-    requires { StandsFor cluster.environment [] }
+/// The plan of parts that are good by themselves.
+fn made_plan(alloc: Global, parts: PlanData) -> Result<Plan, SettingsError>
+    requires { StandsFor parts.environment [] }
     ensures { MatchResult result
-        (λ settings. (settings.plan ≡ plan_with cluster load limits schedule)
-        × (settings.mode ≡ load.mode) × (settings.budget ≡ limits.budget) × IsFit settings.plan)
-        (RefusesWith (plan_with cluster load limits schedule)) }
+        (λ plan. (plan ≡ plan_of_data parts) × IsFit plan)
+        (RefusesWith (plan_of_data parts)) }
 {
-    let Cluster {
-        environment,
-        store,
-        workload,
-        generator,
-    } = cluster;
-    let fields = PlanData {
-        environment,
-        settings: Settings {
-            store,
-            volatile: load.volatile,
-            workload,
-            initial: load.initial,
-        },
-        clients: load.clients,
-        ops: load.ops,
-        generator,
-        schedule,
-        tick_every: limits.tick_every,
-        rows: limits.rows,
-        seed: limits.seed,
-    };
-    match Plan::new(alloc, fields) {
-        Ok(plan) => Ok(RunSettings {
-            plan,
-            mode: load.mode,
-            budget: limits.budget,
-        }),
+    match Plan::new(alloc, parts) {
+        Ok(plan) => Ok(plan),
         Err(error) => Err(plan_error(error)),
     }
 }
 
-/// The settings that the values of a table mean.
+/// What a table means under `start`, `store`, `workload` and `generator`.
+fn cluster_of(alloc: Global, table: &Table) -> Result<(Env, Store, Workload, Gen), SettingsError>
+    ensures { MatchResult result
+        (λ parts. IsParsedCluster (table_view table.now)
+        parts.0 parts.1 parts.2 (generator_of parts.3))
+        (RefusesKeyValues (table_view table.now) cluster_keys) }
+{
+    let environment = start_under(alloc, table)?;
+    let store = store_under(table)?;
+    let workload = workload_under(table)?;
+    let generator = generator_under(alloc, table)?;
+    Ok((environment, store, workload, generator))
+}
+
+/// What a table means under `clients`, `ops`, `mode`, `volatile` and `initial`.
+fn load_of(
+    table: &Table,
+    workload: Workload,
+) -> Result<(u32, u32, Mode, bool, Option<i64>), SettingsError>
+    requires { parsed_workload (table_view table.now) ≡ Some workload }
+    ensures { MatchResult result
+        (λ parts. IsParsedLoad (table_view table.now)
+        parts.0 parts.1 parts.2 parts.3 parts.4)
+        (RefusesKeyValues (table_view table.now) load_keys) }
+{
+    let clients = clients_under(table)?;
+    let ops = ops_under(table, workload)?;
+    let mode = mode_under(table)?;
+    let volatile = truth_or(table, Key::Volatile, false)?;
+    let initial = initial_under(table, workload)?;
+    Ok((clients, ops, mode, volatile, initial))
+}
+
+/// What a table means under `tick_every`, `rows`, `seed` and `budget`.
+fn limits_of(table: &Table) -> Result<(u32, u32, u64, u64), SettingsError>
+    ensures { MatchResult result
+        (λ parts. AreParsedLimits (table_view table.now) parts.0 parts.1 parts.2 parts.3)
+        (RefusesKeyValues (table_view table.now) limit_keys) }
+{
+    let tick_every = tick_every_under(table)?;
+    let rows = rows_under(table)?;
+    let seed = seed_under(table)?;
+    let budget = budget_under(table)?;
+    Ok((tick_every, rows, seed, budget))
+}
+
+/// The settings that the values of a table mean, read in the order of `Key`.
 fn settings_in(alloc: Global, table: &Table) -> Result<RunSettings, SettingsError>
     requires { HasKnownKeys (table_view table.now) }
     ensures { MatchResult result
         (λ settings. AreSettings (table_view table.now) settings.plan settings.mode settings.budget)
         (RefusesDocumentValues (table_view table.now)) }
 {
-    let cluster = cluster_of(alloc, table)?;
-    let load = load_of(table, cluster.workload)?;
-    let limits = limits_of(table)?;
-    let schedule = schedule_under(alloc, table, cluster.environment.nodes())?;
-    settings_with(alloc, cluster, load, limits, schedule)
+    let (environment, store, workload, generator) = cluster_of(alloc, table)?;
+    let (clients, ops, mode, volatile, initial) = load_of(table, workload)?;
+    let (tick_every, rows, seed, budget) = limits_of(table)?;
+    let schedule = schedule_under(alloc, table, environment.nodes())?;
+    let parts = PlanData {
+        environment,
+        settings: Settings {
+            store,
+            volatile,
+            workload,
+            initial,
+        },
+        clients,
+        ops,
+        generator,
+        schedule,
+        tick_every,
+        rows,
+        seed,
+    };
+    let plan = made_plan(alloc, parts)?;
+    Ok(RunSettings { plan, mode, budget })
 }
 
 /// The table that bytes mean, a TOML document in UTF-8.
