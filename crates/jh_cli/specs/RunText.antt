@@ -1,7 +1,7 @@
 -- What `jeprun run` writes (this project's own): a line for each operation of the run's history, as
 -- Jepsen writes histories, a line with the ids of the active faults, one with the environment, and
 -- the line of the checker of the workload.
-use Rattle.std.specs.Prelude.{◌≡◌, ℕ, false, List, ◌++◌}
+use Rattle.std.specs.Prelude.{◌≡◌, ℕ, List, ◌++◌}
 use Rattle.std.specs.List.{flat_map}
 use Rattle.jh_edn.specs.Print.{print}
 use Rattle.jh_env.specs.Overlay.{EnvValue}
@@ -9,7 +9,6 @@ use Rattle.jh_nemesis.specs.State.{State}
 use Rattle.jh_ops.specs.Operation.{Operation}
 use Rattle.jh_ops.specs.OperationWritten.{value_written}
 use Rattle.jh_check.specs.declared.verdict.Verdict.{Verdict}
-use Rattle.jh_keys.specs.declared.finding.Judging.{Judging}
 use Rattle.jh_simnode.specs.declared.events.Event.{Event}
 use Rattle.jh_simnode.specs.Laws.{state_at}
 use Rattle.jh_simnode.specs.Plans.{PlanValue}
@@ -17,6 +16,7 @@ use Rattle.jh_simnode.specs.Runs.{IsSerialRun, setup_of}
 use Rattle.jh_audit.specs.Audit.{IsAudited}
 use Rattle.jh_audit.specs.Plans.{FollowsPlan}
 use Rattle.jh_workers.specs.Shown.{IsJournal}
+use Rattle.jh_run_laws.specs.OwnJudging.{own_judging}
 use Rattle.jh_settings.specs.Settings.{AreSettingsOf}
 use Rattle.jh_settings.specs.declared.choices.Mode.{Mode}
 use Rattle.jh_cli.specs.CheckText.{IsJudgement, verdict_status}
@@ -32,17 +32,6 @@ IsRunOutput last history judged output =
     (env : EnvValue) × IsEnvOf last env
     × (output ≡ output_lines history
     ++ (active_line last.active ++ (environment_line env ++ line judged)))
-
--- what the history of a run is judged by; its no is not explained
-abbrev pub own_judging : PlanValue → ℕ → Judging
-own_judging p budget =
-    record {
-      workload = p.settings.workload;
-      initial = p.settings.initial;
-      budget = budget;
-      explain
-          = false;
-    }
 
 -- for a plan that is run serially, with the verdict on its history
 abbrev pub IsSerialText : PlanValue → ℕ → Verdict → List ℕ → Type 0

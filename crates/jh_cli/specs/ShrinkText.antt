@@ -12,6 +12,7 @@ use Rattle.jh_simnode.specs.declared.events.Event.{Event}
 use Rattle.jh_simnode.specs.declared.schedule.Entry.{Entry}
 use Rattle.jh_simnode.specs.Plans.{PlanValue, plan_with_schedule}
 use Rattle.jh_simnode.specs.Runs.{IsSerialRun}
+use Rattle.jh_run_laws.specs.OwnJudging.{own_judging}
 use Rattle.jh_shrink.specs.Shrunk.{IsShrunk}
 use Rattle.jh_shrink.specs.declared.shrinking.Shrunk.{Shrunk}
 use Rattle.jh_shrink.specs.declared.shrinking.Shrunk.TheVariants.{Minimal, Budget, NotFailing}
@@ -19,7 +20,6 @@ use Rattle.jh_settings.specs.Settings.{AreSettingsOf}
 use Rattle.jh_settings.specs.declared.choices.Mode.{Mode}
 use Rattle.jh_cli.specs.CheckText.{IsJudgement}
 use Rattle.jh_cli.specs.EnvText.{line}
-use Rattle.jh_cli.specs.RunText.{own_judging}
 
 -- ---- when a run fails
 

@@ -9,6 +9,7 @@ ghost use Rattle.std.specs.Io.KnownBytes.{Appends};
 ghost use Rattle.jh_edn.specs.Print.{print};
 ghost use Rattle.jh_ops.specs.Operation.{operation, operations};
 ghost use Rattle.jh_ops.specs.OperationWritten.{value_written};
+ghost use Rattle.jh_run_laws.specs.OwnJudging.{own_judging};
 ghost use Rattle.jh_cli.specs.CheckText.{IsJudgement};
 ghost use Rattle.jh_cli.specs.EnvText.{line};
 ghost use Rattle.jh_cli.specs.RunInside.{own_error};
@@ -22,10 +23,10 @@ use crate::check_command::{Judgement, judge, status_of};
 use crate::env_command::{MAX_READS, write_active, write_environment};
 use crate::error::CliError;
 use jh_edn::read_bytes;
-use jh_keys::{Judging, write_operation};
+use jh_keys::write_operation;
 use jh_nemesis::Nemesis;
 use jh_ops::Op;
-use jh_run_laws::own_histories_are_judged;
+use jh_run_laws::{own_histories_are_judged, own_judging};
 use jh_settings::{Mode, RunSettings, settings_of};
 use jh_simnode::{Event, Plan, World, nemesis_after, run_serial, world_of};
 use jh_workers::{LockedWorld, Outcome, RunError as ThreadsError, run};
@@ -209,22 +210,10 @@ fn own_error(error: CliError) -> CliError
     }
 }
 
-/// What the history of a run of the plan is judged by.
-pub(crate) fn own_judging(plan: &Plan, budget: u64) -> Judging
-    ensures { result ≡ text.own_judging plan.now budget }
-{
-    Judging {
-        workload: plan.workload(),
-        initial: plan.initial(),
-        budget,
-        explain: false,
-    }
-}
-
 /// The judgement of the history of a run of the plan.
 fn judge_own(alloc: Global, plan: &Plan, history: &[Op], budget: u64) -> Result<Judgement, CliError>
     ensures { MatchResult result
-        (λ found. IsJudgement (text.own_judging plan.now budget)
+        (λ found. IsJudgement (own_judging plan.now budget)
         (operations history.now) found.verdict found.text.items)
         (RefusesOwn plan.now.settings.workload (operations history.now)) }
 {

@@ -5,11 +5,11 @@ use Rattle.std.specs.List.{All, count_by}
 use Rattle.jh_ops.specs.Operation.{Operation}
 use Rattle.jh_check.specs.declared.verdict.Verdict.{Verdict}
 use Rattle.jh_keys.specs.Findings.{Found, IsFinding, verdict_of_finding}
-use Rattle.jh_keys.specs.declared.finding.Judging.{Judging}
 use Rattle.jh_simnode.specs.declared.events.Event.{Event}
 use Rattle.jh_simnode.specs.declared.serial.RunError.TheVariants as RunError
 use Rattle.jh_simnode.specs.Plans.{PlanValue}
 use Rattle.jh_simnode.specs.Runs.{IsSerialRun, Stops}
+use Rattle.jh_run_laws.specs.OwnJudging.{own_judging}
 use Rattle.jh_search.specs.declared.options.Options.{Options}
 use Rattle.jh_search.specs.declared.verdicts.PlanVerdict.{PlanVerdict}
 use Rattle.jh_search.specs.declared.verdicts.PlanVerdict.TheVariants.{Fails, Passes, Unknown}
@@ -17,17 +17,6 @@ use Rattle.jh_search.specs.declared.serial.Searched.{Searched}
 use Rattle.jh_search.specs.Candidates.{candidate_of}
 
 -- ---- what comes of a plan
-
--- what the history of a run is judged by; its no is not explained
-abbrev pub judging_of : PlanValue → ℕ → Judging
-judging_of p budget =
-    record {
-      workload = p.settings.workload;
-      initial = p.settings.initial;
-      budget = budget;
-      explain
-          = false;
-    }
 
 abbrev pub plan_verdict : Verdict → PlanVerdict
 plan_verdict Verdict.False = Fails
@@ -40,7 +29,7 @@ pub record IsRunJudged (p : PlanValue) (budget : ℕ) (verdict : PlanVerdict) : 
   pub history : List Operation
   pub found : Found
   pub run : IsSerialRun p journal history
-  pub finding : IsFinding (judging_of p budget) history found
+  pub finding : IsFinding (own_judging p budget) history found
   pub judged : verdict ≡ plan_verdict (verdict_of_finding found.finding)
 
 -- its serial run has no end, for in a whole round no thread got a call

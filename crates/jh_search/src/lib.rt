@@ -15,5 +15,5 @@ pub use candidates::candidate;
 pub use kinds::{Kind, Palette};
 pub use options::Options;
 pub use serial::{Searched, search_serial};
-pub use threads::{SearchError, search};
+pub use threads::{SearchError, SearchObserver, search, search_observed};
 pub use verdicts::PlanVerdict;

@@ -20,8 +20,22 @@ use std::thread::Threads;
 use thiserror::Error;
 
 /// How many candidates the threads share at once: so a search of any length takes the memory of so
-/// many answers.
-const MAX_BLOCK: u64 = 65_536;
+/// many answers, and an observer is told each time.
+const MAX_BLOCK: u64 = 1_024;
+
+/// Who is told how far a search is.
+pub trait SearchObserver {
+    /// So many candidates were tried and do not fail, and what comes of so many of them is unknown.
+    fn see_tried(&mut self, tried: u64, unknown: u64);
+}
+
+/// Nobody is told.
+#[derive(Drop)]
+struct Nobody;
+
+impl SearchObserver for Nobody {
+    fn see_tried(&mut self, _tried: u64, _unknown: u64) {}
+}
 
 /// Why a search ends without an answer.
 #[derive(Clone, Copy, Debug, PartialEq, Eq, Error)]
@@ -203,7 +217,7 @@ fn after_block(
 /// when it returns.
 ///
 /// May wait, and promises only if it returns. Takes the time of each run and of its judge, and
-/// memory for one at a time for each thread, and 2 bytes for each candidate of 65,536 at once.
+/// memory for one at a time for each thread, and 2 bytes for each candidate of 1,024 at once.
 ///
 /// Errors: at the first candidate that was not tried, `Thread` where a thread could not be had;
 /// `OutOfMemory`.
@@ -213,6 +227,24 @@ pub fn search<R: Threads + Wait + Sync>(
     plan: &Plan,
     options: &Options,
     threads: u32,
+) -> Result<Searched, SearchError>
+    requires range { options.now.from + options.now.runs < 2 ^ 64 }
+    requires threads { (1 ≤ threads) × (threads ≤ 16) }
+    ensures { IfOk result (IsSearched plan.now options.now) }
+{
+    search_observed(rt, alloc, plan, options, threads, &mut Nobody)
+}
+
+/// [`search`], which tells an observer after each 1,024 candidates how many were tried.
+///
+/// Errors: those of `search`.
+pub fn search_observed<R: Threads + Wait + Sync, O: SearchObserver>(
+    rt: &R,
+    alloc: Global,
+    plan: &Plan,
+    options: &Options,
+    threads: u32,
+    observer: &mut O,
 ) -> Result<Searched, SearchError>
     requires range { options.now.from + options.now.runs < 2 ^ 64 }
     requires threads { (1 ≤ threads) × (threads ≤ 16) }
@@ -230,6 +262,7 @@ pub fn search<R: Threads + Wait + Sync>(
             Next::Found(found) => return Ok(found),
             Next::Goes(next) => progress = next,
         }
+        observer.see_tried(progress.tried, progress.unknown);
     }
     Ok(Searched {
         failing: None,

@@ -8,8 +8,8 @@ ghost use Rattle.jh_search.specs.Search.{ComesOf, IsPlanVerdict};
 use crate::candidates::candidate;
 use crate::options::Options;
 use jh_check::{CheckError, Verdict};
-use jh_keys::{Judging, check_history};
-use jh_run_laws::own_histories_are_judged;
+use jh_keys::check_history;
+use jh_run_laws::{own_histories_are_judged, own_judging};
 use jh_simnode::{Plan, RunError, run_serial};
 use std::alloc::{AllocError, Global};
 
@@ -22,18 +22,6 @@ pub enum PlanVerdict {
     Passes,
     /// That is not known, or the run has no end.
     Unknown,
-}
-
-/// What the history of a run of the plan is judged by.
-fn judging_of(plan: &Plan, budget: u64) -> Judging
-    ensures { result ≡ rule.judging_of plan.now budget }
-{
-    Judging {
-        workload: plan.workload(),
-        initial: plan.initial(),
-        budget,
-        explain: false,
-    }
 }
 
 /// What a verdict says of a plan.
@@ -57,7 +45,7 @@ fn verdict_of_plan(alloc: Global, plan: &Plan, budget: u64) -> Result<PlanVerdic
         Err(RunError::Stuck) => return Ok(PlanVerdict::Unknown),
         Err(_) => return Err(AllocError),
     };
-    match check_history(alloc, &history, judging_of(plan, budget)) {
+    match check_history(alloc, &history, own_judging(plan, budget)) {
         Ok(found) => Ok(plan_verdict(found.finding.verdict())),
         Err(CheckError::OutOfMemory) => Err(AllocError),
         Err(_) => unreachable!(),
