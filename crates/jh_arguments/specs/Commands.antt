@@ -1,7 +1,7 @@
 -- Which arguments ask for which command, what it writes, and why its input is refused (this
 -- project's own).
-use Rattle.std.specs.Prelude.{◌≡◌, ◌<◌, ◌≤◌, ◌^◌, ℕ, ℤ, Bool, true, false, List, Option, Some, None}
-use Rattle.std.specs.Prelude.{codes, FitsSigned}
+use Rattle.std.specs.Prelude.{◌≡◌, ◌<◌, ◌≤◌, ◌+◌, ◌^◌, ℕ, ℤ, Bool, true, false, List, Option, Some}
+use Rattle.std.specs.Prelude.{None, IfSome, codes, option_and_then, FitsSigned}
 use mir.Syntax.{w64}
 use Rattle.std.specs.Str.Parse.{IsNumeral, digits_value, signed_digits_value, without_leading_plus}
 use Rattle.std.specs.Str.Parse.{without_leading_sign}
@@ -10,19 +10,23 @@ use Rattle.jh_cli.specs.EnvText.{IsEnvTextOf}
 use Rattle.jh_cli.specs.CheckText.{IsCheckTextOf}
 use Rattle.jh_cli.specs.RunText.{IsRunTextOf}
 use Rattle.jh_cli.specs.ShrinkText.{IsShrinkTextOf}
+use Rattle.jh_cli.specs.SearchText.{IsSearchTextOf}
 use Rattle.jh_cli.specs.TimelineText.{IsTimelineTextOf}
 use Rattle.jh_cli.specs.Refusals.{RefusesInput}
 use Rattle.jh_cli.specs.CheckRefusals.{RefusesCheck}
 use Rattle.jh_cli.specs.RunRefusals.{RefusesRun}
 use Rattle.jh_cli.specs.ShrinkRefusals.{RefusesShrinking}
+use Rattle.jh_cli.specs.SearchRefusals.{RefusesSearch}
 use Rattle.jh_cli.specs.TimelineRefusals.{RefusesTimeline}
 use Rattle.jh_cli.specs.declared.error.CliError.{CliError}
 use Rattle.jh_cli.specs.declared.check_command.Question.{Question}
+use Rattle.jh_cli.specs.declared.search_command.SearchQuestion.{SearchQuestion}
 use Rattle.jh_cli.specs.declared.timeline_command.TimelineJudging.{TimelineJudging}
 use Rattle.jh_cli.specs.declared.timeline_command.TimelineQuestion.{TimelineQuestion}
 use Rattle.jh_arguments.specs.declared.commands.Command.{Command}
 use Rattle.jh_arguments.specs.declared.commands.Command.TheVariants.{Env, Check, Run, Shrink}
-use Rattle.jh_arguments.specs.declared.commands.Command.TheVariants.{Timeline}
+use Rattle.jh_arguments.specs.declared.commands.Command.TheVariants.{Search, Timeline}
+use Rattle.jh_arguments.specs.Palettes.{palette_named}
 use Rattle.jh_ops.specs.Requests.{workload_name}
 
 -- the text writes a number of `i64`
@@ -48,9 +52,14 @@ IsNumber None number = ⊥
 IsNumber (Some text) number =
     WritesUnsigned text × (number ≡ digits_value 10 (without_leading_plus text))
 
+-- the number from the least to the most that an option gives
+abbrev pub IsNumberWithin : ℕ → ℕ → Option Text → ℕ → Type 0
+IsNumberWithin least most text number =
+    IsNumber text number × (least ≤ number) × (number ≤ most)
+
 -- how many threads an option gives
 abbrev pub IsThreads : Option Text → ℕ → Type 0
-IsThreads text threads = IsNumber text threads × (1 ≤ threads) × (threads ≤ 16)
+IsThreads text threads = IsNumberWithin 1 16 text threads
 
 -- whether a flag is there, which `clap` gives the text of yes or no
 abbrev pub IsFlag : Option Text → Bool → Type 0
@@ -94,6 +103,25 @@ pub record AsksTimeline (options : List Row) (question : TimelineQuestion) : Typ
   pub from : IsIndex (one_of (codes "from") options) question.choice.from
   pub to : IsIndex (one_of (codes "to") options) question.choice.to
 
+-- how many threads an option gives, if it is there
+abbrev pub AreThreadsGiven : Option Text → Option ℕ → Type 0
+AreThreadsGiven None threads = threads ≡ None
+AreThreadsGiven (Some text) (Some threads) = IsThreads (Some text) threads
+AreThreadsGiven (Some text) None = (threads : ℕ) → IsThreads (Some text) threads → ⊥
+
+-- a number of candidates, or the number of one
+abbrev pub max_candidates : ℕ
+max_candidates = 9223372036854775807
+
+-- the options of `search` ask this
+pub record AsksSearch (options : List Row) (question : SearchQuestion) : Type 0 where
+  pub from : IsNumberWithin 0 max_candidates (one_of (codes "from") options) question.from
+  pub runs : IsNumberWithin 1 max_candidates (one_of (codes "runs") options) question.runs
+  pub faults : IsNumberWithin 0 256 (one_of (codes "faults") options) question.faults
+  pub palette : question.palette
+      ≡ option_and_then palette_named (first_of (codes "palette") options)
+  pub threads : AreThreadsGiven (one_of (codes "threads") options) question.threads
+
 -- A subcommand with its options asks for a command.
 abbrev pub AsksFor : Option (Text × List Row) → Command → Type 0
 AsksFor None command = ⊥
@@ -102,15 +130,20 @@ AsksFor (Some found) (Check question) = (found.0 ≡ codes "check") × AsksCheck
 AsksFor (Some found) Run = found.0 ≡ codes "run"
 AsksFor (Some found) (Shrink budget) =
     (found.0 ≡ codes "shrink") × IsNumber (one_of (codes "budget") found.1) budget
+AsksFor (Some found) (Search question) =
+    (found.0 ≡ codes "search") × AsksSearch found.1 question
 AsksFor (Some found) (Timeline question) =
     (found.0 ≡ codes "timeline") × AsksTimeline found.1 question
 
 -- ---- what a command does
 
--- its number of threads is one of those that there may be
-abbrev pub TakesThreads : Command → Type 0
-TakesThreads (Check question) = (1 ≤ question.threads) × (question.threads ≤ 16)
-TakesThreads _ = Unit {0}
+-- its number of threads is one of those that there may be, and each candidate has a number
+abbrev pub HasNumbersInRange : Command → Type 0
+HasNumbersInRange (Check question) = (1 ≤ question.threads) × (question.threads ≤ 16)
+HasNumbersInRange (Search question) =
+    (question.from + question.runs < 2 ^ 64)
+    × IfSome question.threads (λ threads. (1 ≤ threads) × (threads ≤ 16))
+HasNumbersInRange _ = Unit {0}
 
 -- what it writes for an input, with the exit status
 abbrev pub IsOutputOf : Command → List ℕ → ℕ → List ℕ → Type 0
@@ -118,6 +151,7 @@ IsOutputOf Env input status output = IsEnvTextOf input output × (status ≡ 0)
 IsOutputOf (Check question) input status output = IsCheckTextOf question input status output
 IsOutputOf Run input status output = IsRunTextOf input status output
 IsOutputOf (Shrink budget) input status output = IsShrinkTextOf input status output
+IsOutputOf (Search question) input status output = IsSearchTextOf question input status output
 IsOutputOf (Timeline question) input status output = IsTimelineTextOf question input status output
 
 -- why it refuses an input, or does not do its work
@@ -126,4 +160,5 @@ RefusesCommand Env input e = RefusesInput input e
 RefusesCommand (Check question) input e = RefusesCheck question input e
 RefusesCommand Run input e = RefusesRun input e
 RefusesCommand (Shrink budget) input e = RefusesShrinking input e
+RefusesCommand (Search question) input e = RefusesSearch question input e
 RefusesCommand (Timeline question) input e = RefusesTimeline question input e

@@ -1,2 +1,3 @@
+pub mod Palettes
 pub mod Line
 pub mod Commands

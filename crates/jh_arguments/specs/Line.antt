@@ -73,13 +73,31 @@ timeline names =
 abbrev pub shrink : App
 shrink = with_rule (new_app (codes "shrink")) (budget (codes "10000"))
 
+-- the names of kinds of faults, all where none are given
+abbrev pub palette : Rule
+palette =
+    record (option (codes "palette")) { defaults = codes "cut,slow,loss,fix,pause,kill,bump" ∷ [] }
+
+-- by how many threads, if that is given: from 1 to 16
+abbrev pub given_threads : Rule
+given_threads = record (option (codes "threads")) { parser = Some (Unsigned 1 16) }
+
+abbrev pub search : App
+search =
+    with_rule (with_rule
+    (with_rule (with_rule (with_rule (new_app (codes "search"))
+    (number_rule (codes "runs") (Unsigned 1 9223372036854775807) (codes "10000")))
+    (number_rule (codes "faults") (Unsigned 0 256) (codes "8"))) palette)
+    (number_rule (codes "from") (Unsigned 0 9223372036854775807) (codes "0"))) given_threads
+
 abbrev pub jeprun : Bor (List (Bor Text)) → App
-jeprun names = with_subcommand (with_subcommand (with_subcommand (with_subcommand (with_subcommand
+jeprun names = with_subcommand (with_subcommand
+    (with_subcommand (with_subcommand (with_subcommand (with_subcommand
     (on_top (λ s.
     record s { has_version = true; subcommand_required = true; arg_required_else_help = true })
     (new_app (codes "jeprun")))
     (new_app (codes "env")).top) (check names).top) (new_app (codes "run")).top) shrink.top)
-    (timeline names).top
+    search.top) (timeline names).top
 
 abbrev pub workload_names : List Text
 workload_names = map workload_name (Register ∷ Set ∷ Counter ∷ Ids ∷ [])

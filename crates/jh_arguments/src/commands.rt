@@ -3,34 +3,45 @@
 //! it refuses its input.
 
 ghost use Rattle.std.specs.Prelude.{◌≡◌, ◌≢◌, ◌↔◌, ℕ, List, Option, codes, IfOk, IfErr, IfSome};
-ghost use Rattle.std.specs.Prelude.{IsNone, IsErrOf};
+ghost use Rattle.std.specs.Prelude.{IsNone, IsErrOf, option_and_then};
 ghost use Rattle.std.specs.Io.KnownBytes.{Appends};
-ghost use Rattle.clap.specs.Words.{found_of, one_of, rows_of, subcommand_rows_of};
+ghost use Rattle.clap.specs.Words.{first_of, found_of, one_of, rows_of, subcommand_rows_of};
 ghost use Rattle.jh_cli.specs.CheckText.{TakesInitial};
 ghost use Rattle.jh_cli.specs.declared.error.CliError.TheVariants as CliError;
-ghost use Rattle.jh_arguments.specs.Commands.{AsksCheck, AsksFor, AsksTimeline, IsFlag, IsIndex};
-ghost use Rattle.jh_arguments.specs.Commands.{IsInitial};
+ghost use Rattle.jh_arguments.specs.Commands.{AreThreadsGiven, AsksCheck, AsksFor, AsksSearch};
+ghost use Rattle.jh_arguments.specs.Commands.{AsksTimeline, HasNumbersInRange, IsFlag, IsIndex};
+ghost use Rattle.jh_arguments.specs.Commands.{IsInitial, IsNumberWithin};
 ghost use Rattle.jh_arguments.specs.Commands.{IsJudging, IsJudgingBy, IsNumber};
-ghost use Rattle.jh_arguments.specs.Commands.{IsOutputOf, IsThreads, RefusesCommand, TakesThreads};
+ghost use Rattle.jh_arguments.specs.Commands.{IsOutputOf, IsThreads, RefusesCommand};
 ghost use Rattle.jh_arguments.specs.declared.commands.Command.{Command};
 ghost use Rattle.jh_arguments.specs.declared.commands.Command.TheVariants.{Check};
+ghost use Rattle.jh_arguments.specs.Palettes as rule;
 ghost use Rattle.jh_cli.specs.declared.check_command.Question.{Question};
+ghost use Rattle.jh_cli.specs.declared.search_command.SearchQuestion.{SearchQuestion};
 ghost use Rattle.jh_cli.specs.declared.timeline_command.TimelineJudging.{TimelineJudging};
 ghost use Rattle.jh_cli.specs.declared.timeline_command.TimelineQuestion.{TimelineQuestion};
 ghost use Rattle.jh_ops.specs.declared.call.Workload.{Workload};
 
+use crate::palettes::palette_named;
 use clap::ArgMatches;
 use jh_cli::{
-    CliError, Question, TimelineJudging, TimelineQuestion, check_run, env_run, run_run,
-    shrink_run_observed, timeline_run,
+    CliError, Question, SearchQuestion, TimelineJudging, TimelineQuestion, check_run, env_run,
+    run_run, search_run, shrink_run_observed, timeline_run,
 };
 use jh_ops::Workload;
+use jh_search::{Palette, SearchObserver};
 use jh_sections::Choice;
 use jh_shrink::Observer;
 use std::alloc::Global;
 use std::io::{Read, Write};
 use std::sync::Wait;
 use std::thread::Threads;
+
+/// The greatest number of a candidate, and the most candidates: two of them still fit 64 bits.
+const MAX_CANDIDATES: u64 = i64::MAX as u64;
+
+/// The most random faults of a candidate.
+const MAX_FAULTS: u64 = 256;
 
 /// What the arguments ask for.
 #[derive(Clone, Copy, Debug, PartialEq, Eq)]
@@ -43,6 +54,8 @@ pub enum Command {
     Run,
     /// The schedule of a run made small, by so many runs at most.
     Shrink(u64),
+    /// Random schedules tried for a run that fails.
+    Search(SearchQuestion),
     /// A page that shows a history.
     Timeline(TimelineQuestion),
 }
@@ -50,7 +63,7 @@ pub enum Command {
 /// The command that the arguments ask for. `parse` has seen to it that there is one.
 pub fn command_of(matches: &ArgMatches<'_>) -> Option<Command>
     ensures parsed { IfSome result (AsksFor (subcommand_rows_of matches.now)) }
-    ensures threads { IfSome result TakesThreads }
+    ensures ranges { IfSome result HasNumbersInRange }
     ensures taken { IsNone result → (command : Command)
         → AsksFor (subcommand_rows_of matches.now) command → ⊥ }
 {
@@ -59,6 +72,7 @@ pub fn command_of(matches: &ArgMatches<'_>) -> Option<Command>
         ("check", options) => Some(Command::Check(question_of(options)?)),
         ("run", _) => Some(Command::Run),
         ("shrink", options) => Some(Command::Shrink(number_of(options, "budget")?)),
+        ("search", options) => Some(Command::Search(search_question_of(options)?)),
         ("timeline", options) => Some(Command::Timeline(timeline_question_of(options)?)),
         _ => None,
     }
@@ -79,6 +93,22 @@ pub fn question_of(options: &ArgMatches<'_>) -> Option<Question>
         explain: flag_of(options, "explain"),
         independent: flag_of(options, "independent"),
         threads: threads_of(options)?,
+    })
+}
+
+/// What the options of `search` ask for. `parse` has seen to it that each is a number in its range;
+/// where the kinds of faults are no names of kinds, the question has no palette.
+pub fn search_question_of(options: &ArgMatches<'_>) -> Option<SearchQuestion>
+    ensures parsed { IfSome result (AsksSearch (rows_of (found_of options.now))) }
+    ensures taken { IsNone result → (question : SearchQuestion)
+        → AsksSearch (rows_of (found_of options.now)) question → ⊥ }
+{
+    Some(SearchQuestion {
+        from: number_within(options, "from", 0, MAX_CANDIDATES)?,
+        runs: number_within(options, "runs", 1, MAX_CANDIDATES)?,
+        faults: number_within(options, "faults", 0, MAX_FAULTS)? as u32,
+        palette: palette_of(options),
+        threads: given_threads_of(options),
     })
 }
 
@@ -156,6 +186,21 @@ fn number_of(options: &ArgMatches<'_>, name: &str) -> Option<u64>
     options.get_one::<u64>(name)
 }
 
+/// The number from the least to the most that an option gives.
+fn number_within(options: &ArgMatches<'_>, name: &str, least: u64, most: u64) -> Option<u64>
+    ensures parsed { IfSome result
+        (IsNumberWithin least most (one_of name.now (rows_of (found_of options.now)))) }
+    ensures taken { IsNone result → (number : ℕ)
+        → IsNumberWithin least most (one_of name.now (rows_of (found_of options.now))) number → ⊥ }
+{
+    let number = number_of(options, name)?;
+    if least <= number && number <= most {
+        Some(number)
+    } else {
+        None
+    }
+}
+
 /// How many threads options give.
 fn threads_of(options: &ArgMatches<'_>) -> Option<u32>
     ensures parsed { IfSome result
@@ -163,23 +208,38 @@ fn threads_of(options: &ArgMatches<'_>) -> Option<u32>
     ensures taken { IsNone result → (threads : ℕ)
         → IsThreads (one_of (codes "threads") (rows_of (found_of options.now))) threads → ⊥ }
 {
-    let threads = number_of(options, "threads")?;
-    if 1 <= threads && threads <= 16 {
-        Some(threads as u32)
-    } else {
-        None
+    let threads = number_within(options, "threads", 1, 16)?;
+    Some(threads as u32)
+}
+
+/// How many threads options give, if they do.
+fn given_threads_of(options: &ArgMatches<'_>) -> Option<u32>
+    ensures { AreThreadsGiven (one_of (codes "threads") (rows_of (found_of options.now))) result }
+{
+    threads_of(options)
+}
+
+/// The kinds of faults that options name, if they name kinds.
+fn palette_of(options: &ArgMatches<'_>) -> Option<Palette>
+    ensures { result ≡ option_and_then rule.palette_named
+        (first_of (codes "palette") (rows_of (found_of options.now))) }
+{
+    match options.get_str("palette") {
+        Some(text) => palette_named(text),
+        None => None,
     }
 }
 
 /// Does what a command does, and gives its exit status: 0 where its work is done and nothing was
 /// found, 1 and 2 where the history that it judges is not valid, or where that is not known, and
-/// likewise where a schedule that fails was made small, or the budget did not suffice for it. The
+/// likewise where a schedule that fails was made small, or the budget did not suffice for it; and
+/// where a search found a run that is not valid, or what comes of some is not known. The
 /// error has the status otherwise: 3 for an input that is refused, 4 for an error of the machine or
 /// a run that was not completed. Nothing is written before any error but `Write`.
 ///
-/// The observer is told how far the work of `shrink` is. A run on threads and the judgement of keys
-/// may wait; all else returns if each call of the reader, the writer and the observer does.
-pub fn run<T: Threads + Wait + Sync, R: Read, W: Write, O: Observer>(
+/// The observer is told how far the work of `shrink` or `search` is. A run on threads, a search and
+/// the judgement of keys may wait; all else returns if each call of the reader, the writer and the observer does.
+pub fn run<T: Threads + Wait + Sync, R: Read, W: Write, O: Observer + SearchObserver>(
     rt: &T,
     alloc: Global,
     command: Command,
@@ -187,7 +247,7 @@ pub fn run<T: Threads + Wait + Sync, R: Read, W: Write, O: Observer>(
     writer: &mut W,
     observer: &mut O,
 ) -> Result<u8, CliError>
-    requires { TakesThreads command }
+    requires { HasNumbersInRange command }
     ensures written { IfOk result (λ status. IfSome (R.remaining reader.old) (λ input.
         (output : List ℕ) × IsOutputOf command input status output
         × Appends (W.contents writer.old) (W.contents writer.new) output)) }
@@ -205,6 +265,7 @@ pub fn run<T: Threads + Wait + Sync, R: Read, W: Write, O: Observer>(
         Command::Check(question) => check_run(rt, alloc, reader, writer, question),
         Command::Run => run_run(rt, alloc, reader, writer),
         Command::Shrink(budget) => shrink_run_observed(alloc, reader, writer, budget, observer),
+        Command::Search(question) => search_run(rt, alloc, reader, writer, question, observer),
         Command::Timeline(question) => timeline_run(alloc, reader, writer, question),
     }
 }

@@ -56,6 +56,19 @@ Examples:
   jeprun shrink < examples/shrink/twenty-entries.toml
   jeprun shrink --budget 20 < examples/shrink/twenty-entries.toml";
 
+pub(crate) const SEARCH: &str = "\
+Each candidate is a run of the settings with another seed, and with random faults of KINDS
+among the entries of its schedule: cut, slow, loss, fix, pause, kill and bump. It writes the
+settings of the first that is not valid, which run and shrink read, or a comment that there is
+none. The answer does not depend on the number of threads.
+
+Exit status: 0 none found, 1 found, 2 none found and some unknown, 3 refused arguments or
+settings, 4 where memory ran out, a read or a write failed, or a thread could not be had
+
+Examples:
+  jeprun search < examples/search/quorum-volatile.toml > found.toml
+  jeprun search --runs 200 --faults 12 --palette cut,kill < examples/search/quorum-volatile.toml";
+
 pub(crate) const TIMELINE: &str = "\
 It writes an HTML page: each operation as a bar, each fault as a line, and with --workload what
 the checker finds, on top and as marks. It reads what run prints as well. Of more than 2,000

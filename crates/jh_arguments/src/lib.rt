@@ -8,9 +8,13 @@
 mod commands;
 mod help;
 mod line;
+mod palettes;
 mod program;
 
-pub use commands::{Command, command_of, question_of, run, timeline_question_of};
-pub use jh_cli::{Question, TimelineQuestion};
+pub use commands::{
+    Command, command_of, question_of, run, search_question_of, timeline_question_of,
+};
+pub use jh_cli::{Question, SearchQuestion, TimelineQuestion};
 pub use line::{REFUSED, parse, status_of_refusal};
+pub use palettes::palette_named;
 pub use program::{Terminals, status};

@@ -3,6 +3,7 @@
 
 ghost use Rattle.std.specs.Prelude.{◌≡◌, ◌≢◌, ◌↔◌, codes, false, IfOk, IfErr, IsErrOf, Ok, map};
 ghost use Rattle.clap.specs.Words.{app_of, kind_of, rule_of};
+ghost use Rattle.clap.specs.declared.builder.value_parser.ValueParser.TheVariants.{Unsigned};
 ghost use Rattle.clap.specs.declared.error.ErrorKind.TheVariants as ErrorKind;
 ghost use Rattle.jh_cli.specs.declared.error.CliError.TheVariants as CliError;
 ghost use Rattle.jh_arguments.specs.Line as text;
@@ -53,6 +54,7 @@ fn command_line<'a>(alloc: Global) -> Result<Command<'a>, Error>
         .subcommand(check_command(alloc, names)?)?
         .subcommand(run)?
         .subcommand(shrink_command(alloc)?)?
+        .subcommand(search_command(alloc)?)?
         .subcommand(timeline_command(alloc, names)?)?;
     Ok(jeprun)
 }
@@ -119,6 +121,98 @@ fn shrink_command<'a>(alloc: Global) -> Result<Command<'a>, Error>
         .after_help(help::SHRINK)
         .arg(budget)?;
     Ok(shrink)
+}
+
+/// The command `search` and its options.
+fn search_command<'a>(alloc: Global) -> Result<Command<'a>, Error>
+    ensures search { IfOk result (λ search. app_of search ≡ text.search) }
+    ensures memory { IfErr result (λ e. kind_of e ≡ ErrorKind.OutOfMemory) }
+{
+    let search = Command::new(alloc, "search")
+        .about(
+            "Tries random schedules for a run that fails, whose settings are read from standard input as TOML",
+        )
+        .after_help(help::SEARCH)
+        .arg(runs_option(alloc))?
+        .arg(faults_option(alloc))?
+        .arg(palette_option(alloc))?
+        .arg(from_option(alloc))?
+        .arg(given_threads_option(alloc))?;
+    Ok(search)
+}
+
+/// How many candidates are tried at most.
+fn runs_option<'a>(alloc: Global) -> Arg<'a>
+    ensures rule { rule_of result
+        ≡ text.number_rule (codes "runs") (Unsigned 1 9223372036854775807) (codes "10000") }
+    ensures local { result.global ≡ false }
+{
+    let parser = value_parser!(u64).range(1..=9_223_372_036_854_775_807);
+    number_option(
+        alloc,
+        "runs",
+        "How many candidates are tried",
+        parser,
+        "10000",
+    )
+}
+
+/// How many random faults each candidate has.
+fn faults_option<'a>(alloc: Global) -> Arg<'a>
+    ensures rule { rule_of result
+        ≡ text.number_rule (codes "faults") (Unsigned 0 256) (codes "8") }
+    ensures local { result.global ≡ false }
+{
+    let parser = value_parser!(u64).range(..=256);
+    number_option(
+        alloc,
+        "faults",
+        "How many random faults each has",
+        parser,
+        "8",
+    )
+}
+
+/// The number of the first candidate.
+fn from_option<'a>(alloc: Global) -> Arg<'a>
+    ensures rule { rule_of result
+        ≡ text.number_rule (codes "from") (Unsigned 0 9223372036854775807) (codes "0") }
+    ensures local { result.global ≡ false }
+{
+    let parser = value_parser!(u64).range(..=9_223_372_036_854_775_807);
+    number_option(
+        alloc,
+        "from",
+        "The number of the first candidate",
+        parser,
+        "0",
+    )
+}
+
+/// The kinds of faults.
+fn palette_option<'a>(alloc: Global) -> Arg<'a>
+    ensures rule { rule_of result ≡ text.palette }
+    ensures local { result.global ≡ false }
+{
+    Arg::new(alloc, "palette")
+        .long("palette")
+        .value_name("KINDS")
+        .help("Of which kinds the faults are, with commas between")
+        .default_value("cut,slow,loss,fix,pause,kill,bump")
+}
+
+/// How many threads try candidates: a number from 1 to 16, if it is given.
+fn given_threads_option<'a>(alloc: Global) -> Arg<'a>
+    ensures rule { rule_of result ≡ text.given_threads }
+    ensures local { result.global ≡ false }
+{
+    Arg::new(alloc, "threads")
+        .long("threads")
+        .value_name("N")
+        .help(
+            "How many threads try candidates; as many as there are processors where it is left out",
+        )
+        .value_parser(value_parser!(u64).range(1..=16))
 }
 
 /// What the database was to be: one of these names.

@@ -9,11 +9,13 @@ use crate::line::{REFUSED, parse, status_of_refusal};
 use clap::ArgMatches;
 use jh_cli::{CliError, TimelineJudging};
 use jh_ops::Workload;
+use jh_search::SearchObserver;
 use jh_shrink::Observer;
 use std::alloc::Global;
 use std::env::Env;
 use std::sync::Wait;
 use std::thread::Threads;
+use std::time::{Clock, Instant};
 use std::{env, io};
 
 /// The status of what is not known, as `run` of `commands.rt` gives it.
@@ -25,6 +27,8 @@ struct Progress<'a, P> {
     rt: &'a P,
     /// Whether anybody reads it.
     is_shown: bool,
+    /// When the work began, where the clock was read.
+    start: Option<Instant>,
 }
 
 /// Which of the standard streams lead to somebody, and not to a pipe or a file.
@@ -47,6 +51,35 @@ impl<P: Eprint> Observer for Progress<'_, P> {
     }
 }
 
+impl<P: Eprint + Clock> SearchObserver for Progress<'_, P> {
+    fn see_tried(&mut self, tried: u64, unknown: u64) {
+        if self.is_shown {
+            let rate = rate_of(tried, self.elapsed_millis());
+            let _ = eprint!(self.rt;
+                "{EMPTY_LINE}{tried} candidates tried, {unknown} unknown, {rate} a second"
+            );
+        }
+    }
+}
+
+impl<P: Clock> Progress<'_, P> {
+    /// The milliseconds since the work began, and 0 where they are not known.
+    fn elapsed_millis(&self) -> u64 {
+        match self.start {
+            Some(start) => match start.elapsed(self.rt) {
+                Ok(elapsed) => u64::try_from(elapsed.as_millis()).unwrap_or(u64::MAX),
+                Err(_) => 0,
+            },
+            None => 0,
+        }
+    }
+}
+
+/// How many of so many there are in each second of so many milliseconds.
+fn rate_of(count: u64, millis: u64) -> u64 {
+    count.saturating_mul(1_000) / millis.max(1)
+}
+
 impl<P: Eprint> Progress<'_, P> {
     /// Takes what it told off the terminal.
     fn end(self) {
@@ -61,7 +94,7 @@ fn input_of(command: Command) -> &'static str {
     match command {
         Command::Env => "an environment and steps",
         Command::Check(_) | Command::Timeline(_) => "a history",
-        Command::Run | Command::Shrink(_) => "settings",
+        Command::Run | Command::Shrink(_) | Command::Search(_) => "settings",
     }
 }
 
@@ -83,7 +116,7 @@ fn remedy_of(command: Command, status: u8) -> Option<&'static str>
         Command::Timeline(question) if status == UNKNOWN && is_of_register(question.judging) => {
             Some("unknown: a larger --budget may decide")
         }
-        Command::Run if status == UNKNOWN => {
+        Command::Run | Command::Search(_) if status == UNKNOWN => {
             Some("unknown: of a register, a larger budget in the settings may decide")
         }
         _ => None,
@@ -110,7 +143,7 @@ fn refused(rt: &(impl Print + Eprint), refusal: &clap::Error) -> u8 {
 /// Does what the arguments ask for, over the standard streams.
 fn done<R>(rt: &R, matches: &ArgMatches<'_>, terminals: Terminals) -> u8
 where
-    R: Input + Print + Eprint + Alloc<A = Global> + Threads + Wait + Sync,
+    R: Input + Print + Eprint + Clock + Alloc<A = Global> + Threads + Wait + Sync,
 {
     let Some(command) = command_of(matches) else {
         return REFUSED;
@@ -120,7 +153,8 @@ where
     }
     let mut progress = Progress {
         rt,
-        is_shown: terminals.errors && matches!(command, Command::Shrink(_)),
+        is_shown: terminals.errors && matches!(command, Command::Shrink(_) | Command::Search(_)),
+        start: Instant::now(rt).ok(),
     };
     let answer = run(
         rt,
@@ -160,13 +194,13 @@ fn arguments_of(rt: &(impl Env + Alloc<A = Global>)) -> io::Result<Vec<String>> 
 /// refused, 4 where the machine failed or a run was not completed.
 ///
 /// Where standard error is a terminal, three things are told there, and nowhere else: what is read,
-/// where standard input is a terminal too; how far `shrink` is; and what to raise, where a register
-/// was left unknown.
+/// where standard input is a terminal too; how far `shrink` or `search` is; and what to raise, where a
+/// register was left unknown.
 ///
-/// A run on threads may wait.
+/// A run on threads, a search and the judgement of keys may wait.
 pub fn status<R>(rt: &R, terminals: Terminals) -> u8
 where
-    R: Env + Input + Print + Eprint + Alloc<A = Global> + Threads + Wait + Sync,
+    R: Env + Input + Print + Eprint + Clock + Alloc<A = Global> + Threads + Wait + Sync,
 {
     let arguments = match arguments_of(rt) {
         Ok(arguments) => arguments,

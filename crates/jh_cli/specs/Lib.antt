@@ -8,5 +8,7 @@ pub mod RunRefusals
 pub mod RunInside
 pub mod ShrinkText
 pub mod ShrinkRefusals
+pub mod SearchText
+pub mod SearchRefusals
 pub mod TimelineText
 pub mod TimelineRefusals

@@ -12,11 +12,13 @@ use Rattle.jh_settings.specs.declared.error.SettingsError.TheVariants as Setting
 use Rattle.jh_simnode.specs.declared.events.WorldError.TheVariants as WorldError
 use Rattle.jh_simnode.specs.declared.serial.RunError.TheVariants as RunError
 use Rattle.jh_workers.specs.declared.desk.RunError.TheVariants as ThreadsError
+use Rattle.jh_search.specs.declared.threads.SearchError.TheVariants as SearchError
 use Rattle.jh_cli.specs.declared.error.CliError.{CliError}
 use Rattle.jh_cli.specs.declared.error.CliError.TheVariants.{Input, EnvironmentMissing, Environment}
 use Rattle.jh_cli.specs.declared.error.CliError.TheVariants.{Element, History, Check, Settings, Run}
 use Rattle.jh_cli.specs.declared.error.CliError.TheVariants.{HistoryFull, Mismatch, Thread}
-use Rattle.jh_cli.specs.declared.error.CliError.TheVariants.{OnlyForRegister, Read, Write}
+use Rattle.jh_cli.specs.declared.error.CliError.TheVariants.{OnlyForRegister, BadPalette, Unwritable}
+use Rattle.jh_cli.specs.declared.error.CliError.TheVariants.{Read, Write}
 use Rattle.jh_cli.specs.declared.error.CliError.TheVariants.{OutOfMemory}
 
 abbrev pub error_status : CliError → ℕ
@@ -32,6 +34,8 @@ error_status HistoryFull = 4
 error_status Mismatch = 4
 error_status Thread = 4
 error_status OnlyForRegister = 3
+error_status BadPalette = 3
+error_status Unwritable = 3
 error_status Read = 4
 error_status Write = 4
 error_status OutOfMemory = 4
@@ -44,6 +48,9 @@ own_text HistoryFull = Some (codes "history full")
 own_text Mismatch = Some (codes "mismatch")
 own_text Thread = Some (codes "thread failed")
 own_text OnlyForRegister = Some (codes "--initial: only for register")
+own_text BadPalette =
+    Some (codes "--palette: not kinds of cut, slow, loss, fix, pause, kill, bump, with commas between")
+own_text Unwritable = Some (codes "settings: generator too deep to be written again")
 own_text Read = Some (codes "read failed")
 own_text Write = Some (codes "write failed")
 own_text OutOfMemory = Some (codes "out of memory")
@@ -129,3 +136,8 @@ threads_error (ThreadsError.World error) = world_error error
 threads_error ThreadsError.Mismatch = Mismatch
 threads_error ThreadsError.Thread = Thread
 threads_error ThreadsError.OutOfMemory = OutOfMemory
+
+-- what the end of a search without an answer means to a command
+abbrev pub search_error : SearchError.the_data → CliError
+search_error SearchError.Thread = Thread
+search_error SearchError.OutOfMemory = OutOfMemory

@@ -11,6 +11,7 @@ use jh_env::EnvTextError;
 use jh_histories::ReadHistoryError;
 use jh_keys::KeysError;
 use jh_ops::HistoryError;
+use jh_search::SearchError;
 use jh_settings::SettingsError;
 use jh_simnode::{RunError, WorldError};
 use jh_step_texts::StepTextError;
@@ -21,7 +22,7 @@ use std::io::{self, Write};
 
 /// Why a command ended early. `Read`, `Write`, `Thread` and `OutOfMemory` are errors of the
 /// machine, `Run`, `HistoryFull` and `Mismatch` say that a run was not completed, `OnlyForRegister`
-/// refuses the arguments, and all others what was read.
+/// and `BadPalette` refuse the arguments, and all others what was read.
 #[derive(Debug, Drop)]
 pub enum CliError {
     /// The input is no text of EDN values.
@@ -49,6 +50,10 @@ pub enum CliError {
     Thread,
     /// There is an initial value, and no register.
     OnlyForRegister,
+    /// The kinds of faults of a search are no names of kinds.
+    BadPalette,
+    /// Settings can't say the plan of a search again.
+    Unwritable,
     /// The input could not be read.
     Read,
     /// The output could not be written.
@@ -70,7 +75,9 @@ impl CliError {
             | CliError::History(_)
             | CliError::Check(_)
             | CliError::Settings(_)
-            | CliError::OnlyForRegister => 3,
+            | CliError::OnlyForRegister
+            | CliError::BadPalette
+            | CliError::Unwritable => 3,
             CliError::Run(_)
             | CliError::HistoryFull
             | CliError::Mismatch
@@ -107,6 +114,10 @@ impl Display for CliError {
             CliError::Mismatch => f.write_str("mismatch"),
             CliError::Thread => f.write_str("thread failed"),
             CliError::OnlyForRegister => f.write_str("--initial: only for register"),
+            CliError::BadPalette => f.write_str(
+                "--palette: not kinds of cut, slow, loss, fix, pause, kill, bump, with commas between",
+            ),
+            CliError::Unwritable => f.write_str("settings: generator too deep to be written again"),
             CliError::Read => f.write_str("read failed"),
             CliError::Write => f.write_str("write failed"),
             CliError::OutOfMemory => f.write_str("out of memory"),
@@ -237,6 +248,19 @@ impl From<jh_workers::RunError> for CliError {
             jh_workers::RunError::Mismatch => CliError::Mismatch,
             jh_workers::RunError::Thread => CliError::Thread,
             jh_workers::RunError::OutOfMemory => CliError::OutOfMemory,
+        }
+    }
+}
+
+impl From<SearchError> for CliError {
+    ghost use Rattle.jh_cli.specs.Status.{search_error};
+
+    ghost from_gives = { λ error e. e ≡ search_error error };
+
+    fn from(error: SearchError) -> CliError {
+        match error {
+            SearchError::Thread => CliError::Thread,
+            SearchError::OutOfMemory => CliError::OutOfMemory,
         }
     }
 }

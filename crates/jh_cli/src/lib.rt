@@ -1,14 +1,14 @@
 //! All that the program `jeprun` does, over any reader and any writer: one function for each
 //! command. `specs/EnvText.antt`, `specs/CheckText.antt`, `specs/RunText.antt`,
-//! `specs/ShrinkText.antt` and `specs/TimelineText.antt` say what is written,
-//! `specs/Refusals.antt`, `specs/CheckRefusals.antt`, `specs/RunRefusals.antt`,
-//! `specs/ShrinkRefusals.antt` and `specs/TimelineRefusals.antt` why an input is refused.
+//! `specs/ShrinkText.antt`, `specs/SearchText.antt` and `specs/TimelineText.antt` say what is
+//! written, `specs/Refusals.antt` and each `..Refusals.antt` why an input is refused.
 #![tactic(auto)]
 
 mod check_command;
 mod env_command;
 mod error;
 mod run_command;
+mod search_command;
 mod shrink_command;
 mod timeline_command;
 
@@ -16,5 +16,6 @@ pub use check_command::{Question, check_run};
 pub use env_command::env_run;
 pub use error::CliError;
 pub use run_command::run_run;
+pub use search_command::{SearchQuestion, search_run};
 pub use shrink_command::{shrink_run, shrink_run_observed};
 pub use timeline_command::{TimelineJudging, TimelineQuestion, timeline_run};

@@ -17,10 +17,10 @@ ghost use Rattle.jh_cli.specs.ShrinkText.{IsRunFailure, IsShrinkTextOf, RunAnswe
 use crate::check_command::judge;
 use crate::env_command::{MAX_READS, write_line};
 use crate::error::CliError;
-use crate::run_command::own_judging;
 use jh_check::Verdict;
 use jh_edn::{Value, Values, read_bytes};
 use jh_env::Nodes;
+use jh_run_laws::own_judging;
 use jh_settings::settings_of;
 use jh_shrink::{Nobody, Observer, Shrunk, shrink_observed};
 use jh_simnode::{Entry, Plan, Schedule, run_serial};
@@ -30,9 +30,9 @@ use std::io::{Read, Write};
 
 /// What is written, and the exit status.
 #[derive(Drop)]
-struct Written {
-    status: u8,
-    text: Vec<u8>,
+pub(crate) struct Written {
+    pub(crate) status: u8,
+    pub(crate) text: Vec<u8>,
 }
 
 /// Reads settings in TOML as `jh_settings::settings_of` does, and takes entries out of their

@@ -1,0 +1,43 @@
+//! The kinds of faults that an option of `search` names. `specs/Palettes.antt` has the rule; a new
+//! kind is a line here and there.
+
+ghost use Rattle.std.specs.Prelude.{◌≡◌};
+ghost use Rattle.jh_arguments.specs.Palettes as rule;
+
+use jh_search::Palette;
+
+/// The names of all kinds.
+static KINDS: [&str; 7] = ["cut", "slow", "loss", "fix", "pause", "kill", "bump"];
+
+/// Whether a kind has this name.
+fn is_kind_name(name: &str) -> bool
+    ensures { result ≡ rule.is_kind_name name.now }
+{
+    KINDS.iter().any(|kind| name == *kind)
+}
+
+/// Whether a text names this kind.
+fn names_kind(text: &str, kind: &str) -> bool
+    ensures { result ≡ rule.names_kind text.now kind.now }
+{
+    text.split(',').any(|name| name == kind)
+}
+
+/// The palette that a text names: names of kinds, in any order, with commas between and nothing
+/// else. None where one is no name of a kind.
+pub fn palette_named(text: &str) -> Option<Palette>
+    ensures { result ≡ rule.palette_named text.now }
+{
+    if !text.split(',').all(is_kind_name) {
+        return None;
+    }
+    Some(Palette {
+        cut: names_kind(text, "cut"),
+        slow: names_kind(text, "slow"),
+        loss: names_kind(text, "loss"),
+        fix: names_kind(text, "fix"),
+        pause: names_kind(text, "pause"),
+        kill: names_kind(text, "kill"),
+        bump: names_kind(text, "bump"),
+    })
+}

@@ -1,0 +1,36 @@
+-- Why `jeprun search` refuses its arguments or an input (this project's own).
+use Rattle.std.specs.Prelude.{◌≡◌, ℕ, List, None, ⊤}
+use Rattle.jh_edn.specs.Refused.{IsReaderError}
+use Rattle.jh_simnode.specs.Plans.{PlanValue}
+use Rattle.jh_settings.specs.Settings as settings
+use Rattle.jh_settings.specs.Settings.{AreSettingsOf}
+use Rattle.jh_settings.specs.declared.choices.Mode.{Mode}
+use Rattle.jh_settings_texts.specs.SettingsWritten.{CanBeWritten}
+use Rattle.jh_cli.specs.SearchText.{IsSearchTextOf}
+use Rattle.jh_cli.specs.Status.{IsInputError, IsSettingsError}
+use Rattle.jh_cli.specs.declared.error.CliError.{CliError}
+use Rattle.jh_cli.specs.declared.error.CliError.TheVariants.{BadPalette, Input, Settings, Unwritable}
+use Rattle.jh_cli.specs.declared.error.CliError.TheVariants.{Thread, Read, Write, OutOfMemory}
+use Rattle.jh_cli.specs.declared.search_command.SearchQuestion.{SearchQuestion}
+
+-- Why the candidates of the plan that bytes mean are not searched. One whose generator is nested as
+-- deep as a text may be, where it is written in another way, can't be written again.
+abbrev pub RefusesSearchBytes : List ℕ → CliError → Type 0
+RefusesSearchBytes input (Settings error) =
+    IsSettingsError error × settings.RefusesSettings input error
+RefusesSearchBytes input Unwritable =
+    (p : PlanValue) × (mode : Mode) × (budget : ℕ) × AreSettingsOf input p mode budget
+    × (CanBeWritten p → ⊥)
+RefusesSearchBytes input Thread = ⊤
+RefusesSearchBytes input OutOfMemory = ⊤
+RefusesSearchBytes input e = ⊥
+
+-- No kinds of faults come before all else. A failed read, an input that does not end and out of
+-- memory may come with any input; a failed write comes only where there is something to write.
+abbrev pub RefusesSearch : SearchQuestion → List ℕ → CliError → Type 0
+RefusesSearch question input BadPalette = question.palette ≡ None
+RefusesSearch question input (Input error) = IsInputError error × IsReaderError error
+RefusesSearch question input Read = ⊤
+RefusesSearch question input Write =
+    (status : ℕ) × (output : List ℕ) × IsSearchTextOf question input status output
+RefusesSearch question input e = RefusesSearchBytes input e

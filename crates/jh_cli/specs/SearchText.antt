@@ -1,0 +1,66 @@
+-- What `jeprun search` writes (this project's own): a comment with the number of the least candidate
+-- that fails, and the settings of that candidate behind it; or a comment that says that none of all
+-- fails. Comments are TOML's, so all that is written of a candidate is settings, and `jeprun run`
+-- and `jeprun shrink` read it.
+use Rattle.std.specs.Prelude.{◌≡◌, ℕ, ◌==◌, List, ◌++◌, codes, if◌then◌else◌, Option, Some, None}
+use Rattle.std.specs.Fmt.{decimal}
+use Rattle.jh_simnode.specs.Plans.{PlanValue}
+use Rattle.jh_search.specs.Candidates.{candidate_of}
+use Rattle.jh_search.specs.Search.{IsSearched}
+use Rattle.jh_search.specs.declared.kinds.Palette.{Palette}
+use Rattle.jh_search.specs.declared.options.Options.{Options}
+use Rattle.jh_search.specs.declared.serial.Searched.{Searched}
+use Rattle.jh_settings.specs.Settings.{AreSettingsOf}
+use Rattle.jh_settings.specs.declared.choices.Mode.{Mode}
+use Rattle.jh_cli.specs.EnvText.{line}
+use Rattle.jh_cli.specs.declared.search_command.SearchQuestion.{SearchQuestion}
+
+-- what a search is asked, with these kinds of faults and a judge of this budget
+abbrev pub search_options : SearchQuestion → Palette → ℕ → Options
+search_options question palette budget =
+    record {
+      from = question.from;
+      runs = question.runs;
+      faults = question.faults;
+      palette = palette;
+      budget = budget;
+    }
+
+-- the line before the settings of the candidate of a number, of so many that were asked for
+abbrev pub found_line : ℕ → ℕ → List ℕ
+found_line number runs =
+    line (codes "# candidate " ++ (decimal number ++ (codes " of " ++ (decimal runs ++ codes ": invalid"))))
+
+-- the line where none of so many fails, and so many are unknown
+abbrev pub none_line : ℕ → ℕ → List ℕ
+none_line runs unknown =
+    line (codes "# none of " ++ (decimal runs
+    ++ (codes " candidates is invalid, " ++ (decimal unknown ++ codes " unknown"))))
+
+-- All of it, where the candidate of a number fails or none does. What is written of a candidate
+-- means that candidate, to be run serially, and this budget.
+abbrev pub IsFoundText : PlanValue → Options → Option ℕ → ℕ → List ℕ → Type 0
+IsFoundText p options (Some number) unknown output =
+    (document : List ℕ) × (output ≡ found_line number options.runs ++ document)
+    × AreSettingsOf output (candidate_of p options number) Mode.Serial options.budget
+IsFoundText p options None unknown output = output ≡ none_line options.runs unknown
+
+-- the exit status: 1 where one fails, 2 where none is known to and some are unknown
+abbrev pub searched_status : Option ℕ → ℕ → ℕ
+searched_status (Some number) unknown = 1
+searched_status None unknown = if unknown == 0 then 0 else 2
+
+-- for what is found
+abbrev pub IsSearchedText : PlanValue → Options → ℕ → List ℕ → Type 0
+IsSearchedText p options status output =
+    (searched : Searched) × IsSearched p options searched
+    × IsFoundText p options searched.failing searched.unknown output
+    × (status ≡ searched_status searched.failing searched.unknown)
+
+-- For an input, with the exit status: the plan and the budget are those that it means, and its
+-- mode does not matter. The question names kinds of faults.
+abbrev pub IsSearchTextOf : SearchQuestion → List ℕ → ℕ → List ℕ → Type 0
+IsSearchTextOf question input status output =
+    (palette : Palette) × (p : PlanValue) × (mode : Mode) × (budget : ℕ)
+    × (question.palette ≡ Some palette) × AreSettingsOf input p mode budget
+    × IsSearchedText p (search_options question palette budget) status output

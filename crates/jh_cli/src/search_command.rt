@@ -1,0 +1,241 @@
+//! The command `search`: reads the settings of a run, tries random schedules of faults, and writes
+//! the settings of the first run that fails. What is written stands in `specs/SearchText.antt`, why
+//! an input is refused in `specs/SearchRefusals.antt`; what a candidate is stands in `jh_search`.
+
+ghost use Rattle.std.specs.Prelude.{◌≡◌, ◌≢◌, ◌↔◌, ◌≤◌, ◌<◌, ◌+◌, ◌^◌, ℕ, List, IfOk, IfErr};
+ghost use Rattle.std.specs.Prelude.{IfSome, IsErrOf, MatchResult, None, Some};
+ghost use Rattle.std.specs.Io.KnownBytes.{Appends};
+ghost use Rattle.jh_search.specs.Candidates.{candidate_of};
+ghost use Rattle.jh_settings_texts.specs.SettingsWritten.{CanBeWritten};
+ghost use Rattle.jh_cli.specs.SearchRefusals.{RefusesSearch, RefusesSearchBytes};
+ghost use Rattle.jh_cli.specs.SearchText as text;
+ghost use Rattle.jh_cli.specs.SearchText.{IsFoundText, IsSearchTextOf, IsSearchedText};
+ghost use Rattle.jh_cli.specs.SearchText.{search_options};
+
+use crate::env_command::MAX_READS;
+use crate::error::CliError;
+use crate::shrink_command::Written;
+use jh_edn::read_bytes;
+use jh_search::{
+    Options, Palette, SearchError, SearchObserver, Searched, candidate, candidates_can_be_written,
+    search_observed,
+};
+use jh_settings::settings_of;
+use jh_settings_texts::{can_be_written, settings_behind};
+use jh_simnode::Plan;
+use std::alloc::{AllocError, Global};
+use std::io::{Read, Write};
+use std::sync::Wait;
+use std::thread::{self, Threads};
+
+/// What `search` is asked.
+#[derive(Clone, Copy, Debug, PartialEq, Eq)]
+pub struct SearchQuestion {
+    /// The number of the first candidate, below 2^63.
+    pub from: u64,
+    /// How many candidates are tried at most, below 2^63.
+    pub runs: u64,
+    /// How many random faults each has among the entries of the settings.
+    pub faults: u32,
+    /// Of which kinds these are, and none where the arguments name no kinds.
+    pub palette: Option<Palette>,
+    /// On how many threads candidates are tried, from 1 to 16; none: on as many as there are
+    /// processors. The answer is the same.
+    pub threads: Option<u32>,
+}
+
+/// Reads settings in TOML as `jh_settings::settings_of` does, and tries candidates of them, which
+/// `jh_search::candidate` makes: plans with the seed raised by their number, and with random faults
+/// among the entries of the schedule. Each is run serially and judged by the checker of its
+/// workload. It writes what is found of the least that is not valid, whatever the number of
+/// threads. The answer is the exit status:
+///
+/// | what is written | what is found | status |
+/// |---|---|---|
+/// | `# candidate NUMBER of RUNS: invalid`, and settings behind it | the least candidate that is not valid | 1 |
+/// | `# none of RUNS candidates is invalid, UNKNOWN unknown` | that none is known not to be valid | 0, or 2 where some are unknown |
+///
+/// The settings have all keys, `mode = "serial"`, the seed and the schedule of the candidate, so
+/// `run_run` and `shrink_run` read them, with the comment. The mode that was read means nothing. All
+/// is read and done before the first byte is written.
+///
+/// May wait, and promises only if it returns.
+///
+/// Errors: `BadPalette` where the question names no kinds, before anything is read; an error of
+/// reading (`Input`, `Read`); `Settings`; `Unwritable` where settings can't say the plan again (its
+/// generator would be nested deeper than a text may be); `Thread` where a thread could not be had;
+/// `OutOfMemory`; `Write`. Nothing is written before any of them but `Write`.
+pub fn search_run<T: Threads + Wait + Sync, R: Read, W: Write, O: SearchObserver>(
+    rt: &T,
+    alloc: Global,
+    reader: &mut R,
+    writer: &mut W,
+    question: SearchQuestion,
+    observer: &mut O,
+) -> Result<u8, CliError>
+    requires few { question.from + question.runs < 2 ^ 64 }
+    requires threads { IfSome question.threads (λ threads. (1 ≤ threads) × (threads ≤ 16)) }
+    ensures written { IfOk result (λ status. IfSome (R.remaining reader.old) (λ input.
+        (output : List ℕ) × IsSearchTextOf question input status output
+        × Appends (W.contents writer.old) (W.contents writer.new) output)) }
+    ensures asked { IsErrOf result CliError.BadPalette ↔ (question.palette ≡ None) }
+    ensures unread { IsErrOf result CliError.BadPalette → reader.new ≡ reader.old }
+    ensures refused { IfErr result
+        (λ e. IfSome (R.remaining reader.old) (λ input. RefusesSearch question input e)) }
+    ensures unwritten { IfErr result (λ e. e ≢ CliError.Write → writer.new ≡ writer.old) }
+{
+    let Some(palette) = question.palette else {
+        return Err(CliError::BadPalette);
+    };
+    let input = read_bytes(alloc, reader, MAX_READS)?;
+    let written = search_bytes(rt, alloc, &input, question, palette, observer)?;
+    match writer.write_all(&written.text) {
+        Ok(()) => Ok(written.status),
+        Err(_) => Err(CliError::Write),
+    }
+}
+
+/// How many threads: as many as are given, or as there are processors, at most 16.
+fn threads_of<T: Threads>(rt: &T, given: Option<u32>) -> u32
+    requires { IfSome given (λ threads. (1 ≤ threads) × (threads ≤ 16)) }
+    ensures { (1 ≤ result) × (result ≤ 16) }
+{
+    match given {
+        Some(threads) => threads,
+        None => processors(rt),
+    }
+}
+
+/// How many processors there are, at most 16, and one where that can't be known.
+fn processors<T: Threads>(rt: &T) -> u32
+    ensures { (1 ≤ result) × (result ≤ 16) }
+{
+    match thread::available_parallelism(rt) {
+        Ok(count) => count.get().min(16) as u32,
+        Err(_) => 1,
+    }
+}
+
+/// What a search is asked, with a judge of this budget.
+fn options_of(question: SearchQuestion, palette: Palette, budget: u64) -> Options
+    ensures { result ≡ search_options question palette budget }
+{
+    Options {
+        from: question.from,
+        runs: question.runs,
+        faults: question.faults,
+        palette,
+        budget,
+    }
+}
+
+/// All that is written for these bytes, with the exit status.
+fn search_bytes<T: Threads + Wait + Sync, O: SearchObserver>(
+    rt: &T,
+    alloc: Global,
+    input: &[u8],
+    question: SearchQuestion,
+    palette: Palette,
+    observer: &mut O,
+) -> Result<Written, CliError>
+    requires palette { question.palette ≡ Some palette }
+    requires few { question.from + question.runs < 2 ^ 64 }
+    requires threads { IfSome question.threads (λ threads. (1 ≤ threads) × (threads ≤ 16)) }
+    ensures { MatchResult result
+        (λ written. IsSearchTextOf question input.now written.status written.text.items)
+        (RefusesSearchBytes input.now) }
+{
+    let settings = settings_of(alloc, input)?;
+    let plan = &settings.plan;
+    if !can_be_written(plan) {
+        return Err(CliError::Unwritable);
+    }
+    let options = options_of(question, palette, settings.budget);
+    let threads = threads_of(rt, question.threads);
+    match search_plan(rt, alloc, plan, &options, threads, observer) {
+        Ok(written) => Ok(written),
+        Err(error) => Err(CliError::from(error)),
+    }
+}
+
+/// All that is written of the candidates of a plan, with the exit status.
+fn search_plan<T: Threads + Wait + Sync, O: SearchObserver>(
+    rt: &T,
+    alloc: Global,
+    plan: &Plan,
+    options: &Options,
+    threads: u32,
+    observer: &mut O,
+) -> Result<Written, SearchError>
+    requires writable { CanBeWritten plan.now }
+    requires budget { options.now.budget ≤ 10000000 }
+    requires few { options.now.from + options.now.runs < 2 ^ 64 }
+    requires threads { (1 ≤ threads) × (threads ≤ 16) }
+    ensures { IfOk result
+        (λ written. IsSearchedText plan.now options.now written.status written.text.items) }
+{
+    let searched = search_observed(rt, alloc, plan, options, threads, observer)?;
+    Ok(Written {
+        status: status_of(searched),
+        text: text_of(alloc, plan, options, searched)?,
+    })
+}
+
+/// The exit status of what is found.
+fn status_of(searched: Searched) -> u8
+    ensures { result ≡ text.searched_status searched.failing searched.unknown }
+{
+    match searched {
+        Searched {
+            failing: Some(_),
+            ..
+        } => 1,
+        Searched { unknown: 0, .. } => 0,
+        _ => 2,
+    }
+}
+
+/// What is written of what is found.
+fn text_of(
+    alloc: Global,
+    plan: &Plan,
+    options: &Options,
+    searched: Searched,
+) -> Result<Vec<u8>, AllocError>
+    requires writable { CanBeWritten plan.now }
+    requires budget { options.now.budget ≤ 10000000 }
+    ensures { IfOk result (λ output.
+        IsFoundText plan.now options.now searched.failing searched.unknown output.items) }
+{
+    match searched.failing {
+        Some(number) => found_text(alloc, plan, options, number),
+        None => none_text(alloc, options.runs, searched.unknown),
+    }
+}
+
+/// The line where no candidate fails.
+fn none_text(alloc: Global, runs: u64, unknown: u64) -> Result<Vec<u8>, AllocError>
+    ensures { IfOk result (λ output. output.items ≡ text.none_line runs unknown) }
+{
+    let line = format!(in alloc; "# none of {runs} candidates is invalid, {unknown} unknown\n")?;
+    Ok(line.into_bytes())
+}
+
+/// The settings of the candidate of a number, behind a comment.
+fn found_text(
+    alloc: Global,
+    plan: &Plan,
+    options: &Options,
+    number: u64,
+) -> Result<Vec<u8>, AllocError>
+    requires writable { CanBeWritten plan.now }
+    requires budget { options.now.budget ≤ 10000000 }
+    ensures { IfOk result (λ output.
+        IsFoundText plan.now options.now (Some number) 0 output.items) }
+{
+    candidates_can_be_written();
+    let found = candidate(alloc, plan, options, number)?;
+    let comment = format!(in alloc; " candidate {number} of {}: invalid", options.runs)?;
+    let output = settings_behind(alloc, &comment, &found, options.budget)?;
+    Ok(output.into_bytes())
+}
