@@ -1,0 +1,2 @@
+pub mod AsciiLemmas
+pub mod NameAsciiLemmas
