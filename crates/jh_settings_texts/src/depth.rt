@@ -3,6 +3,7 @@
 ghost use Rattle.std.specs.Prelude.{◌↔◌, IsTrue};
 ghost use Rattle.jh_edn.specs.Edn.{items_of};
 ghost use Rattle.jh_edn.specs.Printable.{ArePrintable, IsPrintable};
+ghost use Rattle.jh_ops.specs.declared.call.Call.TheVariants.{Client};
 ghost use Rattle.jh_gen.specs.Generator.{row_of, share_list};
 ghost use Rattle.jh_gen.specs.View.{generator_of};
 ghost use Rattle.jh_gen_texts.specs.GeneratorWritten.{text_of_call, text_of_generator};
@@ -11,13 +12,26 @@ ghost use Rattle.jh_gen_texts.specs.GeneratorWritten.{texts_of_generators, texts
 use jh_gen::{Gen, Gens, Shares};
 use jh_ops::{Call, Request};
 
-/// Whether the text of a call has at most so many levels: none or one.
+/// Whether the text of a request has at most so many levels: none, or one.
+fn is_request_within(request: Request, depth: u32) -> bool
+    ensures { IsTrue result ↔ IsPrintable depth (text_of_call (Client request)) }
+{
+    match request {
+        Request::Read => true,
+        Request::Write(_number) => depth > 0,
+        Request::Cas(_old, _new) => depth > 0,
+        Request::Add(_number) => depth > 0,
+        Request::Generate => true,
+    }
+}
+
+/// Whether the text of a call has at most so many levels: none, or one.
 fn is_call_within(call: Call, depth: u32) -> bool
     ensures { IsTrue result ↔ IsPrintable depth (text_of_call call) }
 {
     match call {
-        Call::Client(Request::Read | Request::Generate) => true,
-        _ => depth > 0,
+        Call::Client(request) => is_request_within(request, depth),
+        Call::Step(_place) => depth > 0,
     }
 }
 
@@ -33,10 +47,16 @@ pub(crate) fn is_within(source: &Gen, depth: u32) -> bool
     match source {
         Gen::Nil => true,
         Gen::Once(call) => is_call_within(*call, inside),
-        Gen::Rising(_) => true,
+        Gen::Rising(first) => {
+            let _first = *first;
+            true
+        }
         Gen::Forever(call) => is_call_within(*call, inside),
         Gen::Seq(members) => are_within(members, inside),
-        Gen::Limit(_, inner) => is_within(inner.as_gen(), inside),
+        Gen::Limit(most, inner) => {
+            let _most = *most;
+            is_within(inner.as_gen(), inside)
+        }
         Gen::Mix(members) => are_within(members, inside),
         Gen::Phases(members) => are_within(members, inside),
         Gen::Reserve(shares, inner) => {
