@@ -7,3 +7,4 @@ pub mod StartingLemmas
 pub mod NestingLemmas
 pub mod MemberLemmas
 pub mod SettingsLemmas
+pub mod PutLemmas
