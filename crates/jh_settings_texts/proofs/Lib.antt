@@ -8,3 +8,4 @@ pub mod NestingLemmas
 pub mod MemberLemmas
 pub mod SettingsLemmas
 pub mod PutLemmas
+pub mod WritableLemmas

@@ -9,7 +9,8 @@ ghost use Rattle.jh_settings.specs.declared.choices.Mode.{Mode};
 ghost use Rattle.jh_settings_texts.specs.DocumentWritten.{document_of};
 ghost use Rattle.jh_settings_texts.specs.SettingsWritten.{CanBeWritten, LeadsToOthers};
 ghost use Rattle.jh_settings_texts.specs.SettingsWritten.{plan_in_order};
-ghost use Rattle.jh_settings_texts.specs.TableInside.{HasWritableNumbers};
+ghost use Rattle.jh_settings_texts.specs.TableInside.{HasWritableLoad, HasWritableNumbers};
+ghost use Rattle.jh_settings_texts.specs.TableInside.{HasWritableTexts};
 
 use crate::depth::is_within;
 use crate::start::may_start;
@@ -59,6 +60,20 @@ fn are_writable(entries: &[Entry]) -> bool
     true
 }
 
+/// Whether the start and the generator have texts that are read back.
+fn has_writable_texts(plan: &Plan) -> bool
+    ensures { IsTrue result ↔ HasWritableTexts plan.now }
+{
+    may_start(plan.environment()) && is_within(plan.generator(), MAX_DEPTH)
+}
+
+/// Whether the numbers and the schedule can be written.
+fn has_writable_load(plan: &Plan) -> bool
+    ensures { IsTrue result ↔ HasWritableLoad plan.now }
+{
+    has_writable_numbers(plan) && are_writable(plan.schedule().entries())
+}
+
 /// Whether settings can say the plan: its generator is nested no deeper than 64 levels, only a
 /// register holds something at first, its seed is below 2^63, `tick_every` is at most 10,000, each
 /// entry of its schedule is due after at most 10,000 calls, and no link of a fault leads from a node
@@ -68,10 +83,7 @@ fn are_writable(entries: &[Entry]) -> bool
 pub fn can_be_written(plan: &Plan) -> bool
     ensures { IsTrue result ↔ CanBeWritten plan.now }
 {
-    may_start(plan.environment())
-        && is_within(plan.generator(), MAX_DEPTH)
-        && has_writable_numbers(plan)
-        && are_writable(plan.schedule().entries())
+    has_writable_texts(plan) && has_writable_load(plan)
 }
 
 /// The settings of a plan that `can_be_written`, which `settings_of` of `jh_settings` reads back as

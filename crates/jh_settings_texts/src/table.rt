@@ -113,7 +113,9 @@ fn put_initial(alloc: Global, table: &mut Table, initial: Option<i64>) -> Result
 
 /// Puts what stands under `clients`, `ops`, `mode`, `volatile` and `initial`.
 fn put_load(alloc: Global, table: &mut Table, plan: &Plan) -> Result<(), AllocError>
-    ensures { OnOk result (table_view table.new ≡ inside.put_load plan.now (table_view table.old)) }
+    ensures table { OnOk result
+        (table_view table.new ≡ inside.put_load plan.now (table_view table.old)) }
+    ensures kept { IfOk result (λ _. IsKeptPlan plan.now) }
 {
     put_number(alloc, table, Key::Clients, u64::from(plan.clients()))?;
     put_number(alloc, table, Key::Ops, u64::from(plan.ops()))?;
