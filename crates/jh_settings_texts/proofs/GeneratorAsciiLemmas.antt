@@ -1,7 +1,7 @@
 -- What is written of a generator is ASCII.
-use Rattle.std.proofs.Common.{ℕ, List, [], ◌∷◌, ◌++◌, codes, refl}
+use Rattle.std.proofs.Common.{[], ◌∷◌, ◌++◌, codes, refl}
 use Rattle.std.specs.Str.{IsUtf8}
-use Rattle.jh_edn.specs.Edn.{Edn, int, items_of}
+use Rattle.jh_edn.specs.Edn.{Edn, items_of}
 use Rattle.jh_edn.specs.Print.{print}
 use Rattle.jh_edn.specs.Printable.{IsPrintable}
 use Rattle.jh_edn.specs.Spelling.{depth_limit}

@@ -1,9 +1,8 @@
 -- What stands under each key of the document that is written of a plan, and what it means.
-use Rattle.std.proofs.Common.{◌≡◌, ℕ, ◌≤◌, ◌<◌, ◌^◌, Bool, true, false, List, [], ◌∷◌, ◌++◌, map, codes, Option, Some, None, refl, sym, ap, subst, ◌∙◌, le-leb, arith}
-use Rattle.std.specs.Prelude.{ℤ, pos, IfSome, max}
-use Rattle.std.specs.List.{list_all}
+use Rattle.std.proofs.Common.{◌≡◌, ℕ, ◌≤◌, ◌<◌, ◌^◌, true, false, List, [], ◌∷◌, ◌++◌, codes, Option, Some, None, refl, sym, ap, subst, ◌∙◌, le-leb, arith}
+use Rattle.std.specs.Prelude.{ℤ, IfSome}
 use Rattle.std.specs.Option.{option_and_then, option_map_or}
-use Rattle.toml.specs.Data.{Data, string, integer, boolean, array, Members, as_str, as_bool, depth, items_depth, members_depth, items_have_valid_dates, members_have_valid_dates}
+use Rattle.toml.specs.Data.{string, integer, boolean, array, Members, as_str, as_bool, items_depth, members_depth, items_have_valid_dates, members_have_valid_dates}
 use Rattle.jh_env.specs.TextWritten.{text_of}
 use Rattle.jh_ops.specs.declared.call.Workload.{Workload}
 use Rattle.jh_ops.specs.Requests.{workload_name, workload_named, max_calls_of}
@@ -13,8 +12,8 @@ use Rattle.jh_simnode.specs.declared.schedule.Entry.{Entry}
 use Rattle.jh_simnode.specs.Plans.{PlanValue}
 use Rattle.jh_settings.specs.declared.keys.Key.{Key}
 use Rattle.jh_settings.specs.declared.choices.Mode.{Mode}
-use Rattle.jh_settings.specs.Keys.{HasKnownKeys, data_under, is_key_name, key_names_in}
-use Rattle.jh_settings.specs.Kinds.{choice_in, needed_value, value_or_default, whole_number_in}
+use Rattle.jh_settings.specs.Keys.{HasKnownKeys, data_under, is_key_name}
+use Rattle.jh_settings.specs.Kinds.{choice_in, needed_value, whole_number_in}
 use Rattle.jh_settings.specs.Parsed.{store_of, mode_of, initial_of, parsed_store, parsed_workload, parsed_clients, parsed_ops, parsed_mode, parsed_volatile, parsed_initial, parsed_tick_every, parsed_rows, parsed_seed, parsed_budget}
 use Rattle.jh_settings_texts.specs.DocumentWritten.{document_of, keyed_members, members_before_initial, initial_member, members_behind_initial, store_name, printed_text, whole_number, schedule_texts}
 

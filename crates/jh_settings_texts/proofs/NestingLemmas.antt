@@ -1,5 +1,5 @@
 -- When the text of a generator can be printed with so many levels, part by part.
-use Rattle.std.proofs.Common.{◌≡◌, ℕ, zero, suc, ◌+◌, ◌-◌, ◌<◌, ◌^◌, Bool, true, false, List, [], ◌∷◌, ◌++◌, length, take, get_or, refl, sym, subst, ◌∙◌, arith}
+use Rattle.std.proofs.Common.{◌≡◌, ℕ, zero, suc, ◌-◌, ◌<◌, ◌^◌, Bool, true, false, List, [], ◌∷◌, ◌++◌, length, take, get_or, refl, sym, subst, ◌∙◌, arith}
 use Rattle.std.specs.Prelude.{◌↔◌, IsTrue, nat_lt, ℤ, pos, FitsSigned, codes}
 use Rattle.std.specs.Int.{w64}
 use Rattle.std.proofs.lemmas.Bool.{true≢false, lt-ltb, ltb-true}

@@ -1,12 +1,11 @@
 -- The document that is written of a plan means that plan, with the faults of its schedule in order.
-use Rattle.std.proofs.Common.{◌≡◌, ℕ, ◌≤◌, ◌<◌, List, [], ◌∷◌, map, length, Option, Some, Ok, refl, sym, ap, subst, ◌∙◌, le-leb, arith}
+use Rattle.std.proofs.Common.{ℕ, ◌≤◌, List, [], ◌∷◌, map, length, refl, sym, subst, le-leb, arith}
 use Rattle.std.specs.Prelude.{pos, FitsSigned}
 use Rattle.std.specs.Int.{w64}
-use Rattle.std.specs.List.{All, AllByRecursion}
-use Rattle.std.specs.Str.{IsAscii, IsUtf8}
+use Rattle.std.specs.List.{AllByRecursion}
+use Rattle.std.specs.Str.{IsUtf8}
 use Rattle.std.proofs.lemmas.List.{length-map}
 use Rattle.std.proofs.lemmas.List.Elements.{All-map, All-weaker, recursion_from_All}
-use Rattle.toml.specs.Data.{Data}
 use Rattle.jh_edn.specs.Edn.{Edn}
 use Rattle.jh_edn.specs.Print.{print}
 use Rattle.jh_edn.specs.Printable.{IsPrintable}
@@ -18,16 +17,13 @@ use Rattle.jh_env.specs.TextLaws.{CanStart}
 use Rattle.jh_env.specs.TextWritten.{text_of}
 use Rattle.jh_step_texts.proofs.ApartLemmas.{links_kept, nodes_kept}
 use Rattle.jh_step_texts.proofs.FaultOrderLemmas.{in_order_fits}
-use Rattle.jh_step_texts.specs.StepWritten.{text_of_step}
 use Rattle.jh_nemesis.specs.Steps.{FitsNodes}
 use Rattle.jh_nemesis.specs.declared.steps.Step.{Step}
 use Rattle.jh_nemesis.specs.declared.steps.Step.TheVariants.{Begin, Withdraw, WithdrawAll, Undo, Redo}
 use Rattle.jh_gen_texts.specs.GeneratorWritten.{text_of_generator}
 use Rattle.jh_simnode.specs.Plans.{PlanValue, IsFit}
 use Rattle.jh_simnode.specs.declared.schedule.Entry.{Entry}
-use Rattle.jh_settings.specs.declared.keys.Key.{Key}
 use Rattle.jh_settings.specs.declared.choices.Mode.{Mode}
-use Rattle.jh_settings.specs.Keys.{data_under}
 use Rattle.jh_settings.specs.Kinds.{IsElement}
 use Rattle.jh_settings.specs.Parsed.{IsParsedStart, IsParsedGenerator, IsParsedEntry, AreParsedEntries, IsParsedSchedule, IsScheduleValue}
 use Rattle.jh_settings.specs.Settings.{AreSettings}

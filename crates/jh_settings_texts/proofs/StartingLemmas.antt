@@ -1,14 +1,14 @@
 -- All cells of an environment are looked at where each node is looked at, and each link between two.
-use Rattle.std.proofs.Common.{◌≡◌, ℕ, ◌+◌, ◌<◌, Bool, true, false, List, length, Option, Some, None, refl, sym, subst, ◌∙◌, inl, inr, arith}
-use Rattle.std.specs.Prelude.{◌==◌, ◌&&◌, not, nat_lt, if◌then◌else◌, IfSome, slice_get, slice_index_or}
-use Rattle.std.specs.List.{All, range_with_len}
+use Rattle.std.proofs.Common.{◌≡◌, ℕ, ◌<◌, Bool, List, length, Option, Some, None, refl, sym, subst, ◌∙◌, inl, inr}
+use Rattle.std.specs.Prelude.{◌==◌, ◌&&◌, not, nat_lt, IfSome}
+use Rattle.std.specs.List.{All}
 use Rattle.std.proofs.Math.Nat.{zero-add}
 use Rattle.std.proofs.lemmas.Bool.{and_parts, cases_Bool, ltb-true, cond-false}
 use Rattle.std.proofs.lemmas.List.FromFn.{get_or-range_with_len, length-range_with_len}
 use Rattle.std.proofs.lemmas.Option.{slice_get_within}
-use Rattle.jh_env.specs.Cells.{Table, Link, NodeCell, calm_link, link_at}
+use Rattle.jh_env.specs.Cells.{Table, Link, link_at}
 use Rattle.jh_env.specs.Names.{node_places}
-use Rattle.jh_env.specs.Overlay.{EnvValue, cells_of, link_of, node_of}
+use Rattle.jh_env.specs.Overlay.{EnvValue, cells_of}
 use Rattle.jh_env.specs.Starting.{IsStartingLink, IsStartingNode}
 use Rattle.jh_settings_texts.specs.StartInside.{IsStarting, MayStartLink, MayStartNode}
 

@@ -1,6 +1,5 @@
 -- A plan can be written just where its texts, its numbers and its schedule can.
-use Rattle.std.proofs.Common.{◌≤◌, List}
-use Rattle.std.specs.List.{All}
+use Rattle.std.proofs.Common.{◌≤◌}
 use Rattle.std.proofs.lemmas.List.Elements.{All-weaker}
 use Rattle.jh_simnode.specs.declared.schedule.Entry.{Entry}
 use Rattle.jh_simnode.specs.Plans.{PlanValue}

@@ -1,5 +1,5 @@
-//! What is printed of the start, of the generator and of the entries of a schedule, each a text that
-//! settings have under a key.
+//! What is printed of the start, of the generator and of the entries of a schedule, each a text
+//! that settings have.
 
 ghost use Rattle.std.specs.Prelude.{◌≡◌, ◌≤◌, Some, IfOk, length, string_bytes};
 ghost use Rattle.std.specs.Str.{IsUtf8};
@@ -81,7 +81,8 @@ pub(crate) fn entry_text(alloc: Global, nodes: &Nodes, entry: &Entry) -> Result<
     requires fits { FitsNodes (length nodes.now) entry.now.step }
     requires due { entry.now.at ≤ 10000 }
     requires others { LeadsToOthers entry.now.step }
-    ensures text { IfOk result (λ text. string_bytes text ≡ print (entry_value nodes.now entry.now)) }
+    ensures text { IfOk result
+        (λ text. string_bytes text ≡ print (entry_value nodes.now entry.now)) }
     ensures over { IfOk result (λ _. IsStepOver (length nodes.now) entry.now.step) }
 {
     is_step_over(nodes, &entry.step);

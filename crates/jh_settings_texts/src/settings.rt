@@ -1,5 +1,5 @@
-//! Plans, written as settings. `specs/SettingsWritten.antt` says which can be, and as which they are
-//! read back, `specs/DocumentWritten.antt` what is written.
+//! Plans, written as settings. `specs/SettingsWritten.antt` says which can be, and as which they
+//! are read back, `specs/DocumentWritten.antt` what is written.
 
 ghost use Rattle.std.specs.Prelude.{◌≤◌, ◌↔◌, IfOk, IfSome, IsTrue, All, string_bytes};
 ghost use Rattle.jh_simnode.specs.declared.schedule.Entry.{Entry};
@@ -76,8 +76,8 @@ fn has_writable_load(plan: &Plan) -> bool
 
 /// Whether settings can say the plan: its generator is nested no deeper than 64 levels, only a
 /// register holds something at first, its seed is below 2^63, `tick_every` is at most 10,000, each
-/// entry of its schedule is due after at most 10,000 calls, and no link of a fault leads from a node
-/// to itself; and its environment is within the ranges of a start, as each is.
+/// entry of its schedule is due after at most 10,000 calls, no link of a fault leads from a node to
+/// itself, and its environment is within the ranges of a start.
 ///
 /// Takes time linear in the generator and the schedule, and quadratic in the nodes.
 pub fn can_be_written(plan: &Plan) -> bool
@@ -87,10 +87,11 @@ pub fn can_be_written(plan: &Plan) -> bool
 }
 
 /// The settings of a plan that `can_be_written`, which `settings_of` of `jh_settings` reads back as
-/// the same plan, run serially with this budget: a TOML document with its keys in the order of their
-/// bytes, and a line for each entry of a schedule of two or more. Under `start`, `generator` and in
-/// `schedule` stand texts of EDN. `initial` stands there only where the plan has it. The links, nodes
-/// and bumps of the faults of its schedule are written in order, and read back so.
+/// the same plan, run serially with this budget, from 0 to 10,000,000: a TOML document with its
+/// keys in the order of their bytes, and a line for each entry of a schedule of two or more. Under
+/// `start`, `generator` and in `schedule` stand texts of EDN. `initial` stands there only where the
+/// plan has it. The links, nodes and bumps of the faults of its schedule are written in order, and
+/// read back so.
 ///
 /// Takes time and memory in proportion to the text.
 ///

@@ -1,13 +1,12 @@
-use Rattle.std.proofs.Common.{rules, ℕ, ◌+◌, ◌-◌, ◌<◌, ◌^◌, ◌≡◌, suc, List, take, get_or, subst, sym, ap, refl, arith, ◌∙◌}
+use Rattle.std.proofs.Common.{rules, ◌+◌, ◌-◌, ◌<◌, ◌^◌, ◌≡◌, suc, take, subst, sym, refl, arith}
 use Rattle.std.specs.Prelude.{FitsSigned, ◌↔◌, IsTrue}
 use Rattle.std.specs.Int.{w64}
 use Rattle.std.proofs.lemmas.Bool.{false≢true}
 use Rattle.std.proofs.lemmas.List.{take_all}
 use Rattle.jh_edn.specs.Edn.{items_of}
 use Rattle.jh_edn.specs.Printable.{ArePrintable, IsPrintable}
-use Rattle.jh_gen.specs.Generator.{Generator, generator_size, generator_list_size, size_shares, row_of, share_list}
-use Rattle.jh_gen.specs.View.{generator_of, generators_of, shares_of}
-use Rattle.jh_gen.specs.declared.generator.Gen.{Gen}
+use Rattle.jh_gen.specs.Generator.{generator_size, generator_list_size, size_shares, row_of, share_list}
+use Rattle.jh_gen.specs.View.{generator_of}
 use Rattle.jh_gen_texts.specs.GeneratorWritten.{text_of_generator, texts_of_generators, texts_of_shares}
 use Rattle.jh_gen_texts.proofs.GeneratorTextLemmas.{member_falls, share_falls}
 use Rattle.jh_settings_texts.proofs.NestingLemmas.{row_texts, shares_texts, row_first, row_member, share_first, share_member, not_both, nil_within, once_within, rising_within, forever_within, seq_within, limit_within, mix_within, phases_within, reserve_within, reserve_not_within, each_thread_within, clients_within, nemesis_within}
