@@ -1,0 +1,4 @@
+pub mod SettingsWritten
+pub mod DocumentWritten
+pub mod StartInside
+pub mod TableInside
