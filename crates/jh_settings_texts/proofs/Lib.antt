@@ -9,3 +9,6 @@ pub mod MemberLemmas
 pub mod SettingsLemmas
 pub mod PutLemmas
 pub mod WritableLemmas
+pub mod CommentLemmas
+pub mod CommentedLemmas
+pub mod BeginningLemmas

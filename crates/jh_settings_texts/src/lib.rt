@@ -2,6 +2,7 @@
 //! back as the same run.
 #![tactic(auto)]
 
+mod comments;
 mod depth;
 mod printing;
 mod settings;
@@ -9,4 +10,5 @@ mod start;
 mod steps;
 mod table;
 
+pub use comments::settings_behind;
 pub use settings::{can_be_written, settings_to_text};

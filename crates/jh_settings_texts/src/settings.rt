@@ -1,7 +1,8 @@
 //! Plans, written as settings. `specs/SettingsWritten.antt` says which can be, and as which they
 //! are read back, `specs/DocumentWritten.antt` what is written.
 
-ghost use Rattle.std.specs.Prelude.{◌≤◌, ◌↔◌, IfOk, IfSome, IsTrue, All, string_bytes};
+ghost use Rattle.std.specs.Prelude.{◌≤◌, ◌≢◌, ◌↔◌, IfOk, IfSome, IsTrue, All, string_bytes};
+ghost use Rattle.toml_parser.specs.Lexical.{first};
 ghost use Rattle.jh_simnode.specs.declared.schedule.Entry.{Entry};
 ghost use Rattle.jh_settings.specs.Keys.{IsDocument};
 ghost use Rattle.jh_settings.specs.Settings.{AreSettingsOf};
@@ -91,7 +92,7 @@ pub fn can_be_written(plan: &Plan) -> bool
 /// keys in the order of their bytes, and a line for each entry of a schedule of two or more. Under
 /// `start`, `generator` and in `schedule` stand texts of EDN. `initial` stands there only where the
 /// plan has it. The links, nodes and bumps of the faults of its schedule are written in order, and
-/// read back so.
+/// read back so. The text begins with no byte order mark, so another may stand before it.
 ///
 /// Takes time and memory in proportion to the text.
 ///
@@ -103,6 +104,7 @@ pub fn settings_to_text(alloc: Global, plan: &Plan, budget: u64) -> Result<Strin
         (λ text. IsDocument (string_bytes text) (document_of plan.now budget)) }
     ensures read_back { IfOk result
         (λ text. AreSettingsOf (string_bytes text) (plan_in_order plan.now) Mode.Serial budget) }
+    ensures unmarked { IfOk result (λ text. first (string_bytes text) ≢ 239) }
 {
     let table = table_of(alloc, plan, budget)?;
     match table_to_string_pretty(alloc, &table) {

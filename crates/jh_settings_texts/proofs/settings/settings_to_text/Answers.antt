@@ -1,8 +1,10 @@
-use Rattle.std.proofs.Common.{◌≡◌, ◌≤◌, Some, Err, string_bytes, subst, sym, ap, ◌∙◌}
+use Rattle.std.proofs.Common.{◌≡◌, ◌≤◌, true, Some, Err, string_bytes, subst, sym, ap, ◌∙◌}
 use Rattle.std.proofs.lemmas.Bool.{true≢false}
 use Rattle.std.proofs.lemmas.Str.{IsUtf8-string_bytes}
 use Rattle.toml.specs.Data.{members_depth, members_have_valid_dates}
 use Rattle.toml.specs.Parse.{parse_document}
+use Rattle.toml.specs.Text.{IsDocumentText}
+use Rattle.jh_settings_texts.proofs.BeginningLemmas.{begins_unmarked}
 use Rattle.jh_settings_texts.specs.DocumentWritten.{document_of}
 use Rattle.jh_settings_texts.proofs.MemberLemmas.{shallow_document, document_dates}
 use Rattle.jh_settings_texts.proofs.SettingsLemmas.{settings_back}
@@ -28,3 +30,8 @@ unreachable-requires c =
     let p = c.args.plan.now in
     let invalid = c.table_to_string_pretty.ensures.dates.0 (c.in-Err-DateInvalid.is ∙ ap Err c.in-Err-DateInvalid.field-0-is) in
     true≢false (sym (document_dates p c.args.budget) ∙ ap members_have_valid_dates (sym c.in_ok-table.ensures.table) ∙ invalid)
+
+pub returns-in-Ok-clause-unmarked : goal.returns-in-Ok-clause-unmarked
+returns-in-Ok-clause-unmarked c =
+    let written = subst (λ d. IsDocumentText true d (string_bytes c.in-Ok.text)) c.in_ok-table.ensures.table c.in-Ok.ensures.text in
+    begins_unmarked c.args.plan.now c.args.budget (string_bytes c.in-Ok.text) written
