@@ -44,6 +44,7 @@ pub(crate) fn is_within(source: &Gen, depth: u32) -> bool
         return false;
     }
     let inside = depth - 1;
+    // A number that is read is known to fit its bits, as a text wants.
     match source {
         Gen::Nil => true,
         Gen::Once(call) => is_call_within(*call, inside),
@@ -89,6 +90,7 @@ fn shares_are_within(shares: &Shares, depth: u32) -> bool
         ↔ ArePrintable depth (items_of (texts_of_shares (share_list shares.now))) }
 {
     for (count, part) in shares.as_slice() {
+        // It fits its bits, as a text wants.
         let _count = *count;
         if !is_within(part, depth) {
             return false;

@@ -18,7 +18,7 @@ ghost use Rattle.jh_laws.specs.StepLines.{IsStepOver};
 ghost use Rattle.jh_settings_texts.specs.DocumentWritten.{entry_value};
 ghost use Rattle.jh_settings_texts.specs.SettingsWritten.{LeadsToOthers};
 
-use crate::steps::is_step_over;
+use crate::steps::step_has_text;
 use jh_edn::{Value, Values, write};
 use jh_env::{Env, Nodes, value_of_env};
 use jh_gen::Gen;
@@ -85,7 +85,7 @@ pub(crate) fn entry_text(alloc: Global, nodes: &Nodes, entry: &Entry) -> Result<
         (λ text. string_bytes text ≡ print (entry_value nodes.now entry.now)) }
     ensures over { IfOk result (λ _. IsStepOver (length nodes.now) entry.now.step) }
 {
-    is_step_over(nodes, &entry.step);
+    step_has_text(nodes, &entry.step);
     let value = value_of_entry(alloc, nodes, entry)?;
     printed(alloc, &value)
 }

@@ -32,11 +32,12 @@ pub(crate) fn leads_to_others(step: &Step) -> bool
 
 /// Says that a step has a text over these nodes, which is so of each that leads to others: ids have
 /// 32 bits, and faults are right.
-pub(crate) fn is_step_over(nodes: &Nodes, step: &Step)
+pub(crate) fn step_has_text(nodes: &Nodes, step: &Step)
     requires fits { FitsNodes (length nodes.now) step.now }
     requires others { LeadsToOthers step.now }
     ensures { IsStepOver (length nodes.now) step.now }
 {
+    // What is known of an id and of a fault is known where they are looked at.
     match step {
         Step::Begin(id, fault) => {
             let _id = *id;

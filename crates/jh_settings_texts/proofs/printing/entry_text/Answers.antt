@@ -6,4 +6,4 @@ use Rattle.jh_settings_texts.proofs.printing.entry_text.Goals as goal
 
 pub printed-requires : goal.printed-requires
 printed-requires c =
-    subst (λ x. IsUtf8 (print x)) (sym c.in_ok-value.ensures) (entry_utf8 c.args.nodes.now c.requires.named c.args.entry.now c.requires.due c.is_step_over.ensures)
+    subst (λ x. IsUtf8 (print x)) (sym c.in_ok-value.ensures) (entry_utf8 c.args.nodes.now c.requires.named c.args.entry.now c.requires.due c.step_has_text.ensures)
