@@ -2,10 +2,10 @@
 use Rattle.std.proofs.Common.{◌≡◌, ℕ, ◌+◌, ◌<◌, Bool, true, false, cond, List, [], ◌∷◌, ◌++◌, fold, option_map, refl, sym, ap, ◌∙◌, arith}
 use Rattle.std.specs.Prelude.{ℤ, ◌+ℤ◌, pos, max, if◌then◌else◌, ◌==◌, ◌||◌}
 use Rattle.std.specs.List.{list_any}
-use Rattle.std.specs.List.Sorted.{IsPermutation}
 use Rattle.std.proofs.lemmas.Int.{ints}
-use Rattle.std.proofs.lemmas.List.Sorted.{IsPermutation-refl, IsPermutation-cons, IsPermutation-middle, IsPermutation-trans, list_any-IsPermutation, All-permutation}
+use Rattle.std.proofs.lemmas.List.Sorted.{list_any-IsPermutation, All-permutation}
 use Rattle.jh_edn.specs.Order.{put_in_order, in_order}
+use Rattle.jh_env.proofs.ApartLemmas.{in_order_moves}
 use Rattle.jh_tables.specs.declared.cells.Life.TheVariants.{Running, Paused, Killed}
 use Rattle.jh_tables.specs.declared.cells.Link.{Link}
 use Rattle.jh_tables.specs.declared.cells.NodeCell.{NodeCell}
@@ -16,24 +16,7 @@ use Rattle.jh_step_texts.specs.FaultLaws.{DoesAs}
 use Rattle.jh_step_texts.specs.FaultWritten.{fault_in_order, is_link_before, is_node_before, is_bump_before}
 use Rattle.jh_env.specs.Overlay.{link_over, node_over, cuts, delay_after_fault, delay_by, loss_by, pauses, kills, bump_by, is_paused, is_killed}
 
--- ---- what stands in order
-
-put_moves : {X : Type 0} (lt : X → X → Bool) (x : X) (ys : List X) → IsPermutation (x ∷ ys) (put_in_order lt x ys)
-put_moves lt x [] = IsPermutation-refl (x ∷ [])
-put_moves lt x (y ∷ ys) =
-    elim (lt y x) as (λ t. IsPermutation (x ∷ y ∷ ys) (cond t (y ∷ put_in_order lt x ys) (x ∷ y ∷ ys))) [
-      | true ↦
-          IsPermutation-trans (x ∷ y ∷ ys) (y ∷ x ∷ ys) (y ∷ put_in_order lt x ys) (IsPermutation-middle (x ∷ []) y ys)
-          (IsPermutation-cons y (x ∷ ys) (put_in_order lt x ys) (put_moves lt x ys))
-      | false ↦ IsPermutation-refl (x ∷ y ∷ ys)
-    ]
-
--- the same things stand in order
-pub in_order_moves : {X : Type 0} (lt : X → X → Bool) (xs : List X) → IsPermutation xs (in_order lt xs)
-in_order_moves lt [] = IsPermutation-refl []
-in_order_moves lt (x ∷ xs) =
-    IsPermutation-trans (x ∷ xs) (x ∷ in_order lt xs) (put_in_order lt x (in_order lt xs))
-    (IsPermutation-cons x xs (in_order lt xs) (in_order_moves lt xs)) (put_moves lt x (in_order lt xs))
+-- ---- what is summed in order
 
 put_folds : {X Z : Type 0} (lt : X → X → Bool) (f : Z → X → Z) → ((z : Z) (x y : X) → f (f z x) y ≡ f (f z y) x) → (z : Z) (x : X) (ys : List X)
     → fold f z (put_in_order lt x ys) ≡ fold f z (x ∷ ys)

@@ -1,4 +1,4 @@
-use Rattle.jh_step_texts.proofs.ApartLemmas.{links_kept, nodes_kept}
+use Rattle.jh_env.proofs.ApartLemmas.{links_kept, nodes_kept}
 use Rattle.jh_step_texts.proofs.FaultOrderLemmas.{in_order_does, in_order_fits}
 use Rattle.jh_step_texts.proofs.laws.order_changes_no_fault.Goals as goal
 
