@@ -1,12 +1,16 @@
 -- What is true of the entries and kinds of a candidate.
-use Rattle.std.proofs.Common.{◌≡◌, ℕ, ◌+◌, ◌<◌, Bool, true, false, List, ◌∷◌, length, length-append, take, drop, refl, ap, arith}
+use Rattle.std.proofs.Common.{◌≡◌, ℕ, ◌+◌, ◌<◌, Bool, true, false, List, ◌∷◌, ◌≤◌, length, length-append, length-map, map, take, drop, refl, ap, subst, sym, arith}
 use Rattle.std.specs.Prelude.{◌||◌, not, nat_lt, if◌then◌else◌}
 use Rattle.std.specs.List.{fold, insert, position_or_len, range_with_len}
 use Rattle.std.proofs.lemmas.Bool.{and_parts, ltb-true}
 use Rattle.std.proofs.lemmas.List.{take-append-drop}
-use Rattle.std.proofs.lemmas.List.Elements.{All-append, All-cons, All-drop, All-take}
+use Rattle.std.proofs.lemmas.List.Elements.{All-append, All-cons, All-drop, All-map, All-take, All-weaker}
 use Rattle.std.proofs.lemmas.List.Sums.{fold_push}
 use Rattle.jh_nemesis.specs.Steps.{FitsNodes}
+use Rattle.jh_nemesis.specs.declared.steps.Step.{Step}
+use Rattle.jh_nemesis.specs.declared.steps.Step.TheVariants.{Begin, Withdraw, WithdrawAll, Undo, Redo}
+use Rattle.jh_step_texts.specs.StepWritten.{step_in_order}
+use Rattle.jh_step_texts.proofs.FaultOrderLemmas.{in_order_fits}
 use Rattle.jh_step_texts.proofs.LinkLemmas.{all_from, kept, range_more}
 use Rattle.jh_simnode.specs.declared.schedule.Entry.{Entry}
 use Rattle.jh_simnode.specs.Limits.{max_entries}
@@ -15,7 +19,7 @@ use Rattle.jh_simnode.specs.declared.plan.PlanError.TheVariants as PlanError
 use Rattle.jh_search.specs.declared.kinds.Kind.{Kind}
 use Rattle.jh_search.specs.declared.kinds.Palette.{Palette}
 use Rattle.jh_search.specs.declared.options.Options.{Options}
-use Rattle.jh_search.specs.Candidates.{candidate_plan, entries_with, entries_with_random}
+use Rattle.jh_search.specs.Candidates.{candidate_plan, entries_with, entries_with_random, entry_in_order}
 use Rattle.jh_search.specs.CandidatesInside.{AreEntriesFor}
 use Rattle.jh_search.specs.FaultsInside.{HasNamed, HaveNamed}
 use Rattle.jh_search.specs.Kinds.{all_kinds, has_kind, is_drawn, is_on_links, kinds_drawn}
@@ -75,3 +79,21 @@ fit_replanned p entries seed fit are = record {
   generator = fit.generator;
   steps = are.fit;
 }
+
+-- in order, a step fits where it did
+step_fits : (count : ℕ) (step : Step) → FitsNodes count step → FitsNodes count (step_in_order step)
+step_fits count (Begin id fault) fits = in_order_fits count fault fits
+step_fits count (Withdraw id) fits = tt
+step_fits count WithdrawAll fits = tt
+step_fits count Undo fits = tt
+step_fits count Redo fits = tt
+
+-- in order, entries are such as a schedule of the plan may have
+pub all_in_order : (p : PlanValue) (entries : List Entry) → AreEntriesFor p entries → AreEntriesFor p (map entry_in_order entries)
+all_in_order p entries are =
+    let P : Entry → Type 0 = λ e. FitsNodes (length p.env.names) e.step in
+    record {
+      few = subst (λ n. n ≤ max_entries) (sym (length-map entries entry_in_order)) are.few;
+      fit = All-map P entry_in_order entries
+          (All-weaker P (λ e. P (entry_in_order e)) (λ e. step_fits (length p.env.names) e.step) entries are.fit);
+    }

@@ -9,7 +9,7 @@ ghost use Rattle.jh_search.specs.FaultsInside.{HasNamed, HaveNamed};
 ghost use Rattle.jh_search.specs.Draws.{numbers_after};
 
 use crate::draws::{Draw, next, next_draw, numbers_of};
-use crate::entries::{greatest_id, put_entry};
+use crate::entries::{entries_in_order, greatest_id, put_entry};
 use crate::kinds::{Kind, kinds_of};
 use crate::options::Options;
 use crate::random_faults::fault_drawn;
@@ -160,7 +160,7 @@ fn put_heal(plan: &Plan, own: u64, entries: &mut Vec<Entry>) -> Result<(), Alloc
     put_entry(entries, heal)
 }
 
-/// The entries of a candidate with this seed.
+/// The entries of a candidate with this seed, each fault as it was drawn or given.
 fn random_entries(
     alloc: Global,
     plan: &Plan,
@@ -233,10 +233,11 @@ fn seed_of(plan: &Plan, number: u64) -> u64
 
 /// The candidate of this number, from 0: the plan with its seed raised by the number, around 2^63,
 /// and with random faults among the entries of its schedule. A schedule has at most 1,024 entries;
-/// what it has no room for is left out.
+/// what it has no room for is left out. Each fault, also one of the plan's own, has its links, nodes
+/// or bumps in the order of its text.
 ///
-/// Takes time for each fault and for the entries that stand behind it, and memory for the whole
-/// plan.
+/// Takes time for each fault and for the entries that stand behind it, and to sort what each fault
+/// names; and memory for the whole plan.
 ///
 /// Error: memory was refused.
 pub fn candidate(
@@ -248,6 +249,7 @@ pub fn candidate(
     ensures { IfOk result (λ made. made ≡ rule.candidate_of plan.now options.now number) }
 {
     let seed = seed_of(plan, number);
-    let entries = random_entries(alloc, plan, *options, seed)?;
+    let drawn = random_entries(alloc, plan, *options, seed)?;
+    let entries = entries_in_order(alloc, &drawn)?;
     candidate_plan(alloc, plan, entries, seed)
 }
