@@ -1,0 +1,4 @@
+pub mod AsciiLemmas
+pub mod NameAsciiLemmas
+pub mod ShallowLemmas
+pub mod StartTextLemmas

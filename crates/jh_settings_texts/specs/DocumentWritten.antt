@@ -1,0 +1,79 @@
+-- The TOML document that is written of a plan (this project's own; the keys and the kinds of value
+-- are those of the settings of a run).
+use Rattle.std.specs.Prelude.{◌≡◌, ℕ, ℤ, pos, List, [], ◌∷◌, ◌++◌, map, codes, Option, Some, None}
+use Rattle.toml.specs.Data.{Data, string, integer, boolean, array, Items, Members, no_members}
+use Rattle.toml.specs.Data.{member}
+use Rattle.toml.specs.View.{items_of as data_items}
+use Rattle.jh_edn.specs.Edn.{Edn, int, vector, items_of}
+use Rattle.jh_edn.specs.Print.{print}
+use Rattle.jh_env.specs.TextWritten.{text_of}
+use Rattle.jh_step_texts.specs.StepWritten.{text_of_step}
+use Rattle.jh_ops.specs.Requests.{workload_name}
+use Rattle.jh_gen_texts.specs.GeneratorWritten.{text_of_generator}
+use Rattle.jh_simnode.specs.declared.settings.Store.{Store}
+use Rattle.jh_simnode.specs.declared.schedule.Entry.{Entry}
+use Rattle.jh_simnode.specs.Plans.{PlanValue}
+use Rattle.jh_settings.specs.declared.keys.Key.{Key}
+use Rattle.jh_settings.specs.Keys.{key_name}
+
+-- the name by which a store is chosen
+abbrev pub store_name : Store → List ℕ
+store_name Store.Quorum = codes "quorum"
+store_name Store.Lww = codes "lww"
+store_name Store.Local = codes "local"
+
+-- the text that is printed of a value of EDN
+abbrev pub printed_text : Edn → Data
+printed_text x = string (print x)
+
+-- a whole number
+abbrev pub whole_number : ℕ → Data
+whole_number n = integer (pos n)
+
+-- the value of an entry: AT and STEP, over nodes of these names
+abbrev pub entry_value : List (List ℕ) → Entry → Edn
+entry_value names entry =
+    vector (items_of (int (pos entry.at) ∷ text_of_step names entry.step ∷ []))
+
+-- the text of each entry, in order
+abbrev pub schedule_texts : List (List ℕ) → List Entry → Items
+schedule_texts names schedule =
+    data_items (map (λ entry. printed_text (entry_value names entry)) schedule)
+
+-- keys and what stands under them
+abbrev pub keyed_members : List (Key × Data) → Members
+keyed_members [] = no_members
+keyed_members (m ∷ ms) = member (key_name m.0) m.1 (keyed_members ms)
+
+-- what stands before `initial`, in the order of the keys' bytes
+abbrev pub members_before_initial : PlanValue → ℕ → List (Key × Data)
+members_before_initial p budget =
+    (Key.Budget, whole_number budget)
+    ∷ (Key.Clients, whole_number p.clients)
+    ∷ (Key.Generator, printed_text (text_of_generator p.generator)) ∷ []
+
+-- `initial`, where something is held at first
+abbrev pub initial_member : Option ℤ → List (Key × Data)
+initial_member None = []
+initial_member (Some z) = (Key.Initial, integer z) ∷ []
+
+-- what stands behind it
+abbrev pub members_behind_initial : PlanValue → List (Key × Data)
+members_behind_initial p =
+    (Key.Mode, string (codes "serial"))
+    ∷ (Key.Ops, whole_number p.ops)
+    ∷ (Key.Rows, whole_number p.rows)
+    ∷ (Key.Schedule, array (schedule_texts p.env.names p.schedule))
+    ∷ (Key.Seed, whole_number p.seed)
+    ∷ (Key.Start, printed_text (text_of p.env))
+    ∷ (Key.Store, string (store_name p.settings.store))
+    ∷ (Key.TickEvery, whole_number p.tick_every)
+    ∷ (Key.Volatile, boolean p.settings.volatile)
+    ∷ (Key.Workload, string (workload_name p.settings.workload)) ∷ []
+
+-- the document of a plan that is run serially, with so many tries for a judgement
+abbrev pub document_of : PlanValue → ℕ → Members
+document_of p budget =
+    keyed_members
+    (members_before_initial p budget
+    ++ (initial_member p.settings.initial ++ members_behind_initial p))

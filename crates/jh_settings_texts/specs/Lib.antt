@@ -1,0 +1,3 @@
+pub mod SettingsWritten
+pub mod DocumentWritten
+pub mod TableInside
