@@ -3,15 +3,15 @@
 -- schedule. Each fault of a candidate, also one of the plan's own, has its links, nodes or bumps in
 -- the order of its text, so that what is written of a candidate means that candidate.
 use Rattle.std.specs.Prelude.{ℕ, ◌+◌, ◌-◌, ◌/◌, ◌%◌, ◌^◌, ◌==◌, Bool, nat_lt, List, length}
-use Rattle.std.specs.Prelude.{map, slice_get, Option, Some, None, if◌then◌else◌}
+use Rattle.std.specs.Prelude.{slice_get, Option, Some, None, if◌then◌else◌}
 use Rattle.std.specs.List.{fold, insert, position_or_len, range_with_len}
 use Rattle.jh_nemesis.specs.declared.steps.Step.{Step}
 use Rattle.jh_nemesis.specs.declared.steps.Step.TheVariants.{Begin, Withdraw, WithdrawAll, Undo}
 use Rattle.jh_nemesis.specs.declared.steps.Step.TheVariants.{Redo}
-use Rattle.jh_step_texts.specs.StepWritten.{step_in_order}
 use Rattle.jh_simnode.specs.declared.schedule.Entry.{Entry}
 use Rattle.jh_simnode.specs.Limits.{max_entries}
 use Rattle.jh_simnode.specs.Plans.{PlanValue}
+use Rattle.jh_settings_texts.specs.SettingsWritten.{plan_in_order}
 use Rattle.jh_search.specs.declared.draws.Draw.{Draw}
 use Rattle.jh_search.specs.declared.kinds.Kind.{Kind}
 use Rattle.jh_search.specs.declared.options.Options.{Options}
@@ -113,10 +113,6 @@ abbrev pub random_schedule : PlanValue → Options → ℕ → List Entry
 random_schedule p options seed =
     healed_entries p (number seed 0) (entries_with_faults p options seed)
 
--- the same entry, with the links, nodes or bumps of its fault in order
-abbrev pub entry_in_order : Entry → Entry
-entry_in_order entry = record entry { step = step_in_order entry.step }
-
 -- ---- the candidate
 
 -- the seed of the candidate of this number, around the end of those that settings may have
@@ -130,6 +126,5 @@ candidate_plan p schedule seed = record p { schedule = schedule; seed = seed }
 -- the candidate of this number, with what each fault of its schedule names in order
 abbrev pub candidate_of : PlanValue → Options → ℕ → PlanValue
 candidate_of p options candidate =
-    candidate_plan p
-    (map entry_in_order (random_schedule p options (seed_of p candidate)))
-    (seed_of p candidate)
+    plan_in_order
+    (candidate_plan p (random_schedule p options (seed_of p candidate)) (seed_of p candidate))

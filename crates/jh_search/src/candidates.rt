@@ -3,6 +3,7 @@
 
 ghost use Rattle.std.specs.Prelude.{◌≡◌, ◌<◌, ◌≤◌, ◌+◌, ◌%◌, ◌^◌, ℕ, IfErr, IfOk, Ok, OnOk, length};
 ghost use Rattle.jh_simnode.specs.declared.plan.PlanError.TheVariants.{OutOfMemory};
+ghost use Rattle.jh_settings_texts.specs.SettingsWritten.{CanBeWritten, plan_in_order};
 ghost use Rattle.jh_search.specs.Candidates as rule;
 ghost use Rattle.jh_search.specs.CandidatesInside.{AreEntriesFor};
 ghost use Rattle.jh_search.specs.FaultsInside.{HasNamed, HaveNamed};
@@ -30,6 +31,7 @@ fn fault_id(last_id: u32, fault: u32) -> u32
 fn calls_before_heal(plan: &Plan) -> u32
     ensures at { result ≡ rule.calls_before_heal plan.now }
     ensures within { (1 ≤ result) × (result ≤ plan.now.ops) }
+    ensures few { result ≤ 10000 }
 {
     plan.ops() - plan.ops() / 4
 }
@@ -38,13 +40,15 @@ fn calls_before_heal(plan: &Plan) -> u32
 fn calls_before_begin(plan: &Plan, draw: Draw) -> u32
     ensures at { result ≡ rule.calls_before_begin plan.now draw }
     ensures within { result < plan.now.ops }
+    ensures few { result ≤ 10000 }
 {
     (draw.begin % u64::from(calls_before_heal(plan))) as u32
 }
 
 /// After how many calls it is withdrawn.
 fn calls_before_end(plan: &Plan, draw: Draw) -> u32
-    ensures { result ≡ rule.calls_before_end plan.now draw }
+    ensures at { result ≡ rule.calls_before_end plan.now draw }
+    ensures few { result ≤ 10000 }
 {
     let begin = calls_before_begin(plan, draw);
     let left = plan.ops() - begin;
@@ -239,6 +243,9 @@ fn seed_of(plan: &Plan, number: u64) -> u64
 /// Takes time for each fault and for the entries that stand behind it, and to sort what each fault
 /// names; and memory for the whole plan.
 ///
+/// Settings that can say the plan can say the candidate, and what is read of them is the candidate
+/// again.
+///
 /// Error: memory was refused.
 pub fn candidate(
     alloc: Global,
@@ -246,7 +253,10 @@ pub fn candidate(
     options: &Options,
     number: u64,
 ) -> Result<Plan, AllocError>
-    ensures { IfOk result (λ made. made ≡ rule.candidate_of plan.now options.now number) }
+    ensures candidate { IfOk result
+        (λ made. made ≡ rule.candidate_of plan.now options.now number) }
+    ensures written { CanBeWritten plan.now → IfOk result CanBeWritten }
+    ensures read_back { IfOk result (λ made. plan_in_order made ≡ made) }
 {
     let seed = seed_of(plan, number);
     let drawn = random_entries(alloc, plan, *options, seed)?;

@@ -1,7 +1,8 @@
-//! Entries put among those of a schedule, the ids that are taken there, and entries with their
-//! faults in order. `specs/Candidates.antt` has the rules.
+//! Entries put among those of a schedule, and the ids that are taken there: `specs/Candidates.antt`
+//! has the rules. And entries with their faults in order.
 
 ghost use Rattle.std.specs.Prelude.{◌≡◌, IfOk, OnOk, map};
+ghost use Rattle.jh_settings_texts.specs.SettingsWritten.{entry_in_order};
 ghost use Rattle.jh_search.specs.Candidates as rule;
 
 use jh_nemesis::Step;
@@ -46,7 +47,7 @@ pub(crate) fn greatest_id(entries: &[Entry]) -> u32
 
 /// The same entry, with the links, nodes or bumps of its fault in order.
 fn entry_in_order(alloc: Global, entry: &Entry) -> Result<Entry, AllocError>
-    ensures { IfOk result (λ ordered. ordered ≡ rule.entry_in_order entry.now) }
+    ensures { IfOk result (λ ordered. ordered ≡ entry_in_order entry.now) }
 {
     Ok(Entry {
         at: entry.at,
@@ -56,7 +57,7 @@ fn entry_in_order(alloc: Global, entry: &Entry) -> Result<Entry, AllocError>
 
 /// The same entries, each with its fault in order.
 pub(crate) fn entries_in_order(alloc: Global, entries: &[Entry]) -> Result<Vec<Entry>, AllocError>
-    ensures { IfOk result (λ ordered. ordered.items ≡ map rule.entry_in_order entries.now) }
+    ensures { IfOk result (λ ordered. ordered.items ≡ map entry_in_order entries.now) }
 {
     let mut ordered = Vec::new(alloc);
     for entry in entries {

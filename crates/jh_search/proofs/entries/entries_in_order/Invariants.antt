@@ -1,5 +1,5 @@
 use Rattle.std.proofs.Common.{◌≡◌, map, take}
-use Rattle.jh_search.specs.Candidates.{entry_in_order}
+use Rattle.jh_settings_texts.specs.SettingsWritten.{entry_in_order}
 use Rattle.jh_search.proofs.entries.entries_in_order.Given as goal
 
 abbrev pub invariant-loop-entry : goal.invariant-loop-entry
