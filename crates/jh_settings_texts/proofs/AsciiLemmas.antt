@@ -1,8 +1,8 @@
 -- What is printed of a value is ASCII where its strings and names are.
-use Rattle.std.proofs.Common.{◌≡◌, ℕ, ◌<◌, ◌≤◌, ◌-◌, Bool, true, false, List, [], ◌∷◌, ◌++◌, codes, map, flat_map, refl, arith, inl, inr}
-use Rattle.std.specs.Prelude.{ℤ, pos, negsuc, suc, zero, ◌==◌, ◌&&◌, nat_lt, if◌then◌else◌, FitsSigned}
+use Rattle.std.proofs.Common.{◌≡◌, ℕ, ◌<◌, ◌-◌, Bool, true, false, List, [], ◌∷◌, ◌++◌, codes, flat_map, refl, arith}
+use Rattle.std.specs.Prelude.{ℤ, pos, negsuc, suc, ◌==◌, nat_lt, if◌then◌else◌, FitsSigned}
 use Rattle.std.specs.Int.{w64}
-use Rattle.std.specs.List.{All, AllByRecursion, list_all}
+use Rattle.std.specs.List.{AllByRecursion, list_all}
 use Rattle.std.specs.Str.{IsAscii, IsUtf8}
 use Rattle.std.specs.Fmt.{decimal, signed_decimal}
 use Rattle.std.proofs.lemmas.Bool.{and_parts, ltb-true}

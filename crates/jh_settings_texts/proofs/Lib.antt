@@ -1,4 +1,11 @@
 pub mod AsciiLemmas
 pub mod NameAsciiLemmas
+pub mod GeneratorAsciiLemmas
 pub mod ShallowLemmas
 pub mod StartTextLemmas
+pub mod StartingLemmas
+pub mod NestingLemmas
+pub mod MemberLemmas
+pub mod SettingsLemmas
+pub mod PutLemmas
+pub mod WritableLemmas

@@ -1,23 +1,22 @@
 -- The texts of environments, steps and generators are ASCII, as the names of nodes are.
-use Rattle.std.proofs.Common.{◌≡◌, ℕ, zero, suc, ◌<◌, ◌≤◌, Bool, true, false, List, [], ◌∷◌, ◌++◌, codes, map, filter_map, flat_map, Option, Some, None, refl, sym, ap, subst, ◌∙◌, arith, inl, inr, append_assoc}
-use Rattle.std.specs.Prelude.{◌==◌, ◌&&◌, ◌||◌, nat_le, not, length, IfSome, slice_get, slice_index_or, if◌then◌else◌, ℤ}
-use Rattle.std.specs.Char.{is_ascii_alphanumeric}
-use Rattle.std.specs.List.{All, AllByRecursion, list_all}
-use Rattle.std.specs.Str.{IsAscii, IsUtf8}
-use Rattle.std.proofs.lemmas.Bool.{and_parts, or_cases, eqb-true}
+use Rattle.std.proofs.Common.{◌≡◌, ℕ, zero, suc, ◌<◌, true, List, [], ◌∷◌, ◌++◌, codes, map, filter_map, flat_map, Option, Some, None, refl, sym, ◌∙◌, arith, append_assoc}
+use Rattle.std.specs.Prelude.{◌==◌, ◌&&◌, nat_le, not, length, IfSome, slice_get, slice_index_or, ℤ}
+use Rattle.std.specs.List.{AllByRecursion, list_all}
+use Rattle.std.specs.Str.{IsAscii}
+use Rattle.std.proofs.lemmas.Bool.{and_parts}
 use Rattle.std.proofs.lemmas.Bool.Decides.{nat_tests}
 use Rattle.std.proofs.lemmas.List.Elements.{All-from_recursion}
 use Rattle.std.proofs.lemmas.Str.Ascii.{IsAscii-nil, IsAscii-from_all}
-use Rattle.jh_edn.specs.Edn.{Edn, str, keyword, vector, items_of, members_of}
+use Rattle.jh_edn.specs.Edn.{str, items_of, members_of}
 use Rattle.jh_env.specs.declared.texts.entries.Section.{Section}
 use Rattle.jh_env.specs.declared.texts.entries.LinkChange.{LinkChange}
 use Rattle.jh_env.specs.declared.texts.entries.NodeChange.{NodeChange}
 use Rattle.jh_env.specs.Faults.{FaultValue, Cut, Slow, Loss, Fix, Pause, Kill, Bump}
-use Rattle.jh_env.specs.Names.{AreNodeNames, is_node_name, is_name_byte, dot, dash}
+use Rattle.jh_env.specs.Names.{AreNodeNames, is_node_name, is_name_byte}
 use Rattle.jh_env.specs.Overlay.{EnvValue, link_of, node_of}
-use Rattle.jh_env.specs.Text.{◌>>=◌, Entry, OfLink, OfNode, keyword_of, nodes_keyword, sections}
+use Rattle.jh_env.specs.Text.{◌>>=◌, Entry, keyword_of, nodes_keyword}
 use Rattle.jh_env.specs.TextWritten.{places, link_change, node_change, link_entry, node_entry, entries_written, link_amounts, node_amount, edn_of_entry, section_pair, text_of}
-use Rattle.jh_step_texts.specs.FaultWritten.{fault_in_order, name_text, link_text, bump_text, fault_values, text_of_fault}
+use Rattle.jh_step_texts.specs.FaultWritten.{fault_in_order, name_text, link_text, bump_text, fault_values}
 use Rattle.jh_step_texts.specs.StepWritten.{text_of_step}
 use Rattle.jh_nemesis.specs.declared.steps.Step.{Step}
 use Rattle.jh_nemesis.specs.declared.steps.Step.TheVariants.{Begin, Withdraw, WithdrawAll, Undo, Redo}

@@ -1,10 +1,9 @@
 -- The text of an environment on which no fault is laid is a text of its start.
-use Rattle.std.proofs.Common.{◌≡◌, ℕ, ◌+◌, Bool, true, false, List, [], Option, Some, None, refl, sym, ap, ◌∙◌}
+use Rattle.std.proofs.Common.{◌≡◌, ℕ, Bool, true, false, List, [], Option, Some, None, refl, sym, ap, ◌∙◌}
 use Rattle.std.specs.Prelude.{◌||◌, option_map}
 use Rattle.std.proofs.Math.Nat.{add-zero}
-use Rattle.jh_edn.specs.Edn.{Edn}
-use Rattle.jh_env.specs.Cells.{Table, Life, Running, Paused, Killed, Link, NodeCell, link_at, node_at}
-use Rattle.jh_env.specs.Overlay.{EnvValue, StandsFor, IsOverlay, link_over, node_over, is_killed, is_paused, cells_of}
+use Rattle.jh_env.specs.Cells.{Table, Running, Paused, Killed, Link, NodeCell, link_at, node_at}
+use Rattle.jh_env.specs.Overlay.{EnvValue, StandsFor, IsOverlay, link_over, node_over, cells_of}
 use Rattle.jh_env.specs.Text.{Entry}
 use Rattle.jh_env.specs.TextCells.{AreCellsOf, IsTextOf}
 use Rattle.jh_env.specs.TextLaws.{CanStart}

@@ -1,6 +1,6 @@
 -- The TOML document that is written of a plan (this project's own; the keys and the kinds of value
 -- are those of the settings of a run).
-use Rattle.std.specs.Prelude.{◌≡◌, ℕ, ℤ, pos, List, [], ◌∷◌, ◌++◌, map, codes, Option, Some, None}
+use Rattle.std.specs.Prelude.{ℕ, ℤ, pos, List, [], ◌∷◌, ◌++◌, map, codes, Option, Some, None}
 use Rattle.toml.specs.Data.{Data, string, integer, boolean, array, Items, Members, no_members}
 use Rattle.toml.specs.Data.{member}
 use Rattle.toml.specs.View.{items_of as data_items}

@@ -1,3 +1,4 @@
 pub mod SettingsWritten
 pub mod DocumentWritten
+pub mod StartInside
 pub mod TableInside

@@ -1,6 +1,6 @@
 -- Which plans can be written as settings, and as which plan they are read back (this project's
 -- own).
-use Rattle.std.specs.Prelude.{◌≡◌, ℕ, ◌^◌, ◌<◌, ◌≤◌, false, List, map, All, Some, IfSome}
+use Rattle.std.specs.Prelude.{◌≡◌, ℕ, ◌^◌, ◌<◌, ◌≤◌, false, map, All, Some, IfSome}
 use Rattle.std.specs.List.{list_any}
 use Rattle.jh_edn.specs.Printable.{IsPrintable}
 use Rattle.jh_edn.specs.Spelling.{depth_limit}

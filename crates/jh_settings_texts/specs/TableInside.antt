@@ -1,10 +1,14 @@
 -- What the parts of the code say to each other (this project's own).
-use Rattle.std.specs.Prelude.{◌≡◌, ℕ, ℤ, List, All, codes, length, Option, Some, None}
+use Rattle.std.specs.Prelude.{◌≡◌, ℕ, ◌^◌, ◌<◌, ◌≤◌, ℤ, List, All, codes, length, Option, Some, None}
+use Rattle.std.specs.Prelude.{IfSome}
 use Rattle.std.specs.Ordering.{nat_cmp, match_ordering}
 use Rattle.std.specs.Cmp.Lexicographic.{slice_cmp}
 use Rattle.toml.specs.Data.{Data, string, integer, boolean, array, Members, no_members, member}
+use Rattle.jh_edn.specs.Printable.{IsPrintable}
+use Rattle.jh_edn.specs.Spelling.{depth_limit}
 use Rattle.jh_env.specs.TextLaws.{CanStart}
 use Rattle.jh_env.specs.TextWritten.{text_of}
+use Rattle.jh_ops.specs.declared.call.Workload.{Workload}
 use Rattle.jh_ops.specs.Requests.{workload_name}
 use Rattle.jh_gen.specs.GeneratorText.{parsed_generator}
 use Rattle.jh_gen_texts.specs.GeneratorWritten.{text_of_generator}
@@ -14,6 +18,8 @@ use Rattle.jh_settings.specs.Keys.{key_name}
 use Rattle.jh_laws.specs.StepLines.{IsStepOver}
 use Rattle.jh_settings_texts.specs.DocumentWritten.{store_name, printed_text, whole_number}
 use Rattle.jh_settings_texts.specs.DocumentWritten.{schedule_texts}
+use Rattle.jh_settings_texts.specs.SettingsWritten.{LeadsToOthers}
+use Rattle.jh_settings_texts.specs.StartInside.{IsStarting}
 
 -- the members with this one, at its place in the order of the keys' bytes
 abbrev pub put_member : List ℕ → Data → Members → Members
@@ -67,3 +73,19 @@ pub record IsWhollyKnown (p : PlanValue) : Type 0 where
   pub start : CanStart p.env
   pub generator : parsed_generator (text_of_generator p.generator) ≡ Some p.generator
   pub steps : All (λ entry. IsStepOver (length p.env.names) entry.step) p.schedule
+
+-- only a register holds something at first, and numbers are in the ranges of their keys
+pub record HasWritableNumbers (p : PlanValue) : Type 0 where
+  pub initial : IfSome p.settings.initial (λ _. p.settings.workload ≡ Workload.Register)
+  pub tick_every : p.tick_every ≤ 10000
+  pub seed : p.seed < 2 ^ 63
+
+-- the start and the generator have texts that are read back
+pub record HasWritableTexts (p : PlanValue) : Type 0 where
+  pub start : IsStarting p.env
+  pub generator : IsPrintable depth_limit (text_of_generator p.generator)
+
+-- and the numbers and the schedule can be written
+pub record HasWritableLoad (p : PlanValue) : Type 0 where
+  pub numbers : HasWritableNumbers p
+  pub entries : All (λ entry. (entry.at ≤ 10000) × LeadsToOthers entry.step) p.schedule

@@ -1,3 +1,12 @@
 //! The settings of a run as a TOML document, written: `settings_of` of `jh_settings` reads them
 //! back as the same run.
 #![tactic(auto)]
+
+mod depth;
+mod printing;
+mod settings;
+mod start;
+mod steps;
+mod table;
+
+pub use settings::{can_be_written, settings_to_text};

@@ -1,0 +1,31 @@
+-- A plan can be written just where its texts, its numbers and its schedule can.
+use Rattle.std.proofs.Common.{◌≤◌}
+use Rattle.std.proofs.lemmas.List.Elements.{All-weaker}
+use Rattle.jh_simnode.specs.declared.schedule.Entry.{Entry}
+use Rattle.jh_simnode.specs.Plans.{PlanValue}
+use Rattle.jh_settings_texts.specs.SettingsWritten.{CanBeWritten, LeadsToOthers}
+use Rattle.jh_settings_texts.specs.TableInside.{HasWritableTexts, HasWritableLoad}
+
+abbrev IsWritable : Entry → Type 0
+IsWritable entry = (entry.at ≤ 10000) × LeadsToOthers entry.step
+
+pub can_from_parts : (p : PlanValue) → HasWritableTexts p → HasWritableLoad p → CanBeWritten p
+can_from_parts p texts load = record {
+  links = texts.start.links;
+  nodes = texts.start.nodes;
+  generator = texts.generator;
+  initial = load.numbers.initial;
+  tick_every = load.numbers.tick_every;
+  seed = load.numbers.seed;
+  due = All-weaker IsWritable (λ entry. entry.at ≤ 10000) (λ entry h. h.0) p.schedule load.entries;
+  others = All-weaker IsWritable (λ entry. LeadsToOthers entry.step) (λ entry h. h.1) p.schedule load.entries;
+}
+
+pub texts_from_can : (p : PlanValue) → CanBeWritten p → HasWritableTexts p
+texts_from_can p can = record { start = record { links = can.links; nodes = can.nodes }; generator = can.generator }
+
+pub load_from_can : (p : PlanValue) → CanBeWritten p → HasWritableLoad p
+load_from_can p can = record {
+  numbers = record { initial = can.initial; tick_every = can.tick_every; seed = can.seed };
+  entries = λ i d below. (can.due i d below, can.others i d below);
+}

@@ -1,0 +1,8 @@
+use Rattle.std.proofs.Common.{subst, sym}
+use Rattle.std.specs.Str.{IsUtf8}
+use Rattle.jh_edn.specs.Print.{print}
+use Rattle.jh_settings_texts.proofs.SettingsLemmas.{start_utf8}
+use Rattle.jh_settings_texts.proofs.printing.start_text.Goals as goal
+
+pub printed-requires : goal.printed-requires
+printed-requires c = subst (λ x. IsUtf8 (print x)) (sym c.in_ok-value.ensures) (start_utf8 c.args.env.now c.requires)

@@ -1,0 +1,91 @@
+//! What is printed of the start, of the generator and of the entries of a schedule, each a text
+//! that settings have.
+
+ghost use Rattle.std.specs.Prelude.{◌≡◌, ◌≤◌, Some, IfOk, length, string_bytes};
+ghost use Rattle.std.specs.Str.{IsUtf8};
+ghost use Rattle.jh_edn.specs.Print.{print};
+ghost use Rattle.jh_edn.specs.Printable.{IsPrintable};
+ghost use Rattle.jh_edn.specs.Spelling.{depth_limit};
+ghost use Rattle.jh_edn.specs.View.{view};
+ghost use Rattle.jh_env.specs.Names.{AreNodeNames};
+ghost use Rattle.jh_env.specs.TextLaws.{CanStart};
+ghost use Rattle.jh_env.specs.TextWritten.{text_of};
+ghost use Rattle.jh_nemesis.specs.Steps.{FitsNodes};
+ghost use Rattle.jh_gen.specs.GeneratorText.{parsed_generator};
+ghost use Rattle.jh_gen.specs.View.{generator_of};
+ghost use Rattle.jh_gen_texts.specs.GeneratorWritten.{text_of_generator};
+ghost use Rattle.jh_laws.specs.StepLines.{IsStepOver};
+ghost use Rattle.jh_settings_texts.specs.DocumentWritten.{entry_value};
+ghost use Rattle.jh_settings_texts.specs.SettingsWritten.{LeadsToOthers};
+
+use crate::steps::is_step_over;
+use jh_edn::{Value, Values, write};
+use jh_env::{Env, Nodes, value_of_env};
+use jh_gen::Gen;
+use jh_gen_texts::value_of_gen;
+use jh_simnode::Entry;
+use jh_step_texts::value_of_step;
+use std::alloc::{AllocError, Global};
+
+/// What is printed of a value, where that is UTF-8.
+fn printed(alloc: Global, value: &Value) -> Result<String, AllocError>
+    requires { IsUtf8 (print (view value.now)) }
+    ensures { IfOk result (λ text. string_bytes text ≡ print (view value.now)) }
+{
+    let mut bytes = Vec::new(alloc);
+    if write(value, &mut bytes).is_err() {
+        return Err(AllocError);
+    }
+    match String::from_utf8(bytes) {
+        Ok(text) => Ok(text),
+        Err(_) => unreachable!(),
+    }
+}
+
+/// What is printed of an environment that can start.
+pub(crate) fn start_text(alloc: Global, env: &Env) -> Result<String, AllocError>
+    requires { CanStart env.now }
+    ensures { IfOk result (λ text. string_bytes text ≡ print (text_of env.now)) }
+{
+    let value = value_of_env(alloc, env)?;
+    printed(alloc, &value)
+}
+
+/// What is printed of a generator, whose text is read back as this generator.
+pub(crate) fn generator_text(alloc: Global, source: &Gen) -> Result<String, AllocError>
+    requires { IsPrintable depth_limit (text_of_generator (generator_of source.now)) }
+    ensures text { IfOk result
+        (λ text. string_bytes text ≡ print (text_of_generator (generator_of source.now))) }
+    ensures read_back { IfOk result
+        (λ _. parsed_generator (text_of_generator (generator_of source.now))
+        ≡ Some (generator_of source.now)) }
+{
+    let value = value_of_gen(alloc, source)?;
+    printed(alloc, &value)
+}
+
+/// The value of an entry over these nodes: AT and STEP.
+fn value_of_entry(alloc: Global, nodes: &Nodes, entry: &Entry) -> Result<Value, AllocError>
+    requires { FitsNodes (length nodes.now) entry.now.step }
+    ensures { IfOk result (λ value. view value ≡ entry_value nodes.now entry.now) }
+{
+    let mut parts = Vec::new(alloc);
+    parts.push(Value::Int(i64::from(entry.at)))?;
+    parts.push(value_of_step(alloc, nodes, &entry.step)?)?;
+    Ok(Value::Vector(Values::of(parts)))
+}
+
+/// What is printed of an entry over these nodes, whose step has a text over them.
+pub(crate) fn entry_text(alloc: Global, nodes: &Nodes, entry: &Entry) -> Result<String, AllocError>
+    requires named { AreNodeNames nodes.now }
+    requires fits { FitsNodes (length nodes.now) entry.now.step }
+    requires due { entry.now.at ≤ 10000 }
+    requires others { LeadsToOthers entry.now.step }
+    ensures text { IfOk result
+        (λ text. string_bytes text ≡ print (entry_value nodes.now entry.now)) }
+    ensures over { IfOk result (λ _. IsStepOver (length nodes.now) entry.now.step) }
+{
+    is_step_over(nodes, &entry.step);
+    let value = value_of_entry(alloc, nodes, entry)?;
+    printed(alloc, &value)
+}

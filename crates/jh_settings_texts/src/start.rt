@@ -1,0 +1,80 @@
+//! Whether an environment is as one may be at a start, so that its text is read as a start.
+
+ghost use Rattle.std.specs.Prelude.{◌↔◌, All, IfSome, IsTrue};
+ghost use Rattle.jh_env.specs.Starting.{IsStartingLink, IsStartingNode};
+ghost use Rattle.jh_settings_texts.specs.StartInside.{IsStarting, MayStartLink, MayStartNode};
+
+use jh_env::{Env, Link, Node, NodeCell};
+
+/// The greatest delay of a link at a start, in milliseconds.
+const MAX_STARTING_DELAY: u64 = 60_000;
+
+/// The greatest level of loss of a link at a start, in twentieths.
+const MAX_STARTING_LOSS: u8 = 20;
+
+/// How far a clock is off at a start at most, either way, in milliseconds.
+const MAX_STARTING_OFFSET: i64 = 1_000_000_000_000;
+
+/// Whether a link, where there is one, is as it may be at a start.
+fn is_starting_link(link: Option<Link>) -> bool
+    ensures { IsTrue result ↔ IfSome link IsStartingLink }
+{
+    match link {
+        Some(link) => link.delay <= MAX_STARTING_DELAY && link.loss <= MAX_STARTING_LOSS,
+        None => true,
+    }
+}
+
+/// Whether a node, where there is one, is as it may be at a start.
+fn is_starting_node(cell: Option<NodeCell>) -> bool
+    ensures { IsTrue result ↔ IfSome cell IsStartingNode }
+{
+    match cell {
+        Some(cell) => (-MAX_STARTING_OFFSET..=MAX_STARTING_OFFSET).contains(&cell.clock),
+        None => true,
+    }
+}
+
+/// Whether each link from a node to these is as it may be at a start.
+fn links_may_start(env: &Env, from: Node, nodes: &[Node]) -> bool
+    ensures { IsTrue result ↔ All (MayStartLink env.now from) nodes.now }
+{
+    for to in nodes {
+        if !is_starting_link(env.link(from, *to)) {
+            return false;
+        }
+    }
+    true
+}
+
+/// Whether each link between these nodes is as it may be at a start.
+fn all_links_may_start(env: &Env, nodes: &[Node]) -> bool
+    ensures { IsTrue result ↔ All (λ from. All (MayStartLink env.now from) nodes.now) nodes.now }
+{
+    for from in nodes {
+        if !links_may_start(env, *from, nodes) {
+            return false;
+        }
+    }
+    true
+}
+
+/// Whether each of these nodes is as it may be at a start.
+fn nodes_may_start(env: &Env, nodes: &[Node]) -> bool
+    ensures { IsTrue result ↔ All (MayStartNode env.now) nodes.now }
+{
+    for node in nodes {
+        if !is_starting_node(env.node(*node)) {
+            return false;
+        }
+    }
+    true
+}
+
+/// Whether each link and each node is as it may be at a start.
+pub(crate) fn may_start(env: &Env) -> bool
+    ensures { IsTrue result ↔ IsStarting env.now }
+{
+    let nodes = env.nodes().all();
+    all_links_may_start(env, nodes.as_slice()) && nodes_may_start(env, nodes.as_slice())
+}
