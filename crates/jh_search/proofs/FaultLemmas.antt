@@ -1,6 +1,6 @@
 -- The links between two sides of an order, and why a fault of links or nodes that are there is refused.
 use Rattle.std.proofs.Common.{◌≡◌, ℕ, ◌<◌, ◌≤◌, true, false, List, [], ◌∷◌, ◌++◌, get_or, length, take, drop, refl, sym, ap, subst, ◌∙◌, inl, inr, arith}
-use Rattle.std.specs.Prelude.{◌≢◌, ◌||◌, if◌then◌else◌, ℤ, Bool, map, IsPermutation, IfErr, IfOk, MatchResult, Result, Ok, Err}
+use Rattle.std.specs.Prelude.{◌≢◌, if◌then◌else◌, ℤ, Bool, map, IsPermutation, IfErr, IfOk, MatchResult, Result, Ok, Err}
 use lib.Seq.{length-take-le}
 use Rattle.std.specs.List.{All, AllPairs, Contains, list_any}
 use Rattle.std.proofs.lemmas.Bool.{both_ways as differ, eqb-true, or_from, or_parts}
