@@ -4,7 +4,7 @@
 -- the order of values, and of what is not above one another
 pub use Rattle.jh_edn.proofs.OrderLemmas.{edn_total, below_order}
 -- a stable sort gives the list in order, also by a key
-pub use Rattle.jh_edn.proofs.SortLemmas.{sorted_is, map_in_order, in_order_ascends}
+pub use Rattle.jh_edn.proofs.SortLemmas.{sorted_is, map_in_order, in_order_ascends, in_order_is}
 pub use Rattle.jh_edn.proofs.NormalListLemmas.{held_below, sorted_items}
 -- the items of a list are its values
 pub use Rattle.jh_edn.proofs.SequenceLemmas.{list_of-items_of}

@@ -11,5 +11,6 @@ pub mod TextShapeLemmas
 pub mod TextLawLemmas
 pub mod NameLemmas
 pub mod FaultLemmas
+pub mod ApartLemmas
 pub mod StartLemmas
 pub mod SameLemmas

@@ -4,6 +4,7 @@ pub mod Names
 pub mod Faults
 pub mod EffectsInside
 pub mod FaultInside
+pub mod FaultOrder
 pub mod Overlay
 pub mod Starting
 pub mod StartInside

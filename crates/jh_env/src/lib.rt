@@ -3,6 +3,7 @@
 #![tactic(auto)]
 
 mod environment;
+mod fault_order;
 mod faults;
 mod laws;
 mod names;

@@ -7,7 +7,7 @@ use Rattle.jh_edn.specs.Spelling.{SpellsAll}
 use Rattle.jh_env.specs.Cells.{Table}
 use Rattle.jh_env.specs.Faults.{FaultValue, FitsCount, IsFault, is_self_link}
 use Rattle.jh_env.specs.Faults.{Cut, Slow, Loss, Fix, Pause, Kill, Bump}
-use Rattle.jh_step_texts.specs.FaultWritten.{fault_in_order}
+pub use Rattle.jh_step_texts.specs.StepWritten.{step_in_order}
 use Rattle.jh_env.specs.TextCells.{IsTextOf}
 use Rattle.jh_step_texts.specs.FaultText.{FaultSpelling, fault_spelling, parsed_fault}
 use Rattle.jh_step_texts.specs.StepText.{parsed_step}
@@ -39,11 +39,6 @@ IsStepOver count (Withdraw id) = id < 2 ^ 32
 IsStepOver count WithdrawAll = Unit {0}
 IsStepOver count Undo = Unit {0}
 IsStepOver count Redo = Unit {0}
-
--- the same step, with the links, nodes or bumps of its fault in order
-abbrev pub step_in_order : Step → Step
-step_in_order (Begin id fault) = Begin id (fault_in_order fault)
-step_in_order step = step
 
 -- the value's fault is this one, where these are the names of the nodes
 abbrev pub IsTextOfFault : Edn → List (List ℕ) → FaultValue → Type 0

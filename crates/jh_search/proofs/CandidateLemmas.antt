@@ -1,22 +1,32 @@
 -- What is true of the entries and kinds of a candidate.
-use Rattle.std.proofs.Common.{◌≡◌, ℕ, ◌+◌, ◌<◌, Bool, true, false, List, ◌∷◌, length, length-append, take, drop, refl, ap, arith}
+use Rattle.std.proofs.Common.{◌≡◌, ℕ, ◌+◌, ◌<◌, Bool, true, false, List, [], ◌∷◌, ◌≤◌, ◌^◌, length, length-append, map, take, drop, refl, ap, subst, sym, arith}
 use Rattle.std.specs.Prelude.{◌||◌, not, nat_lt, if◌then◌else◌}
-use Rattle.std.specs.List.{fold, insert, position_or_len, range_with_len}
+use Rattle.std.specs.List.{list_any, fold, insert, position_or_len, range_with_len}
 use Rattle.std.proofs.lemmas.Bool.{and_parts, ltb-true}
-use Rattle.std.proofs.lemmas.List.{take-append-drop}
-use Rattle.std.proofs.lemmas.List.Elements.{All-append, All-cons, All-drop, All-take}
+use Rattle.std.proofs.lemmas.List.{length-map, take-append-drop}
+use Rattle.std.proofs.lemmas.List.Elements.{All-append, All-cons, All-drop, All-map, All-take, All-weaker}
 use Rattle.std.proofs.lemmas.List.Sums.{fold_push}
 use Rattle.jh_nemesis.specs.Steps.{FitsNodes}
+use Rattle.jh_nemesis.specs.declared.steps.Step.{Step}
+use Rattle.jh_nemesis.specs.declared.steps.Step.TheVariants.{Begin, Withdraw, WithdrawAll, Undo, Redo}
+use Rattle.jh_step_texts.specs.StepWritten.{step_in_order}
+use Rattle.jh_env.specs.FaultOrder.{fault_in_order, is_link_before}
+use Rattle.jh_step_texts.proofs.FaultOrderLemmas.{in_order_fits, in_order_stays}
 use Rattle.jh_step_texts.proofs.LinkLemmas.{all_from, kept, range_more}
 use Rattle.jh_simnode.specs.declared.schedule.Entry.{Entry}
 use Rattle.jh_simnode.specs.Limits.{max_entries}
 use Rattle.jh_simnode.specs.Plans.{PlanValue, IsFit, RefusesPlan}
 use Rattle.jh_simnode.specs.declared.plan.PlanError.TheVariants as PlanError
+use Rattle.jh_env.specs.Faults.{FaultValue, is_self_link}
+use Rattle.jh_env.specs.Faults.{Cut, Slow, Loss, Fix, Pause, Kill, Bump}
+use Rattle.jh_laws.specs.StepLines.{links_of}
+use Rattle.jh_laws.proofs.OrderLemmas.{none_in_order}
+use Rattle.jh_settings_texts.specs.SettingsWritten.{CanBeWritten, LeadsToOthers, entry_in_order, plan_in_order}
 use Rattle.jh_search.specs.declared.kinds.Kind.{Kind}
 use Rattle.jh_search.specs.declared.kinds.Palette.{Palette}
 use Rattle.jh_search.specs.declared.options.Options.{Options}
 use Rattle.jh_search.specs.Candidates.{candidate_plan, entries_with, entries_with_random}
-use Rattle.jh_search.specs.CandidatesInside.{AreEntriesFor}
+use Rattle.jh_search.specs.CandidatesInside.{AreEntriesFor, CanBeSaid}
 use Rattle.jh_search.specs.FaultsInside.{HasNamed, HaveNamed}
 use Rattle.jh_search.specs.Kinds.{all_kinds, has_kind, is_drawn, is_on_links, kinds_drawn}
 
@@ -41,8 +51,8 @@ drawn_named palette count =
 
 -- entries with one more are such as a schedule of the plan may have
 pub one_entry_more : (p : PlanValue) (entries : List Entry) (entry : Entry) → AreEntriesFor p entries → FitsNodes (length p.env.names) entry.step
-    → AreEntriesFor p (entries_with entries entry)
-one_entry_more p entries entry are fits =
+    → CanBeSaid entry → AreEntriesFor p (entries_with entries entry)
+one_entry_more p entries entry are fits said =
     let P : Entry → Type 0 = λ e. FitsNodes (length p.env.names) e.step in
     let place = position_or_len (λ (other : Entry). nat_lt entry.at other.at) entries in
     let whole = ap length (take-append-drop place entries) in
@@ -53,6 +63,8 @@ one_entry_more p entries entry are fits =
         few = (let below : length entries < max_entries = ltb-true (length entries) max_entries room in omega (arith, whole, parts, longer, below));
         fit = All-append P (take place entries) (entry ∷ drop place entries) (All-take P place entries are.fit)
             (All-cons P entry (drop place entries) fits (All-drop P place entries are.fit));
+        said = λ own. All-append CanBeSaid (take place entries) (entry ∷ drop place entries) (All-take CanBeSaid place entries (are.said own))
+            (All-cons CanBeSaid entry (drop place entries) said (All-drop CanBeSaid place entries (are.said own)));
       }
       | false ↦ λ full. are
     ] refl
@@ -75,3 +87,72 @@ fit_replanned p entries seed fit are = record {
   generator = fit.generator;
   steps = are.fit;
 }
+
+-- in order, a step fits where it did
+step_fits : (count : ℕ) (step : Step) → FitsNodes count step → FitsNodes count (step_in_order step)
+step_fits count (Begin id fault) fits = in_order_fits count fault fits
+step_fits count (Withdraw id) fits = tt
+step_fits count WithdrawAll fits = tt
+step_fits count Undo fits = tt
+step_fits count Redo fits = tt
+
+-- in order, no link of a fault leads from a node to itself where none did
+fault_leads : (fault : FaultValue) → list_any is_self_link (links_of fault) ≡ false → list_any is_self_link (links_of (fault_in_order fault)) ≡ false
+fault_leads (Cut links) none = none_in_order is_link_before is_self_link links none
+fault_leads (Slow ms links) none = none_in_order is_link_before is_self_link links none
+fault_leads (Loss level links) none = none_in_order is_link_before is_self_link links none
+fault_leads (Fix ms links) none = none_in_order is_link_before is_self_link links none
+fault_leads (Pause nodes) none = refl
+fault_leads (Kill nodes) none = refl
+fault_leads (Bump bumps) none = refl
+
+step_leads : (step : Step) → LeadsToOthers step → LeadsToOthers (step_in_order step)
+step_leads (Begin id fault) others = fault_leads fault others
+step_leads (Withdraw id) others = tt
+step_leads WithdrawAll others = tt
+step_leads Undo others = tt
+step_leads Redo others = tt
+
+-- in order, entries are such as a schedule of the plan may have
+pub all_in_order : (p : PlanValue) (entries : List Entry) → AreEntriesFor p entries → AreEntriesFor p (map entry_in_order entries)
+all_in_order p entries are =
+    let P : Entry → Type 0 = λ e. FitsNodes (length p.env.names) e.step in
+    record {
+      few = subst (λ n. n ≤ max_entries) (sym (length-map entries entry_in_order)) are.few;
+      fit = All-map P entry_in_order entries
+          (All-weaker P (λ e. P (entry_in_order e)) (λ e. step_fits (length p.env.names) e.step) entries are.fit);
+      said = λ own.
+          All-map CanBeSaid entry_in_order entries
+          (All-weaker CanBeSaid (λ e. CanBeSaid (entry_in_order e)) (λ e said. (said.0, step_leads e.step said.1)) entries (are.said own));
+    }
+
+-- what is in order stays as it is
+step_stays : (step : Step) → step_in_order (step_in_order step) ≡ step_in_order step
+step_stays (Begin id fault) = ap (Begin id) (in_order_stays fault)
+step_stays (Withdraw id) = refl
+step_stays WithdrawAll = refl
+step_stays Undo = refl
+step_stays Redo = refl
+
+entries_stay : (entries : List Entry) → map entry_in_order (map entry_in_order entries) ≡ map entry_in_order entries
+entries_stay [] = refl
+entries_stay (e ∷ es) = λ i. record e { step = step_stays e.step i } ∷ entries_stay es i
+
+pub plan_stays : (p : PlanValue) → plan_in_order (plan_in_order p) ≡ plan_in_order p
+plan_stays p = ap (λ schedule. record p { schedule = schedule }) (entries_stay p.schedule)
+
+-- settings can say a plan with other entries where they can say each of these
+pub replanned_written : (p : PlanValue) (entries : List Entry) (seed : ℕ) → CanBeWritten p → seed < 2 ^ 63 → AreEntriesFor p entries
+    → CanBeWritten (candidate_plan p entries seed)
+replanned_written p entries seed can small are =
+    let said = are.said (λ i d below. (can.due i d below, can.others i d below)) in
+    record {
+      links = can.links;
+      nodes = can.nodes;
+      generator = can.generator;
+      initial = can.initial;
+      tick_every = can.tick_every;
+      seed = small;
+      due = λ i d below. (said i d below).0;
+      others = λ i d below. (said i d below).1;
+    }

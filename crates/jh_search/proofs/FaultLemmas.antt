@@ -1,12 +1,13 @@
 -- The links between two sides of an order, and why a fault of links or nodes that are there is refused.
 use Rattle.std.proofs.Common.{◌≡◌, ℕ, ◌<◌, ◌≤◌, true, false, List, [], ◌∷◌, ◌++◌, get_or, length, take, drop, refl, sym, ap, subst, ◌∙◌, inl, inr, arith}
-use Rattle.std.specs.Prelude.{◌≢◌, ℤ, Bool, map, IsPermutation, IfErr, IfOk, MatchResult, Result, Ok, Err}
+use Rattle.std.specs.Prelude.{◌≢◌, if◌then◌else◌, ℤ, Bool, map, IsPermutation, IfErr, IfOk, MatchResult, Result, Ok, Err}
 use lib.Seq.{length-take-le}
 use Rattle.std.specs.List.{All, AllPairs, Contains, list_any}
-use Rattle.std.proofs.lemmas.Bool.{both_ways as differ, eqb-true}
+use Rattle.std.proofs.lemmas.Bool.{both_ways as differ, eqb-true, or_from, or_parts}
 use Rattle.std.proofs.lemmas.List.{get_or-map, get_or-take, length-map, take-append-drop}
 use Rattle.std.proofs.lemmas.List.Elements.{All-nil, All-cons, All-append, All-map, All-take, All-contains, Contains-append_left, Contains-append_right}
-use Rattle.jh_env.specs.Faults.{AreApart, IsBumpAmount, RefusesBumps, RefusesLinks, RefusesNodes, is_unknown_bump, is_unknown_node, is_same_bumped}
+use Rattle.std.proofs.lemmas.List.Folds.{list_any-append}
+use Rattle.jh_env.specs.Faults.{FaultValue, AreApart, kept_list, kept_links, is_self_link, is_same_link, IsBumpAmount, RefusesBumps, RefusesLinks, RefusesNodes, is_unknown_bump, is_unknown_node, is_same_bumped}
 use Rattle.jh_env.specs.declared.faults.FaultError.TheVariants as FaultError
 use Rattle.jh_env.proofs.FaultLemmas.{known_bumps, known_nodes}
 use Rattle.jh_grudge.specs.Grudges.{JoinsTwoOf}
@@ -16,7 +17,8 @@ use Rattle.jh_step_texts.specs.NamedFaults.{AreLinksAmong}
 use Rattle.jh_step_texts.proofs.FaultTextLemmas.{cut_refused}
 use Rattle.jh_step_texts.proofs.LinkLemmas.{all_pairs_head, all_pairs_tail, contains_cons, contains_head, contains_none, contains_tail, some_of_any}
 use Rattle.jh_step_texts.proofs.GrudgeLemmas.{made_among, order_below, order_distinct, order_long}
-use Rattle.jh_search.specs.FaultsInside.{AreNodesOf}
+use Rattle.jh_laws.specs.StepLines.{links_of}
+use Rattle.jh_search.specs.FaultsInside.{AreNodesOf, HasNoSelfLink}
 use Rattle.jh_search.specs.RandomFaults.{links_both_ways, links_between, links_apart, first_link}
 
 -- a link joins two different nodes of n
@@ -162,3 +164,19 @@ taken_nodes n k order shuffled few =
       below = All-take (λ a. a < n) k order (order_below n order shuffled);
       distinct = taken_distinct k order (omega (arith, long, few)) (order_distinct n order shuffled);
     }
+
+-- what no link is, none of those that are kept is
+any_kept : {X : Type 0} (p : X → Bool) (same : X → X → Bool) (kept xs : List X) → list_any p kept ≡ false → list_any p xs ≡ false
+    → list_any p (kept_list same kept xs) ≡ false
+any_kept p same kept [] none more = none
+any_kept p same kept (x ∷ xs) none more =
+    let parts = or_parts (p x) (list_any p xs) more in
+    let last = or_from (p x) false parts.0 refl in
+    elim (list_any (λ k. same k x) kept) as (λ b. list_any p (kept_list same (if b then kept else kept ++ x ∷ []) xs) ≡ false) [
+      | true ↦ any_kept p same kept xs none parts.1
+      | false ↦ any_kept p same (kept ++ x ∷ []) xs (list_any-append p kept (x ∷ []) ∙ or_from (list_any p kept) (list_any p (x ∷ [])) none last) parts.1
+    ]
+
+-- a fault of links of which none leads from a node to itself
+pub none_to_itself : (links : List (ℕ × ℕ)) (fault : FaultValue) → links_of fault ≡ kept_links links → list_any is_self_link links ≡ false → HasNoSelfLink fault
+none_to_itself links fault is none = ap (list_any is_self_link) is ∙ any_kept is_self_link is_same_link [] links refl none

@@ -1,6 +1,7 @@
 -- The candidates of a search (this project's own): plans that are numbered from 0, each with the
 -- seed of a given plan raised by its number, and with random faults among the entries of its
--- schedule.
+-- schedule. Each fault of a candidate, also one of the plan's own, has its links, nodes or bumps in
+-- the order of its text, so that what is written of a candidate means that candidate.
 use Rattle.std.specs.Prelude.{ℕ, ◌+◌, ◌-◌, ◌/◌, ◌%◌, ◌^◌, ◌==◌, Bool, nat_lt, List, length}
 use Rattle.std.specs.Prelude.{slice_get, Option, Some, None, if◌then◌else◌}
 use Rattle.std.specs.List.{fold, insert, position_or_len, range_with_len}
@@ -10,6 +11,7 @@ use Rattle.jh_nemesis.specs.declared.steps.Step.TheVariants.{Redo}
 use Rattle.jh_simnode.specs.declared.schedule.Entry.{Entry}
 use Rattle.jh_simnode.specs.Limits.{max_entries}
 use Rattle.jh_simnode.specs.Plans.{PlanValue}
+use Rattle.jh_settings_texts.specs.SettingsWritten.{plan_in_order}
 use Rattle.jh_search.specs.declared.draws.Draw.{Draw}
 use Rattle.jh_search.specs.declared.kinds.Kind.{Kind}
 use Rattle.jh_search.specs.declared.options.Options.{Options}
@@ -121,7 +123,8 @@ seed_of p candidate = (p.seed + candidate) % 2 ^ 63
 abbrev pub candidate_plan : PlanValue → List Entry → ℕ → PlanValue
 candidate_plan p schedule seed = record p { schedule = schedule; seed = seed }
 
--- the candidate of this number
+-- the candidate of this number, with what each fault of its schedule names in order
 abbrev pub candidate_of : PlanValue → Options → ℕ → PlanValue
 candidate_of p options candidate =
-    candidate_plan p (random_schedule p options (seed_of p candidate)) (seed_of p candidate)
+    plan_in_order
+    (candidate_plan p (random_schedule p options (seed_of p candidate)) (seed_of p candidate))

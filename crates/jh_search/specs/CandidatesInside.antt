@@ -5,8 +5,15 @@ use Rattle.jh_nemesis.specs.Steps.{FitsNodes}
 use Rattle.jh_simnode.specs.declared.schedule.Entry.{Entry}
 use Rattle.jh_simnode.specs.Limits.{max_entries}
 use Rattle.jh_simnode.specs.Plans.{PlanValue}
+use Rattle.jh_settings_texts.specs.SettingsWritten.{LeadsToOthers}
 
--- a schedule of the plan may have these entries
+-- settings can say the entry
+abbrev pub CanBeSaid : Entry → Type 0
+CanBeSaid entry = (entry.at ≤ 10000) × LeadsToOthers entry.step
+
+-- A schedule of the plan may have these entries, and settings can say them where they can say the
+-- plan's own.
 pub record AreEntriesFor (p : PlanValue) (entries : List Entry) : Type 0 where
   pub few : length entries ≤ max_entries
   pub fit : All (λ entry. FitsNodes (length p.env.names) entry.step) entries
+  pub said : All CanBeSaid p.schedule → All CanBeSaid entries

@@ -3,13 +3,14 @@
 
 ghost use Rattle.std.specs.Prelude.{◌≡◌, ◌<◌, ◌≤◌, ◌+◌, ◌%◌, ◌^◌, ℕ, IfErr, IfOk, Ok, OnOk, length};
 ghost use Rattle.jh_simnode.specs.declared.plan.PlanError.TheVariants.{OutOfMemory};
+ghost use Rattle.jh_settings_texts.specs.SettingsWritten.{CanBeWritten, plan_in_order};
 ghost use Rattle.jh_search.specs.Candidates as rule;
 ghost use Rattle.jh_search.specs.CandidatesInside.{AreEntriesFor};
 ghost use Rattle.jh_search.specs.FaultsInside.{HasNamed, HaveNamed};
 ghost use Rattle.jh_search.specs.Draws.{numbers_after};
 
 use crate::draws::{Draw, next, next_draw, numbers_of};
-use crate::entries::{greatest_id, put_entry};
+use crate::entries::{entries_in_order, greatest_id, put_entry};
 use crate::kinds::{Kind, kinds_of};
 use crate::options::Options;
 use crate::random_faults::fault_drawn;
@@ -30,6 +31,7 @@ fn fault_id(last_id: u32, fault: u32) -> u32
 fn calls_before_heal(plan: &Plan) -> u32
     ensures at { result ≡ rule.calls_before_heal plan.now }
     ensures within { (1 ≤ result) × (result ≤ plan.now.ops) }
+    ensures few { result ≤ 10000 }
 {
     plan.ops() - plan.ops() / 4
 }
@@ -38,13 +40,15 @@ fn calls_before_heal(plan: &Plan) -> u32
 fn calls_before_begin(plan: &Plan, draw: Draw) -> u32
     ensures at { result ≡ rule.calls_before_begin plan.now draw }
     ensures within { result < plan.now.ops }
+    ensures few { result ≤ 10000 }
 {
     (draw.begin % u64::from(calls_before_heal(plan))) as u32
 }
 
 /// After how many calls it is withdrawn.
 fn calls_before_end(plan: &Plan, draw: Draw) -> u32
-    ensures { result ≡ rule.calls_before_end plan.now draw }
+    ensures at { result ≡ rule.calls_before_end plan.now draw }
+    ensures few { result ≤ 10000 }
 {
     let begin = calls_before_begin(plan, draw);
     let left = plan.ops() - begin;
@@ -160,7 +164,7 @@ fn put_heal(plan: &Plan, own: u64, entries: &mut Vec<Entry>) -> Result<(), Alloc
     put_entry(entries, heal)
 }
 
-/// The entries of a candidate with this seed.
+/// The entries of a candidate with this seed, each fault as it was drawn or given.
 fn random_entries(
     alloc: Global,
     plan: &Plan,
@@ -233,10 +237,14 @@ fn seed_of(plan: &Plan, number: u64) -> u64
 
 /// The candidate of this number, from 0: the plan with its seed raised by the number, around 2^63,
 /// and with random faults among the entries of its schedule. A schedule has at most 1,024 entries;
-/// what it has no room for is left out.
+/// what it has no room for is left out. Each fault, also one of the plan's own, has its links, nodes
+/// or bumps in the order of its text.
 ///
-/// Takes time for each fault and for the entries that stand behind it, and memory for the whole
-/// plan.
+/// Takes time for each fault and for the entries that stand behind it, and to sort what each fault
+/// names; and memory for the whole plan.
+///
+/// Settings that can say the plan can say the candidate, and what is read of them is the candidate
+/// again.
 ///
 /// Error: memory was refused.
 pub fn candidate(
@@ -245,9 +253,13 @@ pub fn candidate(
     options: &Options,
     number: u64,
 ) -> Result<Plan, AllocError>
-    ensures { IfOk result (λ made. made ≡ rule.candidate_of plan.now options.now number) }
+    ensures candidate { IfOk result
+        (λ made. made ≡ rule.candidate_of plan.now options.now number) }
+    ensures written { CanBeWritten plan.now → IfOk result CanBeWritten }
+    ensures read_back { IfOk result (λ made. plan_in_order made ≡ made) }
 {
     let seed = seed_of(plan, number);
-    let entries = random_entries(alloc, plan, *options, seed)?;
+    let drawn = random_entries(alloc, plan, *options, seed)?;
+    let entries = entries_in_order(alloc, &drawn)?;
     candidate_plan(alloc, plan, entries, seed)
 }

@@ -12,7 +12,7 @@ ghost use Rattle.jh_env.specs.declared.faults.FaultError.TheVariants.{OutOfMemor
 ghost use Rattle.jh_step_texts.specs.NamedFaults as named;
 ghost use Rattle.jh_step_texts.specs.NamedFaults.{AreLinksAmong};
 ghost use Rattle.jh_search.specs.RandomFaults as rule;
-ghost use Rattle.jh_search.specs.FaultsInside.{AreNodesOf, HasNamed};
+ghost use Rattle.jh_search.specs.FaultsInside.{AreNodesOf, HasNamed, HasNoSelfLink};
 
 use crate::draws::Draw;
 use crate::kinds::Kind;
@@ -210,6 +210,7 @@ fn cut(alloc: Global, nodes: &Nodes, draw: Draw) -> Result<Fault, AllocError>
     ensures made { IfOk result
         (λ fault. fault ≡ Cut (kept_links (rule.drawn_links (length nodes.now) draw))) }
     ensures fits { IfOk result (FitsCount (length nodes.now)) }
+    ensures others { IfOk result HasNoSelfLink }
 {
     let links = links_drawn(alloc, nodes, draw)?;
     made(Fault::cut(alloc, nodes, &links))
@@ -222,6 +223,7 @@ fn slow(alloc: Global, nodes: &Nodes, draw: Draw, ms: u64) -> Result<Fault, Allo
     ensures made { IfOk result
         (λ fault. fault ≡ Slow ms (kept_links (rule.drawn_links (length nodes.now) draw))) }
     ensures fits { IfOk result (FitsCount (length nodes.now)) }
+    ensures others { IfOk result HasNoSelfLink }
 {
     let links = links_drawn(alloc, nodes, draw)?;
     made(Fault::slow(alloc, nodes, &links, ms))
@@ -234,6 +236,7 @@ fn loss(alloc: Global, nodes: &Nodes, draw: Draw, level: u8) -> Result<Fault, Al
     ensures made { IfOk result
         (λ fault. fault ≡ Loss level (kept_links (rule.drawn_links (length nodes.now) draw))) }
     ensures fits { IfOk result (FitsCount (length nodes.now)) }
+    ensures others { IfOk result HasNoSelfLink }
 {
     let links = links_drawn(alloc, nodes, draw)?;
     made(Fault::loss(alloc, nodes, &links, level))
@@ -246,6 +249,7 @@ fn fix(alloc: Global, nodes: &Nodes, draw: Draw, ms: u64) -> Result<Fault, Alloc
     ensures made { IfOk result
         (λ fault. fault ≡ Fix ms (kept_links (rule.drawn_links (length nodes.now) draw))) }
     ensures fits { IfOk result (FitsCount (length nodes.now)) }
+    ensures others { IfOk result HasNoSelfLink }
 {
     let links = links_drawn(alloc, nodes, draw)?;
     made(Fault::fix(alloc, nodes, &links, ms))
@@ -295,6 +299,7 @@ pub(crate) fn fault_drawn(
     requires { HasNamed (length nodes.now) kind }
     ensures made { IfOk result (λ fault. fault ≡ rule.fault_drawn kind (length nodes.now) draw) }
     ensures fits { IfOk result (FitsCount (length nodes.now)) }
+    ensures others { IfOk result HasNoSelfLink }
 {
     let amount = draw.amount % 4;
     match kind {

@@ -138,7 +138,8 @@ fn joined(alloc: Global, seed: u64, lines: &[Line]) -> Option<Vec<u8>> {
     Some(text)
 }
 
-/// The seed of a candidate, and its entries in order. None: memory was refused.
+/// The seed of a candidate, and the texts of its entries. What a fault names stands in order in its
+/// text, and so it does in the candidate. None: memory was refused.
 pub fn plain_candidate(
     alloc: Global,
     plan: &Plan,

@@ -46,6 +46,22 @@ clients = 2
 ops = 1
 "#;
 
+/// Faults of its own that name links, nodes and bumps out of order.
+pub(crate) const TURNED: &str = r#"
+start = '{:nodes ["a" "b" "c"]}'
+store = "lww"
+workload = "register"
+generator = '[:forever :read]'
+clients = 3
+ops = 12
+seed = 5
+schedule = [
+  '[1 [:begin 1 [:loss 3 [["c" "a"] ["a" "c"] ["a" "b"]]]]]',
+  '[2 [:begin 2 [:pause ["b" "a"]]]]',
+  '[3 [:begin 3 [:bump {"c" 5, "a" 7}]]]',
+]
+"#;
+
 /// A majority keeps a register, and no entry stands in the schedule.
 pub(crate) const QUORUM: &str = r#"
 start = '{:nodes ["a" "b" "c"]}'

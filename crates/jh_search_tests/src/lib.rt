@@ -12,6 +12,8 @@ mod first;
 #[cfg(test)]
 mod fixtures;
 #[cfg(test)]
+mod order;
+#[cfg(test)]
 mod searches;
 #[cfg(test)]
 mod tasks;

@@ -15,7 +15,7 @@ use Rattle.jh_env.specs.Names.{AreNodeNames}
 use Rattle.jh_env.specs.Overlay.{EnvValue}
 use Rattle.jh_env.specs.TextLaws.{CanStart}
 use Rattle.jh_env.specs.TextWritten.{text_of}
-use Rattle.jh_step_texts.proofs.ApartLemmas.{links_kept, nodes_kept}
+use Rattle.jh_env.proofs.ApartLemmas.{links_kept, nodes_kept}
 use Rattle.jh_step_texts.proofs.FaultOrderLemmas.{in_order_fits}
 use Rattle.jh_nemesis.specs.Steps.{FitsNodes}
 use Rattle.jh_nemesis.specs.declared.steps.Step.{Step}

@@ -210,7 +210,8 @@ reaches_counted p zero r journal h = rw (h.0, h.1) (record { calls = refl; zeros
 reaches_counted p (suc n) r journal h =
     comes_counted p h.0 r h.1.0 journal (move_of p h.0 h.1.0) refl h.1.1.1 (reaches_counted p n h.0 h.1.0 h.1.1.0)
 
-ops_few : (w : Workload) → max_calls_of w ≤ 10000
+-- how many calls a plan has at most
+pub ops_few : (w : Workload) → max_calls_of w ≤ 10000
 ops_few Register = omega arith
 ops_few Counter = omega arith
 ops_few Set = omega arith

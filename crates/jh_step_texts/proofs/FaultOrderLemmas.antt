@@ -2,10 +2,14 @@
 use Rattle.std.proofs.Common.{◌≡◌, ℕ, ◌+◌, ◌<◌, Bool, true, false, cond, List, [], ◌∷◌, ◌++◌, fold, option_map, refl, sym, ap, ◌∙◌, arith}
 use Rattle.std.specs.Prelude.{ℤ, ◌+ℤ◌, pos, max, if◌then◌else◌, ◌==◌, ◌||◌}
 use Rattle.std.specs.List.{list_any}
-use Rattle.std.specs.List.Sorted.{IsPermutation}
 use Rattle.std.proofs.lemmas.Int.{ints}
-use Rattle.std.proofs.lemmas.List.Sorted.{IsPermutation-refl, IsPermutation-cons, IsPermutation-middle, IsPermutation-trans, list_any-IsPermutation, All-permutation}
+use Rattle.std.proofs.lemmas.List.Sorted.{list_any-IsPermutation, All-permutation}
+use Rattle.std.specs.Cmp.{IsStrictWeakOrder}
+use Rattle.std.proofs.lemmas.Cmp.{nat_cmp_total, on_total, then_total}
+use Rattle.std.proofs.lemmas.List.MinMax.{ranks_by}
 use Rattle.jh_edn.specs.Order.{put_in_order, in_order}
+use Rattle.jh_edn.proofs.CitedLemmas.{in_order_ascends, in_order_is}
+use Rattle.jh_env.proofs.ApartLemmas.{in_order_moves}
 use Rattle.jh_tables.specs.declared.cells.Life.TheVariants.{Running, Paused, Killed}
 use Rattle.jh_tables.specs.declared.cells.Link.{Link}
 use Rattle.jh_tables.specs.declared.cells.NodeCell.{NodeCell}
@@ -16,24 +20,7 @@ use Rattle.jh_step_texts.specs.FaultLaws.{DoesAs}
 use Rattle.jh_step_texts.specs.FaultWritten.{fault_in_order, is_link_before, is_node_before, is_bump_before}
 use Rattle.jh_env.specs.Overlay.{link_over, node_over, cuts, delay_after_fault, delay_by, loss_by, pauses, kills, bump_by, is_paused, is_killed}
 
--- ---- what stands in order
-
-put_moves : {X : Type 0} (lt : X → X → Bool) (x : X) (ys : List X) → IsPermutation (x ∷ ys) (put_in_order lt x ys)
-put_moves lt x [] = IsPermutation-refl (x ∷ [])
-put_moves lt x (y ∷ ys) =
-    elim (lt y x) as (λ t. IsPermutation (x ∷ y ∷ ys) (cond t (y ∷ put_in_order lt x ys) (x ∷ y ∷ ys))) [
-      | true ↦
-          IsPermutation-trans (x ∷ y ∷ ys) (y ∷ x ∷ ys) (y ∷ put_in_order lt x ys) (IsPermutation-middle (x ∷ []) y ys)
-          (IsPermutation-cons y (x ∷ ys) (put_in_order lt x ys) (put_moves lt x ys))
-      | false ↦ IsPermutation-refl (x ∷ y ∷ ys)
-    ]
-
--- the same things stand in order
-pub in_order_moves : {X : Type 0} (lt : X → X → Bool) (xs : List X) → IsPermutation xs (in_order lt xs)
-in_order_moves lt [] = IsPermutation-refl []
-in_order_moves lt (x ∷ xs) =
-    IsPermutation-trans (x ∷ xs) (x ∷ in_order lt xs) (put_in_order lt x (in_order lt xs))
-    (IsPermutation-cons x xs (in_order lt xs) (in_order_moves lt xs)) (put_moves lt x (in_order lt xs))
+-- ---- what is summed in order
 
 put_folds : {X Z : Type 0} (lt : X → X → Bool) (f : Z → X → Z) → ((z : Z) (x y : X) → f (f z x) y ≡ f (f z y) x) → (z : Z) (x : X) (ys : List X)
     → fold f z (put_in_order lt x ys) ≡ fold f z (x ∷ ys)
@@ -175,3 +162,29 @@ in_order_fits count (Fix ms links) fits = All-permutation (λ (l : ℕ × ℕ). 
 in_order_fits count (Pause nodes) fits = All-permutation (λ (n : ℕ). n < count) nodes _ (in_order_moves is_node_before nodes) fits
 in_order_fits count (Kill nodes) fits = All-permutation (λ (n : ℕ). n < count) nodes _ (in_order_moves is_node_before nodes) fits
 in_order_fits count (Bump bumps) fits = All-permutation (λ (b : ℕ × ℤ). b.0 < count) bumps _ (in_order_moves is_bump_before bumps) fits
+
+-- ---- in order again
+
+again : {X : Type 0} (lt : X → X → Bool) → IsStrictWeakOrder lt → (xs : List X) → in_order lt (in_order lt xs) ≡ in_order lt xs
+again lt o xs = in_order_is lt o (in_order lt xs) (in_order_ascends lt o xs)
+
+links_again : (links : List (ℕ × ℕ)) → in_order is_link_before (in_order is_link_before links) ≡ in_order is_link_before links
+links_again links =
+    let total = then_total (on_total (λ (l : ℕ × ℕ). l.0) nat_cmp_total) (on_total (λ (l : ℕ × ℕ). l.1) nat_cmp_total) in
+    again is_link_before (ranks_by total (λ (l : ℕ × ℕ). l)) links
+
+nodes_again : (nodes : List ℕ) → in_order is_node_before (in_order is_node_before nodes) ≡ in_order is_node_before nodes
+nodes_again nodes = again is_node_before (ranks_by nat_cmp_total (λ (n : ℕ). n)) nodes
+
+bumps_again : (bumps : List (ℕ × ℤ)) → in_order is_bump_before (in_order is_bump_before bumps) ≡ in_order is_bump_before bumps
+bumps_again bumps = again is_bump_before (ranks_by nat_cmp_total (λ (b : ℕ × ℤ). b.0)) bumps
+
+-- a fault that is in order stays as it is
+pub in_order_stays : (fault : FaultValue) → fault_in_order (fault_in_order fault) ≡ fault_in_order fault
+in_order_stays (Cut links) = ap Cut (links_again links)
+in_order_stays (Slow ms links) = ap (Slow ms) (links_again links)
+in_order_stays (Loss level links) = ap (Loss level) (links_again links)
+in_order_stays (Fix ms links) = ap (Fix ms) (links_again links)
+in_order_stays (Pause nodes) = ap Pause (nodes_again nodes)
+in_order_stays (Kill nodes) = ap Kill (nodes_again nodes)
+in_order_stays (Bump bumps) = ap Bump (bumps_again bumps)

@@ -3,4 +3,3 @@ pub mod LinkLemmas
 pub mod GrudgeLemmas
 pub mod FaultTextLemmas
 pub mod FaultOrderLemmas
-pub mod ApartLemmas

@@ -2,6 +2,7 @@
 -- that was named by a grudge as the cut that it is, links and nodes by place.
 use Rattle.std.specs.Prelude.{ℕ, pos, List, [], ◌∷◌, codes}
 use Rattle.jh_edn.specs.Edn.{Edn, int, keyword, vector, items_of}
+use Rattle.jh_env.specs.FaultOrder.{fault_in_order}
 use Rattle.jh_step_texts.specs.FaultWritten.{text_of_fault}
 use Rattle.jh_nemesis.specs.declared.steps.Step.{Step}
 use Rattle.jh_nemesis.specs.declared.steps.Step.TheVariants.{Begin, Withdraw, WithdrawAll, Undo}
@@ -19,3 +20,8 @@ step_values names Redo = keyword (codes "redo") ∷ []
 -- the text of a step over nodes of these names
 abbrev pub text_of_step : List (List ℕ) → Step → Edn
 text_of_step names step = vector (items_of (step_values names step))
+
+-- the same step, with the links, nodes or bumps of its fault in order
+abbrev pub step_in_order : Step → Step
+step_in_order (Begin id fault) = Begin id (fault_in_order fault)
+step_in_order step = step

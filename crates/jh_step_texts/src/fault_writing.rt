@@ -3,9 +3,6 @@
 
 ghost use Rattle.std.specs.Prelude.{◌≡◌, ◌<◌, length, map, IfOk};
 ghost use Rattle.std.specs.List.{All};
-ghost use Rattle.std.specs.List.Sorted.{IsPermutation};
-ghost use Rattle.std.specs.Ordering.{is_lt};
-ghost use Rattle.jh_edn.specs.Order.{in_order};
 ghost use Rattle.jh_edn.specs.View.{view, views, view_pairs};
 ghost use Rattle.jh_tables.specs.Plain.{fault_on_links, fault_on_nodes};
 ghost use Rattle.jh_env.specs.EffectsInside.{IsLinkAmount};
@@ -13,13 +10,11 @@ ghost use Rattle.jh_env.specs.Faults.{FitsCount};
 ghost use Rattle.jh_tables.specs.Faults.FaultValue.{Bump};
 ghost use Rattle.jh_step_texts.specs.FaultWritten as text;
 ghost use Rattle.jh_step_texts.specs.WritingInside.{link_fault_values};
-ghost use Rattle.jh_step_texts.specs.FaultWritten.{is_bump_before, fault_in_order, fault_values};
-ghost use Rattle.jh_step_texts.specs.FaultWritten.{text_of_fault};
+ghost use Rattle.jh_step_texts.specs.FaultWritten.{fault_values, text_of_fault};
 
 use jh_edn::{Pairs, Text, Value, Values};
 use jh_env::{Fault, LinkFault, Node, NodeFault, Nodes, PlainFault};
 use std::alloc::{AllocError, Global};
-use std::cmp::Ordering;
 
 /// The string with the name of a node.
 fn name_value(alloc: Global, nodes: &Nodes, node: Node) -> Result<Value, AllocError>
@@ -90,33 +85,6 @@ fn bump_pairs(
     Ok(pairs)
 }
 
-/// These, in ascending order.
-fn sorted<T: Copy + Ord + Drop>(alloc: Global, items: &[T]) -> Result<Vec<T>, AllocError>
-    ensures same { IfOk result (λ v. IsPermutation items.now v.items) }
-    ensures sorted { IfOk result (λ v. v.items ≡ in_order (λ x y. is_lt (T.cmp x y)) items.now) }
-{
-    let mut sorted = Vec::from_slice(alloc, items)?;
-    sorted.sort()?;
-    Ok(sorted)
-}
-
-/// The order of two bumps: by the places of their nodes.
-fn compare_bumps(x: &(Node, i64), y: &(Node, i64)) -> Ordering
-    ensures { is_lt result ≡ is_bump_before x.now y.now }
-{
-    x.0.cmp(&y.0)
-}
-
-/// These bumps, by the places of their nodes.
-fn sorted_bumps(alloc: Global, bumps: &[(Node, i64)]) -> Result<Vec<(Node, i64)>, AllocError>
-    ensures same { IfOk result (λ v. IsPermutation bumps.now v.items) }
-    ensures sorted { IfOk result (λ v. v.items ≡ in_order is_bump_before bumps.now) }
-{
-    let mut sorted = Vec::from_slice(alloc, bumps)?;
-    sorted.sort_by(compare_bumps)?;
-    Ok(sorted)
-}
-
 /// The keyword of a fault of links and its amount, before the links.
 fn link_fault_values(alloc: Global, kind: LinkFault) -> Result<Vec<Value>, AllocError>
     requires { IsLinkAmount kind }
@@ -141,7 +109,7 @@ fn link_fault_values(alloc: Global, kind: LinkFault) -> Result<Vec<Value>, Alloc
     Ok(values)
 }
 
-/// The values that are written of a fault of links, with its links in order.
+/// The values that are written of a fault of links.
 fn values_of_links(
     alloc: Global,
     nodes: &Nodes,
@@ -151,15 +119,14 @@ fn values_of_links(
     requires known { All (λ l. (l.0 < length nodes.now) × (l.1 < length nodes.now)) links.now }
     requires amount { IsLinkAmount kind }
     ensures { IfOk result (λ values. views values.items
-        ≡ fault_values nodes.now (fault_in_order (fault_on_links kind links.now))) }
+        ≡ fault_values nodes.now (fault_on_links kind links.now)) }
 {
-    let links = sorted(alloc, links)?;
     let mut values = link_fault_values(alloc, kind)?;
-    values.push(Value::Vector(Values::of(link_values(alloc, nodes, &links)?)))?;
+    values.push(Value::Vector(Values::of(link_values(alloc, nodes, links)?)))?;
     Ok(values)
 }
 
-/// The values that are written of a fault of nodes, with its nodes in order.
+/// The values that are written of a fault of nodes.
 fn values_of_nodes(
     alloc: Global,
     nodes: &Nodes,
@@ -168,19 +135,18 @@ fn values_of_nodes(
 ) -> Result<Vec<Value>, AllocError>
     requires { All (λ n. n < length nodes.now) named.now }
     ensures { IfOk result (λ values. views values.items
-        ≡ fault_values nodes.now (fault_in_order (fault_on_nodes kind named.now))) }
+        ≡ fault_values nodes.now (fault_on_nodes kind named.now)) }
 {
-    let named = sorted(alloc, named)?;
     let mut values = Vec::new(alloc);
     values.push(match kind {
         NodeFault::Pause => Value::keyword(alloc, "pause")?,
         NodeFault::Kill => Value::keyword(alloc, "kill")?,
     })?;
-    values.push(Value::Vector(Values::of(node_values(alloc, nodes, &named)?)))?;
+    values.push(Value::Vector(Values::of(node_values(alloc, nodes, named)?)))?;
     Ok(values)
 }
 
-/// The values that are written of a fault of bumps, with its bumps in order.
+/// The values that are written of a fault of bumps.
 fn values_of_bumps(
     alloc: Global,
     nodes: &Nodes,
@@ -188,13 +154,25 @@ fn values_of_bumps(
 ) -> Result<Vec<Value>, AllocError>
     requires { All (λ b. b.0 < length nodes.now) bumps.now }
     ensures { IfOk result
-        (λ values. views values.items ≡ fault_values nodes.now (fault_in_order (Bump bumps.now))) }
+        (λ values. views values.items ≡ fault_values nodes.now (Bump bumps.now)) }
 {
-    let bumps = sorted_bumps(alloc, bumps)?;
     let mut values = Vec::new(alloc);
     values.push(Value::keyword(alloc, "bump")?)?;
-    values.push(Value::Map(Pairs::of(bump_pairs(alloc, nodes, &bumps)?)))?;
+    values.push(Value::Map(Pairs::of(bump_pairs(alloc, nodes, bumps)?)))?;
     Ok(values)
+}
+
+/// The values that are written of a fault, in the order in which it holds its links, nodes or
+/// bumps.
+fn fault_values(alloc: Global, nodes: &Nodes, fault: &Fault) -> Result<Vec<Value>, AllocError>
+    requires { FitsCount (length nodes.now) fault.now }
+    ensures { IfOk result (λ values. views values.items ≡ fault_values nodes.now fault.now) }
+{
+    match fault.parts() {
+        PlainFault::OnLinks(kind, links) => values_of_links(alloc, nodes, *kind, links),
+        PlainFault::OnNodes(kind, named) => values_of_nodes(alloc, nodes, *kind, named),
+        PlainFault::Bump(bumps) => values_of_bumps(alloc, nodes, bumps),
+    }
 }
 
 /// The text of a fault on these nodes: `[:cut LINKS]`, `[:slow MS LINKS]`, `[:loss LEVEL LINKS]`,
@@ -209,10 +187,6 @@ pub fn value_of_fault(alloc: Global, nodes: &Nodes, fault: &Fault) -> Result<Val
     requires { FitsCount (length nodes.now) fault.now }
     ensures { IfOk result (λ value. view value ≡ text_of_fault nodes.now fault.now) }
 {
-    let values = match fault.parts() {
-        PlainFault::OnLinks(kind, links) => values_of_links(alloc, nodes, *kind, links)?,
-        PlainFault::OnNodes(kind, named) => values_of_nodes(alloc, nodes, *kind, named)?,
-        PlainFault::Bump(bumps) => values_of_bumps(alloc, nodes, bumps)?,
-    };
+    let values = fault_values(alloc, nodes, &fault.in_order(alloc)?)?;
     Ok(Value::Vector(Values::of(values)))
 }

@@ -28,8 +28,8 @@ pub fn named_faults_are_grudges()
 
 /// The order in which a fault was given its links, nodes or bumps makes no difference: with them in
 /// the order of its text it does what it did, whatever the faults before and after it, and fits the
-/// nodes that it fitted; and links or nodes that stand once are kept whole in that order, as
-/// `Fault::cut` and the like keep them.
+/// nodes that it fitted; links or nodes that stand once are kept whole in that order, as
+/// `Fault::cut` and the like keep them; and what is in that order stays as it is.
 pub fn order_changes_no_fault()
     ensures does { (fault : FaultValue) → DoesAs (fault_in_order fault) fault }
     ensures fits { (count : ℕ) (fault : FaultValue) → FitsCount count fault
@@ -38,4 +38,6 @@ pub fn order_changes_no_fault()
         → kept_links (in_order is_link_before links) ≡ in_order is_link_before links }
     ensures nodes_kept { (nodes : List ℕ) → AreApart is_same_node nodes
         → kept_nodes (in_order is_node_before nodes) ≡ in_order is_node_before nodes }
+    ensures stays { (fault : FaultValue)
+        → fault_in_order (fault_in_order fault) ≡ fault_in_order fault }
 {}

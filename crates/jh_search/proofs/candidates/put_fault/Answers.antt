@@ -13,7 +13,7 @@ returns-then-stays-clause-kept c =
     let names = c.nodes.ensures.names ∙ ap (λ env. env.names) c.environment.ensures.environment in
     let fits = subst (λ (names : List (List ℕ)). FitsCount (length names) c.in_ok-fault.fault) names c.in_ok-fault.ensures.fits in
     let begin : Entry = record { at = c.calls_before_begin.result; step = Begin c.args.id c.in_ok-fault.fault } in
-    subst (AreEntriesFor p) (sym c.in_ok-put_entry.ensures) (one_entry_more p c.args.entries.now.items begin c.requires.kept fits)
+    subst (AreEntriesFor p) (sym c.in_ok-put_entry.ensures) (one_entry_more p c.args.entries.now.items begin c.requires.kept fits (c.calls_before_begin.ensures.few, c.in_ok-fault.ensures.others))
 
 pub returns-clause-kept : goal.returns-clause-kept
 returns-clause-kept c =
@@ -22,5 +22,5 @@ returns-clause-kept c =
     let fits = subst (λ (names : List (List ℕ)). FitsCount (length names) c.in_ok-fault.fault) names c.in_ok-fault.ensures.fits in
     let begin : Entry = record { at = c.calls_before_begin.result; step = Begin c.args.id c.in_ok-fault.fault } in
     let end : Entry = record { at = c.calls_before_end.result; step = Withdraw c.args.id } in
-    let begun = subst (AreEntriesFor p) (sym c.in_ok-put_entry.ensures) (one_entry_more p c.args.entries.now.items begin c.requires.kept fits) in
-    on_ok_weaker c.put_entry-2.result (λ put. subst (AreEntriesFor p) (sym put) (one_entry_more p c.put_entry.new.entries.items end begun tt)) c.put_entry-2.ensures
+    let begun = subst (AreEntriesFor p) (sym c.in_ok-put_entry.ensures) (one_entry_more p c.args.entries.now.items begin c.requires.kept fits (c.calls_before_begin.ensures.few, c.in_ok-fault.ensures.others)) in
+    on_ok_weaker c.put_entry-2.result (λ put. subst (AreEntriesFor p) (sym put) (one_entry_more p c.put_entry.new.entries.items end begun tt (c.calls_before_end.ensures.few, tt))) c.put_entry-2.ensures

@@ -10,4 +10,4 @@ pub returns-clause-kept : goal.returns-clause-kept
 returns-clause-kept c =
     let p = c.args.plan.now in
     let heal : Entry = record { at = c.calls_before_heal.result; step = WithdrawAll } in
-    on_ok_weaker c.put_entry.result (λ put. subst (AreEntriesFor p) (sym put) (one_entry_more p c.args.entries.now.items heal c.requires.kept tt)) c.put_entry.ensures
+    on_ok_weaker c.put_entry.result (λ put. subst (AreEntriesFor p) (sym put) (one_entry_more p c.args.entries.now.items heal c.requires.kept tt (c.calls_before_heal.ensures.few, tt))) c.put_entry.ensures

@@ -3,7 +3,9 @@ use Rattle.std.proofs.lemmas.Result.{IfOk-weaker}
 use Rattle.jh_env.specs.Faults as env
 use Rattle.jh_env.specs.Faults.{FitsCount, Fix, kept_links}
 use Rattle.jh_step_texts.specs.NamedFaults.{AreLinksAmong}
-use Rattle.jh_search.proofs.FaultLemmas.{links_refused, made_so, only_memory, where_ok}
+use Rattle.jh_laws.specs.StepLines.{links_of}
+use Rattle.jh_search.specs.FaultsInside.{HasNoSelfLink}
+use Rattle.jh_search.proofs.FaultLemmas.{links_refused, made_so, none_to_itself, only_memory, where_ok}
 use Rattle.jh_search.proofs.random_faults.fix.Goals as goal
 
 pub made-requires : goal.made-requires
@@ -19,3 +21,8 @@ returns-clause-made c =
 
 pub returns-clause-fits : goal.returns-clause-fits
 returns-clause-fits c = made_so (FitsCount (length c.args.nodes.now)) c.fix.result c.made.result c.made.ensures c.fix.ensures.fits
+
+pub returns-clause-others : goal.returns-clause-others
+returns-clause-others c =
+    made_so HasNoSelfLink c.fix.result c.made.result c.made.ensures
+    (IfOk-weaker c.fix.result _ _ (λ fault given. none_to_itself c.deref.result.now fault (ap links_of given.0) given.1.1) (where_ok _ _ c.fix.result c.fix.ensures.made))

@@ -5,11 +5,11 @@ use Rattle.std.proofs.lemmas.List.MinMax.{ranks_by}
 use Rattle.std.proofs.lemmas.List.Sorted.{answers_always}
 use Rattle.jh_edn.specs.Order.{in_order}
 use Rattle.jh_edn.proofs.CitedLemmas.{sorted_is}
-use Rattle.jh_step_texts.specs.FaultWritten.{is_bump_before}
-use Rattle.jh_step_texts.proofs.fault_writing.sorted_bumps.Goals as goal
+use Rattle.jh_env.specs.FaultOrder.{is_bump_before}
+use Rattle.jh_env.proofs.fault_order.sorted_bumps.Goals as goal
 
-pub returns-clause-sorted : goal.returns-clause-sorted
-returns-clause-sorted c =
+pub returns : goal.returns
+returns c =
     let sorted = c.in_ok-sort_by.ensures in
     let ranks = ranks_by nat_cmp_total (λ (b : ℕ × ℤ). b.0) in
     sorted_is is_bump_before ranks c.in_ok-sorted.sorted.items c.sort_by.new.self.items

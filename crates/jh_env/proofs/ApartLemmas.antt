@@ -1,16 +1,35 @@
--- What stands once stands once in any order.
+-- Things in order: the same ones, and what stands once stands once in any order.
 use Rattle.std.proofs.Common.{◌≡◌, ℕ, ◌+◌, ◌<◌, ◌≤◌, Bool, true, false, cond, List, [], ◌∷◌, ◌++◌, length, append_assoc, refl, sym, ap, subst, ◌∙◌, arith, length-append}
-use Rattle.std.specs.Prelude.{if◌then◌else◌, ◌==◌, ◌||◌}
+use Rattle.std.specs.Prelude.{if◌then◌else◌, ◌==◌, ◌||◌, ℤ}
 use Rattle.std.specs.List.{list_any, sum_by}
+use Rattle.std.specs.List.Sorted.{IsPermutation}
 use Rattle.std.proofs.lemmas.Bool.{and_parts, and_from, eqb-true, eq-eqb, false≢true}
 use Rattle.std.proofs.lemmas.List.{append-nil}
-use Rattle.std.proofs.lemmas.List.Sorted.{sum_by-IsPermutation}
+use Rattle.std.proofs.lemmas.List.Sorted.{All-permutation, IsPermutation-refl, IsPermutation-cons, IsPermutation-middle, IsPermutation-trans, sum_by-IsPermutation}
 use Rattle.std.proofs.lemmas.List.Sums.{sum_by-append, sum_by-cons}
 use Rattle.std.proofs.Math.Seq.{get_or-append_seam, take-append_seam}
-use Rattle.jh_edn.specs.Order.{in_order}
-use Rattle.jh_env.specs.Faults.{AreApart, kept_list, kept_links, kept_nodes, is_same_link, is_same_node}
-use Rattle.jh_step_texts.specs.FaultWritten.{is_link_before, is_node_before}
-use Rattle.jh_step_texts.proofs.FaultOrderLemmas.{in_order_moves}
+use Rattle.jh_edn.specs.Order.{put_in_order, in_order}
+use Rattle.jh_env.specs.Faults.{FaultValue, IsFault, IsBumpAmount, AreApart, kept_list, kept_links, kept_nodes, is_same_link, is_same_node, is_same_bumped}
+use Rattle.jh_env.specs.Faults.{Cut, Slow, Loss, Fix, Pause, Kill, Bump}
+use Rattle.jh_env.specs.FaultOrder.{fault_in_order, is_link_before, is_node_before, is_bump_before}
+use Rattle.jh_env.proofs.FaultLemmas.{kept_apart, none_apart}
+
+put_moves : {X : Type 0} (lt : X → X → Bool) (x : X) (ys : List X) → IsPermutation (x ∷ ys) (put_in_order lt x ys)
+put_moves lt x [] = IsPermutation-refl (x ∷ [])
+put_moves lt x (y ∷ ys) =
+    elim (lt y x) as (λ t. IsPermutation (x ∷ y ∷ ys) (cond t (y ∷ put_in_order lt x ys) (x ∷ y ∷ ys))) [
+      | true ↦
+          IsPermutation-trans (x ∷ y ∷ ys) (y ∷ x ∷ ys) (y ∷ put_in_order lt x ys) (IsPermutation-middle (x ∷ []) y ys)
+          (IsPermutation-cons y (x ∷ ys) (put_in_order lt x ys) (put_moves lt x ys))
+      | false ↦ IsPermutation-refl (x ∷ y ∷ ys)
+    ]
+
+-- the same things stand in order
+pub in_order_moves : {X : Type 0} (lt : X → X → Bool) (xs : List X) → IsPermutation xs (in_order lt xs)
+in_order_moves lt [] = IsPermutation-refl []
+in_order_moves lt (x ∷ xs) =
+    IsPermutation-trans (x ∷ xs) (x ∷ in_order lt xs) (put_in_order lt x (in_order lt xs))
+    (IsPermutation-cons x xs (in_order lt xs) (in_order_moves lt xs)) (put_moves lt x (in_order lt xs))
 
 none_of : (x y : Bool) → (x || y) ≡ false → (x ≡ false) × (y ≡ false)
 none_of true y e = absurd cc
@@ -97,6 +116,10 @@ module _ {X : Type 0} (same : X → X → Bool) (o : IsSame same) where
       (fresh_from [] (in_order lt xs)
       (λ z. subst (λ n. n ≤ 1) (sym (sum_by-IsPermutation (λ x. cond (same x z) 1 0) xs (in_order lt xs) (in_order_moves lt xs))) (fresh_most z [] xs fresh none)))
 
+  -- and stands apart
+  all_apart : (lt : X → X → Bool) (xs : List X) → AreApart same xs → AreApart same (in_order lt xs)
+  all_apart lt xs apart = subst (AreApart same) (all_kept lt xs apart) (kept_apart same (in_order lt xs) [] (none_apart same))
+
 node_same : IsSame is_same_node
 node_same = record {
   itself = λ x. eq-eqb x x refl;
@@ -112,6 +135,12 @@ link_same = record {
       and_from (x.0 == y.0) (x.1 == y.1) (node_same.joins x.0 y.0 z.0 p.0 q.0) (node_same.joins x.1 y.1 z.1 p.1 q.1);
 }
 
+bump_same : IsSame is_same_bumped
+bump_same = record {
+  itself = λ x. node_same.itself x.0;
+  joins = λ x y z e f. node_same.joins x.0 y.0 z.0 e f;
+}
+
 -- links in order, each of which stands once, are kept as they are
 pub links_kept : (links : List (ℕ × ℕ)) → AreApart is_same_link links → kept_links (in_order is_link_before links) ≡ in_order is_link_before links
 links_kept links apart = all_kept is_same_link link_same is_link_before links apart
@@ -119,3 +148,14 @@ links_kept links apart = all_kept is_same_link link_same is_link_before links ap
 -- and so are nodes
 pub nodes_kept : (nodes : List ℕ) → AreApart is_same_node nodes → kept_nodes (in_order is_node_before nodes) ≡ in_order is_node_before nodes
 nodes_kept nodes apart = all_kept is_same_node node_same is_node_before nodes apart
+
+-- a fault is one in order as well
+pub in_order_is_fault : (fault : FaultValue) → IsFault fault → IsFault (fault_in_order fault)
+in_order_is_fault (Cut links) right = all_apart is_same_link link_same is_link_before links right
+in_order_is_fault (Slow ms links) right = (right.0, all_apart is_same_link link_same is_link_before links right.1)
+in_order_is_fault (Loss level links) right = (right.0, all_apart is_same_link link_same is_link_before links right.1)
+in_order_is_fault (Fix ms links) right = (right.0, all_apart is_same_link link_same is_link_before links right.1)
+in_order_is_fault (Pause nodes) right = all_apart is_same_node node_same is_node_before nodes right
+in_order_is_fault (Kill nodes) right = all_apart is_same_node node_same is_node_before nodes right
+in_order_is_fault (Bump bumps) right =
+    (All-permutation (λ (b : ℕ × ℤ). IsBumpAmount b.1) bumps _ (in_order_moves is_bump_before bumps) right.0, all_apart is_same_bumped bump_same is_bump_before bumps right.1)
