@@ -7,15 +7,14 @@ use Rattle.std.proofs.lemmas.Option.{get_or_from_slice_get, slice_get-map, slice
 use Rattle.jh_edn.specs.Edn.{Edn}
 use Rattle.jh_edn.specs.View.{view}
 use Rattle.jh_ops.specs.Operation.{Operation}
-use Rattle.jh_keys.specs.BoardInside.{AreAnswers, IsAnswer, IsAnswerAt}
+use Rattle.jh_keys.specs.AnswersInside.{AreAnswers, IsAnswer, IsAnswerAt}
 use Rattle.jh_keys.specs.FoundInside.{AreCollected, IsFoundSoFar}
 use Rattle.jh_keys.specs.Keys.{AreTuples, history_keys, places_of}
-use Rattle.jh_keys.specs.Refusals.{KeysQuestion, AreFindings, IsFindingOf, RefusesKey, RefusesKeys, keys_question}
+use Rattle.jh_keys.specs.Refusals.{KeysQuestion, AreFindings, IsFindingOf, RefusesKey, RefusesKeys}
 use Rattle.jh_keys.specs.SplitInside.{groups_of, view_groups}
 use Rattle.jh_keys.specs.declared.error.KeysError.{KeysError}
 use Rattle.jh_keys.specs.declared.error.KeysError.TheVariants.{BadValue, Key, Thread, OutOfMemory}
 use Rattle.jh_keys.specs.Findings.{Found}
-use Rattle.jh_keys.specs.declared.finding.Judging.{Judging}
 use Rattle.jh_keys.specs.declared.serial.KeyFinding.{KeyFinding}
 use Rattle.jh_keys.specs.declared.split.KeyPlaces.{KeyPlaces}
 
@@ -162,8 +161,3 @@ answer_at asked groups place group answer h at judged = λ key key_at.
     ap (λ keys. slice_get keys place) (sym (groups_keys asked.history groups h)) ∙ slice_get-map (λ group. view group.key) groups place ∙ ap (option_map (λ group. view group.key)) at in
     let same : view group.key ≡ key = ap (λ o. unwrap_or o key) (sym here ∙ key_at) in
     subst (λ k. IsAnswer asked k answer) same judged
-
--- the question that a history and a judge ask
-pub whole_question : (judging : Judging) (history : List Operation) (asked : KeysQuestion) → history ≡ asked.history
-    → keys_question judging asked.history ≡ asked → keys_question judging history ≡ asked
-whole_question judging history asked is h = ap (keys_question judging) is ∙ h

@@ -6,5 +6,4 @@ pub mod HistoryLemmas
 pub mod LawLemmas
 pub mod OperationLemmas
 pub mod StuckLemmas
-pub mod BoardLemmas
 pub mod SharingLemmas

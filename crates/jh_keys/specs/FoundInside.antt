@@ -3,7 +3,7 @@
 use Rattle.std.specs.Prelude.{◌≡◌, ℕ, ◌+◌, List, length, map, ◌++◌, All, slice_get, Option, Some}
 use Rattle.std.specs.Prelude.{Result}
 use Rattle.jh_edn.specs.View.{view}
-use Rattle.jh_keys.specs.BoardInside.{IsAnswerAt}
+use Rattle.jh_keys.specs.AnswersInside.{IsAnswerAt}
 use Rattle.jh_keys.specs.Keys.{history_keys, places_of}
 use Rattle.jh_keys.specs.Refusals.{KeysQuestion, IsFindingOf}
 use Rattle.jh_keys.specs.declared.error.KeysError.{KeysError}

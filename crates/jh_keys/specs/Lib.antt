@@ -8,5 +8,5 @@ pub mod FindingInside
 pub mod OperationTextInside
 pub mod SplitInside
 pub mod PartsInside
-pub mod BoardInside
+pub mod AnswersInside
 pub mod FoundInside

@@ -1,7 +1,6 @@
 //! Histories of independent keys, judged key by key, on one thread or on several.
 #![tactic(auto)]
 
-mod board;
 mod copies;
 mod error;
 mod explanation;

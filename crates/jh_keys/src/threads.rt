@@ -1,17 +1,15 @@
 //! The keys of a history judged on several threads. What is found is what `check_keys_serial` may
 //! find: `specs/Refusals.antt` has the rule of both.
 
-ghost use Rattle.std.specs.Prelude.{◌≡◌, ◌≤◌, MatchResult};
-ghost use Rattle.std.specs.Thread.{IsSync};
+ghost use Rattle.std.specs.Prelude.{◌≡◌, ◌≤◌, IfOk, MatchResult};
 ghost use Rattle.jh_ops.specs.Operation.{operations};
-ghost use Rattle.jh_keys.specs.BoardInside.{AreAnswers, AreKeysAsked, IsAnswerAt};
+ghost use Rattle.jh_keys.specs.AnswersInside.{AreAnswers, AreKeysAsked, IsAnswerAt, keys_count};
 ghost use Rattle.jh_keys.specs.Keys.{AreTuples};
-ghost use Rattle.jh_keys.specs.Refusals.{AreFindings, RefusesKeys, keys_question};
+ghost use Rattle.jh_keys.specs.Refusals.{AreFindings, KeysQuestion, RefusesKeys, keys_question};
 ghost use Rattle.jh_keys.specs.SplitInside.{groups_of, view_groups};
 
-use crate::board::{Answer, Asking, Board};
 use crate::error::KeysError;
-use crate::finding::Judging;
+use crate::finding::{Found, Judging};
 use crate::parts::check_key;
 use crate::serial::KeyFinding;
 use crate::sharing::{
@@ -19,10 +17,10 @@ use crate::sharing::{
 };
 use crate::split::{KeyPlaces, split};
 use jh_ops::Op;
-use std::alloc::Global;
+use jh_tasks::{Task, answer_tasks};
+use std::alloc::{AllocError, Global};
 use std::marker::{Brand, Model, PhantomData};
-use std::sync::{Mutex, Wait};
-use std::thread;
+use std::sync::Wait;
 use std::thread::Threads;
 
 /// Who lets threads in to keys.
@@ -41,134 +39,75 @@ impl Gate for Open {
     }
 }
 
-/// The keys that the threads judge, in the history that is asked about.
+/// What a call asks. Each call picks its own.
+pub trait Asking {
+    /// The history, and what it is judged by.
+    ghost asked: { KeysQuestion };
+}
+
+impl Asking for Brand {
+    ghost use Rattle.jh_keys.specs.AnswersInside.{no_question};
+
+    ghost asked = { no_question };
+}
+
+/// What the check of one key gave.
+type Answer = Result<Found, KeysError>;
+
+/// The keys of the history that is asked about, as tasks that threads share.
 #[derive(Drop)]
-struct Keys<'a, Q: Asking> {
+struct Keys<'a, Q: Asking, G> {
+    alloc: Global,
     history: &'a [Op],
     groups: &'a [KeyPlaces],
+    judging: Judging,
+    gate: &'a G,
     of: PhantomData<Q>,
 }
 
-impl<'a, Q: Asking> Model for Keys<'a, Q> {
+impl<'a, Q: Asking, G> Model for Keys<'a, Q, G> {
     ghost Value = { Unit {0} };
 
     ghost view = { λ k. tt };
 
-    ghost invariant = { λ k. AreKeysAsked Q.asked (operations k.history.now) k.groups.now };
+    ghost invariant = { λ k.
+        AreKeysAsked Q.asked k.judging (operations k.history.now) k.groups.now };
 }
 
-/// What they are judged by.
-#[derive(Drop)]
-struct Judge<Q: Asking> {
-    alloc: Global,
-    judging: Judging,
-    of: PhantomData<Q>,
-}
+impl<'a, Q: Asking, G: Gate> Task<Answer> for Keys<'a, Q, G> {
+    ghost count = { keys_count Q.asked };
 
-impl<Q: Asking> Model for Judge<Q> {
-    ghost Value = { Unit {0} };
+    ghost is_right = { IsAnswerAt Q.asked };
 
-    ghost view = { λ j. tt };
-
-    ghost invariant = { λ j. keys_question j.judging Q.asked.history ≡ Q.asked };
-}
-
-impl<Q: Asking> Keys<'_, Q> {
-    /// Judges the key of this place, where it is let in.
-    fn judge_at<G: Gate>(&self, judge: &Judge<Q>, gate: &G, place: usize) -> Answer
-        ensures { IsAnswerAt Q.asked place result }
-    {
-        if !gate.enter(place) {
+    fn answer_at(&self, number: usize) -> Answer {
+        if !self.gate.enter(number) {
             return Err(KeysError::Thread);
         }
-        match self.groups.get(place) {
-            Some(group) => check_key(judge.alloc, self.history, judge.judging, group),
-            None => Err(KeysError::Thread),
+        match self.groups.get(number) {
+            Some(group) => check_key(self.alloc, self.history, self.judging, group),
+            None => unreachable!(),
         }
     }
-}
 
-/// What each thread does: it takes the next key until none is left.
-fn judge_all<Q: Asking, G: Gate, R: Wait>(
-    rt: &R,
-    keys: &Keys<'_, Q>,
-    judge: &Judge<Q>,
-    gate: &G,
-    board: &Mutex<Board<Q>>,
-) {
-    for _ in keys.groups {
-        let Some(place) = board.lock(rt).take() else {
-            return;
-        };
-        let answer = keys.judge_at(judge, gate, place);
-        board.lock(rt).put(place, answer);
+    fn is_last(answer: &Answer) -> bool {
+        answer.is_err()
     }
 }
 
-/// What several threads share, and what each does. Each part of it is a type parameter, so that
-/// each is shown by itself to be safe to share.
-trait Work<J, G, B> {
-    /// What each thread does.
-    fn work_at<R: Wait>(&self, rt: &R, judge: &J, gate: &G, board: &B);
-
-    /// Leaves all keys unjudged that were not taken yet.
-    fn close<R: Wait>(&self, rt: &R, board: &B);
-}
-
-impl<'a, Q: Asking, G: Gate> Work<Judge<Q>, G, Mutex<Board<Q>>> for Keys<'a, Q> {
-    fn work_at<R: Wait>(&self, rt: &R, judge: &Judge<Q>, gate: &G, board: &Mutex<Board<Q>>) {
-        judge_all(rt, self, judge, gate, board)
-    }
-
-    fn close<R: Wait>(&self, rt: &R, board: &Mutex<Board<Q>>) {
-        board.lock(rt).close();
-    }
-}
-
-/// The work of this thread and of so many others. All have ended when it returns.
-fn work_all<K: Work<J, G, B> + Sync, J: Sync, G: Sync, B: Sync, R: Threads + Wait + Sync>(
+/// What is answered of each key. By itself, so that what is safe to share is shown of few values.
+fn answers_of<Q: Asking + Send + Sync, G: Gate + Sync, R: Threads + Wait + Sync>(
     rt: &R,
-    keys: &K,
-    judge: &J,
-    gate: &G,
-    board: &B,
-    others: usize,
-) {
-    thread::scope(
-        thread::scope_env(),
-        rt,
-        |scope|
-            requires { IsSync R.row
-                × (IsSync K.row × (IsSync J.row × (IsSync G.row × IsSync B.row))) }
-        {
-            for _ in 0..others {
-                if scope
-                    .spawn(move || keys.work_at(rt, judge, gate, board))
-                    .is_err()
-                {
-                    keys.close(rt, board);
-                    break;
-                }
-            }
-            keys.work_at(rt, judge, gate, board);
-        },
-    );
-}
-
-/// The work on a board. By itself, so that what is safe to share is shown of few values.
-fn shared<Q: Asking + Send + Sync, G: Gate + Sync, R: Threads + Wait + Sync>(
-    rt: &R,
-    keys: &Keys<'_, Q>,
-    judge: &Judge<Q>,
-    gate: &G,
-    board: &Mutex<Board<Q>>,
-    others: usize,
-) {
+    keys: &Keys<'_, Q, G>,
+    threads: u32,
+) -> Result<Vec<Option<Answer>>, AllocError>
+    requires { (1 ≤ threads) × (threads ≤ 16) }
+    ensures { IfOk result (λ answers. AreAnswers Q.asked answers.items) }
+{
     findings_can_be_sent();
     explanations_can_be_sent();
     operations_can_be_shared();
     places_can_be_shared();
-    work_all::<Keys<'_, Q>, Judge<Q>, G, Mutex<Board<Q>>, R>(rt, keys, judge, gate, board, others)
+    answer_tasks::<Answer, Keys<'_, Q, G>, R>(rt, keys.alloc, keys, keys.groups.len(), threads)
 }
 
 /// The findings in the order of the keys, or what ended them: the first answer that is none, or a
@@ -195,36 +134,32 @@ fn collected<Q: Asking>(
 }
 
 /// The keys of a question judged.
-fn judged<'a, Q: Asking + Send + Sync, G: Gate + Sync, R: Threads + Wait + Sync>(
+fn judged<Q: Asking + Send + Sync, G: Gate + Sync, R: Threads + Wait + Sync>(
     rt: &R,
     alloc: Global,
-    history: &'a [Op],
+    history: &[Op],
     judging: Judging,
     groups: Vec<KeyPlaces>,
     threads: u32,
-    gate: &'a G,
+    gate: &G,
 ) -> Result<Vec<KeyFinding>, KeysError>
     requires asks { keys_question judging (operations history.now) ≡ Q.asked }
     requires tuples { AreTuples (operations history.now) }
     requires groups { view_groups groups.items ≡ groups_of (operations history.now) }
+    requires threads { (1 ≤ threads) × (threads ≤ 16) }
     ensures { MatchResult result
         (λ found. AreFindings (keys_question judging (operations history.now)) found.items)
         (RefusesKeys (keys_question judging (operations history.now))) }
 {
-    let board = Mutex::new(Board::<Q>::new(alloc, groups.len())?);
-    let others = groups.len().min(threads as usize).saturating_sub(1);
-    let keys = Keys::<'_, Q> {
+    let keys = Keys::<'_, Q, G> {
+        alloc,
         history,
         groups: &groups,
-        of: PhantomData,
-    };
-    let judge = Judge::<Q> {
-        alloc,
         judging,
+        gate,
         of: PhantomData,
     };
-    shared::<Q, G, R>(rt, &keys, &judge, gate, &board, others);
-    let answers = board.into_inner().into_answers();
+    let answers = answers_of::<Q, G, R>(rt, &keys, threads)?;
     collected::<Q>(alloc, groups, answers)
 }
 

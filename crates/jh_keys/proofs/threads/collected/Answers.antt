@@ -1,7 +1,7 @@
 use Rattle.std.proofs.Common.{◌≡◌, ◌∷◌, [], refl, sym, subst, length, rules, arith, inl, inr}
 use Rattle.std.proofs.lemmas.List.{nil_from_length}
 use Rattle.jh_edn.specs.View.{view}
-use Rattle.jh_keys.specs.BoardInside.{IsAnswer}
+use Rattle.jh_keys.specs.AnswersInside.{IsAnswer}
 use Rattle.jh_keys.specs.FoundInside.{AreCollected, IsFoundSoFar}
 use Rattle.jh_keys.specs.Refusals.{RefusesKeys}
 use Rattle.jh_keys.proofs.FoundLemmas.{all_found, first_collected, front_answer, keys_refused, more_collected}

@@ -1,15 +1,17 @@
--- What the threads share goes by: proofs rest on it, and no public clause names it.
+-- What the keys that threads share are answered: proofs rest on it, and no public clause names it.
 -- This project's own.
 use Rattle.std.specs.Prelude.{◌≡◌, ℕ, false, List, [], length, slice_get, Option, Some, None}
 use Rattle.std.specs.Prelude.{Result, Ok, Err}
 use Rattle.jh_edn.specs.Edn.{Edn}
 use Rattle.jh_ops.specs.declared.call.Workload.{Workload}
 use Rattle.jh_ops.specs.Operation.{Operation}
+use Rattle.jh_tasks.specs.Answers.{AreTaskAnswers}
 use Rattle.jh_keys.specs.Keys.{history_keys}
 use Rattle.jh_keys.specs.SplitInside.{groups_of, view_groups}
 use Rattle.jh_keys.specs.declared.split.KeyPlaces.{KeyPlaces}
-use Rattle.jh_keys.specs.Refusals.{KeysQuestion, IsFindingOf, RefusesKey}
+use Rattle.jh_keys.specs.Refusals.{KeysQuestion, IsFindingOf, RefusesKey, keys_question}
 use Rattle.jh_keys.specs.declared.error.KeysError.{KeysError}
+use Rattle.jh_keys.specs.declared.finding.Judging.{Judging}
 use Rattle.jh_keys.specs.Findings.{Found}
 
 -- what no call asks
@@ -20,6 +22,10 @@ no_question =
       judging =
           record { workload = Workload.Set; initial = None; budget = 0; explain = false };
     }
+
+-- how many keys are to be judged
+abbrev pub keys_count : KeysQuestion → ℕ
+keys_count asked = length (history_keys asked.history)
 
 -- a key was judged so
 abbrev pub IsAnswer : KeysQuestion → Edn → Result Found KeysError → Type 0
@@ -32,15 +38,12 @@ IsAnswerAt asked place answer =
     (key : Edn) → slice_get (history_keys asked.history) place ≡ Some key
     → IsAnswer asked key answer
 
--- a place for the answer of each key, and what was answered so far
-pub record AreAnswers (asked : KeysQuestion)
-    (answers : List (Option (Result Found KeysError))) : Type 0 where
-  pub size : length answers ≡ length (history_keys asked.history)
-  pub each : (place : ℕ) (answer : Result Found KeysError)
-      → slice_get answers place ≡ Some (Some answer) → IsAnswerAt asked place answer
+-- a place for the answer of each key, and what was answered
+abbrev pub AreAnswers : KeysQuestion → List (Option (Result Found KeysError)) → Type 0
+AreAnswers asked answers = AreTaskAnswers (keys_count asked) (IsAnswerAt asked) answers
 
--- the places of the keys, in the history that is asked about
-pub record AreKeysAsked (asked : KeysQuestion) (history : List Operation)
+-- the question, and the places of the keys in the history that is asked about
+pub record AreKeysAsked (asked : KeysQuestion) (judging : Judging) (history : List Operation)
     (groups : List KeyPlaces) : Type 0 where
-  pub history_is : history ≡ asked.history
+  pub question_is : keys_question judging history ≡ asked
   pub groups_are : view_groups groups ≡ groups_of history
