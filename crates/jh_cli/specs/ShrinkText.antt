@@ -1,11 +1,9 @@
 -- What `jeprun shrink` writes (this project's own): a keyword that says what is left of the
 -- schedule of a run, and a line for each entry that is left, as the settings of a run have it.
-use Rattle.std.specs.Prelude.{◌≡◌, ℕ, pos, Bool, true, false, List, [], ◌∷◌, ◌++◌, codes, Option}
+use Rattle.std.specs.Prelude.{◌≡◌, ℕ, Bool, true, false, List, ◌++◌, codes, Option}
 use Rattle.std.specs.Prelude.{IfSome}
 use Rattle.std.specs.List.{flat_map}
-use Rattle.jh_edn.specs.Edn.{Edn, int, vector, items_of}
 use Rattle.jh_edn.specs.Print.{print}
-use Rattle.jh_step_texts.specs.StepWritten.{text_of_step}
 use Rattle.jh_ops.specs.Operation.{Operation}
 use Rattle.jh_check.specs.declared.verdict.Verdict.{Verdict}
 use Rattle.jh_simnode.specs.declared.events.Event.{Event}
@@ -17,6 +15,7 @@ use Rattle.jh_shrink.specs.Shrunk.{IsShrunk}
 use Rattle.jh_shrink.specs.declared.shrinking.Shrunk.{Shrunk}
 use Rattle.jh_shrink.specs.declared.shrinking.Shrunk.TheVariants.{Minimal, Budget, NotFailing}
 use Rattle.jh_settings.specs.Settings.{AreSettingsOf}
+use Rattle.jh_settings_texts.specs.DocumentWritten.{entry_value}
 use Rattle.jh_settings.specs.declared.choices.Mode.{Mode}
 use Rattle.jh_cli.specs.CheckText.{IsJudgement}
 use Rattle.jh_cli.specs.EnvText.{line}
@@ -59,13 +58,9 @@ schedule_of (Minimal schedule) = schedule
 schedule_of (Budget schedule) = schedule
 schedule_of (NotFailing schedule) = schedule
 
--- after how many answers, and the step, over nodes of these names
-abbrev pub text_of_entry : List (List ℕ) → Entry → Edn
-text_of_entry names entry =
-    vector (items_of (int (pos entry.at) ∷ text_of_step names entry.step ∷ []))
-
+-- a line for each entry, as settings have it
 abbrev pub entry_lines : List (List ℕ) → List Entry → List ℕ
-entry_lines names schedule = flat_map (λ entry. line (print (text_of_entry names entry))) schedule
+entry_lines names schedule = flat_map (λ entry. line (print (entry_value names entry))) schedule
 
 abbrev pub shrunk_lines : List (List ℕ) → Shrunk → List ℕ
 shrunk_lines names shrunk = line (shrunk_name shrunk) ++ entry_lines names (schedule_of shrunk)

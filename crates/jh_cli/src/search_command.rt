@@ -17,8 +17,7 @@ use crate::error::CliError;
 use crate::shrink_command::Written;
 use jh_edn::read_bytes;
 use jh_search::{
-    Options, Palette, SearchError, SearchObserver, Searched, candidate, candidates_can_be_written,
-    search_observed,
+    Options, Palette, SearchError, SearchObserver, Searched, candidate, search_observed,
 };
 use jh_settings::settings_of;
 use jh_settings_texts::{can_be_written, settings_behind};
@@ -233,7 +232,6 @@ fn found_text(
     ensures { IfOk result (λ output.
         IsFoundText plan.now options.now (Some number) 0 output.items) }
 {
-    candidates_can_be_written();
     let found = candidate(alloc, plan, options, number)?;
     let comment = format!(in alloc; " candidate {number} of {}: invalid", options.runs)?;
     let output = settings_behind(alloc, &comment, &found, options.budget)?;

@@ -6,7 +6,6 @@ ghost use Rattle.std.specs.Prelude.{◌≡◌, ◌≢◌, ◌++◌, ℕ, List, l
 ghost use Rattle.std.specs.Prelude.{MatchResult, OnOk};
 ghost use Rattle.std.specs.List.{All};
 ghost use Rattle.std.specs.Io.KnownBytes.{Appends};
-ghost use Rattle.jh_edn.specs.View.{view};
 ghost use Rattle.jh_nemesis.specs.Steps.{FitsNodes};
 ghost use Rattle.jh_shrink.specs.Shrunk.{IsShrunk};
 ghost use Rattle.jh_cli.specs.EnvText.{line};
@@ -18,13 +17,13 @@ use crate::check_command::judge;
 use crate::env_command::{MAX_READS, write_line};
 use crate::error::CliError;
 use jh_check::Verdict;
-use jh_edn::{Value, Values, read_bytes};
+use jh_edn::read_bytes;
 use jh_env::Nodes;
 use jh_run_laws::own_judging;
 use jh_settings::settings_of;
+use jh_settings_texts::value_of_entry;
 use jh_shrink::{Nobody, Observer, Shrunk, shrink_observed};
 use jh_simnode::{Entry, Plan, Schedule, run_serial};
-use jh_step_texts::value_of_step;
 use std::alloc::{AllocError, Global};
 use std::io::{Read, Write};
 
@@ -237,15 +236,4 @@ fn write_entries(
         write_line(&value_of_entry(alloc, nodes, entry)?, output)?;
     }
     Ok(())
-}
-
-/// The value of an entry, as settings have it.
-fn value_of_entry(alloc: Global, nodes: &Nodes, entry: &Entry) -> Result<Value, AllocError>
-    requires { FitsNodes (length nodes.now) entry.now.step }
-    ensures { IfOk result (λ value. view value ≡ text.text_of_entry nodes.now entry.now) }
-{
-    let mut parts = Vec::new(alloc);
-    parts.push(Value::Int(i64::from(entry.at)))?;
-    parts.push(value_of_step(alloc, nodes, &entry.step)?)?;
-    Ok(Value::Vector(Values::of(parts)))
 }

@@ -11,4 +11,5 @@ mod steps;
 mod table;
 
 pub use comments::settings_behind;
+pub use printing::value_of_entry;
 pub use settings::{can_be_written, settings_to_text};

@@ -64,8 +64,10 @@ pub(crate) fn generator_text(alloc: Global, source: &Gen) -> Result<String, Allo
     printed(alloc, &value)
 }
 
-/// The value of an entry over these nodes: AT and STEP.
-fn value_of_entry(alloc: Global, nodes: &Nodes, entry: &Entry) -> Result<Value, AllocError>
+/// The value of an entry over these nodes, as a schedule has it: AT and STEP.
+///
+/// Error: memory was refused.
+pub fn value_of_entry(alloc: Global, nodes: &Nodes, entry: &Entry) -> Result<Value, AllocError>
     requires { FitsNodes (length nodes.now) entry.now.step }
     ensures { IfOk result (λ value. view value ≡ entry_value nodes.now entry.now) }
 {
