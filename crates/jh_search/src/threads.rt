@@ -11,6 +11,7 @@ ghost use Rattle.jh_search.specs.declared.threads.SearchError.TheVariants.{OutOf
 use crate::options::Options;
 use crate::serial::Searched;
 use crate::verdicts::{PlanVerdict, verdict_at};
+use jh_shrink::Nobody;
 use jh_simnode::Plan;
 use jh_tasks::{Task, answer_tasks};
 use std::alloc::{AllocError, Global};
@@ -28,10 +29,6 @@ pub trait SearchObserver {
     /// So many candidates were tried and do not fail, and what comes of so many of them is unknown.
     fn see_tried(&mut self, tried: u64, unknown: u64);
 }
-
-/// Nobody is told.
-#[derive(Drop)]
-struct Nobody;
 
 impl SearchObserver for Nobody {
     fn see_tried(&mut self, _tried: u64, _unknown: u64) {}
