@@ -1,5 +1,5 @@
 -- What the options of commands read as, from what `clap`'s getters give.
-use Rattle.std.proofs.Common.{◌≡◌, ◌∙◌, sym, ap, subst, codes, List, ℕ, ℤ, Bool, true, false, Option, Some, None}
+use Rattle.std.proofs.Common.{◌≡◌, ◌∙◌, refl, sym, ap, subst, codes, List, ℕ, ℤ, Bool, true, false, Option, Some, None}
 use Rattle.std.specs.Prelude.{Result, option_map, IfSome, IsNone}
 use Rattle.std.specs.Borrow.{Bor}
 use mir.Syntax.{w64}
@@ -9,7 +9,7 @@ use Rattle.clap.specs.Words.{ReadsOne, Row, Text, first_of, first_value, one_of,
 use Rattle.clap.specs.declared.parser.matches.Found.{Found}
 use Rattle.jh_cli.specs.declared.timeline_command.TimelineJudging.{TimelineJudging}
 use Rattle.clap.proofs.WalkLemmas.{first_value-rows, one_text-rows}
-use Rattle.jh_arguments.specs.Commands.{IsFlag, IsIndex, IsInitial, IsJudging, IsJudgingBy, IsNumber}
+use Rattle.jh_arguments.specs.Commands.{IsFlag, IsIndex, IsInitial, IsJudging, IsJudgingBy, IsNumber, IsThreads, AreThreadsGiven}
 
 -- what `FromStr` says of `i64` and of `u64`
 abbrev SignedGives : Text → Result ℤ ParseIntError → Type 0
@@ -87,8 +87,15 @@ flag_read f id r none given left = go (one_of id (rows_of f)) (one_text-rows f i
     go None is = none is
     go (Some t) is = (λ e. given (is ∙ ap Some e), λ e. left (is ∙ ap Some e))
 
--- the name of a workload, as `get_str` gives it
-pub name_given : (f : Found) (r : Option (Bor Text)) (o : Option Text)
-    → option_map (λ s. s.now) r ≡ first_value f (codes "workload") → option_map (λ s. s.now) r ≡ o
-    → first_of (codes "workload") (rows_of f) ≡ o
-name_given f r o given is = sym (first_value-rows f (codes "workload")) ∙ (sym given ∙ is)
+-- the text of an option, as `get_str` gives it
+pub text_given : (f : Found) (id : Text) (r : Option (Bor Text)) (o : Option Text)
+    → option_map (λ s. s.now) r ≡ first_value f id → option_map (λ s. s.now) r ≡ o
+    → first_of id (rows_of f) ≡ o
+text_given f id r o given is = sym (first_value-rows f id) ∙ (sym given ∙ is)
+
+-- how many threads are given, where that is read if it is there
+pub threads_given : (o : Option Text) (r : Option ℕ) → IfSome r (IsThreads o) → (IsNone r → (threads : ℕ) → IsThreads o threads → ⊥) → AreThreadsGiven o r
+threads_given None None parsed taken = refl
+threads_given None (Some threads) parsed taken = absurd parsed.0
+threads_given (Some text) None parsed taken = taken refl
+threads_given (Some text) (Some threads) parsed taken = parsed

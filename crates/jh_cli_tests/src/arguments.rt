@@ -32,6 +32,9 @@ fn asks_for_commands(rt: HostRuntime) {
 § jeprun check --workload set --budget 10000000 → Check(Question { workload: Set, initial: None, budget: 10000000, explain: false, independent: false, threads: 1 })
 § jeprun shrink → Shrink(10000)
 § jeprun shrink --budget 10000000 → Shrink(10000000)
+§ jeprun search → Search(SearchQuestion { from: 0, runs: 10000, faults: 8, palette: Some(Palette { cut: true, slow: true, loss: true, fix: true, pause: true, kill: true, bump: true }), threads: None })
+§ jeprun search --runs 5 --faults 256 --palette kill,cut --from 7 --threads 16 → Search(SearchQuestion { from: 7, runs: 5, faults: 256, palette: Some(Palette { cut: true, slow: false, loss: false, fix: false, pause: false, kill: true, bump: false }), threads: Some(16) })
+§ jeprun search --palette cut,,bump → Search(SearchQuestion { from: 0, runs: 10000, faults: 8, palette: None, threads: None })
 § jeprun timeline → Timeline(TimelineQuestion { judging: None, independent: false, choice: Choice { from: None, to: None } })
 § jeprun timeline --workload register --initial 0 --budget 5 --from 7 --to 18446744073709551615 → Timeline(TimelineQuestion { judging: Some(TimelineJudging { workload: Register, initial: Some(0), budget: 5 }), independent: false, choice: Choice { from: Some(7), to: Some(18446744073709551615) } })
 § jeprun timeline --workload set → Timeline(TimelineQuestion { judging: Some(TimelineJudging { workload: Set, initial: None, budget: 100000 }), independent: false, choice: Choice { from: None, to: None } })
@@ -57,6 +60,7 @@ Commands:
   check     Judges a history of operations, read from standard input as EDN
   run       Runs a simulated cluster by settings, read from standard input as TOML, and judges its history
   shrink    Makes the schedule of a failing run small, whose settings are read from standard input as TOML
+  search    Tries random schedules for a run that fails, whose settings are read from standard input as TOML
   timeline  Writes a page that shows a history, which is read from standard input as EDN
   help      Print this message or the help of the given subcommand(s)
 
@@ -126,6 +130,14 @@ For more information, try '--help'.
 error: invalid value '10000001' for '--budget <N>': 10000001 is not in 0..=10000000
 
 For more information, try '--help'.
+§ jeprun search --runs 0 → 3
+error: invalid value '0' for '--runs <N>': 0 is not in 1..=9223372036854775807
+
+For more information, try '--help'.
+§ jeprun search --faults 257 → 3
+error: invalid value '257' for '--faults <N>': 257 is not in 0..=256
+
+For more information, try '--help'.
 § jeprun bogus → 3
 error: unrecognized subcommand 'bogus'
 
@@ -166,6 +178,7 @@ Commands:
   check     Judges a history of operations, read from standard input as EDN
   run       Runs a simulated cluster by settings, read from standard input as TOML, and judges its history
   shrink    Makes the schedule of a failing run small, whose settings are read from standard input as TOML
+  search    Tries random schedules for a run that fails, whose settings are read from standard input as TOML
   timeline  Writes a page that shows a history, which is read from standard input as EDN
   help      Print this message or the help of the given subcommand(s)
 
@@ -238,6 +251,30 @@ settings, 4 where memory ran out, a read or a write failed, or a run was not com
 Examples:
   jeprun shrink < examples/shrink/twenty-entries.toml
   jeprun shrink --budget 20 < examples/shrink/twenty-entries.toml
+§ jeprun search --help → 0
+Tries random schedules for a run that fails, whose settings are read from standard input as TOML
+
+Usage: jeprun search [OPTIONS]
+
+Options:
+      --runs <N>         How many candidates are tried [default: 10000]
+      --faults <N>       How many random faults each has [default: 8]
+      --palette <KINDS>  Of which kinds the faults are, with commas between [default: cut,slow,loss,fix,pause,kill,bump]
+      --from <N>         The number of the first candidate [default: 0]
+      --threads <N>      How many threads try candidates; as many as there are processors where it is left out
+  -h, --help             Print help
+
+Each candidate is a run of the settings with another seed, and with random faults of KINDS
+among the entries of its schedule: cut, slow, loss, fix, pause, kill and bump. It writes the
+settings of the first that is not valid, which run and shrink read, or a comment that there is
+none. The answer does not depend on the number of threads.
+
+Exit status: 0 none found, 1 found, 2 none found and some unknown, 3 refused arguments or
+settings, 4 where memory ran out, a read or a write failed, or a thread could not be had
+
+Examples:
+  jeprun search < examples/search/quorum-volatile.toml > found.toml
+  jeprun search --runs 200 --faults 12 --palette cut,kill < examples/search/quorum-volatile.toml
 § jeprun check --help → 0
 Judges a history of operations, read from standard input as EDN
 
@@ -273,6 +310,7 @@ Commands:
   check     Judges a history of operations, read from standard input as EDN
   run       Runs a simulated cluster by settings, read from standard input as TOML, and judges its history
   shrink    Makes the schedule of a failing run small, whose settings are read from standard input as TOML
+  search    Tries random schedules for a run that fails, whose settings are read from standard input as TOML
   timeline  Writes a page that shows a history, which is read from standard input as EDN
   help      Print this message or the help of the given subcommand(s)
 

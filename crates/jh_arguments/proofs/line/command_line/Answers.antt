@@ -20,9 +20,11 @@ returns-clause-line c =
     let check = c.in_ok-check_command.ensures.check in
     let timeline = c.in_ok-timeline_command.ensures.timeline in
     let shrink = c.in_ok-shrink_command.ensures.shrink in
+    let search = c.in_ok-search_command.ensures.search in
     let of_check = plain_fields c.in_ok-check_command.field-0 (ap (λ (a : App). a.top.is_plain) check) in
     let of_timeline = plain_fields c.in_ok-timeline_command.field-0 (ap (λ (a : App). a.top.is_plain) timeline) in
     let of_shrink = plain_fields c.in_ok-shrink_command.field-0 (ap (λ (a : App). a.top.is_plain) shrink) in
+    let of_search = plain_fields c.in_ok-search_command.field-0 (ap (λ (a : App). a.top.is_plain) search) in
     let env : app_of c.after_help-env.result ≡ new_app (codes "env") = ap app_of_fields c.after_help-env.ensures ∙ (ap app_of_fields c.about.ensures ∙ c.new.ensures.app) in
     let run : app_of c.after_help-run.result ≡ new_app (codes "run") = ap app_of_fields c.after_help-run.ensures ∙ (ap app_of_fields c.about-2.ensures ∙ c.new-2.ensures.app) in
     let asked : app_of c.subcommand_required.result ≡ wants_one (versioned (new_app (codes "jeprun"))) = ap app_of_fields c.subcommand_required.ensures
@@ -31,9 +33,11 @@ returns-clause-line c =
     let top : app_of c.arg_required_else_help.result ≡ helping (wants_one (versioned (new_app (codes "jeprun")))) = ap app_of_fields c.arg_required_else_help.ensures
     ∙ ap helping asked in
     let whole : app_of c.in_ok-jeprun.jeprun ≡ jeprun names = c.in_ok-jeprun.ensures.shape of_timeline.globals ∙ ap₂ with_subcommand
+    (c.in_ok-subcommand-5.ensures.shape of_search.globals ∙ ap₂ with_subcommand
     (c.in_ok-subcommand-4.ensures.shape of_shrink.globals ∙ ap₂ with_subcommand
     (c.in_ok-subcommand-3.ensures.shape (rw (c.after_help-run.ensures, c.about-2.ensures) c.new-2.ensures.local) ∙ ap₂ with_subcommand
     (c.in_ok-subcommand-2.ensures.shape of_check.globals ∙ ap₂ with_subcommand
     (c.in_ok-subcommand.ensures.shape (rw (c.after_help-env.ensures, c.about.ensures) c.new.ensures.local) ∙ ap₂ with_subcommand top (ap (λ (a : App). a.top) env))
-    (ap (λ (a : App). a.top) check)) (ap (λ (a : App). a.top) run)) (ap (λ (a : App). a.top) shrink)) (ap (λ (a : App). a.top) timeline) in
+    (ap (λ (a : App). a.top) check)) (ap (λ (a : App). a.top) run)) (ap (λ (a : App). a.top) shrink))
+    (ap (λ (a : App). a.top) search)) (ap (λ (a : App). a.top) timeline) in
     (names, c.workloads-names.ensures, whole)

@@ -1,0 +1,15 @@
+use Rattle.std.proofs.Common.{rules, ap₂, codes, ◌≡◌, ◌∙◌}
+use Rattle.clap.specs.Words.{app_of, new_app, with_rule}
+use Rattle.jh_arguments.proofs.line.search_command.Goals as goal
+
+pub returns-clause-search : goal.returns-clause-search
+returns-clause-search c =
+    let about : app_of c.about.result ≡ new_app (codes "search") = search rules in
+    let top : app_of c.after_help.result ≡ new_app (codes "search") = search rules in
+    c.in_ok-search.ensures.shape c.given_threads_option.ensures.local ∙ ap₂ with_rule
+    (c.in_ok-arg-4.ensures.shape c.ranged_option-from.ensures.local ∙ ap₂ with_rule
+    (c.in_ok-arg-3.ensures.shape c.palette_option.ensures.local ∙ ap₂ with_rule
+    (c.in_ok-arg-2.ensures.shape c.ranged_option-faults.ensures.local ∙ ap₂ with_rule
+    (c.in_ok-arg.ensures.shape c.ranged_option-runs.ensures.local ∙ ap₂ with_rule top c.ranged_option-runs.ensures.rule)
+    c.ranged_option-faults.ensures.rule) c.palette_option.ensures.rule) c.ranged_option-from.ensures.rule)
+    c.given_threads_option.ensures.rule
