@@ -68,7 +68,7 @@ fn plan_of(alloc: Global, settings: Settings, numbers: [u64; 4]) -> Option<Plan>
         ops: 1,
         generator,
         schedule,
-        tick_every: tick_every as u32,
+        tick_every: u32::try_from(tick_every).ok()?,
         rows: 1,
         seed,
     };
