@@ -237,14 +237,14 @@ fn seed_of(plan: &Plan, number: u64) -> u64
 
 /// The candidate of this number, from 0: the plan with its seed raised by the number, around 2^63,
 /// and with random faults among the entries of its schedule. A schedule has at most 1,024 entries;
-/// what it has no room for is left out. Each fault, also one of the plan's own, has its links, nodes
-/// or bumps in the order of its text.
+/// what it has no room for is left out. Each fault, also one of the plan's own, has its links,
+/// nodes or bumps in the order of its text.
 ///
 /// Takes time for each fault and for the entries that stand behind it, and to sort what each fault
 /// names; and memory for the whole plan.
 ///
-/// Settings that can say the plan can say the candidate, and what is read of them is the candidate
-/// again.
+/// Where settings can say the plan they can say the candidate, and what is read of these is the
+/// candidate again.
 ///
 /// Error: memory was refused.
 pub fn candidate(
