@@ -1,7 +1,8 @@
 //! Which plans can be written.
 //!
-//! A row has the workload of a plan, what is held at first or `-`, after how many calls a thread ticks, the seed, after
-//! how many calls the one entry is due, how many levels the text of its generator has, and whether it can be written.
+//! A row has the workload of a plan, what is held at first or `-`, after how many calls a thread
+//! ticks, the seed, after how many calls the one entry is due, how many levels the text of its
+//! generator has, and whether it can be written.
 
 ghost use Rattle.std.specs.Prelude.{[], IfSome};
 ghost use Rattle.jh_env.specs.Overlay.{StandsFor};
