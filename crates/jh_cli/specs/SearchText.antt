@@ -27,8 +27,8 @@ search_options question palette budget =
     }
 
 -- the line before the settings of the candidate of a number, of so many that were asked for
-abbrev pub found_line : ℕ → ℕ → List ℕ
-found_line number runs =
+abbrev pub candidate_line : ℕ → ℕ → List ℕ
+candidate_line number runs =
     line (codes "# candidate " ++ (decimal number ++ (codes " of " ++ (decimal runs ++ codes ": invalid"))))
 
 -- the line where none of so many fails, and so many are unknown
@@ -41,7 +41,7 @@ none_line runs unknown =
 -- means that candidate, to be run serially, and this budget.
 abbrev pub IsFoundText : PlanValue → Options → Option ℕ → ℕ → List ℕ → Type 0
 IsFoundText p options (Some number) unknown output =
-    (document : List ℕ) × (output ≡ found_line number options.runs ++ document)
+    (document : List ℕ) × (output ≡ candidate_line number options.runs ++ document)
     × AreSettingsOf output (candidate_of p options number) Mode.Serial options.budget
 IsFoundText p options None unknown output = output ≡ none_line options.runs unknown
 

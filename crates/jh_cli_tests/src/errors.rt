@@ -5,6 +5,7 @@ use crate::rows::{Texts, first_wrong, push_error};
 use jh_cli::CliError;
 use jh_edn::EdnError;
 use jh_env::EnvTextError;
+use jh_search::SearchError;
 use jh_settings::SettingsError;
 use jh_simnode::{RunError, WorldError};
 use jh_step_texts::StepTextError;
@@ -23,6 +24,8 @@ fn error_of(name: &str) -> Option<CliError> {
         "full" => Some(CliError::HistoryFull),
         "mismatch" => Some(CliError::Mismatch),
         "thread" => Some(CliError::Thread),
+        "thread of a search" => Some(CliError::from(SearchError::Thread)),
+        "unwritable" => Some(CliError::Unwritable),
         "read" => Some(CliError::Read),
         "write" => Some(CliError::Write),
         "memory" => Some(CliError::OutOfMemory),
@@ -37,6 +40,7 @@ fn memory_of(place: &str) -> Option<CliError> {
         "memory of an environment" => Some(CliError::from(EnvTextError::OutOfMemory)),
         "memory of settings" => Some(CliError::from(SettingsError::OutOfMemory)),
         "memory of a run" => Some(CliError::from(RunError::OutOfMemory)),
+        "memory of a search" => Some(CliError::from(SearchError::OutOfMemory)),
         "memory of an allocation" => Some(CliError::from(AllocError)),
         _ => None,
     }
@@ -58,6 +62,8 @@ fn names_errors(rt: HostRuntime) {
 § full → 4 history full
 § mismatch → 4 mismatch
 § thread → 4 thread failed
+§ thread of a search → 4 thread failed
+§ unwritable → 3 settings: generator too deep to be written again
 § read → 4 read failed
 § write → 4 write failed
 § memory → 4 out of memory

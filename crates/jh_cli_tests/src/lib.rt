@@ -27,6 +27,8 @@ mod rows;
 #[cfg(test)]
 mod runs;
 #[cfg(test)]
+mod searches;
+#[cfg(test)]
 mod shrinks;
 #[cfg(test)]
 mod streams;

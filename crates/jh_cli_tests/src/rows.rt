@@ -6,7 +6,7 @@
 //! refused allocation.
 
 ghost use Rattle.std.specs.Prelude.{IfSome};
-ghost use Rattle.jh_arguments.specs.Commands.{TakesThreads};
+ghost use Rattle.jh_arguments.specs.Commands.{HasNumbersInRange};
 
 use crate::arguments::asked_once;
 use crate::errors::named_once;
@@ -20,7 +20,7 @@ use std::thread::Threads;
 
 /// The command that these arguments ask for; `None` also where memory was refused.
 pub(crate) fn command(alloc: Global, arguments: &str) -> Option<Command>
-    ensures { IfSome result TakesThreads }
+    ensures { IfSome result HasNumbersInRange }
 {
     let arguments: Vec<&str> = arguments.split(' ').collect(alloc).ok()?;
     command_of(&parse(alloc, arguments.as_slice()).ok()?)
