@@ -18,7 +18,7 @@ use Rattle.jh_cli.specs.CheckText.{check_judging}
 use Rattle.jh_cli.specs.Status.{check_error, edn_error, keys_error, reading_error}
 use Rattle.jh_cli.specs.declared.check_command.Question.{Question}
 use Rattle.jh_cli.specs.declared.error.CliError.{CliError}
-use Rattle.jh_cli.specs.declared.error.CliError.TheVariants.{Input, EnvironmentMissing, Environment, Element, History, Check, Settings, Run, HistoryFull, Mismatch, Thread, OnlyForRegister, Read, Write, OutOfMemory}
+use Rattle.jh_cli.specs.declared.error.CliError.TheVariants.{Input, EnvironmentMissing, Environment, Element, History, Check, Settings, Run, HistoryFull, Mismatch, Thread, OnlyForRegister, BadPalette, Unwritable, Read, Write, OutOfMemory}
 
 -- ---- no history is read
 
@@ -80,6 +80,8 @@ judging_refused question input history HistoryFull parsed refused = absurd (by_j
 judging_refused question input history Mismatch parsed refused = absurd (by_judging question.independent (check_judging question) history Mismatch refused)
 judging_refused question input history Thread parsed refused = (parsed.0, parsed.1, (history, parsed.2, refused))
 judging_refused question input history OnlyForRegister parsed refused = absurd (by_judging question.independent (check_judging question) history OnlyForRegister refused)
+judging_refused question input history BadPalette parsed refused = absurd (by_judging question.independent (check_judging question) history BadPalette refused)
+judging_refused question input history Unwritable parsed refused = absurd (by_judging question.independent (check_judging question) history Unwritable refused)
 judging_refused question input history Read parsed refused = absurd (by_judging question.independent (check_judging question) history Read refused)
 judging_refused question input history Write parsed refused = absurd (by_judging question.independent (check_judging question) history Write refused)
 judging_refused question input history OutOfMemory parsed refused = tt

@@ -21,7 +21,7 @@ use Rattle.jh_cli.specs.RunInside.{own_error}
 use Rattle.jh_cli.specs.RunRefusals.{RefusesRunBytes, RefusesOwn, RefusesRun, RefusesSerial, RefusesRunIn, RefusesThreads}
 use Rattle.jh_cli.specs.Status.{check_error, run_error, settings_error, threads_error, world_error}
 use Rattle.jh_cli.specs.declared.error.CliError.{CliError}
-use Rattle.jh_cli.specs.declared.error.CliError.TheVariants.{Input, EnvironmentMissing, Environment, Element, History, Check, Settings, Run, HistoryFull, Mismatch, Thread, OnlyForRegister, Read, Write, OutOfMemory}
+use Rattle.jh_cli.specs.declared.error.CliError.TheVariants.{Input, EnvironmentMissing, Environment, Element, History, Check, Settings, Run, HistoryFull, Mismatch, Thread, OnlyForRegister, BadPalette, Unwritable, Read, Write, OutOfMemory}
 
 -- bytes that mean no settings
 pub settings_refused : (input : List ℕ) (error : SettingsError.the_data) → settings.RefusesSettings input error → RefusesRunBytes input (settings_error error)
@@ -47,6 +47,8 @@ run_refused input p mode budget HistoryFull parsed h = (p, mode, budget, parsed,
 run_refused input p mode budget Mismatch parsed h = (p, mode, budget, parsed, h)
 run_refused input p mode budget Thread parsed h = (p, mode, budget, parsed, h)
 run_refused input p mode budget OnlyForRegister parsed h = (p, mode, budget, parsed, h)
+run_refused input p mode budget BadPalette parsed h = (p, mode, budget, parsed, h)
+run_refused input p mode budget Unwritable parsed h = (p, mode, budget, parsed, h)
 run_refused input p mode budget Read parsed h = (p, mode, budget, parsed, h)
 run_refused input p mode budget Write parsed h = (p, mode, budget, parsed, h)
 run_refused input p mode budget OutOfMemory parsed h = tt
@@ -74,6 +76,8 @@ bytes_refused input HistoryFull h = h
 bytes_refused input Mismatch h = h
 bytes_refused input Thread h = h
 bytes_refused input OnlyForRegister h = h
+bytes_refused input BadPalette h = h
+bytes_refused input Unwritable h = h
 bytes_refused input Read h = tt
 bytes_refused input Write h = absurd (no_write h.0 h.1 h.4)
 bytes_refused input OutOfMemory h = tt
@@ -108,6 +112,8 @@ serial_refused p journal history (Run error) judged fit run h = absurd h
 serial_refused p journal history HistoryFull judged fit run h = absurd h
 serial_refused p journal history Thread judged fit run h = absurd h
 serial_refused p journal history OnlyForRegister judged fit run h = absurd h
+serial_refused p journal history BadPalette judged fit run h = absurd h
+serial_refused p journal history Unwritable judged fit run h = absurd h
 serial_refused p journal history Read judged fit run h = absurd h
 serial_refused p journal history Write judged fit run h = absurd h
 
@@ -134,6 +140,8 @@ threads_refused workload history (Run error) h = absurd h
 threads_refused workload history HistoryFull h = absurd h
 threads_refused workload history Thread h = absurd h
 threads_refused workload history OnlyForRegister h = absurd h
+threads_refused workload history BadPalette h = absurd h
+threads_refused workload history Unwritable h = absurd h
 threads_refused workload history Read h = absurd h
 threads_refused workload history Write h = absurd h
 

@@ -16,7 +16,7 @@ use Rattle.jh_cli.specs.Status.{keys_error, reading_error}
 use Rattle.jh_cli.specs.TimelineRefusals.{RefusesFinding, RefusesPage, RefusesShowing, RefusesTimeline}
 use Rattle.jh_cli.specs.TimelineText.{timeline_judging}
 use Rattle.jh_cli.specs.declared.error.CliError.{CliError}
-use Rattle.jh_cli.specs.declared.error.CliError.TheVariants.{Input, EnvironmentMissing, Environment, Element, History, Check, Settings, Run, HistoryFull, Mismatch, Thread, OnlyForRegister, Read, Write, OutOfMemory}
+use Rattle.jh_cli.specs.declared.error.CliError.TheVariants.{Input, EnvironmentMissing, Environment, Element, History, Check, Settings, Run, HistoryFull, Mismatch, Thread, OnlyForRegister, BadPalette, Unwritable, Read, Write, OutOfMemory}
 use Rattle.jh_cli.specs.declared.timeline_command.TimelineJudging.{TimelineJudging}
 use Rattle.jh_cli.specs.declared.timeline_command.TimelineQuestion.{TimelineQuestion}
 
@@ -72,6 +72,8 @@ page_refused question input history below HistoryFull parts refused = (history, 
 page_refused question input history below Mismatch parts refused = (history, below, parts, refused)
 page_refused question input history below Thread parts refused = (history, below, parts, refused)
 page_refused question input history below OnlyForRegister parts refused = absurd (by_finding question.independent question.judging history OnlyForRegister refused)
+page_refused question input history below BadPalette parts refused = absurd (by_finding question.independent question.judging history BadPalette refused)
+page_refused question input history below Unwritable parts refused = absurd (by_finding question.independent question.judging history Unwritable refused)
 page_refused question input history below Read parts refused = tt
 page_refused question input history below Write parts refused = absurd (by_finding question.independent question.judging history Write refused)
 page_refused question input history below OutOfMemory parts refused = tt

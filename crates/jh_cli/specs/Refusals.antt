@@ -17,8 +17,8 @@ use Rattle.jh_cli.specs.declared.error.CliError.{CliError}
 use Rattle.jh_cli.specs.declared.error.CliError.TheVariants.{Input, EnvironmentMissing, Environment}
 use Rattle.jh_cli.specs.declared.error.CliError.TheVariants.{Element, History, Check, Settings, Run}
 use Rattle.jh_cli.specs.declared.error.CliError.TheVariants.{HistoryFull, Mismatch, Thread}
-use Rattle.jh_cli.specs.declared.error.CliError.TheVariants.{OnlyForRegister, Read, Write}
-use Rattle.jh_cli.specs.declared.error.CliError.TheVariants.{OutOfMemory}
+use Rattle.jh_cli.specs.declared.error.CliError.TheVariants.{OnlyForRegister, BadPalette}
+use Rattle.jh_cli.specs.declared.error.CliError.TheVariants.{Unwritable, Read, Write, OutOfMemory}
 
 -- the place of the first step among the elements, which count from 1
 abbrev pub first_step : ℕ
@@ -62,6 +62,8 @@ RefusesEnvValues values HistoryFull = ⊥
 RefusesEnvValues values Mismatch = ⊥
 RefusesEnvValues values Thread = ⊥
 RefusesEnvValues values OnlyForRegister = ⊥
+RefusesEnvValues values BadPalette = ⊥
+RefusesEnvValues values Unwritable = ⊥
 RefusesEnvValues values Read = ⊥
 RefusesEnvValues values Write = ⊥
 RefusesEnvValues values OutOfMemory = Unit {0}
@@ -86,6 +88,8 @@ RefusesInput input HistoryFull = ⊥
 RefusesInput input Mismatch = ⊥
 RefusesInput input Thread = ⊥
 RefusesInput input OnlyForRegister = ⊥
+RefusesInput input BadPalette = ⊥
+RefusesInput input Unwritable = ⊥
 RefusesInput input Read = Unit {0}
 RefusesInput input Write = (output : List ℕ) × IsEnvTextOf input output
 RefusesInput input OutOfMemory = Unit {0}
