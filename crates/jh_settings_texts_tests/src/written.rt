@@ -5,7 +5,7 @@
 ghost use Rattle.std.specs.Prelude.{◌≤◌};
 
 use jh_settings::{RunSettings, settings_of};
-use jh_settings_texts::{can_be_written, settings_to_text};
+use jh_settings_texts::{can_be_written, settings_behind, settings_to_text};
 use jh_simnode::Plan;
 use std::alloc::Global;
 
@@ -27,6 +27,16 @@ fn written(alloc: Global, plan: &Plan, budget: u64) -> Option<String>
 fn rewritten_once(alloc: Global, settings: &str) -> Option<String> {
     let RunSettings { plan, budget, .. } = settings_of(alloc, settings.as_bytes()).ok()?;
     written(alloc, &plan, budget.min(MAX_BUDGET))
+}
+
+/// What is written of the plan of settings behind a comment. None: memory was refused.
+fn commented_once(alloc: Global, settings: &str) -> Option<String> {
+    let RunSettings { plan, .. } = settings_of(alloc, settings.as_bytes()).ok()?;
+    if can_be_written(&plan) {
+        settings_behind(alloc, " of one read", &plan, 7).ok()
+    } else {
+        None
+    }
 }
 
 const ROWS: &str = r#"
@@ -154,4 +164,38 @@ fn plans_are_written(rt: HostRuntime) {
             "at {row}"
         );
     }
+}
+
+const ONE_READ: &str = r#"
+start = '{:nodes ["a"]}'
+store = "local"
+workload = "register"
+clients = 1
+ops = 1
+generator = '[:once :read]'
+"#;
+
+const COMMENTED: &str = r#"# of one read
+budget = 7
+clients = 1
+generator = "[:once :read]"
+mode = "serial"
+ops = 1
+rows = 4096
+schedule = []
+seed = 0
+start = '{:nodes ["a"], :cut [], :slow [], :loss [], :down [], :clock []}'
+store = "local"
+tick_every = 0
+volatile = false
+workload = "register"
+"#;
+
+#[test]
+fn a_comment_stands_before_settings(rt: HostRuntime) {
+    let text = commented_once(rt.alloc(), ONE_READ).or_else(|| commented_once(
+        rt.alloc(),
+        ONE_READ,
+    ));
+    assert!(rt; text.is_some_and(|it| it.as_str() == COMMENTED));
 }
