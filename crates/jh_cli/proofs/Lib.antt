@@ -5,3 +5,4 @@ pub mod WritingLemmas
 pub mod RunLemmas
 pub mod ShrinkLemmas
 pub mod TimelineLemmas
+pub mod SearchLemmas

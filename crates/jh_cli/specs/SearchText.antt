@@ -12,7 +12,7 @@ use Rattle.jh_search.specs.declared.options.Options.{Options}
 use Rattle.jh_search.specs.declared.serial.Searched.{Searched}
 use Rattle.jh_settings.specs.Settings.{AreSettingsOf}
 use Rattle.jh_settings.specs.declared.choices.Mode.{Mode}
-use Rattle.jh_cli.specs.EnvText.{line}
+use Rattle.jh_settings_texts.specs.Comments.{behind_comment}
 use Rattle.jh_cli.specs.declared.search_command.SearchQuestion.{SearchQuestion}
 
 -- what a search is asked, with these kinds of faults and a judge of this budget
@@ -26,22 +26,23 @@ search_options question palette budget =
       budget = budget;
     }
 
--- the line before the settings of the candidate of a number, of so many that were asked for
-abbrev pub candidate_line : ℕ → ℕ → List ℕ
-candidate_line number runs =
-    line (codes "# candidate " ++ (decimal number ++ (codes " of " ++ (decimal runs ++ codes ": invalid"))))
+-- the comment before the settings of the candidate of a number, of so many that were asked for
+abbrev pub candidate_comment : ℕ → ℕ → List ℕ
+candidate_comment number runs =
+    codes " candidate " ++ (decimal number ++ (codes " of " ++ (decimal runs ++ codes ": invalid")))
 
 -- the line where none of so many fails, and so many are unknown
 abbrev pub none_line : ℕ → ℕ → List ℕ
 none_line runs unknown =
-    line (codes "# none of " ++ (decimal runs
-    ++ (codes " candidates is invalid, " ++ (decimal unknown ++ codes " unknown"))))
+    codes "# none of " ++ (decimal runs
+    ++ (codes " candidates is invalid, " ++ (decimal unknown ++ codes " unknown\n")))
 
 -- All of it, where the candidate of a number fails or none does. What is written of a candidate
 -- means that candidate, to be run serially, and this budget.
 abbrev pub IsFoundText : PlanValue → Options → Option ℕ → ℕ → List ℕ → Type 0
 IsFoundText p options (Some number) unknown output =
-    (document : List ℕ) × (output ≡ candidate_line number options.runs ++ document)
+    (document : List ℕ)
+    × (output ≡ behind_comment (candidate_comment number options.runs) document)
     × AreSettingsOf output (candidate_of p options number) Mode.Serial options.budget
 IsFoundText p options None unknown output = output ≡ none_line options.runs unknown
 

@@ -3,14 +3,14 @@
 //! an input is refused in `specs/SearchRefusals.antt`; what a candidate is stands in `jh_search`.
 
 ghost use Rattle.std.specs.Prelude.{◌≡◌, ◌≢◌, ◌↔◌, ◌≤◌, ◌<◌, ◌+◌, ◌^◌, ℕ, List, IfOk, IfErr};
-ghost use Rattle.std.specs.Prelude.{IfSome, IsErrOf, MatchResult, None, Some};
+ghost use Rattle.std.specs.Prelude.{IfSome, IsErrOf, MatchResult, None, Some, string_bytes};
 ghost use Rattle.std.specs.Io.KnownBytes.{Appends};
-ghost use Rattle.jh_search.specs.Candidates.{candidate_of};
+ghost use Rattle.jh_settings_texts.specs.Comments.{IsComment};
 ghost use Rattle.jh_settings_texts.specs.SettingsWritten.{CanBeWritten};
 ghost use Rattle.jh_cli.specs.SearchRefusals.{RefusesSearch, RefusesSearchBytes};
 ghost use Rattle.jh_cli.specs.SearchText as text;
 ghost use Rattle.jh_cli.specs.SearchText.{IsFoundText, IsSearchTextOf, IsSearchedText};
-ghost use Rattle.jh_cli.specs.SearchText.{search_options};
+ghost use Rattle.jh_cli.specs.SearchText.{candidate_comment, search_options};
 
 use crate::env_command::MAX_READS;
 use crate::error::CliError;
@@ -220,6 +220,14 @@ fn none_text(alloc: Global, runs: u64, unknown: u64) -> Result<Vec<u8>, AllocErr
     Ok(line.into_bytes())
 }
 
+/// The comment before the settings of the candidate of a number, of so many.
+fn comment_of(alloc: Global, number: u64, runs: u64) -> Result<String, AllocError>
+    ensures text { IfOk result (λ text. string_bytes text ≡ candidate_comment number runs) }
+    ensures comment { IfOk result (λ text. IsComment (string_bytes text)) }
+{
+    format!(in alloc; " candidate {number} of {runs}: invalid")
+}
+
 /// The settings of the candidate of a number, behind a comment.
 fn found_text(
     alloc: Global,
@@ -233,7 +241,7 @@ fn found_text(
         IsFoundText plan.now options.now (Some number) 0 output.items) }
 {
     let found = candidate(alloc, plan, options, number)?;
-    let comment = format!(in alloc; " candidate {number} of {}: invalid", options.runs)?;
+    let comment = comment_of(alloc, number, options.runs)?;
     let output = settings_behind(alloc, &comment, &found, options.budget)?;
     Ok(output.into_bytes())
 }

@@ -38,7 +38,8 @@ needed_is : (least most : ℕ) (value : Option Data) (n : ℕ) → option_and_th
 needed_is least most None n e = absurd (none_not n e)
 needed_is least most (Some value) n e = whole_is least most value n e
 
-default_is : (least most default : ℕ) (value : Option Data) (n : ℕ) → least ≤ default → default ≤ most → option_map_or (whole_number_in least most) value (Some default) ≡ Some n → (least ≤ n) × (n ≤ most)
+-- a number within its range, or the default
+pub default_is : (least most default : ℕ) (value : Option Data) (n : ℕ) → least ≤ default → default ≤ most → option_map_or (whole_number_in least most) value (Some default) ≡ Some n → (least ≤ n) × (n ≤ most)
 default_is least most default None n low high e = let same : default ≡ n = same_Some default n e in (omega (arith, same), omega (arith, same))
 default_is least most default (Some value) n low high e = whole_is least most value n e
 

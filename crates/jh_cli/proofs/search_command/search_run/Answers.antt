@@ -1,5 +1,8 @@
 use Rattle.std.proofs.Common.{ℕ, List, subst}
+use Rattle.std.proofs.lemmas.Result.{err_from_is_err_and}
+use Rattle.jh_cli.specs.SearchRefusals.{RefusesSearchBytes}
 use Rattle.jh_cli.specs.SearchText.{IsSearchTextOf}
+use Rattle.jh_cli.proofs.SearchLemmas.{refused_by_bytes}
 use Rattle.jh_cli.proofs.WritingLemmas.{on_input}
 use Rattle.jh_cli.proofs.search_command.search_run.Goals as goal
 
@@ -21,3 +24,11 @@ returns-clause-refused g c =
       written.text.items,
       subst (λ (bytes : List ℕ). IsSearchTextOf c.args.question bytes written.status written.text.items) spelled (rw c.deref.ensures.value at c.in_ok-written.ensures),
     )) c.in_ok-input.ensures.bytes
+
+pub returns-in_err-written-clause-refused : goal.returns-in_err-written-clause-refused
+returns-in_err-written-clause-refused g c =
+    let p = err_from_is_err_and c.from_residual-in_err-written.result c.from_residual-in_err-written.ensures.1 in
+    let error = c.in_err-written.field-0.0 in
+    rw (p.1, p.2) (on_input _ _ (g.R.Read.remaining c.args.reader.now) (λ input spelled.
+    refused_by_bytes c.args.question input error (subst (λ (bytes : List ℕ). RefusesSearchBytes bytes error) spelled (rw c.deref.ensures.value at c.in_err-written.ensures)))
+    c.in_ok-input.ensures.bytes)

@@ -1,0 +1,72 @@
+-- What is written of a search, and why one is refused.
+use Rattle.std.proofs.Common.{◌≡◌, ℕ, ◌<◌, ◌≤◌, ◌^◌, List, ◌++◌, codes, Some, refl, subst, sym, ◌∙◌, arith}
+use Rattle.std.specs.Fmt.{decimal}
+use Rattle.toml.specs.Data.{Members}
+use Rattle.jh_simnode.specs.Plans.{PlanValue}
+use Rattle.jh_search.specs.Candidates.{candidate_of}
+use Rattle.jh_search.specs.declared.options.Options.{Options}
+use Rattle.jh_search.specs.declared.threads.SearchError.{SearchError}
+use Rattle.jh_search.specs.declared.threads.SearchError.TheVariants as search
+use Rattle.jh_settings.specs.Keys.{data_under}
+use Rattle.jh_settings.specs.Parsed.{parsed_budget}
+use Rattle.jh_settings.specs.Settings.{AreSettingsOf}
+use Rattle.jh_settings.specs.declared.choices.Mode.{Mode}
+use Rattle.jh_settings.specs.declared.keys.Key.{Key}
+use Rattle.jh_settings.proofs.PlanLemmas.{default_is}
+use Rattle.jh_settings_texts.specs.Comments.{IsComment, behind_comment}
+use Rattle.jh_settings_texts.specs.SettingsWritten.{plan_in_order}
+use Rattle.jh_settings_texts.proofs.CommentedLemmas.{number_in_comment, both_in_comment}
+use Rattle.jh_cli.specs.SearchRefusals.{RefusesSearch, RefusesSearchBytes}
+use Rattle.jh_cli.specs.SearchText.{IsFoundText, candidate_comment}
+use Rattle.jh_cli.specs.Status.{search_error}
+use Rattle.jh_cli.specs.declared.error.CliError.{CliError}
+use Rattle.jh_cli.specs.declared.error.CliError.TheVariants.{Input, EnvironmentMissing, Environment, Element, History, Check, Settings, Run, HistoryFull, Mismatch, Thread, OnlyForRegister, BadPalette, Unwritable, Read, Write, OutOfMemory}
+use Rattle.jh_cli.specs.declared.search_command.SearchQuestion.{SearchQuestion}
+
+-- the comment before a candidate is one
+pub candidate_in_comment : (number runs : ℕ) → number < 2 ^ 64 → runs < 2 ^ 64 → IsComment (candidate_comment number runs)
+candidate_in_comment number runs h k =
+    both_in_comment (codes " candidate ") (decimal number ++ (codes " of " ++ (decimal runs ++ codes ": invalid"))) refl
+    (both_in_comment (decimal number) (codes " of " ++ (decimal runs ++ codes ": invalid")) (number_in_comment number h)
+    (both_in_comment (codes " of ") (decimal runs ++ codes ": invalid") refl
+    (both_in_comment (decimal runs) (codes ": invalid") (number_in_comment runs k) refl)))
+
+-- what is written of a candidate that is in order already means it
+pub found_is : (p : PlanValue) (options : Options) (number : ℕ) (made : PlanValue) (comment output bytes : List ℕ) → made ≡ candidate_of p options number → plan_in_order made ≡ made
+    → comment ≡ candidate_comment number options.runs → (document : List ℕ) × (bytes ≡ behind_comment comment document)
+    → AreSettingsOf bytes (plan_in_order made) Mode.Serial options.budget → output ≡ bytes → IsFoundText p options (Some number) 0 output
+found_is p options number made comment output bytes candidate in_order is behind means written = (
+  behind.0,
+  written ∙ subst (λ c. bytes ≡ behind_comment c behind.0) is behind.1,
+  subst (λ text. AreSettingsOf text (candidate_of p options number) Mode.Serial options.budget) (sym written)
+      (subst (λ q. AreSettingsOf bytes q Mode.Serial options.budget) (in_order ∙ candidate) means),
+)
+
+-- settings have no budget that a judgement may not have
+pub budget_few : (input : List ℕ) (p : PlanValue) (mode : Mode) (budget : ℕ) → AreSettingsOf input p mode budget → budget ≤ 10000000
+budget_few input p mode budget are =
+    (default_is 0 10000000 100000 (data_under Key.Budget are.0) budget (omega arith) (omega arith) are.2.budget).1
+
+pub search_refused : (input : List ℕ) (e : SearchError) → RefusesSearchBytes input (search_error e)
+search_refused input search.Thread = tt
+search_refused input search.OutOfMemory = tt
+
+-- why the plan that bytes mean is not searched is why the command refuses them
+pub refused_by_bytes : (question : SearchQuestion) (input : List ℕ) (e : CliError) → RefusesSearchBytes input e → RefusesSearch question input e
+refused_by_bytes question input (Input error) h = absurd h
+refused_by_bytes question input EnvironmentMissing h = h
+refused_by_bytes question input (Environment error) h = h
+refused_by_bytes question input (Element place error) h = h
+refused_by_bytes question input (History error) h = h
+refused_by_bytes question input (Check error) h = h
+refused_by_bytes question input (Settings error) h = h
+refused_by_bytes question input (Run error) h = h
+refused_by_bytes question input HistoryFull h = h
+refused_by_bytes question input Mismatch h = h
+refused_by_bytes question input Thread h = h
+refused_by_bytes question input OnlyForRegister h = h
+refused_by_bytes question input BadPalette h = absurd h
+refused_by_bytes question input Unwritable h = h
+refused_by_bytes question input Read h = absurd h
+refused_by_bytes question input Write h = absurd h
+refused_by_bytes question input OutOfMemory h = h

@@ -1,0 +1,28 @@
+use Rattle.std.proofs.Common.{ℕ, ◌≤◌, subst, sym}
+use Rattle.jh_search.specs.declared.options.Options.{Options}
+use Rattle.jh_cli.specs.SearchRefusals.{RefusesSearchBytes}
+use Rattle.jh_cli.specs.SearchText.{IsSearchedText}
+use Rattle.jh_cli.proofs.SearchLemmas.{budget_few, search_refused}
+use Rattle.jh_cli.proofs.search_command.search_bytes.Goals as goal
+
+pub search_plan-requires-clause-budget : goal.search_plan-requires-clause-budget
+search_plan-requires-clause-budget g c κs within =
+    let settings = c.in_ok-settings.settings in
+    subst (λ (options : Options). options.budget ≤ 10000000) (sym c.options_of-options.ensures)
+    (budget_few c.args.input.now settings.plan settings.mode settings.budget c.in_ok-settings.ensures)
+
+pub returns-in-Ok : goal.returns-in-Ok
+returns-in-Ok g c =
+    let settings = c.in_ok-settings.settings in
+    let written = c.in-Ok.written in (
+      c.args.palette,
+      settings.plan,
+      settings.mode,
+      settings.budget,
+      c.requires.palette,
+      c.in_ok-settings.ensures,
+      subst (λ (options : Options). IsSearchedText settings.plan options written.status written.text.items) c.options_of-options.ensures c.in-Ok.ensures,
+    )
+
+pub returns : goal.returns
+returns g c = subst (RefusesSearchBytes c.args.input.now) (sym c.from.ensures) (search_refused c.args.input.now c.in-Err.error)
