@@ -1,14 +1,12 @@
 -- What is written of a search, and why one is refused.
 use Rattle.std.proofs.Common.{◌≡◌, ℕ, ◌<◌, ◌≤◌, ◌^◌, List, ◌++◌, codes, Some, refl, subst, sym, ◌∙◌, arith}
 use Rattle.std.specs.Fmt.{decimal}
-use Rattle.toml.specs.Data.{Members}
 use Rattle.jh_simnode.specs.Plans.{PlanValue}
 use Rattle.jh_search.specs.Candidates.{candidate_of}
 use Rattle.jh_search.specs.declared.options.Options.{Options}
 use Rattle.jh_search.specs.declared.threads.SearchError.{SearchError}
 use Rattle.jh_search.specs.declared.threads.SearchError.TheVariants as search
 use Rattle.jh_settings.specs.Keys.{data_under}
-use Rattle.jh_settings.specs.Parsed.{parsed_budget}
 use Rattle.jh_settings.specs.Settings.{AreSettingsOf}
 use Rattle.jh_settings.specs.declared.choices.Mode.{Mode}
 use Rattle.jh_settings.specs.declared.keys.Key.{Key}

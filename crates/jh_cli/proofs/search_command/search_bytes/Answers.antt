@@ -1,4 +1,4 @@
-use Rattle.std.proofs.Common.{ℕ, ◌≤◌, subst, sym}
+use Rattle.std.proofs.Common.{◌≤◌, subst, sym}
 use Rattle.jh_search.specs.declared.options.Options.{Options}
 use Rattle.jh_cli.specs.SearchRefusals.{RefusesSearchBytes}
 use Rattle.jh_cli.specs.SearchText.{IsSearchedText}
