@@ -128,59 +128,65 @@ fn search_command<'a>(alloc: Global) -> Result<Command<'a>, Error>
     ensures search { IfOk result (λ search. app_of search ≡ text.search) }
     ensures memory { IfErr result (λ e. kind_of e ≡ ErrorKind.OutOfMemory) }
 {
-    let most = i64::MAX as u64;
-    let runs = ranged_option(
-        alloc,
-        "runs",
-        "How many candidates are tried",
-        1,
-        most,
-        "10000",
-    );
-    let faults = ranged_option(
-        alloc,
-        "faults",
-        "How many random faults each has",
-        0,
-        256,
-        "8",
-    );
-    let from = ranged_option(
-        alloc,
-        "from",
-        "The number of the first candidate",
-        0,
-        most,
-        "0",
-    );
     let search = Command::new(alloc, "search")
         .about(
             "Tries random schedules for a run that fails, whose settings are read from standard input as TOML",
         )
         .after_help(help::SEARCH)
-        .arg(runs)?
-        .arg(faults)?
+        .arg(runs_option(alloc))?
+        .arg(faults_option(alloc))?
         .arg(palette_option(alloc))?
-        .arg(from)?
+        .arg(from_option(alloc))?
         .arg(given_threads_option(alloc))?;
     Ok(search)
 }
 
-/// An option that takes a number from the least to the most.
-fn ranged_option<'a>(
-    alloc: Global,
-    name: &'static str,
-    help: &'static str,
-    least: u64,
-    most: u64,
-    default: &'static str,
-) -> Arg<'a>
+/// How many candidates are tried at most: one, or more.
+fn runs_option<'a>(alloc: Global) -> Arg<'a>
     ensures rule { rule_of result
-        ≡ text.number_rule name.now (Unsigned least most) default.now }
+        ≡ text.number_rule (codes "runs") (Unsigned 1 9223372036854775807) (codes "10000") }
     ensures local { result.global ≡ false }
 {
-    let parser = value_parser!(u64).range(least..=most);
-    number_option(alloc, name, help, parser, default)
+    let parser = value_parser!(u64).range(1..=9_223_372_036_854_775_807);
+    number_option(
+        alloc,
+        "runs",
+        "How many candidates are tried",
+        parser,
+        "10000",
+    )
+}
+
+/// How many random faults each candidate has: at most 256.
+fn faults_option<'a>(alloc: Global) -> Arg<'a>
+    ensures rule { rule_of result
+        ≡ text.number_rule (codes "faults") (Unsigned 0 256) (codes "8") }
+    ensures local { result.global ≡ false }
+{
+    let parser = value_parser!(u64).range(..=256);
+    number_option(
+        alloc,
+        "faults",
+        "How many random faults each has",
+        parser,
+        "8",
+    )
+}
+
+/// The number of the first candidate.
+fn from_option<'a>(alloc: Global) -> Arg<'a>
+    ensures rule { rule_of result
+        ≡ text.number_rule (codes "from") (Unsigned 0 9223372036854775807) (codes "0") }
+    ensures local { result.global ≡ false }
+{
+    let parser = value_parser!(u64).range(..=9_223_372_036_854_775_807);
+    number_option(
+        alloc,
+        "from",
+        "The number of the first candidate",
+        parser,
+        "0",
+    )
 }
 
 /// The kinds of faults.

@@ -170,5 +170,7 @@ fn an_observer_is_told_of_candidates(rt: HostRuntime) {
         panic!(rt; "no answer")
     };
     assert_eq!(rt; (tried, unknown), (1_030, 1_030));
-    assert!(rt; output.as_slice() == b"# none of 1030 candidates is invalid, 1030 unknown\n");
+    assert!(rt;
+        output.as_slice() == b"# none of 1030 candidates is invalid, 1030 unknown\n".as_slice()
+    );
 }
