@@ -1,6 +1,6 @@
 -- What the options of commands read as, from what `clap`'s getters give.
 use Rattle.std.proofs.Common.{◌≡◌, ◌∙◌, refl, sym, ap, subst, codes, List, ℕ, ℤ, Bool, true, false, Option, Some, None}
-use Rattle.std.specs.Prelude.{Result, option_map, IfSome, IsNone}
+use Rattle.std.specs.Prelude.{Result, option_map, IfSome, IsNone, ◌≤◌}
 use Rattle.std.specs.Borrow.{Bor}
 use mir.Syntax.{w64}
 use Rattle.std.specs.Str.Parse.{ParsesSigned, ParsesUnsigned, ExplainsSignedError, ExplainsUnsignedError, HasSignedDigitsIfOk, HasUnsignedDigitsIfOk}
@@ -99,3 +99,8 @@ threads_given None None parsed taken = refl
 threads_given None (Some threads) parsed taken = absurd parsed.0
 threads_given (Some text) None parsed taken = taken refl
 threads_given (Some text) (Some threads) parsed taken = parsed
+
+-- and how many these are
+pub threads_few : (o : Option Text) (r : Option ℕ) → IfSome r (IsThreads o) → IfSome r (λ threads. (1 ≤ threads) × (threads ≤ 16))
+threads_few o None parsed = tt
+threads_few o (Some threads) parsed = (parsed.1, parsed.2)

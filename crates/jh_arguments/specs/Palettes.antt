@@ -1,6 +1,6 @@
 -- The kinds of faults that an option names (this project's own): their names, in any order, with
 -- commas between and nothing else.
-use Rattle.std.specs.Prelude.{ℕ, ◌==◌, Bool, List, [], ◌∷◌, codes, if◌then◌else◌, Option, Some, None}
+use Rattle.std.specs.Prelude.{ℕ, ◌==◌, Bool, true, false, List, codes, if◌then◌else◌, Option, Some, None}
 use Rattle.std.specs.List.{list_all, list_any, slice_split}
 use Rattle.std.specs.Str.{bytes_eq}
 use Rattle.jh_search.specs.declared.kinds.Palette.{Palette}
@@ -9,14 +9,20 @@ use Rattle.jh_search.specs.declared.kinds.Palette.{Palette}
 abbrev pub names_in : List ℕ → List (List ℕ)
 names_in text = slice_split (λ byte. byte == 44) text
 
--- the names of all kinds
-abbrev pub kind_names : List (List ℕ)
-kind_names =
-    codes "cut" ∷ codes "slow" ∷ codes "loss" ∷ codes "fix" ∷ codes "pause" ∷ codes "kill"
-    ∷ codes "bump" ∷ []
-
 abbrev pub is_kind_name : List ℕ → Bool
-is_kind_name name = list_any (λ kind. bytes_eq name kind) kind_names
+is_kind_name name =
+    if bytes_eq name (codes "cut") then true
+    else if bytes_eq name (codes "slow") then true
+    else if bytes_eq name (codes "loss") then true
+    else if bytes_eq name (codes "fix") then true
+    else if bytes_eq name (codes "pause") then true
+    else if bytes_eq name (codes "kill") then true
+    else if bytes_eq name (codes "bump") then true
+    else false
+
+-- the text names kinds and nothing else
+abbrev pub names_kinds : List ℕ → Bool
+names_kinds text = list_all is_kind_name (names_in text)
 
 -- the text names this kind
 abbrev pub names_kind : List ℕ → List ℕ → Bool
@@ -25,7 +31,7 @@ names_kind text kind = list_any (λ name. bytes_eq name kind) (names_in text)
 -- the palette that a text names, which has the kinds that it names
 abbrev pub palette_named : List ℕ → Option Palette
 palette_named text =
-    if list_all is_kind_name (names_in text)
+    if names_kinds text
     then Some (record {
       cut = names_kind text (codes "cut");
       slow = names_kind text (codes "slow");

@@ -2,7 +2,7 @@
 //! `specs/Commands.antt` says which arguments ask for which command, what a command writes, and why
 //! it refuses its input.
 
-ghost use Rattle.std.specs.Prelude.{◌≡◌, ◌≢◌, ◌↔◌, ℕ, List, Option, codes, IfOk, IfErr, IfSome};
+ghost use Rattle.std.specs.Prelude.{◌≡◌, ◌≢◌, ◌↔◌, ◌≤◌, ℕ, List, Option, codes, IfOk, IfErr, IfSome};
 ghost use Rattle.std.specs.Prelude.{IsNone, IsErrOf, option_and_then};
 ghost use Rattle.std.specs.Io.KnownBytes.{Appends};
 ghost use Rattle.clap.specs.Words.{first_of, found_of, one_of, rows_of, subcommand_rows_of};
@@ -14,7 +14,7 @@ ghost use Rattle.jh_arguments.specs.Commands.{IsInitial, IsNumberWithin};
 ghost use Rattle.jh_arguments.specs.Commands.{IsJudging, IsJudgingBy, IsNumber};
 ghost use Rattle.jh_arguments.specs.Commands.{IsOutputOf, IsThreads, RefusesCommand};
 ghost use Rattle.jh_arguments.specs.declared.commands.Command.{Command};
-ghost use Rattle.jh_arguments.specs.declared.commands.Command.TheVariants.{Check};
+ghost use Rattle.jh_arguments.specs.declared.commands.Command.TheVariants.{Check, Search};
 ghost use Rattle.jh_arguments.specs.Palettes as rule;
 ghost use Rattle.jh_cli.specs.declared.check_command.Question.{Question};
 ghost use Rattle.jh_cli.specs.declared.search_command.SearchQuestion.{SearchQuestion};
@@ -100,6 +100,7 @@ pub fn question_of(options: &ArgMatches<'_>) -> Option<Question>
 /// where the kinds of faults are no names of kinds, the question has no palette.
 pub fn search_question_of(options: &ArgMatches<'_>) -> Option<SearchQuestion>
     ensures parsed { IfSome result (AsksSearch (rows_of (found_of options.now))) }
+    ensures ranges { IfSome result (λ question. HasNumbersInRange (Search question)) }
     ensures taken { IsNone result → (question : SearchQuestion)
         → AsksSearch (rows_of (found_of options.now)) question → ⊥ }
 {
@@ -214,7 +215,9 @@ fn threads_of(options: &ArgMatches<'_>) -> Option<u32>
 
 /// How many threads options give, if they do.
 fn given_threads_of(options: &ArgMatches<'_>) -> Option<u32>
-    ensures { AreThreadsGiven (one_of (codes "threads") (rows_of (found_of options.now))) result }
+    ensures given { AreThreadsGiven (one_of (codes "threads") (rows_of (found_of options.now)))
+        result }
+    ensures few { IfSome result (λ threads. (1 ≤ threads) × (threads ≤ 16)) }
 {
     threads_of(options)
 }

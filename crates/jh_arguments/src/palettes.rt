@@ -6,14 +6,27 @@ ghost use Rattle.jh_arguments.specs.Palettes as rule;
 
 use jh_search::Palette;
 
-/// The names of all kinds.
-static KINDS: [&str; 7] = ["cut", "slow", "loss", "fix", "pause", "kill", "bump"];
-
 /// Whether a kind has this name.
 fn is_kind_name(name: &str) -> bool
     ensures { result ≡ rule.is_kind_name name.now }
 {
-    KINDS.iter().any(|kind| name == *kind)
+    match name {
+        "cut" => true,
+        "slow" => true,
+        "loss" => true,
+        "fix" => true,
+        "pause" => true,
+        "kill" => true,
+        "bump" => true,
+        _ => false,
+    }
+}
+
+/// Whether a text names kinds, and nothing else.
+fn names_kinds(text: &str) -> bool
+    ensures { result ≡ rule.names_kinds text.now }
+{
+    text.split(',').all(|name| is_kind_name(name))
 }
 
 /// Whether a text names this kind.
@@ -28,7 +41,7 @@ fn names_kind(text: &str, kind: &str) -> bool
 pub fn palette_named(text: &str) -> Option<Palette>
     ensures { result ≡ rule.palette_named text.now }
 {
-    if !text.split(',').all(is_kind_name) {
+    if !names_kinds(text) {
         return None;
     }
     Some(Palette {

@@ -1,4 +1,4 @@
-use Rattle.std.proofs.Common.{rules}
+use Rattle.std.proofs.Common.{rules, arith}
 use Rattle.jh_arguments.proofs.commands.search_question_of.Goals as goal
 
 pub returns-in_err-number_within-clause-taken : goal.returns-in_err-number_within-clause-taken
@@ -16,5 +16,9 @@ returns-clause-parsed c = record {
   runs = c.in_ok-number_within-2.ensures.parsed;
   faults = c.in_ok-number_within-3.ensures.parsed;
   palette = c.palette_of.ensures;
-  threads = c.given_threads_of.ensures;
+  threads = c.given_threads_of.ensures.given;
 }
+
+pub returns-clause-ranges : goal.returns-clause-ranges
+returns-clause-ranges c =
+    (omega (arith, c.in_ok-number_within.ensures.parsed.2, c.in_ok-number_within-2.ensures.parsed.2), c.given_threads_of.ensures.few)
