@@ -3,7 +3,7 @@
 //! it refuses its input.
 
 ghost use Rattle.std.specs.Prelude.{◌≡◌, ◌≢◌, ◌↔◌, ◌≤◌, ℕ, List, Option, codes, IfOk, IfErr, IfSome};
-ghost use Rattle.std.specs.Prelude.{IsNone, IsErrOf, option_and_then};
+ghost use Rattle.std.specs.Prelude.{IsNone, IsErrOf, None, option_and_then};
 ghost use Rattle.std.specs.Io.KnownBytes.{Appends};
 ghost use Rattle.clap.specs.Words.{first_of, found_of, one_of, rows_of, subcommand_rows_of};
 ghost use Rattle.jh_cli.specs.CheckText.{TakesInitial};
@@ -259,6 +259,10 @@ pub fn run<T: Threads + Wait + Sync, R: Read, W: Write, O: Observer + SearchObse
         ↔ (TakesInitial question.workload question.initial → ⊥) }
     ensures unread { (question : Question) → command ≡ Check question
         → IsErrOf result CliError.OnlyForRegister → reader.new ≡ reader.old }
+    ensures named { (question : SearchQuestion) → command ≡ Search question
+        → IsErrOf result CliError.BadPalette ↔ (question.palette ≡ None) }
+    ensures unread_unnamed { (question : SearchQuestion) → command ≡ Search question
+        → IsErrOf result CliError.BadPalette → reader.new ≡ reader.old }
     ensures refused { IfErr result
         (λ e. IfSome (R.remaining reader.old) (λ input. RefusesCommand command input e)) }
     ensures unwritten { IfErr result (λ e. e ≢ CliError.Write → writer.new ≡ writer.old) }
