@@ -1,6 +1,7 @@
 -- The kinds of faults that an option names (this project's own): their names, in any order, with
 -- commas between and nothing else.
-use Rattle.std.specs.Prelude.{ℕ, ◌==◌, Bool, true, false, List, codes, if◌then◌else◌, Option, Some, None}
+use Rattle.std.specs.Prelude.{ℕ, ◌==◌, Bool, true, false, List, codes, if◌then◌else◌, Option}
+use Rattle.std.specs.Prelude.{Some, None}
 use Rattle.std.specs.List.{list_all, list_any, slice_split}
 use Rattle.std.specs.Str.{bytes_eq}
 use Rattle.jh_search.specs.declared.kinds.Palette.{Palette}

@@ -2,8 +2,8 @@
 //! `specs/Commands.antt` says which arguments ask for which command, what a command writes, and why
 //! it refuses its input.
 
-ghost use Rattle.std.specs.Prelude.{◌≡◌, ◌≢◌, ◌↔◌, ◌≤◌, ℕ, List, Option, codes, IfOk, IfErr, IfSome};
-ghost use Rattle.std.specs.Prelude.{IsNone, IsErrOf, None, option_and_then};
+ghost use Rattle.std.specs.Prelude.{◌≡◌, ◌≢◌, ◌↔◌, ◌≤◌, ℕ, List, Option, codes, IfOk, IfErr};
+ghost use Rattle.std.specs.Prelude.{IfSome, IsNone, IsErrOf, None, option_and_then};
 ghost use Rattle.std.specs.Io.KnownBytes.{Appends};
 ghost use Rattle.clap.specs.Words.{first_of, found_of, one_of, rows_of, subcommand_rows_of};
 ghost use Rattle.jh_cli.specs.CheckText.{TakesInitial};

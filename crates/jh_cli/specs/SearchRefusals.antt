@@ -9,8 +9,9 @@ use Rattle.jh_settings_texts.specs.SettingsWritten.{CanBeWritten}
 use Rattle.jh_cli.specs.SearchText.{IsSearchTextOf}
 use Rattle.jh_cli.specs.Status.{IsInputError, IsSettingsError}
 use Rattle.jh_cli.specs.declared.error.CliError.{CliError}
-use Rattle.jh_cli.specs.declared.error.CliError.TheVariants.{BadPalette, Input, Settings, Unwritable}
-use Rattle.jh_cli.specs.declared.error.CliError.TheVariants.{Thread, Read, Write, OutOfMemory}
+use Rattle.jh_cli.specs.declared.error.CliError.TheVariants.{BadPalette, Input, Settings}
+use Rattle.jh_cli.specs.declared.error.CliError.TheVariants.{Unwritable, Thread, Read, Write}
+use Rattle.jh_cli.specs.declared.error.CliError.TheVariants.{OutOfMemory}
 use Rattle.jh_cli.specs.declared.search_command.SearchQuestion.{SearchQuestion}
 
 -- Why the candidates of the plan that bytes mean are not searched. One whose generator is nested as

@@ -1,7 +1,7 @@
--- What `jeprun search` writes (this project's own): a comment with the number of the least candidate
--- that fails, and the settings of that candidate behind it; or a comment that says that none of all
--- fails. Comments are TOML's, so all that is written of a candidate is settings, and `jeprun run`
--- and `jeprun shrink` read it.
+-- What `jeprun search` writes (this project's own): a comment with the number of the least
+-- candidate that fails, and the settings of that candidate behind it; or a comment that says that
+-- none of all fails. Comments are TOML's, so all that is written of a candidate is settings, and
+-- `jeprun run` and `jeprun shrink` read it.
 use Rattle.std.specs.Prelude.{◌≡◌, ℕ, ◌==◌, List, ◌++◌, codes, if◌then◌else◌, Option, Some, None}
 use Rattle.std.specs.Fmt.{decimal}
 use Rattle.jh_simnode.specs.Plans.{PlanValue}

@@ -17,8 +17,8 @@ use Rattle.jh_cli.specs.declared.error.CliError.{CliError}
 use Rattle.jh_cli.specs.declared.error.CliError.TheVariants.{Input, EnvironmentMissing, Environment}
 use Rattle.jh_cli.specs.declared.error.CliError.TheVariants.{Element, History, Check, Settings, Run}
 use Rattle.jh_cli.specs.declared.error.CliError.TheVariants.{HistoryFull, Mismatch, Thread}
-use Rattle.jh_cli.specs.declared.error.CliError.TheVariants.{OnlyForRegister, BadPalette, Unwritable}
-use Rattle.jh_cli.specs.declared.error.CliError.TheVariants.{Read, Write}
+use Rattle.jh_cli.specs.declared.error.CliError.TheVariants.{OnlyForRegister, BadPalette}
+use Rattle.jh_cli.specs.declared.error.CliError.TheVariants.{Unwritable, Read, Write}
 use Rattle.jh_cli.specs.declared.error.CliError.TheVariants.{OutOfMemory}
 
 abbrev pub error_status : CliError → ℕ
