@@ -1,6 +1,7 @@
 pub mod CountLemmas
 pub mod TurningLemmas
 pub mod LevelLemmas
+pub mod AllEntriesLemmas
 pub mod EntryLemmas
 pub mod FixLemmas
 pub mod OverlayLemmas

@@ -1,9 +1,8 @@
 -- Fresh tallies stand for no fault.
 use Rattle.std.proofs.Common.{◌≡◌, ℕ, ◌+◌, ◌*◌, ◌<◌, List, [], ◌∷◌, length, get_or, map, refl, ap, arith, zero, suc, Option, Some, None, replicate}
-use Rattle.std.specs.Prelude.{is_some}
-use Rattle.std.specs.List.{All, Contains, count_by}
+use Rattle.std.specs.List.{All, Contains}
 use Rattle.std.proofs.lemmas.Nat.{mul-add-lt}
-use Rattle.std.proofs.lemmas.Option.{none-some}
+use Rattle.std.proofs.lemmas.Option.{get_or_from_slice_get, none-some}
 use Rattle.std.proofs.lemmas.List.{get_or-map, length-map, length-replicate}
 use Rattle.std.proofs.lemmas.List.Elements.{All-nil, All-replicate}
 use Rattle.jh_tables.specs.declared.counted.FixEntry.{FixEntry}
@@ -16,12 +15,9 @@ use Rattle.jh_tables.specs.Faults.{IsFault, FitsCount}
 use Rattle.jh_tables.specs.Tallies.{Tallies, calm_tally, running_tally, cells_at_start, faultless_tallies, fresh_link, fresh_node}
 use Rattle.jh_tables.specs.Standing.{AreEntries, AreTallies, StandsAt}
 use Rattle.jh_tables.specs.TablesInside.{HasFixAmount}
+use Rattle.jh_tables.proofs.AllEntriesLemmas.{free_at, none_used}
 use Rattle.jh_tables.proofs.OverlayLemmas.{cells_are_overlay}
 use Rattle.jh_tables.proofs.WholeLemmas.{tables_of}
-
-none_used : (n : ℕ) → count_by is_some (replicate n (let none : Option FixEntry = None in none)) ≡ 0
-none_used zero = refl
-none_used (suc n) = none_used n
 
 zeros : (n i : ℕ) → ◌≡◌ {A = ℕ} (get_or (replicate n 0) i 0) 0
 zeros zero i = refl
@@ -32,11 +28,6 @@ all_free : (n : ℕ) (entry : FixEntry) → Contains (replicate n None) (Some en
 all_free zero entry among = omega (arith, among.1)
 all_free (suc n) entry (zero, h, is) = none-some entry is
 all_free (suc n) entry (suc k, h, is) = all_free n entry (k, omega (arith, h), is)
-
-free_at : (n i : ℕ) (d : Option FixEntry) → i < n → get_or (replicate n None) i d ≡ None
-free_at zero i d h = absurd (omega (arith, h))
-free_at (suc n) zero d h = refl
-free_at (suc n) (suc i) d h = free_at n i d (omega (arith, h))
 
 module _ (links : List Link) (nodes : List NodeCell) (square : length links ≡ length nodes * length nodes) where
   abbrev t : Tallies
@@ -66,7 +57,7 @@ module _ (links : List Link) (nodes : List NodeCell) (square : length links ≡ 
     all = λ stamp ms ls among. absurd (omega (arith, among.1));
     only = λ entry among. absurd (all_free 256 entry among);
     once = λ i j d p q. let long = length-replicate 256 (let none : Option FixEntry = None in none) in
-        rw (free_at 256 i d (omega (arith, long, p, q))) tt;
+        rw (get_or_from_slice_get (replicate 256 None) i None d (free_at 256 i (omega (arith, long, p, q)))) tt;
   }
 
   pub fresh_stands : StandsAt (tables_of t 0) []

@@ -1,6 +1,6 @@
 -- What is kept of each link, node and fix (this project's own), and the cells that are read off it.
-use Rattle.std.specs.Prelude.{ℕ, ◌+◌, ◌*◌, ◌/◌, ◌%◌, ◌==◌, ◌||◌, ◌&&◌, Bool, true, pos, ◌+ℤ◌, List}
-use Rattle.std.specs.Prelude.{[], length, map, max, if◌then◌else◌, nat_lt, fold, replicate, Option}
+use Rattle.std.specs.Prelude.{ℕ, ◌+◌, ◌-◌, ◌*◌, ◌/◌, ◌%◌, ◌==◌, ◌||◌, ◌&&◌, Bool, true, pos, ◌+ℤ◌}
+use Rattle.std.specs.Prelude.{List, [], ◌++◌, length, map, max, if◌then◌else◌, nat_lt, fold, replicate, Option}
 use Rattle.std.specs.Prelude.{Some, None, slice_index_or}
 use Rattle.std.specs.Int.{bit_at}
 use Rattle.std.specs.List.{range_with_len}
@@ -38,13 +38,18 @@ link_tally n tallies a b = slice_index_or tallies (a * n + b) calm_tally
 abbrev pub node_tally : List NodeTally → ℕ → NodeTally
 node_tally tallies a = slice_index_or tallies a running_tally
 
--- the tallies of cells on which no fault is put
+-- the tally of a link and of a node on which no fault is put
 abbrev pub fresh_link : Link → LinkTally
 fresh_link link = record { start = link; cuts = 0; slowed = 0; losses = replicate 20 0 }
 
 abbrev pub fresh_node : NodeCell → NodeTally
 fresh_node node = record { start = node; pauses = 0; kills = 0; bumped = pos 0 }
 
+-- these entries, and behind them free ones up to 256
+abbrev pub all_entries : List (Option FixEntry) → List (Option FixEntry)
+all_entries entries = entries ++ replicate (256 - length entries) None
+
+-- the tallies of cells on which no fault is put
 abbrev pub faultless_tallies : List Link → List NodeCell → Tallies
 faultless_tallies links nodes = record {
   links = map fresh_link links;

@@ -2,12 +2,13 @@
 //! of this file can write one without raising the count. `specs/Tallies.antt` says what stands
 //! where.
 
-ghost use Rattle.std.specs.Prelude.{◌≡◌, ◌<◌, ◌≤◌, ◌*◌, length, is_some, map, replicate};
-ghost use Rattle.std.specs.Prelude.{slice_index_or, slice_set, IfOk, None};
+ghost use Rattle.std.specs.Prelude.{◌≡◌, ◌<◌, ◌≤◌, ◌+◌, ◌*◌, length, is_some, map};
+ghost use Rattle.std.specs.Prelude.{slice_index_or, slice_set, IfOk};
 ghost use Rattle.std.specs.List.{count_by};
-ghost use Rattle.jh_tables.specs.Tallies.{calm_tally, faultless_tallies, fresh_link, fresh_node};
-ghost use Rattle.jh_tables.specs.Tallies.{running_tally};
-ghost use Rattle.jh_tables.specs.TurningInside.{written_tallies, IsThere};
+ghost use Rattle.std.specs.Vec.{vec_capacity};
+ghost use Rattle.jh_tables.specs.Tallies.{all_entries, calm_tally, faultless_tallies, fresh_link};
+ghost use Rattle.jh_tables.specs.Tallies.{fresh_node, running_tally};
+ghost use Rattle.jh_tables.specs.TurningInside.{one_if, written_tallies, IsThere};
 
 use crate::cells::{Link, NodeCell};
 use std::alloc::{AllocError, Global};
@@ -91,6 +92,8 @@ pub enum Cell {
 pub struct Counted {
     links: Vec<LinkTally>,
     nodes: Vec<NodeTally>,
+    // The entries that were ever in use. There is room for all, and those behind these are free: so
+    // tables on which nothing is fixed touch and copy none of the memory that is taken for entries.
     fixes: Vec<Option<FixEntry>>,
     // How many entries are in use.
     used: usize,
@@ -100,16 +103,22 @@ pub struct Counted {
 impl Model for Counted {
     ghost use Rattle.std.specs.Prelude.{◌≡◌, ◌≤◌, ◌*◌, length, is_some};
     ghost use Rattle.std.specs.List.{count_by};
-    ghost use Rattle.jh_tables.specs.Tallies.{Tallies};
+    ghost use Rattle.std.specs.Vec.{vec_capacity};
+    ghost use Rattle.jh_tables.specs.Tallies.{Tallies, all_entries};
 
     ghost Value = { Tallies };
 
-    ghost view = { λ a. record
-        { links = a.links.items; nodes = a.nodes.items; fixes = a.fixes.items; work = a.work } };
+    ghost view = { λ a. record {
+      links = a.links.items;
+      nodes = a.nodes.items;
+      fixes = all_entries a.fixes.items;
+      work = a.work;
+    } };
 
     ghost invariant = { λ a. (length a.nodes.items ≤ 64)
         × (length a.links.items ≡ length a.nodes.items * length a.nodes.items)
-        × (a.used ≡ count_by is_some a.fixes.items) };
+        × (a.used ≡ count_by is_some a.fixes.items)
+        × (length a.fixes.items ≤ 256) × (256 ≤ vec_capacity a.fixes) };
 }
 
 /// A tally for each link, in which no fault counts.
@@ -144,19 +153,46 @@ fn node_tallies(alloc: Global, nodes: &[NodeCell]) -> Result<Vec<NodeTally>, All
     Ok(tallies)
 }
 
-/// As many entries as there is room for, all of them free.
-fn free_entries(alloc: Global) -> Result<Vec<Option<FixEntry>>, AllocError>
-    ensures { IfOk result (λ entries. entries.items ≡ replicate 256 None) }
+/// These entries, with room for all that there can be.
+fn entries_of(
+    alloc: Global,
+    entries: &[Option<FixEntry>],
+) -> Result<Vec<Option<FixEntry>>, AllocError>
+    ensures entries { IfOk result (λ copy. copy.items ≡ entries.now) }
+    ensures room { IfOk result (λ copy. 256 ≤ vec_capacity copy) }
 {
-    let mut entries = Vec::with_capacity(alloc, MAX_FIXES)?;
-    for _place in 0..MAX_FIXES {
-        entries.push(None)?;
+    let mut copy = Vec::with_capacity(alloc, MAX_FIXES)?;
+    copy.extend_from_slice(entries)?;
+    Ok(copy)
+}
+
+/// Makes entries reach a place, by free ones. It takes no memory.
+fn reach(entries: &mut Vec<Option<FixEntry>>, place: usize)
+    requires place { place < 256 }
+    requires few { length entries.old.items ≤ 256 }
+    requires room { 256 ≤ vec_capacity entries.old }
+    ensures same { all_entries entries.new.items ≡ all_entries entries.old.items }
+    ensures used { count_by is_some entries.new.items ≡ count_by is_some entries.old.items }
+    ensures there { place < length entries.new.items }
+    ensures few { length entries.new.items ≤ 256 }
+    ensures room { 256 ≤ vec_capacity entries.new }
+{
+    for _place in entries.len()..place + 1 {
+        entries.push_reserved(None);
     }
-    Ok(entries)
+}
+
+/// How many entries are in use, once one is written over another.
+fn used_after(used: usize, before: &Option<FixEntry>, after: &Option<FixEntry>) -> usize
+    requires { (one_if (is_some before.now) ≤ used) × (used ≤ 256) }
+    ensures { result + one_if (is_some before.now) ≡ used + one_if (is_some after.now) }
+{
+    used - usize::from(before.is_some()) + usize::from(after.is_some())
 }
 
 impl Counted {
-    /// Tallies in which no fault counts, and 256 free entries. Nothing is written yet.
+    /// Tallies in which no fault counts, and 256 free entries. Nothing is written yet. The memory
+    /// that entries will need is taken here.
     pub fn new(alloc: Global, links: &[Link], nodes: &[NodeCell]) -> Result<Counted, AllocError>
         requires few { length nodes.now ≤ 64 }
         requires square { length links.now ≡ length nodes.now * length nodes.now }
@@ -165,7 +201,7 @@ impl Counted {
         Ok(Counted {
             links: link_tallies(alloc, links)?,
             nodes: node_tallies(alloc, nodes)?,
-            fixes: free_entries(alloc)?,
+            fixes: entries_of(alloc, &[])?,
             used: 0,
             work: 0,
         })
@@ -178,7 +214,7 @@ impl Counted {
         Ok(Counted {
             links: Vec::from_slice(alloc, &self.links)?,
             nodes: Vec::from_slice(alloc, &self.nodes)?,
-            fixes: Vec::from_slice(alloc, &self.fixes)?,
+            fixes: entries_of(alloc, &self.fixes)?,
             used: self.used,
             work: self.work,
         })
@@ -209,9 +245,10 @@ impl Counted {
         &self.nodes[place]
     }
 
-    /// All entries of fixes.
+    /// The entries of fixes that were ever in use. All behind them are free.
     pub fn fixes(&self) -> &[Option<FixEntry>]
-        ensures { result.now ≡ self.now.fixes }
+        ensures all { self.now.fixes ≡ all_entries result.now }
+        ensures few { length result.now ≤ 256 }
     {
         &self.fixes
     }
@@ -235,12 +272,8 @@ impl Counted {
         requires { place < length self.old.fixes }
         ensures { self.new ≡ record self.old { fixes = slice_set self.old.fixes place entry.now } }
     {
-        if self.fixes[place].is_some() {
-            self.used -= 1;
-        }
-        if entry.is_some() {
-            self.used += 1;
-        }
+        reach(&mut self.fixes, place);
+        self.used = used_after(self.used, &self.fixes[place], entry);
         self.fixes[place] = *entry;
     }
 

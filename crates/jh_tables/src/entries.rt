@@ -5,7 +5,8 @@
 ghost use Rattle.std.specs.Prelude.{◌≡◌, ◌<◌, ◌≤◌, ◌+◌, length, is_some, true, false, slice_get};
 ghost use Rattle.std.specs.Prelude.{Some, None, MatchOption};
 ghost use Rattle.std.specs.List.{All, count_by, list_any};
-ghost use Rattle.jh_tables.specs.Tallies.{is_after, is_fixed_in, later_fix, latest_fix};
+ghost use Rattle.jh_tables.specs.Tallies.{all_entries, is_after, is_fixed_in, later_fix};
+ghost use Rattle.jh_tables.specs.Tallies.{latest_fix};
 ghost use Rattle.jh_tables.specs.Faults.{AreKnownLinks, FitsCount, fix_value};
 ghost use Rattle.jh_tables.specs.Plain.{fault_of};
 ghost use Rattle.jh_tables.specs.Standing.{IsEntryOf, is_fix};
@@ -112,14 +113,29 @@ fn is_of_stamp(entry: &Option<FixEntry>, stamp: u32) -> bool
     }
 }
 
-/// An entry that is free: the one at this place, or else the first.
-fn free_place(entries: &[Option<FixEntry>], likely: usize) -> Option<usize>
-    ensures { MatchOption result (All (λ e. is_some e ≡ true) entries.now)
-        (λ place. slice_get entries.now place ≡ Some None) }
+/// The first entry that is free, among these or behind them.
+fn first_free(entries: &[Option<FixEntry>]) -> usize
+    requires room { count_by is_some entries.now < 256 }
+    requires few { length entries.now ≤ 256 }
+    ensures { slice_get (all_entries entries.now) result ≡ Some None }
+{
+    match entries.iter().position(|entry| entry.is_none()) {
+        Some(place) => place,
+        None => entries.len(),
+    }
+}
+
+/// An entry that is free: the one at this place, or else the first. Those behind these entries are
+/// free too.
+fn free_place(entries: &[Option<FixEntry>], likely: usize) -> usize
+    requires within { likely < 256 }
+    requires room { count_by is_some entries.now < 256 }
+    requires few { length entries.now ≤ 256 }
+    ensures { slice_get (all_entries entries.now) result ≡ Some None }
 {
     match entries.get(likely) {
-        Some(None) => Some(likely),
-        _ => entries.iter().position(|entry| entry.is_none()),
+        Some(Some(_)) => first_free(entries),
+        _ => likely,
     }
 }
 
@@ -134,15 +150,14 @@ fn place_of_stamp(entries: &[Option<FixEntry>], likely: usize, stamp: u32) -> Op
     }
 }
 
-/// Puts a fix in an entry that is free. Behind those in use one is, unless an earlier one was
+/// Puts a fix in an entry that is free. The one behind those in use is, unless one before them was
 /// taken.
 fn put_fix(counted: &mut Counted, fix: FixEntry)
     requires { count_by is_some counted.old.fixes < length counted.old.fixes }
     ensures { IsEntryPut fix counted.old counted.new }
 {
-    if let Some(place) = free_place(counted.fixes(), counted.used()) {
-        counted.write(place, &Cell::Fix(Some(fix)));
-    }
+    let place = free_place(counted.fixes(), counted.used());
+    counted.write(place, &Cell::Fix(Some(fix)));
 }
 
 /// Frees the entry with this stamp, which mostly is the one that was put last.
