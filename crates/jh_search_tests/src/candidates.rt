@@ -95,14 +95,20 @@ fn is_plain(alloc: Global, plan: &Plan, options: &Options, number: u64) -> Optio
     Some(text == plain)
 }
 
-/// The first of so many candidates that differs from the plain one. Up to eight faults of a palette of its own each has, so
-/// that all sets of kinds come.
+/// The same of a candidate and of a candidate of that one, which is a plan whose seed and schedule are random.
+fn are_plain(alloc: Global, plan: &Plan, options: &Options, number: u64) -> Option<bool> {
+    let random = candidate(alloc, plan, options, number).ok()?;
+    Some(is_plain(alloc, plan, options, number)? && is_plain(alloc, &random, options, number)?)
+}
+
+/// The first of so many candidates that differs from the plain one, or whose own candidate does. Up to eight faults of a
+/// palette of its own each has, so that all sets of kinds come.
 fn first_other(alloc: Global, plan: &Plan, count: u64) -> Option<u64> {
     for number in 0..count {
         let mut options = options_of((number % 9) as u32, 0, 0);
         options.palette = palette_of(number % 128);
-        let is_same = match is_plain(alloc, plan, &options, number) {
-            None => is_plain(alloc, plan, &options, number),
+        let is_same = match are_plain(alloc, plan, &options, number) {
+            None => are_plain(alloc, plan, &options, number),
             answer => answer,
         };
         if is_same != Some(true) {
@@ -122,9 +128,9 @@ fn first_other_of(alloc: Global, settings: &str, count: u64) -> Option<Option<u6
 
 #[test]
 fn candidates_are_the_plain_ones(rt: HostRuntime) {
-    assert_eq!(rt; first_other_of(rt.alloc(), THREE, 800), Some(None));
-    assert_eq!(rt; first_other_of(rt.alloc(), FIVE, 800), Some(None));
-    assert_eq!(rt; first_other_of(rt.alloc(), ONE, 400), Some(None));
+    assert_eq!(rt; first_other_of(rt.alloc(), THREE, 1_000), Some(None));
+    assert_eq!(rt; first_other_of(rt.alloc(), FIVE, 1_000), Some(None));
+    assert_eq!(rt; first_other_of(rt.alloc(), ONE, 500), Some(None));
 }
 
 /// The plan with so many entries, all due at once.

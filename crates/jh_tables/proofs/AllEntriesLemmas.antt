@@ -8,7 +8,7 @@ use Rattle.std.proofs.lemmas.List.Folds.{list_any-append}
 use Rattle.std.proofs.lemmas.List.Sums.{sum_by-append, fold-append}
 use Rattle.std.proofs.lemmas.Option.{none-some}
 use Rattle.jh_tables.specs.declared.counted.FixEntry.{FixEntry}
-use Rattle.jh_tables.specs.Tallies.{all_entries, later_fix, latest_fix}
+use Rattle.jh_tables.specs.Tallies.{with_free_entries, later_fix, latest_fix}
 use Rattle.jh_tables.specs.TurningInside.{has_stamp}
 
 -- so many free entries
@@ -30,7 +30,7 @@ behind (x ∷ entries) n zero past h = absurd (omega (arith, past))
 behind (x ∷ entries) n (suc k) past h = behind entries n k (omega (arith, past)) (omega (arith, h))
 
 -- all behind these are free
-pub free_behind : (entries : List (Option FixEntry)) (k : ℕ) → length entries ≤ 256 → length entries ≤ k → k < 256 → slice_get (all_entries entries) k ≡ Some None
+pub free_behind : (entries : List (Option FixEntry)) (k : ℕ) → length entries ≤ 256 → length entries ≤ k → k < 256 → slice_get (with_free_entries entries) k ≡ Some None
 free_behind entries k few past h = behind entries (left entries) k past (omega (arith, few, h))
 
 front : (entries rest : List (Option FixEntry)) (k : ℕ) (x : Option FixEntry) → slice_get entries k ≡ Some x → slice_get (entries ++ rest) k ≡ Some x
@@ -39,7 +39,7 @@ front (y ∷ entries) rest zero x is = is
 front (y ∷ entries) rest (suc k) x is = front entries rest k x is
 
 -- each of these stands where it stood
-pub entry_stays : (entries : List (Option FixEntry)) (k : ℕ) (x : Option FixEntry) → slice_get entries k ≡ Some x → slice_get (all_entries entries) k ≡ Some x
+pub entry_stays : (entries : List (Option FixEntry)) (k : ℕ) (x : Option FixEntry) → slice_get entries k ≡ Some x → slice_get (with_free_entries entries) k ≡ Some x
 entry_stays entries k x is = front entries (free (left entries)) k x is
 
 pub none_used : (n : ℕ) → count_by is_some (free n) ≡ 0
@@ -47,7 +47,7 @@ none_used zero = refl
 none_used (suc n) = none_used n
 
 -- no more are in use
-pub used_all : (entries : List (Option FixEntry)) → count_by is_some (all_entries entries) ≡ count_by is_some entries
+pub used_all : (entries : List (Option FixEntry)) → count_by is_some (with_free_entries entries) ≡ count_by is_some entries
 used_all entries =
     omega (arith, none_used (left entries), sum_by-append (λ (x : Option FixEntry). if is_some x then 1 else 0) entries (free (left entries)))
 
@@ -60,7 +60,7 @@ none_later a b zero latest = refl
 none_later a b (suc n) latest = none_later a b n latest
 
 -- none of them fixes a link
-pub latest_all : (a b : ℕ) (entries : List (Option FixEntry)) → latest_fix a b (all_entries entries) ≡ latest_fix a b entries
+pub latest_all : (a b : ℕ) (entries : List (Option FixEntry)) → latest_fix a b (with_free_entries entries) ≡ latest_fix a b entries
 latest_all a b entries = fold-append (later_fix a b) None entries (free (left entries)) ∙ none_later a b (left entries) (latest_fix a b entries)
 
 none_stamped : (stamp n : ℕ) → list_any (has_stamp stamp) (free n) ≡ false
@@ -68,21 +68,21 @@ none_stamped stamp zero = refl
 none_stamped stamp (suc n) = none_stamped stamp n
 
 -- none of them has a stamp
-pub stamped_all : (stamp : ℕ) (entries : List (Option FixEntry)) → list_any (has_stamp stamp) (all_entries entries) ≡ list_any (has_stamp stamp) entries
+pub stamped_all : (stamp : ℕ) (entries : List (Option FixEntry)) → list_any (has_stamp stamp) (with_free_entries entries) ≡ list_any (has_stamp stamp) entries
 stamped_all stamp entries =
     list_any-append (has_stamp stamp) entries (free (left entries))
     ∙ rw (none_stamped stamp (left entries)) (or-false (list_any (has_stamp stamp) entries))
 
 -- what is written over one of these is written there
-pub written_all : (entries : List (Option FixEntry)) (k : ℕ) (x : Option FixEntry) → k < length entries → set (all_entries entries) k x ≡ all_entries (set entries k x)
+pub written_all : (entries : List (Option FixEntry)) (k : ℕ) (x : Option FixEntry) → k < length entries → set (with_free_entries entries) k x ≡ with_free_entries (set entries k x)
 written_all entries k x there = set-append_left entries (free (left entries)) k x there ∙ rw (length-set entries k x) refl
 
 -- the first free one behind these is one of them or not
-pub one_more : (entries : List (Option FixEntry)) → length entries < 256 → all_entries (entries ++ None ∷ []) ≡ all_entries entries
+pub one_more : (entries : List (Option FixEntry)) → length entries < 256 → with_free_entries (entries ++ None ∷ []) ≡ with_free_entries entries
 one_more entries few =
     let n = left (entries ++ None ∷ []) in
     let long : left entries ≡ suc n = omega (arith, few, length-append entries (None ∷ [])) in
     append_assoc entries (None ∷ []) (free n) ∙ rw long refl
 
-pub all_are_256 : (entries : List (Option FixEntry)) → length entries ≤ 256 → length (all_entries entries) ≡ 256
+pub all_are_256 : (entries : List (Option FixEntry)) → length entries ≤ 256 → length (with_free_entries entries) ≡ 256
 all_are_256 entries few = omega (arith, few, length-append entries (free (left entries)), length-replicate (left entries) (let none : Option FixEntry = None in none))

@@ -46,8 +46,8 @@ abbrev pub fresh_node : NodeCell → NodeTally
 fresh_node node = record { start = node; pauses = 0; kills = 0; bumped = pos 0 }
 
 -- these entries, and behind them free ones up to 256
-abbrev pub all_entries : List (Option FixEntry) → List (Option FixEntry)
-all_entries entries = entries ++ replicate (256 - length entries) None
+abbrev pub with_free_entries : List (Option FixEntry) → List (Option FixEntry)
+with_free_entries entries = entries ++ replicate (256 - length entries) None
 
 -- the tallies of cells on which no fault is put
 abbrev pub faultless_tallies : List Link → List NodeCell → Tallies

@@ -6,7 +6,7 @@ ghost use Rattle.std.specs.Prelude.{◌≡◌, ◌<◌, ◌≤◌, ◌+◌, ◌*
 ghost use Rattle.std.specs.Prelude.{slice_index_or, slice_set, IfOk};
 ghost use Rattle.std.specs.List.{count_by};
 ghost use Rattle.std.specs.Vec.{vec_capacity};
-ghost use Rattle.jh_tables.specs.Tallies.{all_entries, calm_tally, faultless_tallies, fresh_link};
+ghost use Rattle.jh_tables.specs.Tallies.{with_free_entries, calm_tally, faultless_tallies, fresh_link};
 ghost use Rattle.jh_tables.specs.Tallies.{fresh_node, running_tally};
 ghost use Rattle.jh_tables.specs.TurningInside.{one_if, written_tallies, IsThere};
 
@@ -104,14 +104,14 @@ impl Model for Counted {
     ghost use Rattle.std.specs.Prelude.{◌≡◌, ◌≤◌, ◌*◌, length, is_some};
     ghost use Rattle.std.specs.List.{count_by};
     ghost use Rattle.std.specs.Vec.{vec_capacity};
-    ghost use Rattle.jh_tables.specs.Tallies.{Tallies, all_entries};
+    ghost use Rattle.jh_tables.specs.Tallies.{Tallies, with_free_entries};
 
     ghost Value = { Tallies };
 
     ghost view = { λ a. record {
       links = a.links.items;
       nodes = a.nodes.items;
-      fixes = all_entries a.fixes.items;
+      fixes = with_free_entries a.fixes.items;
       work = a.work;
     } };
 
@@ -171,7 +171,7 @@ fn reach(entries: &mut Vec<Option<FixEntry>>, place: usize)
     requires place { place < 256 }
     requires few { length entries.old.items ≤ 256 }
     requires room { 256 ≤ vec_capacity entries.old }
-    ensures same { all_entries entries.new.items ≡ all_entries entries.old.items }
+    ensures same { with_free_entries entries.new.items ≡ with_free_entries entries.old.items }
     ensures used { count_by is_some entries.new.items ≡ count_by is_some entries.old.items }
     ensures there { place < length entries.new.items }
     ensures few { length entries.new.items ≤ 256 }
@@ -247,7 +247,7 @@ impl Counted {
 
     /// The entries of fixes that were ever in use. All behind them are free.
     pub fn fixes(&self) -> &[Option<FixEntry>]
-        ensures all { self.now.fixes ≡ all_entries result.now }
+        ensures all { self.now.fixes ≡ with_free_entries result.now }
         ensures few { length result.now ≤ 256 }
     {
         &self.fixes

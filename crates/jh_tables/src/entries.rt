@@ -5,7 +5,7 @@
 ghost use Rattle.std.specs.Prelude.{◌≡◌, ◌<◌, ◌≤◌, ◌+◌, length, is_some, true, false, slice_get};
 ghost use Rattle.std.specs.Prelude.{Some, None, MatchOption};
 ghost use Rattle.std.specs.List.{All, count_by, list_any};
-ghost use Rattle.jh_tables.specs.Tallies.{all_entries, is_after, is_fixed_in, later_fix};
+ghost use Rattle.jh_tables.specs.Tallies.{with_free_entries, is_after, is_fixed_in, later_fix};
 ghost use Rattle.jh_tables.specs.Tallies.{latest_fix};
 ghost use Rattle.jh_tables.specs.Faults.{AreKnownLinks, FitsCount, fix_value};
 ghost use Rattle.jh_tables.specs.Plain.{fault_of};
@@ -117,7 +117,7 @@ fn is_of_stamp(entry: &Option<FixEntry>, stamp: u32) -> bool
 fn first_free(entries: &[Option<FixEntry>]) -> usize
     requires room { count_by is_some entries.now < 256 }
     requires few { length entries.now ≤ 256 }
-    ensures { slice_get (all_entries entries.now) result ≡ Some None }
+    ensures { slice_get (with_free_entries entries.now) result ≡ Some None }
 {
     match entries.iter().position(|entry| entry.is_none()) {
         Some(place) => place,
@@ -131,7 +131,7 @@ fn free_place(entries: &[Option<FixEntry>], likely: usize) -> usize
     requires within { likely < 256 }
     requires room { count_by is_some entries.now < 256 }
     requires few { length entries.now ≤ 256 }
-    ensures { slice_get (all_entries entries.now) result ≡ Some None }
+    ensures { slice_get (with_free_entries entries.now) result ≡ Some None }
 {
     match entries.get(likely) {
         Some(Some(_)) => first_free(entries),

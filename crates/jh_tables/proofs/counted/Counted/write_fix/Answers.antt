@@ -1,7 +1,7 @@
 use Rattle.std.proofs.Common.{◌∙◌, sym, ap, List, Option}
 use Rattle.std.specs.Prelude.{slice_set}
 use Rattle.jh_tables.specs.declared.counted.FixEntry.{FixEntry}
-use Rattle.jh_tables.specs.Tallies.{Tallies, all_entries}
+use Rattle.jh_tables.specs.Tallies.{Tallies, with_free_entries}
 use Rattle.jh_tables.proofs.AllEntriesLemmas.{written_all}
 use Rattle.jh_tables.proofs.counted.Counted.write_fix.Goals as goal
 
@@ -16,7 +16,7 @@ returns c =
     let old : Tallies = record {
       links = c.self.inside.links.items;
       nodes = c.self.inside.nodes.items;
-      fixes = all_entries c.self.inside.fixes.items;
+      fixes = with_free_entries c.self.inside.fixes.items;
       work = c.self.inside.work;
     } in
     ap (with_fixes old) (sym (written_all entries place entry c.reach.ensures.there) ∙ ap (λ fixes. slice_set fixes place entry) c.reach.ensures.same)
