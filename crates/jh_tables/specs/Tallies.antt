@@ -1,7 +1,7 @@
 -- What is kept of each link, node and fix (this project's own), and the cells that are read off it.
 use Rattle.std.specs.Prelude.{ℕ, ◌+◌, ◌-◌, ◌*◌, ◌/◌, ◌%◌, ◌==◌, ◌||◌, ◌&&◌, Bool, true, pos, ◌+ℤ◌}
-use Rattle.std.specs.Prelude.{List, [], ◌++◌, length, map, max, if◌then◌else◌, nat_lt, fold, replicate, Option}
-use Rattle.std.specs.Prelude.{Some, None, slice_index_or}
+use Rattle.std.specs.Prelude.{List, [], ◌++◌, length, map, max, if◌then◌else◌, nat_lt, fold}
+use Rattle.std.specs.Prelude.{replicate, Option, Some, None, slice_index_or}
 use Rattle.std.specs.Int.{bit_at}
 use Rattle.std.specs.List.{range_with_len}
 use Rattle.jh_tables.specs.declared.cells.Life.TheVariants.{Running, Paused, Killed}

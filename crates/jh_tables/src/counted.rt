@@ -6,8 +6,8 @@ ghost use Rattle.std.specs.Prelude.{◌≡◌, ◌<◌, ◌≤◌, ◌+◌, ◌*
 ghost use Rattle.std.specs.Prelude.{slice_index_or, slice_set, IfOk};
 ghost use Rattle.std.specs.List.{count_by};
 ghost use Rattle.std.specs.Vec.{vec_capacity};
-ghost use Rattle.jh_tables.specs.Tallies.{with_free_entries, calm_tally, faultless_tallies, fresh_link};
-ghost use Rattle.jh_tables.specs.Tallies.{fresh_node, running_tally};
+ghost use Rattle.jh_tables.specs.Tallies.{calm_tally, faultless_tallies, fresh_link, fresh_node};
+ghost use Rattle.jh_tables.specs.Tallies.{running_tally, with_free_entries};
 ghost use Rattle.jh_tables.specs.TurningInside.{one_if, written_tallies, IsThere};
 
 use crate::cells::{Link, NodeCell};

@@ -5,8 +5,8 @@
 ghost use Rattle.std.specs.Prelude.{◌≡◌, ◌<◌, ◌≤◌, ◌+◌, length, is_some, true, false, slice_get};
 ghost use Rattle.std.specs.Prelude.{Some, None, MatchOption};
 ghost use Rattle.std.specs.List.{All, count_by, list_any};
-ghost use Rattle.jh_tables.specs.Tallies.{with_free_entries, is_after, is_fixed_in, later_fix};
-ghost use Rattle.jh_tables.specs.Tallies.{latest_fix};
+ghost use Rattle.jh_tables.specs.Tallies.{is_after, is_fixed_in, later_fix, latest_fix};
+ghost use Rattle.jh_tables.specs.Tallies.{with_free_entries};
 ghost use Rattle.jh_tables.specs.Faults.{AreKnownLinks, FitsCount, fix_value};
 ghost use Rattle.jh_tables.specs.Plain.{fault_of};
 ghost use Rattle.jh_tables.specs.Standing.{IsEntryOf, is_fix};
