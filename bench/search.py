@@ -14,7 +14,7 @@ candidates, as many at once as there are jobs (4), each on one thread.
 
 With `--speed` it gives how many candidates are tried in a second, on one thread and on four, and how many times as many four
 are; then nothing else should run on the machine. What is timed are the longest stretches of candidates of which none fails,
-as many as it takes for 4,000 candidates. Where they are shorter than 200, no speed is given.
+as many as it takes for 4,000 candidates. Where these are shorter than 200 there is no row.
 """
 
 import argparse
@@ -114,7 +114,7 @@ def left(program, source, least):
 
 
 def row(pool, program, source, runs, with_speed):
-    """The columns of a row behind those that name it."""
+    """The columns of a row behind those that name it, or None where its speed cannot be timed."""
     parts = [(program, source, first, min(first + PART, runs)) for first in range(0, runs, PART)]
     failing = [number for numbers in pool.imap(failing_in, parts) for number in numbers]
     if not with_speed:
@@ -122,7 +122,7 @@ def row(pool, program, source, runs, with_speed):
         return [f"{len(failing):,}", *(["", ""] if least is None else [str(least), left(program, source, least)])]
     timed = stretches(failing, runs)
     if not timed:
-        return ["", "", ""]
+        return None
     one, four = (speed(program, source, timed, threads) for threads in (1, 4))
     return [f"{one:,.0f}", f"{four:,.0f}", f"{four / one:.1f}"]
 
@@ -147,7 +147,8 @@ def main():
                             text.write(settings(store, workload, volatile, nodes))
                         found = row(pool, options.program, source, options.runs, options.speed)
                         named = [store, workload, "yes" if volatile else "no", str(nodes)]
-                        print(f"| {' | '.join(named + found)} |", flush=True)
+                        if found:
+                            print(f"| {' | '.join(named + found)} |", flush=True)
 
 
 if __name__ == "__main__":
