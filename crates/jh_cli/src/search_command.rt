@@ -97,7 +97,8 @@ pub fn search_run<T: Threads + Wait + Sync, R: Read, W: Write, O: SearchObserver
 /// How many threads: as many as are given, or as there are processors, at most 16.
 fn threads_of<T: Threads>(rt: &T, given: Option<u32>) -> u32
     requires { IfSome given (λ threads. (1 ≤ threads) × (threads ≤ 16)) }
-    ensures { (1 ≤ result) × (result ≤ 16) }
+    ensures given { IfSome given (λ threads. result ≡ threads) }
+    ensures within { (1 ≤ result) × (result ≤ 16) }
 {
     match given {
         Some(threads) => threads,
