@@ -25,6 +25,7 @@ pub mod ReadAtLemmas
 pub mod SequenceReadLemmas
 pub mod JoinLemmas
 pub mod PrintLemmas
+pub mod PartLemmas
 pub mod EscapeLemmas
 pub mod NormalLemmas
 pub mod PrintedBackLemmas

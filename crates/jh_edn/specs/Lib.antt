@@ -15,4 +15,5 @@ pub mod Sequences
 pub mod Gives
 pub mod Refused
 pub mod Print
+pub mod Parts
 pub mod TextInside

@@ -48,6 +48,19 @@ impl Value {
     }
 }
 
+impl Pairs {
+    /// The same pairs once more, in their order. Costs as much as they are large.
+    ///
+    /// # Errors
+    ///
+    /// Where there is no memory for them.
+    pub fn copy(&self, alloc: Global) -> Result<Pairs, AllocError>
+        ensures { IfOk result (λ copies. copies ≡ self.now) }
+    {
+        copy_pairs(alloc, self)
+    }
+}
+
 /// The same elements once more.
 #[cycle(copy)]
 fn copy_items(alloc: Global, items: &Values) -> Result<Values, AllocError>

@@ -21,7 +21,9 @@ use itoa::Buffer;
 use std::io::Write;
 
 /// Writes bytes as they are.
-fn put<W: Write>(bytes: &[u8], writer: &mut W) -> Result<(), EdnError>
+///
+/// Errors: `Write` where the writer failed, and no other.
+pub fn put<W: Write>(bytes: &[u8], writer: &mut W) -> Result<(), EdnError>
     ensures bytes { OnOk result
         (Appends (W.contents writer.old) (W.contents writer.new) bytes.now) }
     ensures error { IfErr result (λ e. e ≡ EdnError.Write) }
@@ -30,7 +32,11 @@ fn put<W: Write>(bytes: &[u8], writer: &mut W) -> Result<(), EdnError>
 }
 
 /// The separator, unless this is the first.
-fn separate<W: Write>(first: bool, separator: &[u8], writer: &mut W) -> Result<(), EdnError>
+pub(crate) fn separate<W: Write>(
+    first: bool,
+    separator: &[u8],
+    writer: &mut W,
+) -> Result<(), EdnError>
     ensures bytes { OnOk result
         (Appends (W.contents writer.old) (W.contents writer.new)
         (separator_before first separator.now)) }

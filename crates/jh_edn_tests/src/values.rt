@@ -2,7 +2,10 @@
 //! succeed.
 
 use crate::rows::{Ask, MALFORMED, ask_all};
-use jh_edn::{EdnError, Tagged, Text, Value, Values, normal_laws, print_laws, read_all, write};
+use jh_edn::{
+    EdnError, Tagged, Text, Value, Values, normal_laws, print_laws, put, read_all, write,
+    write_part,
+};
 use std::alloc::{AllocError, Global};
 use std::cmp::Ordering;
 use std::test::Fail;
@@ -32,6 +35,43 @@ fn puts_in_normal_form(rt: HostRuntime) -> Result<(), Fail> {
         \x1e#{#b 1 #a 2 #a 1}\x1f#{#a 1 #a 2 #b 1}\
         \x1e#t (1 (-2 ()))\x1f#t [1 [-2 []]]";
     ask_all(rt.alloc(), &Ask::Normal, rows)
+}
+
+/// The values of a text, as a part of a line and then in braces.
+pub(crate) fn part(alloc: Global, text: &str) -> Result<Vec<u8>, EdnError> {
+    let values = read_all(alloc, &mut text.as_bytes(), 2)?;
+    let mut line = Vec::new(alloc);
+    put(b"{:a 1", &mut line)?;
+    write_part("items", &values, &mut line)?;
+    put(b"}", &mut line)?;
+    Ok(line)
+}
+
+/// A copy of the pairs of a map, printed as a map.
+pub(crate) fn pairs(alloc: Global, text: &str) -> Result<Vec<u8>, EdnError> {
+    let values = read_all(alloc, &mut text.as_bytes(), 2)?;
+    let [Value::Map(pairs)] = values.as_slice() else {
+        return Err(MALFORMED);
+    };
+    let mut printed = Vec::new(alloc);
+    write(&Value::Map(pairs.copy(alloc)?), &mut printed)?;
+    Ok(printed)
+}
+
+#[test]
+fn writes_parts_of_lines(rt: HostRuntime) -> Result<(), Fail> {
+    let rows = "\
+        \x1f{:a 1, :items []}\
+        \x1e1 \"b\" (c)\x1f{:a 1, :items [1 \"b\" (c)]}";
+    ask_all(rt.alloc(), &Ask::Part, rows)
+}
+
+#[test]
+fn copies_pairs(rt: HostRuntime) -> Result<(), Fail> {
+    let rows = "\
+        {}\x1f{}\
+        \x1e{:b [1] a {2 3}}\x1f{:b [1], a {2 3}}";
+    ask_all(rt.alloc(), &Ask::Pairs, rows)
 }
 
 /// How the two values of a text compare.

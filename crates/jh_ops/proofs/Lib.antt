@@ -4,6 +4,7 @@ pub mod StageLemmas
 pub mod PlaceLemmas
 pub mod MapPairLemmas
 pub mod ReadBackLemmas
+pub mod PrintedLemmas
 pub mod FourPairLemmas
 pub mod HistoryLemmas
 pub mod PairPlaceLemmas

@@ -34,6 +34,20 @@ operation op =
 abbrev pub operations : List Op → List Operation
 operations ops = map operation ops
 
+-- the operation with another value
+abbrev pub operation_with_value : Edn → Operation → Operation
+operation_with_value value op =
+    record {
+      kind = op.kind;
+      process = op.process;
+      f = op.f;
+      value = value;
+      time = op.time;
+      index =
+          op.index;
+      rest = op.rest;
+    }
+
 -- a client's process, and not the nemesis
 abbrev pub is_client : Process → Bool
 is_client (Process.Client number) = true

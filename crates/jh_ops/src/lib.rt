@@ -2,7 +2,9 @@
 #![tactic(auto)]
 
 mod call;
+mod copy;
 mod history;
+mod op_printed;
 mod op_text;
 mod op_written;
 mod operation;
@@ -13,6 +15,7 @@ mod words;
 
 pub use call::{Call, Request, Workload};
 pub use history::{HistoryError, history_of};
+pub use op_printed::write_operation;
 pub use op_text::{OpError, op_of};
 pub use op_written::{operations_read_back, value_of};
 pub use operation::{Kind, Op, Process};

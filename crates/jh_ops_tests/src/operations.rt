@@ -2,13 +2,15 @@
 //!
 //! - `op TEXT`: why the one value of the text is no operation.
 //! - `history TEXT`: the operations of the text, each printed, with a line feed behind it; or why it is no history.
+//! - `printed TEXT`: the text of the operation of the one value, as `write_operation` writes it, with a line feed behind it.
+//! - `copied TEXT`: a copy of that operation, and one with its function for a value, printed likewise.
 //! - `pairs TEXT`: the pairs of the history of the text, or why it has none.
 
 use crate::rows::{ask_all, shown};
 use jh_edn::{Value, read_all, write};
 use jh_ops::{
-    HistoryError, Op, OpError, PairError, history_of, op_of, operations_read_back, pair,
-    recorded_once, value_of,
+    HistoryError, Op, OpError, PairError, Process, history_of, op_of, operations_read_back, pair,
+    recorded_once, value_of, write_operation,
 };
 use std::alloc::Global;
 use std::test::Fail;
@@ -61,6 +63,28 @@ pub(crate) fn history(alloc: Global, text: &str) -> Option<Vec<u8>> {
     }
 }
 
+/// Prints an operation by `write_operation`, and a line feed.
+fn print_text(op: &Op, text: &mut Vec<u8>) -> Option<()> {
+    write_operation(op, text).ok()?;
+    text.push(b'\n').ok()
+}
+
+pub(crate) fn printed(alloc: Global, text: &str) -> Option<Vec<u8>> {
+    let op = op_once(alloc, text)?.ok()?;
+    let mut printed = Vec::new(alloc);
+    print_text(&op, &mut printed)?;
+    Some(printed)
+}
+
+pub(crate) fn copied(alloc: Global, text: &str) -> Option<Vec<u8>> {
+    let op = op_once(alloc, text)?.ok()?;
+    let value = op.f.copy(alloc).ok()?;
+    let mut printed = Vec::new(alloc);
+    print_text(&op.copy(alloc).ok()?, &mut printed)?;
+    print_text(&op.with_value(alloc, value).ok()?, &mut printed)?;
+    Some(printed)
+}
+
 pub(crate) fn pairs(alloc: Global, text: &str) -> Option<Vec<u8>> {
     let ops = history_of(alloc, values(alloc, text)?).ok()?;
     match pair(alloc, &ops) {
@@ -97,6 +121,50 @@ fn writes_the_parts_in_order(rt: HostRuntime) -> Result<(), Fail> {
 {:time 1, :type :fail, :process 0, :f :add, :value nil, "time" 2, :index nil}
 "#;
     ask_all(rt.alloc(), rows)
+}
+
+/// The index and the time first where they are there, the type, the process, the function, the value, and what else there is.
+#[test]
+fn prints_an_operation(rt: HostRuntime) -> Result<(), Fail> {
+    let rows =
+        r#"printed {:f :read, :type :ok, :process 3, :value 5} → {:type :ok, :process 3, :f :read, :value 5}
+§ printed {:process :nemesis, :type :info, :f :start, :time 9, :index -2} →
+{:index -2, :time 9, :type :info, :process :nemesis, :f :start, :value nil}
+§ printed #jepsen.history.Op{:index 4, :time nil, :type :fail, :process 0, :f "a", :value (1 #{2}), :error [:x {1 2}], "k" nil} →
+{:index 4, :type :fail, :process 0, :f "a", :value (1 #{2}), :time nil, :error [:x {1 2}], "k" nil}
+§ printed {:type :invoke, :process 9223372036854775807, :f cas, :value [1 2], :time -9223372036854775808} →
+{:time -9223372036854775808, :type :invoke, :process 9223372036854775807, :f cas, :value [1 2]}
+"#;
+    ask_all(rt.alloc(), rows)
+}
+
+#[test]
+fn copies_an_operation(rt: HostRuntime) -> Result<(), Fail> {
+    let rows = r#"copied {:f :read, :type :ok, :process 3, :value (5), :time 1, "k" #{2}} →
+{:time 1, :type :ok, :process 3, :f :read, :value (5), "k" #{2}}
+{:time 1, :type :ok, :process 3, :f :read, :value :read, "k" #{2}}
+"#;
+    ask_all(rt.alloc(), rows)
+}
+
+/// The text of an operation of a client with this number. None: memory was refused.
+fn by_client(alloc: Global, number: u64) -> Option<Vec<u8>> {
+    let op = op_once(alloc, "{:type :ok, :process 0, :f :read}")?.ok()?;
+    let process = Process::Client(number);
+    let mut text = Vec::new(alloc);
+    print_text(&Op { process, ..op }, &mut text)?;
+    Some(text)
+}
+
+/// A number that no text gives has its digits, too.
+#[test]
+fn clients_have_their_numbers(rt: HostRuntime) {
+    let text = match by_client(rt.alloc(), u64::MAX) {
+        None => by_client(rt.alloc(), u64::MAX),
+        text => text,
+    };
+    let expected = b"{:type :ok, :process 18446744073709551615, :f :read, :value nil}\n";
+    assert!(rt; text.is_some_and(|text| text.as_slice() == expected.as_slice()));
 }
 
 #[test]

@@ -19,6 +19,8 @@ fn answer(alloc: Global, name: &str, text: &str) -> Option<Vec<u8>> {
         "inside" => histories::inside(alloc, text),
         "late" => histories::late(alloc, text),
         "broken" => histories::broken(alloc, text),
+        "printed" => operations::printed(alloc, text),
+        "copied" => operations::copied(alloc, text),
         "pairs" => operations::pairs(alloc, text),
         "record" => words::record(alloc, text),
         "operation" => words::operation(alloc, text),
