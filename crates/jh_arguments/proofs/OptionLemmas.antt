@@ -7,7 +7,7 @@ use Rattle.std.specs.Str.Parse.{ParsesSigned, ParsesUnsigned, ExplainsSignedErro
 use Rattle.std.specs.declared.num.ParseIntError.{ParseIntError}
 use Rattle.clap.specs.Words.{ReadsOne, Row, Text, first_of, first_value, one_of, one_text, rows_of}
 use Rattle.clap.specs.declared.parser.matches.Found.{Found}
-use Rattle.jh_cli.specs.declared.timeline_command.TimelineJudging.{TimelineJudging}
+use Rattle.jh_checkers.specs.declared.finding.Judging.{Judging}
 use Rattle.clap.proofs.WalkLemmas.{first_value-rows, one_text-rows}
 use Rattle.jh_arguments.specs.Commands.{IsFlag, IsIndex, IsInitial, IsJudging, IsJudgingBy, IsNumber, IsThreads, AreThreadsGiven}
 
@@ -64,10 +64,10 @@ index_read f id r none some = go (one_of id (rows_of f)) r (one_text-rows f id) 
     go (Some t) None is none some = (some t is).1.0
 
 -- the name of a workload is given, and judged by it is nothing that asks for another
-pub judging_unread : (options : List Row) (name : Text) (judging : Option TimelineJudging) → first_of (codes "workload") options ≡ Some name
-    → ((by : TimelineJudging) → IsJudgingBy options name by → ⊥) → IsJudging options judging → ⊥
+pub judging_unread : (options : List Row) (name : Text) (judging : Option Judging) → first_of (codes "workload") options ≡ Some name
+    → ((by : Judging) → IsJudgingBy options name by → ⊥) → IsJudging options judging → ⊥
 judging_unread options name None given none is = let bad : Some name ≡ None = sym given ∙ is in cc
-judging_unread options name (Some by) given none (other, is, asks) =
+judging_unread options name (Some by) given none (other, is, asks, explained) =
     let both : Some other ≡ Some name = sym is ∙ given in
     let same : other ≡ name = cc in
     none by (subst (λ n. IsJudgingBy options n by) same asks)

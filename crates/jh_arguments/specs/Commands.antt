@@ -12,7 +12,7 @@ use Rattle.jh_cli.specs.RunText.{IsRunTextOf}
 use Rattle.jh_cli.specs.ShrinkText.{IsShrinkTextOf}
 use Rattle.jh_cli.specs.SearchText.{IsSearchTextOf}
 use Rattle.jh_cli.specs.TimelineText.{IsTimelineTextOf}
-use Rattle.jh_cli.specs.Refusals.{RefusesInput}
+use Rattle.jh_cli.specs.EnvRefusals.{RefusesEnv}
 use Rattle.jh_cli.specs.CheckRefusals.{RefusesCheck}
 use Rattle.jh_cli.specs.RunRefusals.{RefusesRun}
 use Rattle.jh_cli.specs.ShrinkRefusals.{RefusesShrinking}
@@ -21,13 +21,13 @@ use Rattle.jh_cli.specs.TimelineRefusals.{RefusesTimeline}
 use Rattle.jh_cli.specs.declared.error.CliError.{CliError}
 use Rattle.jh_cli.specs.declared.check_command.Question.{Question}
 use Rattle.jh_cli.specs.declared.search_command.SearchQuestion.{SearchQuestion}
-use Rattle.jh_cli.specs.declared.timeline_command.TimelineJudging.{TimelineJudging}
 use Rattle.jh_cli.specs.declared.timeline_command.TimelineQuestion.{TimelineQuestion}
 use Rattle.jh_arguments.specs.declared.commands.Command.{Command}
 use Rattle.jh_arguments.specs.declared.commands.Command.TheVariants.{Env, Check, Run, Shrink}
 use Rattle.jh_arguments.specs.declared.commands.Command.TheVariants.{Search, Timeline}
 use Rattle.jh_arguments.specs.Palettes.{palette_named}
-use Rattle.jh_ops.specs.Requests.{workload_name}
+use Rattle.jh_checkers.specs.Checkers.{checker_name}
+use Rattle.jh_checkers.specs.declared.finding.Judging.{Judging}
 
 -- the text writes a number of `i64`
 abbrev pub WritesSigned : Text → Type 0
@@ -69,10 +69,11 @@ IsFlag (Some text) given =
 
 -- the options of `check` ask this
 pub record AsksCheck (options : List Row) (question : Question) : Type 0 where
-  pub workload : first_of (codes "workload") options ≡ Some (workload_name question.workload)
-  pub initial : IsInitial (one_of (codes "initial") options) question.initial
-  pub budget : IsNumber (one_of (codes "budget") options) question.budget
-  pub explain : IsFlag (one_of (codes "explain") options) question.explain
+  pub workload : first_of (codes "workload") options
+      ≡ Some (checker_name question.judging.checker)
+  pub initial : IsInitial (one_of (codes "initial") options) question.judging.initial
+  pub budget : IsNumber (one_of (codes "budget") options) question.judging.budget
+  pub explain : IsFlag (one_of (codes "explain") options) question.judging.explain
   pub independent : IsFlag (one_of (codes "independent") options) question.independent
   pub threads : IsThreads (one_of (codes "threads") options) question.threads
 
@@ -83,18 +84,18 @@ IsIndex (Some text) (Some number) =
     WritesUnsigned text × (number ≡ digits_value 10 (without_leading_plus text))
 IsIndex (Some text) None = WritesUnsigned text → ⊥
 
--- by a workload of this name a history is judged so
-pub record IsJudgingBy (options : List Row) (name : Text) (judging : TimelineJudging) : Type 0 where
-  pub workload : name ≡ workload_name judging.workload
+-- by the checker of the workload of this name a history is judged so
+pub record IsJudgingBy (options : List Row) (name : Text) (judging : Judging) : Type 0 where
+  pub workload : name ≡ checker_name judging.checker
   pub initial : IsInitial (one_of (codes "initial") options) judging.initial
   pub budget : IsNumber (one_of (codes "budget") options) judging.budget
 
--- what a history is judged by, where it is
-abbrev pub IsJudging : List Row → Option TimelineJudging → Type 0
+-- what the history of a page is judged by, where it is; the no of a register is explained
+abbrev pub IsJudging : List Row → Option Judging → Type 0
 IsJudging options None = first_of (codes "workload") options ≡ None
 IsJudging options (Some judging) =
     (name : Text) × (first_of (codes "workload") options ≡ Some name)
-    × IsJudgingBy options name judging
+    × IsJudgingBy options name judging × (judging.explain ≡ true)
 
 -- the options of `timeline` ask this
 pub record AsksTimeline (options : List Row) (question : TimelineQuestion) : Type 0 where
@@ -147,7 +148,7 @@ HasNumbersInRange _ = Unit {0}
 
 -- what it writes for an input, with the exit status
 abbrev pub IsOutputOf : Command → List ℕ → ℕ → List ℕ → Type 0
-IsOutputOf Env input status output = IsEnvTextOf input output × (status ≡ 0)
+IsOutputOf Env input status output = IsEnvTextOf input status output
 IsOutputOf (Check question) input status output = IsCheckTextOf question input status output
 IsOutputOf Run input status output = IsRunTextOf input status output
 IsOutputOf (Shrink budget) input status output = IsShrinkTextOf input status output
@@ -156,7 +157,7 @@ IsOutputOf (Timeline question) input status output = IsTimelineTextOf question i
 
 -- why it refuses an input, or does not do its work
 abbrev pub RefusesCommand : Command → List ℕ → CliError → Type 0
-RefusesCommand Env input e = RefusesInput input e
+RefusesCommand Env input e = RefusesEnv input e
 RefusesCommand (Check question) input e = RefusesCheck question input e
 RefusesCommand Run input e = RefusesRun input e
 RefusesCommand (Shrink budget) input e = RefusesShrinking input e

@@ -13,8 +13,7 @@ use Rattle.clap.specs.declared.builder.value_parser.ValueParser.TheVariants.{Uns
 use Rattle.clap.specs.declared.error.Error.{Error}
 use Rattle.clap.specs.declared.error.ErrorKind.TheVariants.{OutOfMemory}
 use Rattle.clap.specs.declared.parser.matches.ArgMatches.{ArgMatches}
-use Rattle.jh_ops.specs.Requests.{workload_name}
-use Rattle.jh_ops.specs.declared.call.Workload.TheVariants.{Register, Counter, Set, Ids}
+use Rattle.jh_checkers.specs.Checkers.{checker_names}
 
 -- an option that takes one value
 abbrev pub option : Text → Rule
@@ -99,13 +98,10 @@ jeprun names = with_subcommand (with_subcommand
     (new_app (codes "env")).top) (check names).top) (new_app (codes "run")).top) shrink.top)
     search.top) (timeline names).top
 
-abbrev pub workload_names : List Text
-workload_names = map workload_name (Register ∷ Set ∷ Counter ∷ Ids ∷ [])
-
--- the command line
+-- the command line, with the names of the workloads that there are checkers for
 abbrev pub IsCommandLine : App → Type 0
 IsCommandLine app =
-    (names : Bor (List (Bor Text))) × (map (λ s. s.now) names.now ≡ workload_names)
+    (names : Bor (List (Bor Text))) × (map (λ s. s.now) names.now ≡ checker_names)
     × (app ≡ jeprun names)
 
 -- What is found in the arguments, and why they are refused, by `clap`'s definitions.

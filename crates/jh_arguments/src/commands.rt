@@ -2,11 +2,13 @@
 //! `specs/Commands.antt` says which arguments ask for which command, what a command writes, and why
 //! it refuses its input.
 
-ghost use Rattle.std.specs.Prelude.{◌≡◌, ◌≢◌, ◌↔◌, ◌≤◌, ℕ, List, Option, codes, IfOk, IfErr};
-ghost use Rattle.std.specs.Prelude.{IfSome, IsNone, IsErrOf, None, option_and_then};
-ghost use Rattle.std.specs.Io.KnownBytes.{Appends};
+ghost use Rattle.std.specs.Prelude.{◌≡◌, ◌≢◌, ◌↔◌, ◌≤◌, ℕ, Option, codes, IfOk, IfErr, IfSome};
+ghost use Rattle.std.specs.Prelude.{IsNone, IsErrOf, None, option_and_then};
 ghost use Rattle.clap.specs.Words.{first_of, found_of, one_of, rows_of, subcommand_rows_of};
+ghost use Rattle.jh_checkers.specs.declared.finding.Judging.{Judging};
 ghost use Rattle.jh_cli.specs.CheckText.{TakesInitial};
+ghost use Rattle.jh_cli.specs.Outputs.{OnInput, WritesOutput};
+ghost use Rattle.jh_cli.specs.TimelineText.{TakesInitialBy};
 ghost use Rattle.jh_cli.specs.declared.error.CliError.TheVariants as CliError;
 ghost use Rattle.jh_arguments.specs.Commands.{AreThreadsGiven, AsksCheck, AsksFor, AsksSearch};
 ghost use Rattle.jh_arguments.specs.Commands.{AsksTimeline, HasNumbersInRange, IsFlag, IsIndex};
@@ -14,21 +16,19 @@ ghost use Rattle.jh_arguments.specs.Commands.{IsInitial, IsNumberWithin};
 ghost use Rattle.jh_arguments.specs.Commands.{IsJudging, IsJudgingBy, IsNumber};
 ghost use Rattle.jh_arguments.specs.Commands.{IsOutputOf, IsThreads, RefusesCommand};
 ghost use Rattle.jh_arguments.specs.declared.commands.Command.{Command};
-ghost use Rattle.jh_arguments.specs.declared.commands.Command.TheVariants.{Check, Search};
+ghost use Rattle.jh_arguments.specs.declared.commands.Command.TheVariants.{Check, Search, Timeline};
 ghost use Rattle.jh_arguments.specs.Palettes as rule;
 ghost use Rattle.jh_cli.specs.declared.check_command.Question.{Question};
 ghost use Rattle.jh_cli.specs.declared.search_command.SearchQuestion.{SearchQuestion};
-ghost use Rattle.jh_cli.specs.declared.timeline_command.TimelineJudging.{TimelineJudging};
 ghost use Rattle.jh_cli.specs.declared.timeline_command.TimelineQuestion.{TimelineQuestion};
-ghost use Rattle.jh_ops.specs.declared.call.Workload.{Workload};
 
 use crate::palettes::palette_named;
 use clap::ArgMatches;
+use jh_checkers::{Checker, Judging};
 use jh_cli::{
-    CliError, Question, SearchQuestion, TimelineJudging, TimelineQuestion, check_run, env_run,
-    run_run, search_run, shrink_run_observed, timeline_run,
+    CliError, Question, SearchQuestion, TimelineQuestion, check_run, env_run, run_run, search_run,
+    shrink_run_observed, timeline_run,
 };
-use jh_ops::Workload;
 use jh_search::{Palette, SearchObserver};
 use jh_sections::Choice;
 use jh_shrink::Observer;
@@ -78,19 +78,17 @@ pub fn command_of(matches: &ArgMatches<'_>) -> Option<Command>
     }
 }
 
-/// What the options of `check` ask for. `parse` has seen to it that the workload is one of the
-/// four, that the budget is a number, and that the number of threads is from 1 to 16.
+/// What the options of `check` ask for. `parse` has seen to it that the workload is one that a
+/// checker judges, that the budget is a number, and that the number of threads is from 1 to 16.
 pub fn question_of(options: &ArgMatches<'_>) -> Option<Question>
     ensures parsed { IfSome result (AsksCheck (rows_of (found_of options.now))) }
     ensures taken { IsNone result → (question : Question)
         → AsksCheck (rows_of (found_of options.now)) question → ⊥ }
 {
-    let workload = Workload::named(options.get_str("workload")?)?;
+    let name = options.get_str("workload")?;
+    let explain = flag_of(options, "explain");
     Some(Question {
-        workload,
-        initial: initial_of(options),
-        budget: number_of(options, "budget")?,
-        explain: flag_of(options, "explain"),
+        judging: judging_by(options, name, explain)?,
         independent: flag_of(options, "independent"),
         threads: threads_of(options)?,
     })
@@ -114,8 +112,8 @@ pub fn search_question_of(options: &ArgMatches<'_>) -> Option<SearchQuestion>
 }
 
 /// What the options of `timeline` ask for. Where there is no workload, an initial value and a
-/// budget mean nothing. `parse` has seen to it that a workload is one of the four, and that the
-/// budget is a number.
+/// budget mean nothing. `parse` has seen to it that a workload is one that a checker judges, and that
+/// the budget is a number.
 pub fn timeline_question_of(options: &ArgMatches<'_>) -> Option<TimelineQuestion>
     ensures parsed { IfSome result (AsksTimeline (rows_of (found_of options.now))) }
     ensures taken { IsNone result → (question : TimelineQuestion)
@@ -132,28 +130,30 @@ pub fn timeline_question_of(options: &ArgMatches<'_>) -> Option<TimelineQuestion
     })
 }
 
-/// What a history is judged by, if options give a workload.
-fn judging_of(options: &ArgMatches<'_>) -> Option<Option<TimelineJudging>>
+/// What a history is judged by, if options give a workload. A no is explained.
+fn judging_of(options: &ArgMatches<'_>) -> Option<Option<Judging>>
     ensures parsed { IfSome result (IsJudging (rows_of (found_of options.now))) }
-    ensures taken { IsNone result → (judging : Option TimelineJudging)
+    ensures taken { IsNone result → (judging : Option Judging)
         → IsJudging (rows_of (found_of options.now)) judging → ⊥ }
 {
     match options.get_str("workload") {
-        Some(name) => Some(Some(judging_by(options, name)?)),
+        Some(name) => Some(Some(judging_by(options, name, true)?)),
         None => Some(None),
     }
 }
 
-/// What a history is judged by, with the workload of this name.
-fn judging_by(options: &ArgMatches<'_>, name: &str) -> Option<TimelineJudging>
+/// What a history is judged by, with the checker of the workload of this name.
+fn judging_by(options: &ArgMatches<'_>, name: &str, explain: bool) -> Option<Judging>
     ensures parsed { IfSome result (IsJudgingBy (rows_of (found_of options.now)) name.now) }
-    ensures taken { IsNone result → (judging : TimelineJudging)
+    ensures explained { IfSome result (λ judging. judging.explain ≡ explain) }
+    ensures taken { IsNone result → (judging : Judging)
         → IsJudgingBy (rows_of (found_of options.now)) name.now judging → ⊥ }
 {
-    Some(TimelineJudging {
-        workload: Workload::named(name)?,
+    Some(Judging {
+        checker: Checker::named(name)?,
         initial: initial_of(options),
         budget: number_of(options, "budget")?,
+        explain,
     })
 }
 
@@ -251,20 +251,23 @@ pub fn run<T: Threads + Wait + Sync, R: Read, W: Write, O: Observer + SearchObse
     observer: &mut O,
 ) -> Result<u8, CliError>
     requires { HasNumbersInRange command }
-    ensures written { IfOk result (λ status. IfSome (R.remaining reader.old) (λ input.
-        (output : List ℕ) × IsOutputOf command input status output
-        × Appends (W.contents writer.old) (W.contents writer.new) output)) }
+    ensures written { IfOk result (λ status. WritesOutput (R.remaining reader.old)
+        (IsOutputOf command) status (W.contents writer.old) (W.contents writer.new)) }
     ensures asked { (question : Question) → command ≡ Check question
         → IsErrOf result CliError.OnlyForRegister
-        ↔ (TakesInitial question.workload question.initial → ⊥) }
+        ↔ (TakesInitial question.judging.checker question.judging.initial → ⊥) }
     ensures unread { (question : Question) → command ≡ Check question
+        → IsErrOf result CliError.OnlyForRegister → reader.new ≡ reader.old }
+    ensures timeline_asked { (question : TimelineQuestion) → command ≡ Timeline question
+        → IsErrOf result CliError.OnlyForRegister ↔ (TakesInitialBy question.judging → ⊥) }
+    ensures timeline_unread { (question : TimelineQuestion) → command ≡ Timeline question
         → IsErrOf result CliError.OnlyForRegister → reader.new ≡ reader.old }
     ensures named { (question : SearchQuestion) → command ≡ Search question
         → IsErrOf result CliError.BadPalette ↔ (question.palette ≡ None) }
     ensures unread_unnamed { (question : SearchQuestion) → command ≡ Search question
         → IsErrOf result CliError.BadPalette → reader.new ≡ reader.old }
-    ensures refused { IfErr result
-        (λ e. IfSome (R.remaining reader.old) (λ input. RefusesCommand command input e)) }
+    ensures refused { IfErr result (λ e. OnInput (R.remaining reader.old)
+        (λ input. RefusesCommand command input e)) }
     ensures unwritten { IfErr result (λ e. e ≢ CliError.Write → writer.new ≡ writer.old) }
 {
     match command {

@@ -6,8 +6,9 @@ ghost use Rattle.clap.specs.Words.{app_of, kind_of, rule_of};
 ghost use Rattle.clap.specs.declared.builder.value_parser.ValueParser.TheVariants.{Unsigned};
 ghost use Rattle.clap.specs.declared.error.ErrorKind.TheVariants as ErrorKind;
 ghost use Rattle.jh_cli.specs.declared.error.CliError.TheVariants as CliError;
+ghost use Rattle.jh_checkers.specs.Checkers.{checker_names};
 ghost use Rattle.jh_arguments.specs.Line as text;
-ghost use Rattle.jh_arguments.specs.Line.{AreMatches, IsCommandLine, IsRefused, workload_names};
+ghost use Rattle.jh_arguments.specs.Line.{AreMatches, IsCommandLine, IsRefused};
 
 use crate::help;
 use clap::builder::ValueParser;
@@ -20,12 +21,12 @@ use std::convert::AsStr;
 /// The exit status where the arguments are refused.
 pub const REFUSED: u8 = 3;
 
-/// The names of the workloads.
+/// The names of the workloads, as `jh_checkers` has them.
 static WORKLOADS: [&str; 4] = ["register", "set", "counter", "unique-ids"];
 
 /// The names of the workloads, in the order of help.
 fn workloads() -> &'static [&'static str]
-    ensures { map (λ name. name.now) result.now ≡ workload_names }
+    ensures { map (λ name. name.now) result.now ≡ checker_names }
 {
     WORKLOADS.as_slice()
 }

@@ -7,8 +7,8 @@ ghost use Rattle.std.specs.Prelude.{◌≢◌, IsNone};
 use crate::commands::{Command, command_of, run};
 use crate::line::{REFUSED, parse, status_of_refusal};
 use clap::ArgMatches;
-use jh_cli::{CliError, TimelineJudging};
-use jh_ops::Workload;
+use jh_checkers::{Checker, Judging};
+use jh_cli::CliError;
 use jh_search::SearchObserver;
 use jh_shrink::Observer;
 use std::alloc::Global;
@@ -99,10 +99,19 @@ fn input_of(command: Command) -> &'static str {
 }
 
 /// Whether a history is judged as one of a register.
-fn is_of_register(judging: Option<TimelineJudging>) -> bool {
+fn is_of_register(judging: Option<Judging>) -> bool {
     match judging {
-        Some(by) => by.workload == Workload::Register,
+        Some(judging) => judging.checker == Checker::Register,
         None => false,
+    }
+}
+
+/// What a history is judged by, where a command judges one that it reads.
+fn judging_of(command: Command) -> Option<Judging> {
+    match command {
+        Command::Check(question) => Some(question.judging),
+        Command::Timeline(question) => question.judging,
+        _ => None,
     }
 }
 
@@ -110,15 +119,14 @@ fn is_of_register(judging: Option<TimelineJudging>) -> bool {
 fn remedy_of(command: Command, status: u8) -> Option<&'static str>
     ensures known { status ≢ 2 → IsNone result }
 {
+    if status != UNKNOWN {
+        return None;
+    }
     match command {
-        Command::Check(question) if status == UNKNOWN && question.workload == Workload::Register =>
-            { Some("unknown: a larger --budget may decide") }
-        Command::Timeline(question) if status == UNKNOWN && is_of_register(question.judging) => {
-            Some("unknown: a larger --budget may decide")
-        }
-        Command::Run | Command::Search(_) if status == UNKNOWN => {
+        Command::Run | Command::Search(_) => {
             Some("unknown: of a register, a larger budget in the settings may decide")
         }
+        _ if is_of_register(judging_of(command)) => Some("unknown: a larger --budget may decide"),
         _ => None,
     }
 }

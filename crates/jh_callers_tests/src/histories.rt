@@ -1,10 +1,11 @@
-//! First calls of `jh_histories`, `jh_ops`, `jh_check`, `jh_linear` and `jh_keys`.
+//! First calls of `jh_histories`, `jh_ops`, `jh_check`, `jh_linear` and `jh_independent`.
 
 use jh_check::{Verdict, check_set};
+use jh_checkers::{Checker, Judging};
 use jh_histories::history_in;
-use jh_keys::{Judging, check_keys_serial, verdict_of_all};
+use jh_independent::{check_keys_serial, verdict_of_all};
 use jh_linear::{LinVerdict, check, reg_ops};
-use jh_ops::{Op, Pair, Workload, pair};
+use jh_ops::{Op, Pair, pair};
 use std::alloc::Global;
 
 /// A write that nobody saw end, and a read that shows it.
@@ -81,7 +82,7 @@ fn a_write_that_nobody_saw_end_may_have_happened(rt: HostRuntime) {
 /// The verdict on all keys of a history of registers.
 fn verdict_by_keys(alloc: Global, history: &[Op]) -> Option<Verdict> {
     let judging = Judging {
-        workload: Workload::Register,
+        checker: Checker::Register,
         initial: None,
         budget: 1_000,
         explain: false,

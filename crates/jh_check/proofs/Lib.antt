@@ -4,4 +4,4 @@ pub mod SearchLemmas
 pub mod FinalReadLemmas
 pub mod SumLemmas
 pub mod ErrorLemmas
-pub mod ElementLemmas
+pub mod LineLemmas

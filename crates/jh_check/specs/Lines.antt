@@ -1,10 +1,9 @@
 -- The value of each result, a map, whose printed text is its one line (this project's own; the keys
 -- are those of jepsen.checker). Its numbers stand in full, also where no integer of 64 bits has
 -- them.
-use Rattle.std.specs.Prelude.{ℕ, pos, true, false, List, [], ◌∷◌, ◌++◌, map, codes, Option, Some}
-use Rattle.std.specs.Prelude.{None}
-use Rattle.jh_edn.specs.Edn.{Edn, boolean, int, keyword, str, vector, mapping, items_of, members_of}
-use Rattle.jh_edn.specs.Print.{print}
+use Rattle.std.specs.Prelude.{ℕ, pos, true, false, List, [], ◌∷◌, map, codes, Option, Some, None}
+use Rattle.jh_edn.specs.Edn.{Edn, boolean, int, keyword, str}
+use Rattle.jh_edn.specs.Parts.{map_of, vector_of}
 use Rattle.jh_check.specs.declared.counter.CounterResult.{CounterResult}
 use Rattle.jh_check.specs.declared.counter.ReadBounds.{ReadBounds}
 use Rattle.jh_check.specs.declared.ids.IdsResult.{IdsResult}
@@ -18,15 +17,10 @@ verdict_value True = boolean true
 verdict_value Unknown = keyword (codes "unknown")
 verdict_value False = boolean false
 
-abbrev pub vector_of : List Edn → Edn
-vector_of values = vector (items_of values)
-
-abbrev pub map_of : List (Edn × Edn) → Edn
-map_of pairs = mapping (members_of pairs)
-
--- the text of a pair behind others
-abbrev pub behind_pair_text : List ℕ → Edn → List ℕ
-behind_pair_text name value = codes ", " ++ (print (keyword name) ++ (codes " " ++ print value))
+-- a map whose first pair is the verdict
+abbrev pub map_with_verdict : Verdict → List (Edn × Edn) → Edn
+map_with_verdict verdict others =
+    map_of ((keyword (codes "valid?"), verdict_value verdict) ∷ others)
 
 abbrev pub set_pairs : Verdict → Option SetFound → List (Edn × Edn)
 set_pairs verdict None =

@@ -16,7 +16,6 @@ mod verdict;
 
 pub use calls::{end_of, is_ok_read};
 pub use counter::{CounterResult, ReadBounds, Reads, check_counter};
-pub use elements::{Element, put, write_part};
 pub use error::CheckError;
 pub use ids::{Duplicate, Duplicates, IdsResult, check_unique};
 pub use laws::same_values_are_equal;

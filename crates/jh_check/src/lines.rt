@@ -3,17 +3,16 @@
 ghost use Rattle.std.specs.Prelude.{◌≡◌, ◌++◌, IfErr, OnOk, Some, codes, pos};
 ghost use Rattle.std.specs.Io.KnownBytes.{Appends};
 ghost use Rattle.jh_edn.specs.Edn.{int};
+ghost use Rattle.jh_edn.specs.Parts.{behind_pair_text, map_of};
 ghost use Rattle.jh_edn.specs.Print.{print};
-ghost use Rattle.jh_check.specs.Lines.{counter_value, ids_value, map_of, behind_pair_text};
-ghost use Rattle.jh_check.specs.Lines.{set_pairs, set_value};
+ghost use Rattle.jh_check.specs.Lines.{counter_value, ids_value, set_pairs, set_value};
 ghost use Rattle.jh_check.specs.Lines.{verdict_value};
 
 use crate::counter::CounterResult;
-use crate::elements::{put, write_part};
 use crate::ids::IdsResult;
 use crate::set::{SetFound, SetResult};
 use crate::verdict::Verdict;
-use jh_edn::EdnError;
+use jh_edn::{EdnError, put, write_part};
 use std::io::Write;
 
 /// Writes the opening of a line, with the verdict. The line goes on with parts, and ends with `}`.

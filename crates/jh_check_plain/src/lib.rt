@@ -12,9 +12,11 @@ mod dice;
 mod events;
 mod orders;
 mod register;
+mod text;
 
 pub use busy::busy_history;
 pub use checkers::{Case, random_case};
 pub use dice::Dice;
 pub use orders::{cut, ends_at, is_possible, judged_slowly, value_after};
 pub use register::random_history;
+pub use text::ops_of;

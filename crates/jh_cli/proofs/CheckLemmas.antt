@@ -8,13 +8,12 @@ use Rattle.jh_edn.specs.Refused.{RefusesText, IsFirstError}
 use Rattle.jh_histories.specs.Histories.{IsHistoryOf, RefusesHistoryOf}
 use Rattle.jh_histories.specs.declared.error.ReadHistoryError.{ReadHistoryError}
 use Rattle.jh_histories.specs.declared.error.ReadHistoryError.TheVariants as reading
-use Rattle.jh_keys.specs.declared.error.KeysError.{KeysError}
-use Rattle.jh_keys.specs.declared.error.KeysError.TheVariants as KeysErrors
-use Rattle.jh_keys.specs.declared.finding.Judging.{Judging}
+use Rattle.jh_independent.specs.declared.error.KeysError.{KeysError}
+use Rattle.jh_independent.specs.declared.error.KeysError.TheVariants as KeysErrors
+use Rattle.jh_checkers.specs.declared.finding.Judging.{Judging}
 use Rattle.jh_ops.specs.Operation.{Operation}
 use Rattle.jh_ops.specs.declared.history.HistoryError.TheVariants as history_errors
 use Rattle.jh_cli.specs.CheckRefusals.{RefusesBy, RefusesCheck, RefusesJudging}
-use Rattle.jh_cli.specs.CheckText.{check_judging}
 use Rattle.jh_cli.specs.Status.{check_error, edn_error, keys_error, reading_error}
 use Rattle.jh_cli.specs.declared.check_command.Question.{Question}
 use Rattle.jh_cli.specs.declared.error.CliError.{CliError}
@@ -68,20 +67,20 @@ by_judging true judging history e refused = subst IsJudging (sym refused.2) (by_
 by_judging false judging history e refused = subst IsJudging (sym refused.2) (by_checker refused.0)
 
 pub judging_refused : (question : Question) (input : List ℕ) (history : List Operation) (e : CliError) → IsHistoryOf input history → RefusesJudging question history e → RefusesCheck question input e
-judging_refused question input history (Input error) parsed refused = absurd (by_judging question.independent (check_judging question) history (Input error) refused)
-judging_refused question input history EnvironmentMissing parsed refused = absurd (by_judging question.independent (check_judging question) history EnvironmentMissing refused)
-judging_refused question input history (Environment error) parsed refused = absurd (by_judging question.independent (check_judging question) history (Environment error) refused)
-judging_refused question input history (Element place error) parsed refused = absurd (by_judging question.independent (check_judging question) history (Element place error) refused)
-judging_refused question input history (History error) parsed refused = absurd (by_judging question.independent (check_judging question) history (History error) refused)
+judging_refused question input history (Input error) parsed refused = absurd (by_judging question.independent question.judging history (Input error) refused)
+judging_refused question input history EnvironmentMissing parsed refused = absurd (by_judging question.independent question.judging history EnvironmentMissing refused)
+judging_refused question input history (Environment error) parsed refused = absurd (by_judging question.independent question.judging history (Environment error) refused)
+judging_refused question input history (Element place error) parsed refused = absurd (by_judging question.independent question.judging history (Element place error) refused)
+judging_refused question input history (History error) parsed refused = absurd (by_judging question.independent question.judging history (History error) refused)
 judging_refused question input history (Check error) parsed refused = (parsed.0, parsed.1, (history, parsed.2, refused))
-judging_refused question input history (Settings error) parsed refused = absurd (by_judging question.independent (check_judging question) history (Settings error) refused)
-judging_refused question input history (Run error) parsed refused = absurd (by_judging question.independent (check_judging question) history (Run error) refused)
-judging_refused question input history HistoryFull parsed refused = absurd (by_judging question.independent (check_judging question) history HistoryFull refused)
-judging_refused question input history Mismatch parsed refused = absurd (by_judging question.independent (check_judging question) history Mismatch refused)
+judging_refused question input history (Settings error) parsed refused = absurd (by_judging question.independent question.judging history (Settings error) refused)
+judging_refused question input history (Run error) parsed refused = absurd (by_judging question.independent question.judging history (Run error) refused)
+judging_refused question input history HistoryFull parsed refused = absurd (by_judging question.independent question.judging history HistoryFull refused)
+judging_refused question input history Mismatch parsed refused = absurd (by_judging question.independent question.judging history Mismatch refused)
 judging_refused question input history Thread parsed refused = (parsed.0, parsed.1, (history, parsed.2, refused))
-judging_refused question input history OnlyForRegister parsed refused = absurd (by_judging question.independent (check_judging question) history OnlyForRegister refused)
-judging_refused question input history BadPalette parsed refused = absurd (by_judging question.independent (check_judging question) history BadPalette refused)
-judging_refused question input history Unwritable parsed refused = absurd (by_judging question.independent (check_judging question) history Unwritable refused)
-judging_refused question input history Read parsed refused = absurd (by_judging question.independent (check_judging question) history Read refused)
-judging_refused question input history Write parsed refused = absurd (by_judging question.independent (check_judging question) history Write refused)
+judging_refused question input history OnlyForRegister parsed refused = absurd (by_judging question.independent question.judging history OnlyForRegister refused)
+judging_refused question input history BadPalette parsed refused = absurd (by_judging question.independent question.judging history BadPalette refused)
+judging_refused question input history Unwritable parsed refused = absurd (by_judging question.independent question.judging history Unwritable refused)
+judging_refused question input history Read parsed refused = absurd (by_judging question.independent question.judging history Read refused)
+judging_refused question input history Write parsed refused = absurd (by_judging question.independent question.judging history Write refused)
 judging_refused question input history OutOfMemory parsed refused = tt

@@ -10,7 +10,7 @@ use Rattle.jh_env.specs.declared.texts.EnvTextError.TheVariants as EnvTextError
 use Rattle.jh_cli.specs.Status.{environment_error}
 use Rattle.jh_env.specs.Cells.{Table}
 use Rattle.jh_env.specs.TextCells.{IsTextOf}
-use Rattle.jh_cli.specs.Refusals.{RefusesSteps, RefusesEnvValues}
+use Rattle.jh_cli.specs.EnvRefusals.{RefusesSteps, RefusesEnvValues}
 use Rattle.jh_cli.specs.declared.error.CliError.{CliError}
 use Rattle.jh_cli.specs.declared.error.CliError.TheVariants.{Input, EnvironmentMissing, Environment, Element, History, Check, Settings, Run, HistoryFull, Mismatch, Thread, OnlyForRegister, BadPalette, Unwritable, Read, Write, OutOfMemory}
 

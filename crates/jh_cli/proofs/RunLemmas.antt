@@ -3,23 +3,21 @@ use Rattle.std.proofs.Common.{ℕ, List, refl, sym, subst}
 use Rattle.jh_check.specs.declared.error.CheckError.{CheckError}
 use Rattle.jh_check.specs.declared.error.CheckError.TheVariants as CheckErrors
 use Rattle.jh_edn.specs.declared.error.EdnError.TheVariants as EdnError
-use Rattle.jh_ops.specs.declared.call.Workload.{Workload}
+use Rattle.jh_checkers.specs.Findings.{RefusesChecking}
+use Rattle.jh_checkers.specs.declared.checker.Checker.{Checker}
 use Rattle.jh_settings.specs.declared.choices.Mode.{Mode}
-use Rattle.jh_run_laws.specs.OwnHistory.{OwnHistoryIsJudged}
-use Rattle.jh_simnode.specs.Runs.{IsSerialRun, Stops}
+use Rattle.jh_simnode.specs.Runs.{Stops}
 use Rattle.jh_simnode.specs.declared.serial.RunError.TheVariants as RunError
-use Rattle.jh_simnode.specs.declared.events.Event.{Event}
 use Rattle.jh_simnode.specs.declared.events.WorldError.TheVariants as WorldError
 use Rattle.jh_workers.specs.declared.desk.RunError.TheVariants as ThreadsError
 use Rattle.jh_ops.specs.Operation.{Operation}
-use Rattle.jh_simnode.specs.Plans.{IsFit, PlanValue}
+use Rattle.jh_simnode.specs.Plans.{PlanValue}
 use Rattle.jh_settings.specs.Settings as settings
 use Rattle.jh_settings.specs.Settings.{AreSettingsOf}
 use Rattle.jh_settings.specs.declared.error.SettingsError.TheVariants as SettingsError
-use Rattle.jh_cli.specs.CheckRefusals.{RefusesLine, RefusesWhole}
 use Rattle.jh_cli.specs.RunInside.{own_error}
 use Rattle.jh_cli.specs.RunRefusals.{RefusesRunBytes, RefusesOwn, RefusesRun, RefusesSerial, RefusesRunIn, RefusesThreads}
-use Rattle.jh_cli.specs.Status.{check_error, run_error, settings_error, threads_error, world_error}
+use Rattle.jh_cli.specs.Status.{run_error, settings_error, threads_error, world_error}
 use Rattle.jh_cli.specs.declared.error.CliError.{CliError}
 use Rattle.jh_cli.specs.declared.error.CliError.TheVariants.{Input, EnvironmentMissing, Environment, Element, History, Check, Settings, Run, HistoryFull, Mismatch, Thread, OnlyForRegister, BadPalette, Unwritable, Read, Write, OutOfMemory}
 
@@ -84,38 +82,13 @@ bytes_refused input OutOfMemory h = tt
 
 -- ---- what the checker of a run's own history refuses
 
-own_of : (workload : Workload) (history : List Operation) (error : CheckError) → RefusesLine workload history error
-    → RefusesOwn workload history (own_error (check_error error))
-own_of workload history (CheckErrors.Pair pairing) h = (CheckErrors.Pair pairing, λ e. absurd cc, h)
-own_of workload history (CheckErrors.BadValue place) h = (CheckErrors.BadValue place, λ e. absurd cc, h)
-own_of workload history (CheckErrors.NegativeAdd place) h = (CheckErrors.NegativeAdd place, λ e. absurd cc, h)
-own_of workload history CheckErrors.OutOfMemory h = tt
-
 -- a refusal of the history of a run is a mismatch, and out of memory stays what it is
-pub own_refused : (workload : Workload) (history : List Operation) (e : CliError) → RefusesWhole workload history e
-    → RefusesOwn workload history (own_error e)
-own_refused workload history e h = subst (λ x. RefusesOwn workload history (own_error x)) (sym h.2) (own_of workload history h.0 h.1)
-
--- the history of a serial run is refused only as out of memory
-pub serial_refused : (p : PlanValue) (journal : List Event) (history : List Operation) (e : CliError) → OwnHistoryIsJudged → IsFit p → IsSerialRun p journal history
-    → RefusesOwn p.settings.workload history e → RefusesSerial p e
-serial_refused p journal history Mismatch judged fit run h = absurd (h.1 (judged p journal history fit run h.0 h.2))
-serial_refused p journal history OutOfMemory judged fit run h = tt
-serial_refused p journal history (Check error) judged fit run h = absurd h
-serial_refused p journal history (Input error) judged fit run h = absurd h
-serial_refused p journal history EnvironmentMissing judged fit run h = absurd h
-serial_refused p journal history (Environment error) judged fit run h = absurd h
-serial_refused p journal history (Element place error) judged fit run h = absurd h
-serial_refused p journal history (History error) judged fit run h = absurd h
-serial_refused p journal history (Settings error) judged fit run h = absurd h
-serial_refused p journal history (Run error) judged fit run h = absurd h
-serial_refused p journal history HistoryFull judged fit run h = absurd h
-serial_refused p journal history Thread judged fit run h = absurd h
-serial_refused p journal history OnlyForRegister judged fit run h = absurd h
-serial_refused p journal history BadPalette judged fit run h = absurd h
-serial_refused p journal history Unwritable judged fit run h = absurd h
-serial_refused p journal history Read judged fit run h = absurd h
-serial_refused p journal history Write judged fit run h = absurd h
+pub own_refused : (checker : Checker) (history : List Operation) (error : CheckError) → RefusesChecking checker history error
+    → RefusesOwn checker history (own_error error)
+own_refused checker history (CheckErrors.Pair pairing) h = (CheckErrors.Pair pairing, λ e. absurd cc, h)
+own_refused checker history (CheckErrors.BadValue place) h = (CheckErrors.BadValue place, λ e. absurd cc, h)
+own_refused checker history (CheckErrors.NegativeAdd place) h = (CheckErrors.NegativeAdd place, λ e. absurd cc, h)
+own_refused checker history CheckErrors.OutOfMemory h = tt
 
 -- a serial run is not completed
 pub stop_refused : (p : PlanValue) (error : RunError.the_data) → Stops p error → RefusesSerial p (run_error error)
@@ -126,24 +99,24 @@ stop_refused p (RunError.World WorldError.UnknownNode) h = absurd h
 stop_refused p (RunError.World WorldError.TooManyEvents) h = absurd h
 
 -- the history of a run on threads is refused
-pub threads_refused : (workload : Workload) (history : List Operation) (e : CliError) → RefusesOwn workload history e → RefusesThreads e
-threads_refused workload history Mismatch h = tt
-threads_refused workload history OutOfMemory h = tt
-threads_refused workload history (Check error) h = absurd h
-threads_refused workload history (Input error) h = absurd h
-threads_refused workload history EnvironmentMissing h = absurd h
-threads_refused workload history (Environment error) h = absurd h
-threads_refused workload history (Element place error) h = absurd h
-threads_refused workload history (History error) h = absurd h
-threads_refused workload history (Settings error) h = absurd h
-threads_refused workload history (Run error) h = absurd h
-threads_refused workload history HistoryFull h = absurd h
-threads_refused workload history Thread h = absurd h
-threads_refused workload history OnlyForRegister h = absurd h
-threads_refused workload history BadPalette h = absurd h
-threads_refused workload history Unwritable h = absurd h
-threads_refused workload history Read h = absurd h
-threads_refused workload history Write h = absurd h
+pub threads_refused : (checker : Checker) (history : List Operation) (e : CliError) → RefusesOwn checker history e → RefusesThreads e
+threads_refused checker history Mismatch h = tt
+threads_refused checker history OutOfMemory h = tt
+threads_refused checker history (Check error) h = absurd h
+threads_refused checker history (Input error) h = absurd h
+threads_refused checker history EnvironmentMissing h = absurd h
+threads_refused checker history (Environment error) h = absurd h
+threads_refused checker history (Element place error) h = absurd h
+threads_refused checker history (History error) h = absurd h
+threads_refused checker history (Settings error) h = absurd h
+threads_refused checker history (Run error) h = absurd h
+threads_refused checker history HistoryFull h = absurd h
+threads_refused checker history Thread h = absurd h
+threads_refused checker history OnlyForRegister h = absurd h
+threads_refused checker history BadPalette h = absurd h
+threads_refused checker history Unwritable h = absurd h
+threads_refused checker history Read h = absurd h
+threads_refused checker history Write h = absurd h
 
 -- what the threads and the world refuse
 pub world_refused : (error : WorldError.the_data) → RefusesThreads (world_error error)

@@ -12,7 +12,7 @@ use Rattle.jh_step_texts.specs.StepText.{parsed_step}
 use Rattle.jh_nemesis.specs.declared.steps.Step.{Step}
 use Rattle.jh_step_texts.specs.declared.steps.StepTextError.TheVariants as StepTextError
 use Rattle.jh_cli.specs.Status.{step_error}
-use Rattle.jh_cli.specs.Refusals.{HasStepError, RefusesSteps}
+use Rattle.jh_cli.specs.EnvRefusals.{HasStepError, RefusesSteps}
 use Rattle.jh_cli.specs.declared.error.CliError.{CliError}
 
 -- the first i values mean steps, and the next has this error

@@ -4,20 +4,19 @@ use Rattle.jh_edn.specs.declared.error.EdnError.TheVariants as edn
 use Rattle.jh_histories.specs.declared.error.ReadHistoryError.{ReadHistoryError}
 use Rattle.jh_histories.specs.declared.error.ReadHistoryError.TheVariants as reading
 use Rattle.jh_check.specs.declared.error.CheckError.TheVariants as CheckErrors
-use Rattle.jh_keys.specs.Histories.{RefusesKeySplit}
-use Rattle.jh_keys.specs.Refusals.{RefusesKeys, keys_question}
-use Rattle.jh_keys.specs.declared.error.KeysError.{KeysError}
-use Rattle.jh_keys.specs.declared.error.KeysError.TheVariants as KeysErrors
+use Rattle.jh_checkers.specs.declared.finding.Judging.{Judging}
+use Rattle.jh_independent.specs.Histories.{RefusesKeySplit}
+use Rattle.jh_independent.specs.Refusals.{RefusesKeys, keys_question}
+use Rattle.jh_independent.specs.declared.error.KeysError.{KeysError}
+use Rattle.jh_independent.specs.declared.error.KeysError.TheVariants as KeysErrors
 use Rattle.jh_ops.specs.Operation.{Operation}
 use Rattle.jh_ops.specs.declared.history.HistoryError.TheVariants as history_errors
 use Rattle.jh_sections.specs.HistoryAndRest.{AreHistoryAndRest, RefusesHistoryAndRest}
 use Rattle.jh_cli.proofs.CheckLemmas.{IsJudging, by_checker, by_keys}
 use Rattle.jh_cli.specs.Status.{keys_error, reading_error}
 use Rattle.jh_cli.specs.TimelineRefusals.{RefusesFinding, RefusesPage, RefusesShowing, RefusesTimeline}
-use Rattle.jh_cli.specs.TimelineText.{timeline_judging}
 use Rattle.jh_cli.specs.declared.error.CliError.{CliError}
 use Rattle.jh_cli.specs.declared.error.CliError.TheVariants.{Input, EnvironmentMissing, Environment, Element, History, Check, Settings, Run, HistoryFull, Mismatch, Thread, OnlyForRegister, BadPalette, Unwritable, Read, Write, OutOfMemory}
-use Rattle.jh_cli.specs.declared.timeline_command.TimelineJudging.{TimelineJudging}
 use Rattle.jh_cli.specs.declared.timeline_command.TimelineQuestion.{TimelineQuestion}
 
 -- ---- no parts are read
@@ -52,11 +51,11 @@ parts_refused question input (reading.History (history_errors.Op place why)) ref
 
 -- ---- a history is not judged
 
-by_finding : (independent : Bool) (judging : Option TimelineJudging) (history : List Operation) (e : CliError) → RefusesFinding independent judging history e → IsJudging e
+by_finding : (independent : Bool) (judging : Option Judging) (history : List Operation) (e : CliError) → RefusesFinding independent judging history e → IsJudging e
 by_finding true None history e refused = subst IsJudging (sym refused.2) (by_keys refused.0)
-by_finding true (Some by) history e refused = subst IsJudging (sym refused.3) (by_keys refused.0)
+by_finding true (Some judging) history e refused = subst IsJudging (sym refused.3) (by_keys refused.0)
 by_finding false None history e refused = absurd refused
-by_finding false (Some by) history e refused = subst IsJudging (sym refused.2) (by_checker refused.0)
+by_finding false (Some judging) history e refused = subst IsJudging (sym refused.2) (by_checker refused.0)
 
 pub page_refused : (question : TimelineQuestion) (input : List ℕ) (history : List Operation) (below : List ℕ) (e : CliError) → AreHistoryAndRest input history below → RefusesPage question history e
     → RefusesTimeline question input e
@@ -80,21 +79,21 @@ page_refused question input history below OutOfMemory parts refused = tt
 
 -- ---- keys are not judged, or not split
 
-pub keys_refused : (by : TimelineJudging) (history : List Operation) (error : KeysError) → RefusesKeys (keys_question (timeline_judging by) history) error → (error ≡ KeysErrors.Thread → ⊥)
-    → RefusesShowing true (Some by) history (keys_error error)
-keys_refused by history (KeysErrors.BadValue place) refused other = (KeysErrors.BadValue place, refused, other, refl)
-keys_refused by history (KeysErrors.Key (CheckErrors.Pair error)) refused other = (KeysErrors.Key (CheckErrors.Pair error), refused, other, refl)
-keys_refused by history (KeysErrors.Key (CheckErrors.BadValue place)) refused other = (KeysErrors.Key (CheckErrors.BadValue place), refused, other, refl)
-keys_refused by history (KeysErrors.Key (CheckErrors.NegativeAdd place)) refused other = (KeysErrors.Key (CheckErrors.NegativeAdd place), refused, other, refl)
-keys_refused by history (KeysErrors.Key CheckErrors.OutOfMemory) refused other = tt
-keys_refused by history KeysErrors.Thread refused other = absurd (other refl)
-keys_refused by history KeysErrors.OutOfMemory refused other = tt
+pub keys_refused : (judging : Judging) (history : List Operation) (error : KeysError) → RefusesKeys (keys_question judging history) error → (error ≡ KeysErrors.Thread → ⊥)
+    → RefusesShowing true (Some judging) history (keys_error error)
+keys_refused judging history (KeysErrors.BadValue place) refused other = (KeysErrors.BadValue place, refused, other, refl)
+keys_refused judging history (KeysErrors.Key (CheckErrors.Pair error)) refused other = (KeysErrors.Key (CheckErrors.Pair error), refused, other, refl)
+keys_refused judging history (KeysErrors.Key (CheckErrors.BadValue place)) refused other = (KeysErrors.Key (CheckErrors.BadValue place), refused, other, refl)
+keys_refused judging history (KeysErrors.Key (CheckErrors.NegativeAdd place)) refused other = (KeysErrors.Key (CheckErrors.NegativeAdd place), refused, other, refl)
+keys_refused judging history (KeysErrors.Key CheckErrors.OutOfMemory) refused other = tt
+keys_refused judging history KeysErrors.Thread refused other = absurd (other refl)
+keys_refused judging history KeysErrors.OutOfMemory refused other = tt
 
-pub split_judged : (by : TimelineJudging) (history : List Operation) (error : KeysError) → RefusesKeySplit history error → RefusesShowing true (Some by) history (keys_error error)
-split_judged by history (KeysErrors.BadValue place) refused = (KeysErrors.BadValue place, refused, (λ e. cc), refl)
-split_judged by history (KeysErrors.Key error) refused = absurd refused
-split_judged by history KeysErrors.Thread refused = absurd refused
-split_judged by history KeysErrors.OutOfMemory refused = tt
+pub split_judged : (judging : Judging) (history : List Operation) (error : KeysError) → RefusesKeySplit history error → RefusesShowing true (Some judging) history (keys_error error)
+split_judged judging history (KeysErrors.BadValue place) refused = (KeysErrors.BadValue place, refused, (λ e. cc), refl)
+split_judged judging history (KeysErrors.Key error) refused = absurd refused
+split_judged judging history KeysErrors.Thread refused = absurd refused
+split_judged judging history KeysErrors.OutOfMemory refused = tt
 
 pub split_unjudged : (history : List Operation) (error : KeysError) → RefusesKeySplit history error → RefusesShowing true None history (keys_error error)
 split_unjudged history (KeysErrors.BadValue place) refused = (KeysErrors.BadValue place, refused, refl)

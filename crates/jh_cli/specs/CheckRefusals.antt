@@ -1,20 +1,19 @@
 -- Why `jeprun check` refuses an input (this project's own): what is no text of values, no history,
--- or a history that the checker of the workload cannot judge. Each is looked at only where all
--- before it is right.
+-- or a history that the checker cannot judge. Each is looked at only where all before it is right.
 use Rattle.std.specs.Prelude.{◌≡◌, ℕ, Bool, true, false, List}
 use Rattle.jh_edn.specs.Edn.{Edn}
 use Rattle.jh_edn.specs.Spelling.{SpellsAll}
 use Rattle.jh_edn.specs.Refused as edn
 use Rattle.jh_ops.specs.Operation.{Operation}
 use Rattle.jh_ops.specs.HistoryText as histories
-use Rattle.jh_ops.specs.declared.call.Workload.{Workload}
 use Rattle.jh_check.specs.declared.error.CheckError.{CheckError}
 use Rattle.jh_check.specs.declared.error.CheckError.TheVariants as CheckErrors
-use Rattle.jh_keys.specs.Findings.{RefusesChecking}
-use Rattle.jh_keys.specs.Refusals.{RefusesKeys, keys_question}
-use Rattle.jh_keys.specs.declared.error.KeysError.{KeysError}
-use Rattle.jh_keys.specs.declared.finding.Judging.{Judging}
-use Rattle.jh_cli.specs.CheckText.{TakesInitial, IsCheckTextOf, check_judging}
+use Rattle.jh_checkers.specs.Findings.{RefusesChecking}
+use Rattle.jh_independent.specs.Refusals.{RefusesKeys, keys_question}
+use Rattle.jh_independent.specs.declared.error.KeysError.{KeysError}
+use Rattle.jh_checkers.specs.declared.checker.Checker.{Checker}
+use Rattle.jh_checkers.specs.declared.finding.Judging.{Judging}
+use Rattle.jh_cli.specs.CheckText.{TakesInitial, IsCheckTextOf}
 use Rattle.jh_cli.specs.Status.{check_error, keys_error, IsInputError, IsHistoryError}
 use Rattle.jh_cli.specs.declared.check_command.Question.{Question}
 use Rattle.jh_cli.specs.declared.error.CliError.{CliError}
@@ -22,13 +21,13 @@ use Rattle.jh_cli.specs.declared.error.CliError.TheVariants.{Input, History, Onl
 use Rattle.jh_cli.specs.declared.error.CliError.TheVariants.{Write, OutOfMemory}
 
 -- why no line is made of a history, judged as one: its checker refuses it, or memory runs out
-abbrev pub RefusesLine : Workload → List Operation → CheckError → Type 0
-RefusesLine workload history CheckErrors.OutOfMemory = Unit {0}
-RefusesLine workload history error = RefusesChecking workload history error
+abbrev pub RefusesLine : Checker → List Operation → CheckError → Type 0
+RefusesLine checker history CheckErrors.OutOfMemory = Unit {0}
+RefusesLine checker history error = RefusesChecking checker history error
 
-abbrev pub RefusesWhole : Workload → List Operation → CliError → Type 0
-RefusesWhole workload history e =
-    (error : CheckError) × RefusesLine workload history error × (e ≡ check_error error)
+abbrev pub RefusesWhole : Checker → List Operation → CliError → Type 0
+RefusesWhole checker history e =
+    (error : CheckError) × RefusesLine checker history error × (e ≡ check_error error)
 
 -- Why a history is refused, judged by keys: which of several errors of threads and memory it is
 -- depends on the threads.
@@ -38,13 +37,13 @@ RefusesByKeys judging history e =
 
 abbrev pub RefusesBy : Bool → Judging → List Operation → CliError → Type 0
 RefusesBy true judging history e = RefusesByKeys judging history e
-RefusesBy false judging history e = RefusesWhole judging.workload history e
+RefusesBy false judging history e = RefusesWhole judging.checker history e
 
 -- why a history is not judged; memory may run out in any
 abbrev pub RefusesJudging : Question → List Operation → CliError → Type 0
 RefusesJudging question history OutOfMemory = Unit {0}
 RefusesJudging question history e =
-    RefusesBy question.independent (check_judging question) history e
+    RefusesBy question.independent question.judging history e
 
 -- why values are refused
 abbrev pub RefusesCheckValues : Question → List Edn → CliError → Type 0
@@ -53,12 +52,13 @@ RefusesCheckValues question values (History error) =
 RefusesCheckValues question values OutOfMemory = Unit {0}
 RefusesCheckValues question values e =
     (history : List Operation) × histories.AreParsed values history
-    × RefusesBy question.independent (check_judging question) history e
+    × RefusesBy question.independent question.judging history e
 
 -- Why an input is refused, where for its text then for its first error. A failed read and out of
 -- memory may come with any input; a failed write comes only where there is something to write.
 abbrev pub RefusesCheck : Question → List ℕ → CliError → Type 0
-RefusesCheck question input OnlyForRegister = TakesInitial question.workload question.initial → ⊥
+RefusesCheck question input OnlyForRegister =
+    TakesInitial question.judging.checker question.judging.initial → ⊥
 RefusesCheck question input (Input error) =
     IsInputError error × edn.RefusesText input error × edn.IsFirstError input error
 RefusesCheck question input Read = Unit {0}

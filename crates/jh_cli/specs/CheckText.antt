@@ -1,83 +1,60 @@
--- What `jeprun check` writes: one line with what the checker of the workload finds in a history, or
--- in that of each of its keys (Jepsen's checkers `set`, `counter`, `unique-ids` and `linearizable`,
--- and jepsen.independent).
+-- What `jeprun check` writes: one line with what a checker finds in a history, or in that of each of
+-- its keys (Jepsen's checkers `set`, `counter`, `unique-ids` and `linearizable`, and
+-- jepsen.independent).
 use Rattle.std.specs.Prelude.{◌≡◌, ℕ, ℤ, Bool, true, false, List, Option, Some, None}
 use Rattle.jh_edn.specs.Edn.{Edn}
 use Rattle.jh_edn.specs.Spelling.{SpellsAll}
 use Rattle.jh_ops.specs.Operation.{Operation}
 use Rattle.jh_ops.specs.HistoryText.{AreParsed}
-use Rattle.jh_ops.specs.declared.call.Workload.{Workload}
-use Rattle.jh_check.specs.declared.verdict.Verdict.{Verdict}
-use Rattle.jh_keys.specs.Findings.{Found, IsFinding, verdict_of_finding}
-use Rattle.jh_keys.specs.Lines.{finding_line, keys_line, verdict_of_all}
-use Rattle.jh_keys.specs.Refusals.{AreFindings, keys_question}
-use Rattle.jh_keys.specs.declared.finding.Judging.{Judging}
-use Rattle.jh_keys.specs.declared.serial.KeyFinding.{KeyFinding}
-use Rattle.jh_cli.specs.EnvText.{line}
+use Rattle.jh_checkers.specs.Findings.{IsFinding, finding_verdict}
+use Rattle.jh_checkers.specs.Lines.{finding_line}
+use Rattle.jh_checkers.specs.declared.checker.Checker.{Checker}
+use Rattle.jh_checkers.specs.declared.finding.Finding.{Finding}
+use Rattle.jh_checkers.specs.declared.finding.Judging.{Judging}
+use Rattle.jh_independent.specs.Lines.{keys_line, verdict_of_all}
+use Rattle.jh_independent.specs.Refusals.{AreFindings, keys_question}
+use Rattle.jh_independent.specs.declared.serial.KeyFinding.{KeyFinding}
+use Rattle.jh_cli.specs.Lines.{line}
+use Rattle.jh_cli.specs.Outputs.{verdict_status}
 use Rattle.jh_cli.specs.declared.check_command.Question.{Question}
 
--- the exit status of a verdict
-abbrev pub verdict_status : Verdict → ℕ
-verdict_status Verdict.True = 0
-verdict_status Verdict.False = 1
-verdict_status Verdict.Unknown = 2
-
-abbrev pub is_register : Workload → Bool
-is_register Workload.Register = true
-is_register _ = false
-
 -- An initial value is for a register alone.
-abbrev pub TakesInitial : Workload → Option ℤ → Type 0
-TakesInitial Workload.Register initial = Unit {0}
-TakesInitial workload None = Unit {0}
-TakesInitial workload (Some value) = ⊥
+abbrev pub TakesInitial : Checker → Option ℤ → Type 0
+TakesInitial Checker.Register initial = Unit {0}
+TakesInitial checker None = Unit {0}
+TakesInitial checker (Some value) = ⊥
 
--- what a history is judged by, and whether a no of a register is explained
-abbrev pub check_judging : Question → Judging
-check_judging question =
-    record {
-      workload = question.workload;
-      initial = question.initial;
-      budget = question.budget;
-      explain = question.explain;
-    }
+-- ---- what is written, with the exit status
 
--- ---- a judgement: a verdict, and the text of its line
+-- For a history as one. More than one may be right on a register: any valid order may be given.
+abbrev pub IsWholeText : Judging → List Operation → ℕ → List ℕ → Type 0
+IsWholeText judging history status output =
+    (finding : Finding) × IsFinding judging history finding
+    × (status ≡ verdict_status (finding_verdict finding)) × (output ≡ line (finding_line finding))
 
--- On a history as one. More than one may be right on a register: any valid order may be given.
-abbrev pub IsJudgement : Judging → List Operation → Verdict → List ℕ → Type 0
-IsJudgement judging history verdict text =
-    (found : Found) × IsFinding judging history found × (verdict ≡ verdict_of_finding found.finding)
-    × (text ≡ finding_line found)
-
--- on the history of each of its keys
-abbrev pub IsKeysJudgement : Judging → List Operation → Verdict → List ℕ → Type 0
-IsKeysJudgement judging history verdict text =
+-- for the history of each of its keys
+abbrev pub IsKeysText : Judging → List Operation → ℕ → List ℕ → Type 0
+IsKeysText judging history status output =
     (found : List KeyFinding) × AreFindings (keys_question judging history) found
-    × (verdict ≡ verdict_of_all found) × (text ≡ keys_line found)
+    × (status ≡ verdict_status (verdict_of_all found)) × (output ≡ line (keys_line found))
 
 -- by keys, if they are independent, or as one
-abbrev pub IsJudgementBy : Bool → Judging → List Operation → Verdict → List ℕ → Type 0
-IsJudgementBy true judging history verdict text = IsKeysJudgement judging history verdict text
-IsJudgementBy false judging history verdict text = IsJudgement judging history verdict text
-
--- ---- what is written
+abbrev pub IsTextBy : Bool → Judging → List Operation → ℕ → List ℕ → Type 0
+IsTextBy true judging history status output = IsKeysText judging history status output
+IsTextBy false judging history status output = IsWholeText judging history status output
 
 -- for a history
-abbrev pub IsHistoryText : Question → List Operation → Verdict → List ℕ → Type 0
-IsHistoryText question history verdict output =
-    (text : List ℕ)
-    × IsJudgementBy question.independent (check_judging question) history verdict text
-    × (output ≡ line text)
+abbrev pub IsHistoryText : Question → List Operation → ℕ → List ℕ → Type 0
+IsHistoryText question history status output =
+    IsTextBy question.independent question.judging history status output
 
 -- for values that mean a history
-abbrev pub IsCheckText : Question → List Edn → Verdict → List ℕ → Type 0
-IsCheckText question values verdict output =
+abbrev pub IsCheckText : Question → List Edn → ℕ → List ℕ → Type 0
+IsCheckText question values status output =
     (history : List Operation) × AreParsed values history
-    × IsHistoryText question history verdict output
+    × IsHistoryText question history status output
 
--- for an input, with the exit status: its values are those that it spells
+-- for an input: its values are those that it spells
 abbrev pub IsCheckTextOf : Question → List ℕ → ℕ → List ℕ → Type 0
 IsCheckTextOf question input status output =
-    (values : List Edn) × (verdict : Verdict) × SpellsAll values input
-    × IsCheckText question values verdict output × (status ≡ verdict_status verdict)
+    (values : List Edn) × SpellsAll values input × IsCheckText question values status output

@@ -1,21 +1,17 @@
 -- What `jeprun env` writes (this project's own): a line with the answer to each step, a line with
 -- the ids of the active faults, and a line with the environment.
-use Rattle.std.specs.Prelude.{◌≡◌, ℕ, pos, List, [], ◌∷◌, ◌++◌, map, codes, Ok}
+use Rattle.std.specs.Prelude.{◌≡◌, ℕ, List, [], ◌∷◌, ◌++◌, map, codes, Ok}
 use Rattle.std.specs.List.{flat_map}
-use Rattle.jh_edn.specs.Edn.{Edn, int, vector, items_of}
-use Rattle.jh_edn.specs.Print.{print}
+use Rattle.jh_edn.specs.Edn.{Edn}
 use Rattle.jh_edn.specs.Spelling.{SpellsAll}
 use Rattle.jh_env.specs.Overlay.{EnvValue, StandsFor}
 use Rattle.jh_env.specs.TextCells.{IsTextOf}
-use Rattle.jh_env.specs.TextWritten.{text_of}
-use Rattle.jh_nemesis.specs.State.{State, Active, faults_in, first_state}
+use Rattle.jh_nemesis.specs.State.{State, first_state}
 use Rattle.jh_nemesis.specs.Steps.{answers_of, state_after_all}
 use Rattle.jh_step_texts.specs.StepText.{parsed_step}
 use Rattle.jh_nemesis.specs.declared.steps.Step.{Step}
 use Rattle.jh_nemesis.specs.declared.steps.StepAnswer.{StepAnswer}
-
-abbrev pub line : List ℕ → List ℕ
-line text = text ++ codes "\n"
+use Rattle.jh_cli.specs.Lines.{IsEnvOf, active_line, environment_line, line}
 
 abbrev pub answer_keyword : StepAnswer → List ℕ
 answer_keyword StepAnswer.Ok = codes ":ok"
@@ -31,16 +27,6 @@ answer_keyword StepAnswer.NothingToRedo = codes ":nothing-to-redo"
 abbrev pub answer_lines : List StepAnswer → List ℕ
 answer_lines answers = flat_map (λ answer. line (answer_keyword answer)) answers
 
--- the ids of the active faults, in order, as a vector
-abbrev pub ids_of : Active → Edn
-ids_of active = vector (items_of (map (λ fault. int (pos fault.0)) active))
-
-abbrev pub active_line : Active → List ℕ
-active_line active = line (codes ":active " ++ print (ids_of active))
-
-abbrev pub environment_line : EnvValue → List ℕ
-environment_line env = line (print (text_of env))
-
 -- these values mean an environment at its start, and then these steps over its nodes
 pub record IsEnvWithSteps (values : List Edn) (env : EnvValue) (steps : List Step) : Type 0 where
   pub first : Edn
@@ -49,12 +35,6 @@ pub record IsEnvWithSteps (values : List Edn) (env : EnvValue) (steps : List Ste
   pub environment : IsTextOf first env.names env.start
   pub at_start : StandsFor env []
   pub steps_parsed : map (parsed_step env.names) others ≡ map Ok steps
-
--- the environment is what is active in the state makes of its start
-pub record IsEnvOf (state : State) (env : EnvValue) : Type 0 where
-  pub names : env.names ≡ state.names
-  pub start : env.start ≡ state.start
-  pub overlay : StandsFor env (faults_in state.active)
 
 -- what is written for these steps, from this state
 abbrev pub IsReport : State → List Step → List ℕ → Type 0
@@ -70,6 +50,7 @@ IsEnvText values output =
     (env : EnvValue) × (steps : List Step) × IsEnvWithSteps values env steps
     × IsReport (first_state env) steps output
 
--- what is written for an input: its values are those that it spells
-abbrev pub IsEnvTextOf : List ℕ → List ℕ → Type 0
-IsEnvTextOf input output = (values : List Edn) × SpellsAll values input × IsEnvText values output
+-- what is written for an input, with the exit status: its values are those that it spells
+abbrev pub IsEnvTextOf : List ℕ → ℕ → List ℕ → Type 0
+IsEnvTextOf input status output =
+    (values : List Edn) × SpellsAll values input × IsEnvText values output × (status ≡ 0)

@@ -1,6 +1,8 @@
 pub mod Status
+pub mod Outputs
+pub mod Lines
 pub mod EnvText
-pub mod Refusals
+pub mod EnvRefusals
 pub mod CheckText
 pub mod CheckRefusals
 pub mod RunText

@@ -1,8 +1,10 @@
 -- What the command `run` makes of a refusal of its own history (this project's own).
+use Rattle.jh_check.specs.declared.error.CheckError.{CheckError}
+use Rattle.jh_check.specs.declared.error.CheckError.TheVariants as refused
 use Rattle.jh_cli.specs.declared.error.CliError.{CliError}
 use Rattle.jh_cli.specs.declared.error.CliError.TheVariants.{Mismatch, OutOfMemory}
 
 -- a mismatch, but for out of memory
-abbrev pub own_error : CliError → CliError
-own_error OutOfMemory = OutOfMemory
+abbrev pub own_error : CheckError → CliError
+own_error refused.OutOfMemory = OutOfMemory
 own_error _ = Mismatch

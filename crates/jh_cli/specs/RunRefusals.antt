@@ -3,10 +3,10 @@
 use Rattle.std.specs.Prelude.{◌≡◌, ◌≢◌, ℕ, List}
 use Rattle.jh_edn.specs.Refused.{IsReaderError}
 use Rattle.jh_ops.specs.Operation.{Operation}
-use Rattle.jh_ops.specs.declared.call.Workload.{Workload}
 use Rattle.jh_check.specs.declared.error.CheckError.{CheckError}
 use Rattle.jh_check.specs.declared.error.CheckError.TheVariants as check_errors
-use Rattle.jh_keys.specs.Findings.{RefusesChecking}
+use Rattle.jh_checkers.specs.Findings.{RefusesChecking}
+use Rattle.jh_checkers.specs.declared.checker.Checker.{Checker}
 use Rattle.jh_simnode.specs.declared.events.WorldError.TheVariants as WorldError
 use Rattle.jh_simnode.specs.declared.serial.RunError.TheVariants as RunError
 use Rattle.jh_simnode.specs.Plans.{PlanValue}
@@ -21,14 +21,14 @@ use Rattle.jh_cli.specs.declared.error.CliError.TheVariants.{Input, Settings, Ru
 use Rattle.jh_cli.specs.declared.error.CliError.TheVariants.{Mismatch, Thread, Read, Write}
 use Rattle.jh_cli.specs.declared.error.CliError.TheVariants.{OutOfMemory}
 
--- The checker of a workload refuses the history of a run on threads, which is a mismatch. (No plan
--- is known whose run comes to this; that of a serial run never does.)
-abbrev pub RefusesOwn : Workload → List Operation → CliError → Type 0
-RefusesOwn workload history Mismatch =
+-- The checker refuses the history of a run on threads, which is a mismatch. (No plan is known whose
+-- run comes to this; that of a serial run never does.)
+abbrev pub RefusesOwn : Checker → List Operation → CliError → Type 0
+RefusesOwn checker history Mismatch =
     (refusal : CheckError) × (refusal ≢ check_errors.OutOfMemory)
-    × RefusesChecking workload history refusal
-RefusesOwn workload history OutOfMemory = Unit {0}
-RefusesOwn workload history _ = ⊥
+    × RefusesChecking checker history refusal
+RefusesOwn checker history OutOfMemory = Unit {0}
+RefusesOwn checker history _ = ⊥
 
 -- Why the serial run of a plan is not completed: in a whole round no thread got a call, or memory
 -- was refused. Once it is completed, its history is judged.

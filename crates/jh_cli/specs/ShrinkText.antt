@@ -4,25 +4,21 @@ use Rattle.std.specs.Prelude.{◌≡◌, ℕ, Bool, true, false, List, ◌++◌,
 use Rattle.std.specs.Prelude.{IfSome}
 use Rattle.std.specs.List.{flat_map}
 use Rattle.jh_edn.specs.Print.{print}
-use Rattle.jh_ops.specs.Operation.{Operation}
 use Rattle.jh_check.specs.declared.verdict.Verdict.{Verdict}
-use Rattle.jh_simnode.specs.declared.events.Event.{Event}
 use Rattle.jh_simnode.specs.declared.schedule.Entry.{Entry}
 use Rattle.jh_simnode.specs.Plans.{PlanValue, plan_with_schedule}
-use Rattle.jh_simnode.specs.Runs.{IsSerialRun}
-use Rattle.jh_run_laws.specs.OwnJudging.{own_judging}
+use Rattle.jh_judged_runs.specs.JudgedRuns.{IsRunVerdict}
 use Rattle.jh_shrink.specs.Shrunk.{IsShrunk}
 use Rattle.jh_shrink.specs.declared.shrinking.Shrunk.{Shrunk}
 use Rattle.jh_shrink.specs.declared.shrinking.Shrunk.TheVariants.{Minimal, Budget, NotFailing}
 use Rattle.jh_settings.specs.Settings.{AreSettingsOf}
 use Rattle.jh_settings_texts.specs.DocumentWritten.{entry_value}
 use Rattle.jh_settings.specs.declared.choices.Mode.{Mode}
-use Rattle.jh_cli.specs.CheckText.{IsJudgement}
-use Rattle.jh_cli.specs.EnvText.{line}
+use Rattle.jh_cli.specs.Lines.{line}
 
 -- ---- when a run fails
 
--- A history that is not valid fails. One of which that is not known doesn't.
+-- A run fails where its history is not valid. One of unknown verdict does not fail.
 abbrev pub is_failure : Verdict → Bool
 is_failure Verdict.False = true
 is_failure _ = false
@@ -30,12 +26,10 @@ is_failure _ = false
 -- whether the serial run of a plan fails, by a judge of this budget
 abbrev pub IsRunFailure : PlanValue → ℕ → Bool → Type 0
 IsRunFailure p budget fails =
-    (journal : List Event) × (history : List Operation) × (verdict : Verdict) × (judged : List ℕ)
-    × IsSerialRun p journal history
-    × IsJudgement (own_judging p budget) history verdict judged × (fails ≡ is_failure verdict)
+    (verdict : Verdict) × IsRunVerdict p budget verdict × (fails ≡ is_failure verdict)
 
 -- What is answered of a schedule: whether the run of the plan with it fails. There is no answer
--- where that run was refused.
+-- where that run was refused, or is stuck.
 abbrev pub RunAnswers : PlanValue → ℕ → List Entry → Option Bool → Type 0
 RunAnswers p budget schedule answer =
     IfSome answer (IsRunFailure (plan_with_schedule p schedule) budget)

@@ -6,7 +6,7 @@ use Rattle.jh_env.specs.declared.texts.EnvTextError.TheVariants as EnvTextError
 use Rattle.jh_ops.specs.declared.history.HistoryError.TheVariants as HistoryError
 use Rattle.jh_check.specs.declared.error.CheckError.TheVariants as CheckError
 use Rattle.jh_histories.specs.declared.error.ReadHistoryError.TheVariants as ReadHistoryError
-use Rattle.jh_keys.specs.declared.error.KeysError.TheVariants as KeysError
+use Rattle.jh_independent.specs.declared.error.KeysError.TheVariants as KeysError
 use Rattle.jh_step_texts.specs.declared.steps.StepTextError.TheVariants as StepTextError
 use Rattle.jh_settings.specs.declared.error.SettingsError.TheVariants as SettingsError
 use Rattle.jh_simnode.specs.declared.events.WorldError.TheVariants as WorldError

@@ -3,20 +3,19 @@
 -- all before it is right.
 use Rattle.std.specs.Prelude.{◌≡◌, ◌≢◌, ℕ, Bool, true, false, List, Option, Some, None}
 use Rattle.jh_histories.specs.declared.error.ReadHistoryError.TheVariants as reading
-use Rattle.jh_keys.specs.Histories.{RefusesKeySplit}
-use Rattle.jh_keys.specs.Refusals.{RefusesKeys, keys_question}
-use Rattle.jh_keys.specs.declared.error.KeysError.{KeysError}
-use Rattle.jh_keys.specs.declared.error.KeysError.TheVariants as KeysErrors
-use Rattle.jh_keys.specs.declared.finding.Judging.{Judging}
+use Rattle.jh_independent.specs.Histories.{RefusesKeySplit}
+use Rattle.jh_independent.specs.Refusals.{RefusesKeys, keys_question}
+use Rattle.jh_independent.specs.declared.error.KeysError.{KeysError}
+use Rattle.jh_independent.specs.declared.error.KeysError.TheVariants as KeysErrors
+use Rattle.jh_checkers.specs.declared.finding.Judging.{Judging}
 use Rattle.jh_ops.specs.Operation.{Operation}
 use Rattle.jh_sections.specs.HistoryAndRest.{AreHistoryAndRest, RefusesHistoryAndRest}
 use Rattle.jh_cli.specs.CheckRefusals.{RefusesWhole}
 use Rattle.jh_cli.specs.Status.{IsInputError, IsHistoryError, keys_error}
-use Rattle.jh_cli.specs.TimelineText.{IsTimelineTextOf, TakesInitialBy, timeline_judging}
+use Rattle.jh_cli.specs.TimelineText.{IsTimelineTextOf, TakesInitialBy}
 use Rattle.jh_cli.specs.declared.error.CliError.{CliError}
 use Rattle.jh_cli.specs.declared.error.CliError.TheVariants.{Input, History, OnlyForRegister, Read}
 use Rattle.jh_cli.specs.declared.error.CliError.TheVariants.{Write, OutOfMemory}
-use Rattle.jh_cli.specs.declared.timeline_command.TimelineJudging.{TimelineJudging}
 use Rattle.jh_cli.specs.declared.timeline_command.TimelineQuestion.{TimelineQuestion}
 
 -- why the keys of a history are not judged; they are judged on one thread, which does not fail
@@ -32,14 +31,14 @@ RefusesSplitting history e =
 
 -- Why a history is refused, if it is shown by keys: that it is not split, or not judged. One that
 -- is shown as one is refused only where it is judged.
-abbrev pub RefusesFinding : Bool → Option TimelineJudging → List Operation → CliError → Type 0
+abbrev pub RefusesFinding : Bool → Option Judging → List Operation → CliError → Type 0
 RefusesFinding true None history e = RefusesSplitting history e
-RefusesFinding true (Some by) history e = RefusesKeysBy (timeline_judging by) history e
+RefusesFinding true (Some judging) history e = RefusesKeysBy judging history e
 RefusesFinding false None history e = ⊥
-RefusesFinding false (Some by) history e = RefusesWhole by.workload history e
+RefusesFinding false (Some judging) history e = RefusesWhole judging.checker history e
 
 -- the same, where memory may run out at any
-abbrev pub RefusesShowing : Bool → Option TimelineJudging → List Operation → CliError → Type 0
+abbrev pub RefusesShowing : Bool → Option Judging → List Operation → CliError → Type 0
 RefusesShowing independent judging history OutOfMemory = Unit {0}
 RefusesShowing independent judging history e = RefusesFinding independent judging history e
 

@@ -2,11 +2,13 @@
 -- (this project's own).
 use Rattle.std.specs.Prelude.{◌≡◌, ℕ, Bool, true, false, List, [], ◌∷◌, codes, IsSomeAnd, Option}
 use Rattle.std.specs.Prelude.{Some, None}
-use Rattle.jh_keys.specs.Findings.{Found, IsFinding, verdict_of_finding}
-use Rattle.jh_keys.specs.Lines.{finding_line, keys_line, verdict_of_all}
-use Rattle.jh_keys.specs.Refusals.{AreFindings, keys_question}
-use Rattle.jh_keys.specs.declared.finding.Judging.{Judging}
-use Rattle.jh_keys.specs.declared.serial.KeyFinding.{KeyFinding}
+use Rattle.jh_checkers.specs.Findings.{IsFinding, finding_verdict}
+use Rattle.jh_checkers.specs.declared.finding.Finding.{Finding}
+use Rattle.jh_checkers.specs.Lines.{finding_line}
+use Rattle.jh_independent.specs.Lines.{keys_line, verdict_of_all}
+use Rattle.jh_independent.specs.Refusals.{AreFindings, keys_question}
+use Rattle.jh_checkers.specs.declared.finding.Judging.{Judging}
+use Rattle.jh_independent.specs.declared.serial.KeyFinding.{KeyFinding}
 use Rattle.jh_ops.specs.Operation.{Operation}
 use Rattle.jh_pages.specs.Page.{page_text}
 use Rattle.jh_pages.specs.declared.section.Section.{Section}
@@ -14,43 +16,37 @@ use Rattle.jh_sections.specs.KeySections.{AreSectionsOf}
 use Rattle.jh_sections.specs.HistoryAndRest.{AreHistoryAndRest}
 use Rattle.jh_sections.specs.Sections.{IsSectionOf}
 use Rattle.jh_sections.specs.declared.window.Choice.{Choice}
-use Rattle.jh_cli.specs.CheckText as check
 use Rattle.jh_cli.specs.CheckText.{TakesInitial}
-use Rattle.jh_cli.specs.declared.timeline_command.TimelineJudging.{TimelineJudging}
+use Rattle.jh_cli.specs.Outputs.{verdict_status}
 use Rattle.jh_cli.specs.declared.timeline_command.TimelineQuestion.{TimelineQuestion}
 
 -- An initial value is for a register alone.
-abbrev pub TakesInitialBy : Option TimelineJudging → Type 0
+abbrev pub TakesInitialBy : Option Judging → Type 0
 TakesInitialBy None = Unit {0}
-TakesInitialBy (Some by) = TakesInitial by.workload by.initial
-
--- what a history is judged by; the no of a register is explained
-abbrev pub timeline_judging : TimelineJudging → Judging
-timeline_judging by =
-    record { workload = by.workload; initial = by.initial; budget = by.budget; explain = true }
+TakesInitialBy (Some judging) = TakesInitial judging.checker judging.initial
 
 -- What is found in a history, if it is judged. More than one may be right on a register: any valid
 -- order may be given.
-abbrev pub IsFoundBy : Option TimelineJudging → List Operation → Option Found → Type 0
+abbrev pub IsFoundBy : Option Judging → List Operation → Option Finding → Type 0
 IsFoundBy None history found = found ≡ None
-IsFoundBy (Some by) history found = IsSomeAnd found (IsFinding (timeline_judging by) history)
+IsFoundBy (Some judging) history found = IsSomeAnd found (IsFinding judging history)
 
 -- the line on top: that of what is found, or that here is a history
-abbrev pub found_line : Option Found → List ℕ
+abbrev pub found_line : Option Finding → List ℕ
 found_line None = codes "A history"
 found_line (Some found) = finding_line found
 
 -- the exit status: that of the verdict, if there is one
-abbrev pub found_status : Option Found → ℕ
+abbrev pub found_status : Option Finding → ℕ
 found_status None = 0
-found_status (Some found) = check.verdict_status (verdict_of_finding found.finding)
+found_status (Some found) = verdict_status (finding_verdict found)
 
 -- what a page shows of a history as one: a line on top, and one section, which has no heading
 pub record ShowsWhole
-    (judging : Option TimelineJudging) (choice : Choice) (history : List Operation) (status : ℕ)
+    (judging : Option Judging) (choice : Choice) (history : List Operation) (status : ℕ)
     (line : List ℕ)
     (sections : List Section) : Type 0 where
-  pub found : Option Found
+  pub found : Option Finding
   pub judged : IsFoundBy judging history found
   pub section : Section
   pub shown : IsSectionOf [] history found choice section
@@ -61,10 +57,10 @@ pub record ShowsWhole
 -- ---- independent keys
 
 -- what is found of each key of a history, if they are judged
-abbrev pub AreFoundBy : Option TimelineJudging → List Operation → Option (List KeyFinding) → Type 0
+abbrev pub AreFoundBy : Option Judging → List Operation → Option (List KeyFinding) → Type 0
 AreFoundBy None history findings = findings ≡ None
-AreFoundBy (Some by) history findings =
-    IsSomeAnd findings (AreFindings (keys_question (timeline_judging by) history))
+AreFoundBy (Some judging) history findings =
+    IsSomeAnd findings (AreFindings (keys_question judging history))
 
 -- the line on top: that of what is found of all keys, or that here is a history
 abbrev pub keys_line_of : Option (List KeyFinding) → List ℕ
@@ -74,11 +70,11 @@ keys_line_of (Some findings) = keys_line findings
 -- the exit status: that of the verdict on all keys, if there is one
 abbrev pub keys_status_of : Option (List KeyFinding) → ℕ
 keys_status_of None = 0
-keys_status_of (Some findings) = check.verdict_status (verdict_of_all findings)
+keys_status_of (Some findings) = verdict_status (verdict_of_all findings)
 
 -- what a page shows of a history of independent keys: a line on top, and a section for each key
 pub record ShowsKeys
-    (judging : Option TimelineJudging) (choice : Choice) (history : List Operation) (status : ℕ)
+    (judging : Option Judging) (choice : Choice) (history : List Operation) (status : ℕ)
     (line : List ℕ)
     (sections : List Section) : Type 0 where
   pub findings : Option (List KeyFinding)

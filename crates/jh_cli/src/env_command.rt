@@ -1,30 +1,29 @@
 //! The command `env`: reads a starting environment and steps, and writes the answers and the
-//! environment that is left.
+//! environment that is left. What is written stands in `specs/EnvText.antt`, why an input is refused
+//! in `specs/EnvRefusals.antt`.
 
-ghost use Rattle.std.specs.Prelude.{◌≡◌, ◌≢◌, ◌++◌, ℕ, List, length, map, pos, Ok, OnOk, IfOk};
-ghost use Rattle.std.specs.Prelude.{IfErr, IfSome, MatchResult};
+ghost use Rattle.std.specs.Prelude.{◌≡◌, ◌≢◌, ◌++◌, length, map, Ok, OnOk, IfOk, IfErr};
+ghost use Rattle.std.specs.Prelude.{MatchResult};
 ghost use Rattle.std.specs.List.{All};
-ghost use Rattle.std.specs.Io.KnownBytes.{Appends};
-ghost use Rattle.jh_edn.specs.Edn.{int};
-ghost use Rattle.jh_edn.specs.Print.{print};
-ghost use Rattle.jh_edn.specs.View.{view, views};
+ghost use Rattle.jh_edn.specs.View.{views};
 ghost use Rattle.jh_step_texts.specs.StepText.{parsed_step};
 ghost use Rattle.jh_nemesis.specs.Steps.{FitsNodes, StepFits, answers_of, state_after_all};
+ghost use Rattle.jh_cli.specs.EnvRefusals.{RefusesEnv, RefusesSteps, RefusesEnvValues};
 ghost use Rattle.jh_cli.specs.EnvText as text;
-ghost use Rattle.jh_cli.specs.EnvText.{IsEnvText, IsEnvTextOf, IsReport, answer_lines, line};
-ghost use Rattle.jh_cli.specs.Refusals.{RefusesInput, RefusesSteps, RefusesEnvValues};
+ghost use Rattle.jh_cli.specs.EnvText.{IsEnvText, IsEnvTextOf, IsReport, answer_lines};
+ghost use Rattle.jh_cli.specs.Lines.{line};
+ghost use Rattle.jh_cli.specs.Outputs.{OnInput, WritesOutput};
 ghost use Rattle.jh_cli.specs.Status.{step_error};
 
 use crate::error::CliError;
-use jh_edn::{Value, Values, read_all, write};
-use jh_env::{Env, Nodes, env_of_value, value_of_env};
+use crate::lines::{write_active, write_environment};
+use crate::output::{MAX_READS, Output, finish};
+use jh_edn::{Value, read_all};
+use jh_env::{Nodes, env_of_value};
 use jh_nemesis::{Nemesis, Step, StepAnswer};
 use jh_step_texts::{StepTextError, step_of_value};
 use std::alloc::{AllocError, Global};
 use std::io::{Read, Write};
-
-/// The most reads that an input may take.
-pub(crate) const MAX_READS: u32 = 16_777_216;
 
 /// Exit status of a command that did its work.
 const DONE: u8 = 0;
@@ -45,19 +44,15 @@ pub fn env_run<R: Read, W: Write>(
     writer: &mut W,
 ) -> Result<u8, CliError>
     ensures status { IfOk result (λ status. status ≡ 0) }
-    ensures written { OnOk result (IfSome (R.remaining reader.old) (λ input.
-        (output : List ℕ) × IsEnvTextOf input output
-        × Appends (W.contents writer.old) (W.contents writer.new) output)) }
-    ensures refused { IfErr result
-        (λ e. IfSome (R.remaining reader.old) (λ input. RefusesInput input e)) }
+    ensures written { IfOk result (λ status. WritesOutput (R.remaining reader.old)
+        IsEnvTextOf status (W.contents writer.old) (W.contents writer.new)) }
+    ensures refused { IfErr result (λ e. OnInput (R.remaining reader.old)
+        (λ input. RefusesEnv input e)) }
     ensures unwritten { IfErr result (λ e. e ≢ CliError.Write → writer.new ≡ writer.old) }
 {
     let values = read_all(alloc, reader, MAX_READS)?;
-    let output = env_text(alloc, values.as_slice())?;
-    match writer.write_all(&output) {
-        Ok(()) => Ok(DONE),
-        Err(_) => Err(CliError::Write),
-    }
+    let text = env_text(alloc, values.as_slice())?;
+    finish(Output { status: DONE, text }, writer)
 }
 
 /// What is written for these values.
@@ -165,60 +160,4 @@ fn answer_line(answer: StepAnswer) -> &'static str
         StepAnswer::NothingToUndo => ":nothing-to-undo\n",
         StepAnswer::NothingToRedo => ":nothing-to-redo\n",
     }
-}
-
-/// Writes the ids of the active faults, in order.
-pub(crate) fn write_active(
-    alloc: Global,
-    nemesis: &Nemesis,
-    output: &mut Vec<u8>,
-) -> Result<(), AllocError>
-    ensures { OnOk result
-        (output.new.items ≡ output.old.items ++ text.active_line nemesis.now.state.active) }
-{
-    let ids = active_ids(alloc, nemesis)?;
-    output.extend_from_slice(b":active ")?;
-    write_line(&ids, output)
-}
-
-/// The id of a fault, as a value.
-fn id_value(id: u32) -> Value
-    ensures { view result ≡ int (pos id) }
-{
-    Value::Int(i64::from(id))
-}
-
-/// The ids of the active faults, in order, as a vector.
-fn active_ids(alloc: Global, nemesis: &Nemesis) -> Result<Value, AllocError>
-    ensures { IfOk result (λ ids. view ids ≡ text.ids_of nemesis.now.state.active) }
-{
-    let mut ids = Vec::new(alloc);
-    for place in 0..nemesis.active_len() {
-        if let Some((id, _)) = nemesis.active_at(place) {
-            ids.push(id_value(id))?;
-        }
-    }
-    Ok(Value::Vector(Values::of(ids)))
-}
-
-/// Writes a line with an environment.
-pub(crate) fn write_environment(
-    alloc: Global,
-    env: &Env,
-    output: &mut Vec<u8>,
-) -> Result<(), AllocError>
-    ensures { OnOk result (output.new.items ≡ output.old.items ++ text.environment_line env.now) }
-{
-    write_line(&value_of_env(alloc, env)?, output)
-}
-
-/// Writes a value and a line feed.
-pub(crate) fn write_line(value: &Value, output: &mut Vec<u8>) -> Result<(), AllocError>
-    ensures { OnOk result (output.new.items ≡ output.old.items ++ line (print (view value.now))) }
-{
-    if write(value, output).is_err() {
-        return Err(AllocError);
-    }
-    output.push(b'\n')?;
-    Ok(())
 }

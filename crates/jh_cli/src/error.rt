@@ -9,7 +9,7 @@ use jh_check::CheckError;
 use jh_edn::EdnError;
 use jh_env::EnvTextError;
 use jh_histories::ReadHistoryError;
-use jh_keys::KeysError;
+use jh_independent::KeysError;
 use jh_ops::HistoryError;
 use jh_search::SearchError;
 use jh_settings::SettingsError;

@@ -1,12 +1,14 @@
 //! All that the program `jeprun` does, over any reader and any writer: one function for each
 //! command. `specs/EnvText.antt`, `specs/CheckText.antt`, `specs/RunText.antt`,
 //! `specs/ShrinkText.antt`, `specs/SearchText.antt` and `specs/TimelineText.antt` say what is
-//! written, `specs/Refusals.antt` and each `..Refusals.antt` why an input is refused.
+//! written, each `..Refusals.antt` why an input is refused. `output.rt` is the frame that all share.
 #![tactic(auto)]
 
 mod check_command;
 mod env_command;
 mod error;
+mod lines;
+mod output;
 mod run_command;
 mod search_command;
 mod shrink_command;
@@ -18,4 +20,4 @@ pub use error::CliError;
 pub use run_command::run_run;
 pub use search_command::{SearchQuestion, search_run};
 pub use shrink_command::{shrink_run, shrink_run_observed};
-pub use timeline_command::{TimelineJudging, TimelineQuestion, timeline_run};
+pub use timeline_command::{TimelineQuestion, timeline_run};

@@ -3,32 +3,33 @@
 //! `specs/RunText.antt`, why an input is refused or a run not completed in
 //! `specs/RunRefusals.antt`.
 
-ghost use Rattle.std.specs.Prelude.{◌≡◌, ◌≢◌, ◌++◌, ℕ, [], List, OnOk, IfOk, IfErr, IfSome};
-ghost use Rattle.std.specs.Prelude.{MatchResult};
-ghost use Rattle.std.specs.Io.KnownBytes.{Appends};
+ghost use Rattle.std.specs.Prelude.{◌≡◌, ◌≢◌, ◌++◌, [], OnOk, IfOk, IfErr, MatchResult};
 ghost use Rattle.jh_edn.specs.Print.{print};
 ghost use Rattle.jh_ops.specs.Operation.{operation, operations};
 ghost use Rattle.jh_ops.specs.OperationWritten.{value_written};
-ghost use Rattle.jh_run_laws.specs.OwnJudging.{own_judging};
-ghost use Rattle.jh_cli.specs.CheckText.{IsJudgement};
-ghost use Rattle.jh_cli.specs.EnvText.{line};
+ghost use Rattle.jh_checkers.specs.Checkers.{checker_of};
+ghost use Rattle.jh_checkers.specs.Findings.{IsFinding};
+ghost use Rattle.jh_judged_runs.specs.JudgedRuns.{run_judging};
+ghost use Rattle.jh_cli.specs.Lines.{line};
+ghost use Rattle.jh_cli.specs.Outputs.{OnInput, WritesOutput};
 ghost use Rattle.jh_cli.specs.RunInside.{own_error};
 ghost use Rattle.jh_cli.specs.RunRefusals.{RefusesRunBytes, RefusesOwn, RefusesRun, RefusesSerial};
 ghost use Rattle.jh_cli.specs.RunRefusals.{RefusesRunIn, RefusesThreads};
 ghost use Rattle.jh_cli.specs.RunText as text;
-ghost use Rattle.jh_cli.specs.RunText.{IsBytesText, IsOutcome, IsRunText, IsRunTextOf};
-ghost use Rattle.jh_cli.specs.RunText.{IsSerialText, IsThreadsText, IsRunOutput};
+ghost use Rattle.jh_cli.specs.RunText.{IsOutcome, IsRunOutput, IsRunText, IsRunTextOf};
+ghost use Rattle.jh_cli.specs.RunText.{IsSerialText, IsThreadsText};
 
-use crate::check_command::{Judgement, judge, status_of};
-use crate::env_command::{MAX_READS, write_active, write_environment};
 use crate::error::CliError;
+use crate::lines::{finding_text, write_active, write_environment};
+use crate::output::{MAX_READS, Output, finish, status_of};
+use jh_check::CheckError;
+use jh_checkers::{Finding, check_history};
 use jh_edn::read_bytes;
-use jh_keys::write_operation;
+use jh_judged_runs::{judge_run, run_judging};
 use jh_nemesis::Nemesis;
-use jh_ops::Op;
-use jh_run_laws::{own_histories_are_judged, own_judging};
+use jh_ops::{Op, write_operation};
 use jh_settings::{Mode, RunSettings, settings_of};
-use jh_simnode::{Event, Plan, World, nemesis_after, run_serial, world_of};
+use jh_simnode::{Event, Plan, World, nemesis_after, world_of};
 use jh_workers::{LockedWorld, Outcome, RunError as ThreadsError, run};
 use std::alloc::{AllocError, Global};
 use std::io::{Read, Write};
@@ -62,47 +63,43 @@ pub fn run_run<T: Threads + Wait + Sync, R: Read, W: Write>(
     reader: &mut R,
     writer: &mut W,
 ) -> Result<u8, CliError>
-    ensures written { IfOk result (λ status. IfSome (R.remaining reader.old) (λ input.
-        (output : List ℕ) × IsRunTextOf input status output
-        × Appends (W.contents writer.old) (W.contents writer.new) output)) }
-    ensures refused { IfErr result
-        (λ e. IfSome (R.remaining reader.old) (λ input. RefusesRun input e)) }
+    ensures written { IfOk result (λ status. WritesOutput (R.remaining reader.old)
+        IsRunTextOf status (W.contents writer.old) (W.contents writer.new)) }
+    ensures refused { IfErr result (λ e. OnInput (R.remaining reader.old)
+        (λ input. RefusesRun input e)) }
     ensures unwritten { IfErr result (λ e. e ≢ CliError.Write → writer.new ≡ writer.old) }
 {
     let input = read_bytes(alloc, reader, MAX_READS)?;
-    let found = run_bytes(rt, alloc, &input)?;
-    match writer.write_all(&found.text) {
-        Ok(()) => Ok(status_of(found.verdict)),
-        Err(_) => Err(CliError::Write),
-    }
+    let output = run_bytes(rt, alloc, &input)?;
+    finish(output, writer)
 }
 
-/// All that is written for these bytes, with the verdict.
+/// All that is written for these bytes.
 fn run_bytes<T: Threads + Wait + Sync>(
     rt: &T,
     alloc: Global,
     input: &[u8],
-) -> Result<Judgement, CliError>
+) -> Result<Output, CliError>
     ensures { MatchResult result
-        (λ found. IsBytesText input.now found.verdict found.text.items)
+        (λ output. IsRunTextOf input.now output.status output.text.items)
         (RefusesRunBytes input.now) }
 {
     let settings = settings_of(alloc, input)?;
     match run_text(rt, alloc, &settings) {
-        Ok(found) => Ok(found),
+        Ok(output) => Ok(output),
         Err(error) => Err(error),
     }
 }
 
-/// All that is written of a run, with the verdict on its history.
+/// All that is written of a run.
 fn run_text<T: Threads + Wait + Sync>(
     rt: &T,
     alloc: Global,
     settings: &RunSettings,
-) -> Result<Judgement, CliError>
+) -> Result<Output, CliError>
     ensures { MatchResult result
-        (λ found. IsRunText settings.now.plan settings.now.mode settings.now.budget found.verdict
-        found.text.items)
+        (λ output. IsRunText settings.now.plan settings.now.mode settings.now.budget output.status
+        output.text.items)
         (RefusesRunIn settings.now.plan settings.now.mode) }
 {
     match settings.mode {
@@ -112,21 +109,13 @@ fn run_text<T: Threads + Wait + Sync>(
 }
 
 /// All that is written of a serial run.
-fn serial_text(alloc: Global, plan: &Plan, budget: u64) -> Result<Judgement, CliError>
+fn serial_text(alloc: Global, plan: &Plan, budget: u64) -> Result<Output, CliError>
     ensures { MatchResult result
-        (λ found. IsSerialText plan.now budget found.verdict found.text.items)
+        (λ output. IsSerialText plan.now budget output.status output.text.items)
         (RefusesSerial plan.now) }
 {
-    own_histories_are_judged();
-    let (world, history) = run_serial(alloc, plan)?;
-    let found = match judge_own(alloc, plan, &history, budget) {
-        Ok(found) => found,
-        Err(error) => return Err(error),
-    };
-    Ok(Judgement {
-        verdict: found.verdict,
-        text: lines_of(alloc, world.nemesis(), &history, &found.text)?,
-    })
+    let run = judge_run(alloc, plan, budget)?;
+    Ok(output_of(alloc, run.world.nemesis(), &run.history, &run.finding)?)
 }
 
 /// All that is written of a run on threads.
@@ -135,9 +124,9 @@ fn threads_text<T: Threads + Wait + Sync>(
     alloc: Global,
     plan: &Plan,
     budget: u64,
-) -> Result<Judgement, CliError>
+) -> Result<Output, CliError>
     ensures { MatchResult result
-        (λ found. IsThreadsText plan.now budget found.verdict found.text.items)
+        (λ output. IsThreadsText plan.now budget output.status output.text.items)
         RefusesThreads }
 {
     let (history, journal) = match run_threads(rt, alloc, plan) {
@@ -148,14 +137,11 @@ fn threads_text<T: Threads + Wait + Sync>(
         Ok(nemesis) => nemesis,
         Err(error) => return Err(CliError::from(error)),
     };
-    let found = match judge_own(alloc, plan, &history, budget) {
-        Ok(found) => found,
+    let finding = match judge_own(alloc, plan, &history, budget) {
+        Ok(finding) => finding,
         Err(error) => return Err(error),
     };
-    Ok(Judgement {
-        verdict: found.verdict,
-        text: lines_of(alloc, &nemesis, &history, &found.text)?,
-    })
+    Ok(output_of(alloc, &nemesis, &history, &finding)?)
 }
 
 /// A run of the plan on threads, over a locked world of its own: the history and the journal.
@@ -200,46 +186,50 @@ fn run_over<L: Ledger + Send + Sync, T: Threads + Wait + Sync>(
     }
 }
 
-/// What a refusal of the history of a run means.
-fn own_error(error: CliError) -> CliError
+/// What it means that the checker refuses the history of a run on threads.
+fn own_error(error: CheckError) -> CliError
     ensures { result ≡ own_error error }
 {
     match error {
-        CliError::OutOfMemory => CliError::OutOfMemory,
+        CheckError::OutOfMemory => CliError::OutOfMemory,
         _ => CliError::Mismatch,
     }
 }
 
-/// The judgement of the history of a run of the plan.
-fn judge_own(alloc: Global, plan: &Plan, history: &[Op], budget: u64) -> Result<Judgement, CliError>
+/// What is found in the history of a run of the plan on threads.
+fn judge_own(alloc: Global, plan: &Plan, history: &[Op], budget: u64) -> Result<Finding, CliError>
     ensures { MatchResult result
-        (λ found. IsJudgement (own_judging plan.now budget)
-        (operations history.now) found.verdict found.text.items)
-        (RefusesOwn plan.now.settings.workload (operations history.now)) }
+        (IsFinding (run_judging plan.now budget) (operations history.now))
+        (RefusesOwn (checker_of plan.now.settings.workload) (operations history.now)) }
 {
-    match judge(alloc, history, own_judging(plan, budget)) {
-        Ok(found) => Ok(found),
+    match check_history(alloc, history, run_judging(plan, budget)) {
+        Ok(finding) => Ok(finding),
         Err(error) => Err(own_error(error)),
     }
 }
 
-/// The lines of a history, of the faults that are left and what they make, and of a judgement.
-fn lines_of(
+/// All that is written of a history, of the faults that are left and what they make, and of what is
+/// found.
+fn output_of(
     alloc: Global,
     nemesis: &Nemesis,
     history: &[Op],
-    judged: &[u8],
-) -> Result<Vec<u8>, AllocError>
-    ensures { IfOk result (λ output.
-        IsRunOutput nemesis.now.state (operations history.now) judged.now output.items) }
+    finding: &Finding,
+) -> Result<Output, AllocError>
+    ensures { IfOk result (λ output. IsRunOutput nemesis.now.state (operations history.now)
+        finding.now output.status output.text.items) }
 {
-    let mut output = Vec::new(alloc);
-    write_history(history, &mut output)?;
-    write_active(alloc, nemesis, &mut output)?;
-    write_environment(alloc, nemesis.env(), &mut output)?;
-    output.extend_from_slice(judged)?;
-    output.push(b'\n')?;
-    Ok(output)
+    let judged = finding_text(alloc, finding)?;
+    let mut text = Vec::new(alloc);
+    write_history(history, &mut text)?;
+    write_active(alloc, nemesis, &mut text)?;
+    write_environment(alloc, nemesis.env(), &mut text)?;
+    text.extend_from_slice(&judged)?;
+    text.push(b'\n')?;
+    Ok(Output {
+        status: status_of(finding.verdict()),
+        text,
+    })
 }
 
 /// Writes a line for each operation.

@@ -2,19 +2,18 @@
 //! the settings of the first run that fails. What is written stands in `specs/SearchText.antt`, why
 //! an input is refused in `specs/SearchRefusals.antt`; what a candidate is stands in `jh_search`.
 
-ghost use Rattle.std.specs.Prelude.{◌≡◌, ◌≢◌, ◌↔◌, ◌≤◌, ◌<◌, ◌+◌, ◌^◌, ℕ, List, IfOk, IfErr};
-ghost use Rattle.std.specs.Prelude.{IfSome, IsErrOf, MatchResult, None, Some, string_bytes};
-ghost use Rattle.std.specs.Io.KnownBytes.{Appends};
+ghost use Rattle.std.specs.Prelude.{◌≡◌, ◌≢◌, ◌↔◌, ◌≤◌, ◌<◌, ◌+◌, ◌^◌, IfOk, IfErr, IfSome};
+ghost use Rattle.std.specs.Prelude.{IsErrOf, MatchResult, None, Some, string_bytes};
 ghost use Rattle.jh_settings_texts.specs.Comments.{IsComment};
 ghost use Rattle.jh_settings_texts.specs.SettingsWritten.{CanBeWritten};
+ghost use Rattle.jh_cli.specs.Outputs.{OnInput, WritesOutput};
 ghost use Rattle.jh_cli.specs.SearchRefusals.{RefusesSearch, RefusesSearchBytes};
 ghost use Rattle.jh_cli.specs.SearchText as text;
 ghost use Rattle.jh_cli.specs.SearchText.{IsFoundText, IsSearchTextOf, IsSearchedText};
 ghost use Rattle.jh_cli.specs.SearchText.{candidate_comment, search_options};
 
-use crate::env_command::MAX_READS;
 use crate::error::CliError;
-use crate::shrink_command::Written;
+use crate::output::{MAX_READS, Output, finish};
 use jh_edn::read_bytes;
 use jh_search::{
     Options, Palette, SearchError, SearchObserver, Searched, candidate, search_observed,
@@ -74,24 +73,20 @@ pub fn search_run<T: Threads + Wait + Sync, R: Read, W: Write, O: SearchObserver
 ) -> Result<u8, CliError>
     requires few { question.from + question.runs < 2 ^ 64 }
     requires threads { IfSome question.threads (λ threads. (1 ≤ threads) × (threads ≤ 16)) }
-    ensures written { IfOk result (λ status. IfSome (R.remaining reader.old) (λ input.
-        (output : List ℕ) × IsSearchTextOf question input status output
-        × Appends (W.contents writer.old) (W.contents writer.new) output)) }
+    ensures written { IfOk result (λ status. WritesOutput (R.remaining reader.old)
+        (IsSearchTextOf question) status (W.contents writer.old) (W.contents writer.new)) }
     ensures asked { IsErrOf result CliError.BadPalette ↔ (question.palette ≡ None) }
     ensures unread { IsErrOf result CliError.BadPalette → reader.new ≡ reader.old }
-    ensures refused { IfErr result
-        (λ e. IfSome (R.remaining reader.old) (λ input. RefusesSearch question input e)) }
+    ensures refused { IfErr result (λ e. OnInput (R.remaining reader.old)
+        (λ input. RefusesSearch question input e)) }
     ensures unwritten { IfErr result (λ e. e ≢ CliError.Write → writer.new ≡ writer.old) }
 {
     let Some(palette) = question.palette else {
         return Err(CliError::BadPalette);
     };
     let input = read_bytes(alloc, reader, MAX_READS)?;
-    let written = search_bytes(rt, alloc, &input, question, palette, observer)?;
-    match writer.write_all(&written.text) {
-        Ok(()) => Ok(written.status),
-        Err(_) => Err(CliError::Write),
-    }
+    let output = search_bytes(rt, alloc, &input, question, palette, observer)?;
+    finish(output, writer)
 }
 
 /// How many threads: as many as are given, or as there are processors, at most 16.
@@ -129,7 +124,7 @@ fn options_of(question: SearchQuestion, palette: Palette, budget: u64) -> Option
     }
 }
 
-/// All that is written for these bytes, with the exit status.
+/// All that is written for these bytes.
 fn search_bytes<T: Threads + Wait + Sync, O: SearchObserver>(
     rt: &T,
     alloc: Global,
@@ -137,12 +132,12 @@ fn search_bytes<T: Threads + Wait + Sync, O: SearchObserver>(
     question: SearchQuestion,
     palette: Palette,
     observer: &mut O,
-) -> Result<Written, CliError>
+) -> Result<Output, CliError>
     requires palette { question.palette ≡ Some palette }
     requires few { question.from + question.runs < 2 ^ 64 }
     requires threads { IfSome question.threads (λ threads. (1 ≤ threads) × (threads ≤ 16)) }
     ensures { MatchResult result
-        (λ written. IsSearchTextOf question input.now written.status written.text.items)
+        (λ output. IsSearchTextOf question input.now output.status output.text.items)
         (RefusesSearchBytes input.now) }
 {
     let settings = settings_of(alloc, input)?;
@@ -153,12 +148,12 @@ fn search_bytes<T: Threads + Wait + Sync, O: SearchObserver>(
     let options = options_of(question, palette, settings.budget);
     let threads = threads_of(rt, question.threads);
     match search_plan(rt, alloc, plan, &options, threads, observer) {
-        Ok(written) => Ok(written),
+        Ok(output) => Ok(output),
         Err(error) => Err(CliError::from(error)),
     }
 }
 
-/// All that is written of the candidates of a plan, with the exit status.
+/// All that is written of the candidates of a plan.
 fn search_plan<T: Threads + Wait + Sync, O: SearchObserver>(
     rt: &T,
     alloc: Global,
@@ -166,16 +161,16 @@ fn search_plan<T: Threads + Wait + Sync, O: SearchObserver>(
     options: &Options,
     threads: u32,
     observer: &mut O,
-) -> Result<Written, SearchError>
+) -> Result<Output, SearchError>
     requires writable { CanBeWritten plan.now }
     requires budget { options.now.budget ≤ 10000000 }
     requires few { options.now.from + options.now.runs < 2 ^ 64 }
     requires threads { (1 ≤ threads) × (threads ≤ 16) }
     ensures { IfOk result
-        (λ written. IsSearchedText plan.now options.now written.status written.text.items) }
+        (λ output. IsSearchedText plan.now options.now output.status output.text.items) }
 {
     let searched = search_observed(rt, alloc, plan, options, threads, observer)?;
-    Ok(Written {
+    Ok(Output {
         status: status_of(searched),
         text: text_of(alloc, plan, options, searched)?,
     })

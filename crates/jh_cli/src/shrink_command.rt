@@ -2,37 +2,30 @@
 //! does not need to fail. What is written stands in `specs/ShrinkText.antt`, why an input is
 //! refused in `specs/ShrinkRefusals.antt`.
 
-ghost use Rattle.std.specs.Prelude.{◌≡◌, ◌≢◌, ◌++◌, ℕ, List, length, IfOk, IfErr, IfSome};
-ghost use Rattle.std.specs.Prelude.{MatchResult, OnOk};
+ghost use Rattle.std.specs.Prelude.{◌≡◌, ◌≢◌, ◌++◌, length, IfOk, IfErr, IfSome, MatchResult};
+ghost use Rattle.std.specs.Prelude.{OnOk};
 ghost use Rattle.std.specs.List.{All};
-ghost use Rattle.std.specs.Io.KnownBytes.{Appends};
 ghost use Rattle.jh_nemesis.specs.Steps.{FitsNodes};
 ghost use Rattle.jh_shrink.specs.Shrunk.{IsShrunk};
-ghost use Rattle.jh_cli.specs.EnvText.{line};
+ghost use Rattle.jh_cli.specs.Lines.{line};
+ghost use Rattle.jh_cli.specs.Outputs.{OnInput, WritesOutput};
 ghost use Rattle.jh_cli.specs.ShrinkRefusals.{RefusesShrinkBytes, RefusesShrinking};
 ghost use Rattle.jh_cli.specs.ShrinkText as text;
 ghost use Rattle.jh_cli.specs.ShrinkText.{IsRunFailure, IsShrinkTextOf, RunAnswers};
 
-use crate::check_command::judge;
-use crate::env_command::{MAX_READS, write_line};
 use crate::error::CliError;
+use crate::lines::write_line;
+use crate::output::{MAX_READS, Output, finish};
 use jh_check::Verdict;
 use jh_edn::read_bytes;
 use jh_env::Nodes;
-use jh_run_laws::own_judging;
+use jh_judged_runs::judge_run;
 use jh_settings::settings_of;
 use jh_settings_texts::value_of_entry;
 use jh_shrink::{Nobody, Observer, Shrunk, shrink_observed};
-use jh_simnode::{Entry, Plan, Schedule, run_serial};
+use jh_simnode::{Entry, Plan, Schedule};
 use std::alloc::{AllocError, Global};
 use std::io::{Read, Write};
-
-/// What is written, and the exit status.
-#[derive(Drop)]
-pub(crate) struct Written {
-    pub(crate) status: u8,
-    pub(crate) text: Vec<u8>,
-}
 
 /// Reads settings in TOML as `jh_settings::settings_of` does, and takes entries out of their
 /// schedule as long as their serial run fails still: the line of its checker is
@@ -59,11 +52,10 @@ pub fn shrink_run<R: Read, W: Write>(
     writer: &mut W,
     budget: u64,
 ) -> Result<u8, CliError>
-    ensures written { IfOk result (λ status. IfSome (R.remaining reader.old) (λ input.
-        (output : List ℕ) × IsShrinkTextOf input status output
-        × Appends (W.contents writer.old) (W.contents writer.new) output)) }
-    ensures refused { IfErr result
-        (λ e. IfSome (R.remaining reader.old) (λ input. RefusesShrinking input e)) }
+    ensures written { IfOk result (λ status. WritesOutput (R.remaining reader.old)
+        IsShrinkTextOf status (W.contents writer.old) (W.contents writer.new)) }
+    ensures refused { IfErr result (λ e. OnInput (R.remaining reader.old)
+        (λ input. RefusesShrinking input e)) }
     ensures unwritten { IfErr result (λ e. e ≢ CliError.Write → writer.new ≡ writer.old) }
 {
     shrink_run_observed(alloc, reader, writer, budget, &mut Nobody)
@@ -80,30 +72,26 @@ pub fn shrink_run_observed<R: Read, W: Write, O: Observer>(
     budget: u64,
     observer: &mut O,
 ) -> Result<u8, CliError>
-    ensures written { IfOk result (λ status. IfSome (R.remaining reader.old) (λ input.
-        (output : List ℕ) × IsShrinkTextOf input status output
-        × Appends (W.contents writer.old) (W.contents writer.new) output)) }
-    ensures refused { IfErr result
-        (λ e. IfSome (R.remaining reader.old) (λ input. RefusesShrinking input e)) }
+    ensures written { IfOk result (λ status. WritesOutput (R.remaining reader.old)
+        IsShrinkTextOf status (W.contents writer.old) (W.contents writer.new)) }
+    ensures refused { IfErr result (λ e. OnInput (R.remaining reader.old)
+        (λ input. RefusesShrinking input e)) }
     ensures unwritten { IfErr result (λ e. e ≢ CliError.Write → writer.new ≡ writer.old) }
 {
     let input = read_bytes(alloc, reader, MAX_READS)?;
-    let written = shrink_bytes(alloc, &input, budget, observer)?;
-    match writer.write_all(&written.text) {
-        Ok(()) => Ok(written.status),
-        Err(_) => Err(CliError::Write),
-    }
+    let output = shrink_bytes(alloc, &input, budget, observer)?;
+    finish(output, writer)
 }
 
-/// All that is written for these bytes, with the exit status.
+/// All that is written for these bytes.
 fn shrink_bytes<O: Observer>(
     alloc: Global,
     input: &[u8],
     budget: u64,
     observer: &mut O,
-) -> Result<Written, CliError>
+) -> Result<Output, CliError>
     ensures { MatchResult result
-        (λ written. IsShrinkTextOf input.now written.status written.text.items)
+        (λ output. IsShrinkTextOf input.now output.status output.text.items)
         (RefusesShrinkBytes input.now) }
 {
     let settings = settings_of(alloc, input)?;
@@ -111,29 +99,29 @@ fn shrink_bytes<O: Observer>(
     let Ok(shrunk) = shrink_plan(alloc, plan, settings.budget, budget, observer) else {
         return Err(CliError::OutOfMemory);
     };
-    Ok(Written {
+    Ok(Output {
         status: status_of(&shrunk),
         text: lines_of(alloc, plan.environment().nodes(), &shrunk)?,
     })
 }
 
-/// What is left of the schedule of a plan, whose histories are judged by a judge of the first
-/// budget.
+/// What is left of the schedule of a plan, by at most so many runs, whose histories a judge of the
+/// first budget judges.
 fn shrink_plan<O: Observer>(
     alloc: Global,
     plan: &Plan,
-    judging: u64,
+    judge_budget: u64,
     budget: u64,
     observer: &mut O,
 ) -> Result<Shrunk, AllocError>
-    ensures shrunk { IfOk result (IsShrunk (RunAnswers plan.now judging) plan.now.schedule) }
+    ensures shrunk { IfOk result (IsShrunk (RunAnswers plan.now judge_budget) plan.now.schedule) }
     ensures fits { IfOk result (λ shrunk.
         All (λ entry. FitsNodes (length plan.now.env.names) entry.step) (text.schedule_of shrunk)) }
 {
     let given = plan.schedule().copy(alloc)?;
     let judge = |schedule: &Schedule| -> Option<bool>
-        ensures { RunAnswers plan.entry.now judging schedule.now result }
-    { answer_of(alloc, plan, judging, schedule) };
+        ensures { RunAnswers plan.entry.now judge_budget schedule.now result }
+    { answer_of(alloc, plan, judge_budget, schedule) };
     match shrink_observed(alloc, given, judge, budget, observer) {
         Ok(shrunk) => Ok(shrunk),
         Err(_) => Err(AllocError),
@@ -141,27 +129,25 @@ fn shrink_plan<O: Observer>(
 }
 
 /// Whether the run of a plan with another schedule fails, and nothing where it is refused.
-fn answer_of(alloc: Global, plan: &Plan, judging: u64, schedule: &Schedule) -> Option<bool>
-    ensures { RunAnswers plan.now judging schedule.now result }
+fn answer_of(alloc: Global, plan: &Plan, judge_budget: u64, schedule: &Schedule) -> Option<bool>
+    ensures { RunAnswers plan.now judge_budget schedule.now result }
 {
     let Ok(schedule) = schedule.copy(alloc) else {
         return None;
     };
     match plan.with_schedule(alloc, schedule) {
-        Ok(plan) => fails(alloc, &plan, judging),
+        Ok(plan) => fails(alloc, &plan, judge_budget),
         Err(_) => None,
     }
 }
 
-/// Whether the run of a plan fails, and nothing where it is refused.
-fn fails(alloc: Global, plan: &Plan, judging: u64) -> Option<bool>
-    ensures { IfSome result (IsRunFailure plan.now judging) }
+/// Whether the run of a plan fails, and nothing where it is refused or stuck: a smaller schedule is
+/// no answer to that.
+fn fails(alloc: Global, plan: &Plan, judge_budget: u64) -> Option<bool>
+    ensures { IfSome result (IsRunFailure plan.now judge_budget) }
 {
-    let Ok((_world, history)) = run_serial(alloc, plan) else {
-        return None;
-    };
-    match judge(alloc, &history, own_judging(plan, judging)) {
-        Ok(found) => Some(is_failure(found.verdict)),
+    match judge_run(alloc, plan, judge_budget) {
+        Ok(run) => Some(is_failure(run.finding.verdict())),
         Err(_) => None,
     }
 }

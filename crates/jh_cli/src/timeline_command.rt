@@ -2,13 +2,13 @@
 //! it. What is written stands in `specs/TimelineText.antt`, why an input is refused in
 //! `specs/TimelineRefusals.antt`.
 
-ghost use Rattle.std.specs.Prelude.{◌≡◌, ◌≢◌, ◌↔◌, ℕ, List, All, IfErr, IfOk, IfSome, IsErrOf};
-ghost use Rattle.std.specs.Prelude.{IsTrue, MatchResult, None, Some, false, true};
-ghost use Rattle.std.specs.Io.KnownBytes.{Appends};
+ghost use Rattle.std.specs.Prelude.{◌≡◌, ◌≢◌, ◌↔◌, All, IfErr, IfOk, IsErrOf, IsTrue};
+ghost use Rattle.std.specs.Prelude.{MatchResult, None, Some, false, true};
 ghost use Rattle.std.specs.Option.{option_copied};
 ghost use Rattle.jh_ops.specs.Operation.{operations};
 ghost use Rattle.jh_ops.specs.OperationWritten.{IsWritable};
 ghost use Rattle.jh_pages.specs.Page as pages;
+ghost use Rattle.jh_cli.specs.Outputs.{OnInput, WritesOutput};
 ghost use Rattle.jh_cli.specs.TimelineRefusals.{RefusesFinding, RefusesPage, RefusesShowing};
 ghost use Rattle.jh_cli.specs.TimelineRefusals.{RefusesTimeline};
 ghost use Rattle.jh_cli.specs.TimelineText as text;
@@ -16,32 +16,23 @@ ghost use Rattle.jh_cli.specs.TimelineText.{IsFoundBy, IsPage, IsTimelineTextOf,
 ghost use Rattle.jh_cli.specs.TimelineText.{ShowsKeys, ShowsWhole};
 ghost use Rattle.jh_cli.specs.TimelineText.{TakesInitialBy};
 
-use crate::check_command;
-use crate::check_command::is_register;
-use crate::env_command::MAX_READS;
+use crate::check_command::takes_initial;
 use crate::error::CliError;
-use jh_keys::{Found, Judging, check_history, check_keys_serial, verdict_of_all};
-use jh_ops::{Op, Workload};
+use crate::lines::{finding_text, keys_text};
+use crate::output::{self, MAX_READS, Output, finish};
+use jh_checkers::{Finding, Judging, check_history};
+use jh_independent::{check_keys_serial, verdict_of_all};
+use jh_ops::Op;
 use jh_pages::{Section, write_page};
 use jh_sections::{Choice, HistoryAndRest, read_history_and_rest, section_of, sections_of_keys};
 use std::alloc::{AllocError, Global};
 use std::io::{Read, Write};
 
-/// What the history of a page is judged by. The no of a register is explained.
-#[derive(Clone, Copy, Debug, PartialEq, Eq)]
-pub struct TimelineJudging {
-    pub workload: Workload,
-    /// The value that a register has at first, and nil where it is missing.
-    pub initial: Option<i64>,
-    /// How many configurations the judge of a register may reach.
-    pub budget: u64,
-}
-
 /// What `timeline` is asked of a history.
 #[derive(Clone, Copy, Debug, PartialEq, Eq)]
 pub struct TimelineQuestion {
     /// What it is judged by: where there is nothing, it is shown, and not judged.
-    pub judging: Option<TimelineJudging>,
+    pub judging: Option<Judging>,
     /// Whether each key is judged by itself, and shown in a section of its own.
     pub independent: bool,
     /// Which records are shown.
@@ -55,13 +46,6 @@ struct Shown {
     /// The line on top, without a line feed.
     line: Vec<u8>,
     sections: Vec<Section>,
-}
-
-/// A page, with the exit status.
-#[derive(Drop)]
-struct Page {
-    status: u8,
-    text: Vec<u8>,
 }
 
 /// Reads a history as `jh_sections::read_history_and_rest` does, or all that `run` printed, judges
@@ -85,46 +69,30 @@ pub fn timeline_run<R: Read, W: Write>(
     writer: &mut W,
     question: TimelineQuestion,
 ) -> Result<u8, CliError>
-    ensures written { IfOk result (λ status. IfSome (R.remaining reader.old) (λ input.
-        (output : List ℕ) × IsTimelineTextOf question input status output
-        × Appends (W.contents writer.old) (W.contents writer.new) output)) }
+    ensures written { IfOk result (λ status. WritesOutput (R.remaining reader.old)
+        (IsTimelineTextOf question) status (W.contents writer.old) (W.contents writer.new)) }
     ensures asked { IsErrOf result CliError.OnlyForRegister
         ↔ (TakesInitialBy question.judging → ⊥) }
     ensures unread { IsErrOf result CliError.OnlyForRegister → reader.new ≡ reader.old }
-    ensures refused { IfErr result (λ e. IfSome (R.remaining reader.old) (λ input.
-        RefusesTimeline question input e)) }
+    ensures refused { IfErr result (λ e. OnInput (R.remaining reader.old)
+        (λ input. RefusesTimeline question input e)) }
     ensures unwritten { IfErr result (λ e. e ≢ CliError.Write → writer.new ≡ writer.old) }
 {
-    if !takes_initial(question.judging) {
+    if !may_have_initial(question.judging) {
         return Err(CliError::OnlyForRegister);
     }
     let parts = read_history_and_rest(alloc, reader, MAX_READS)?;
-    let page = page_of(alloc, parts, question)?;
-    match writer.write_all(&page.text) {
-        Ok(()) => Ok(page.status),
-        Err(_) => Err(CliError::Write),
-    }
+    let output = page_of(alloc, parts, question)?;
+    finish(output, writer)
 }
 
-/// Whether an initial value goes with the workload, if there is one.
-fn takes_initial(judging: Option<TimelineJudging>) -> bool
+/// Whether an initial value, if there is one, goes with the checker, if there is one.
+fn may_have_initial(judging: Option<Judging>) -> bool
     ensures { IsTrue result ↔ TakesInitialBy judging }
 {
     match judging {
-        Some(by) => by.initial.is_none() || is_register(by.workload),
+        Some(judging) => takes_initial(judging),
         None => true,
-    }
-}
-
-/// What a history is judged by.
-fn judging_of(by: TimelineJudging) -> Judging
-    ensures { result ≡ text.timeline_judging by }
-{
-    Judging {
-        workload: by.workload,
-        initial: by.initial,
-        budget: by.budget,
-        explain: true,
     }
 }
 
@@ -132,34 +100,34 @@ fn judging_of(by: TimelineJudging) -> Judging
 fn found_in(
     alloc: Global,
     history: &[Op],
-    judging: Option<TimelineJudging>,
-) -> Result<Option<Found>, CliError>
+    judging: Option<Judging>,
+) -> Result<Option<Finding>, CliError>
     ensures { MatchResult result
         (IsFoundBy judging (operations history.now))
         (RefusesFinding false judging (operations history.now)) }
 {
     match judging {
-        Some(by) => Ok(Some(check_history(alloc, history, judging_of(by))?)),
+        Some(judging) => Ok(Some(check_history(alloc, history, judging)?)),
         None => Ok(None),
     }
 }
 
 /// The line on top.
-fn line_of(alloc: Global, found: Option<&Found>) -> Result<Vec<u8>, AllocError>
+fn line_of(alloc: Global, found: Option<&Finding>) -> Result<Vec<u8>, AllocError>
     ensures { IfOk result (λ line. line.items ≡ text.found_line (option_copied found.entry)) }
 {
     match found {
-        Some(found) => check_command::line_of(alloc, found),
+        Some(found) => finding_text(alloc, found),
         None => Vec::from_slice(alloc, b"A history"),
     }
 }
 
 /// The exit status.
-fn status_of(found: Option<&Found>) -> u8
+fn status_of(found: Option<&Finding>) -> u8
     ensures { result ≡ text.found_status (option_copied found.entry) }
 {
     match found {
-        Some(found) => check_command::status_of(found.finding.verdict()),
+        Some(found) => output::status_of(found.verdict()),
         None => 0,
     }
 }
@@ -232,32 +200,33 @@ fn shown_by_keys(
         shown.sections.items) }
 {
     match question.judging {
-        Some(by) => shown_judged(alloc, history, by, question.choice),
+        Some(judging) => shown_judged(alloc, history, judging, question.choice),
         None => shown_unjudged(alloc, history, question.choice),
     }
 }
+
 /// What a page shows of a history of independent keys, each of them judged.
 fn shown_judged(
     alloc: Global,
     history: &[Op],
-    by: TimelineJudging,
+    judging: Judging,
     choice: Choice,
 ) -> Result<Shown, CliError>
     requires { All (λ op. IsWritable op.process) history.now }
     ensures shows { MatchResult result
-        (λ shown. ShowsKeys (Some by) choice (operations history.now)
+        (λ shown. ShowsKeys (Some judging) choice (operations history.now)
         shown.status shown.line.items shown.sections.items)
-        (RefusesShowing true (Some by) (operations history.now)) }
+        (RefusesShowing true (Some judging) (operations history.now)) }
     ensures writable { IfOk result (λ shown.
         All (λ section. All (λ op. IsWritable op.process) section.history.items)
         shown.sections.items) }
 {
-    let findings = check_keys_serial(alloc, history, judging_of(by))?;
+    let findings = check_keys_serial(alloc, history, judging)?;
     let verdict = verdict_of_all(alloc, &findings)?;
-    let line = check_command::keys_line_of(alloc, verdict, &findings)?;
+    let line = keys_text(alloc, verdict, &findings)?;
     let sections = sections_of_keys(alloc, history, Some(findings), choice)?;
     Ok(Shown {
-        status: check_command::status_of(verdict),
+        status: output::status_of(verdict),
         line,
         sections,
     })
@@ -305,16 +274,16 @@ fn page_of(
     alloc: Global,
     parts: HistoryAndRest,
     question: TimelineQuestion,
-) -> Result<Page, CliError>
+) -> Result<Output, CliError>
     requires { All (λ op. IsWritable op.process) parts.history.items }
     ensures { MatchResult result
-        (λ page. IsPage question (operations parts.history.items) parts.below.items
-        page.status page.text.items)
+        (λ output. IsPage question (operations parts.history.items) parts.below.items
+        output.status output.text.items)
         (RefusesPage question (operations parts.history.items)) }
 {
     let HistoryAndRest { history, below } = parts;
     let shown = shown_of(alloc, history, question)?;
-    Ok(Page {
+    Ok(Output {
         status: shown.status,
         text: page_text(alloc, &shown.line, &shown.sections, &below)?,
     })

@@ -23,22 +23,22 @@ pub(crate) fn asked_once(alloc: Global, arguments: &str) -> Option<Vec<u8>> {
 fn asks_for_commands(rt: HostRuntime) {
     let rows = r#"jeprun env → Env
 § jeprun run → Run
-§ jeprun check --workload set → Check(Question { workload: Set, initial: None, budget: 100000, explain: false, independent: false, threads: 1 })
-§ jeprun check --workload=unique-ids --budget 0 → Check(Question { workload: Ids, initial: None, budget: 0, explain: false, independent: false, threads: 1 })
-§ jeprun check --workload register --initial=-5 → Check(Question { workload: Register, initial: Some(-5), budget: 100000, explain: false, independent: false, threads: 1 })
-§ jeprun check --workload set --independent → Check(Question { workload: Set, initial: None, budget: 100000, explain: false, independent: true, threads: 1 })
-§ jeprun check --independent --threads 16 --workload counter → Check(Question { workload: Counter, initial: None, budget: 100000, explain: false, independent: true, threads: 16 })
-§ jeprun check --explain --workload register → Check(Question { workload: Register, initial: None, budget: 100000, explain: true, independent: false, threads: 1 })
-§ jeprun check --workload set --budget 10000000 → Check(Question { workload: Set, initial: None, budget: 10000000, explain: false, independent: false, threads: 1 })
+§ jeprun check --workload set → Check(Question { judging: Judging { checker: Set, initial: None, budget: 100000, explain: false }, independent: false, threads: 1 })
+§ jeprun check --workload=unique-ids --budget 0 → Check(Question { judging: Judging { checker: Ids, initial: None, budget: 0, explain: false }, independent: false, threads: 1 })
+§ jeprun check --workload register --initial=-5 → Check(Question { judging: Judging { checker: Register, initial: Some(-5), budget: 100000, explain: false }, independent: false, threads: 1 })
+§ jeprun check --workload set --independent → Check(Question { judging: Judging { checker: Set, initial: None, budget: 100000, explain: false }, independent: true, threads: 1 })
+§ jeprun check --independent --threads 16 --workload counter → Check(Question { judging: Judging { checker: Counter, initial: None, budget: 100000, explain: false }, independent: true, threads: 16 })
+§ jeprun check --explain --workload register → Check(Question { judging: Judging { checker: Register, initial: None, budget: 100000, explain: true }, independent: false, threads: 1 })
+§ jeprun check --workload set --budget 10000000 → Check(Question { judging: Judging { checker: Set, initial: None, budget: 10000000, explain: false }, independent: false, threads: 1 })
 § jeprun shrink → Shrink(10000)
 § jeprun shrink --budget 10000000 → Shrink(10000000)
 § jeprun search → Search(SearchQuestion { from: 0, runs: 10000, faults: 8, palette: Some(Palette { cut: true, slow: true, loss: true, fix: true, pause: true, kill: true, bump: true }), threads: None })
 § jeprun search --runs 5 --faults 256 --palette kill,cut --from 7 --threads 16 → Search(SearchQuestion { from: 7, runs: 5, faults: 256, palette: Some(Palette { cut: true, slow: false, loss: false, fix: false, pause: false, kill: true, bump: false }), threads: Some(16) })
 § jeprun search --palette cut,,bump → Search(SearchQuestion { from: 0, runs: 10000, faults: 8, palette: None, threads: None })
 § jeprun timeline → Timeline(TimelineQuestion { judging: None, independent: false, choice: Choice { from: None, to: None } })
-§ jeprun timeline --workload register --initial 0 --budget 5 --from 7 --to 18446744073709551615 → Timeline(TimelineQuestion { judging: Some(TimelineJudging { workload: Register, initial: Some(0), budget: 5 }), independent: false, choice: Choice { from: Some(7), to: Some(18446744073709551615) } })
-§ jeprun timeline --workload set → Timeline(TimelineQuestion { judging: Some(TimelineJudging { workload: Set, initial: None, budget: 100000 }), independent: false, choice: Choice { from: None, to: None } })
-§ jeprun timeline --workload register --independent → Timeline(TimelineQuestion { judging: Some(TimelineJudging { workload: Register, initial: None, budget: 100000 }), independent: true, choice: Choice { from: None, to: None } })
+§ jeprun timeline --workload register --initial 0 --budget 5 --from 7 --to 18446744073709551615 → Timeline(TimelineQuestion { judging: Some(Judging { checker: Register, initial: Some(0), budget: 5, explain: true }), independent: false, choice: Choice { from: Some(7), to: Some(18446744073709551615) } })
+§ jeprun timeline --workload set → Timeline(TimelineQuestion { judging: Some(Judging { checker: Set, initial: None, budget: 100000, explain: true }), independent: false, choice: Choice { from: None, to: None } })
+§ jeprun timeline --workload register --independent → Timeline(TimelineQuestion { judging: Some(Judging { checker: Register, initial: None, budget: 100000, explain: true }), independent: true, choice: Choice { from: None, to: None } })
 § jeprun timeline --initial 3 → Timeline(TimelineQuestion { judging: None, independent: false, choice: Choice { from: None, to: None } })
 § jeprun timeline --from -1 → 3
 error: unexpected argument '-1' found

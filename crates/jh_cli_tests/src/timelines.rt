@@ -9,8 +9,8 @@
 //! section for each key.
 
 use crate::rows::{push_error, with_status};
-use jh_cli::{CliError, TimelineJudging, TimelineQuestion, timeline_run};
-use jh_ops::Workload;
+use jh_checkers::{Checker, Judging};
+use jh_cli::{CliError, TimelineQuestion, timeline_run};
 use jh_sections::Choice;
 use std::alloc::Global;
 use std::io::Write;
@@ -18,26 +18,17 @@ use std::io::Write;
 /// More configurations than a judge needs here.
 const BUDGET: u64 = 1_000;
 
-fn workload_of(name: &str) -> Option<Workload> {
-    match name {
-        "register" => Some(Workload::Register),
-        "set" => Some(Workload::Set),
-        "counter" => Some(Workload::Counter),
-        "unique-ids" => Some(Workload::Ids),
-        _ => None,
-    }
-}
-
 /// The question that a text asks.
 fn question_of(pieces: &str) -> Option<TimelineQuestion> {
     let mut pieces = pieces.split_whitespace();
-    let workload = workload_of(pieces.next()?);
+    let checker = Checker::named(pieces.next()?);
     let initial = pieces.next()?.parse().ok();
     Some(TimelineQuestion {
-        judging: workload.map(|workload| TimelineJudging {
-            workload,
+        judging: checker.map(|checker| Judging {
+            checker,
             initial,
             budget: BUDGET,
+            explain: true,
         }),
         choice: Choice {
             from: pieces.next()?.parse().ok(),

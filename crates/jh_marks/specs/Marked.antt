@@ -16,10 +16,9 @@ use Rattle.jh_check.specs.Distinct.{has_same_value}
 use Rattle.jh_check.specs.SetResults.{final_read}
 use Rattle.jh_check.specs.declared.counter.ReadBounds.{ReadBounds}
 use Rattle.jh_check.specs.declared.set.SetFound.{SetFound}
-use Rattle.jh_keys.specs.declared.explanation.Explanation.{Explanation}
-use Rattle.jh_keys.specs.declared.finding.Finding.{Finding}
-use Rattle.jh_keys.specs.declared.finding.Finding.TheVariants.{Set, Counter, Ids, Register}
-use Rattle.jh_keys.specs.Findings.{Found}
+use Rattle.jh_checkers.specs.declared.explanation.Explanation.{Explanation}
+use Rattle.jh_checkers.specs.declared.finding.Finding.{Finding}
+use Rattle.jh_checkers.specs.declared.finding.Finding.TheVariants.{Set, Counter, Ids, Register}
 use Rattle.jh_linear.specs.declared.verdict.LinVerdict.{LinVerdict}
 use Rattle.jh_linear.specs.declared.verdict.LinVerdict.TheVariants.{Valid, Invalid, Unknown}
 use Rattle.jh_linear.specs.declared.verdict.Stuck.{Stuck}
@@ -151,11 +150,11 @@ set_note found history call = option_and_then (λ shown. found_note shown histor
 -- ---- all
 
 -- the note of a call, by a finding
-abbrev pub note_of : Finding → Option Explanation → List Operation → Call → Option Note
-note_of (Set result) explanation history call = set_note result.found history call
-note_of (Counter result) explanation history call = counter_note result.reads history call
-note_of (Ids result) explanation history call = ids_note result.duplicated history call
-note_of (Register judged) explanation history call = register_note judged explanation history call
+abbrev pub note_of : Finding → List Operation → Call → Option Note
+note_of (Set found) history call = set_note found.found history call
+note_of (Counter found) history call = counter_note found.reads history call
+note_of (Ids found) history call = ids_note found.duplicated history call
+note_of (Register judged explanation) history call = register_note judged explanation history call
 
 -- the mark of a note at a bar
 abbrev pub mark_at : ℕ → Option Note → Option Mark
@@ -167,5 +166,5 @@ marks_by note bars =
     filter_map (λ numbered. mark_at numbered.0 (note numbered.1.call)) (enumerate_from 0 bars)
 
 -- the marks of a picture's bars
-abbrev pub marks_of : List Operation → Found → List Bar → List Mark
-marks_of history found bars = marks_by (note_of found.finding found.explanation history) bars
+abbrev pub marks_of : List Operation → Finding → List Bar → List Mark
+marks_of history finding bars = marks_by (note_of finding history) bars

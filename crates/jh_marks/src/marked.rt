@@ -8,7 +8,7 @@ use crate::counter::counter_marks;
 use crate::ids::ids_marks;
 use crate::register::register_marks;
 use crate::set::set_marks;
-use jh_keys::{Finding, Found};
+use jh_checkers::Finding;
 use jh_ops::Op;
 use jh_timeline::{Bar, Mark};
 use std::alloc::{AllocError, Global};
@@ -34,18 +34,19 @@ use std::alloc::{AllocError, Global};
 pub fn marks_of(
     alloc: Global,
     history: &[Op],
-    found: &Found,
+    finding: &Finding,
     bars: &[Bar],
 ) -> Result<Vec<Mark>, AllocError>
     ensures { IfOk result
-        (λ marks. marks.items ≡ rule.marks_of (operations history.now) found.now bars.now) }
+        (λ marks. marks.items ≡ rule.marks_of (operations history.now) finding.now bars.now) }
 {
-    match &found.finding {
-        Finding::Set(shown) => set_marks(alloc, &shown.found, history, bars),
-        Finding::Counter(shown) => counter_marks(alloc, shown.reads.as_slice(), history, bars),
-        Finding::Ids(shown) => ids_marks(alloc, shown.duplicated.as_slice(), history, bars),
-        Finding::Register(judged) => {
-            register_marks(alloc, judged, &found.explanation, history, bars)
-        }
+    match finding {
+        Finding::Set(found) => set_marks(alloc, &found.found, history, bars),
+        Finding::Counter(found) => counter_marks(alloc, found.reads.as_slice(), history, bars),
+        Finding::Ids(found) => ids_marks(alloc, found.duplicated.as_slice(), history, bars),
+        Finding::Register {
+            judged,
+            explanation,
+        } => register_marks(alloc, judged, explanation, history, bars),
     }
 }

@@ -11,7 +11,7 @@ ghost use Rattle.jh_marks.specs.MarkedInside as inside;
 use crate::notes::{no_marks, push_note};
 use crate::operations::is_completed_at;
 use crate::places::{place_through, places_of};
-use jh_keys::Explanation;
+use jh_checkers::Explanation;
 use jh_linear::{LinVerdict, Stuck};
 use jh_ops::{Kind, Op, Process};
 use jh_timeline::{Bar, Call, Mark, Note};

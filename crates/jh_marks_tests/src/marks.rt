@@ -2,8 +2,7 @@
 //! to where it is stuck.
 
 use crate::rows::{WHOLE, ask_all, by};
-use jh_keys::Judging;
-use jh_ops::Workload;
+use jh_checkers::{Checker, Judging};
 use jh_timeline::Window;
 use std::test::Fail;
 
@@ -16,7 +15,7 @@ fn marks_places(rt: HostRuntime) -> Result<(), Fail> {
         :nemesis :info :start 4; 0 :invoke :read; 0 :ok :read 0; :nemesis :info :stop; 1 :invoke :cas [0 3]; 1 :ok :cas [0 3] \
         => 0 placed 0; 1 placed 1
         0 :invoke :write 5; 0 :fail :write 5; 1 :invoke :read; 1 :ok :read 0 => 1 placed 0";
-    ask_all(rt.alloc(), by(Workload::Register), WHOLE, rows)
+    ask_all(rt.alloc(), by(Checker::Register), WHOLE, rows)
 }
 
 /// The stuck call is pending too, and is marked as stuck alone. What is pending has its place,
@@ -30,7 +29,7 @@ fn marks_where_it_is_stuck(rt: HostRuntime) -> Result<(), Fail> {
         0 :invoke :write 5; 1 :invoke :read; 1 :ok :read 5; 1 :invoke :read; 1 :ok :read 7 => 0 pending 0; 1 placed 1; 2 stuck
         0 :invoke :cas [7 8]; 1 :invoke :cas [8 9]; 1 :fail :cas [8 9]; 2 :invoke :read; 2 :ok :read 1; 3 :invoke :read; \
         3 :ok :read 0; 0 :fail :cas [7 8] => 0 pending; 2 stuck";
-    ask_all(rt.alloc(), by(Workload::Register), WHOLE, rows)
+    ask_all(rt.alloc(), by(Checker::Register), WHOLE, rows)
 }
 
 /// A no that is not explained does not tell what is pending. Where the budget is used up nothing is
@@ -39,7 +38,7 @@ fn marks_where_it_is_stuck(rt: HostRuntime) -> Result<(), Fail> {
 fn marks_what_is_known(rt: HostRuntime) -> Result<(), Fail> {
     let judging = Judging {
         explain: false,
-        ..by(Workload::Register)
+        ..by(Checker::Register)
     };
     let rows = "
         0 :invoke :write 5; 1 :invoke :read; 1 :ok :read 5; 1 :invoke :read; 1 :ok :read 7 => 0 placed 0; 1 placed 1; 2 stuck
@@ -47,7 +46,7 @@ fn marks_what_is_known(rt: HostRuntime) -> Result<(), Fail> {
     ask_all(rt.alloc(), judging, WHOLE, rows)?;
     let judging = Judging {
         budget: 0,
-        ..by(Workload::Register)
+        ..by(Checker::Register)
     };
     ask_all(
         rt.alloc(),
@@ -67,7 +66,7 @@ fn marks_ids(rt: HostRuntime) -> Result<(), Fail> {
         0 :invoke :generate; 0 :ok :generate (1 2); 0 :invoke :generate; 0 :ok :generate 3; 0 :invoke :generate; \
         0 :ok :generate [1 2]; 1 :invoke :generate; 1 :fail :generate [1 2] => 0 repeated; 2 repeated
         0 :ok :generate 7; 0 :invoke :generate; 0 :ok :generate 7; :nemesis :ok :generate 7 => 0 repeated";
-    ask_all(rt.alloc(), by(Workload::Ids), WHOLE, rows)
+    ask_all(rt.alloc(), by(Checker::Ids), WHOLE, rows)
 }
 
 /// Bounds are told in the order of completions. A call is a read by what its invocation asks for.
@@ -80,7 +79,7 @@ fn marks_reads_outside(rt: HostRuntime) -> Result<(), Fail> {
         0 :invoke :read; 0 :ok :add 4 => 0 outside 0 0
         0 :invoke :add 1; 0 :ok :read 1; 1 :invoke :read; 1 :ok :read 5 => 1 outside 1 1
         0 :invoke :read; 0 :fail :read 7; 1 :invoke :read; 1 :info :read 7; 0 :invoke :read; 0 :ok :read 0 =>";
-    ask_all(rt.alloc(), by(Workload::Counter), WHOLE, rows)
+    ask_all(rt.alloc(), by(Checker::Counter), WHOLE, rows)
 }
 
 /// The last read that happened tells what is lost, recovered and unexpected.
@@ -94,7 +93,7 @@ fn marks_elements(rt: HostRuntime) -> Result<(), Fail> {
         0 :invoke :add 1; 0 :ok :add 1; 1 :invoke :add 1; 1 :fail :add 1; 0 :invoke :read; 0 :ok :read () => 0 lost; 1 lost
         0 :invoke :add 1; 0 :ok :add 1 =>
         0 :invoke :add 1; 0 :ok :add 1; 0 :invoke :read; 0 :ok :read [1] =>";
-    ask_all(rt.alloc(), by(Workload::Set), WHOLE, rows)
+    ask_all(rt.alloc(), by(Checker::Set), WHOLE, rows)
 }
 
 /// A mark has the number of its bar in the picture of a window, and what is not drawn has none.
@@ -106,5 +105,5 @@ fn marks_a_window(rt: HostRuntime) -> Result<(), Fail> {
         => 0 placed 1; 1 stuck
         0 :invoke :write 1; 0 :ok :write 1; 0 :invoke :read; 0 :ok :read 1; 1 :invoke :read; 1 :ok :read 1; 0 :invoke :read; \
         0 :ok :read 1 => 0 placed 1; 1 placed 2";
-    ask_all(rt.alloc(), by(Workload::Register), window, rows)
+    ask_all(rt.alloc(), by(Checker::Register), window, rows)
 }

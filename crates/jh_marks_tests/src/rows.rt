@@ -5,10 +5,10 @@
 //! each, with `; ` between two. A table is one text, since the proof of an array takes a second for
 //! each row.
 
+use jh_checkers::{Checker, Judging, check_history};
 use jh_edn::read_all;
-use jh_keys::{Judging, check_history};
 use jh_marks::marks_of;
-use jh_ops::{Op, Workload, history_of};
+use jh_ops::{Op, history_of};
 use jh_timeline::{Mark, Note, Window, picture_in};
 use std::alloc::Global;
 use std::test::Fail;
@@ -17,9 +17,9 @@ use std::test::Fail;
 pub(crate) const WHOLE: Window = Window { from: 0, to: 1_000 };
 
 /// By a workload, where a register holds 0 at first, the budget is large, and a no is explained.
-pub(crate) fn by(workload: Workload) -> Judging {
+pub(crate) fn by(checker: Checker) -> Judging {
     Judging {
-        workload,
+        checker,
         initial: Some(0),
         budget: 1_000,
         explain: true,

@@ -9,16 +9,9 @@ ghost use Rattle.jh_pages.specs.Labels.{name_of, short_label_text};
 
 use crate::error::PageError;
 use crate::markup::{write_escaped_bytes, write_short_bytes};
-use jh_edn::{EdnError, Value, write};
+use jh_edn::{EdnError, Value, put, write};
 use std::alloc::Global;
 use std::io::Write;
-
-/// Writes bytes as they are.
-fn put<W: Write>(bytes: &[u8], writer: &mut W) -> Result<(), EdnError>
-    ensures { OnOk result (Appends (W.contents writer.old) (W.contents writer.new) bytes.now) }
-{
-    writer.write_all(bytes).map_err(|_| EdnError::Write)
-}
 
 /// Writes the name of a function.
 fn write_name<W: Write>(f: &Value, writer: &mut W) -> Result<(), EdnError>

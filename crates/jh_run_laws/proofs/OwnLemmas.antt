@@ -10,7 +10,8 @@ use Rattle.jh_ops.proofs.PlaceLemmas.{not_well_formed}
 use Rattle.jh_check.specs.CounterResults.{error_of_pairing}
 use Rattle.jh_check.specs.declared.error.CheckError.{CheckError}
 use Rattle.jh_check.specs.declared.error.CheckError.TheVariants.{Pair, BadValue, NegativeAdd, OutOfMemory}
-use Rattle.jh_keys.specs.Findings.{RefusesChecking}
+use Rattle.jh_checkers.specs.Checkers.{checker_of}
+use Rattle.jh_checkers.specs.Findings.{RefusesChecking}
 use Rattle.jh_simnode.specs.declared.events.Event.{Event}
 use Rattle.jh_simnode.specs.Histories.{journal_history}
 use Rattle.jh_simnode.specs.Plans.{PlanValue, IsFit}
@@ -29,7 +30,7 @@ unpaired history formed (pairing.DoubleInvoke place) e h = not_well_formed histo
 unpaired history formed (pairing.NoInvoke place) e h = not_well_formed history (pairing.NoInvoke place) h formed
 unpaired history formed pairing.OutOfMemory e h = absurd cc
 
-never_refused : (w : Workload) (c : ℕ) → 0 < c → (journal : List Event) → CallsFit w c [] journal → RepliesFit w journal → (e : CheckError) → RefusesChecking w (journal_history journal) e → e ≡ OutOfMemory
+never_refused : (w : Workload) (c : ℕ) → 0 < c → (journal : List Event) → CallsFit w c [] journal → RepliesFit w journal → (e : CheckError) → RefusesChecking (checker_of w) (journal_history journal) e → e ≡ OutOfMemory
 never_refused w c some journal a b OutOfMemory h = refl
 never_refused Register c some journal a b (Pair error) h = absurd (unpaired (journal_history journal) (is_formed Register c some journal a) error h.0 h.1)
 never_refused Register c some journal a b (BadValue place) h = absurd (not_bad c journal a b place h.1)
@@ -52,4 +53,4 @@ own_formed p journal history fit run =
 pub own_judged : OwnHistoryIsJudged
 own_judged p journal history fit run e refused =
     never_refused p.settings.workload p.clients (some_client p fit) journal (run_fits p fit run.turns journal run.reached.run) (replies_fit (setup_of p) journal run.reached.legal) e
-    (subst (λ (h : List Operation). RefusesChecking p.settings.workload h e) run.is_history refused)
+    (subst (λ (h : List Operation). RefusesChecking (checker_of p.settings.workload) h e) run.is_history refused)

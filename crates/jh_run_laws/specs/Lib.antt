@@ -1,3 +1,2 @@
 pub mod OwnHistory
 pub mod SameSettings
-pub mod OwnJudging

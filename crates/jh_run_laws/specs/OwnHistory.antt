@@ -8,7 +8,8 @@ use Rattle.jh_ops.specs.Operation.{Operation}
 use Rattle.jh_ops.specs.Pairing.{IsWellFormed}
 use Rattle.jh_check.specs.declared.error.CheckError.{CheckError}
 use Rattle.jh_check.specs.declared.error.CheckError.TheVariants.{OutOfMemory}
-use Rattle.jh_keys.specs.Findings.{RefusesChecking}
+use Rattle.jh_checkers.specs.Checkers.{checker_of}
+use Rattle.jh_checkers.specs.Findings.{RefusesChecking}
 use Rattle.jh_laws.specs.HistoryLines.{CanPrint, IsTextOfHistory, history_lines}
 use Rattle.jh_simnode.specs.Plans.{PlanValue, IsFit}
 use Rattle.jh_simnode.specs.Runs.{IsSerialRun}
@@ -98,7 +99,7 @@ abbrev pub OwnHistoryIsJudged : Type 0
 OwnHistoryIsJudged =
     (p : PlanValue) (journal : List Event) (history : List Operation) → IsFit p
     → IsSerialRun p journal history
-    → (e : CheckError) → RefusesChecking p.settings.workload history e → e ≡ OutOfMemory
+    → (e : CheckError) → RefusesChecking (checker_of p.settings.workload) history e → e ≡ OutOfMemory
 
 -- the lines that are printed of the history are a text of it, where its operations can be printed
 abbrev pub OwnLinesAreText : Type 0

@@ -1,11 +1,9 @@
-//! What holds of the history of every serial run, and what it is judged by. A law is the contract of
-//! a function that does nothing.
+//! What holds of the history of every serial run. A law is the contract of a function that does
+//! nothing.
 #![tactic(auto)]
 
-mod judging;
 mod laws;
 
-pub use judging::own_judging;
 pub use laws::{
     calls_are_of_their_workload, own_histories_are_judged, own_lines_are_text,
     same_settings_same_run,

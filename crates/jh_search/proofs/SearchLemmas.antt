@@ -10,13 +10,13 @@ use Rattle.jh_tasks.specs.Answers.{AreTaskAnswers}
 use Rattle.jh_simnode.proofs.EventCountLemmas.{count_yes, count_no}
 use Rattle.jh_simnode.specs.Plans.{PlanValue}
 use Rattle.jh_search.specs.declared.options.Options.{Options}
-use Rattle.jh_search.specs.declared.verdicts.PlanVerdict.{PlanVerdict}
-use Rattle.jh_search.specs.declared.verdicts.PlanVerdict.TheVariants.{Fails, Passes, Unknown}
+use Rattle.jh_check.specs.declared.verdict.Verdict.{Verdict}
+use Rattle.jh_check.specs.declared.verdict.Verdict.TheVariants.{False, True, Unknown}
 use Rattle.jh_search.specs.Search.{ArePlanVerdicts, ComesOf, IsSearched, is_undecided}
 use Rattle.jh_search.specs.SearchInside.{HasTried}
 
 -- the verdicts on the candidates, with that on the next
-verdicts_more : (p : PlanValue) (options : Options) (from : ℕ) (verdicts : List PlanVerdict) (o : PlanVerdict) → ArePlanVerdicts p options from verdicts
+verdicts_more : (p : PlanValue) (options : Options) (from : ℕ) (verdicts : List Verdict) (o : Verdict) → ArePlanVerdicts p options from verdicts
     → ComesOf p options (from + length verdicts) o → ArePlanVerdicts p options from (verdicts ++ o ∷ [])
 verdicts_more p options from verdicts o come next index d below =
     let longer = length_push verdicts o in
@@ -28,15 +28,15 @@ verdicts_more p options from verdicts o come next index d below =
     ]
 
 pub passed_more : (p : PlanValue) (options : Options) (tried unknown : ℕ) → HasTried p options tried unknown
-    → ComesOf p options (options.from + tried) Passes → HasTried p options (tried + 1) unknown
+    → ComesOf p options (options.from + tried) True → HasTried p options (tried + 1) unknown
 passed_more p options tried unknown (verdicts, are, long) comes = (
-  verdicts ++ Passes ∷ [],
+  verdicts ++ True ∷ [],
   record {
-    come = verdicts_more p options options.from verdicts Passes are.come (subst (λ n. ComesOf p options (options.from + n) Passes) (sym long) comes);
-    none_fails = All-push (λ verdict. verdict ≢ Fails) verdicts Passes are.none_fails (λ same. absurd cc);
-    counted = are.counted ∙ sym (count_no is_undecided verdicts Passes refl);
+    come = verdicts_more p options options.from verdicts True are.come (subst (λ n. ComesOf p options (options.from + n) True) (sym long) comes);
+    none_fails = All-push (λ verdict. verdict ≢ False) verdicts True are.none_fails (λ same. absurd cc);
+    counted = are.counted ∙ sym (count_no is_undecided verdicts True refl);
   },
-  length_push verdicts Passes ∙ (omega (arith, long)),
+  length_push verdicts True ∙ (omega (arith, long)),
 )
 
 pub unknown_more : (p : PlanValue) (options : Options) (tried unknown : ℕ) → HasTried p options tried unknown
@@ -45,7 +45,7 @@ unknown_more p options tried unknown (verdicts, are, long) comes = (
   verdicts ++ Unknown ∷ [],
   record {
     come = verdicts_more p options options.from verdicts Unknown are.come (subst (λ n. ComesOf p options (options.from + n) Unknown) (sym long) comes);
-    none_fails = All-push (λ verdict. verdict ≢ Fails) verdicts Unknown are.none_fails (λ same. absurd cc);
+    none_fails = All-push (λ verdict. verdict ≢ False) verdicts Unknown are.none_fails (λ same. absurd cc);
     counted = (let counted = are.counted in let one = count_yes is_undecided verdicts Unknown refl in omega (arith, counted, one));
   },
   length_push verdicts Unknown ∙ (omega (arith, long)),
@@ -71,7 +71,7 @@ none_tried p options = (
 )
 
 -- what an answer of a block says of its candidate
-pub answer_comes : {E : Type 0} (p : PlanValue) (options : Options) (from : ℕ) (answers : List (Option (Result PlanVerdict E))) (index : ℕ) (verdict : PlanVerdict)
+pub answer_comes : {E : Type 0} (p : PlanValue) (options : Options) (from : ℕ) (answers : List (Option (Result Verdict E))) (index : ℕ) (verdict : Verdict)
     → AreTaskAnswers (length answers) (λ i answer. IfOk answer (ComesOf p options (from + i))) answers → index < length answers
     → get_or answers index None ≡ Some (Ok verdict) → ComesOf p options (from + index) verdict
 answer_comes p options from answers index verdict are below at =
@@ -79,7 +79,7 @@ answer_comes p options from answers index verdict are below at =
 
 -- the first that fails ends the search
 pub first_found : (p : PlanValue) (options : Options) (tried unknown : ℕ) → HasTried p options tried unknown → tried < options.runs
-    → ComesOf p options (options.from + tried) Fails
+    → ComesOf p options (options.from + tried) False
     → IsSearched p options (record { failing = Some (options.from + tried); unknown = unknown })
 first_found p options tried unknown (verdicts, are, long) left fails =
     (verdicts, are, (omega (arith, long), omega (arith, long, left), fails))

@@ -2,7 +2,7 @@
 use Rattle.std.specs.Prelude.{◌≡◌, ℕ, ◌+◌, ◌^◌, ◌<◌, List, length}
 use Rattle.jh_simnode.specs.Plans.{PlanValue}
 use Rattle.jh_search.specs.declared.options.Options.{Options}
-use Rattle.jh_search.specs.declared.verdicts.PlanVerdict.{PlanVerdict}
+use Rattle.jh_check.specs.declared.verdict.Verdict.{Verdict}
 use Rattle.jh_search.specs.declared.threads.Next.{Next}
 use Rattle.jh_search.specs.declared.threads.Next.TheVariants.{Found, Goes}
 use Rattle.jh_search.specs.Search.{ComesOf, IsSearched, AreTriedSoFar}
@@ -10,14 +10,14 @@ use Rattle.jh_search.specs.Search.{ComesOf, IsSearched, AreTriedSoFar}
 -- so many candidates were tried, of which none fails and so many are unknown
 abbrev pub HasTried : PlanValue → Options → ℕ → ℕ → Type 0
 HasTried p options tried unknown =
-    (verdicts : List PlanVerdict) × AreTriedSoFar p options verdicts unknown
+    (verdicts : List Verdict) × AreTriedSoFar p options verdicts unknown
     × (length verdicts ≡ tried)
 
 -- These are so many candidates from a number on, and what is known of each: what may come of it.
 pub record AreTries (p : PlanValue) (options : Options) (from count : ℕ)
-    (Comes : ℕ → PlanVerdict → Type 0) : Type 0 where
+    (Comes : ℕ → Verdict → Type 0) : Type 0 where
   pub few : from + count < 2 ^ 64
-  pub come : (index : ℕ) (verdict : PlanVerdict) → ComesOf p options (from + index) verdict
+  pub come : (index : ℕ) (verdict : Verdict) → ComesOf p options (from + index) verdict
       → Comes index verdict
 
 -- after so many candidates the search is over, or it goes on

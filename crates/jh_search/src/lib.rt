@@ -16,4 +16,3 @@ pub use kinds::{Kind, Palette};
 pub use options::Options;
 pub use serial::{Searched, search_serial};
 pub use threads::{SearchError, SearchObserver, search, search_observed};
-pub use verdicts::PlanVerdict;

@@ -4,7 +4,8 @@ ghost use Rattle.std.specs.Prelude.{◌<◌, ◌+◌, ◌^◌, IfOk};
 ghost use Rattle.jh_search.specs.Search.{IsSearched};
 
 use crate::options::Options;
-use crate::verdicts::{PlanVerdict, verdict_at};
+use crate::verdicts::verdict_at;
+use jh_check::Verdict;
 use jh_simnode::Plan;
 use std::alloc::{AllocError, Global};
 
@@ -30,14 +31,14 @@ pub fn search_serial(alloc: Global, plan: &Plan, options: &Options) -> Result<Se
     for index in 0..options.runs {
         let number = options.from + index;
         match verdict_at(alloc, plan, options, number)? {
-            PlanVerdict::Fails => {
+            Verdict::False => {
                 return Ok(Searched {
                     failing: Some(number),
                     unknown,
                 });
             }
-            PlanVerdict::Passes => {}
-            PlanVerdict::Unknown => unknown += 1,
+            Verdict::True => {}
+            Verdict::Unknown => unknown += 1,
         }
     }
     Ok(Searched {

@@ -5,12 +5,13 @@ ghost use Rattle.std.specs.Prelude.{◌≡◌, ◌<◌, ◌≤◌, ◌+◌, ◌^
 ghost use Rattle.jh_tasks.specs.Answers.{AreTaskAnswers};
 ghost use Rattle.jh_search.specs.Search.{ComesOf, IsSearched};
 ghost use Rattle.jh_search.specs.SearchInside.{AreTries, HasTried, LeadsToNext};
-ghost use Rattle.jh_search.specs.declared.verdicts.PlanVerdict.{PlanVerdict};
+ghost use Rattle.jh_check.specs.declared.verdict.Verdict.{Verdict};
 ghost use Rattle.jh_search.specs.declared.threads.SearchError.TheVariants.{OutOfMemory};
 
 use crate::options::Options;
 use crate::serial::Searched;
-use crate::verdicts::{PlanVerdict, verdict_at};
+use crate::verdicts::verdict_at;
+use jh_check::Verdict;
 use jh_shrink::Nobody;
 use jh_simnode::Plan;
 use jh_tasks::{Task, answer_tasks};
@@ -56,7 +57,7 @@ impl From<AllocError> for SearchError {
 }
 
 /// What trying one candidate gave.
-type Answer = Result<PlanVerdict, AllocError>;
+type Answer = Result<Verdict, AllocError>;
 
 /// The candidates of a block. Each block picks its own.
 pub trait Tries {
@@ -64,7 +65,7 @@ pub trait Tries {
     ghost count: { ℕ };
 
     /// What may come of each.
-    ghost comes: { ℕ → PlanVerdict → Type 0 };
+    ghost comes: { ℕ → Verdict → Type 0 };
 }
 
 impl Tries for Brand {
@@ -106,7 +107,7 @@ impl<'a, Q: Tries> Task<Answer> for Candidates<'a, Q> {
     }
 
     fn is_last(answer: &Answer) -> bool {
-        matches!(answer, Err(_) | Ok(PlanVerdict::Fails))
+        matches!(answer, Err(_) | Ok(Verdict::False))
     }
 }
 
@@ -194,14 +195,14 @@ fn after_block(
             None => return Err(SearchError::Thread),
         };
         match verdict {
-            PlanVerdict::Fails => {
+            Verdict::False => {
                 return Ok(Next::Found(Searched {
                     failing: Some(options.from + next.tried),
                     unknown: next.unknown,
                 }));
             }
-            PlanVerdict::Passes => {}
-            PlanVerdict::Unknown => next.unknown += 1,
+            Verdict::True => {}
+            Verdict::Unknown => next.unknown += 1,
         }
         next.tried += 1;
     }

@@ -9,11 +9,11 @@ use Rattle.jh_edn.specs.Edn.{Edn}
 use Rattle.jh_edn.specs.Order.{in_order, put_in_order}
 use Rattle.jh_edn.specs.View.{view}
 use Rattle.jh_edn.proofs.CitedLemmas.{map_in_order}
-use Rattle.jh_keys.specs.Findings.{Found}
-use Rattle.jh_keys.specs.Histories.{view_histories, view_history}
-use Rattle.jh_keys.specs.Keys.{AreTuples, has_key, histories_of, history_of, history_keys, key_with_history, operation_without_key}
-use Rattle.jh_keys.specs.declared.histories.KeyHistory.{KeyHistory}
-use Rattle.jh_keys.specs.declared.serial.KeyFinding.{KeyFinding}
+use Rattle.jh_checkers.specs.declared.finding.Finding.{Finding}
+use Rattle.jh_independent.specs.Histories.{view_histories, view_history}
+use Rattle.jh_independent.specs.Keys.{AreTuples, has_key, histories_of, history_of, history_keys, key_with_history, operation_without_key}
+use Rattle.jh_independent.specs.declared.histories.KeyHistory.{KeyHistory}
+use Rattle.jh_independent.specs.declared.serial.KeyFinding.{KeyFinding}
 use Rattle.jh_ops.specs.Operation.{Operation, operation, operations}
 use Rattle.jh_ops.specs.OperationWritten.{IsWritable}
 use Rattle.jh_ops.specs.declared.operation.Op.{Op}
@@ -25,7 +25,7 @@ use Rattle.jh_sections.specs.declared.key_sections.ShownKey.{ShownKey}
 use Rattle.jh_sections.specs.declared.window.Choice.{Choice}
 
 abbrev Key : Type 0
-Key = Edn × Option Found
+Key = Edn × Option Finding
 
 -- ---- keys beside histories
 

@@ -7,9 +7,10 @@ use Rattle.jh_edn.specs.Edn.{Edn}
 use Rattle.jh_edn.specs.Order.{in_order}
 use Rattle.jh_edn.specs.Print.{print}
 use Rattle.jh_edn.specs.View.{view}
-use Rattle.jh_keys.specs.Findings.{Found, verdict_of_finding}
-use Rattle.jh_keys.specs.Keys.{AreTuples, history_of, history_keys}
-use Rattle.jh_keys.specs.declared.serial.KeyFinding.{KeyFinding}
+use Rattle.jh_checkers.specs.Findings.{finding_verdict}
+use Rattle.jh_checkers.specs.declared.finding.Finding.{Finding}
+use Rattle.jh_independent.specs.Keys.{AreTuples, history_of, history_keys}
+use Rattle.jh_independent.specs.declared.serial.KeyFinding.{KeyFinding}
 use Rattle.jh_ops.specs.Operation.{Operation}
 use Rattle.jh_pages.specs.declared.section.Section.{Section}
 use Rattle.jh_sections.specs.Sections.{IsSectionOf}
@@ -18,15 +19,15 @@ use Rattle.jh_sections.specs.declared.window.Choice.{Choice}
 -- ---- keys
 
 -- a key with what was found of it
-abbrev pub key_found : KeyFinding → Edn × Option Found
-key_found finding = (view finding.key, Some finding.found)
+abbrev pub key_found : KeyFinding → Edn × Option Finding
+key_found finding = (view finding.key, Some finding.finding)
 
 -- a key that was not judged
-abbrev pub unjudged_key : Edn → Edn × Option Found
+abbrev pub unjudged_key : Edn → Edn × Option Finding
 unjudged_key key = (key, None)
 
 -- the keys of a history, each with what was found of it, if they were judged
-abbrev pub keys_found : List Operation → Option (List KeyFinding) → List (Edn × Option Found)
+abbrev pub keys_found : List Operation → Option (List KeyFinding) → List (Edn × Option Finding)
 keys_found history None = map unjudged_key (history_keys history)
 keys_found history (Some findings) = map key_found findings
 
@@ -38,15 +39,15 @@ rank_of_verdict Verdict.Unknown = 1
 rank_of_verdict Verdict.True = 2
 
 -- where sections stand: first those of keys that are not valid, then those of unknown verdict
-abbrev pub section_rank : Option Found → ℕ
+abbrev pub section_rank : Option Finding → ℕ
 section_rank None = 0
-section_rank (Some found) = rank_of_verdict (verdict_of_finding found.finding)
+section_rank (Some found) = rank_of_verdict (finding_verdict found)
 
-abbrev pub stands_before : Edn × Option Found → Edn × Option Found → Bool
+abbrev pub stands_before : Edn × Option Finding → Edn × Option Finding → Bool
 stands_before a b = nat_lt (section_rank a.1) (section_rank b.1)
 
 -- keys as their sections stand; those of one verdict stay as they stood
-abbrev pub section_order : List (Edn × Option Found) → List (Edn × Option Found)
+abbrev pub section_order : List (Edn × Option Finding) → List (Edn × Option Finding)
 section_order keys = in_order stands_before keys
 
 -- ---- sections
@@ -57,16 +58,16 @@ verdict_text Verdict.Unknown = codes ": unknown"
 verdict_text Verdict.False = codes ": not valid"
 
 -- the text in a heading of what was found
-abbrev pub found_text : Option Found → List ℕ
+abbrev pub found_text : Option Finding → List ℕ
 found_text None = []
-found_text (Some found) = verdict_text (verdict_of_finding found.finding)
+found_text (Some found) = verdict_text (finding_verdict found)
 
 -- the heading of a section: its key, and what was found of it
-abbrev pub heading_of : Edn × Option Found → List ℕ
+abbrev pub heading_of : Edn × Option Finding → List ℕ
 heading_of key = codes "Key " ++ print key.0 ++ found_text key.1
 
 -- The section shows the key's own history, with what was found in it.
-abbrev pub IsSectionOfKey : List Operation → Choice → Edn × Option Found → Section → Type 0
+abbrev pub IsSectionOfKey : List Operation → Choice → Edn × Option Finding → Section → Type 0
 IsSectionOfKey history choice key section =
     IsSectionOf (heading_of key) (history_of key.0 history) key.1 choice section
 

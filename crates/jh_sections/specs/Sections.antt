@@ -1,7 +1,7 @@
 -- A section of a page: a history, which of its records are shown, and what was found in it (this
 -- project's own).
 use Rattle.std.specs.Prelude.{◌≡◌, ℕ, true, List, [], length, Option, Some, None}
-use Rattle.jh_keys.specs.Findings.{Found}
+use Rattle.jh_checkers.specs.declared.finding.Finding.{Finding}
 use Rattle.jh_marks.specs.Marked.{marks_of}
 use Rattle.jh_ops.specs.Operation.{Operation, operations}
 use Rattle.jh_pages.specs.declared.section.Section.{Section}
@@ -13,7 +13,7 @@ use Rattle.jh_timeline.specs.declared.picture.Bar.{Bar}
 use Rattle.jh_timeline.specs.declared.picture.Window.{Window}
 
 -- the marks of what is found, and none where nothing was judged
-abbrev pub marks_in : List Operation → Option Found → List Bar → List Mark
+abbrev pub marks_in : List Operation → Option Finding → List Bar → List Mark
 marks_in history None bars = []
 marks_in history (Some found) bars = marks_of history found bars
 
@@ -22,21 +22,21 @@ abbrev pub whole_window : List Operation → Window
 whole_window history = record { from = 0; to = length history }
 
 -- At this index the first bar of the history ends that what is found points at.
-abbrev pub IsFocus : List Operation → Option Found → Option ℕ → Type 0
+abbrev pub IsFocus : List Operation → Option Finding → Option ℕ → Type 0
 IsFocus history None focus = focus ≡ None
 IsFocus history (Some found) focus =
     (bars : List Bar) × AreBarsOf (whole_window history) history bars
     × (focus ≡ focus_of bars (marks_of history found bars))
 
 -- The records that are shown: where there are too many, those around what is pointed at.
-abbrev pub IsWindowOf : Choice → List Operation → Option Found → Window → Type 0
+abbrev pub IsWindowOf : Choice → List Operation → Option Finding → Window → Type 0
 IsWindowOf choice history found window =
     (focus : Option ℕ) × (is_open choice (length history) ≡ true → IsFocus history found focus)
     × (window ≡ window_of choice (length history) focus)
 
 -- The section has this heading and this history, the window, what of the history is drawn in it,
 -- and a mark for what was found.
-pub record IsSectionOf (heading : List ℕ) (history : List Operation) (found : Option Found)
+pub record IsSectionOf (heading : List ℕ) (history : List Operation) (found : Option Finding)
     (choice : Choice) (section : Section)
     : Type 0 where
   pub titled : section.heading.items ≡ heading

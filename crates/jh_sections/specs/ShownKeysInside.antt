@@ -4,11 +4,11 @@ use Rattle.std.specs.Prelude.{◌≡◌, Bool, List, ◌++◌, map, All, Option}
 use Rattle.std.specs.List.{AllZip}
 use Rattle.jh_edn.specs.Edn.{Edn}
 use Rattle.jh_edn.specs.View.{view}
-use Rattle.jh_keys.specs.Findings.{Found}
-use Rattle.jh_keys.specs.Histories.{view_history}
-use Rattle.jh_keys.specs.Keys.{AreTuples, history_of, key_with_history}
-use Rattle.jh_keys.specs.declared.histories.KeyHistory.{KeyHistory}
-use Rattle.jh_keys.specs.declared.serial.KeyFinding.{KeyFinding}
+use Rattle.jh_checkers.specs.declared.finding.Finding.{Finding}
+use Rattle.jh_independent.specs.Histories.{view_history}
+use Rattle.jh_independent.specs.Keys.{AreTuples, history_of, key_with_history}
+use Rattle.jh_independent.specs.declared.histories.KeyHistory.{KeyHistory}
+use Rattle.jh_independent.specs.declared.serial.KeyFinding.{KeyFinding}
 use Rattle.jh_ops.specs.Operation.{Operation, operations}
 use Rattle.jh_pages.specs.declared.section.Section.{Section}
 use Rattle.jh_sections.specs.KeySections.{heading_of, keys_found, stands_before}
@@ -17,10 +17,10 @@ use Rattle.jh_sections.specs.declared.key_sections.ShownKey.{ShownKey}
 use Rattle.jh_sections.specs.declared.window.Choice.{Choice}
 
 -- a one without its history
-abbrev pub key_and_found : ShownKey → Edn × Option Found
+abbrev pub key_and_found : ShownKey → Edn × Option Finding
 key_and_found one = (view one.key, one.found)
 
-abbrev pub keys_and_found : List ShownKey → List (Edn × Option Found)
+abbrev pub keys_and_found : List ShownKey → List (Edn × Option Finding)
 keys_and_found shown = map key_and_found shown
 
 -- The one has the history of its key.
@@ -28,7 +28,7 @@ abbrev pub HasHistory : List Operation → ShownKey → Type 0
 HasHistory history one = operations one.history.items ≡ history_of (view one.key) history
 
 -- The key is that of the history.
-abbrev pub IsKeyOf : List Operation → Edn × Option Found → KeyHistory → Type 0
+abbrev pub IsKeyOf : List Operation → Edn × Option Finding → KeyHistory → Type 0
 IsKeyOf history key own = view_history own ≡ key_with_history history key.0
 
 -- The shown are those of all keys, in order.
@@ -40,8 +40,8 @@ pub record AreShownKeys (history : List Operation) (findings : Option (List KeyF
 
 -- The keys that are left stand behind those that have their history, each beside its own.
 pub record AreJoined
-    (history : List Operation) (keys : List (Edn × Option Found)) (shown : List ShownKey)
-    (left : List (Edn × Option Found))
+    (history : List Operation) (keys : List (Edn × Option Finding)) (shown : List ShownKey)
+    (left : List (Edn × Option Finding))
     (others : List KeyHistory) : Type 0 where
   pub whole : keys_and_found shown ++ left ≡ keys
   pub each : All (HasHistory history) shown

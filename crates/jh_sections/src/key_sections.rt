@@ -6,8 +6,8 @@ ghost use Rattle.std.specs.Option.{option_copied};
 ghost use Rattle.std.specs.Ordering.{is_lt};
 ghost use Rattle.jh_edn.specs.Order.{in_order};
 ghost use Rattle.jh_edn.specs.View.{view};
-ghost use Rattle.jh_keys.specs.Histories.{RefusesKeySplit};
-ghost use Rattle.jh_keys.specs.Keys.{history_keys};
+ghost use Rattle.jh_independent.specs.Histories.{RefusesKeySplit};
+ghost use Rattle.jh_independent.specs.Keys.{history_keys};
 ghost use Rattle.jh_ops.specs.Operation.{operations};
 ghost use Rattle.jh_ops.specs.OperationWritten.{IsWritable};
 ghost use Rattle.jh_sections.specs.ShownKeysInside.{AreShownKeys, IsSectionOfShown, key_and_found};
@@ -18,8 +18,9 @@ ghost use Rattle.jh_sections.specs.KeySections.{AreOfKeys, AreSectionsOf};
 use crate::section::section_of;
 use crate::window::Choice;
 use jh_check::Verdict;
+use jh_checkers::Finding;
 use jh_edn::{Value, write};
-use jh_keys::{Found, KeyFinding, KeyHistory, KeysError, histories_by_key};
+use jh_independent::{KeyFinding, KeyHistory, KeysError, histories_by_key};
 use jh_ops::Op;
 use jh_pages::Section;
 use std::alloc::{AllocError, Global};
@@ -31,12 +32,12 @@ struct ShownKey {
     key: Value,
     history: Vec<Op>,
     /// What was found in it, if it was judged.
-    found: Option<Found>,
+    found: Option<Finding>,
 }
 
 /// The sections of a history of independent keys: one for each key, which shows the key's own
 /// history with what was found in it, as `section_of` does. Where keys were judged, the findings
-/// are those of `jh_keys::check_keys` or `check_keys_serial` in this history. Sections of keys that
+/// are those of `jh_independent::check_keys` or `check_keys_serial` in this history. Sections of keys that
 /// are not valid stand first, then those of unknown verdict; those of one verdict stand in the
 /// normal order of the keys. A heading has the key and the verdict. Indexes count the records of
 /// the key's own history, in which the nemesis has none.
@@ -107,12 +108,12 @@ fn judged_shown_keys(
 fn judged_shown_key(own: KeyHistory, finding: KeyFinding) -> ShownKey
     ensures key { result.key ≡ own.key }
     ensures history { result.history ≡ own.history }
-    ensures found { result.found ≡ Some finding.found }
+    ensures found { result.found ≡ Some finding.finding }
 {
     ShownKey {
         key: own.key,
         history: own.history,
-        found: Some(finding.found),
+        found: Some(finding.finding),
     }
 }
 
@@ -139,7 +140,7 @@ fn section_rank(one: &ShownKey) -> u8
     ensures { result ≡ rule.section_rank one.now.found }
 {
     match &one.found {
-        Some(found) => rank_of_verdict(found.finding.verdict()),
+        Some(found) => rank_of_verdict(found.verdict()),
         None => 0,
     }
 }
@@ -172,11 +173,11 @@ fn sorted(mut shown: Vec<ShownKey>) -> Result<Vec<ShownKey>, AllocError>
 }
 
 /// The text in a heading of what was found.
-fn found_text(found: Option<&Found>) -> &'static [u8]
+fn found_text(found: Option<&Finding>) -> &'static [u8]
     ensures { result.now ≡ rule.found_text (option_copied found.entry) }
 {
     match found {
-        Some(found) => verdict_text(found.finding.verdict()),
+        Some(found) => verdict_text(found.verdict()),
         None => b"",
     }
 }

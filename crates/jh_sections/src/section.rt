@@ -8,7 +8,7 @@ ghost use Rattle.jh_sections.specs.Windows as windows;
 ghost use Rattle.jh_sections.specs.Sections.{IsFocus, IsSectionOf, IsWindowOf};
 
 use crate::window::{Choice, around, chosen, focus_of, is_open};
-use jh_keys::Found;
+use jh_checkers::Finding;
 use jh_marks::marks_of;
 use jh_ops::Op;
 use jh_pages::Section;
@@ -19,7 +19,7 @@ use std::alloc::{AllocError, Global};
 fn marks_in(
     alloc: Global,
     history: &[Op],
-    found: Option<&Found>,
+    found: Option<&Finding>,
     bars: &[Bar],
 ) -> Result<Vec<Mark>, AllocError>
     ensures { IfOk result (λ marks.
@@ -32,7 +32,7 @@ fn marks_in(
 }
 
 /// The index at which the first bar of a history ends that what is found points at.
-fn focus_in(alloc: Global, history: &[Op], found: &Found) -> Result<Option<usize>, AllocError>
+fn focus_in(alloc: Global, history: &[Op], found: &Finding) -> Result<Option<usize>, AllocError>
     ensures { IfOk result (IsFocus (operations history.now) (Some found.now)) }
 {
     let whole = Window {
@@ -45,7 +45,11 @@ fn focus_in(alloc: Global, history: &[Op], found: &Found) -> Result<Option<usize
 }
 
 /// The records around what is pointed at, where something was judged.
-fn window_around(alloc: Global, history: &[Op], found: Option<&Found>) -> Result<Window, AllocError>
+fn window_around(
+    alloc: Global,
+    history: &[Op],
+    found: Option<&Finding>,
+) -> Result<Window, AllocError>
     ensures { IfOk result (λ window. (focus : Option ℕ)
         × IsFocus (operations history.now) (option_copied found.entry) focus
         × (window ≡ windows.focus_window focus (length history.now))) }
@@ -61,7 +65,7 @@ fn window_around(alloc: Global, history: &[Op], found: Option<&Found>) -> Result
 fn window_in(
     alloc: Global,
     history: &[Op],
-    found: Option<&Found>,
+    found: Option<&Finding>,
     choice: Choice,
 ) -> Result<Window, AllocError>
     ensures { IfOk result (IsWindowOf choice (operations history.now) (option_copied found.entry)) }
@@ -86,7 +90,7 @@ pub fn section_of(
     alloc: Global,
     heading: Vec<u8>,
     history: Vec<Op>,
-    found: Option<&Found>,
+    found: Option<&Finding>,
     choice: Choice,
 ) -> Result<Section, AllocError>
     ensures section { IfOk result

@@ -11,7 +11,7 @@ returns-in_err-judging_by-in-Some-clause-taken c = λ none judging is.
 pub returns-in_ok-judging_by-in-Some-clause-parsed : goal.returns-in_ok-judging_by-in-Some-clause-parsed
 returns-in_ok-judging_by-in-Some-clause-parsed c =
     let given = text_given (found_of c.args.options.now) (codes "workload") c.get_str.result (Some c.in-Some.name.now) (search rules) (search rules) in
-    (c.in-Some.name.now, given, c.in_ok-judging_by-in-Some.ensures.parsed)
+    (c.in-Some.name.now, given, c.in_ok-judging_by-in-Some.ensures.parsed, c.in_ok-judging_by-in-Some.ensures.explained)
 
 pub returns-in-None-clause-parsed : goal.returns-in-None-clause-parsed
 returns-in-None-clause-parsed c = text_given (found_of c.args.options.now) (codes "workload") c.get_str.result None (search rules) (search rules)

@@ -1,35 +1,35 @@
-use Rattle.std.proofs.Common.{codes, rules, sym, ◌≡◌, ◌∙◌, Some, None}
-use Rattle.clap.specs.Words.{found_of}
+use Rattle.std.proofs.Common.{codes, rules, sym, subst, ap, ◌≡◌, ◌∙◌, Some, None}
+use Rattle.clap.specs.Words.{found_of, one_of, rows_of}
+use Rattle.jh_checkers.specs.Checkers.{checker_name}
+use Rattle.jh_arguments.specs.Commands.{IsFlag}
 use Rattle.jh_arguments.proofs.OptionLemmas.{text_given}
-use Rattle.jh_ops.specs.Requests.{workload_name}
 use Rattle.jh_arguments.proofs.commands.question_of.Goals as goal
 
-pub returns-in_err-get_str-clause-taken : goal.returns-in_err-get_str-clause-taken
-returns-in_err-get_str-clause-taken c = λ none question asks.
+pub returns-in_err-name-clause-taken : goal.returns-in_err-name-clause-taken
+returns-in_err-name-clause-taken c = λ none question asks.
     let given = text_given (found_of c.args.options.now) (codes "workload") c.get_str.result None (search rules) (search rules) in
-    let bad : Some (workload_name question.workload) ≡ None = sym asks.workload ∙ given in
+    let bad : Some (checker_name question.judging.checker) ≡ None = sym asks.workload ∙ given in
     cc
 
-pub returns-in_err-workload-clause-taken : goal.returns-in_err-workload-clause-taken
-returns-in_err-workload-clause-taken c = λ none question asks.
-    let given = text_given (found_of c.args.options.now) (codes "workload") c.get_str.result (Some c.in_ok-get_str.field-0.now) (search rules) (search rules) in
-    let same : Some c.in_ok-get_str.field-0.now ≡ Some (workload_name question.workload) = sym given ∙ asks.workload in
-    c.named.ensures.unknown (search rules) question.workload (search rules)
-
-pub returns-in_err-number_of-clause-taken : goal.returns-in_err-number_of-clause-taken
-returns-in_err-number_of-clause-taken c = λ none question asks. c.number_of.ensures.taken (search rules) question.budget asks.budget
+pub returns-in_err-judging_by-clause-taken : goal.returns-in_err-judging_by-clause-taken
+returns-in_err-judging_by-clause-taken c = λ none question asks.
+    let given = text_given (found_of c.args.options.now) (codes "workload") c.get_str.result (Some c.in_ok-name.name.now) (search rules) (search rules) in
+    let both : Some c.in_ok-name.name.now ≡ Some (checker_name question.judging.checker) = sym given ∙ asks.workload in
+    let same : c.in_ok-name.name.now ≡ checker_name question.judging.checker = cc in
+    c.judging_by.ensures.taken (search rules) question.judging (record { workload = same; initial = asks.initial; budget = asks.budget })
 
 pub returns-in_err-threads_of-clause-taken : goal.returns-in_err-threads_of-clause-taken
 returns-in_err-threads_of-clause-taken c = λ none question asks. c.threads_of.ensures.taken (search rules) question.threads asks.threads
 
 pub returns-clause-parsed : goal.returns-clause-parsed
 returns-clause-parsed c =
-    let given = text_given (found_of c.args.options.now) (codes "workload") c.get_str.result (Some c.in_ok-get_str.field-0.now) (search rules) (search rules) in
+    let given = text_given (found_of c.args.options.now) (codes "workload") c.get_str.result (Some c.in_ok-name.name.now) (search rules) (search rules) in
+    let judged = c.in_ok-judging_by.ensures in
     record {
-      workload = given ∙ search rules;
-      initial = c.initial_of.ensures;
-      budget = c.in_ok-number_of.ensures.parsed;
-      explain = c.flag_of.ensures;
-      independent = c.flag_of-2.ensures;
+      workload = given ∙ ap Some judged.parsed.workload;
+      initial = judged.parsed.initial;
+      budget = judged.parsed.budget;
+      explain = subst (IsFlag (one_of (codes "explain") (rows_of (found_of c.args.options.now)))) (sym judged.explained) c.flag_of-explain.ensures;
+      independent = c.flag_of.ensures;
       threads = c.in_ok-threads_of.ensures.parsed;
     }

@@ -3,7 +3,7 @@ use Rattle.std.specs.Io.KnownBytes.{Appends}
 use Rattle.std.proofs.lemmas.Result.{on_ok_weaker}
 use Rattle.jh_edn.proofs.CitedLemmas.{appends_then}
 use Rattle.jh_check.specs.Lines.{reads_value}
-use Rattle.jh_check.proofs.ElementLemmas.{three_parts}
+use Rattle.jh_check.proofs.LineLemmas.{three_parts}
 use Rattle.jh_check.proofs.lines.write_counter.Goals as goal
 
 pub returns-clause-bytes : goal.returns-clause-bytes

@@ -2,8 +2,8 @@ use Rattle.std.proofs.Common.{codes, subst, ap}
 use Rattle.std.specs.Io.KnownBytes.{Appends}
 use Rattle.std.proofs.lemmas.Result.{on_ok_weaker}
 use Rattle.jh_edn.proofs.CitedLemmas.{appends_then}
-use Rattle.jh_check.specs.Lines.{vector_of}
-use Rattle.jh_check.proofs.ElementLemmas.{five_parts}
+use Rattle.jh_edn.specs.Parts.{vector_of}
+use Rattle.jh_check.proofs.LineLemmas.{five_parts}
 use Rattle.jh_check.proofs.lines.write_found.Goals as goal
 
 pub returns-clause-bytes : goal.returns-clause-bytes

@@ -5,9 +5,10 @@ use Rattle.std.proofs.lemmas.Result.{on_ok_weaker}
 use Rattle.jh_edn.proofs.CitedLemmas.{appends_then}
 use Rattle.jh_edn.specs.Edn.{Edn, int}
 use Rattle.jh_check.specs.IdsView.{view_duplicate}
-use Rattle.jh_check.specs.Lines.{duplicate_value, vector_of}
+use Rattle.jh_check.specs.Lines.{duplicate_value}
+use Rattle.jh_edn.specs.Parts.{vector_of}
 use Rattle.jh_check.specs.declared.ids.Duplicate.{Duplicate}
-use Rattle.jh_check.proofs.ElementLemmas.{four_parts, mapped_twice}
+use Rattle.jh_check.proofs.LineLemmas.{four_parts, mapped_twice}
 use Rattle.jh_check.proofs.lines.write_ids.Goals as goal
 
 pub returns-clause-bytes : goal.returns-clause-bytes

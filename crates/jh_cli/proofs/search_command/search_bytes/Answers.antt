@@ -14,14 +14,14 @@ search_plan-requires-clause-budget g c κs within =
 pub returns-in-Ok : goal.returns-in-Ok
 returns-in-Ok g c =
     let settings = c.in_ok-settings.settings in
-    let written = c.in-Ok.written in (
+    let output = c.in-Ok.output in (
       c.args.palette,
       settings.plan,
       settings.mode,
       settings.budget,
       c.requires.palette,
       c.in_ok-settings.ensures,
-      subst (λ (options : Options). IsSearchedText settings.plan options written.status written.text.items) c.options_of-options.ensures c.in-Ok.ensures,
+      subst (λ (options : Options). IsSearchedText settings.plan options output.status output.text.items) c.options_of-options.ensures c.in-Ok.ensures,
     )
 
 pub returns : goal.returns

@@ -1,23 +1,22 @@
 use Rattle.std.proofs.Common.{ℕ, List, subst}
+use Rattle.std.specs.Prelude.{IfSome}
+use Rattle.jh_cli.specs.ShrinkRefusals.{RefusesShrinking}
 use Rattle.jh_cli.specs.ShrinkText.{IsShrinkTextOf}
-use Rattle.jh_cli.proofs.WritingLemmas.{on_input}
+use Rattle.jh_cli.proofs.WritingLemmas.{on_input, output_refused, output_written}
 use Rattle.jh_cli.proofs.shrink_command.shrink_run_observed.Goals as goal
 
-pub returns-in-Ok-clause-written : goal.returns-in-Ok-clause-written
-returns-in-Ok-clause-written g c =
-    let written = c.in_ok-written.written in
-    let appended = rw c.deref-2.ensures.value at c.in-Ok.ensures.bytes in
-    on_input _ _ (g.R.Read.remaining c.args.reader.now) (λ input spelled. (
-      written.text.items,
-      subst (λ (bytes : List ℕ). IsShrinkTextOf bytes written.status written.text.items) spelled (rw c.deref.ensures.value at c.in_ok-written.ensures),
-      appended,
-    )) c.in_ok-input.ensures.bytes
+pub returns-clause-written : goal.returns-clause-written
+returns-clause-written g c =
+    let known = g.R.Read.remaining c.args.reader.now in
+    let goes : IfSome known (λ input. IsShrinkTextOf input c.in_ok-output.output.status c.in_ok-output.output.text.items) =
+    on_input _ _ known (λ input spelled. subst (λ (bytes : List ℕ). IsShrinkTextOf bytes c.in_ok-output.output.status c.in_ok-output.output.text.items) spelled (rw c.deref.ensures.value at c.in_ok-output.ensures)) c.in_ok-input.ensures.bytes in
+    output_written IsShrinkTextOf known (g.W.Write.contents c.args.writer.now) (g.W.Write.contents c.finish.new.writer) c.finish.result c.in_ok-output.output.status c.in_ok-output.output.text.items
+    goes c.finish.ensures.status c.finish.ensures.written
 
 pub returns-clause-refused : goal.returns-clause-refused
 returns-clause-refused g c =
-    let written = c.in_ok-written.written in
-    on_input _ _ (g.R.Read.remaining c.args.reader.now) (λ input spelled. (
-      written.status,
-      written.text.items,
-      subst (λ (bytes : List ℕ). IsShrinkTextOf bytes written.status written.text.items) spelled (rw c.deref.ensures.value at c.in_ok-written.ensures),
-    )) c.in_ok-input.ensures.bytes
+    let known = g.R.Read.remaining c.args.reader.now in
+    let goes : IfSome known (λ input. IsShrinkTextOf input c.in_ok-output.output.status c.in_ok-output.output.text.items) =
+    on_input _ _ known (λ input spelled. subst (λ (bytes : List ℕ). IsShrinkTextOf bytes c.in_ok-output.output.status c.in_ok-output.output.text.items) spelled (rw c.deref.ensures.value at c.in_ok-output.ensures)) c.in_ok-input.ensures.bytes in
+    output_refused IsShrinkTextOf RefusesShrinking known c.finish.result c.in_ok-output.output.status c.in_ok-output.output.text.items
+    (λ input is. (c.in_ok-output.output.status, c.in_ok-output.output.text.items, is)) goes c.finish.ensures.failed

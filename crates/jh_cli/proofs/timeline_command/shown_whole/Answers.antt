@@ -1,5 +1,5 @@
 use Rattle.std.proofs.Common.{◌∙◌, List, ◌∷◌, [], ◌++◌, ℕ, Option, ap, subst}
-use Rattle.jh_keys.specs.Findings.{Found}
+use Rattle.jh_checkers.specs.declared.finding.Finding.{Finding}
 use Rattle.jh_ops.specs.Operation.{operations}
 use Rattle.jh_pages.specs.declared.section.Section.{Section}
 use Rattle.jh_sections.specs.Sections.{IsSectionOf}
@@ -19,7 +19,7 @@ returns-clause-shows c =
       section = section;
       shown =
           subst (λ (heading : List ℕ). IsSectionOf heading history found choice section) c.new.ensures.items
-          (subst (λ (parsed : Option Found). IsSectionOf c.new.result.items history parsed choice section) c.as_ref-3.ensures.value c.in_ok-section.ensures.section);
+          (subst (λ (parsed : Option Finding). IsSectionOf c.new.result.items history parsed choice section) c.as_ref-3.ensures.value c.in_ok-section.ensures.section);
       alone = c.in_ok-push.ensures.items ∙ ap (λ (sections : List Section). sections ++ section ∷ []) c.new-sections.ensures.items;
       top = c.in_ok-line.ensures ∙ ap text.found_line c.as_ref.ensures.value;
       ended = c.status_of-status.ensures ∙ ap text.found_status c.as_ref-2.ensures.value;

@@ -1,8 +1,11 @@
+use Rattle.std.specs.Prelude.{IfSome}
 use Rattle.std.proofs.lemmas.Result.{err_from_is_err_and}
-use Rattle.jh_cli.proofs.TimelineLemmas.{parts_refused}
-use Rattle.jh_cli.proofs.WritingLemmas.{on_input}
-use Rattle.jh_cli.proofs.timeline_command.timeline_run.Goals as goal
 use Rattle.jh_ops.specs.Operation.{operations}
+use Rattle.jh_cli.specs.TimelineRefusals.{RefusesTimeline}
+use Rattle.jh_cli.specs.TimelineText.{IsTimelineTextOf}
+use Rattle.jh_cli.proofs.TimelineLemmas.{parts_refused}
+use Rattle.jh_cli.proofs.WritingLemmas.{on_input, output_refused, output_written}
+use Rattle.jh_cli.proofs.timeline_command.timeline_run.Goals as goal
 
 pub returns-in_err-parts-clause-refused : goal.returns-in_err-parts-clause-refused
 returns-in_err-parts-clause-refused g c =
@@ -11,22 +14,18 @@ returns-in_err-parts-clause-refused g c =
     parts_refused c.args.question input c.in_err-parts.field-0.0 refused
     ) c.in_err-parts.ensures.refused)
 
-pub returns-in-Ok-clause-written : goal.returns-in-Ok-clause-written
-returns-in-Ok-clause-written g c =
-    let parts = c.in_ok-parts.parts in
-    let appended = rw c.deref.ensures.value at c.in-Ok.ensures.bytes in
-    on_input _ _ (g.R.Read.remaining c.args.reader.now) (λ input is_parsed. (
-      c.in_ok-page.page.text.items,
-      (operations parts.history.items, parts.below.items, is_parsed, c.in_ok-page.ensures),
-      appended,
-    )) c.in_ok-parts.ensures.parsed
+pub returns-clause-written : goal.returns-clause-written
+returns-clause-written g c =
+    let known = g.R.Read.remaining c.args.reader.now in
+    let goes : IfSome known (λ input. IsTimelineTextOf c.args.question input c.in_ok-output.output.status c.in_ok-output.output.text.items) =
+    on_input _ _ known (λ input is_parsed. (operations c.in_ok-parts.parts.history.items, c.in_ok-parts.parts.below.items, is_parsed, c.in_ok-output.ensures)) c.in_ok-parts.ensures.parsed in
+    output_written (IsTimelineTextOf c.args.question) known (g.W.Write.contents c.args.writer.now) (g.W.Write.contents c.finish.new.writer) c.finish.result c.in_ok-output.output.status c.in_ok-output.output.text.items
+    goes c.finish.ensures.status c.finish.ensures.written
 
 pub returns-clause-refused : goal.returns-clause-refused
 returns-clause-refused g c =
-    let parts = c.in_ok-parts.parts in
-    let page = c.in_ok-page.page in
-    on_input _ _ (g.R.Read.remaining c.args.reader.now) (λ input is_parsed. (
-      page.status,
-      page.text.items,
-      (operations parts.history.items, parts.below.items, is_parsed, c.in_ok-page.ensures),
-    )) c.in_ok-parts.ensures.parsed
+    let known = g.R.Read.remaining c.args.reader.now in
+    let goes : IfSome known (λ input. IsTimelineTextOf c.args.question input c.in_ok-output.output.status c.in_ok-output.output.text.items) =
+    on_input _ _ known (λ input is_parsed. (operations c.in_ok-parts.parts.history.items, c.in_ok-parts.parts.below.items, is_parsed, c.in_ok-output.ensures)) c.in_ok-parts.ensures.parsed in
+    output_refused (IsTimelineTextOf c.args.question) (RefusesTimeline c.args.question) known c.finish.result c.in_ok-output.output.status c.in_ok-output.output.text.items
+    (λ input is. (c.in_ok-output.output.status, c.in_ok-output.output.text.items, is)) goes c.finish.ensures.failed

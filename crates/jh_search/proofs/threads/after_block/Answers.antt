@@ -1,13 +1,13 @@
 use Rattle.std.proofs.Common.{rules, ◌≡◌, ◌<◌, ◌+◌, length, get_or, subst, arith}
 use Rattle.std.specs.Prelude.{None, Ok, Some}
 use Rattle.jh_search.specs.Search.{ComesOf}
-use Rattle.jh_search.specs.declared.verdicts.PlanVerdict.TheVariants.{Fails}
+use Rattle.jh_check.specs.declared.verdict.Verdict.TheVariants.{False}
 use Rattle.jh_search.proofs.SearchLemmas.{answer_comes, first_found, passed_more, unknown_more}
 use Rattle.jh_search.proofs.threads.after_block.Goals as goal
-use Rattle.jh_search.proofs.threads.after_block.Goals.{in-Passes, in-Unknown}
+use Rattle.jh_search.proofs.threads.after_block.Goals.{in-True, in-Unknown}
 
-pub returns-in-Fails : goal.returns-in-Fails
-returns-in-Fails c =
+pub returns-in-False : goal.returns-in-False
+returns-in-False c =
     let p = c.args.plan.now in
     let options = c.args.options.now in
     let i = c.loop-answer.answer-index in
@@ -18,7 +18,7 @@ returns-in-Fails c =
     let came = answer_comes p options (options.from + c.args.progress.tried) c.args.answers.now i c.in-Some-Ok.verdict c.requires.answers below at in
     let few = c.requires.few in
     first_found p options c.loop-answer.next.tried c.loop-answer.next.unknown c.loop-answer.invariant.tried (omega (arith, far, few, below))
-    (subst (λ n. ComesOf p options n Fails) here (subst (ComesOf p options (options.from + c.args.progress.tried + i)) c.in-Fails.is came))
+    (subst (λ n. ComesOf p options n False) here (subst (ComesOf p options (options.from + c.args.progress.tried + i)) c.in-False.is came))
 
 pub loop-answer-preserved : goal.loop-answer-preserved
 loop-answer-preserved c =
@@ -33,8 +33,8 @@ loop-answer-preserved c =
     (answer_comes p options (options.from + c.args.progress.tried) c.args.answers.now i c.in-Some-Ok.verdict c.requires.answers below at) in
     let before = c.loop-answer.next in
     elim c.match-verdict.branch [
-      | in-Passes w ↦ rw (w.next-is) (record {
-        tried = passed_more p options before.tried before.unknown c.loop-answer.invariant.tried (subst (ComesOf p options (options.from + before.tried)) w.in-Passes.is came);
+      | in-True w ↦ rw (w.next-is) (record {
+        tried = passed_more p options before.tried before.unknown c.loop-answer.invariant.tried (subst (ComesOf p options (options.from + before.tried)) w.in-True.is came);
         far = omega (arith, far);
       })
       | in-Unknown w ↦ rw (w.next-is) (record {

@@ -1,0 +1,55 @@
+-- Why a history of a register is not valid, beside the verdict (Knossos gives the operation at
+-- which its search got stuck, and what was pending there; what of it is given here is this
+-- project's own). Operations of the register go by their numbers, as in orders: their places in
+-- the list of them.
+use Rattle.std.specs.Prelude.{◌≡◌, ℕ, ◌&&◌, Bool, true, false, not, nat_lt, List, map, filter}
+use Rattle.std.specs.Prelude.{slice_get, Option, Some, None, option_map, IsSomeAnd}
+use Rattle.std.specs.List.{enumerate_from}
+use Rattle.jh_ops.specs.Operation.{Operation, operation}
+use Rattle.jh_linear.specs.Stuck.{op_end}
+use Rattle.jh_linear.specs.declared.register.Outcome.{Outcome}
+use Rattle.jh_linear.specs.declared.register.Outcome.TheVariants.{Done, Failed, Unsure}
+use Rattle.jh_linear.specs.declared.register.RegOp.{RegOp}
+use Rattle.jh_linear.specs.declared.verdict.LinVerdict.{LinVerdict}
+use Rattle.jh_linear.specs.declared.verdict.LinVerdict.TheVariants.{Invalid}
+use Rattle.jh_checkers.specs.declared.explanation.Explanation.{Explanation}
+
+-- it is known whether the operation happened
+abbrev pub is_sure : Outcome → Bool
+is_sure Done = true
+is_sure Failed = true
+is_sure Unsure = false
+
+-- the operation has its `:ok` or its `:fail` before this place of the history
+abbrev pub is_over : ℕ → RegOp → Bool
+is_over end call = is_sure call.outcome && nat_lt (op_end call) end
+
+-- The operation was invoked before this place of the history, and is not over there. One that
+-- crashed never is.
+abbrev pub is_pending : ℕ → RegOp → Bool
+is_pending end call = nat_lt call.invoked end && not (is_over end call)
+
+-- the numbers of the operations that are pending at this place of the history, ascending
+abbrev pub numbers_pending : List RegOp → ℕ → List ℕ
+numbers_pending calls end =
+    map (λ numbered. numbered.0)
+    (filter (λ numbered. is_pending end numbered.1) (enumerate_from 0 calls))
+
+-- At this place the history has the completion, and these operations are pending.
+pub record Explains (history : List Operation) (calls : List RegOp) (end : ℕ)
+    (explanation : Explanation) : Type 0 where
+  pub completion : slice_get history end ≡ Some (operation explanation.completion)
+  pub pending : explanation.pending.items ≡ numbers_pending calls end
+
+-- What stands beside a verdict where an explanation is asked for, or is not: one of the completion
+-- at which a no is stuck, and none beside any other verdict.
+abbrev pub IsExplained : Bool → List Operation → List RegOp → LinVerdict → Option Explanation
+    → Type 0
+IsExplained true history calls (Invalid stuck) explanation =
+    IsSomeAnd explanation (Explains history calls stuck.end)
+IsExplained asked history calls judged explanation = explanation ≡ None
+
+-- what of an explanation no choice of an order changes: the completion, and what is pending there
+abbrev pub stuck_point : Option Explanation → Option (Operation × List ℕ)
+stuck_point explanation =
+    option_map (λ shown. (operation shown.completion, shown.pending.items)) explanation

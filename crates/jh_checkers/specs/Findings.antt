@@ -1,0 +1,91 @@
+-- What a checker finds in a history, and why it judges none (Jepsen's checkers `set`, `counter`,
+-- `unique-ids` and `linearizable`; what each finds stands in the definitions of its own crate).
+use Rattle.std.specs.Prelude.{◌≡◌, ℕ, List, Option, Some, None}
+use Rattle.jh_ops.specs.Operation.{Operation}
+use Rattle.jh_ops.specs.Pairing.{IsWellFormed, RefusesHistory as RefusesPairing, history_pairs}
+use Rattle.jh_check.specs.CounterResults.{IsCountable, RefusesCounter, counter_result}
+use Rattle.jh_check.specs.CounterResults.{error_of_pairing}
+use Rattle.jh_check.specs.IdsResults.{ids_result}
+use Rattle.jh_check.specs.SetResults.{IsJudgeable, RefusesSet, set_result}
+use Rattle.jh_check.specs.declared.error.CheckError.{CheckError}
+use Rattle.jh_check.specs.declared.error.CheckError.TheVariants.{Pair, BadValue, NegativeAdd}
+use Rattle.jh_check.specs.declared.error.CheckError.TheVariants.{OutOfMemory}
+use Rattle.jh_check.specs.declared.verdict.Verdict.{Verdict}
+use Rattle.jh_linear.specs.Calls.{AreRegOps, IsLeastBad}
+use Rattle.jh_linear.specs.Verdict.{IsJudged}
+use Rattle.jh_linear.specs.declared.register.RegOp.{RegOp}
+use Rattle.jh_linear.specs.declared.verdict.LinVerdict.{LinVerdict}
+use Rattle.jh_linear.specs.declared.verdict.LinVerdict.TheVariants.{Valid, Invalid, Unknown}
+use Rattle.jh_checkers.specs.Explanations.{IsExplained, stuck_point}
+use Rattle.jh_checkers.specs.declared.checker.Checker.{Checker}
+use Rattle.jh_checkers.specs.declared.explanation.Explanation.{Explanation}
+use Rattle.jh_checkers.specs.declared.finding.Finding.{Finding}
+use Rattle.jh_checkers.specs.declared.finding.Finding.TheVariants.{Set, Counter, Ids, Register}
+use Rattle.jh_checkers.specs.declared.finding.Judging.{Judging}
+
+-- ---- what is found
+
+-- the operations of a register in a history
+abbrev pub AreRegisterOps : List Operation → List RegOp → Type 0
+AreRegisterOps history ops = IsWellFormed history × AreRegOps history (history_pairs history) ops
+
+-- Of a register: what the judge promises, of which more than one may be right, and the explanation
+-- that is asked for.
+abbrev pub IsRegister : Judging → List Operation → LinVerdict → Option Explanation → Type 0
+IsRegister judging history judged explanation =
+    (ops : List RegOp) × AreRegisterOps history ops
+    × IsJudged ops judging.initial judging.budget judged
+    × IsExplained judging.explain history ops judged explanation
+
+-- what this checker finds
+abbrev pub IsFindingBy : Checker → Judging → List Operation → Finding → Type 0
+IsFindingBy Checker.Set judging history (Set found) =
+    IsJudgeable history × (found ≡ set_result history)
+IsFindingBy Checker.Counter judging history (Counter found) =
+    IsCountable history × (found ≡ counter_result history)
+IsFindingBy Checker.Ids judging history (Ids found) = found ≡ ids_result history
+IsFindingBy Checker.Register judging history (Register judged explanation) =
+    IsRegister judging history judged explanation
+IsFindingBy checker judging history finding = ⊥
+
+abbrev pub IsFinding : Judging → List Operation → Finding → Type 0
+IsFinding judging history finding = IsFindingBy judging.checker judging history finding
+
+-- ---- verdicts
+
+abbrev pub verdict_of_register : LinVerdict → Verdict
+verdict_of_register (Valid order) = Verdict.True
+verdict_of_register (Invalid stuck) = Verdict.False
+verdict_of_register (Unknown reached) = Verdict.Unknown
+
+-- what a finding says of its history
+abbrev pub finding_verdict : Finding → Verdict
+finding_verdict (Set found) = found.verdict
+finding_verdict (Counter found) = found.verdict
+finding_verdict (Ids found) = found.verdict
+finding_verdict (Register judged explanation) = verdict_of_register judged
+
+-- what of a finding no choice of an order changes: of a register that is stuck, and where that is
+-- asked for, the completion and what is pending there
+abbrev pub stuck_point_of : Finding → Option (Operation × List ℕ)
+stuck_point_of (Register judged explanation) = stuck_point explanation
+stuck_point_of finding = None
+
+-- ---- refusals
+
+-- A history of a register is refused for its pairs, then for the bad value at the least place. Out
+-- of memory has a name of its own.
+abbrev pub RefusesRegister : List Operation → CheckError → Type 0
+RefusesRegister history (Pair error) =
+    (error_of_pairing error ≡ Pair error) × RefusesPairing history error
+RefusesRegister history (BadValue place) =
+    IsWellFormed history × IsLeastBad history (history_pairs history) (Some place)
+RefusesRegister history (NegativeAdd place) = ⊥
+RefusesRegister history OutOfMemory = Unit {0}
+
+-- why a checker judges no history
+abbrev pub RefusesChecking : Checker → List Operation → CheckError → Type 0
+RefusesChecking Checker.Set history error = RefusesSet history error
+RefusesChecking Checker.Counter history error = RefusesCounter history error
+RefusesChecking Checker.Ids history error = error ≡ OutOfMemory
+RefusesChecking Checker.Register history error = RefusesRegister history error

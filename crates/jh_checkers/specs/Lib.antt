@@ -1,0 +1,5 @@
+pub mod Checkers
+pub mod Findings
+pub mod Explanations
+pub mod Lines
+pub mod RegisterInside

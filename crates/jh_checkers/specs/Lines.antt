@@ -1,0 +1,56 @@
+-- The line of what is found in a history, without its line feed (this project's own; the keys are
+-- those of jepsen.checker): the printed text of a map.
+use Rattle.std.specs.Prelude.{ℕ, ℤ, pos, List, [], ◌∷◌, map, codes, Option, Some, None}
+use Rattle.jh_edn.specs.Edn.{Edn, nil, int, keyword}
+use Rattle.jh_edn.specs.Parts.{vector_of}
+use Rattle.jh_edn.specs.Print.{print}
+use Rattle.jh_ops.specs.Operation.{operation}
+use Rattle.jh_ops.specs.OperationWritten.{value_written}
+use Rattle.jh_check.specs.Lines.{counter_value, ids_value, map_with_verdict, set_value}
+use Rattle.jh_checkers.specs.Findings.{verdict_of_register}
+use Rattle.jh_checkers.specs.declared.explanation.Explanation.{Explanation}
+use Rattle.jh_checkers.specs.declared.finding.Finding.{Finding}
+use Rattle.jh_checkers.specs.declared.finding.Finding.TheVariants.{Set, Counter, Ids, Register}
+use Rattle.jh_linear.specs.declared.verdict.LinVerdict.{LinVerdict}
+use Rattle.jh_linear.specs.declared.verdict.LinVerdict.TheVariants.{Valid, Invalid}
+use Rattle.jh_linear.specs.declared.verdict.Stuck.{Stuck}
+
+-- places among the pairs, as a vector
+abbrev pub order_value : List ℕ → Edn
+order_value order = vector_of (map (λ place. int (pos place)) order)
+
+-- what a register holds
+abbrev pub held_value : Option ℤ → Edn
+held_value None = nil
+held_value (Some number) = int number
+
+-- where a history is stuck: at a completion, written as operations are; behind an order, which
+-- leads to a value; and what is pending there
+abbrev pub stuck_pairs : Stuck → Explanation → List (Edn × Edn)
+stuck_pairs stuck explanation =
+    (keyword (codes "stuck"), value_written (operation explanation.completion))
+    ∷ (keyword (codes "order"), order_value stuck.order)
+    ∷ (keyword (codes "value"), held_value stuck.value)
+    ∷ (keyword (codes "pending"), order_value explanation.pending.items) ∷ []
+
+-- A yes has its order behind the verdict. A no has its explanation there, if it has one.
+abbrev pub others_of : LinVerdict → Option Explanation → List (Edn × Edn)
+others_of (Valid order) explanation = (keyword (codes "order"), order_value order) ∷ []
+others_of (Invalid stuck) (Some explanation) = stuck_pairs stuck explanation
+others_of _ _ = []
+
+abbrev pub register_value : LinVerdict → Option Explanation → Edn
+register_value judged explanation =
+    map_with_verdict (verdict_of_register judged) (others_of judged explanation)
+
+-- ---- all
+
+-- what is found, as a map
+abbrev pub finding_value : Finding → Edn
+finding_value (Set found) = set_value found
+finding_value (Counter found) = counter_value found
+finding_value (Ids found) = ids_value found
+finding_value (Register judged explanation) = register_value judged explanation
+
+abbrev pub finding_line : Finding → List ℕ
+finding_line finding = print (finding_value finding)

@@ -1,0 +1,98 @@
+//! Why a history of a register is not valid, beside the verdict. `specs/Explanations.antt` has the
+//! rule.
+
+ghost use Rattle.std.specs.Prelude.{◌≡◌, ◌<◌, IfOk, length};
+ghost use Rattle.jh_ops.specs.Operation.{operations};
+ghost use Rattle.jh_linear.specs.Stuck.{op_end};
+ghost use Rattle.jh_linear.specs.declared.verdict.LinVerdict.TheVariants.{Invalid};
+ghost use Rattle.jh_linear.specs.declared.verdict.Stuck.{Stuck};
+ghost use Rattle.jh_checkers.specs.Explanations as rule;
+ghost use Rattle.jh_checkers.specs.Explanations.{Explains, IsExplained};
+
+use jh_linear::{LinVerdict, Outcome, RegOp};
+use jh_ops::Op;
+use std::alloc::{AllocError, Global};
+
+/// What stands beside the verdict on a history of a register that is not valid, where it is asked
+/// for.
+#[derive(Debug, Drop)]
+pub struct Explanation {
+    /// The completion at which the history is stuck, as the history has it.
+    pub completion: Op,
+    /// The numbers of the operations that are pending there: invoked before it, with no `:ok` and
+    /// no `:fail` before it. They ascend, and mean the places among the pairs, as in orders.
+    pub pending: Vec<usize>,
+}
+
+/// Where an operation ended; one with no such place ends after all others.
+fn end_of(call: RegOp) -> usize
+    ensures { result ≡ op_end call }
+{
+    call.ended.unwrap_or(usize::MAX)
+}
+
+/// Whether an operation has its `:ok` or its `:fail` before this place of the history.
+fn is_over(end: usize, call: RegOp) -> bool
+    ensures { result ≡ rule.is_over end call }
+{
+    match call.outcome {
+        Outcome::Done | Outcome::Failed => end_of(call) < end,
+        Outcome::Unsure => false,
+    }
+}
+
+/// Whether an operation was invoked before this place of the history, and is not over there.
+fn is_pending(end: usize, call: RegOp) -> bool
+    ensures { result ≡ rule.is_pending end call }
+{
+    call.invoked < end && !is_over(end, call)
+}
+
+/// The numbers of the operations that are pending at this place of the history.
+fn pending_at(alloc: Global, calls: &[RegOp], end: usize) -> Result<Vec<usize>, AllocError>
+    ensures { IfOk result (λ pending. pending.items ≡ rule.numbers_pending calls.now end) }
+{
+    calls
+        .iter()
+        .enumerate()
+        .filter(|(_, call)| is_pending(end, **call))
+        .map(|(number, _)| number)
+        .collect(alloc)
+}
+
+/// The explanation of a history that is stuck at this place.
+fn explanation_at(
+    alloc: Global,
+    history: &[Op],
+    calls: &[RegOp],
+    end: usize,
+) -> Result<Explanation, AllocError>
+    requires { end < length history.now }
+    ensures { IfOk result (Explains (operations history.now) calls.now end) }
+{
+    Ok(Explanation {
+        completion: history[end].copy(alloc)?,
+        pending: pending_at(alloc, calls, end)?,
+    })
+}
+
+/// The explanation that stands beside a verdict, where one is asked for or not.
+///
+/// Takes time linear in the operations, and copies one of them.
+pub(crate) fn explained(
+    alloc: Global,
+    explain: bool,
+    history: &[Op],
+    calls: &[RegOp],
+    judged: &LinVerdict,
+) -> Result<Option<Explanation>, AllocError>
+    requires { (stuck : Stuck) → judged.now ≡ Invalid stuck → stuck.end < length history.now }
+    ensures { IfOk result (IsExplained explain (operations history.now) calls.now judged.now) }
+{
+    match judged {
+        LinVerdict::Invalid(stuck) if explain => {
+            Ok(Some(explanation_at(alloc, history, calls, stuck.end)?))
+        }
+        _ => Ok(None),
+    }
+}

@@ -1,0 +1,19 @@
+//! What the checker of a workload finds in one history: a table with a row for each checker.
+//!
+//! `specs/Checkers.antt` has the checkers with their names, `specs/Findings.antt` what each finds and
+//! why it judges no history, `specs/Lines.antt` the line of what is found. A new checker is a case of
+//! `Checker` and of `Finding`, and a line in each definition and each `match` over them.
+#![tactic(auto)]
+
+mod checker;
+mod explanation;
+mod finding;
+mod laws;
+mod lines;
+mod register;
+
+pub use checker::Checker;
+pub use explanation::Explanation;
+pub use finding::{Finding, Judging, check_history};
+pub use laws::findings_agree;
+pub use lines::write_finding;

@@ -1,0 +1,133 @@
+//! The one line of what is found in a history. `specs/Lines.antt` has the rule.
+
+ghost use Rattle.std.specs.Prelude.{◌≡◌, [], ◌∷◌, IfErr, OnOk, codes};
+ghost use Rattle.std.specs.Io.KnownBytes.{Appends};
+ghost use Rattle.jh_edn.specs.Edn.{keyword};
+ghost use Rattle.jh_edn.specs.Parts.{behind_pair_text};
+ghost use Rattle.jh_edn.specs.Print.{print};
+ghost use Rattle.jh_check.specs.Lines.{map_with_verdict};
+ghost use Rattle.jh_checkers.specs.Lines as rule;
+ghost use Rattle.jh_checkers.specs.Lines.{finding_line, order_value, others_of, register_value};
+ghost use Rattle.jh_checkers.specs.Lines.{stuck_pairs};
+
+use crate::explanation::Explanation;
+use crate::finding::Finding;
+use jh_check::{Verdict, write_counter, write_ids, write_set, write_verdict};
+use jh_edn::{EdnError, put, write_part};
+use jh_linear::{LinVerdict, Order, Stuck};
+use jh_ops::write_operation;
+use std::io::Write;
+
+/// Writes what a register holds, behind other pairs.
+fn write_held<W: Write>(held: Option<i64>, writer: &mut W) -> Result<(), EdnError>
+    ensures bytes { OnOk result (Appends (W.contents writer.old) (W.contents writer.new)
+        (behind_pair_text (codes "value") (rule.held_value held))) }
+    ensures error { IfErr result (λ e. e ≡ EdnError.Write) }
+{
+    match held {
+        Some(number) => write!(writer, ", :value {number}").map_err(|_| EdnError::Write),
+        None => put(b", :value nil", writer),
+    }
+}
+
+/// Writes the line of a register that has an order.
+fn write_valid<W: Write>(order: &Order, writer: &mut W) -> Result<(), EdnError>
+    ensures bytes { OnOk result (Appends (W.contents writer.old) (W.contents writer.new)
+        (print (map_with_verdict Verdict.True
+        ((keyword (codes "order"), order_value order.now) ∷ [])))) }
+    ensures error { IfErr result (λ e. e ≡ EdnError.Write) }
+{
+    write_verdict(Verdict::True, writer)?;
+    write_part("order", order.as_slice(), writer)?;
+    put(b"}", writer)
+}
+
+/// Writes the line of a register that has no order, with its explanation.
+fn write_stuck<W: Write>(
+    stuck: &Stuck,
+    explanation: &Explanation,
+    writer: &mut W,
+) -> Result<(), EdnError>
+    ensures bytes { OnOk result (Appends (W.contents writer.old) (W.contents writer.new)
+        (print (map_with_verdict Verdict.False (stuck_pairs stuck.now explanation.now)))) }
+    ensures error { IfErr result (λ e. e ≡ EdnError.Write) }
+{
+    write_verdict(Verdict::False, writer)?;
+    put(b", :stuck ", writer)?;
+    write_operation(&explanation.completion, writer)?;
+    write_part("order", stuck.order.as_slice(), writer)?;
+    write_held(stuck.value, writer)?;
+    write_part("pending", explanation.pending.as_slice(), writer)?;
+    put(b"}", writer)
+}
+
+/// Writes a verdict alone.
+fn write_alone<W: Write>(verdict: Verdict, writer: &mut W) -> Result<(), EdnError>
+    ensures bytes { OnOk result
+        (Appends (W.contents writer.old) (W.contents writer.new)
+        (print (map_with_verdict verdict []))) }
+    ensures error { IfErr result (λ e. e ≡ EdnError.Write) }
+{
+    write_verdict(verdict, writer)?;
+    put(b"}", writer)
+}
+
+/// Writes the line of a register that has no order.
+fn write_invalid<W: Write>(
+    stuck: &Stuck,
+    explanation: &Option<Explanation>,
+    writer: &mut W,
+) -> Result<(), EdnError>
+    ensures bytes { OnOk result (Appends (W.contents writer.old) (W.contents writer.new)
+        (print (map_with_verdict Verdict.False
+        (others_of (LinVerdict.Invalid stuck.now) explanation.now)))) }
+    ensures error { IfErr result (λ e. e ≡ EdnError.Write) }
+{
+    match explanation {
+        Some(explanation) => write_stuck(stuck, explanation, writer),
+        None => write_alone(Verdict::False, writer),
+    }
+}
+
+/// Writes the line of a register.
+fn write_register<W: Write>(
+    judged: &LinVerdict,
+    explanation: &Option<Explanation>,
+    writer: &mut W,
+) -> Result<(), EdnError>
+    ensures bytes { OnOk result (Appends (W.contents writer.old) (W.contents writer.new)
+        (print (register_value judged.now explanation.now))) }
+    ensures error { IfErr result (λ e. e ≡ EdnError.Write) }
+{
+    match judged {
+        LinVerdict::Valid(order) => write_valid(order, writer),
+        LinVerdict::Invalid(stuck) => write_invalid(stuck, explanation, writer),
+        LinVerdict::Unknown(_) => write_alone(Verdict::Unknown, writer),
+    }
+}
+
+/// Writes the one line of a finding, without a line feed. That of a set, a counter and unique ids
+/// is `jh_check`'s; that of a register is `{:valid? true, :order [..]}`, `{:valid? :unknown}` or
+/// `{:valid? false}`, which goes on where it is explained:
+/// `{:valid? false, :stuck {..}, :order [..], :value V, :pending [..]}`, with the completion at
+/// which it is stuck, an order of what is before it, the value that this leads to, and what is
+/// pending there.
+///
+/// Takes no memory. The writer may have taken a part of the line where it failed.
+///
+/// Errors: `Write` where the writer failed, and no other.
+pub fn write_finding<W: Write>(finding: &Finding, writer: &mut W) -> Result<(), EdnError>
+    ensures bytes { OnOk result
+        (Appends (W.contents writer.old) (W.contents writer.new) (finding_line finding.now)) }
+    ensures error { IfErr result (λ e. e ≡ EdnError.Write) }
+{
+    match finding {
+        Finding::Set(found) => write_set(found, writer),
+        Finding::Counter(found) => write_counter(found, writer),
+        Finding::Ids(found) => write_ids(found, writer),
+        Finding::Register {
+            judged,
+            explanation,
+        } => write_register(judged, explanation, writer),
+    }
+}

@@ -1,7 +1,0 @@
-use Rattle.std.proofs.Common.{◌≡◌, map, take, pos}
-use Rattle.jh_edn.specs.Edn.{int}
-use Rattle.jh_edn.specs.View.{views}
-use Rattle.jh_cli.proofs.env_command.active_ids.Given as goal
-
-abbrev pub invariant-loop-place : goal.invariant-loop-place
-invariant-loop-place l = views l.ids.items ≡ map (λ fault. int (pos fault.0)) (take l.place l.nemesis.state.active)

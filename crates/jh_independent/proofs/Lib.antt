@@ -1,0 +1,7 @@
+pub mod SameKeyLemmas
+pub mod SplitLemmas
+pub mod KeyHistoryLemmas
+pub mod FoundLemmas
+pub mod HistoryLemmas
+pub mod LawLemmas
+pub mod SharingLemmas

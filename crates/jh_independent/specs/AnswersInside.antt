@@ -1,0 +1,49 @@
+-- What the keys that threads share are answered: proofs rest on it, and no public clause names it.
+-- This project's own.
+use Rattle.std.specs.Prelude.{◌≡◌, ℕ, false, List, [], length, slice_get, Option, Some, None}
+use Rattle.std.specs.Prelude.{Result, Ok, Err}
+use Rattle.jh_edn.specs.Edn.{Edn}
+use Rattle.jh_ops.specs.Operation.{Operation}
+use Rattle.jh_tasks.specs.Answers.{AreTaskAnswers}
+use Rattle.jh_independent.specs.Keys.{history_keys}
+use Rattle.jh_independent.specs.SplitInside.{groups_of, view_groups}
+use Rattle.jh_independent.specs.declared.split.KeyPlaces.{KeyPlaces}
+use Rattle.jh_independent.specs.Refusals.{KeysQuestion, IsFindingOf, RefusesKey, keys_question}
+use Rattle.jh_independent.specs.declared.error.KeysError.{KeysError}
+use Rattle.jh_checkers.specs.declared.checker.Checker.{Checker}
+use Rattle.jh_checkers.specs.declared.finding.Judging.{Judging}
+use Rattle.jh_checkers.specs.declared.finding.Finding.{Finding}
+
+-- what no call asks
+abbrev pub no_question : KeysQuestion
+no_question =
+    record {
+      history = [];
+      judging =
+          record { checker = Checker.Set; initial = None; budget = 0; explain = false };
+    }
+
+-- how many keys are to be judged
+abbrev pub keys_count : KeysQuestion → ℕ
+keys_count asked = length (history_keys asked.history)
+
+-- a key was judged so
+abbrev pub IsAnswer : KeysQuestion → Edn → Result Finding KeysError → Type 0
+IsAnswer asked key (Ok found) = IsFindingOf asked key found
+IsAnswer asked key (Err error) = RefusesKey asked key error
+
+-- the key of this place, if there is one, was judged so
+abbrev pub IsAnswerAt : KeysQuestion → ℕ → Result Finding KeysError → Type 0
+IsAnswerAt asked place answer =
+    (key : Edn) → slice_get (history_keys asked.history) place ≡ Some key
+    → IsAnswer asked key answer
+
+-- a place for the answer of each key, and what was answered
+abbrev pub AreAnswers : KeysQuestion → List (Option (Result Finding KeysError)) → Type 0
+AreAnswers asked answers = AreTaskAnswers (keys_count asked) (IsAnswerAt asked) answers
+
+-- the question, and the places of the keys in the history that is asked about
+pub record AreKeysAsked (asked : KeysQuestion) (judging : Judging) (history : List Operation)
+    (groups : List KeyPlaces) : Type 0 where
+  pub question_is : keys_question judging history ≡ asked
+  pub groups_are : view_groups groups ≡ groups_of history

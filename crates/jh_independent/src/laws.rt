@@ -1,0 +1,31 @@
+//! Laws of the definitions, the clauses of a function that does nothing else than to cite those of
+//! one history.
+
+ghost use Rattle.std.specs.Prelude.{◌≡◌, ◌≢◌, List};
+ghost use Rattle.jh_edn.specs.Edn.{Edn};
+ghost use Rattle.jh_check.specs.declared.verdict.Verdict.TheVariants as verdict;
+ghost use Rattle.jh_checkers.specs.Findings.{stuck_point_of, finding_verdict};
+ghost use Rattle.jh_checkers.specs.declared.checker.Checker.TheVariants as checker;
+ghost use Rattle.jh_checkers.specs.declared.finding.Finding.{Finding};
+ghost use Rattle.jh_independent.specs.Lines.{keys_line};
+ghost use Rattle.jh_independent.specs.Refusals.{KeysQuestion, AreFindings, IsFindingOf};
+ghost use Rattle.jh_independent.specs.declared.serial.KeyFinding.{KeyFinding};
+
+use jh_checkers::findings_agree;
+
+/// Whatever judges the keys of a history, and on however many threads: for a set, a counter and
+/// unique ids the line is the same, and no key of a register is valid once and not valid another
+/// time. One that is not valid is stuck at one completion, where the same operations are pending.
+pub fn key_findings_agree()
+    ensures line { (asked : KeysQuestion) (a b : List KeyFinding)
+        → asked.judging.checker ≢ checker.Register → AreFindings asked a → AreFindings asked b
+        → keys_line a ≡ keys_line b }
+    ensures verdict { (asked : KeysQuestion) (key : Edn) (a b : Finding) → IsFindingOf asked key a
+        → IsFindingOf asked key b → finding_verdict a ≡ verdict.True → finding_verdict b ≡ verdict.False
+        → ⊥ }
+    ensures stuck { (asked : KeysQuestion) (key : Edn) (a b : Finding) → IsFindingOf asked key a
+        → IsFindingOf asked key b → finding_verdict a ≡ verdict.False → finding_verdict b ≡ verdict.False
+        → stuck_point_of a ≡ stuck_point_of b }
+{
+    findings_agree()
+}

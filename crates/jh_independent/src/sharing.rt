@@ -1,0 +1,174 @@
+//! What threads may share and send: the operations of a history, its keys, and what is found of
+//! each.
+//!
+//! Each type is shown after those that it is made of, since the prover looks no deeper than it
+//! must.
+
+ghost use Rattle.std.specs.Thread.{IsSend, IsSync};
+ghost use Rattle.jh_check.specs.contracts.counter.CounterResult as counter;
+ghost use Rattle.jh_check.specs.contracts.ids.Duplicates as duplicates;
+ghost use Rattle.jh_check.specs.contracts.ids.IdsResult as ids;
+ghost use Rattle.jh_check.specs.contracts.set.SetFound as found;
+ghost use Rattle.jh_check.specs.contracts.set.SetResult as set;
+ghost use Rattle.jh_edn.specs.contracts.text.Text as text;
+ghost use Rattle.jh_edn.specs.contracts.value.Pairs as pairs;
+ghost use Rattle.jh_edn.specs.contracts.value.Value as value;
+ghost use Rattle.jh_edn.specs.contracts.value.Values as values;
+ghost use Rattle.jh_checkers.specs.contracts.explanation.Explanation as explanation;
+ghost use Rattle.jh_independent.specs.contracts.split.KeyPlaces as places;
+ghost use Rattle.jh_checkers.specs.contracts.finding.Finding as finding;
+ghost use Rattle.jh_linear.specs.contracts.verdict.LinVerdict as verdict;
+ghost use Rattle.jh_ops.specs.contracts.operation.Op as op;
+
+use crate::split::KeyPlaces;
+use jh_check::{CounterResult, Duplicates, IdsResult, SetFound, SetResult};
+use jh_checkers::Explanation;
+use jh_edn::{Pairs, Text, Value, Values};
+use jh_linear::LinVerdict;
+use jh_ops::Op;
+
+/// Tells the prover that values of a type can be sent to threads.
+fn can_be_sent<T: Send>()
+    ensures { IsSend T.row }
+{}
+
+/// The same of values that threads can share.
+fn can_be_shared<T: Sync>()
+    ensures { IsSync T.row }
+{}
+
+/// Texts can be sent.
+fn texts_can_be_sent()
+    ensures { IsSend text.the_row }
+{
+    can_be_sent::<Text>()
+}
+
+/// Values can be sent.
+fn values_can_be_sent()
+    ensures { IsSend value.the_row }
+{
+    texts_can_be_sent();
+    can_be_sent::<Value>()
+}
+
+/// Lists of values can be sent.
+fn lists_can_be_sent()
+    ensures { IsSend values.the_row }
+{
+    texts_can_be_sent();
+    values_can_be_sent();
+    can_be_sent::<Values>()
+}
+
+/// Lists of pairs can be sent.
+fn pairs_can_be_sent()
+    ensures { IsSend pairs.the_row }
+{
+    texts_can_be_sent();
+    values_can_be_sent();
+    can_be_sent::<Pairs>()
+}
+
+/// Operations can be sent.
+fn operations_can_be_sent()
+    ensures { IsSend op.the_row }
+{
+    values_can_be_sent();
+    pairs_can_be_sent();
+    can_be_sent::<Op>()
+}
+
+/// What is found of a set.
+fn sets_can_be_sent()
+    ensures found { IsSend found.the_row }
+    ensures result { IsSend set.the_row }
+{
+    lists_can_be_sent();
+    can_be_sent::<SetFound>();
+    can_be_sent::<SetResult>()
+}
+
+/// What is found of unique ids.
+fn ids_can_be_sent()
+    ensures duplicates { IsSend duplicates.the_row }
+    ensures result { IsSend ids.the_row }
+{
+    values_can_be_sent();
+    can_be_sent::<Duplicates>();
+    can_be_sent::<IdsResult>()
+}
+
+/// What is found of a counter.
+fn counters_can_be_sent()
+    ensures { IsSend counter.the_row }
+{
+    can_be_sent::<CounterResult>()
+}
+
+/// What the judge of a register answers.
+fn verdicts_can_be_sent()
+    ensures { IsSend verdict.the_row }
+{
+    can_be_sent::<LinVerdict>()
+}
+
+/// Explanations can be sent.
+fn explanations_can_be_sent()
+    ensures { IsSend explanation.the_row }
+{
+    operations_can_be_sent();
+    can_be_sent::<Explanation>()
+}
+
+/// Findings can be sent.
+pub(crate) fn findings_can_be_sent()
+    ensures { IsSend finding.the_row }
+{
+    sets_can_be_sent();
+    counters_can_be_sent();
+    ids_can_be_sent();
+    verdicts_can_be_sent();
+    explanations_can_be_sent();
+}
+
+/// Texts can be shared.
+fn texts_can_be_shared()
+    ensures { IsSync text.the_row }
+{
+    can_be_shared::<Text>()
+}
+
+/// Values can be shared.
+fn values_can_be_shared()
+    ensures { IsSync value.the_row }
+{
+    texts_can_be_shared();
+    can_be_shared::<Value>()
+}
+
+/// Lists of pairs can be shared.
+fn pairs_can_be_shared()
+    ensures { IsSync pairs.the_row }
+{
+    texts_can_be_shared();
+    values_can_be_shared();
+    can_be_shared::<Pairs>()
+}
+
+/// Operations can be shared.
+pub(crate) fn operations_can_be_shared()
+    ensures { IsSync op.the_row }
+{
+    values_can_be_shared();
+    pairs_can_be_shared();
+    can_be_shared::<Op>()
+}
+
+/// Keys with their places can be shared.
+pub(crate) fn places_can_be_shared()
+    ensures { IsSync places.the_row }
+{
+    values_can_be_shared();
+    can_be_shared::<KeyPlaces>()
+}

@@ -1,0 +1,35 @@
+-- What the history of a run is judged by, and what comes of the serial run of a plan (this project's
+-- own).
+use Rattle.std.specs.Prelude.{◌≡◌, ℕ, false, List}
+use Rattle.jh_ops.specs.Operation.{Operation}
+use Rattle.jh_check.specs.declared.verdict.Verdict.{Verdict}
+use Rattle.jh_checkers.specs.Checkers.{checker_of}
+use Rattle.jh_checkers.specs.Findings.{IsFinding, finding_verdict}
+use Rattle.jh_checkers.specs.declared.finding.Finding.{Finding}
+use Rattle.jh_checkers.specs.declared.finding.Judging.{Judging}
+use Rattle.jh_simnode.specs.Plans.{PlanValue}
+use Rattle.jh_simnode.specs.Runs.{IsSerialRun}
+use Rattle.jh_simnode.specs.declared.events.Event.{Event}
+
+-- by the checker of the plan's workload, from what a register holds at first; a no is not explained
+abbrev pub run_judging : PlanValue → ℕ → Judging
+run_judging p budget =
+    record {
+      checker = checker_of p.settings.workload;
+      initial = p.settings.initial;
+      budget = budget;
+      explain = false;
+    }
+
+-- The serial run of the plan has this journal and this history, in which, by a judge of this
+-- budget, this is found.
+pub record IsJudgedRun (p : PlanValue) (budget : ℕ) (journal : List Event)
+    (history : List Operation) (finding : Finding) : Type 0 where
+  pub run : IsSerialRun p journal history
+  pub found : IsFinding (run_judging p budget) history finding
+
+-- this is the verdict on the serial run of the plan, by a judge of this budget
+abbrev pub IsRunVerdict : PlanValue → ℕ → Verdict → Type 0
+IsRunVerdict p budget verdict =
+    (journal : List Event) × (history : List Operation) × (finding : Finding)
+    × IsJudgedRun p budget journal history finding × (verdict ≡ finding_verdict finding)

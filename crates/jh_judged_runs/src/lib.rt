@@ -1,0 +1,9 @@
+//! Serial runs of a plan, each judged by the checker of the plan's workload. `specs/JudgedRuns.antt`
+//! has the rule. `run`, `search` and `shrink` judge runs by it, and by nothing else.
+#![tactic(auto)]
+
+mod judged;
+mod judging;
+
+pub use judged::{JudgedRun, judge_run};
+pub use judging::run_judging;

@@ -1,9 +1,0 @@
-pub mod SameKeyLemmas
-pub mod SplitLemmas
-pub mod KeyHistoryLemmas
-pub mod FoundLemmas
-pub mod HistoryLemmas
-pub mod LawLemmas
-pub mod OperationLemmas
-pub mod StuckLemmas
-pub mod SharingLemmas

@@ -1,4 +1,0 @@
-use Rattle.jh_keys.proofs.lines.write_invalid.Goals as goal
-
-pub returns-in-Some-clause-bytes : goal.returns-in-Some-clause-bytes
-returns-in-Some-clause-bytes g c = rw c.in-Some.is c.write_stuck.ensures.bytes

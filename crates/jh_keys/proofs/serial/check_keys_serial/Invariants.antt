@@ -1,8 +1,0 @@
-use Rattle.jh_ops.specs.Operation.{operations}
-use Rattle.jh_keys.specs.FoundInside.{IsFoundSoFar}
-use Rattle.jh_keys.specs.Refusals.{keys_question}
-use Rattle.jh_keys.proofs.serial.check_keys_serial.Given as goal
-
-abbrev pub invariant-loop-group : goal.invariant-loop-group
-invariant-loop-group l =
-    IsFoundSoFar (keys_question l.fn.judging (operations l.fn.history)) l.found.items l.group-iterator.rest.items
