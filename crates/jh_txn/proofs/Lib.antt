@@ -1,0 +1,15 @@
+pub mod ListLemmas
+pub mod TransactionLemmas
+pub mod SerialOrderLemmas
+pub mod SnapshotOrderLemmas
+pub mod SnapshotReadLemmas
+pub mod ExplainedLemmas
+pub mod KeepingLemmas
+pub mod NextDependencyLemmas
+pub mod SnapshotKeepingLemmas
+pub mod ToldWriterLemmas
+pub mod OrderCheckLemmas
+pub mod PhaseLemmas
+pub mod StartLemmas
+pub mod SnapshotTimeLemmas
+pub mod WriterLemmas

@@ -1,0 +1,13 @@
+pub mod Transactions
+pub mod RealTime
+pub mod SerialOrders
+pub mod SnapshotOrders
+pub mod Models
+pub mod BadReads
+pub mod Dependencies
+pub mod Cycles
+pub mod Keeping
+pub mod Next
+pub mod Laws
+pub mod OrderCheckInside
+pub mod SnapshotCheckInside

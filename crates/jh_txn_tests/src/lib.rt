@@ -1,0 +1,12 @@
+//! Tests of `jh_txn`, through its public calls alone: what no clause says. A row of `rows` is
+//! transactions with an order, and what is said of it.
+//!
+//! Each test passes, too, where one allocation is refused: what answers so is asked again.
+#![tactic(auto)]
+
+#[cfg(test)]
+mod first;
+#[cfg(test)]
+mod orders;
+#[cfg(test)]
+mod rows;
