@@ -3,6 +3,9 @@
 
 -- the order of values, and of what is not above one another
 pub use Rattle.jh_edn.proofs.OrderLemmas.{edn_total, below_order}
+-- values that rank equal are equal, and equal values have one fingerprint
+pub use Rattle.jh_edn.proofs.TiedLemmas.{tied_equal}
+pub use Rattle.jh_edn.proofs.FingerprintLemmas.{same_fingerprint}
 -- a stable sort gives the list in order, also by a key
 pub use Rattle.jh_edn.proofs.SortLemmas.{sorted_is, map_in_order, in_order_ascends, in_order_is}
 pub use Rattle.jh_edn.proofs.NormalListLemmas.{held_below, sorted_items}

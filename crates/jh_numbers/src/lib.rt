@@ -1,0 +1,9 @@
+//! Numbers for values: those that are equal as EDN says have one.
+#![tactic(auto)]
+
+mod laws;
+mod numbers;
+mod owned;
+
+pub use laws::number_laws;
+pub use numbers::Numbers;
