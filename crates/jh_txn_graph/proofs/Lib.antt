@@ -1,0 +1,2 @@
+pub mod WalkLemmas
+pub mod HubLemmas

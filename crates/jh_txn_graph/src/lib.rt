@@ -1,0 +1,8 @@
+//! Graphs of transactions: an order that keeps each step, or a cycle.
+#![tactic(auto)]
+
+mod graph;
+mod hubs;
+mod walk;
+
+pub use graph::{OrderOrCycle, order_or_cycle};
