@@ -1,0 +1,9 @@
+pub mod PointLemmas
+pub mod ChainLemmas
+pub mod NextPointLemmas
+pub mod NextReasonLemmas
+pub mod SaidByReadsLemmas
+pub mod ReadPointLemmas
+pub mod UntoldLemmas
+pub mod OverlapLemmas
+pub mod PointCycleLemmas
