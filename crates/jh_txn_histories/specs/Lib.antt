@@ -1,0 +1,4 @@
+pub mod Written
+pub mod Histories
+pub mod ReadingInside
+pub mod RefusalInside

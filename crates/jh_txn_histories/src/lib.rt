@@ -1,0 +1,14 @@
+//! The transactions of a history of the workload list-append, with numbers in place of keys and elements, or why the history
+//! is refused.
+#![tactic(auto)]
+
+mod asked;
+mod histories;
+mod least;
+mod numbered;
+mod repeats;
+mod tables;
+mod written;
+
+pub use histories::{TxnError, transactions};
+pub use numbered::Transactions;
