@@ -1,0 +1,5 @@
+pub mod StepLemmas
+pub mod ReadStepLemmas
+pub mod MiddleStepLemmas
+pub mod MomentLemmas
+pub mod GraphLemmas

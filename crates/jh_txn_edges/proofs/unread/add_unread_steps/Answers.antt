@@ -1,0 +1,26 @@
+use Rattle.std.proofs.Common.{inl, inr, None, sym, ◌∙◌, arith}
+use Rattle.std.proofs.lemmas.Bool.{cases_lt}
+use Rattle.std.proofs.lemmas.List.{get_or_past}
+use Rattle.std.proofs.lemmas.Option.{none-some}
+use Rattle.jh_txn_edges.specs.MiddleSteps.{IsAnyUnreadStep, IsUnreadStep}
+use Rattle.jh_txn_edges.proofs.StepLemmas.{StepsBelow, adds_if, adds_more, adds_none_below}
+use Rattle.jh_txn_edges.proofs.unread.add_unread_steps.Goals as goal
+
+pub add_unread_step-requires-clause-writers : goal.add_unread_step-requires-clause-writers
+add_unread_step-requires-clause-writers c = λ element writer is. omega (arith, c.requires.writers element writer is, c.loop-element.auto.graph)
+
+pub loop-element-init : goal.loop-element-init
+loop-element-init c = adds_none_below (IsUnreadStep c.args.writers.now c.args.there.now c.args.marks.now c.args.middles.now) c.args.graph.now
+
+pub loop-element-preserved : goal.loop-element-preserved
+loop-element-preserved c = adds_more (IsUnreadStep c.args.writers.now c.args.there.now c.args.marks.now c.args.middles.now) c.loop-element.element c.args.graph.now c.loop-element.graph c.add_unread_step.new.graph c.loop-element.invariant c.in_ok-add_unread_step.ensures
+
+pub returns : goal.returns
+returns c =
+    let i = c.loop-element.element in
+    adds_if (StepsBelow (IsUnreadStep c.args.writers.now c.args.there.now c.args.marks.now c.args.middles.now) i) (IsAnyUnreadStep c.args.writers.now c.args.there.now c.args.marks.now c.args.middles.now) c.args.graph.now c.loop-element.graph
+    (λ p w t h. (h.0, h.2))
+    (λ p w t h. elim (cases_lt h.0 i) as (λ _. StepsBelow (IsUnreadStep c.args.writers.now c.args.there.now c.args.marks.now c.args.middles.now) i p w t) [
+      | inl lt ↦ (h.0, lt, h.1)
+      | inr ge ↦ absurd (none-some h.1.0 (sym (get_or_past c.args.writers.now h.0 None (omega (arith, ge, c.loop-element-test.false))) ∙ h.1.2))
+    ]) c.loop-element.invariant

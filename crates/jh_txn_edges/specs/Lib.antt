@@ -1,0 +1,5 @@
+pub mod Steps
+pub mod MiddleSteps
+pub mod Moments
+pub mod Graph
+pub mod Inside

@@ -1,0 +1,7 @@
+pub mod DependLemmas
+pub mod PathLemmas
+pub mod FilterLemmas
+pub mod ChosenLemmas
+pub mod WholeLemmas
+pub mod ForkLemmas
+pub mod JudgeLemmas

@@ -1,0 +1,5 @@
+pub mod ReadLemmas
+pub mod MarkLemmas
+pub mod MiddleLemmas
+pub mod PlaceLemmas
+pub mod KnownLemmas

@@ -1,0 +1,5 @@
+pub mod Reads
+pub mod Marks
+pub mod Middles
+pub mod Places
+pub mod Inside
