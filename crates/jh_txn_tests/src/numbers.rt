@@ -36,7 +36,10 @@ fn owned_twice(alloc: Global) -> Option<(usize, bool)> {
     numbers.number(alloc, 0, &Value::Int(7)).ok()?;
     let second = numbers.number(alloc, 1, &Value::Int(7)).ok()?;
     let value = numbers.value(second)?.as_integer();
-    Some((numbers.len(), value == Some(7) && numbers.value(2).is_none()))
+    Some((
+        numbers.len(),
+        value == Some(7) && numbers.value(2).is_none(),
+    ))
 }
 
 #[test]
