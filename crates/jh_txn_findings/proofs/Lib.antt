@@ -1,0 +1,4 @@
+pub mod ListLemmas
+pub mod NeighbourLemmas
+pub mod TextLemmas
+pub mod OperationLemmas
