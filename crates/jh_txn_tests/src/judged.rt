@@ -1,18 +1,17 @@
-//! Histories of transactions, read and judged.
+//! Histories of transactions, read and judged, with the line of what is found.
 //!
-//! A row is `OPERATIONS | MODEL => ANSWER`. Operations are separated by `; `, each `TYPE PROCESS VALUE`, with `i` for an
-//! invocation. The model is `timely` where real time has to be kept, else `free`. The answer is `valid` with the places of an
-//! order, `bad` with the place, the index and the kind of a bad read, `cycle` with the steps of one from its least place on, each
-//! a place and a reason, or the refusal.
+//! A row is `OPERATIONS | ASK => LINE`. Operations are separated by `; `, each `TYPE PROCESS VALUE`, with `i` for an
+//! invocation. ASK is `timely` where real time has to be kept, `free` where it need not, and `explained` where the operations
+//! are shown too. LINE is the line or the refusal; a cycle may begin with any of its steps, so there may be several, with ` or ` between.
 
 ghost use Rattle.std.specs.Prelude.{length, All};
 ghost use Rattle.jh_ops.specs.Pairing.{IsPairWithin};
 
 use jh_histories::history_in;
 use jh_ops::{Op, Pair, pair};
-use jh_txn::{Step, Why};
-use jh_txn_histories::{TxnError, transactions};
-use jh_txn_judge::{SerialVerdict, judge_serial};
+use jh_txn_check::find_serial;
+use jh_txn_findings::{TxnFinding, write_txn_finding};
+use jh_txn_histories::TxnError;
 use std::alloc::Global;
 use std::io::Write;
 use std::test::Fail;
@@ -35,57 +34,6 @@ fn text_of(alloc: Global, operations: &str) -> Option<Vec<u8>> {
     Some(text)
 }
 
-/// The name of a reason.
-fn name_of(why: Why) -> &'static str {
-    match why {
-        Why::WriteRead { .. } => "wr",
-        Why::WriteWrite { .. } => "ww",
-        Why::FirstCommitter { .. } => "fcw",
-        Why::ReadWrite { .. } => "rw",
-        Why::RealTime => "rt",
-    }
-}
-
-/// Steps of a cycle. None: memory was refused.
-fn write_steps(steps: &[Step], text: &mut Vec<u8>) -> Option<()> {
-    for step in steps {
-        write!(text, " {} {}", step.place, name_of(step.why)).ok()?;
-    }
-    Some(())
-}
-
-/// A cycle, from its least place on. None: memory was refused.
-fn write_cycle(steps: &[Step], text: &mut Vec<u8>) -> Option<()> {
-    let least = steps.iter().map(|step| step.place).min()?;
-    let first = steps.iter().position(|step| step.place == least)?;
-    let (front, back) = steps.split_at(first);
-    write!(text, "cycle").ok()?;
-    write_steps(back, text)?;
-    write_steps(front, text)
-}
-
-/// The places of an order. None: memory was refused.
-fn write_order(order: &[usize], text: &mut Vec<u8>) -> Option<()> {
-    write!(text, "valid").ok()?;
-    for place in order {
-        write!(text, " {place}").ok()?;
-    }
-    Some(())
-}
-
-/// What a verdict says. None: memory was refused.
-fn write_verdict(alloc: Global, verdict: &SerialVerdict) -> Option<Vec<u8>> {
-    let mut text = Vec::new(alloc);
-    match verdict {
-        SerialVerdict::Valid(order) => write_order(order, &mut text)?,
-        SerialVerdict::BadRead(at) => {
-            write!(&mut text, "bad {} {} {:?}", at.place, at.index, at.kind).ok()?;
-        }
-        SerialVerdict::Cycle(steps) => write_cycle(steps, &mut text)?,
-    }
-    Some(text)
-}
-
 /// A refusal. None: memory was refused.
 fn write_refusal(alloc: Global, error: TxnError) -> Option<Vec<u8>> {
     let mut text = Vec::new(alloc);
@@ -96,50 +44,51 @@ fn write_refusal(alloc: Global, error: TxnError) -> Option<Vec<u8>> {
     Some(text)
 }
 
+/// The line of a finding. None: memory was refused.
+fn write_line(alloc: Global, finding: &TxnFinding) -> Option<Vec<u8>> {
+    let mut text = Vec::new(alloc);
+    write_txn_finding(finding, &mut text).ok()?;
+    Some(text)
+}
+
 /// What is said of a history by its pairs. None: memory was refused.
-fn answer_by(alloc: Global, history: &[Op], pairs: &[Pair], real_time: bool) -> Option<Vec<u8>>
+fn answer_by(alloc: Global, history: &[Op], pairs: &[Pair], ask: &str) -> Option<Vec<u8>>
     requires { All (IsPairWithin (length history.now)) pairs.now }
 {
-    match transactions(alloc, history, pairs) {
+    match find_serial(alloc, history, pairs, ask == "timely", ask == "explained") {
         Err(error) => write_refusal(alloc, error),
-        Ok(read) => {
-            let keys = read.keys.len();
-            let verdict = judge_serial(
-                alloc,
-                &read.txns,
-                keys,
-                read.elements.len(),
-                real_time,
-            ).ok()?;
-            write_verdict(alloc, &verdict)
-        }
+        Ok(finding) => write_line(alloc, &finding),
     }
 }
 
 /// What is said of operations. None: memory was refused.
-fn answer_to(alloc: Global, operations: &str, real_time: bool) -> Option<Vec<u8>> {
+fn answer_to(alloc: Global, operations: &str, ask: &str) -> Option<Vec<u8>> {
     let text = text_of(alloc, operations)?;
     let history = history_in(alloc, str::from_utf8(&text).ok()?).ok()?;
     let pairs = pair(alloc, &history).ok()?;
-    answer_by(alloc, &history, &pairs, real_time)
+    answer_by(alloc, &history, &pairs, ask)
 }
 
 /// Whether that is said of a row, asked once more where memory was refused.
-fn is_answered(alloc: Global, operations: &str, model: &str, expected: &str) -> bool {
-    let real_time = model == "timely";
-    let found = match answer_to(alloc, operations, real_time) {
-        None => answer_to(alloc, operations, real_time),
+fn is_answered(alloc: Global, operations: &str, ask: &str, expected: &str) -> bool {
+    let found = match answer_to(alloc, operations, ask) {
+        None => answer_to(alloc, operations, ask),
         found => found,
     };
-    found.is_some_and(|found| found.as_slice() == expected.as_bytes())
+    let Some(found) = found else {
+        return false;
+    };
+    expected
+        .split(" or ")
+        .any(|line| line.as_bytes() == found.as_slice())
 }
 
 /// Judges each row. One with another answer is the failure.
 fn judge_all(alloc: Global, rows: &str) -> Result<(), Fail> {
     for row in rows.trim().lines() {
         let (given, expected) = row.split_once(" => ").ok_or("no answer")?;
-        let (operations, model) = given.split_once(" | ").ok_or("no model")?;
-        if !is_answered(alloc, operations.trim(), model, expected) {
+        let (operations, ask) = given.split_once(" | ").ok_or("nothing asked")?;
+        if !is_answered(alloc, operations.trim(), ask, expected) {
             return Err(Fail::new(row));
         }
     }
@@ -149,32 +98,32 @@ fn judge_all(alloc: Global, rows: &str) -> Result<(), Fail> {
 #[test]
 fn finds_orders(rt: HostRuntime) -> Result<(), Fail> {
     let rows = "
-        i 0 [[:append 1 1]]; ok 0 [[:append 1 1]]; i 0 [[:r 1 nil]]; ok 0 [[:r 1 [1]]] | timely => valid 0 1
-        i 0 [[:append 1 1]]; ok 0 [[:append 1 1]]; i 0 [[:r 1 nil]]; ok 0 [[:r 1 nil]] | free => valid 1 0
-        i 0 [[:append 1 1]]; info 0 nil; i 1 [[:r 1 9]]; ok 1 ([:r 1 (1)]); i 1 [[:r 1 nil]]; ok 1 [[:r 1 []]] | free => valid 2 0 1
-        i 0 [[:append [1] #{1 2}]]; ok 0 [[:append (1) #{2 1}]]; i 0 [[:r (1) nil]]; ok 0 [[:r [1] [#{2 1}]]] | timely => valid 0 1
-        i 0 [] | timely => valid";
+        i 0 [[:append 1 1]]; ok 0 [[:append 1 1]]; i 0 [[:r 1 nil]]; ok 0 [[:r 1 [1]]] | timely => {:valid? true, :order [0 1]}
+        i 0 [[:append 1 1]]; ok 0 [[:append 1 1]]; i 0 [[:r 1 nil]]; ok 0 [[:r 1 nil]] | free => {:valid? true, :order [1 0]}
+        i 0 [[:append 1 1]]; info 0 nil; i 1 [[:r 1 9]]; ok 1 ([:r 1 (1)]); i 1 [[:r 1 nil]]; ok 1 [[:r 1 []]] | free => {:valid? true, :order [2 0 1]}
+        i 0 [[:append [1] #{1 2}]]; ok 0 [[:append (1) #{2 1}]]; i 0 [[:r (1) nil]]; ok 0 [[:r [1] [#{2 1}]]] | timely => {:valid? true, :order [0 1]}
+        i 0 [] | timely => {:valid? true, :order []}";
     judge_all(rt.alloc(), rows)
 }
 
 #[test]
 fn finds_cycles(rt: HostRuntime) -> Result<(), Fail> {
     let rows = "
-        i 0 [[:append 1 1]]; ok 0 [[:append 1 1]]; i 0 [[:r 1 nil]]; ok 0 [[:r 1 nil]] | timely => cycle 0 rt 1 rw
-        i 0 [[:append 1 1]]; info 0 nil; i 1 [[:r 1 nil]]; ok 1 [[:r 1 [1]]]; i 1 [[:r 1 nil]]; ok 1 [[:r 1 []]] | timely => cycle 0 wr 1 rt 2 rw
-        i 0 [[:r 1 nil] [:append 2 1]]; i 1 [[:r 2 nil] [:append 1 1]]; ok 0 [[:r 1 nil] [:append 2 1]]; ok 1 [[:r 2 nil] [:append 1 1]] | free => cycle 0 rw 1 rw
-        i 0 [[:r 1 nil] [:append 1 1]]; i 1 [[:r 1 nil] [:append 1 2]]; ok 0 [[:r 1 nil] [:append 1 1]]; ok 1 [[:r 1 nil] [:append 1 2]] | free => cycle 0 rw 1 rw";
+        i 0 [[:append 1 1]]; ok 0 [[:append 1 1]]; i 0 [[:r 1 nil]]; ok 0 [[:r 1 nil]] | timely => {:valid? false, :anomaly :G-single-realtime, :cycle [[1 :rw 1 1] [0 :rt]]} or {:valid? false, :anomaly :G-single-realtime, :cycle [[0 :rt] [1 :rw 1 1]]}
+        i 0 [[:r 1 nil] [:append 2 1]]; i 1 [[:r 2 nil] [:append 1 1]]; ok 0 [[:r 1 nil] [:append 2 1]]; ok 1 [[:r 2 nil] [:append 1 1]] | free => {:valid? false, :anomaly :G2-item, :cycle [[0 :rw 1 1] [1 :rw 2 1]]} or {:valid? false, :anomaly :G2-item, :cycle [[1 :rw 2 1] [0 :rw 1 1]]}
+        i 0 [[:r 1 nil] [:append 1 1]]; i 1 [[:r 1 nil] [:append 1 2]]; ok 0 [[:r 1 nil] [:append 1 1]]; ok 1 [[:r 1 nil] [:append 1 2]] | free => {:valid? false, :anomaly :G2-item, :cycle [[0 :rw 1 2] [1 :rw 1 1]]} or {:valid? false, :anomaly :G2-item, :cycle [[1 :rw 1 1] [0 :rw 1 2]]}";
     judge_all(rt.alloc(), rows)
 }
 
 #[test]
 fn finds_bad_reads(rt: HostRuntime) -> Result<(), Fail> {
     let rows = "
-        i 0 [[:append 1 1]]; fail 0 nil; i 0 [[:r 1 nil]]; ok 0 [[:r 1 [1]]] | free => bad 1 0 AbortedRead
-        i 0 [[:append 1 1] [:append 1 2]]; ok 0 [[:append 1 1] [:append 1 2]]; i 0 [[:r 1 nil]]; ok 0 [[:r 1 [1]]] | free => bad 1 0 IntermediateRead
-        i 0 [[:append 1 1] [:append 1 2]]; ok 0 [[:append 1 1] [:append 1 2]]; i 0 [[:r 1 nil]]; ok 0 [[:r 1 [2 1]]] | free => bad 1 0 OutOfOrder
-        i 0 [[:append 1 1] [:r 1 nil]]; ok 0 [[:append 1 1] [:r 1 nil]] | free => bad 0 1 Internal
-        i 0 [[:r 1 nil]]; ok 0 [[:r 1 [7]]] | free => bad 0 0 GarbageRead";
+        i 0 [[:append 1 1]]; fail 0 nil; i 0 [[:r 1 nil]]; ok 0 [[:r 1 [1]]] | free => {:valid? false, :anomaly :G1a, :place 1, :op 0}
+        i 0 [[:append 1 1]]; fail 0 nil; i 0 [[:r 1 nil]]; ok 0 [[:r 1 [1]]] | explained => {:valid? false, :anomaly :G1a, :place 1, :op 0, :operations [{:type :ok, :process 0, :f :txn, :value [[:r 1 [1]]]}]}
+        i 0 [[:append 1 1] [:append 1 2]]; ok 0 [[:append 1 1] [:append 1 2]]; i 0 [[:r 1 nil]]; ok 0 [[:r 1 [1]]] | free => {:valid? false, :anomaly :G1b, :place 1, :op 0}
+        i 0 [[:append 1 1] [:append 1 2]]; ok 0 [[:append 1 1] [:append 1 2]]; i 0 [[:r 1 nil]]; ok 0 [[:r 1 [2 1]]] | free => {:valid? false, :anomaly :out-of-order, :place 1, :op 0}
+        i 0 [[:append 1 1] [:r 1 nil]]; ok 0 [[:append 1 1] [:r 1 nil]] | timely => {:valid? false, :anomaly :internal, :place 0, :op 1}
+        i 0 [[:r 1 nil]]; ok 0 [[:r 1 [7]]] | free => {:valid? false, :anomaly :garbage-read, :place 0, :op 0}";
     judge_all(rt.alloc(), rows)
 }
 
