@@ -205,7 +205,7 @@ module _ (txns : List Txn) (elements : ℕ) (writers : List (Option Writer)) (re
       ]
     ]
 
-    path_sound : (hubs : List ℕ) (node : ℕ) (why : Why) (target place : ℕ) → target < length txns → Stands node place → IsPath graph (length txns) node hubs why target → IsDependency txns model why place target
+    pub path_sound : (hubs : List ℕ) (node : ℕ) (why : Why) (target place : ℕ) → target < length txns → Stands node place → IsPath graph (length txns) node hubs why target → IsDependency txns model why place target
     path_sound [] node why target place low stands path = (step_sound node why target place path stands).0 low
     path_sound (hub ∷ hubs) node why target place low stands path = path_sound hubs hub why target place low ((step_sound node path.0 hub place path.1 stands).1 path.2) path.3
 

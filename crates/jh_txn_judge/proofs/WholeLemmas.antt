@@ -37,16 +37,16 @@ use Rattle.jh_txn_writers.specs.Numbers.{AreNumbersOf}
 use Rattle.jh_txn_writers.specs.Writers.{AreWriters}
 use Rattle.jh_txn_writers.specs.declared.writer.Writer.{Writer}
 
-get_at : (xs ys : List ℕ) (y : ℕ) → slice_get (xs ++ y ∷ ys) (length xs) ≡ Some y
+pub get_at : (xs ys : List ℕ) (y : ℕ) → slice_get (xs ++ y ∷ ys) (length xs) ≡ Some y
 get_at [] ys y = refl
 get_at (x ∷ xs) ys y = get_at xs ys y
 
 -- the last one of those of which all something holds
-last_of_all : (P : ℕ → Type 0) (x : ℕ) (xs : List ℕ) → AllByRecursion P (x ∷ xs) → (front : List ℕ) × (last : ℕ) × (x ∷ xs ≡ front ++ last ∷ []) × P last
+pub last_of_all : (P : ℕ → Type 0) (x : ℕ) (xs : List ℕ) → AllByRecursion P (x ∷ xs) → (front : List ℕ) × (last : ℕ) × (x ∷ xs ≡ front ++ last ∷ []) × P last
 last_of_all P x [] all = ([], x, refl, all.0)
 last_of_all P x (y ∷ ys) all = let r = last_of_all P y ys all.1 in (x ∷ r.0, r.1, ap (λ zs. x ∷ zs) r.2, r.3)
 
-some_and : (o : Option ℕ) (index : ℕ) → IsSomeAnd o (λ completed. completed < index) → (c : ℕ) × (o ≡ Some c) × (c < index)
+pub some_and : (o : Option ℕ) (index : ℕ) → IsSomeAnd o (λ completed. completed < index) → (c : ℕ) × (o ≡ Some c) × (c < index)
 some_and None index h = absurd h
 some_and (Some c) index h = (c, refl, h)
 

@@ -1,0 +1,3 @@
+pub mod PointStepLemmas
+pub mod SoundLemmas
+pub mod WholeLemmas

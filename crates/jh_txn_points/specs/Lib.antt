@@ -1,0 +1,5 @@
+pub mod Points
+pub mod PointSteps
+pub mod PointGraph
+pub mod Inside
+pub mod Laws
