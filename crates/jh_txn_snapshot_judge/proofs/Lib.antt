@@ -1,0 +1,4 @@
+pub mod UntoldEntryLemmas
+pub mod NodeLemmas
+pub mod VerdictLemmas
+pub mod JudgeLemmas
