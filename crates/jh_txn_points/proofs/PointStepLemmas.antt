@@ -1,5 +1,5 @@
 -- How the steps of points add up.
-use Rattle.std.proofs.Common.{◌≡◌, ℕ, ◌+◌, ◌<◌, ◌≤◌, Bool, Option, Some, None, List, [], length, get_or, sym, ap, subst, ◌∙◌, inl, inr, arith, refl}
+use Rattle.std.proofs.Common.{◌≡◌, ℕ, ◌+◌, ◌<◌, ◌≤◌, Bool, Option, Some, None, List, [], length, sym, ap, subst, ◌∙◌, inl, inr, arith, refl}
 use Rattle.std.specs.Prelude.{◌≢◌, ◌⊎◌, ◌↔◌, Vec, slice_get, slice_index_or, unwrap_or, option_map}
 use Rattle.std.specs.declared.alloc.Global.{Global}
 use Rattle.std.proofs.lemmas.Option.{none-some, same_Some, slice_get_within}

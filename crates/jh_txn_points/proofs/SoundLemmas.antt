@@ -1,9 +1,8 @@
 -- That the paths of the graph of points are dependencies, and how its nodes are numbered.
-use Rattle.std.proofs.Common.{◌≡◌, ℕ, ◌+◌, ◌<◌, ◌≤◌, Bool, true, false, cond, eqb, eq-eqb, Option, Some, None, List, [], ◌∷◌, ◌++◌, length, refl, sym, ap, subst, ◌∙◌, inl, inr, arith}
-use Rattle.std.specs.Prelude.{◌⊎◌, ◌≢◌, Vec, slice_get}
+use Rattle.std.proofs.Common.{◌≡◌, ℕ, ◌+◌, ◌<◌, ◌≤◌, Bool, true, false, cond, eq-eqb, Option, Some, List, [], ◌∷◌, length, refl, sym, ap, subst, ◌∙◌, inl, inr, arith}
+use Rattle.std.specs.Prelude.{◌⊎◌, ◌≢◌, Vec}
 use Rattle.std.specs.declared.alloc.Global.{Global}
-use Rattle.std.proofs.lemmas.Bool.{cases_Bool, cases_eq, cases_lt, ne_eqb}
-use Rattle.std.proofs.lemmas.Option.{slice_get_within}
+use Rattle.std.proofs.lemmas.Bool.{cases_Bool, cases_eq, ne_eqb}
 use Rattle.jh_txn.specs.declared.dependency.Step.{Step}
 use Rattle.jh_txn.specs.declared.dependency.Why.{Why}
 use Rattle.jh_txn.specs.declared.dependency.Why.TheVariants.{FirstCommitter, ReadWrite, RealTime, WriteRead, WriteWrite}
@@ -11,7 +10,7 @@ use Rattle.jh_txn.specs.declared.model.ConsistencyModel.{ConsistencyModel}
 use Rattle.jh_txn.specs.declared.model.ConsistencyModel.TheVariants.{Serializable}
 use Rattle.jh_txn.specs.declared.txn.Txn.{Txn}
 use Rattle.jh_txn.specs.BadReads.{HasNoBadRead}
-use Rattle.jh_txn.specs.Dependencies.{IsDependency, MustBeThere, ReadsWithout}
+use Rattle.jh_txn.specs.Dependencies.{IsDependency, MustBeThere}
 use Rattle.jh_txn.specs.Keeping.{leaves_at, arrives_at}
 use Rattle.jh_txn.specs.Models.{is_of_snapshots, keeps_real_time}
 use Rattle.jh_txn.specs.RealTime.{CompleteAfterInvocation}
@@ -19,18 +18,17 @@ use Rattle.jh_txn.specs.Transactions.{Appends, Saw, includes}
 use Rattle.jh_txn.proofs.ListLemmas.{includes_head, includes_right}
 use Rattle.jh_txn.proofs.OrderCheckLemmas.{done_below}
 use Rattle.jh_txn_edges.proofs.GraphLemmas.{middle_low}
-use Rattle.jh_txn_graph.specs.Graphs.{AreHubsUpwards, HasPath, HasStep, IsClosed, IsPath, IsStepTo}
+use Rattle.jh_txn_graph.specs.Graphs.{AreHubsUpwards, HasPath, HasStep, IsClosed, IsPath}
 use Rattle.jh_txn_judge.proofs.DependLemmas.{along_depends, read_depends, without_depends}
 use Rattle.jh_txn_judge.proofs.PathLemmas.{closed, path_sound, upwards}
 use Rattle.jh_txn_points.specs.Laws.{IsStepOfNodes}
 use Rattle.jh_txn_points.specs.PointGraph.{IsPointGraphOf}
-use Rattle.jh_txn_points.specs.PointSteps.{IsAnyHubStep, IsAnyUnreadPointStep, IsBehindStep, IsCommitStep, IsFirstCommitterStep, IsKeptStep, IsKeyHub, IsLastStep, last_why}
+use Rattle.jh_txn_points.specs.PointSteps.{IsAnyHubStep, IsBehindStep, IsCommitStep, IsFirstCommitterStep, IsKeptStep, IsKeyHub, last_why}
 use Rattle.jh_txn_points.specs.Points.{IsArriving, IsLeaving, node_of_point}
 use Rattle.jh_txn_seen.specs.Marks.{AreThereMarks, IsMarked}
 use Rattle.jh_txn_seen.specs.Middles.{IsFullRead}
 use Rattle.jh_txn_seen.specs.Reads.{AreDoneReads, AreLongestOf, IsAmongReads, longest_of, seen_by}
 use Rattle.jh_txn_seen.specs.declared.done_reads.DoneRead.{DoneRead}
-use Rattle.jh_txn_seen.specs.declared.middles.Middle.{Middle}
 use Rattle.jh_txn_seen.proofs.KnownLemmas.{appends_below, appends_of, key_below, must_below, must_of}
 use Rattle.jh_txn_seen.proofs.ReadLemmas.{read_key_below}
 use Rattle.jh_txn_writers.specs.Numbers.{AreNumbersOf}

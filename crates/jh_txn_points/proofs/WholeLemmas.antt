@@ -1,9 +1,9 @@
 -- That an order of the nodes which keeps the paths keeps the next dependencies.
-use Rattle.std.proofs.Common.{◌≡◌, ℕ, zero, suc, ◌+◌, ◌-◌, ◌<◌, ◌≤◌, Bool, true, false, cond, eqb, eq-eqb, Option, Some, None, List, [], ◌∷◌, ◌++◌, length, get_or, refl, sym, ap, subst, ◌∙◌, inl, inr, arith, append_assoc}
+use Rattle.std.proofs.Common.{◌≡◌, ℕ, zero, suc, ◌+◌, ◌-◌, ◌<◌, ◌≤◌, Bool, true, false, Option, Some, None, List, [], ◌∷◌, ◌++◌, length, get_or, refl, sym, ap, subst, ◌∙◌, inl, inr, arith, append_assoc}
 use Rattle.std.specs.Prelude.{◌⊎◌, ◌≢◌, Vec, slice_get, slice_index_or}
 use Rattle.std.specs.List.{AllByRecursion}
 use Rattle.std.specs.declared.alloc.Global.{Global}
-use Rattle.std.proofs.lemmas.Bool.{cases_Bool, cases_eq, cases_lt, false≢true, ne_eqb}
+use Rattle.std.proofs.lemmas.Bool.{cases_Bool, cases_eq, cases_lt, false≢true}
 use Rattle.std.proofs.lemmas.Option.{slice_get-get_or, slice_get_within}
 use Rattle.jh_txn.specs.declared.dependency.Step.{Step}
 use Rattle.jh_txn.specs.declared.dependency.Why.{Why}
@@ -32,8 +32,8 @@ use Rattle.jh_txn_seen.specs.Places.{writer_place}
 use Rattle.jh_txn_seen.specs.Reads.{AreDoneReads, AreLongestOf, longest_of, seen_by}
 use Rattle.jh_txn_seen.specs.declared.done_reads.DoneRead.{DoneRead}
 use Rattle.jh_txn_seen.specs.declared.middles.Middle.{Middle}
-use Rattle.jh_txn_seen.proofs.KnownLemmas.{appends_below, has_read, is_writer, key_below, longest_begins, longest_writer, marked_of, must_below, must_read}
-use Rattle.jh_txn_snapshots.specs.NextPoints.{EndsLongest, IsFirstLacked, IsLastSeen, IsNextDependency, IsNextReason, IsUnread, SawLongest}
+use Rattle.jh_txn_seen.proofs.KnownLemmas.{appends_below, has_read, is_writer, key_below, longest_begins, longest_writer, marked_of, must_below}
+use Rattle.jh_txn_snapshots.specs.NextPoints.{IsFirstLacked, IsNextDependency, SawLongest}
 use Rattle.jh_txn_writers.specs.Numbers.{AreNumbersOf}
 use Rattle.jh_txn_writers.specs.Writers.{AreWriters}
 use Rattle.jh_txn_writers.specs.declared.writer.Writer.{Writer}

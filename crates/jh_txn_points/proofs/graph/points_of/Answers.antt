@@ -1,8 +1,5 @@
-use Rattle.std.proofs.Common.{◌≡◌, ◌+◌, Some, List, length, sym, ap, subst, ◌∙◌, arith}
-use Rattle.std.specs.Prelude.{Vec}
+use Rattle.std.proofs.Common.{◌≡◌, length, sym, subst, ◌∙◌, arith}
 use Rattle.std.proofs.lemmas.List.{take_at}
-use Rattle.std.specs.declared.alloc.Global.{Global}
-use Rattle.jh_txn.specs.declared.dependency.Step.{Step}
 use Rattle.jh_txn.specs.declared.model.ConsistencyModel.TheVariants.{Serializable}
 use Rattle.jh_txn_edges.specs.Inside.{AddsSteps}
 use Rattle.jh_txn_graph.specs.Graphs.{IsClosed}

@@ -1,7 +1,6 @@
-use Rattle.std.proofs.Common.{◌≡◌, ◌<◌, Some, List, length, refl, sym, ap, subst, ◌∙◌, arith, inl, inr}
-use Rattle.std.specs.Prelude.{slice_get, unwrap_or, option_map}
+use Rattle.std.proofs.Common.{◌≡◌, ◌<◌, Some, length, refl, sym, ap, subst, ◌∙◌, arith}
+use Rattle.std.specs.Prelude.{slice_get}
 use Rattle.std.proofs.lemmas.Option.{slice_get_read}
-use Rattle.jh_txn.specs.declared.dependency.Step.{Step}
 use Rattle.jh_txn_graph.specs.Graphs.{IsStepTo, steps_to}
 use Rattle.jh_txn_edges.specs.Inside.{AddsSteps}
 use Rattle.jh_txn_edges.proofs.StepLemmas.{StepsBelow, adds_if, adds_more}

@@ -1,4 +1,4 @@
-use Rattle.std.proofs.Common.{◌≡◌, ◌+◌}
+use Rattle.std.proofs.Common.{◌+◌}
 use Rattle.jh_txn.specs.declared.dependency.Why.TheVariants.{RealTime}
 use Rattle.jh_txn_edges.specs.Inside.{AddsSteps, IsThis}
 use Rattle.jh_txn_edges.proofs.StepLemmas.{StepsBelow}
