@@ -53,6 +53,13 @@ impl Numbers {
         self.values.len()
     }
 
+    /// That no two of them are one: a law of each table, the clause of a call that does nothing.
+    pub fn are_apart(&self)
+        ensures { IsDistinct is_same_owned self.now }
+    {
+        let _count = self.values.len();
+    }
+
     /// The value that has a number, in normal form; none past the last number.
     pub fn value(&self, number: usize) -> Option<&Value>
         ensures { option_map (λ value. view value.now) result

@@ -5,11 +5,11 @@
 use Rattle.std.specs.Prelude.{◌≡◌, ℕ, ◌<◌, ◌≤◌, Bool, false, List, [], ◌∷◌, ◌++◌, codes}
 use Rattle.std.specs.Prelude.{if◌then◌else◌, slice_get, Option, Some, None, option_map}
 use Rattle.std.specs.Prelude.{option_and_then}
-use Rattle.std.specs.List.{AllZip, flat_map}
+use Rattle.std.specs.List.{AllZip, IsDistinct, flat_map}
 use Rattle.std.specs.Option.{option_map_or}
 use Rattle.jh_edn.specs.Edn.{Edn, is_keyword}
 use Rattle.jh_edn.specs.Normal.{normal}
-use Rattle.jh_numbers.specs.Numbers.{HasNumber}
+use Rattle.jh_numbers.specs.Numbers.{HasNumber, is_same_owned}
 use Rattle.jh_ops.specs.Operation.{Operation}
 use Rattle.jh_ops.specs.declared.operation.Kind.{Kind}
 use Rattle.jh_ops.specs.declared.pairs.Pair.{Pair}
@@ -130,10 +130,13 @@ pub record IsTxnOf (history : List Operation) (keys elements : List (ℕ × Edn)
   pub ops : (said : List Written) × (txn_said history pair ≡ Some said)
       × AllZip (IsNumbered keys elements) said txn.ops
 
--- One transaction for each pair, in order; and nothing is refused.
+-- One transaction for each pair, in order; keys and elements that are equal have one number; and
+-- nothing is refused.
 pub record AreTransactions (history : List Operation) (pairs : List Pair) (read : Transactions)
     : Type 0 where
   pub each : AllZip (IsTxnOf history read.keys read.elements) pairs read.txns.items
+  pub keys_apart : IsDistinct is_same_owned read.keys
+  pub elements_apart : IsDistinct is_same_owned read.elements
   pub good : (place : ℕ) → ¬ IsBadAt history pairs place
   pub once : (place : ℕ) → ¬ IsRepeatedAt history pairs place
 

@@ -24,6 +24,8 @@ returns-clause-read c =
     let none = not_refused c.in_ok-bad.bad c.in_ok-repeated.repeated (sym c.refusal.ensures ∙ c.in_default.is) in
     record {
       each = c.in_ok-txns.ensures;
+      keys_apart = c.are_apart.ensures;
+      elements_apart = c.are_apart-2.ensures;
       good = subst (IsLeastPlace (IsBadAt history pairs)) none.0 c.in_ok-bad.ensures;
       once = subst (IsLeastPlace (IsRepeatedAt history pairs)) none.1 c.in_ok-repeated.ensures;
     }
