@@ -1,3 +1,6 @@
 pub mod PointStepLemmas
 pub mod SoundLemmas
 pub mod WholeLemmas
+pub mod ForkStepLemmas
+pub mod PointListLemmas
+pub mod ForkLemmas

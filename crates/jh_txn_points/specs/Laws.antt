@@ -14,10 +14,11 @@ use Rattle.jh_txn.specs.Models.{is_of_snapshots, keeps_real_time}
 use Rattle.jh_txn.specs.RealTime.{CompleteAfterInvocation}
 use Rattle.jh_txn.specs.Transactions.{ComesBefore}
 use Rattle.jh_txn_graph.specs.Graphs.{AreHubsUpwards, HasPath, IsClosed, KeepsPaths}
+use Rattle.jh_txn_points.specs.ForkGraph.{IsForkGraphOf}
 use Rattle.jh_txn_points.specs.PointGraph.{IsPointGraphOf}
 use Rattle.jh_txn_points.specs.Points.{node_of_point}
 use Rattle.jh_txn_seen.specs.Marks.{AreThereMarks}
-use Rattle.jh_txn_seen.specs.Reads.{AreDoneReads, AreLongestOf, longest_of}
+use Rattle.jh_txn_seen.specs.Reads.{AreDoneReads, AreForked, AreLongestOf, longest_of}
 use Rattle.jh_txn_seen.specs.declared.done_reads.DoneRead.{DoneRead}
 use Rattle.jh_txn_snapshots.specs.NextPoints.{IsNextDependency}
 use Rattle.jh_txn_writers.specs.Numbers.{AreNumbersOf}
@@ -85,4 +86,41 @@ abbrev pub GraphsAreSearchable : Type 0
 GraphsAreSearchable =
     (txns : List Txn) (real_time : Bool) (longest : List (Option DoneRead))
     (graph : List (Vec Step Global)) → IsPointGraphOfGood txns real_time longest graph
+    → IsClosed graph × AreHubsUpwards graph (length txns + length txns)
+
+-- Numbered transactions of which no read is bad, the tables of them, two of their reads that fork, and
+-- the graph of what these say.
+pub record IsForkGraphOfGood (txns : List Txn) (graph : List (Vec Step Global)) : Type 0 where
+  pub keys : ℕ
+  pub elements : ℕ
+  pub writers : List (Option Writer)
+  pub reads : List DoneRead
+  pub there : List Bool
+  pub one : DoneRead
+  pub other : DoneRead
+  pub numbered : AreNumbersOf txns keys elements
+  pub good : HasNoBadRead txns
+  pub written : AreWriters txns elements writers
+  pub done : AreDoneReads txns reads
+  pub marked : AreThereMarks txns writers reads there
+  pub forked : AreForked reads one other
+  pub of_points : IsForkGraphOf (length txns) writers there one other graph
+
+-- The paths of that graph are dependencies for each model of snapshots, or from a start to its commit.
+abbrev pub ForkPathsAreDependencies : Type 0
+ForkPathsAreDependencies =
+    (txns : List Txn) (model : ConsistencyModel) (graph : List (Vec Step Global)) (from : ℕ)
+    (why : Why) (to : ℕ) → is_of_snapshots model ≡ true → IsForkGraphOfGood txns graph
+    → HasPath graph (length txns + length txns) from why to → IsStepOfNodes txns model from why to
+
+-- No order of the nodes keeps the paths of that graph.
+abbrev pub ForksHaveNoOrder : Type 0
+ForksHaveNoOrder =
+    (txns : List Txn) (graph : List (Vec Step Global)) (order : List ℕ)
+    → IsForkGraphOfGood txns graph → ¬ KeepsPaths graph (length txns + length txns) order
+
+-- That graph has no hubs, and can be searched.
+abbrev pub ForkGraphsAreSearchable : Type 0
+ForkGraphsAreSearchable =
+    (txns : List Txn) (graph : List (Vec Step Global)) → IsForkGraphOfGood txns graph
     → IsClosed graph × AreHubsUpwards graph (length txns + length txns)

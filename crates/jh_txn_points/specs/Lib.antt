@@ -1,5 +1,6 @@
 pub mod Points
 pub mod PointSteps
 pub mod PointGraph
+pub mod ForkGraph
 pub mod Inside
 pub mod Laws
