@@ -3,6 +3,8 @@
 
 mod graph;
 mod hubs;
+mod loops;
 mod walk;
 
 pub use graph::{OrderOrCycle, order_or_cycle};
+pub use loops::cycle_in;

@@ -12,8 +12,9 @@ ghost use Rattle.jh_txn_writers.specs.Numbers.{AreNumbersOf};
 ghost use Rattle.jh_txn_writers.specs.Writers.{AreWriters};
 
 use jh_txn::{Step, Txn};
+use jh_txn_cycles::order_or_short_cycle;
 use jh_txn_edges::{fork_graph, graph_of};
-use jh_txn_graph::{OrderOrCycle, order_or_cycle};
+use jh_txn_graph::OrderOrCycle;
 use jh_txn_reads::{BadReadAt, find_bad_read};
 use jh_txn_seen::{DoneRead, Longest, is_marked, longest_reads, marks_of, reads_of};
 use jh_txn_writers::{Writer, writers_of};
@@ -109,7 +110,7 @@ fn judge_longest(
     let graph = graph_of(
         alloc, txns, elements, writers, there, reads, longest, real_time,
     )?;
-    match order_or_cycle(alloc, &graph, txns.len())? {
+    match order_or_short_cycle(alloc, &graph, txns.len(), 0)? {
         OrderOrCycle::Order(order) => {
             let order = marked_of(alloc, there, &order)?;
             Ok(SerialVerdict::Valid(order))
@@ -139,7 +140,7 @@ fn fork_cycle(
     ensures { IfOk result (λ steps. (model : ConsistencyModel) → IsCycle txns.now model steps.items) }
 {
     let graph = fork_graph(alloc, txns.len(), writers, there, one, other)?;
-    match order_or_cycle(alloc, &graph, txns.len())? {
+    match order_or_short_cycle(alloc, &graph, txns.len(), 0)? {
         OrderOrCycle::Order(_) => unreachable!(),
         OrderOrCycle::Cycle(steps) => Ok(steps),
     }

@@ -27,8 +27,8 @@ fork_graph-requires-clause-others c = λ element h.
     let saw = c.requires.reads.right read c.requires.forked.second in
     omega (arith, element_below c.args.txns.now c.args.keys c.args.elements c.args.writers.now c.requires.numbered c.requires.writers read.place saw.0 read.key element read.seen.now saw.1 h, c.requires.writers.count)
 
-pub order_or_cycle-requires-clause-closed : goal.order_or_cycle-requires-clause-closed
-order_or_cycle-requires-clause-closed c =
+pub order_or_short_cycle-requires-clause-closed : goal.order_or_short_cycle-requires-clause-closed
+order_or_short_cycle-requires-clause-closed c =
     let txns = c.args.txns.now in
     let writers = c.args.writers.now in
     let reads = c.args.reads.now in
@@ -37,8 +37,8 @@ order_or_cycle-requires-clause-closed c =
     let sound = graph_sound txns c.args.keys c.args.elements writers reads there c.requires.numbered c.requires.writers c.requires.reads c.requires.there graph c.args.one.now c.args.other.now c.requires.forked.first c.requires.forked.second c.in_ok-graph.ensures.steps in
     subst IsClosed (sym c.deref.ensures.value) (fork_closed txns c.args.keys c.args.elements writers reads there c.requires.numbered c.requires.writers c.requires.reads c.requires.there graph sound Serializable c.in_ok-graph.ensures.count)
 
-pub order_or_cycle-requires-clause-upwards : goal.order_or_cycle-requires-clause-upwards
-order_or_cycle-requires-clause-upwards c =
+pub order_or_short_cycle-requires-clause-upwards : goal.order_or_short_cycle-requires-clause-upwards
+order_or_short_cycle-requires-clause-upwards c =
     let txns = c.args.txns.now in
     let writers = c.args.writers.now in
     let reads = c.args.reads.now in
@@ -51,7 +51,7 @@ pub unreachable-requires : goal.unreachable-requires
 unreachable-requires c =
     let txns = c.args.txns.now in
     let graph = c.in_ok-graph.graph.items in
-    let found = rw c.in-Order.is at c.in_ok-order_or_cycle.ensures in
+    let found = rw c.in-Order.is at c.in_ok-order_or_short_cycle.ensures in
     let kept : KeepsPaths graph (length txns) c.in-Order.field-0.items = subst (λ g. KeepsPaths g (length txns) c.in-Order.field-0.items) c.deref.ensures.value found in
     no_order txns c.args.keys c.args.elements c.args.writers.now c.args.reads.now c.args.there.now c.requires.numbered c.requires.writers c.requires.reads c.requires.there graph c.requires.good c.in-Order.field-0.items kept c.args.one.now c.args.other.now c.requires.forked
     (λ p w t h. (c.in_ok-graph.ensures.steps p w t).1 (inl h)) (λ p w t h. (c.in_ok-graph.ensures.steps p w t).1 (inr h))
@@ -64,6 +64,6 @@ returns c =
     let there = c.args.there.now in
     let graph = c.in_ok-graph.graph.items in
     let sound = graph_sound txns c.args.keys c.args.elements writers reads there c.requires.numbered c.requires.writers c.requires.reads c.requires.there graph c.args.one.now c.args.other.now c.requires.forked.first c.requires.forked.second c.in_ok-graph.ensures.steps in
-    let found = rw c.in-Cycle.is at c.in_ok-order_or_cycle.ensures in
+    let found = rw c.in-Cycle.is at c.in_ok-order_or_short_cycle.ensures in
     fork_cycle txns c.args.keys c.args.elements writers reads there c.requires.numbered c.requires.writers c.requires.reads c.requires.there graph sound c.in-Cycle.steps.items
     (subst (λ g. IsCycleOfPaths g (length txns) c.in-Cycle.steps.items) c.deref.ensures.value found)

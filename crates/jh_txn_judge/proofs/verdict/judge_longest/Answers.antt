@@ -19,16 +19,16 @@ graph_of-requires-clause-writer_keys c = writer_keys_below c.args.txns.now (leng
 pub graph_of-requires-clause-elements : goal.graph_of-requires-clause-elements
 graph_of-requires-clause-elements c = longest_below c.args.txns.now (length c.args.longest.now) c.args.elements c.args.writers.now c.requires.numbered c.requires.writers c.args.reads.now c.requires.reads c.args.longest.now c.requires.longest
 
-pub order_or_cycle-requires-clause-closed : goal.order_or_cycle-requires-clause-closed
-order_or_cycle-requires-clause-closed c =
+pub order_or_short_cycle-requires-clause-closed : goal.order_or_short_cycle-requires-clause-closed
+order_or_short_cycle-requires-clause-closed c =
     subst IsClosed (sym c.deref.ensures.value) (closed c.args.txns.now c.args.elements c.args.writers.now c.args.reads.now c.args.there.now c.args.longest.now c.args.real_time c.in_ok-graph.graph.items c.requires.numbered c.requires.writers c.requires.reads c.requires.there c.requires.longest c.requires.good c.requires.ends c.in_ok-graph.ensures Serializable)
 
-pub order_or_cycle-requires-clause-upwards : goal.order_or_cycle-requires-clause-upwards
-order_or_cycle-requires-clause-upwards c =
+pub order_or_short_cycle-requires-clause-upwards : goal.order_or_short_cycle-requires-clause-upwards
+order_or_short_cycle-requires-clause-upwards c =
     subst (λ g. AreHubsUpwards g (length c.args.txns.now)) (sym c.deref.ensures.value) (upwards c.args.txns.now c.args.elements c.args.writers.now c.args.reads.now c.args.there.now c.args.longest.now c.args.real_time c.in_ok-graph.graph.items c.requires.numbered c.requires.writers c.requires.reads c.requires.there c.requires.longest c.requires.good c.requires.ends c.in_ok-graph.ensures Serializable)
 
-pub order_or_cycle-requires-clause-count : goal.order_or_cycle-requires-clause-count
-order_or_cycle-requires-clause-count c = omega (arith, ap length c.deref.ensures.value, c.in_ok-graph.ensures.count)
+pub order_or_short_cycle-requires-clause-count : goal.order_or_short_cycle-requires-clause-count
+order_or_short_cycle-requires-clause-count c = omega (arith, ap length c.deref.ensures.value, c.in_ok-graph.ensures.count)
 
 pub returns-in-Order : goal.returns-in-Order
 returns-in-Order c =
