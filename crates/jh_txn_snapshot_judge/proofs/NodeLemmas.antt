@@ -38,15 +38,6 @@ pub at_node : (n : ℕ) (point : Point) → place_of_point point < n → point_a
 at_node n (Start p) low = start_at n p low
 at_node n (Commit p) low = commit_at n p
 
-pub start_low : (n p : ℕ) → point_at n p ≡ Start p → p < n
-start_low n p is = elim (cases_lt p n) as (λ _. p < n) [
-  | inl low ↦ low
-  | inr high ↦
-      let also : point_at n p ≡ Commit (p - n) = ap (λ b. cond b (Start p) (Commit (p - n))) (le-ltb p n high) in
-      let bad : Start p ≡ Commit (p - n) = sym is ∙ also in
-      absurd cc
-]
-
 module _ (n : ℕ) where
   pub has_map : (xs : List ℕ) (x : ℕ) → includes xs x ≡ true → HasPoint (map (point_at n) xs) (point_at n x)
   has_map [] x h = absurd (false≢true h)

@@ -1,17 +1,13 @@
--- That an order of the nodes gives a snapshot order, and a cycle of them a cycle of dependencies.
-use Rattle.std.proofs.Common.{◌≡◌, ℕ, ◌+◌, ◌<◌, Bool, true, false, cond, eq-eqb, Option, Some, None, List, [], ◌∷◌, filter, get_or, length, map, refl, sym, ap, subst, ◌∙◌, inl, inr, arith}
+-- That an order of the nodes gives a snapshot order.
+use Rattle.std.proofs.Common.{◌≡◌, ℕ, ◌+◌, Bool, true, false, Option, List, filter, get_or, length, map, sym, ap, subst, ◌∙◌, inl, inr}
 use Rattle.std.specs.Prelude.{Vec}
 use Rattle.std.specs.declared.alloc.Global.{Global}
-use Rattle.std.proofs.lemmas.Bool.{cases_eq, ne_eqb}
 use Rattle.jh_txn.specs.declared.dependency.Step.{Step}
-use Rattle.jh_txn.specs.declared.dependency.Why.{Why}
-use Rattle.jh_txn.specs.declared.dependency.Why.TheVariants.{FirstCommitter, ReadWrite, RealTime, WriteRead, WriteWrite}
 use Rattle.jh_txn.specs.declared.model.ConsistencyModel.{ConsistencyModel}
 use Rattle.jh_txn.specs.declared.txn.Point.{Point}
 use Rattle.jh_txn.specs.declared.txn.Point.TheVariants.{Start, Commit}
 use Rattle.jh_txn.specs.declared.txn.Txn.{Txn}
 use Rattle.jh_txn.specs.BadReads.{HasNoBadRead}
-use Rattle.jh_txn.specs.Cycles.{IsSnapshotCycle, first_place}
 use Rattle.jh_txn.specs.Dependencies.{MustBeThere}
 use Rattle.jh_txn.specs.Keeping.{leaves_at, arrives_at}
 use Rattle.jh_txn.specs.Models.{is_of_snapshots, keeps_real_time}
@@ -22,42 +18,29 @@ use Rattle.jh_txn.specs.Transactions.{ComesBefore}
 use Rattle.jh_txn.proofs.ListLemmas.{before_itself}
 use Rattle.jh_txn.proofs.SnapshotKeepingLemmas.{suffices}
 use Rattle.jh_txn.proofs.SnapshotOrderLemmas.{first_stands}
-use Rattle.jh_txn_graph.specs.Graphs.{HasPath, IsCycleOfPaths, KeepsPaths, LeadByPaths}
-use Rattle.jh_txn_judge.proofs.FilterLemmas.{before_filter, filter_before, includes_filter}
+use Rattle.jh_txn_graph.specs.Graphs.{KeepsPaths}
+use Rattle.jh_txn_judge.proofs.FilterLemmas.{before_filter, filter_before, filter_includes, includes_filter}
 use Rattle.jh_txn_points.specs.PointGraph.{IsPointGraphOf}
 use Rattle.jh_txn_points.specs.Points.{node_of_point}
-use Rattle.jh_txn_points.proofs.SoundLemmas.{sound}
 use Rattle.jh_txn_points.proofs.WholeLemmas.{keeps_next, paired}
 use Rattle.jh_txn_seen.specs.Marks.{AreThereMarks, IsMarked}
 use Rattle.jh_txn_seen.specs.Reads.{AreDoneReads, AreLongestOf, longest_of}
 use Rattle.jh_txn_seen.specs.declared.done_reads.DoneRead.{DoneRead}
 use Rattle.jh_txn_seen.proofs.KnownLemmas.{are_longest, marked_of, must_below, must_of}
-use Rattle.jh_txn_snapshot_judge.specs.Nodes.{point_at, point_steps, transaction_at, why_to}
-use Rattle.jh_txn_snapshot_judge.proofs.NodeLemmas.{at_node, before_map, commit_at, map_before, map_has, start_at}
+use Rattle.jh_txn_snapshot_judge.specs.Nodes.{point_at, transaction_at}
+use Rattle.jh_txn_snapshot_judge.specs.TurnsInside.{AreUntoldMarks, HasEachOnce, IsTurn, KeepsTurns, is_untold_writer, turn_of}
+use Rattle.jh_txn_snapshot_judge.specs.declared.turns.Turn.{Turn}
+use Rattle.jh_txn_snapshot_judge.proofs.CycleLemmas.{arriving_of, leaving_of}
+use Rattle.jh_txn_snapshot_judge.proofs.NodeLemmas.{at_node, before_map, map_before, map_has}
+use Rattle.jh_txn_snapshot_judge.proofs.TurnLemmas.{first_writer, second_writer, turn_differs, untold_of, writer_if}
 use Rattle.jh_txn_snapshots.specs.KeptPoints.{ArePointsOfAll, KeepsNextPoints}
-use Rattle.jh_txn_snapshots.specs.PointCycles.{IsPointCycle, IsPointStep, LeadToPoint, dependency_steps, first_point}
 use Rattle.jh_txn_snapshots.specs.Untold.{AreUntoldApart}
 use Rattle.jh_txn_snapshots.proofs.NextPointLemmas.{keeps_all}
 use Rattle.jh_txn_snapshots.proofs.NextReasonLemmas.{is_dependency}
-use Rattle.jh_txn_snapshots.proofs.PointCycleLemmas.{is_snapshot_cycle}
-use Rattle.jh_txn_snapshots.proofs.UntoldLemmas.{writers_apart}
+use Rattle.jh_txn_snapshots.proofs.UntoldLemmas.{in_turn_apart, writers_apart}
 use Rattle.jh_txn_writers.specs.Numbers.{AreNumbersOf}
-use Rattle.jh_txn_writers.specs.Writers.{AreWriters}
+use Rattle.jh_txn_writers.specs.Writers.{AreNeighbours, AreWriters}
 use Rattle.jh_txn_writers.specs.declared.writer.Writer.{Writer}
-
-leaving_of : (P : ℕ → Type 0) (why : Why) (p : ℕ) → P p → P (place_of_point (leaves_at why p))
-leaving_of P (WriteRead k e) p h = h
-leaving_of P (WriteWrite k e) p h = h
-leaving_of P (FirstCommitter k e) p h = h
-leaving_of P (ReadWrite k e) p h = h
-leaving_of P RealTime p h = h
-
-arriving_of : (P : ℕ → Type 0) (why : Why) (p : ℕ) → P p → P (place_of_point (arrives_at why p))
-arriving_of P (WriteRead k e) p h = h
-arriving_of P (WriteWrite k e) p h = h
-arriving_of P (FirstCommitter k e) p h = h
-arriving_of P (ReadWrite k e) p h = h
-arriving_of P RealTime p h = h
 
 -- the points of those nodes of which the transactions are marked
 abbrev pub chosen_points : ℕ → List Bool → List ℕ → List Point
@@ -104,6 +87,22 @@ module _ (txns : List Txn) (elements : ℕ) (writers : List (Option Writer)) (re
         earlier (leaves_at why first) (arrives_at why second) (leaving_of (MustBeThere txns) why first d.first_there) (arriving_of (MustBeThere txns) why second d.second_there)
         (keeps_next txns elements writers reads there longest real_time graph numbered table are marked longests good ends g nodes kept model asks why first second h)
 
+    -- in turns of a guess that these keep, untold writers do not overlap
+    pub turns_apart : (untold : List Bool) (guess : List ℕ) → AreUntoldMarks txns untold → HasEachOnce (length txns) guess → KeepsTurns txns untold guess nodes → AreUntoldApart txns Points
+    turns_apart untold guess marks first turns = in_turn_apart txns Points (turn_of txns untold guess) all_points (record {
+      whole = λ key element place u here.
+          let there_too : MustBeThere txns place = (all_points.there place).0 here in
+          filter_includes (is_untold_writer txns untold key) guess place (first.whole place (must_below txns place there_too)) (writer_if txns untold (length longest) elements numbered marks key element place u there_too);
+      there = λ key place h. (all_points.there place).1 (must_writer key place (includes_filter (is_untold_writer txns untold key) guess place h).1);
+      next = λ key one other front back is.
+          let neighbours : AreNeighbours (turn_of txns untold guess key) one other = (front, back, is) in
+          let turn : Turn = record { first = one; second = other } in
+          let is_turn : IsTurn txns untold guess turn = (turn_differs txns untold guess key one other first.distinct neighbours, key, neighbours) in
+          earlier (Commit one) (Start other) (must_writer key one (first_writer txns untold guess turn is_turn)) (must_writer key other (second_writer txns untold guess turn is_turn)) (turns turn is_turn);
+    }) where
+      must_writer : (key place : ℕ) → is_untold_writer txns untold key place ≡ true → MustBeThere txns place
+      must_writer key place h = (untold_of txns untold (length longest) elements numbered marks key place h).2
+
     pub order_found : AreUntoldApart txns Points → IsSnapshotOrderFor txns real_time Points
     order_found apart =
         let longer = are_longest txns (length longest) elements writers numbered table reads are longest longests in
@@ -115,48 +114,3 @@ module _ (txns : List Txn) (elements : ℕ) (writers : List (Option Writer)) (re
           apart = writers_apart txns model snap Points (longest_of longest) numbered.once longer all_points apart every;
           kept = every;
         }))
-
-  step_point : (step : Step) (to : ℕ) → step.place < length txns + length txns → to < length txns + length txns → HasPath graph (length txns + length txns) step.place step.why to → IsPointStep txns model (point_at (length txns) step.place) (why_to (length txns) step to) (point_at (length txns) to)
-  step_point step to low below path =
-      let n = length txns in
-      elim (cases_eq to (n + step.place)) as (λ _. IsPointStep txns model (point_at n step.place) (why_to n step to) (point_at n to)) [
-        | inl same ↦
-            let under : step.place < n = omega (arith, same, below) in
-            let is : why_to n step to ≡ None = ap (λ b. cond b None (Some step.why)) (eq-eqb to (n + step.place) same) in
-            subst (λ w. IsPointStep txns model (point_at n step.place) w (point_at n to)) (sym is) (step.place, start_at n step.place under, ap (point_at n) same ∙ commit_at n step.place)
-        | inr differ ↦
-            let is : why_to n step to ≡ Some step.why = ap (λ b. cond b None (Some step.why)) (ne_eqb to (n + step.place) differ) in
-            subst (λ w. IsPointStep txns model (point_at n step.place) w (point_at n to)) (sym is)
-            (elim (sound txns elements writers reads there longest real_time graph numbered table are marked longests good ends g model snap asks path.0 step.place step.why to low below path.1) as (λ _. IsPointStep txns model (point_at n step.place) (Some step.why) (point_at n to)) [
-              | inl own ↦ absurd (differ (own.2 ∙ ap (λ p. n + p) (sym own.1)))
-              | inr other ↦ (
-                other.0,
-                other.1,
-                other.2,
-                ap (point_at n) other.3 ∙ at_node n (leaves_at step.why other.0) (leaving_of (λ p. p < n) step.why other.0 (must_below txns other.0 other.2.first_there)),
-                ap (point_at n) other.4 ∙ at_node n (arrives_at step.why other.1) (arriving_of (λ p. p < n) step.why other.1 (must_below txns other.1 other.2.second_there)),
-              )
-            ])
-      ]
-
-  first_is : (steps : List Step) (last : ℕ) → first_point (point_steps (length txns) steps last) (point_at (length txns) last) ≡ point_at (length txns) (first_place steps last)
-  first_is [] last = refl
-  first_is (step ∷ steps) last = refl
-
-  first_low : (steps : List Step) (last : ℕ) → last < length txns + length txns → LeadByPaths graph (length txns + length txns) steps last → first_place steps last < length txns + length txns
-  first_low [] last low lead = low
-  first_low (step ∷ steps) last low lead = lead.0
-
-  lead_points : (steps : List Step) (last : ℕ) → last < length txns + length txns → LeadByPaths graph (length txns + length txns) steps last → LeadToPoint txns model (point_steps (length txns) steps last) (point_at (length txns) last)
-  lead_points [] last low lead = tt
-  lead_points (step ∷ steps) last low lead = (
-    subst (IsPointStep txns model (point_at (length txns) step.place) (why_to (length txns) step (first_place steps last))) (sym (first_is steps last)) (step_point step (first_place steps last) lead.0 (first_low steps last low lead.2) lead.1),
-    lead_points steps last low lead.2,
-  )
-
-  point_cycle : (steps : List Step) → IsCycleOfPaths graph (length txns + length txns) steps → IsPointCycle txns model (point_steps (length txns) steps (first_place steps 0))
-  point_cycle [] cycle = absurd cycle
-  point_cycle (step ∷ steps) cycle = lead_points (step ∷ steps) step.place cycle.0 cycle
-
-  pub cycle_found : (steps : List Step) → IsCycleOfPaths graph (length txns + length txns) steps → IsSnapshotCycle txns model (dependency_steps (point_steps (length txns) steps (first_place steps 0)))
-  cycle_found steps cycle = is_snapshot_cycle txns model (point_steps (length txns) steps (first_place steps 0)) (point_cycle steps cycle)

@@ -1,3 +1,4 @@
 pub mod Judged
 pub mod Nodes
-pub mod Inside
+pub mod UntoldInside
+pub mod TurnsInside

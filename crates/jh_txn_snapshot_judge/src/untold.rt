@@ -1,101 +1,149 @@
-//! Writers of a key of which no read tells the order. `jh_txn_snapshots` says which they are.
+//! Which elements are of untold writers: those of which no read tells when they wrote their key.
+//! `jh_txn_snapshots` says which these are.
 
-ghost use Rattle.std.specs.Prelude.{◌≡◌, ◌<◌, ◌↔◌, ℕ, Some, length, IfOk, IsTrue};
-ghost use Rattle.jh_txn_seen.specs.Places.{AreWriterKeysBelow, AreWritersBelow};
-ghost use Rattle.jh_txn_snapshot_judge.specs.Inside.{AreFirstUntold, HasReadOf, IsOtherUntold};
-ghost use Rattle.jh_txn_snapshot_judge.specs.Inside.{IsReadOf, IsUntoldEntry, ReadsKey};
+ghost use Rattle.std.specs.Prelude.{◌≡◌, ◌≢◌, ◌↔◌, ◌∷◌, [], ℕ, Some, None, length};
+ghost use Rattle.std.specs.Prelude.{slice_index_or, if◌then◌else◌, IfOk, IsTrue};
+ghost use Rattle.std.specs.List.{All};
+ghost use Rattle.jh_txn.specs.Transactions.{AreKeysBelow, IsKeyBelow};
+ghost use Rattle.jh_txn_seen.specs.Marks.{AddsMarks, IsMarked};
+ghost use Rattle.jh_txn_snapshot_judge.specs.UntoldInside.{AppendsBlind, IsAnyUntoldAt, IsUntoldAt};
+ghost use Rattle.jh_txn_snapshot_judge.specs.UntoldInside.{NotesNoOther, NotesReadsOf, has_read_of};
+ghost use Rattle.jh_txn_writers.specs.Numbers.{AreElementsBelow, AreElementsOfBelow};
 
+use crate::places::{is_done_at, ops_of};
 use jh_txn::{MicroOp, Txn};
-use jh_txn_seen::{is_done, is_marked};
-use jh_txn_writers::Writer;
+use jh_txn_seen::is_marked;
 use std::alloc::{AllocError, Global};
 
-/// For each key below `keys` a transaction that must be there and of which no read tells when it wrote
-/// the key, if there is one.
-pub(crate) fn first_untold(
+/// Marks of the elements below `elements` that no read has, whose writer must be there and does not
+/// read their key.
+pub(crate) fn marks_of_untold(
     alloc: Global,
     txns: &[Txn],
-    writers: &[Option<Writer>],
     there: &[bool],
     marks: &[bool],
     keys: usize,
-) -> Result<Vec<Option<usize>>, AllocError>
-    requires writers { AreWritersBelow (length txns.now) writers.now }
-    requires keys { AreWriterKeysBelow keys writers.now }
-    ensures count { IfOk result (λ table. length table.items ≡ keys) }
-    ensures table { IfOk result (λ table. AreFirstUntold txns.now writers.now there.now marks.now
-        (length writers.now) table.items) }
+    elements: usize,
+) -> Result<Vec<bool>, AllocError>
+    requires keys { AreKeysBelow keys txns.now }
+    requires elements { AreElementsBelow elements txns.now }
+    ensures { IfOk result (λ untold. (element : ℕ)
+        → IsMarked untold.items element ↔ IsAnyUntoldAt txns.now there.now marks.now element) }
 {
-    let mut table: Vec<Option<usize>> = vec![in alloc; None; keys]?;
-    note_untold(&mut table, txns, writers, there, marks);
-    Ok(table)
+    let mut untold = vec![in alloc; false; elements]?;
+    let mut readers: Vec<Option<usize>> = vec![in alloc; None; keys]?;
+    mark_all_untold(&mut untold, &mut readers, txns, there, marks);
+    Ok(untold)
 }
 
-/// Notes the writers of all elements of which no read tells when they wrote them.
-fn note_untold(
-    table: &mut [Option<usize>],
+/// Marks those elements of all transactions. The table is for the last reader of each key.
+fn mark_all_untold(
+    untold: &mut [bool],
+    readers: &mut [Option<usize>],
     txns: &[Txn],
-    writers: &[Option<Writer>],
     there: &[bool],
     marks: &[bool],
 )
-    requires writers { AreWritersBelow (length txns.now) writers.now }
-    requires keys { AreWriterKeysBelow (length table.old) writers.now }
-    requires none { AreFirstUntold txns.now writers.now there.now marks.now 0 table.old }
-    ensures count { length table.new ≡ length table.old }
-    ensures table { AreFirstUntold txns.now writers.now there.now marks.now (length writers.now)
-        table.new }
+    requires keys { AreKeysBelow (length readers.old) txns.now }
+    requires elements { AreElementsBelow (length untold.old) txns.now }
+    requires none { (key : ℕ) → slice_index_or readers.old key None ≡ None }
+    ensures { AddsMarks (IsAnyUntoldAt txns.now there.now marks.now) untold.old untold.new }
 {
-    for element in 0..writers.len() {
-        if let Some(writer) = writers[element] {
-            if is_untold(txns, there, marks, element, &writer) {
-                table[writer.key] = Some(writer.place);
-            }
-        }
+    for place in 0..txns.len() {
+        mark_untold_at(untold, readers, txns, there, marks, place);
     }
 }
 
-/// Whether a key has such a writer other than that of the table.
-pub(crate) fn has_other_untold(
-    table: &[Option<usize>],
+/// Marks those of the transaction at a place, which no key has as its last reader yet.
+fn mark_untold_at(
+    untold: &mut [bool],
+    readers: &mut [Option<usize>],
     txns: &[Txn],
-    writers: &[Option<Writer>],
     there: &[bool],
     marks: &[bool],
-) -> bool
-    requires writers { AreWritersBelow (length txns.now) writers.now }
-    requires keys { AreWriterKeysBelow (length table.now) writers.now }
-    ensures { IsTrue result ↔ ((element : ℕ)
-        × IsOtherUntold txns.now writers.now there.now marks.now table.now element) }
+    place: usize,
+)
+    requires keys { AreKeysBelow (length readers.old) txns.now }
+    requires elements { AreElementsBelow (length untold.old) txns.now }
+    requires fresh { (key : ℕ) → slice_index_or readers.old key None ≢ Some place }
+    ensures marks { AddsMarks (IsUntoldAt txns.now there.now marks.now place) untold.old untold.new }
+    ensures readers { NotesNoOther place readers.old readers.new }
 {
-    for element in 0..writers.len() {
-        if is_other_untold(table, txns, writers, there, marks, element) {
-            return true;
-        }
+    if is_marked(there, place) {
+        note_reads_of(readers, txns, place);
+        mark_blind(untold, readers, marks, place, ops_of(txns, place));
     }
-    false
 }
 
-/// Whether the writer of an element is one, and not that of the table.
-fn is_other_untold(
-    table: &[Option<usize>],
-    txns: &[Txn],
-    writers: &[Option<Writer>],
-    there: &[bool],
-    marks: &[bool],
-    element: usize,
-) -> bool
-    requires element { element < length writers.now }
-    requires writers { AreWritersBelow (length txns.now) writers.now }
-    requires keys { AreWriterKeysBelow (length table.now) writers.now }
-    ensures { IsTrue result
-        ↔ IsOtherUntold txns.now writers.now there.now marks.now table.now element }
+/// Notes the transaction at a place as the last reader of the keys that it reads, if it is done.
+fn note_reads_of(readers: &mut [Option<usize>], txns: &[Txn], place: usize)
+    requires keys { AreKeysBelow (length readers.old) txns.now }
+    requires fresh { (key : ℕ) → slice_index_or readers.old key None ≢ Some place }
+    ensures noted { NotesReadsOf txns.now place readers.new }
+    ensures others { NotesNoOther place readers.old readers.new }
 {
-    match writers[element] {
-        None => false,
-        Some(writer) => {
-            is_untold(txns, there, marks, element, &writer)
-                && !is_place(table[writer.key], writer.place)
+    if is_done_at(txns, place) {
+        note_reads(readers, place, ops_of(txns, place));
+    }
+}
+
+/// Notes a place as that of the last reader of the keys that some micro-operations read.
+fn note_reads(readers: &mut [Option<usize>], place: usize, ops: &[MicroOp])
+    requires { All (IsKeyBelow (length readers.old)) ops.now }
+    ensures count { length readers.new ≡ length readers.old }
+    ensures noted { (key : ℕ) → slice_index_or readers.new key None
+        ≡ (if has_read_of key ops.now then Some place else slice_index_or readers.old key None) }
+{
+    for op in ops {
+        note_read(readers, place, op);
+    }
+}
+
+/// Notes it for the key of a micro-operation, if that is a read.
+fn note_read(readers: &mut [Option<usize>], place: usize, op: &MicroOp)
+    requires { IsKeyBelow (length readers.old) op.now }
+    ensures count { length readers.new ≡ length readers.old }
+    ensures noted { (key : ℕ) → slice_index_or readers.new key None
+        ≡ (if has_read_of key (op.now ∷ []) then Some place else slice_index_or readers.old key None) }
+{
+    if let MicroOp::Read { key, .. } = op {
+        readers[*key] = Some(place);
+    }
+}
+
+/// Marks what some micro-operations of the transaction at a place append to keys that it does not read,
+/// unless a read has it.
+fn mark_blind(
+    untold: &mut [bool],
+    readers: &[Option<usize>],
+    marks: &[bool],
+    place: usize,
+    ops: &[MicroOp],
+)
+    requires keys { All (IsKeyBelow (length readers.now)) ops.now }
+    requires elements { All (AreElementsOfBelow (length untold.old)) ops.now }
+    ensures { AddsMarks (AppendsBlind readers.now marks.now place ops.now) untold.old untold.new }
+{
+    for op in ops {
+        mark_blind_op(untold, readers, marks, place, op);
+    }
+}
+
+/// Marks what one of them appends.
+fn mark_blind_op(
+    untold: &mut [bool],
+    readers: &[Option<usize>],
+    marks: &[bool],
+    place: usize,
+    op: &MicroOp,
+)
+    requires key { IsKeyBelow (length readers.now) op.now }
+    requires element { AreElementsOfBelow (length untold.old) op.now }
+    ensures { AddsMarks (AppendsBlind readers.now marks.now place (op.now ∷ [])) untold.old untold.new }
+{
+    if let MicroOp::Append { key, element } = op {
+        if !is_marked(marks, *element) && !is_place(readers[*key], place) {
+            untold[*element] = true;
         }
     }
 }
@@ -107,45 +155,5 @@ fn is_place(noted: Option<usize>, place: usize) -> bool
     match noted {
         Some(other) => other == place,
         None => false,
-    }
-}
-
-/// Whether no read tells when the writer of an element wrote it, and it must be there.
-fn is_untold(txns: &[Txn], there: &[bool], marks: &[bool], element: usize, writer: &Writer) -> bool
-    requires { writer.now.place < length txns.now }
-    ensures { IsTrue result ↔ IsUntoldEntry txns.now there.now marks.now element writer.now }
-{
-    is_marked(there, writer.place)
-        && !is_marked(marks, element)
-        && !reads_key(txns, writer.key, writer.place)
-}
-
-/// Whether the transaction at a place is done and reads a key.
-fn reads_key(txns: &[Txn], key: usize, place: usize) -> bool
-    requires { place < length txns.now }
-    ensures { IsTrue result ↔ ReadsKey txns.now key place }
-{
-    is_done(txns[place].outcome) && has_read_of(txns[place].ops.as_slice(), key)
-}
-
-/// Whether one of some micro-operations is a read of a key.
-fn has_read_of(ops: &[MicroOp], key: usize) -> bool
-    ensures { IsTrue result ↔ HasReadOf key ops.now }
-{
-    for op in ops {
-        if is_read_of(op, key) {
-            return true;
-        }
-    }
-    false
-}
-
-/// Whether a micro-operation is a read of a key.
-fn is_read_of(op: &MicroOp, key: usize) -> bool
-    ensures { IsTrue result ↔ IsReadOf key op.now }
-{
-    match op {
-        MicroOp::Append { .. } => false,
-        MicroOp::Read { key: other, .. } => *other == key,
     }
 }

@@ -1,24 +1,28 @@
 //! The judge: a snapshot order, or what excludes each one. `specs/Judged.antt` says what its answers
 //! say.
 
-ghost use Rattle.std.specs.Prelude.{length, IfOk};
+ghost use Rattle.std.specs.Prelude.{Bool, length, IfOk};
 ghost use Rattle.jh_txn.specs.BadReads.{HasNoBadRead};
+ghost use Rattle.jh_txn.specs.Cycles.{IsSnapshotCycle};
 ghost use Rattle.jh_txn.specs.RealTime.{CompleteAfterInvocation};
-ghost use Rattle.jh_txn_points.specs.Laws.{IsPointGraphOfGood};
 ghost use Rattle.jh_txn_seen.specs.Marks.{AreThereMarks};
-ghost use Rattle.jh_txn_seen.specs.Reads.{AreDoneReads, AreLongestOf};
-ghost use Rattle.jh_txn_snapshot_judge.specs.Judged.{IsSnapshotJudged};
+ghost use Rattle.jh_txn_seen.specs.Reads.{AreDoneReads, AreForked, AreLongestOf};
+ghost use Rattle.jh_txn_snapshot_judge.specs.Judged.{IsSnapshotJudged, snapshot_model};
+ghost use Rattle.jh_txn_snapshot_judge.specs.TurnsInside.{AreUntoldMarks, HasEachOnce};
 ghost use Rattle.jh_txn_writers.specs.Numbers.{AreNumbersOf};
 ghost use Rattle.jh_txn_writers.specs.Writers.{AreWriters};
 
 use crate::nodes::{dependencies_of, marked_nodes, points_of_nodes};
-use crate::untold::{first_untold, has_other_untold};
+use crate::turns::order_in_turn;
+use crate::untold::marks_of_untold;
 use jh_txn::{Point, Step, Txn};
+use jh_txn_cycles::order_or_short_cycle;
+use jh_txn_edges::graph_of;
 use jh_txn_graph::{OrderOrCycle, order_or_cycle};
-use jh_txn_points::points_of;
-use jh_txn_reads::BadReadAt;
-use jh_txn_seen::{DoneRead, marks_of_read};
-use jh_txn_writers::Writer;
+use jh_txn_points::{fork_points_of, points_of};
+use jh_txn_reads::{BadReadAt, find_bad_read};
+use jh_txn_seen::{DoneRead, Longest, longest_reads, marks_of, marks_of_read, reads_of};
+use jh_txn_writers::{Writer, writers_of};
 use std::alloc::{AllocError, Global};
 
 /// What the judge finds: a snapshot order, or what excludes each one.
@@ -31,23 +35,70 @@ pub enum SnapshotVerdict {
     BadRead(BadReadAt),
     /// A cycle of dependencies in which no two `:rw` are neighbours, which no snapshot order can keep.
     Cycle(Vec<Step>),
-    /// Nothing: a key has two writers of which no read tells the order.
+    /// Nothing: a key has two writers of which no read tells the order, and a guess of it failed.
     Unknown,
 }
 
-/// Judges transactions by the longest read of each key, which all reads of the key begin: a snapshot
-/// order, which keeps real time where that is asked for, or a cycle; or nothing, where a key has two
-/// writers that must be there and of which no read tells the order.
-///
-/// No read is bad, and the tables are those of `jh_txn_writers` and `jh_txn_seen` for these
-/// transactions.
+/// Judges transactions: a snapshot order, which keeps real time where that is asked for, or what
+/// excludes each one; or nothing, where a key has two writers that must be there, of which no read tells
+/// the order, and a guess of it fails. The transactions are numbered, with keys below `keys` and
+/// elements below `elements`; those that were completed were so behind their invocation.
 ///
 /// Errors: where there is no memory for what the judge takes down.
 ///
-/// Takes time linear in the keys, the elements, the micro-operations and what reads saw, with real time
-/// n log n for n transactions, and for each element that no read has the number of micro-operations of
-/// its writer.
-pub fn judge_longest(
+/// Takes time linear in the keys, the elements, the micro-operations and what reads saw, and n log n for
+/// n transactions.
+pub fn judge_snapshots(
+    alloc: Global,
+    txns: &[Txn],
+    keys: usize,
+    elements: usize,
+    real_time: bool,
+) -> Result<SnapshotVerdict, AllocError>
+    requires numbered { AreNumbersOf txns.now keys elements }
+    requires ends { CompleteAfterInvocation txns.now }
+    ensures { IfOk result (IsSnapshotJudged txns.now real_time) }
+{
+    let writers = writers_of(alloc, txns, keys, elements)?;
+    match find_bad_read(alloc, txns, keys, elements, &writers)? {
+        Some(at) => Ok(SnapshotVerdict::BadRead(at)),
+        None => judge_good_reads(alloc, txns, keys, elements, &writers, real_time),
+    }
+}
+
+/// Judges transactions of which no read is bad.
+fn judge_good_reads(
+    alloc: Global,
+    txns: &[Txn],
+    keys: usize,
+    elements: usize,
+    writers: &[Option<Writer>],
+    real_time: bool,
+) -> Result<SnapshotVerdict, AllocError>
+    requires numbered { AreNumbersOf txns.now keys elements }
+    requires ends { CompleteAfterInvocation txns.now }
+    requires writers { AreWriters txns.now elements writers.now }
+    requires good { HasNoBadRead txns.now }
+    ensures { IfOk result (IsSnapshotJudged txns.now real_time) }
+{
+    let reads = reads_of(alloc, txns)?;
+    let there = marks_of(alloc, txns, writers, &reads)?;
+    match longest_reads(alloc, &reads, keys)? {
+        Longest::Reads(longest) => judge_longest(
+            alloc, txns, elements, writers, &reads, &there, &longest, real_time,
+        ),
+        Longest::Fork(one, other) => {
+            let steps = fork_cycle(
+                alloc, txns, keys, elements, writers, &reads, &there, &one, &other,
+            )?;
+            Ok(SnapshotVerdict::Cycle(steps))
+        }
+    }
+}
+
+/// Judges transactions by the longest read of each key, which all reads of the key begin. An order that
+/// keeps real time is looked for first, whatever is asked for: it tells the better turns.
+fn judge_longest(
     alloc: Global,
     txns: &[Txn],
     elements: usize,
@@ -66,24 +117,140 @@ pub fn judge_longest(
     requires longest { AreLongestOf reads.now (length reads.now) longest.now }
     ensures { IfOk result (IsSnapshotJudged txns.now real_time) }
 {
-    let graph = points_of(
+    let marks = marks_of_read(alloc, elements, longest)?;
+    let untold = marks_of_untold(alloc, txns, there, &marks, longest.len(), elements)?;
+    match judge_in_turn(
+        alloc, txns, elements, writers, reads, there, longest, &untold, true,
+    )? {
+        SnapshotVerdict::Valid(points) => Ok(SnapshotVerdict::Valid(points)),
+        verdict => {
+            if real_time {
+                Ok(verdict)
+            } else {
+                judge_in_turn(
+                    alloc, txns, elements, writers, reads, there, longest, &untold, false,
+                )
+            }
+        }
+    }
+}
+
+/// Judges them by the graph with real time or without it. The untold writers of a key take turns, by a
+/// guess.
+fn judge_in_turn(
+    alloc: Global,
+    txns: &[Txn],
+    elements: usize,
+    writers: &[Option<Writer>],
+    reads: &[DoneRead<'_>],
+    there: &[bool],
+    longest: &[Option<DoneRead<'_>>],
+    untold: &[bool],
+    real_time: bool,
+) -> Result<SnapshotVerdict, AllocError>
+    requires numbered { AreNumbersOf txns.now (length longest.now) elements }
+    requires ends { CompleteAfterInvocation txns.now }
+    requires writers { AreWriters txns.now elements writers.now }
+    requires good { HasNoBadRead txns.now }
+    requires reads { AreDoneReads txns.now reads.now }
+    requires there { AreThereMarks txns.now writers.now reads.now there.now }
+    requires longest { AreLongestOf reads.now (length reads.now) longest.now }
+    requires untold { AreUntoldMarks txns.now untold.now }
+    ensures { IfOk result (IsSnapshotJudged txns.now real_time) }
+{
+    let mut graph = points_of(
         alloc, txns, elements, writers, there, reads, longest, real_time,
     )?;
     let count = txns.len();
-    match order_or_cycle(alloc, &graph, count + count)? {
+    match order_or_short_cycle(alloc, &graph, count + count, count)? {
         OrderOrCycle::Order(order) => {
-            let marks = marks_of_read(alloc, elements, longest)?;
-            let table = first_untold(alloc, txns, writers, there, &marks, longest.len())?;
-            if has_other_untold(&table, txns, writers, there, &marks) {
-                return Ok(SnapshotVerdict::Unknown);
+            let guess = guess_of(
+                alloc, txns, elements, writers, reads, there, longest, real_time, &order,
+            )?;
+            match order_in_turn(
+                alloc,
+                txns,
+                untold,
+                longest.len(),
+                &mut graph,
+                order,
+                &guess,
+            )? {
+                None => Ok(SnapshotVerdict::Unknown),
+                Some(nodes) => {
+                    let nodes = marked_nodes(alloc, there, count, &nodes)?;
+                    let points = points_of_nodes(alloc, count, &nodes)?;
+                    Ok(SnapshotVerdict::Valid(points))
+                }
             }
-            let nodes = marked_nodes(alloc, there, count, &order)?;
-            let points = points_of_nodes(alloc, count, &nodes)?;
-            Ok(SnapshotVerdict::Valid(points))
         }
         OrderOrCycle::Cycle(steps) => {
             let steps = dependencies_of(alloc, count, &steps)?;
             Ok(SnapshotVerdict::Cycle(steps))
         }
+    }
+}
+
+/// Transactions in the order in which untold writers are to take turns: a serial order, if there is one,
+/// since by such an order all turns can be kept; else as they start in an order of nodes.
+fn guess_of(
+    alloc: Global,
+    txns: &[Txn],
+    elements: usize,
+    writers: &[Option<Writer>],
+    reads: &[DoneRead<'_>],
+    there: &[bool],
+    longest: &[Option<DoneRead<'_>>],
+    real_time: bool,
+    order: &[usize],
+) -> Result<Vec<usize>, AllocError>
+    requires numbered { AreNumbersOf txns.now (length longest.now) elements }
+    requires ends { CompleteAfterInvocation txns.now }
+    requires writers { AreWriters txns.now elements writers.now }
+    requires good { HasNoBadRead txns.now }
+    requires reads { AreDoneReads txns.now reads.now }
+    requires there { AreThereMarks txns.now writers.now reads.now there.now }
+    requires longest { AreLongestOf reads.now (length reads.now) longest.now }
+    requires order { HasEachOnce (length txns.now) order.now }
+    ensures { IfOk result (λ guess. HasEachOnce (length txns.now) guess.items) }
+{
+    let graph = graph_of(
+        alloc, txns, elements, writers, there, reads, longest, real_time,
+    )?;
+    match order_or_cycle(alloc, &graph, txns.len())? {
+        OrderOrCycle::Order(places) => Ok(places),
+        OrderOrCycle::Cycle(_) => {
+            let nodes = Vec::from_slice(alloc, order)?;
+            Ok(nodes)
+        }
+    }
+}
+
+/// A cycle in what two reads say that fork.
+fn fork_cycle(
+    alloc: Global,
+    txns: &[Txn],
+    keys: usize,
+    elements: usize,
+    writers: &[Option<Writer>],
+    reads: &[DoneRead<'_>],
+    there: &[bool],
+    one: &DoneRead<'_>,
+    other: &DoneRead<'_>,
+) -> Result<Vec<Step>, AllocError>
+    requires numbered { AreNumbersOf txns.now keys elements }
+    requires writers { AreWriters txns.now elements writers.now }
+    requires good { HasNoBadRead txns.now }
+    requires reads { AreDoneReads txns.now reads.now }
+    requires there { AreThereMarks txns.now writers.now reads.now there.now }
+    requires forked { AreForked reads.now one.now other.now }
+    ensures { IfOk result (λ steps. (real_time : Bool)
+        → IsSnapshotCycle txns.now (snapshot_model real_time) steps.items) }
+{
+    let count = txns.len();
+    let graph = fork_points_of(alloc, count, writers, there, one, other)?;
+    match order_or_short_cycle(alloc, &graph, count + count, count)? {
+        OrderOrCycle::Order(_) => unreachable!(),
+        OrderOrCycle::Cycle(steps) => dependencies_of(alloc, count, &steps),
     }
 }
