@@ -12,20 +12,12 @@ use Rattle.jh_txn.specs.declared.model.ConsistencyModel.{ConsistencyModel}
 use Rattle.jh_txn.specs.declared.txn.MicroOp.{MicroOp}
 use Rattle.jh_txn.specs.declared.txn.MicroOp.TheVariants.{Append, Read}
 use Rattle.jh_txn.specs.declared.txn.Txn.{Txn}
-use Rattle.jh_txn.specs.Cycles.{IsCycle, LeadTo, first_place}
+use Rattle.jh_txn.specs.BadReads.{IsBadRead}
+use Rattle.jh_txn.specs.Cycles.{IsCycle, IsSnapshotCycle, LeadTo, first_place}
+use Rattle.jh_txn.specs.declared.anomaly.BadRead as wrong
 use Rattle.jh_txn.specs.Dependencies.{IsReason, MustBeThere}
 use Rattle.jh_txn.specs.Transactions.{Appends, IsKeyBelow, appended, includes, ops_at}
-use Rattle.jh_ops.specs.Operation.{Operation}
-use Rattle.jh_ops.specs.declared.pairs.Pair.{Pair}
-use Rattle.jh_txn_check.specs.Found.{SaysVerdict}
 use Rattle.jh_txn_findings.specs.Found.{AreStepsNumbered, IsWhyNumbered}
-use Rattle.jh_txn_findings.specs.declared.finding.TxnFinding.{TxnFinding}
-use Rattle.jh_txn_histories.specs.declared.numbered.Transactions.{Transactions}
-use Rattle.jh_txn_judge.specs.declared.verdict.SerialVerdict.{SerialVerdict}
-use Rattle.jh_txn_judge.specs.declared.verdict.SerialVerdict.TheVariants.{BadRead}
-use Rattle.jh_txn_reads.specs.declared.find.BadReadAt.{BadReadAt}
-use Rattle.std.specs.Prelude.{Result, Ok, Err, IfOk}
-use Rattle.std.specs.declared.alloc.AllocError.{AllocError}
 use Rattle.jh_txn_writers.proofs.EntryLemmas.{ops_all}
 use Rattle.jh_txn_writers.specs.Numbers.{AreElementsOfBelow, AreNumbersOf}
 
@@ -90,10 +82,11 @@ pub cycle_below : (txns : List Txn) (model : ConsistencyModel) (steps : List Ste
 cycle_below txns model [] cycle = absurd cycle
 cycle_below txns model (step ∷ steps) cycle = led_below txns model (step ∷ steps) step.place cycle
 
--- what is found of a bad read, where the verdict is that read
-pub says_if : (history : List Operation) (pairs : List Pair) (explain : Bool) (read : Transactions) (verdict : SerialVerdict) (at : BadReadAt) (result : Result TxnFinding AllocError)
-    → verdict ≡ BadRead at
-    → IfOk result (λ finding. (any : Transactions) → SaysVerdict history pairs explain any (BadRead at) finding)
-    → IfOk result (SaysVerdict history pairs explain read verdict)
-says_if history pairs explain read verdict at (Ok finding) is says = subst (λ v. SaysVerdict history pairs explain read v finding) (sym is) (says read)
-says_if history pairs explain read verdict at (Err e) is says = tt
+-- who has a bad read is one of the transactions
+pub bad_read_below : (txns : List Txn) (place index : ℕ) (kind : wrong.BadRead) → IsBadRead txns place index kind → place < length txns
+bad_read_below txns place index kind bad = done_below txns place bad.2.0
+
+-- a cycle that excludes snapshot orders is a cycle
+pub is_cycle : (txns : List Txn) (model : ConsistencyModel) (steps : List Step) → IsSnapshotCycle txns model steps → IsCycle txns model steps
+is_cycle txns model [] cycle = absurd cycle
+is_cycle txns model (step ∷ steps) cycle = cycle.0

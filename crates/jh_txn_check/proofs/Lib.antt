@@ -1,1 +1,2 @@
 pub mod BoundLemmas
+mod FoundLemmas

@@ -1,138 +1,127 @@
 //! What is found in the transactions of a history. `specs/Found.antt` says what a finding is.
 
-ghost use Rattle.std.specs.Prelude.{◌≡◌, ◌∷◌, ◌<◌, [], length, map, IfOk, IfErr};
+ghost use Rattle.std.specs.Prelude.{◌≡◌, length, IfOk, IfErr};
 ghost use Rattle.std.specs.List.{All};
 ghost use Rattle.jh_ops.specs.Operation.{operations};
 ghost use Rattle.jh_ops.specs.Pairing.{IsPairWithin};
-ghost use Rattle.jh_txn_check.specs.Found.{AreShown, IsCycleFound, IsTxnFinding, SaysVerdict};
-ghost use Rattle.jh_txn_findings.specs.Found.{AreStepsNumbered};
+ghost use Rattle.jh_txn.specs.RealTime.{CompleteAfterInvocation};
+ghost use Rattle.jh_txn_check.specs.Found.{IsTxnFinding, SaysOf};
 ghost use Rattle.jh_txn_histories.specs.Histories.{RefusesTransactions};
-ghost use Rattle.jh_txn_histories.specs.declared.numbered.Transactions.{Transactions};
-ghost use Rattle.jh_txn_judge.specs.Judged.{IsSeriallyJudged};
-ghost use Rattle.jh_txn_judge.specs.declared.verdict.SerialVerdict.TheVariants.{BadRead};
+ghost use Rattle.jh_txn_judge.specs.Judged.{serial_model};
+ghost use Rattle.jh_txn_snapshot_judge.specs.Judged.{snapshot_model};
 ghost use Rattle.jh_txn_writers.specs.Numbers.{AreNumbersOf};
 
+use crate::shown::{bad_read_found, cycle_found, places_of_points};
 use jh_ops::{Op, Pair};
-use jh_txn::Step;
-use jh_txn_findings::{TxnFinding, found_steps, operations_of};
+use jh_txn::ConsistencyModel;
+use jh_txn_findings::TxnFinding;
 use jh_txn_histories::{Transactions, TxnError, transactions};
 use jh_txn_judge::{SerialVerdict, judge_serial};
-use jh_txn_reads::BadReadAt;
+use jh_txn_snapshot_judge::{SnapshotVerdict, judge_snapshots};
 use std::alloc::{AllocError, Global};
 
-/// What is found in the transactions of a history, which are judged for a serial order that keeps real time where that is
-/// asked for. The pairs are those that `jh_ops::pair` gives for the history. Where a no is to be explained, the finding
-/// has the operations of the transactions that it names.
+/// What is found in the transactions of a history, which are judged by a consistency model. The pairs are those that
+/// `jh_ops::pair` gives for the history. Where a no is to be explained, the finding has the operations of the transactions
+/// that it names.
 ///
 /// Errors: `BadValue` and `RepeatedAppend` as `transactions` has them; `OutOfMemory` with any history.
 ///
 /// Takes as long as reading the transactions and judging them, n log n at most.
-pub fn find_serial(
+pub fn find_transactions(
     alloc: Global,
     history: &[Op],
     pairs: &[Pair],
-    real_time: bool,
+    model: ConsistencyModel,
     explain: bool,
 ) -> Result<TxnFinding, TxnError>
     requires within { All (IsPairWithin (length history.now)) pairs.now }
-    ensures found { IfOk result
-        (IsTxnFinding (operations history.now) pairs.now real_time explain) }
+    ensures found { IfOk result (IsTxnFinding (operations history.now) pairs.now model explain) }
     ensures refused { IfErr result (RefusesTransactions (operations history.now) pairs.now) }
 {
     let read = transactions(alloc, history, pairs)?;
-    let keys = read.keys.len();
-    let verdict = judge_serial(alloc, &read.txns, keys, read.elements.len(), real_time)?;
-    let finding = finding_of(alloc, history, pairs, explain, &read, real_time, verdict)?;
+    let finding = finding_by(alloc, history, pairs, model, explain, &read)?;
     Ok(finding)
 }
 
-/// What a verdict says of a history.
-fn finding_of(
+/// What is found in transactions by a model.
+fn finding_by(
+    alloc: Global,
+    history: &[Op],
+    pairs: &[Pair],
+    model: ConsistencyModel,
+    explain: bool,
+    read: &Transactions,
+) -> Result<TxnFinding, AllocError>
+    requires within { All (IsPairWithin (length history.now)) pairs.now }
+    requires count { length read.now.txns.items ≡ length pairs.now }
+    requires numbered { AreNumbersOf read.now.txns.items (length read.now.keys) (length read.now.elements) }
+    requires ends { CompleteAfterInvocation read.now.txns.items }
+    ensures { IfOk result (SaysOf (operations history.now) pairs.now model explain read.now) }
+{
+    match model {
+        ConsistencyModel::Serializable => {
+            serial_finding(alloc, history, pairs, explain, read, false)
+        }
+        ConsistencyModel::StrictSerializable => {
+            serial_finding(alloc, history, pairs, explain, read, true)
+        }
+        ConsistencyModel::SnapshotIsolation => {
+            snapshot_finding(alloc, history, pairs, explain, read, false)
+        }
+        ConsistencyModel::StrongSnapshotIsolation => {
+            snapshot_finding(alloc, history, pairs, explain, read, true)
+        }
+    }
+}
+
+/// What is found in transactions that are judged for a serial order.
+fn serial_finding(
     alloc: Global,
     history: &[Op],
     pairs: &[Pair],
     explain: bool,
     read: &Transactions,
     real_time: bool,
-    verdict: SerialVerdict,
 ) -> Result<TxnFinding, AllocError>
     requires within { All (IsPairWithin (length history.now)) pairs.now }
     requires count { length read.now.txns.items ≡ length pairs.now }
     requires numbered { AreNumbersOf read.now.txns.items (length read.now.keys) (length read.now.elements) }
-    requires judged { IsSeriallyJudged read.now.txns.items real_time verdict }
-    ensures { IfOk result (SaysVerdict (operations history.now) pairs.now explain read.now verdict) }
+    requires ends { CompleteAfterInvocation read.now.txns.items }
+    ensures { IfOk result
+        (SaysOf (operations history.now) pairs.now (serial_model real_time) explain read.now) }
 {
-    match verdict {
+    let keys = read.keys.len();
+    match judge_serial(alloc, &read.txns, keys, read.elements.len(), real_time)? {
         SerialVerdict::Valid(order) => Ok(TxnFinding::Valid { order }),
         SerialVerdict::BadRead(at) => bad_read_found(alloc, history, pairs, explain, at),
         SerialVerdict::Cycle(steps) => cycle_found(alloc, history, pairs, explain, read, &steps),
     }
 }
 
-/// What a bad read says of a history.
-fn bad_read_found(
-    alloc: Global,
-    history: &[Op],
-    pairs: &[Pair],
-    explain: bool,
-    at: BadReadAt,
-) -> Result<TxnFinding, AllocError>
-    requires within { All (IsPairWithin (length history.now)) pairs.now }
-    requires there { at.place < length pairs.now }
-    ensures { IfOk result (λ finding. (read : Transactions)
-        → SaysVerdict (operations history.now) pairs.now explain read (BadRead at) finding) }
-{
-    let operations = shown_at(alloc, history, pairs, explain, &[at.place])?;
-    Ok(TxnFinding::BadRead {
-        place: at.place,
-        index: at.index,
-        kind: at.kind,
-        operations,
-    })
-}
-
-/// What a cycle says of a history.
-fn cycle_found(
+/// What is found in transactions that are judged for a snapshot order.
+fn snapshot_finding(
     alloc: Global,
     history: &[Op],
     pairs: &[Pair],
     explain: bool,
     read: &Transactions,
-    steps: &[Step],
+    real_time: bool,
 ) -> Result<TxnFinding, AllocError>
     requires within { All (IsPairWithin (length history.now)) pairs.now }
-    requires there { All (λ place. place < length pairs.now) (map (λ step. step.place) steps.now) }
-    requires numbered { AreStepsNumbered (length read.now.keys) (length read.now.elements) steps.now }
-    ensures { IfOk result (IsCycleFound (operations history.now) pairs.now explain read.now steps.now) }
+    requires count { length read.now.txns.items ≡ length pairs.now }
+    requires numbered { AreNumbersOf read.now.txns.items (length read.now.keys) (length read.now.elements) }
+    requires ends { CompleteAfterInvocation read.now.txns.items }
+    ensures { IfOk result
+        (SaysOf (operations history.now) pairs.now (snapshot_model real_time) explain read.now) }
 {
-    let places = places_of(alloc, steps)?;
-    let operations = shown_at(alloc, history, pairs, explain, &places)?;
-    let steps = found_steps(alloc, &read.keys, &read.elements, steps)?;
-    Ok(TxnFinding::Cycle { steps, operations })
-}
-
-/// The places of steps.
-fn places_of(alloc: Global, steps: &[Step]) -> Result<Vec<usize>, AllocError>
-    ensures { IfOk result (λ places. places.items ≡ map (λ step. step.place) steps.now) }
-{
-    steps.iter().map(|step| step.place).collect(alloc)
-}
-
-/// The operations of the transactions at these places, where they are to be shown.
-fn shown_at(
-    alloc: Global,
-    history: &[Op],
-    pairs: &[Pair],
-    explain: bool,
-    places: &[usize],
-) -> Result<Option<Vec<Op>>, AllocError>
-    requires within { All (IsPairWithin (length history.now)) pairs.now }
-    requires places { All (λ place. place < length pairs.now) places.now }
-    ensures { IfOk result (AreShown (operations history.now) pairs.now explain places.now) }
-{
-    if explain {
-        Ok(Some(operations_of(alloc, history, pairs, places)?))
-    } else {
-        Ok(None)
+    let keys = read.keys.len();
+    match judge_snapshots(alloc, &read.txns, keys, read.elements.len(), real_time)? {
+        SnapshotVerdict::Valid(points) => {
+            let order = places_of_points(alloc, &points)?;
+            Ok(TxnFinding::Valid { order })
+        }
+        SnapshotVerdict::BadRead(at) => bad_read_found(alloc, history, pairs, explain, at),
+        SnapshotVerdict::Cycle(steps) => cycle_found(alloc, history, pairs, explain, read, &steps),
+        SnapshotVerdict::Unknown => Ok(TxnFinding::Unknown),
     }
 }

@@ -2,5 +2,6 @@
 #![tactic(auto)]
 
 mod found;
+mod shown;
 
-pub use found::find_serial;
+pub use found::find_transactions;

@@ -1,7 +1,7 @@
 use Rattle.std.proofs.Common.{Some, refl, sym, subst}
 use Rattle.jh_ops.specs.Operation.{operations}
 use Rattle.jh_txn_check.specs.Found.{AreShown}
-use Rattle.jh_txn_check.proofs.found.shown_at.Goals as goal
+use Rattle.jh_txn_check.proofs.shown.shown_at.Goals as goal
 
 pub returns-in_ok-operations_of : goal.returns-in_ok-operations_of
 returns-in_ok-operations_of c =
