@@ -21,7 +21,8 @@ use Rattle.jh_check.specs.declared.counter.CounterResult.{CounterResult}
 use Rattle.jh_check.specs.declared.counter.ReadBounds.{ReadBounds}
 use Rattle.jh_check.specs.declared.error.CheckError.{CheckError}
 use Rattle.jh_check.specs.declared.error.CheckError.TheVariants.{Pair as Unpaired, BadValue}
-use Rattle.jh_check.specs.declared.error.CheckError.TheVariants.{NegativeAdd, OutOfMemory}
+use Rattle.jh_check.specs.declared.error.CheckError.TheVariants.{NegativeAdd, RepeatedAppend}
+use Rattle.jh_check.specs.declared.error.CheckError.TheVariants.{OutOfMemory}
 
 -- ---- calls
 
@@ -149,6 +150,7 @@ abbrev pub place_of_error : CheckError → ℕ
 place_of_error (Unpaired error) = 0
 place_of_error (BadValue place) = place
 place_of_error (NegativeAdd place) = place
+place_of_error (RepeatedAppend place) = place
 place_of_error OutOfMemory = 0
 
 -- one of the errors, and none is at an earlier place
@@ -175,5 +177,6 @@ RefusesCounter history (BadValue place) =
 RefusesCounter history (NegativeAdd place) =
     IsWellFormed history
     × IsEarliest (NegativeAdd place) (errors_in history (history_pairs history))
+RefusesCounter history (RepeatedAppend place) = ⊥
 RefusesCounter history OutOfMemory =
     RefusesHistory history pair_errors.OutOfMemory ⊎ IsCountable history

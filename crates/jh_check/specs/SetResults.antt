@@ -12,7 +12,7 @@ use Rattle.jh_check.specs.Distinct.{has_same_value, set_of}
 use Rattle.jh_check.specs.Verdicts.{verdict_of}
 use Rattle.jh_check.specs.declared.error.CheckError.{CheckError}
 use Rattle.jh_check.specs.declared.error.CheckError.TheVariants.{Pair, BadValue, NegativeAdd}
-use Rattle.jh_check.specs.declared.error.CheckError.TheVariants.{OutOfMemory}
+use Rattle.jh_check.specs.declared.error.CheckError.TheVariants.{RepeatedAppend, OutOfMemory}
 use Rattle.jh_check.specs.declared.set.SetFound.{SetFound}
 use Rattle.jh_check.specs.declared.set.SetResult.{SetResult}
 use Rattle.jh_check.specs.declared.verdict.Verdict.TheVariants.{Unknown}
@@ -86,4 +86,5 @@ RefusesSet history (Pair error) = ⊥
 RefusesSet history (BadValue place) =
     (op : Operation) × (final_read history ≡ Some (place, op)) × (elements_shown op.value ≡ None)
 RefusesSet history (NegativeAdd place) = ⊥
+RefusesSet history (RepeatedAppend place) = ⊥
 RefusesSet history OutOfMemory = IsSome (elements_read history)

@@ -161,6 +161,7 @@ fn place_of(error: CheckError) -> usize
     match error {
         CheckError::BadValue(place) => place,
         CheckError::NegativeAdd(place) => place,
+        CheckError::RepeatedAppend(place) => place,
         _ => 0,
     }
 }

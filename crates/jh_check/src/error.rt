@@ -20,6 +20,10 @@ pub enum CheckError {
     /// The amount of this add is below zero.
     #[error("operation {0}: negative add")]
     NegativeAdd(usize),
+    /// The transaction invoked here appends an element to a key to which it, or one in front,
+    /// appends an equal one.
+    #[error("operation {0}: repeated append")]
+    RepeatedAppend(usize),
     #[error("out of memory")]
     OutOfMemory,
 }

@@ -17,7 +17,7 @@ use Rattle.jh_checkers.specs.Findings.{AreRegisterOps, IsFindingBy, stuck_point_
 use Rattle.jh_checkers.specs.declared.checker.Checker.{Checker}
 use Rattle.jh_checkers.specs.declared.explanation.Explanation.{Explanation}
 use Rattle.jh_checkers.specs.declared.finding.Finding.{Finding}
-use Rattle.jh_checkers.specs.declared.finding.Finding.TheVariants.{Set, Counter, Ids, Register}
+use Rattle.jh_checkers.specs.declared.finding.Finding.TheVariants.{Set, Counter, Ids, Register, ListAppend}
 use Rattle.jh_checkers.specs.declared.finding.Judging.{Judging}
 
 -- ---- one finding
@@ -27,25 +27,29 @@ found_set judging history (Set found) h = ap Set h.1
 found_set judging history (Counter found) h = absurd h
 found_set judging history (Ids found) h = absurd h
 found_set judging history (Register judged e) h = absurd h
+found_set judging history (ListAppend found) h = absurd h
 
 found_counter : (judging : Judging) (history : List Operation) (f : Finding) → IsFindingBy Checker.Counter judging history f → f ≡ Counter (counter_result history)
 found_counter judging history (Set found) h = absurd h
 found_counter judging history (Counter found) h = ap Counter h.1
 found_counter judging history (Ids found) h = absurd h
 found_counter judging history (Register judged e) h = absurd h
+found_counter judging history (ListAppend found) h = absurd h
 
 found_ids : (judging : Judging) (history : List Operation) (f : Finding) → IsFindingBy Checker.Ids judging history f → f ≡ Ids (ids_result history)
 found_ids judging history (Set found) h = absurd h
 found_ids judging history (Counter found) h = absurd h
 found_ids judging history (Ids found) h = ap Ids h
 found_ids judging history (Register judged e) h = absurd h
+found_ids judging history (ListAppend found) h = absurd h
 
-pub one_finding : (checker : Checker) (judging : Judging) (history : List Operation) (a b : Finding) → checker ≢ Checker.Register
+pub one_finding : (checker : Checker) (judging : Judging) (history : List Operation) (a b : Finding) → checker ≢ Checker.Register → checker ≢ Checker.ListAppend
     → IsFindingBy checker judging history a → IsFindingBy checker judging history b → a ≡ b
-one_finding Checker.Set judging history a b other x y = found_set judging history a x ∙ sym (found_set judging history b y)
-one_finding Checker.Counter judging history a b other x y = found_counter judging history a x ∙ sym (found_counter judging history b y)
-one_finding Checker.Ids judging history a b other x y = found_ids judging history a x ∙ sym (found_ids judging history b y)
-one_finding Checker.Register judging history a b other x y = absurd (other refl)
+one_finding Checker.Set judging history a b register append x y = found_set judging history a x ∙ sym (found_set judging history b y)
+one_finding Checker.Counter judging history a b register append x y = found_counter judging history a x ∙ sym (found_counter judging history b y)
+one_finding Checker.Ids judging history a b register append x y = found_ids judging history a x ∙ sym (found_ids judging history b y)
+one_finding Checker.Register judging history a b register append x y = absurd (register refl)
+one_finding Checker.ListAppend judging history a b register append x y = absurd (append refl)
 
 -- ---- no two verdicts
 
@@ -78,22 +82,25 @@ registers_agree judging history (Register a d) (Register b e) x y yes_a no_b =
 registers_agree judging history (Register a d) (Set b) x y yes_a no_b = y
 registers_agree judging history (Register a d) (Counter b) x y yes_a no_b = y
 registers_agree judging history (Register a d) (Ids b) x y yes_a no_b = y
+registers_agree judging history (Register a d) (ListAppend b) x y yes_a no_b = y
 registers_agree judging history (Set a) b x y yes_a no_b = x
 registers_agree judging history (Counter a) b x y yes_a no_b = x
 registers_agree judging history (Ids a) b x y yes_a no_b = x
+registers_agree judging history (ListAppend a) b x y yes_a no_b = x
 
 same_verdict : (a b : Finding) → a ≡ b → finding_verdict a ≡ Verdict.True → finding_verdict b ≡ Verdict.False → ⊥
 same_verdict a b same yes_a no_b =
     let both : Verdict.True ≡ Verdict.False = sym yes_a ∙ ap finding_verdict same ∙ no_b in
     absurd cc
 
-pub verdicts_agree : (checker : Checker) (judging : Judging) (history : List Operation) (a b : Finding)
+pub verdicts_agree : (checker : Checker) (judging : Judging) (history : List Operation) (a b : Finding) → checker ≢ Checker.ListAppend
     → IsFindingBy checker judging history a → IsFindingBy checker judging history b
     → finding_verdict a ≡ Verdict.True → finding_verdict b ≡ Verdict.False → ⊥
-verdicts_agree Checker.Set judging history a b x y = same_verdict a b (found_set judging history a x ∙ sym (found_set judging history b y))
-verdicts_agree Checker.Counter judging history a b x y = same_verdict a b (found_counter judging history a x ∙ sym (found_counter judging history b y))
-verdicts_agree Checker.Ids judging history a b x y = same_verdict a b (found_ids judging history a x ∙ sym (found_ids judging history b y))
-verdicts_agree Checker.Register judging history a b x y = registers_agree judging history a b x y
+verdicts_agree Checker.Set judging history a b append x y = same_verdict a b (found_set judging history a x ∙ sym (found_set judging history b y))
+verdicts_agree Checker.Counter judging history a b append x y = same_verdict a b (found_counter judging history a x ∙ sym (found_counter judging history b y))
+verdicts_agree Checker.Ids judging history a b append x y = same_verdict a b (found_ids judging history a x ∙ sym (found_ids judging history b y))
+verdicts_agree Checker.Register judging history a b append x y = registers_agree judging history a b x y
+verdicts_agree Checker.ListAppend judging history a b append x y = absurd (append refl)
 
 -- ---- one place where a register is stuck
 
@@ -136,9 +143,19 @@ registers_stuck judging history (Register a d) (Register b e) x y no_a no_b =
 registers_stuck judging history (Register a d) (Set b) x y no_a no_b = absurd y
 registers_stuck judging history (Register a d) (Counter b) x y no_a no_b = absurd y
 registers_stuck judging history (Register a d) (Ids b) x y no_a no_b = absurd y
+registers_stuck judging history (Register a d) (ListAppend b) x y no_a no_b = absurd y
 registers_stuck judging history (Set a) b x y no_a no_b = absurd x
 registers_stuck judging history (Counter a) b x y no_a no_b = absurd x
 registers_stuck judging history (Ids a) b x y no_a no_b = absurd x
+registers_stuck judging history (ListAppend a) b x y no_a no_b = absurd x
+
+-- transactions are stuck nowhere
+none_stuck : (judging : Judging) (history : List Operation) (f : Finding) → IsFindingBy Checker.ListAppend judging history f → stuck_point_of f ≡ None
+none_stuck judging history (Set found) h = absurd h
+none_stuck judging history (Counter found) h = absurd h
+none_stuck judging history (Ids found) h = absurd h
+none_stuck judging history (Register judged e) h = absurd h
+none_stuck judging history (ListAppend found) h = refl
 
 pub stuck_agree : (checker : Checker) (judging : Judging) (history : List Operation) (a b : Finding)
     → IsFindingBy checker judging history a → IsFindingBy checker judging history b
@@ -147,3 +164,4 @@ stuck_agree Checker.Set judging history a b x y no_a no_b = ap stuck_point_of (f
 stuck_agree Checker.Counter judging history a b x y no_a no_b = ap stuck_point_of (found_counter judging history a x ∙ sym (found_counter judging history b y))
 stuck_agree Checker.Ids judging history a b x y no_a no_b = ap stuck_point_of (found_ids judging history a x ∙ sym (found_ids judging history b y))
 stuck_agree Checker.Register judging history a b x y no_a no_b = registers_stuck judging history a b x y no_a no_b
+stuck_agree Checker.ListAppend judging history a b x y no_a no_b = none_stuck judging history a x ∙ sym (none_stuck judging history b y)

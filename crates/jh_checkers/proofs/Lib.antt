@@ -1,2 +1,3 @@
 pub mod LawLemmas
 pub mod StuckLemmas
+pub mod RefusalLemmas

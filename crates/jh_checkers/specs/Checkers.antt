@@ -1,21 +1,24 @@
 -- The checkers (Jepsen's `linearizable` over a register, `set`, `counter` and `unique-ids` of
--- jepsen.checker), each with the name of the workload whose histories it judges.
+-- jepsen.checker, and the checker of jepsen.tests.cycle.append), each with the name of the workload
+-- whose histories it judges.
 use Rattle.std.specs.Prelude.{ℕ, List, [], ◌∷◌, map, codes}
 use Rattle.jh_ops.specs.declared.call.Workload.{Workload}
 use Rattle.jh_checkers.specs.declared.checker.Checker.{Checker}
 use Rattle.jh_checkers.specs.declared.checker.Checker.TheVariants.{Register, Set, Counter, Ids}
+use Rattle.jh_checkers.specs.declared.checker.Checker.TheVariants.{ListAppend}
 
 abbrev pub checker_name : Checker → List ℕ
 checker_name Register = codes "register"
 checker_name Set = codes "set"
 checker_name Counter = codes "counter"
 checker_name Ids = codes "unique-ids"
+checker_name ListAppend = codes "list-append"
 
 -- the names of all, in the order of help
 abbrev pub checker_names : List (List ℕ)
-checker_names = map checker_name (Register ∷ Set ∷ Counter ∷ Ids ∷ [])
+checker_names = map checker_name (Register ∷ Set ∷ Counter ∷ Ids ∷ ListAppend ∷ [])
 
--- the checker of a workload that simulated clusters run
+-- the checker of a workload that simulated clusters run; none of them runs list-append
 abbrev pub checker_of : Workload → Checker
 checker_of Workload.Register = Register
 checker_of Workload.Set = Set

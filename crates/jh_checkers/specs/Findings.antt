@@ -1,5 +1,6 @@
 -- What a checker finds in a history, and why it judges none (Jepsen's checkers `set`, `counter`,
--- `unique-ids` and `linearizable`; what each finds stands in the definitions of its own crate).
+-- `unique-ids` and `linearizable`, and that of jepsen.tests.cycle.append; what each finds stands in
+-- the definitions of its own crate).
 use Rattle.std.specs.Prelude.{◌≡◌, ℕ, List, Option, Some, None}
 use Rattle.jh_ops.specs.Operation.{Operation}
 use Rattle.jh_ops.specs.Pairing.{IsWellFormed, RefusesHistory as RefusesPairing, history_pairs}
@@ -9,18 +10,26 @@ use Rattle.jh_check.specs.IdsResults.{ids_result}
 use Rattle.jh_check.specs.SetResults.{IsJudgeable, RefusesSet, set_result}
 use Rattle.jh_check.specs.declared.error.CheckError.{CheckError}
 use Rattle.jh_check.specs.declared.error.CheckError.TheVariants.{Pair, BadValue, NegativeAdd}
-use Rattle.jh_check.specs.declared.error.CheckError.TheVariants.{OutOfMemory}
+use Rattle.jh_check.specs.declared.error.CheckError.TheVariants.{RepeatedAppend, OutOfMemory}
 use Rattle.jh_check.specs.declared.verdict.Verdict.{Verdict}
 use Rattle.jh_linear.specs.Calls.{AreRegOps, IsLeastBad}
 use Rattle.jh_linear.specs.Verdict.{IsJudged}
 use Rattle.jh_linear.specs.declared.register.RegOp.{RegOp}
 use Rattle.jh_linear.specs.declared.verdict.LinVerdict.{LinVerdict}
 use Rattle.jh_linear.specs.declared.verdict.LinVerdict.TheVariants.{Valid, Invalid, Unknown}
+use Rattle.jh_txn.specs.declared.model.ConsistencyModel.{ConsistencyModel}
+use Rattle.jh_txn.specs.declared.model.ConsistencyModel.TheVariants.{StrictSerializable}
+use Rattle.jh_txn_check.specs.Found.{IsTxnFinding}
+use Rattle.jh_txn_findings.specs.Findings.{txn_finding_verdict}
+use Rattle.jh_txn_findings.specs.declared.finding.TxnFinding.{TxnFinding}
+use Rattle.jh_txn_histories.specs.Histories.{RefusesTransactions}
+use Rattle.jh_txn_histories.specs.declared.histories.TxnError.TheVariants as transactions
 use Rattle.jh_checkers.specs.Explanations.{IsExplained, stuck_point}
 use Rattle.jh_checkers.specs.declared.checker.Checker.{Checker}
 use Rattle.jh_checkers.specs.declared.explanation.Explanation.{Explanation}
 use Rattle.jh_checkers.specs.declared.finding.Finding.{Finding}
 use Rattle.jh_checkers.specs.declared.finding.Finding.TheVariants.{Set, Counter, Ids, Register}
+use Rattle.jh_checkers.specs.declared.finding.Finding.TheVariants.{ListAppend}
 use Rattle.jh_checkers.specs.declared.finding.Judging.{Judging}
 
 -- ---- what is found
@@ -37,6 +46,20 @@ IsRegister judging history judged explanation =
     × IsJudged ops judging.initial judging.budget judged
     × IsExplained judging.explain history ops judged explanation
 
+-- the model that transactions are judged by: the one that is asked for, and strict serializability
+-- where none is
+abbrev pub judged_model : Option ConsistencyModel → ConsistencyModel
+judged_model None = StrictSerializable
+judged_model (Some model) = model
+
+-- Of transactions: what is found in those of the history by the model that they are judged by, of which
+-- more than one may be right.
+abbrev pub IsListAppend : Judging → List Operation → TxnFinding → Type 0
+IsListAppend judging history found =
+    IsWellFormed history
+    × IsTxnFinding history (history_pairs history) (judged_model judging.model)
+    judging.explain found
+
 -- what this checker finds
 abbrev pub IsFindingBy : Checker → Judging → List Operation → Finding → Type 0
 IsFindingBy Checker.Set judging history (Set found) =
@@ -46,6 +69,8 @@ IsFindingBy Checker.Counter judging history (Counter found) =
 IsFindingBy Checker.Ids judging history (Ids found) = found ≡ ids_result history
 IsFindingBy Checker.Register judging history (Register judged explanation) =
     IsRegister judging history judged explanation
+IsFindingBy Checker.ListAppend judging history (ListAppend found) =
+    IsListAppend judging history found
 IsFindingBy checker judging history finding = ⊥
 
 abbrev pub IsFinding : Judging → List Operation → Finding → Type 0
@@ -64,6 +89,7 @@ finding_verdict (Set found) = found.verdict
 finding_verdict (Counter found) = found.verdict
 finding_verdict (Ids found) = found.verdict
 finding_verdict (Register judged explanation) = verdict_of_register judged
+finding_verdict (ListAppend found) = txn_finding_verdict found
 
 -- what of a finding no choice of an order changes: of a register that is stuck, and where that is
 -- asked for, the completion and what is pending there
@@ -81,7 +107,22 @@ RefusesRegister history (Pair error) =
 RefusesRegister history (BadValue place) =
     IsWellFormed history × IsLeastBad history (history_pairs history) (Some place)
 RefusesRegister history (NegativeAdd place) = ⊥
+RefusesRegister history (RepeatedAppend place) = ⊥
 RefusesRegister history OutOfMemory = Unit {0}
+
+-- A history of transactions is refused for its pairs, then for a bad value or a repeated append, at
+-- the least place of all.
+abbrev pub RefusesListAppend : List Operation → CheckError → Type 0
+RefusesListAppend history (Pair error) =
+    (error_of_pairing error ≡ Pair error) × RefusesPairing history error
+RefusesListAppend history (BadValue place) =
+    IsWellFormed history
+    × RefusesTransactions history (history_pairs history) (transactions.BadValue place)
+RefusesListAppend history (NegativeAdd place) = ⊥
+RefusesListAppend history (RepeatedAppend place) =
+    IsWellFormed history
+    × RefusesTransactions history (history_pairs history) (transactions.RepeatedAppend place)
+RefusesListAppend history OutOfMemory = Unit {0}
 
 -- why a checker judges no history
 abbrev pub RefusesChecking : Checker → List Operation → CheckError → Type 0
@@ -89,3 +130,4 @@ RefusesChecking Checker.Set history error = RefusesSet history error
 RefusesChecking Checker.Counter history error = RefusesCounter history error
 RefusesChecking Checker.Ids history error = error ≡ OutOfMemory
 RefusesChecking Checker.Register history error = RefusesRegister history error
+RefusesChecking Checker.ListAppend history error = RefusesListAppend history error

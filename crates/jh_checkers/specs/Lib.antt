@@ -3,3 +3,4 @@ pub mod Findings
 pub mod Explanations
 pub mod Lines
 pub mod RegisterInside
+pub mod TransactionsInside

@@ -1,5 +1,5 @@
 -- The line of what is found in a history, without its line feed (this project's own; the keys are
--- those of jepsen.checker): the printed text of a map.
+-- those of jepsen.checker, and for transactions those of Elle): the printed text of a map.
 use Rattle.std.specs.Prelude.{ℕ, ℤ, pos, List, [], ◌∷◌, map, codes, Option, Some, None}
 use Rattle.jh_edn.specs.Edn.{Edn, nil, int, keyword}
 use Rattle.jh_edn.specs.Parts.{vector_of}
@@ -11,9 +11,11 @@ use Rattle.jh_checkers.specs.Findings.{verdict_of_register}
 use Rattle.jh_checkers.specs.declared.explanation.Explanation.{Explanation}
 use Rattle.jh_checkers.specs.declared.finding.Finding.{Finding}
 use Rattle.jh_checkers.specs.declared.finding.Finding.TheVariants.{Set, Counter, Ids, Register}
+use Rattle.jh_checkers.specs.declared.finding.Finding.TheVariants.{ListAppend}
 use Rattle.jh_linear.specs.declared.verdict.LinVerdict.{LinVerdict}
 use Rattle.jh_linear.specs.declared.verdict.LinVerdict.TheVariants.{Valid, Invalid}
 use Rattle.jh_linear.specs.declared.verdict.Stuck.{Stuck}
+use Rattle.jh_txn_findings.specs.Lines.{txn_finding_value}
 
 -- places among the pairs, as a vector
 abbrev pub order_value : List ℕ → Edn
@@ -51,6 +53,7 @@ finding_value (Set found) = set_value found
 finding_value (Counter found) = counter_value found
 finding_value (Ids found) = ids_value found
 finding_value (Register judged explanation) = register_value judged explanation
+finding_value (ListAppend found) = txn_finding_value found
 
 abbrev pub finding_line : Finding → List ℕ
 finding_line finding = print (finding_value finding)

@@ -13,6 +13,7 @@ pub enum Checker {
     Set,
     Counter,
     Ids,
+    ListAppend,
 }
 
 impl Checker {
@@ -27,11 +28,12 @@ impl Checker {
             "set" => Some(Checker::Set),
             "counter" => Some(Checker::Counter),
             "unique-ids" => Some(Checker::Ids),
+            "list-append" => Some(Checker::ListAppend),
             _ => None,
         }
     }
 
-    /// The checker of a workload that simulated clusters run.
+    /// The checker of a workload that simulated clusters run. None of them runs list-append.
     pub fn of(workload: Workload) -> Checker
         ensures { result ≡ checker_of workload }
     {

@@ -8,12 +8,15 @@ ghost use Rattle.jh_checkers.specs.Findings.{IsFinding, RefusesChecking};
 use crate::checker::Checker;
 use crate::explanation::Explanation;
 use crate::register::{check_register, verdict_of_register};
+use crate::transactions::check_transactions;
 use jh_check::{
     CheckError, CounterResult, IdsResult, SetResult, Verdict, check_counter, check_set,
     check_unique,
 };
 use jh_linear::LinVerdict;
 use jh_ops::Op;
+use jh_txn::ConsistencyModel;
+use jh_txn_findings::TxnFinding;
 use std::alloc::Global;
 
 /// What a history is judged by.
@@ -24,8 +27,10 @@ pub struct Judging {
     pub initial: Option<i64>,
     /// How many configurations the judge of a register may reach.
     pub budget: u64,
-    /// Whether the no of a register is explained.
+    /// Whether the no of a register, or that of transactions, is explained.
     pub explain: bool,
+    /// The consistency model that transactions are judged by, and strict serializability where it is missing.
+    pub model: Option<ConsistencyModel>,
 }
 
 /// What a checker finds in a history.
@@ -39,6 +44,7 @@ pub enum Finding {
         /// Of a register that is not valid, where it is asked for.
         explanation: Option<Explanation>,
     },
+    ListAppend(TxnFinding),
 }
 
 impl Finding {
@@ -51,22 +57,27 @@ impl Finding {
             Finding::Counter(found) => found.verdict,
             Finding::Ids(found) => found.verdict,
             Finding::Register { judged, .. } => verdict_of_register(judged),
+            Finding::ListAppend(found) => found.verdict(),
         }
     }
 }
 
-/// Judges a history by a checker: `check_set`, `check_counter` and `check_unique` of `jh_check`, or
-/// for a register the judge of `jh_linear` over its operations.
+/// Judges a history by a checker: `check_set`, `check_counter` and `check_unique` of `jh_check`,
+/// for a register the judge of `jh_linear` over its operations, or for transactions
+/// `find_transactions` of `jh_txn_check`.
 ///
-/// The initial value, the budget and whether a no is explained mean nothing to other checkers than
-/// the register's. A no of a register that is explained has the completion with which no order is
-/// left, and what is pending there.
+/// The initial value and the budget mean nothing to other checkers than the register's, the model
+/// nothing to other checkers than that of transactions, and whether a no is explained nothing to
+/// other checkers than these two. A no of a register that is explained has the completion with which
+/// no order is left, and what is pending there; one of transactions has the operations that it
+/// names.
 ///
 /// Errors: those of the checker. For a register `Pair`, then `BadValue` at the least place of one;
-/// `OutOfMemory` may come before either.
+/// for transactions `Pair`, then `BadValue` or `RepeatedAppend` at the least place of all, and of
+/// one place `BadValue` first; `OutOfMemory` may come before any of them.
 ///
-/// Costs what the checker costs; an explanation takes time linear in the operations beside it, and
-/// copies one of them.
+/// Costs what the checker costs; the explanation of a register takes time linear in the operations
+/// beside it, and copies one of them, and that of transactions copies those that it shows.
 pub fn check_history(alloc: Global, history: &[Op], judging: Judging) -> Result<Finding, CheckError>
     ensures { MatchResult result
         (IsFinding judging (operations history.now))
@@ -77,5 +88,6 @@ pub fn check_history(alloc: Global, history: &[Op], judging: Judging) -> Result<
         Checker::Counter => Ok(Finding::Counter(check_counter(alloc, history)?)),
         Checker::Ids => Ok(Finding::Ids(check_unique(alloc, history)?)),
         Checker::Register => check_register(alloc, history, judging),
+        Checker::ListAppend => check_transactions(alloc, history, judging),
     }
 }

@@ -11,6 +11,7 @@ mod finding;
 mod laws;
 mod lines;
 mod register;
+mod transactions;
 
 pub use checker::Checker;
 pub use explanation::Explanation;

@@ -16,6 +16,7 @@ use jh_check::{Verdict, write_counter, write_ids, write_set, write_verdict};
 use jh_edn::{EdnError, put, write_part};
 use jh_linear::{LinVerdict, Order, Stuck};
 use jh_ops::write_operation;
+use jh_txn_findings::write_txn_finding;
 use std::io::Write;
 
 /// Writes what a register holds, behind other pairs.
@@ -107,7 +108,7 @@ fn write_register<W: Write>(
 }
 
 /// Writes the one line of a finding, without a line feed. That of a set, a counter and unique ids
-/// is `jh_check`'s; that of a register is `{:valid? true, :order [..]}`, `{:valid? :unknown}` or
+/// is `jh_check`'s, that of transactions `jh_txn_findings`'s; that of a register is `{:valid? true, :order [..]}`, `{:valid? :unknown}` or
 /// `{:valid? false}`, which goes on where it is explained:
 /// `{:valid? false, :stuck {..}, :order [..], :value V, :pending [..]}`, with the completion at
 /// which it is stuck, an order of what is before it, the value that this leads to, and what is
@@ -129,5 +130,6 @@ pub fn write_finding<W: Write>(finding: &Finding, writer: &mut W) -> Result<(), 
             judged,
             explanation,
         } => write_register(judged, explanation, writer),
+        Finding::ListAppend(found) => write_txn_finding(found, writer),
     }
 }

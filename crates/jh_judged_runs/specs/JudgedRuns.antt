@@ -1,6 +1,6 @@
 -- What the history of a run is judged by, and what comes of the serial run of a plan (this project's
 -- own).
-use Rattle.std.specs.Prelude.{◌≡◌, ℕ, false, List}
+use Rattle.std.specs.Prelude.{◌≡◌, ℕ, false, List, None}
 use Rattle.jh_ops.specs.Operation.{Operation}
 use Rattle.jh_check.specs.declared.verdict.Verdict.{Verdict}
 use Rattle.jh_checkers.specs.Checkers.{checker_of}
@@ -11,7 +11,8 @@ use Rattle.jh_simnode.specs.Plans.{PlanValue}
 use Rattle.jh_simnode.specs.Runs.{IsSerialRun}
 use Rattle.jh_simnode.specs.declared.events.Event.{Event}
 
--- by the checker of the plan's workload, from what a register holds at first; a no is not explained
+-- by the checker of the plan's workload, from what a register holds at first; a no is not explained,
+-- and the model means nothing, since no cluster runs transactions
 abbrev pub run_judging : PlanValue → ℕ → Judging
 run_judging p budget =
     record {
@@ -19,6 +20,7 @@ run_judging p budget =
       initial = p.settings.initial;
       budget = budget;
       explain = false;
+      model = None;
     }
 
 -- The serial run of the plan has this journal and this history, in which, by a judge of this

@@ -7,7 +7,8 @@ use jh_checkers::{Checker, Judging};
 use jh_simnode::Plan;
 
 /// What the history of a run of the plan is judged by, with a budget for a register: the checker of
-/// the plan's workload, from what a register holds at first. Its no is not explained.
+/// the plan's workload, from what a register holds at first. Its no is not explained, and the model
+/// means nothing, since no cluster runs transactions.
 pub fn run_judging(plan: &Plan, budget: u64) -> Judging
     ensures { result ≡ rule.run_judging plan.now budget }
 {
@@ -16,5 +17,6 @@ pub fn run_judging(plan: &Plan, budget: u64) -> Judging
         initial: plan.initial(),
         budget,
         explain: false,
+        model: None,
     }
 }

@@ -9,7 +9,7 @@ use Rattle.jh_ops.specs.declared.pairs.PairError.TheVariants as pairing
 use Rattle.jh_ops.proofs.PlaceLemmas.{not_well_formed}
 use Rattle.jh_check.specs.CounterResults.{error_of_pairing}
 use Rattle.jh_check.specs.declared.error.CheckError.{CheckError}
-use Rattle.jh_check.specs.declared.error.CheckError.TheVariants.{Pair, BadValue, NegativeAdd, OutOfMemory}
+use Rattle.jh_check.specs.declared.error.CheckError.TheVariants.{Pair, BadValue, NegativeAdd, RepeatedAppend, OutOfMemory}
 use Rattle.jh_checkers.specs.Checkers.{checker_of}
 use Rattle.jh_checkers.specs.Findings.{RefusesChecking}
 use Rattle.jh_simnode.specs.declared.events.Event.{Event}
@@ -35,12 +35,15 @@ never_refused w c some journal a b OutOfMemory h = refl
 never_refused Register c some journal a b (Pair error) h = absurd (unpaired (journal_history journal) (is_formed Register c some journal a) error h.0 h.1)
 never_refused Register c some journal a b (BadValue place) h = absurd (not_bad c journal a b place h.1)
 never_refused Register c some journal a b (NegativeAdd place) h = absurd h
+never_refused Register c some journal a b (RepeatedAppend place) h = absurd h
 never_refused Counter c some journal a b (Pair error) h = absurd (unpaired (journal_history journal) (is_formed Counter c some journal a) error h.0 h.1)
 never_refused Counter c some journal a b (BadValue place) h = absurd (no_error c journal a b (BadValue place) h.1)
 never_refused Counter c some journal a b (NegativeAdd place) h = absurd (no_error c journal a b (NegativeAdd place) h.1)
+never_refused Counter c some journal a b (RepeatedAppend place) h = absurd h
 never_refused Set c some journal a b (Pair error) h = absurd h
 never_refused Set c some journal a b (BadValue place) h = absurd (last_shows journal b place h.0 h.1 h.2)
 never_refused Set c some journal a b (NegativeAdd place) h = absurd h
+never_refused Set c some journal a b (RepeatedAppend place) h = absurd h
 never_refused Ids c some journal a b e h = h
 
 some_client : (p : PlanValue) → IsFit p → 0 < p.clients
