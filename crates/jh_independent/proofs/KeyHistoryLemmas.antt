@@ -52,4 +52,5 @@ pub key_refused : (asked : KeysQuestion) (key : Edn) (inner : CheckError) → Re
 key_refused asked key (check_errors.Pair error) h = (check_errors.Pair error, h, (λ e. cc), refl)
 key_refused asked key (check_errors.BadValue place) h = (check_errors.BadValue place, h, (λ e. cc), refl)
 key_refused asked key (check_errors.NegativeAdd place) h = (check_errors.NegativeAdd place, h, (λ e. cc), refl)
+key_refused asked key (check_errors.RepeatedAppend place) h = (check_errors.RepeatedAppend place, h, (λ e. cc), refl)
 key_refused asked key check_errors.OutOfMemory h = tt

@@ -20,7 +20,13 @@ no_question =
     record {
       history = [];
       judging =
-          record { checker = Checker.Set; initial = None; budget = 0; explain = false };
+          record {
+            checker = Checker.Set;
+            initial = None;
+            budget = 0;
+            explain = false;
+            model = None;
+          };
     }
 
 -- how many keys are to be judged

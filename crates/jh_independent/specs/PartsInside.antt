@@ -35,4 +35,6 @@ keys_error_of places (check_errors.BadValue place) =
     Key (check_error_in places (check_errors.BadValue place))
 keys_error_of places (check_errors.NegativeAdd place) =
     Key (check_error_in places (check_errors.NegativeAdd place))
+keys_error_of places (check_errors.RepeatedAppend place) =
+    Key (check_error_in places (check_errors.RepeatedAppend place))
 keys_error_of places check_errors.OutOfMemory = OutOfMemory

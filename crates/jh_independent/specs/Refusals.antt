@@ -50,6 +50,8 @@ check_error_in places (check_errors.BadValue place) =
     check_errors.BadValue (slice_index_or places place 0)
 check_error_in places (check_errors.NegativeAdd place) =
     check_errors.NegativeAdd (slice_index_or places place 0)
+check_error_in places (check_errors.RepeatedAppend place) =
+    check_errors.RepeatedAppend (slice_index_or places place 0)
 check_error_in places check_errors.OutOfMemory = check_errors.OutOfMemory
 
 -- the history of a key is refused, and this is reported

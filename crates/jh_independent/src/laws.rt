@@ -15,12 +15,14 @@ use jh_checkers::findings_agree;
 
 /// Whatever judges the keys of a history, and on however many threads: for a set, a counter and
 /// unique ids the line is the same, and no key of a register is valid once and not valid another
-/// time. One that is not valid is stuck at one completion, where the same operations are pending.
+/// time. One that is not valid is stuck at one completion, where the same operations are pending. Of
+/// transactions it says nothing but that no finding has a place where it is stuck.
 pub fn key_findings_agree()
     ensures line { (asked : KeysQuestion) (a b : List KeyFinding)
-        → asked.judging.checker ≢ checker.Register → AreFindings asked a → AreFindings asked b
-        → keys_line a ≡ keys_line b }
-    ensures verdict { (asked : KeysQuestion) (key : Edn) (a b : Finding) → IsFindingOf asked key a
+        → asked.judging.checker ≢ checker.Register → asked.judging.checker ≢ checker.ListAppend
+        → AreFindings asked a → AreFindings asked b → keys_line a ≡ keys_line b }
+    ensures verdict { (asked : KeysQuestion) (key : Edn) (a b : Finding)
+        → asked.judging.checker ≢ checker.ListAppend → IsFindingOf asked key a
         → IsFindingOf asked key b → finding_verdict a ≡ verdict.True → finding_verdict b ≡ verdict.False
         → ⊥ }
     ensures stuck { (asked : KeysQuestion) (key : Edn) (a b : Finding) → IsFindingOf asked key a

@@ -95,6 +95,9 @@ fn error_in(places: &[usize], error: CheckError) -> KeysError
         CheckError::NegativeAdd(place) => {
             KeysError::Key(CheckError::NegativeAdd(place_in(places, place)))
         }
+        CheckError::RepeatedAppend(place) => {
+            KeysError::Key(CheckError::RepeatedAppend(place_in(places, place)))
+        }
         CheckError::OutOfMemory => KeysError::OutOfMemory,
     }
 }

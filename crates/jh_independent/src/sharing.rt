@@ -18,6 +18,9 @@ ghost use Rattle.jh_checkers.specs.contracts.explanation.Explanation as explanat
 ghost use Rattle.jh_independent.specs.contracts.split.KeyPlaces as places;
 ghost use Rattle.jh_checkers.specs.contracts.finding.Finding as finding;
 ghost use Rattle.jh_linear.specs.contracts.verdict.LinVerdict as verdict;
+ghost use Rattle.jh_txn_findings.specs.contracts.finding.FoundStep as step;
+ghost use Rattle.jh_txn_findings.specs.contracts.finding.FoundWhy as why;
+ghost use Rattle.jh_txn_findings.specs.contracts.finding.TxnFinding as transactions;
 ghost use Rattle.jh_ops.specs.contracts.operation.Op as op;
 
 use crate::split::KeyPlaces;
@@ -26,6 +29,7 @@ use jh_checkers::Explanation;
 use jh_edn::{Pairs, Text, Value, Values};
 use jh_linear::LinVerdict;
 use jh_ops::Op;
+use jh_txn_findings::TxnFinding;
 
 /// Tells the prover that values of a type can be sent to threads.
 fn can_be_sent<T: Send>()
@@ -121,6 +125,29 @@ fn explanations_can_be_sent()
     can_be_sent::<Explanation>()
 }
 
+/// Why one transaction comes before another one.
+fn reasons_can_be_sent()
+    ensures { IsSend why.the_row }
+{
+    values_can_be_sent();
+}
+
+/// Steps of cycles can be sent.
+fn steps_can_be_sent()
+    ensures { IsSend step.the_row }
+{
+    reasons_can_be_sent();
+}
+
+/// What is found in transactions.
+fn transactions_can_be_sent()
+    ensures { IsSend transactions.the_row }
+{
+    operations_can_be_sent();
+    steps_can_be_sent();
+    can_be_sent::<TxnFinding>()
+}
+
 /// Findings can be sent.
 pub(crate) fn findings_can_be_sent()
     ensures { IsSend finding.the_row }
@@ -130,6 +157,7 @@ pub(crate) fn findings_can_be_sent()
     ids_can_be_sent();
     verdicts_can_be_sent();
     explanations_can_be_sent();
+    transactions_can_be_sent();
 }
 
 /// Texts can be shared.

@@ -165,7 +165,8 @@ fn judged<Q: Asking + Send + Sync, G: Gate + Sync, R: Threads + Wait + Sync>(
 /// it. All threads have ended when it returns.
 ///
 /// What is found is what `check_keys_serial` may find, whatever the number of threads: for a set, a
-/// counter and unique ids that is one list, for a register each verdict is what the judge promises.
+/// counter and unique ids that is one list, for a register and for transactions each finding is what
+/// the judge promises.
 ///
 /// May wait, and promises only if it returns. Where there are fewer keys than threads, fewer
 /// threads are made.

@@ -70,6 +70,7 @@ fn register_answer(alloc: Global, budget: u64, history: &str) -> Option<String> 
         initial: Some(0),
         budget,
         explain: false,
+        model: None,
     };
     match check_history(alloc, &ops, judging) {
         Ok(found) => {
