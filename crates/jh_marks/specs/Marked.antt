@@ -19,13 +19,20 @@ use Rattle.jh_check.specs.declared.set.SetFound.{SetFound}
 use Rattle.jh_checkers.specs.declared.explanation.Explanation.{Explanation}
 use Rattle.jh_checkers.specs.declared.finding.Finding.{Finding}
 use Rattle.jh_checkers.specs.declared.finding.Finding.TheVariants.{Set, Counter, Ids, Register}
+use Rattle.jh_checkers.specs.declared.finding.Finding.TheVariants.{ListAppend}
 use Rattle.jh_linear.specs.declared.verdict.LinVerdict.{LinVerdict}
 use Rattle.jh_linear.specs.declared.verdict.LinVerdict.TheVariants.{Valid, Invalid, Unknown}
 use Rattle.jh_linear.specs.declared.verdict.Stuck.{Stuck}
 use Rattle.jh_timeline.specs.declared.marks.Mark.{Mark}
 use Rattle.jh_timeline.specs.declared.marks.Note.{Note}
+use Rattle.jh_timeline.specs.declared.marks.StepKind.{StepKind}
 use Rattle.jh_timeline.specs.declared.picture.Bar.{Bar}
 use Rattle.jh_timeline.specs.declared.picture.Call.{Call}
+use Rattle.jh_txn_findings.specs.declared.finding.FoundStep.{FoundStep}
+use Rattle.jh_txn_findings.specs.declared.finding.FoundWhy.{FoundWhy}
+use Rattle.jh_txn_findings.specs.declared.finding.FoundWhy.TheVariants as why
+use Rattle.jh_txn_findings.specs.declared.finding.TxnFinding.{TxnFinding}
+use Rattle.jh_txn_findings.specs.declared.finding.TxnFinding.TheVariants as txns
 
 -- ---- calls
 
@@ -147,6 +154,43 @@ found_note found history call =
 abbrev pub set_note : Option SetFound → List Operation → Call → Option Note
 set_note found history call = option_and_then (λ shown. found_note shown history call) found
 
+-- ---- transactions
+
+-- how a step leads on
+abbrev pub step_kind_of : FoundWhy → StepKind
+step_kind_of (why.WriteRead key element) = StepKind.WriteRead
+step_kind_of (why.WriteWrite key element) = StepKind.WriteWrite
+step_kind_of (why.FirstCommitter key element) = StepKind.FirstCommitter
+step_kind_of (why.ReadWrite key element) = StepKind.ReadWrite
+step_kind_of why.RealTime = StepKind.RealTime
+
+-- a step of a cycle
+abbrev pub step_note : FoundStep → Note
+step_note step = Note.Step step.place (step_kind_of step.why)
+
+-- the first step of a cycle that leads from its transaction
+abbrev pub cycle_note : List FoundStep → List Operation → Call → Option Note
+cycle_note steps history call =
+    option_map step_note (option_and_then (slice_get steps)
+    (place_in (map (λ step. step.place) steps) history call))
+
+-- the number is this one
+abbrev pub is_at_number : ℕ → Option ℕ → Bool
+is_at_number number found = option_map_or (λ other. other == number) found false
+
+-- it is the transaction at this place
+abbrev pub has_bad_read : ℕ → List Operation → Call → Bool
+has_bad_read place history call =
+    is_at_number place (place_among (invocations_of history) call.invoke)
+
+-- its first place in an order, of a snapshot order where it starts; its bad read; its step of a cycle
+abbrev pub transactions_note : TxnFinding → List Operation → Call → Option Note
+transactions_note (txns.Valid order) history call = placed_note order.items history call
+transactions_note (txns.BadRead place index kind operations) history call =
+    note_if (has_bad_read place history call) Note.BadRead
+transactions_note (txns.Cycle steps operations) history call = cycle_note steps.items history call
+transactions_note txns.Unknown history call = None
+
 -- ---- all
 
 -- the note of a call, by a finding
@@ -155,6 +199,7 @@ note_of (Set found) history call = set_note found.found history call
 note_of (Counter found) history call = counter_note found.reads history call
 note_of (Ids found) history call = ids_note found.duplicated history call
 note_of (Register judged explanation) history call = register_note judged explanation history call
+note_of (ListAppend found) history call = transactions_note found history call
 
 -- the mark of a note at a bar
 abbrev pub mark_at : ℕ → Option Note → Option Mark

@@ -6,9 +6,11 @@ mod ids;
 mod marked;
 mod notes;
 mod operations;
+mod orders;
 mod places;
 mod register;
 mod set;
+mod transactions;
 mod values;
 
 pub use marked::marks_of;

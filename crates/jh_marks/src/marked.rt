@@ -8,6 +8,7 @@ use crate::counter::counter_marks;
 use crate::ids::ids_marks;
 use crate::register::register_marks;
 use crate::set::set_marks;
+use crate::transactions::transactions_marks;
 use jh_checkers::Finding;
 use jh_ops::Op;
 use jh_timeline::{Bar, Mark};
@@ -21,7 +22,9 @@ use std::alloc::{AllocError, Global};
 /// place in the order of what is before, if it has one; else that place. Where nothing is known of
 /// it there are no marks. Unique ids: a call that gave an id that was given more than once. A
 /// counter: a read outside its bounds, with these. A set: a call that tried to add what is lost or
-/// recovered, and the last read that happened, where it shows what nobody tried to add.
+/// recovered, and the last read that happened, where it shows what nobody tried to add. Transactions:
+/// of a yes the first place of each in the order, which of a snapshot order is where it starts; of a no
+/// the transaction of the bad read, or each of the cycle with its step to the next one.
 ///
 /// The bars are those of a picture of the history, of whatever window. A call is known by where it
 /// is invoked and completed, and a number of an order means the client's invocation of this number.
@@ -48,5 +51,6 @@ pub fn marks_of(
             judged,
             explanation,
         } => register_marks(alloc, judged, explanation, history, bars),
+        Finding::ListAppend(found) => transactions_marks(alloc, found, history, bars),
     }
 }

@@ -1,85 +1,20 @@
 //! The marks of registers. `specs/Marked.antt` has the rule.
 
-ghost use Rattle.std.specs.Prelude.{◌≡◌, ℕ, IfOk, option_map};
-ghost use Rattle.std.specs.BTreeMap.{get};
-ghost use Rattle.std.specs.Ordering.{nat_cmp};
+ghost use Rattle.std.specs.Prelude.{◌≡◌, IfOk};
 ghost use Rattle.jh_ops.specs.Operation.{operations};
 ghost use Rattle.jh_marks.specs.Marked as rule;
-ghost use Rattle.jh_marks.specs.Marked.{marks_by, place_among, placed_note, register_note};
+ghost use Rattle.jh_marks.specs.Marked.{marks_by, register_note};
 ghost use Rattle.jh_marks.specs.MarkedInside as inside;
 
 use crate::notes::{no_marks, push_note};
 use crate::operations::is_completed_at;
+use crate::orders::{numbers_of, placed, placed_marks};
 use crate::places::{place_through, places_of};
 use jh_checkers::Explanation;
 use jh_linear::{LinVerdict, Stuck};
-use jh_ops::{Kind, Op, Process};
+use jh_ops::Op;
 use jh_timeline::{Bar, Call, Mark, Note};
 use std::alloc::{AllocError, Global};
-use std::collections::BTreeMap;
-
-/// Whether a client invokes something.
-fn is_invocation(op: &Op) -> bool
-    ensures { result ≡ inside.is_invocation op.now }
-{
-    match (op.process, op.kind) {
-        (Process::Client(_), Kind::Invoke) => true,
-        _ => false,
-    }
-}
-
-/// Where clients invoke something.
-fn invocations(alloc: Global, history: &[Op]) -> Result<Vec<usize>, AllocError>
-    ensures { IfOk result (λ found. found.items ≡ inside.invocations history.now) }
-{
-    history
-        .iter()
-        .enumerate()
-        .filter(|(_, op)| is_invocation(op))
-        .map(|(index, _)| index)
-        .collect(alloc)
-}
-
-/// The number that calls have in orders, by where they are invoked.
-fn numbers_of(alloc: Global, history: &[Op]) -> Result<BTreeMap<usize, usize>, AllocError>
-    ensures { IfOk result (λ numbers. (index : ℕ)
-        → get nat_cmp numbers index
-        ≡ place_among (rule.invocations_of (operations history.now)) index) }
-{
-    let found = invocations(alloc, history)?;
-    places_of(alloc, &found)
-}
-
-/// The place in an order, as a note.
-fn placed(place: Option<usize>) -> Option<Note>
-    ensures { result ≡ option_map Note.Placed place }
-{
-    match place {
-        Some(place) => Some(Note::Placed(place)),
-        None => None,
-    }
-}
-
-/// A mark at each call that an order has, with its place.
-fn valid_marks(
-    alloc: Global,
-    order: &[usize],
-    history: &[Op],
-    bars: &[Bar],
-) -> Result<Vec<Mark>, AllocError>
-    ensures { IfOk result
-        (λ marks. marks.items
-        ≡ marks_by (placed_note order.now (operations history.now)) bars.now) }
-{
-    let numbers = numbers_of(alloc, history)?;
-    let places = places_of(alloc, order)?;
-    let mut marks = Vec::new(alloc);
-    for (number, bar) in bars.iter().enumerate() {
-        let place = place_through(&numbers, &places, bar.call.invoke);
-        push_note(placed(place), number, &mut marks)?;
-    }
-    Ok(marks)
-}
 
 /// The numbers of what is pending, where that is known.
 fn pending_in(explanation: &Option<Explanation>) -> &[usize]
@@ -141,7 +76,7 @@ pub(crate) fn register_marks(
         ≡ marks_by (register_note judged.now explanation.now (operations history.now)) bars.now) }
 {
     match judged {
-        LinVerdict::Valid(order) => valid_marks(alloc, order.as_slice(), history, bars),
+        LinVerdict::Valid(order) => placed_marks(alloc, order.as_slice(), history, bars),
         LinVerdict::Invalid(stuck) => invalid_marks(alloc, stuck, explanation, history, bars),
         LinVerdict::Unknown(_) => Ok(no_marks(alloc, bars)),
     }

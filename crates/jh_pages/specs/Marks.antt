@@ -5,7 +5,11 @@ use Rattle.std.specs.Fmt.{decimal, signed_decimal}
 use Rattle.jh_timeline.specs.declared.marks.Note.{Note}
 use Rattle.jh_timeline.specs.declared.marks.Note.TheVariants.{Placed, Stuck, Pending, Lost}
 use Rattle.jh_timeline.specs.declared.marks.Note.TheVariants.{Recovered, Unexpected, Repeated}
-use Rattle.jh_timeline.specs.declared.marks.Note.TheVariants.{Outside}
+use Rattle.jh_timeline.specs.declared.marks.Note.TheVariants.{Outside, Step, BadRead}
+use Rattle.jh_timeline.specs.declared.marks.StepKind.{StepKind}
+use Rattle.jh_timeline.specs.declared.marks.StepKind.TheVariants.{WriteRead, WriteWrite}
+use Rattle.jh_timeline.specs.declared.marks.StepKind.TheVariants.{FirstCommitter, ReadWrite}
+use Rattle.jh_timeline.specs.declared.marks.StepKind.TheVariants.{RealTime}
 
 -- the class of a note in the style, which is its name too
 abbrev pub class_of : Note → List ℕ
@@ -17,12 +21,29 @@ class_of Recovered = codes "recovered"
 class_of Unexpected = codes "unexpected"
 class_of Repeated = codes "repeated"
 class_of (Outside lower upper) = codes "outside"
+class_of (Step place kind) = codes "step"
+class_of BadRead = codes "bad-read"
 
--- what a note says: a number in an order, that it is pending and has one, the bounds of a read, or
--- its name
+-- the name of a kind of step (Adya, "Weak consistency", 1999, has the first, the second and the
+-- fourth; `fcw` and `rt` are this project's own)
+abbrev pub step_kind_name : StepKind → List ℕ
+step_kind_name WriteRead = codes "wr"
+step_kind_name WriteWrite = codes "ww"
+step_kind_name FirstCommitter = codes "fcw"
+step_kind_name ReadWrite = codes "rw"
+step_kind_name RealTime = codes "rt"
+
+-- the place of a transaction and how it leads to the next one, as the steps of a cycle begin
+abbrev pub step_text : ℕ → StepKind → List ℕ
+step_text place kind = decimal place ++ (codes " :" ++ step_kind_name kind)
+
+-- what a note says: a number in an order, that it is pending and has one, the bounds of a read, a
+-- step of a cycle, that a read is bad, or its name
 abbrev pub note_text : Note → List ℕ
 note_text (Placed number) = decimal number
 note_text (Pending (Some number)) = codes "pending " ++ decimal number
 note_text (Outside lower upper) =
     codes "[" ++ (signed_decimal lower ++ (codes " " ++ (signed_decimal upper ++ codes "]")))
+note_text (Step place kind) = step_text place kind
+note_text BadRead = codes "bad read"
 note_text note = class_of note

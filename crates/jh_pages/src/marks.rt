@@ -3,11 +3,11 @@
 ghost use Rattle.std.specs.Prelude.{◌≡◌, IfErr, OnOk};
 ghost use Rattle.std.specs.Io.KnownBytes.{Appends};
 ghost use Rattle.jh_pages.specs.Marks as rule;
-ghost use Rattle.jh_pages.specs.Marks.{note_text};
+ghost use Rattle.jh_pages.specs.Marks.{note_text, step_text};
 
 use crate::error::PageError;
 use crate::markup::put;
-use jh_timeline::Note;
+use jh_timeline::{Note, StepKind};
 use std::io::Write;
 
 /// The class of a note in the style.
@@ -23,7 +23,32 @@ pub(crate) fn class_of(note: Note) -> &'static str
         Note::Unexpected => "unexpected",
         Note::Repeated => "repeated",
         Note::Outside { .. } => "outside",
+        Note::Step { .. } => "step",
+        Note::BadRead => "bad-read",
     }
+}
+
+/// The name of a kind of step.
+fn kind_name(kind: StepKind) -> &'static str
+    ensures { result.now ≡ rule.step_kind_name kind }
+{
+    match kind {
+        StepKind::WriteRead => "wr",
+        StepKind::WriteWrite => "ww",
+        StepKind::FirstCommitter => "fcw",
+        StepKind::ReadWrite => "rw",
+        StepKind::RealTime => "rt",
+    }
+}
+
+/// Writes the place of a transaction and how it leads to the next one.
+fn write_step<W: Write>(place: usize, kind: StepKind, writer: &mut W) -> Result<(), PageError>
+    ensures bytes { OnOk result
+        (Appends (W.contents writer.old) (W.contents writer.new) (step_text place kind)) }
+    ensures error { IfErr result (λ e. e ≡ PageError.Write) }
+{
+    let name = kind_name(kind);
+    write!(writer, "{place} :{name}").map_err(|_| PageError::Write)
 }
 
 /// Writes the text of a note.
@@ -40,6 +65,8 @@ pub(crate) fn write_note<W: Write>(note: Note, writer: &mut W) -> Result<(), Pag
         Note::Outside { lower, upper } => {
             write!(writer, "[{lower} {upper}]").map_err(|_| PageError::Write)
         }
+        Note::Step { place, kind } => write_step(place, kind, writer),
+        Note::BadRead => put(b"bad read", writer),
         _ => put(class_of(note).as_bytes(), writer),
     }
 }

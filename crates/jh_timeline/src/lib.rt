@@ -6,5 +6,5 @@ mod marks;
 mod picture;
 
 pub use lanes::picture_in;
-pub use marks::{Mark, Note};
+pub use marks::{Mark, Note, StepKind};
 pub use picture::{Bar, Call, Lane, Picture, Window};

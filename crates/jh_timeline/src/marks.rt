@@ -1,5 +1,20 @@
 //! What is marked in a picture.
 
+/// How a transaction of a cycle leads to the next one: the kind of the dependency.
+#[derive(Clone, Copy, Debug, PartialEq, Eq)]
+pub enum StepKind {
+    /// The next one read what it appended.
+    WriteRead,
+    /// The next one appended behind it.
+    WriteWrite,
+    /// The next one appended to what it had read and appended to.
+    FirstCommitter,
+    /// The next one appended what it had not read.
+    ReadWrite,
+    /// It was done before the next one was invoked.
+    RealTime,
+}
+
 /// What a mark says of an operation.
 #[derive(Clone, Copy, Debug, PartialEq, Eq)]
 pub enum Note {
@@ -25,6 +40,15 @@ pub enum Note {
         /// The most that it could be.
         upper: i128,
     },
+    /// It is a transaction of a cycle.
+    Step {
+        /// Its place among the transactions, from 0.
+        place: usize,
+        /// How it leads to the next one.
+        kind: StepKind,
+    },
+    /// It is a transaction with a read that no order explains.
+    BadRead,
 }
 
 /// A mark at a bar.

@@ -5,7 +5,7 @@ use Rattle.jh_timeline.specs.declared.marks.Note.{Note}
 use Rattle.jh_timeline.specs.declared.picture.Bar.{Bar}
 use Rattle.jh_marks.specs.Marked.{invocations_of, mark_at, placed_note}
 use Rattle.jh_marks.proofs.MarkLemmas.{marks_more, through}
-use Rattle.jh_marks.proofs.register.valid_marks.Goals as goal
+use Rattle.jh_marks.proofs.orders.placed_marks.Goals as goal
 
 pub loop-number-preserved : goal.loop-number-preserved
 loop-number-preserved c =

@@ -3,7 +3,7 @@ use Rattle.std.proofs.lemmas.Iterator.{YieldsList-from_map, YieldsList-from_slic
 use Rattle.std.proofs.lemmas.Iterator.Consumers.{YieldsList-at, YieldsList-from_enumerate, YieldsList-from_filter}
 use Rattle.jh_ops.specs.declared.operation.Op.{Op}
 use Rattle.jh_marks.specs.MarkedInside.{is_invocation}
-use Rattle.jh_marks.proofs.register.invocations.Goals as goal
+use Rattle.jh_marks.proofs.orders.invocations.Goals as goal
 
 pub returns : goal.returns
 returns c =

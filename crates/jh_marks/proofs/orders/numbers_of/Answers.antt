@@ -4,7 +4,7 @@ use Rattle.std.proofs.lemmas.Result.{IfOk-weaker}
 use Rattle.jh_ops.specs.Operation.{operations}
 use Rattle.jh_marks.specs.Marked.{invocations_of, place_among}
 use Rattle.jh_marks.proofs.MarkLemmas.{invocations_are}
-use Rattle.jh_marks.proofs.register.numbers_of.Goals as goal
+use Rattle.jh_marks.proofs.orders.numbers_of.Goals as goal
 
 pub returns : goal.returns
 returns c =
