@@ -7,10 +7,10 @@ use Rattle.clap.specs.declared.parser.matches.ArgMatches.{ArgMatches}
 use Rattle.jh_arguments.specs.Line.{AreMatches, IsCommandLine, IsRefused}
 
 pub line_simple : (app : App) → IsCommandLine app → is_simple app ≡ true
-line_simple app line = ap is_simple line.2
+line_simple app line = ap is_simple line.4
 
 pub line_free : (app : App) → IsCommandLine app → is_simple_and_free app ≡ true
-line_free app line = ap is_simple_and_free line.2
+line_free app line = ap is_simple_and_free line.4
 
 pub is_found : (r : Result ArgMatches Error) (arguments : List Text) (app : App) → IsCommandLine app → FailsBy (fault_of app arguments) r
     → IfOk r (HasMatchesOf app arguments) → IfOk r (AreMatches arguments)

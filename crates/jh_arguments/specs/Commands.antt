@@ -25,6 +25,7 @@ use Rattle.jh_cli.specs.declared.timeline_command.TimelineQuestion.{TimelineQues
 use Rattle.jh_arguments.specs.declared.commands.Command.{Command}
 use Rattle.jh_arguments.specs.declared.commands.Command.TheVariants.{Env, Check, Run, Shrink}
 use Rattle.jh_arguments.specs.declared.commands.Command.TheVariants.{Search, Timeline}
+use Rattle.jh_arguments.specs.Models.{model_named}
 use Rattle.jh_arguments.specs.Palettes.{palette_named}
 use Rattle.jh_checkers.specs.Checkers.{checker_name}
 use Rattle.jh_checkers.specs.declared.finding.Judging.{Judging}
@@ -72,6 +73,7 @@ pub record AsksCheck (options : List Row) (question : Question) : Type 0 where
   pub workload : first_of (codes "workload") options
       ≡ Some (checker_name question.judging.checker)
   pub initial : IsInitial (one_of (codes "initial") options) question.judging.initial
+  pub model : question.judging.model ≡ option_and_then model_named (first_of (codes "model") options)
   pub budget : IsNumber (one_of (codes "budget") options) question.judging.budget
   pub explain : IsFlag (one_of (codes "explain") options) question.judging.explain
   pub independent : IsFlag (one_of (codes "independent") options) question.independent
@@ -88,9 +90,10 @@ IsIndex (Some text) None = WritesUnsigned text → ⊥
 pub record IsJudgingBy (options : List Row) (name : Text) (judging : Judging) : Type 0 where
   pub workload : name ≡ checker_name judging.checker
   pub initial : IsInitial (one_of (codes "initial") options) judging.initial
+  pub model : judging.model ≡ option_and_then model_named (first_of (codes "model") options)
   pub budget : IsNumber (one_of (codes "budget") options) judging.budget
 
--- what the history of a page is judged by, where it is; the no of a register is explained
+-- what the history of a page is judged by, where it is; a no is explained
 abbrev pub IsJudging : List Row → Option Judging → Type 0
 IsJudging options None = first_of (codes "workload") options ≡ None
 IsJudging options (Some judging) =

@@ -14,6 +14,7 @@ use Rattle.clap.specs.declared.error.Error.{Error}
 use Rattle.clap.specs.declared.error.ErrorKind.TheVariants.{OutOfMemory}
 use Rattle.clap.specs.declared.parser.matches.ArgMatches.{ArgMatches}
 use Rattle.jh_checkers.specs.Checkers.{checker_names}
+use Rattle.jh_arguments.specs.Models.{model_names}
 
 -- an option that takes one value
 abbrev pub option : Text → Rule
@@ -22,6 +23,10 @@ option name = record (new_rule name) { long = Some name; value_names = 1 }
 -- one of these names
 abbrev pub workload : Bor (List (Bor Text)) → Rule
 workload names = record (option (codes "workload")) { parser = Some (Names names) }
+
+-- one of these consistency models
+abbrev pub model : Bor (List (Bor Text)) → Rule
+model models = record (option (codes "model")) { parser = Some (Names models) }
 
 abbrev pub needed_rule : Rule → Rule
 needed_rule rule = record rule { required = true }
@@ -53,19 +58,20 @@ flag name = record (new_rule name) { long = Some name; action = Some SetTrue }
 abbrev pub threads : Rule
 threads = number_rule (codes "threads") (Unsigned 1 16) (codes "1")
 
-abbrev pub check : Bor (List (Bor Text)) → App
-check names =
+abbrev pub check : Bor (List (Bor Text)) → Bor (List (Bor Text)) → App
+check names models =
     with_rule (with_rule
-    (with_rule (with_rule
+    (with_rule (with_rule (with_rule
     (with_rule (with_rule (new_app (codes "check")) (needed_rule (workload names)))
-    initial_rule)
+    initial_rule) (model models))
     (budget (codes "100000"))) (flag (codes "explain"))) (flag (codes "independent"))) threads
 
-abbrev pub timeline : Bor (List (Bor Text)) → App
-timeline names =
+abbrev pub timeline : Bor (List (Bor Text)) → Bor (List (Bor Text)) → App
+timeline names models =
     with_rule (with_rule
-    (with_rule (with_rule
+    (with_rule (with_rule (with_rule
     (with_rule (with_rule (new_app (codes "timeline")) (workload names)) initial_rule)
+    (model models))
     (budget (codes "100000"))) (flag (codes "independent"))) (index (codes "from")))
     (index (codes "to"))
 
@@ -89,20 +95,21 @@ search =
     (number_rule (codes "faults") (Unsigned 0 256) (codes "8"))) palette)
     (number_rule (codes "from") (Unsigned 0 9223372036854775807) (codes "0"))) given_threads
 
-abbrev pub jeprun : Bor (List (Bor Text)) → App
-jeprun names = with_subcommand (with_subcommand
+abbrev pub jeprun : Bor (List (Bor Text)) → Bor (List (Bor Text)) → App
+jeprun names models = with_subcommand (with_subcommand
     (with_subcommand (with_subcommand (with_subcommand (with_subcommand
     (on_top (λ s.
     record s { has_version = true; subcommand_required = true; arg_required_else_help = true })
     (new_app (codes "jeprun")))
-    (new_app (codes "env")).top) (check names).top) (new_app (codes "run")).top) shrink.top)
-    search.top) (timeline names).top
+    (new_app (codes "env")).top) (check names models).top) (new_app (codes "run")).top) shrink.top)
+    search.top) (timeline names models).top
 
--- the command line, with the names of the workloads that there are checkers for
+-- the command line, with the names of the workloads that there are checkers for, and those of the
+-- consistency models
 abbrev pub IsCommandLine : App → Type 0
 IsCommandLine app =
-    (names : Bor (List (Bor Text))) × (map (λ s. s.now) names.now ≡ checker_names)
-    × (app ≡ jeprun names)
+    (names models : Bor (List (Bor Text))) × (map (λ s. s.now) names.now ≡ checker_names)
+    × (map (λ s. s.now) models.now ≡ model_names) × (app ≡ jeprun names models)
 
 -- What is found in the arguments, and why they are refused, by `clap`'s definitions.
 abbrev pub AreMatches : List Text → ArgMatches → Type 0

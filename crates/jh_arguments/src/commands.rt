@@ -6,9 +6,9 @@ ghost use Rattle.std.specs.Prelude.{◌≡◌, ◌≢◌, ◌↔◌, ◌≤◌, 
 ghost use Rattle.std.specs.Prelude.{IsNone, IsErrOf, None, option_and_then};
 ghost use Rattle.clap.specs.Words.{first_of, found_of, one_of, rows_of, subcommand_rows_of};
 ghost use Rattle.jh_checkers.specs.declared.finding.Judging.{Judging};
-ghost use Rattle.jh_cli.specs.CheckText.{TakesInitial};
+ghost use Rattle.jh_cli.specs.CheckText.{TakesInitial, TakesModel};
 ghost use Rattle.jh_cli.specs.Outputs.{OnInput, WritesOutput};
-ghost use Rattle.jh_cli.specs.TimelineText.{TakesInitialBy};
+ghost use Rattle.jh_cli.specs.TimelineText.{TakesInitialBy, TakesModelBy};
 ghost use Rattle.jh_cli.specs.declared.error.CliError.TheVariants as CliError;
 ghost use Rattle.jh_arguments.specs.Commands.{AreThreadsGiven, AsksCheck, AsksFor, AsksSearch};
 ghost use Rattle.jh_arguments.specs.Commands.{AsksTimeline, HasNumbersInRange, IsFlag, IsIndex};
@@ -17,11 +17,13 @@ ghost use Rattle.jh_arguments.specs.Commands.{IsJudging, IsJudgingBy, IsNumber};
 ghost use Rattle.jh_arguments.specs.Commands.{IsOutputOf, IsThreads, RefusesCommand};
 ghost use Rattle.jh_arguments.specs.declared.commands.Command.{Command};
 ghost use Rattle.jh_arguments.specs.declared.commands.Command.TheVariants.{Check, Search, Timeline};
+ghost use Rattle.jh_arguments.specs.Models.{model_named as model_of_name};
 ghost use Rattle.jh_arguments.specs.Palettes as rule;
 ghost use Rattle.jh_cli.specs.declared.check_command.Question.{Question};
 ghost use Rattle.jh_cli.specs.declared.search_command.SearchQuestion.{SearchQuestion};
 ghost use Rattle.jh_cli.specs.declared.timeline_command.TimelineQuestion.{TimelineQuestion};
 
+use crate::models::model_named;
 use crate::palettes::palette_named;
 use clap::ArgMatches;
 use jh_checkers::{Checker, Judging};
@@ -32,6 +34,7 @@ use jh_cli::{
 use jh_search::{Palette, SearchObserver};
 use jh_sections::Choice;
 use jh_shrink::Observer;
+use jh_txn::ConsistencyModel;
 use std::alloc::Global;
 use std::io::{Read, Write};
 use std::sync::Wait;
@@ -79,7 +82,8 @@ pub fn command_of(matches: &ArgMatches<'_>) -> Option<Command>
 }
 
 /// What the options of `check` ask for. `parse` has seen to it that the workload is one that a
-/// checker judges, that the budget is a number, and that the number of threads is from 1 to 16.
+/// checker judges, that the model is one, that the budget is a number, and that the number of threads
+/// is from 1 to 16.
 pub fn question_of(options: &ArgMatches<'_>) -> Option<Question>
     ensures parsed { IfSome result (AsksCheck (rows_of (found_of options.now))) }
     ensures taken { IsNone result → (question : Question)
@@ -111,9 +115,9 @@ pub fn search_question_of(options: &ArgMatches<'_>) -> Option<SearchQuestion>
     })
 }
 
-/// What the options of `timeline` ask for. Where there is no workload, an initial value and a
-/// budget mean nothing. `parse` has seen to it that a workload is one that a checker judges, and that
-/// the budget is a number.
+/// What the options of `timeline` ask for. Where there is no workload, an initial value, a model and
+/// a budget mean nothing. `parse` has seen to it that a workload is one that a checker judges, that a
+/// model is one, and that the budget is a number.
 pub fn timeline_question_of(options: &ArgMatches<'_>) -> Option<TimelineQuestion>
     ensures parsed { IfSome result (AsksTimeline (rows_of (found_of options.now))) }
     ensures taken { IsNone result → (question : TimelineQuestion)
@@ -154,7 +158,19 @@ fn judging_by(options: &ArgMatches<'_>, name: &str, explain: bool) -> Option<Jud
         initial: initial_of(options),
         budget: number_of(options, "budget")?,
         explain,
+        model: model_of(options),
     })
+}
+
+/// The consistency model that is given, if it is. `parse` has seen to it that it is one.
+fn model_of(options: &ArgMatches<'_>) -> Option<ConsistencyModel>
+    ensures { result ≡ option_and_then model_of_name
+        (first_of (codes "model") (rows_of (found_of options.now))) }
+{
+    match options.get_str("model") {
+        Some(name) => model_named(name),
+        None => None,
+    }
 }
 
 /// The initial value that is given, if it is.
@@ -258,10 +274,21 @@ pub fn run<T: Threads + Wait + Sync, R: Read, W: Write, O: Observer + SearchObse
         ↔ (TakesInitial question.judging.checker question.judging.initial → ⊥) }
     ensures unread { (question : Question) → command ≡ Check question
         → IsErrOf result CliError.OnlyForRegister → reader.new ≡ reader.old }
+    ensures asked_model { (question : Question) → command ≡ Check question
+        → IsErrOf result CliError.OnlyForListAppend
+        ↔ (TakesInitial question.judging.checker question.judging.initial
+        × (TakesModel question.judging.checker question.judging.model → ⊥)) }
+    ensures unread_model { (question : Question) → command ≡ Check question
+        → IsErrOf result CliError.OnlyForListAppend → reader.new ≡ reader.old }
     ensures timeline_asked { (question : TimelineQuestion) → command ≡ Timeline question
         → IsErrOf result CliError.OnlyForRegister ↔ (TakesInitialBy question.judging → ⊥) }
     ensures timeline_unread { (question : TimelineQuestion) → command ≡ Timeline question
         → IsErrOf result CliError.OnlyForRegister → reader.new ≡ reader.old }
+    ensures timeline_model { (question : TimelineQuestion) → command ≡ Timeline question
+        → IsErrOf result CliError.OnlyForListAppend
+        ↔ (TakesInitialBy question.judging × (TakesModelBy question.judging → ⊥)) }
+    ensures timeline_unread_model { (question : TimelineQuestion) → command ≡ Timeline question
+        → IsErrOf result CliError.OnlyForListAppend → reader.new ≡ reader.old }
     ensures named { (question : SearchQuestion) → command ≡ Search question
         → IsErrOf result CliError.BadPalette ↔ (question.palette ≡ None) }
     ensures unread_unnamed { (question : SearchQuestion) → command ≡ Search question

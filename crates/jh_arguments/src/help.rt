@@ -25,14 +25,16 @@ Examples:
 pub(crate) const CHECK: &str = "\
 It writes the verdict, and what it stands on. Of a register that is not valid, --explain
 adds the completion at which it is stuck, an order of what is before that, the value that
-this order leads to, and the numbers of the operations that are pending there. Other
-workloads say themselves what is wrong.
+this order leads to, and the numbers of the operations that are pending there; of
+list-append, the transactions that the line names. Other workloads say themselves what is
+wrong.
 
 Exit status: 0 valid, 1 not valid, 2 unknown, 3 refused arguments or input, 4 where
 memory ran out, a read or a write failed, or a thread could not be had
 
 Examples:
   jeprun check --workload register --explain < examples/check/register-stale.edn
+  jeprun check --workload list-append --model serializable < examples/postgresql/repeatable-read.edn
   jeprun check --workload register --independent < examples/check/register-keys.edn";
 
 pub(crate) const RUN: &str = "\

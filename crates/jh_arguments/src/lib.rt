@@ -8,6 +8,7 @@
 mod commands;
 mod help;
 mod line;
+mod models;
 mod palettes;
 mod program;
 
@@ -16,5 +17,6 @@ pub use commands::{
 };
 pub use jh_cli::{Question, SearchQuestion, TimelineQuestion};
 pub use line::{REFUSED, parse, status_of_refusal};
+pub use models::model_named;
 pub use palettes::palette_named;
 pub use program::{Terminals, status};

@@ -8,6 +8,7 @@ ghost use Rattle.clap.specs.declared.error.ErrorKind.TheVariants as ErrorKind;
 ghost use Rattle.jh_cli.specs.declared.error.CliError.TheVariants as CliError;
 ghost use Rattle.jh_checkers.specs.Checkers.{checker_names};
 ghost use Rattle.jh_arguments.specs.Line as text;
+ghost use Rattle.jh_arguments.specs.Models.{model_names};
 ghost use Rattle.jh_arguments.specs.Line.{AreMatches, IsCommandLine, IsRefused};
 
 use crate::help;
@@ -22,7 +23,15 @@ use std::convert::AsStr;
 pub const REFUSED: u8 = 3;
 
 /// The names of the workloads, as `jh_checkers` has them.
-static WORKLOADS: [&str; 4] = ["register", "set", "counter", "unique-ids"];
+static WORKLOADS: [&str; 5] = ["register", "set", "counter", "unique-ids", "list-append"];
+
+/// The names of the consistency models, as `models.rt` has them.
+static MODELS: [&str; 4] = [
+    "strict-serializable",
+    "serializable",
+    "strong-snapshot-isolation",
+    "snapshot-isolation",
+];
 
 /// The names of the workloads, in the order of help.
 fn workloads() -> &'static [&'static str]
@@ -31,12 +40,20 @@ fn workloads() -> &'static [&'static str]
     WORKLOADS.as_slice()
 }
 
+/// The names of the consistency models, in the order of help.
+fn models() -> &'static [&'static str]
+    ensures { map (λ name. name.now) result.now ≡ model_names }
+{
+    MODELS.as_slice()
+}
+
 /// The commands and their options.
 fn command_line<'a>(alloc: Global) -> Result<Command<'a>, Error>
     ensures line { IfOk result (λ line. IsCommandLine (app_of line)) }
     ensures memory { IfErr result (λ e. kind_of e ≡ ErrorKind.OutOfMemory) }
 {
     let names = workloads();
+    let models = models();
     let env = Command::new(alloc, "env")
         .about("Applies fault steps to an environment, both read from standard input as EDN")
         .after_help(help::ENV);
@@ -52,23 +69,27 @@ fn command_line<'a>(alloc: Global) -> Result<Command<'a>, Error>
         .subcommand_required(true)
         .arg_required_else_help(true)
         .subcommand(env)?
-        .subcommand(check_command(alloc, names)?)?
+        .subcommand(check_command(alloc, names, models)?)?
         .subcommand(run)?
         .subcommand(shrink_command(alloc)?)?
         .subcommand(search_command(alloc)?)?
-        .subcommand(timeline_command(alloc, names)?)?;
+        .subcommand(timeline_command(alloc, names, models)?)?;
     Ok(jeprun)
 }
 
 /// The command `check` and its options.
-fn check_command<'a>(alloc: Global, names: &'static [&'static str]) -> Result<Command<'a>, Error>
-    ensures check { IfOk result (λ check. app_of check ≡ text.check names.entry) }
+fn check_command<'a>(
+    alloc: Global,
+    names: &'static [&'static str],
+    models: &'static [&'static str],
+) -> Result<Command<'a>, Error>
+    ensures check { IfOk result (λ check. app_of check ≡ text.check names.entry models.entry) }
     ensures memory { IfErr result (λ e. kind_of e ≡ ErrorKind.OutOfMemory) }
 {
     let explain = flag_option(
         alloc,
         "explain",
-        "Says of a register that is not valid where it is stuck",
+        "Says more of a no of a register or of list-append",
     );
     let independent = flag_option(
         alloc,
@@ -80,6 +101,7 @@ fn check_command<'a>(alloc: Global, names: &'static [&'static str]) -> Result<Co
         .after_help(help::CHECK)
         .arg(workload_option(alloc, names).required(true))?
         .arg(initial_option(alloc))?
+        .arg(model_option(alloc, models))?
         .arg(judge_option(alloc))?
         .arg(explain)?
         .arg(independent)?
@@ -88,8 +110,13 @@ fn check_command<'a>(alloc: Global, names: &'static [&'static str]) -> Result<Co
 }
 
 /// The command `timeline` and its options.
-fn timeline_command<'a>(alloc: Global, names: &'static [&'static str]) -> Result<Command<'a>, Error>
-    ensures timeline { IfOk result (λ timeline. app_of timeline ≡ text.timeline names.entry) }
+fn timeline_command<'a>(
+    alloc: Global,
+    names: &'static [&'static str],
+    models: &'static [&'static str],
+) -> Result<Command<'a>, Error>
+    ensures timeline { IfOk result
+        (λ timeline. app_of timeline ≡ text.timeline names.entry models.entry) }
     ensures memory { IfErr result (λ e. kind_of e ≡ ErrorKind.OutOfMemory) }
 {
     let independent = flag_option(
@@ -102,6 +129,7 @@ fn timeline_command<'a>(alloc: Global, names: &'static [&'static str]) -> Result
         .after_help(help::TIMELINE)
         .arg(workload_option(alloc, names))?
         .arg(initial_option(alloc))?
+        .arg(model_option(alloc, models))?
         .arg(judge_option(alloc))?
         .arg(independent)?
         .arg(index_option(alloc, "from", "The first record that is shown, from 0"))?
@@ -238,6 +266,18 @@ fn initial_option<'a>(alloc: Global) -> Arg<'a>
         .value_name("N")
         .help("The register's first value; nil where it is left out")
         .value_parser(value_parser!(i64))
+}
+
+/// By which consistency model transactions are judged: one of these names.
+fn model_option<'a>(alloc: Global, models: &'static [&'static str]) -> Arg<'a>
+    ensures rule { rule_of result ≡ text.model models.entry }
+    ensures local { result.global ≡ false }
+{
+    Arg::new(alloc, "model")
+        .long("model")
+        .value_name("MODEL")
+        .help("What transactions were to keep; strict-serializable where it is left out")
+        .value_parser(&*models)
 }
 
 /// The index of a record: a number of `u64`.

@@ -17,7 +17,7 @@ use Rattle.jh_cli.specs.CheckRefusals.{RefusesBy, RefusesCheck, RefusesJudging}
 use Rattle.jh_cli.specs.Status.{check_error, edn_error, keys_error, reading_error}
 use Rattle.jh_cli.specs.declared.check_command.Question.{Question}
 use Rattle.jh_cli.specs.declared.error.CliError.{CliError}
-use Rattle.jh_cli.specs.declared.error.CliError.TheVariants.{Input, EnvironmentMissing, Environment, Element, History, Check, Settings, Run, HistoryFull, Mismatch, Thread, OnlyForRegister, BadPalette, Unwritable, Read, Write, OutOfMemory}
+use Rattle.jh_cli.specs.declared.error.CliError.TheVariants.{Input, EnvironmentMissing, Environment, Element, History, Check, Settings, Run, HistoryFull, Mismatch, Thread, OnlyForRegister, OnlyForListAppend, BadPalette, Unwritable, Read, Write, OutOfMemory}
 
 -- ---- no history is read
 
@@ -54,6 +54,7 @@ pub by_checker : (error : CheckError) → IsJudging (check_error error)
 by_checker (CheckErrors.Pair error) = tt
 by_checker (CheckErrors.BadValue place) = tt
 by_checker (CheckErrors.NegativeAdd place) = tt
+by_checker (CheckErrors.RepeatedAppend place) = tt
 by_checker CheckErrors.OutOfMemory = tt
 
 pub by_keys : (error : KeysError) → IsJudging (keys_error error)
@@ -79,6 +80,7 @@ judging_refused question input history HistoryFull parsed refused = absurd (by_j
 judging_refused question input history Mismatch parsed refused = absurd (by_judging question.independent question.judging history Mismatch refused)
 judging_refused question input history Thread parsed refused = (parsed.0, parsed.1, (history, parsed.2, refused))
 judging_refused question input history OnlyForRegister parsed refused = absurd (by_judging question.independent question.judging history OnlyForRegister refused)
+judging_refused question input history OnlyForListAppend parsed refused = absurd (by_judging question.independent question.judging history OnlyForListAppend refused)
 judging_refused question input history BadPalette parsed refused = absurd (by_judging question.independent question.judging history BadPalette refused)
 judging_refused question input history Unwritable parsed refused = absurd (by_judging question.independent question.judging history Unwritable refused)
 judging_refused question input history Read parsed refused = absurd (by_judging question.independent question.judging history Read refused)

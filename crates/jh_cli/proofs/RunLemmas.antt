@@ -19,7 +19,7 @@ use Rattle.jh_cli.specs.RunInside.{own_error}
 use Rattle.jh_cli.specs.RunRefusals.{RefusesRunBytes, RefusesOwn, RefusesRun, RefusesSerial, RefusesRunIn, RefusesThreads}
 use Rattle.jh_cli.specs.Status.{run_error, settings_error, threads_error, world_error}
 use Rattle.jh_cli.specs.declared.error.CliError.{CliError}
-use Rattle.jh_cli.specs.declared.error.CliError.TheVariants.{Input, EnvironmentMissing, Environment, Element, History, Check, Settings, Run, HistoryFull, Mismatch, Thread, OnlyForRegister, BadPalette, Unwritable, Read, Write, OutOfMemory}
+use Rattle.jh_cli.specs.declared.error.CliError.TheVariants.{Input, EnvironmentMissing, Environment, Element, History, Check, Settings, Run, HistoryFull, Mismatch, Thread, OnlyForRegister, OnlyForListAppend, BadPalette, Unwritable, Read, Write, OutOfMemory}
 
 -- bytes that mean no settings
 pub settings_refused : (input : List ℕ) (error : SettingsError.the_data) → settings.RefusesSettings input error → RefusesRunBytes input (settings_error error)
@@ -45,6 +45,7 @@ run_refused input p mode budget HistoryFull parsed h = (p, mode, budget, parsed,
 run_refused input p mode budget Mismatch parsed h = (p, mode, budget, parsed, h)
 run_refused input p mode budget Thread parsed h = (p, mode, budget, parsed, h)
 run_refused input p mode budget OnlyForRegister parsed h = (p, mode, budget, parsed, h)
+run_refused input p mode budget OnlyForListAppend parsed h = (p, mode, budget, parsed, h)
 run_refused input p mode budget BadPalette parsed h = (p, mode, budget, parsed, h)
 run_refused input p mode budget Unwritable parsed h = (p, mode, budget, parsed, h)
 run_refused input p mode budget Read parsed h = (p, mode, budget, parsed, h)
@@ -74,6 +75,7 @@ bytes_refused input HistoryFull h = h
 bytes_refused input Mismatch h = h
 bytes_refused input Thread h = h
 bytes_refused input OnlyForRegister h = h
+bytes_refused input OnlyForListAppend h = h
 bytes_refused input BadPalette h = h
 bytes_refused input Unwritable h = h
 bytes_refused input Read h = tt
@@ -88,6 +90,7 @@ pub own_refused : (checker : Checker) (history : List Operation) (error : CheckE
 own_refused checker history (CheckErrors.Pair pairing) h = (CheckErrors.Pair pairing, λ e. absurd cc, h)
 own_refused checker history (CheckErrors.BadValue place) h = (CheckErrors.BadValue place, λ e. absurd cc, h)
 own_refused checker history (CheckErrors.NegativeAdd place) h = (CheckErrors.NegativeAdd place, λ e. absurd cc, h)
+own_refused checker history (CheckErrors.RepeatedAppend place) h = (CheckErrors.RepeatedAppend place, λ e. absurd cc, h)
 own_refused checker history CheckErrors.OutOfMemory h = tt
 
 -- a serial run is not completed
@@ -113,6 +116,7 @@ threads_refused checker history (Run error) h = absurd h
 threads_refused checker history HistoryFull h = absurd h
 threads_refused checker history Thread h = absurd h
 threads_refused checker history OnlyForRegister h = absurd h
+threads_refused checker history OnlyForListAppend h = absurd h
 threads_refused checker history BadPalette h = absurd h
 threads_refused checker history Unwritable h = absurd h
 threads_refused checker history Read h = absurd h

@@ -18,7 +18,7 @@ use Rattle.jh_cli.specs.SearchRefusals.{RefusesSearch, RefusesSearchBytes}
 use Rattle.jh_cli.specs.SearchText.{IsFoundText, candidate_comment}
 use Rattle.jh_cli.specs.Status.{search_error}
 use Rattle.jh_cli.specs.declared.error.CliError.{CliError}
-use Rattle.jh_cli.specs.declared.error.CliError.TheVariants.{Input, EnvironmentMissing, Environment, Element, History, Check, Settings, Run, HistoryFull, Mismatch, Thread, OnlyForRegister, BadPalette, Unwritable, Read, Write, OutOfMemory}
+use Rattle.jh_cli.specs.declared.error.CliError.TheVariants.{Input, EnvironmentMissing, Environment, Element, History, Check, Settings, Run, HistoryFull, Mismatch, Thread, OnlyForRegister, OnlyForListAppend, BadPalette, Unwritable, Read, Write, OutOfMemory}
 use Rattle.jh_cli.specs.declared.search_command.SearchQuestion.{SearchQuestion}
 
 -- the comment before a candidate is one
@@ -63,6 +63,7 @@ refused_by_bytes question input HistoryFull h = h
 refused_by_bytes question input Mismatch h = h
 refused_by_bytes question input Thread h = h
 refused_by_bytes question input OnlyForRegister h = h
+refused_by_bytes question input OnlyForListAppend h = h
 refused_by_bytes question input BadPalette h = absurd h
 refused_by_bytes question input Unwritable h = h
 refused_by_bytes question input Read h = absurd h

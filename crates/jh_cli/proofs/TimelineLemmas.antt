@@ -16,7 +16,7 @@ use Rattle.jh_cli.proofs.CheckLemmas.{IsJudging, by_checker, by_keys}
 use Rattle.jh_cli.specs.Status.{keys_error, reading_error}
 use Rattle.jh_cli.specs.TimelineRefusals.{RefusesFinding, RefusesPage, RefusesShowing, RefusesTimeline}
 use Rattle.jh_cli.specs.declared.error.CliError.{CliError}
-use Rattle.jh_cli.specs.declared.error.CliError.TheVariants.{Input, EnvironmentMissing, Environment, Element, History, Check, Settings, Run, HistoryFull, Mismatch, Thread, OnlyForRegister, BadPalette, Unwritable, Read, Write, OutOfMemory}
+use Rattle.jh_cli.specs.declared.error.CliError.TheVariants.{Input, EnvironmentMissing, Environment, Element, History, Check, Settings, Run, HistoryFull, Mismatch, Thread, OnlyForRegister, OnlyForListAppend, BadPalette, Unwritable, Read, Write, OutOfMemory}
 use Rattle.jh_cli.specs.declared.timeline_command.TimelineQuestion.{TimelineQuestion}
 
 -- ---- no parts are read
@@ -71,6 +71,7 @@ page_refused question input history below HistoryFull parts refused = (history, 
 page_refused question input history below Mismatch parts refused = (history, below, parts, refused)
 page_refused question input history below Thread parts refused = (history, below, parts, refused)
 page_refused question input history below OnlyForRegister parts refused = absurd (by_finding question.independent question.judging history OnlyForRegister refused)
+page_refused question input history below OnlyForListAppend parts refused = absurd (by_finding question.independent question.judging history OnlyForListAppend refused)
 page_refused question input history below BadPalette parts refused = absurd (by_finding question.independent question.judging history BadPalette refused)
 page_refused question input history below Unwritable parts refused = absurd (by_finding question.independent question.judging history Unwritable refused)
 page_refused question input history below Read parts refused = tt
@@ -85,6 +86,7 @@ keys_refused judging history (KeysErrors.BadValue place) refused other = (KeysEr
 keys_refused judging history (KeysErrors.Key (CheckErrors.Pair error)) refused other = (KeysErrors.Key (CheckErrors.Pair error), refused, other, refl)
 keys_refused judging history (KeysErrors.Key (CheckErrors.BadValue place)) refused other = (KeysErrors.Key (CheckErrors.BadValue place), refused, other, refl)
 keys_refused judging history (KeysErrors.Key (CheckErrors.NegativeAdd place)) refused other = (KeysErrors.Key (CheckErrors.NegativeAdd place), refused, other, refl)
+keys_refused judging history (KeysErrors.Key (CheckErrors.RepeatedAppend place)) refused other = (KeysErrors.Key (CheckErrors.RepeatedAppend place), refused, other, refl)
 keys_refused judging history (KeysErrors.Key CheckErrors.OutOfMemory) refused other = tt
 keys_refused judging history KeysErrors.Thread refused other = absurd (other refl)
 keys_refused judging history KeysErrors.OutOfMemory refused other = tt

@@ -13,12 +13,13 @@ use Rattle.jh_independent.specs.Refusals.{RefusesKeys, keys_question}
 use Rattle.jh_independent.specs.declared.error.KeysError.{KeysError}
 use Rattle.jh_checkers.specs.declared.checker.Checker.{Checker}
 use Rattle.jh_checkers.specs.declared.finding.Judging.{Judging}
-use Rattle.jh_cli.specs.CheckText.{TakesInitial, IsCheckTextOf}
+use Rattle.jh_cli.specs.CheckText.{TakesInitial, TakesModel, IsCheckTextOf}
 use Rattle.jh_cli.specs.Status.{check_error, keys_error, IsInputError, IsHistoryError}
 use Rattle.jh_cli.specs.declared.check_command.Question.{Question}
 use Rattle.jh_cli.specs.declared.error.CliError.{CliError}
-use Rattle.jh_cli.specs.declared.error.CliError.TheVariants.{Input, History, OnlyForRegister, Read}
-use Rattle.jh_cli.specs.declared.error.CliError.TheVariants.{Write, OutOfMemory}
+use Rattle.jh_cli.specs.declared.error.CliError.TheVariants.{Input, History, OnlyForRegister}
+use Rattle.jh_cli.specs.declared.error.CliError.TheVariants.{OnlyForListAppend, Read, Write}
+use Rattle.jh_cli.specs.declared.error.CliError.TheVariants.{OutOfMemory}
 
 -- why no line is made of a history, judged as one: its checker refuses it, or memory runs out
 abbrev pub RefusesLine : Checker → List Operation → CheckError → Type 0
@@ -59,6 +60,9 @@ RefusesCheckValues question values e =
 abbrev pub RefusesCheck : Question → List ℕ → CliError → Type 0
 RefusesCheck question input OnlyForRegister =
     TakesInitial question.judging.checker question.judging.initial → ⊥
+RefusesCheck question input OnlyForListAppend =
+    TakesInitial question.judging.checker question.judging.initial
+    × (TakesModel question.judging.checker question.judging.model → ⊥)
 RefusesCheck question input (Input error) =
     IsInputError error × edn.RefusesText input error × edn.IsFirstError input error
 RefusesCheck question input Read = Unit {0}

@@ -1,6 +1,6 @@
 -- What `jeprun check` writes: one line with what a checker finds in a history, or in that of each of
--- its keys (Jepsen's checkers `set`, `counter`, `unique-ids` and `linearizable`, and
--- jepsen.independent).
+-- its keys (Jepsen's checkers `set`, `counter`, `unique-ids` and `linearizable`, its workload
+-- list-append, and jepsen.independent).
 use Rattle.std.specs.Prelude.{◌≡◌, ℕ, ℤ, Bool, true, false, List, Option, Some, None}
 use Rattle.jh_edn.specs.Edn.{Edn}
 use Rattle.jh_edn.specs.Spelling.{SpellsAll}
@@ -11,6 +11,7 @@ use Rattle.jh_checkers.specs.Lines.{finding_line}
 use Rattle.jh_checkers.specs.declared.checker.Checker.{Checker}
 use Rattle.jh_checkers.specs.declared.finding.Finding.{Finding}
 use Rattle.jh_checkers.specs.declared.finding.Judging.{Judging}
+use Rattle.jh_txn.specs.declared.model.ConsistencyModel.{ConsistencyModel}
 use Rattle.jh_independent.specs.Lines.{keys_line, verdict_of_all}
 use Rattle.jh_independent.specs.Refusals.{AreFindings, keys_question}
 use Rattle.jh_independent.specs.declared.serial.KeyFinding.{KeyFinding}
@@ -24,9 +25,16 @@ TakesInitial Checker.Register initial = Unit {0}
 TakesInitial checker None = Unit {0}
 TakesInitial checker (Some value) = ⊥
 
+-- A consistency model is for transactions over lists alone.
+abbrev pub TakesModel : Checker → Option ConsistencyModel → Type 0
+TakesModel Checker.ListAppend model = Unit {0}
+TakesModel checker None = Unit {0}
+TakesModel checker (Some model) = ⊥
+
 -- ---- what is written, with the exit status
 
--- For a history as one. More than one may be right on a register: any valid order may be given.
+-- For a history as one. More than one may be right on a register and on transactions: any order may
+-- be given, and of transactions any of what excludes all orders.
 abbrev pub IsWholeText : Judging → List Operation → ℕ → List ℕ → Type 0
 IsWholeText judging history status output =
     (finding : Finding) × IsFinding judging history finding

@@ -17,7 +17,8 @@ use Rattle.jh_cli.specs.declared.error.CliError.{CliError}
 use Rattle.jh_cli.specs.declared.error.CliError.TheVariants.{Input, EnvironmentMissing, Environment}
 use Rattle.jh_cli.specs.declared.error.CliError.TheVariants.{Element, History, Check, Settings, Run}
 use Rattle.jh_cli.specs.declared.error.CliError.TheVariants.{HistoryFull, Mismatch, Thread}
-use Rattle.jh_cli.specs.declared.error.CliError.TheVariants.{OnlyForRegister, BadPalette}
+use Rattle.jh_cli.specs.declared.error.CliError.TheVariants.{OnlyForRegister, OnlyForListAppend}
+use Rattle.jh_cli.specs.declared.error.CliError.TheVariants.{BadPalette}
 use Rattle.jh_cli.specs.declared.error.CliError.TheVariants.{Unwritable, Read, Write}
 use Rattle.jh_cli.specs.declared.error.CliError.TheVariants.{OutOfMemory}
 
@@ -34,6 +35,7 @@ error_status HistoryFull = 4
 error_status Mismatch = 4
 error_status Thread = 4
 error_status OnlyForRegister = 3
+error_status OnlyForListAppend = 3
 error_status BadPalette = 3
 error_status Unwritable = 3
 error_status Read = 4
@@ -48,6 +50,7 @@ own_text HistoryFull = Some (codes "history full")
 own_text Mismatch = Some (codes "mismatch")
 own_text Thread = Some (codes "thread failed")
 own_text OnlyForRegister = Some (codes "--initial: only for register")
+own_text OnlyForListAppend = Some (codes "--model: only for list-append")
 own_text BadPalette =
     Some (codes "--palette: not kinds of cut, slow, loss, fix, pause, kill, bump, with commas between")
 own_text Unwritable = Some (codes "settings: generator too deep to be written again")

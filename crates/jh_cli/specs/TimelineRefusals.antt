@@ -12,10 +12,11 @@ use Rattle.jh_ops.specs.Operation.{Operation}
 use Rattle.jh_sections.specs.HistoryAndRest.{AreHistoryAndRest, RefusesHistoryAndRest}
 use Rattle.jh_cli.specs.CheckRefusals.{RefusesWhole}
 use Rattle.jh_cli.specs.Status.{IsInputError, IsHistoryError, keys_error}
-use Rattle.jh_cli.specs.TimelineText.{IsTimelineTextOf, TakesInitialBy}
+use Rattle.jh_cli.specs.TimelineText.{IsTimelineTextOf, TakesInitialBy, TakesModelBy}
 use Rattle.jh_cli.specs.declared.error.CliError.{CliError}
-use Rattle.jh_cli.specs.declared.error.CliError.TheVariants.{Input, History, OnlyForRegister, Read}
-use Rattle.jh_cli.specs.declared.error.CliError.TheVariants.{Write, OutOfMemory}
+use Rattle.jh_cli.specs.declared.error.CliError.TheVariants.{Input, History, OnlyForRegister}
+use Rattle.jh_cli.specs.declared.error.CliError.TheVariants.{OnlyForListAppend, Read, Write}
+use Rattle.jh_cli.specs.declared.error.CliError.TheVariants.{OutOfMemory}
 use Rattle.jh_cli.specs.declared.timeline_command.TimelineQuestion.{TimelineQuestion}
 
 -- why the keys of a history are not judged; they are judged on one thread, which does not fail
@@ -50,6 +51,8 @@ RefusesPage question history e = RefusesShowing question.independent question.ju
 -- memory may come with any input; a failed write comes only where there is something to write.
 abbrev pub RefusesTimeline : TimelineQuestion → List ℕ → CliError → Type 0
 RefusesTimeline question input OnlyForRegister = TakesInitialBy question.judging → ⊥
+RefusesTimeline question input OnlyForListAppend =
+    TakesInitialBy question.judging × (TakesModelBy question.judging → ⊥)
 RefusesTimeline question input (Input error) =
     IsInputError error × RefusesHistoryAndRest input (reading.Text error)
 RefusesTimeline question input (History error) =

@@ -16,7 +16,7 @@ use Rattle.jh_sections.specs.KeySections.{AreSectionsOf}
 use Rattle.jh_sections.specs.HistoryAndRest.{AreHistoryAndRest}
 use Rattle.jh_sections.specs.Sections.{IsSectionOf}
 use Rattle.jh_sections.specs.declared.window.Choice.{Choice}
-use Rattle.jh_cli.specs.CheckText.{TakesInitial}
+use Rattle.jh_cli.specs.CheckText.{TakesInitial, TakesModel}
 use Rattle.jh_cli.specs.Outputs.{verdict_status}
 use Rattle.jh_cli.specs.declared.timeline_command.TimelineQuestion.{TimelineQuestion}
 
@@ -25,8 +25,13 @@ abbrev pub TakesInitialBy : Option Judging → Type 0
 TakesInitialBy None = Unit {0}
 TakesInitialBy (Some judging) = TakesInitial judging.checker judging.initial
 
--- What is found in a history, if it is judged. More than one may be right on a register: any valid
--- order may be given.
+-- A consistency model is for transactions over lists alone.
+abbrev pub TakesModelBy : Option Judging → Type 0
+TakesModelBy None = Unit {0}
+TakesModelBy (Some judging) = TakesModel judging.checker judging.model
+
+-- What is found in a history, if it is judged. More than one may be right on a register and on
+-- transactions, as `check` has it.
 abbrev pub IsFoundBy : Option Judging → List Operation → Option Finding → Type 0
 IsFoundBy None history found = found ≡ None
 IsFoundBy (Some judging) history found = IsSomeAnd found (IsFinding judging history)

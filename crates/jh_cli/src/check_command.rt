@@ -8,7 +8,7 @@ ghost use Rattle.jh_ops.specs.Operation.{operations};
 ghost use Rattle.jh_cli.specs.CheckRefusals.{RefusesByKeys, RefusesCheck, RefusesJudging};
 ghost use Rattle.jh_cli.specs.CheckRefusals.{RefusesWhole};
 ghost use Rattle.jh_cli.specs.CheckText.{IsCheckTextOf, IsHistoryText, IsKeysText, IsWholeText};
-ghost use Rattle.jh_cli.specs.CheckText.{TakesInitial};
+ghost use Rattle.jh_cli.specs.CheckText.{TakesInitial, TakesModel};
 ghost use Rattle.jh_cli.specs.Outputs.{OnInput, WritesOutput};
 
 use crate::error::CliError;
@@ -42,9 +42,10 @@ pub struct Question {
 /// threads, as `jh_independent::check_keys` does. Then the call may wait, and promises only if it
 /// returns. Otherwise the threads mean nothing.
 ///
-/// Errors: `OnlyForRegister` where there is an initial value and no register, before anything is
-/// read; an error of reading, then of the text (`Input`), `History`, `Check`; `Thread`;
-/// `OutOfMemory`; `Write`. Nothing is written before any of them but `Write`.
+/// Errors: `OnlyForRegister` where there is an initial value and no register, `OnlyForListAppend`
+/// where there is a consistency model and no transactions over lists, both before anything is read;
+/// an error of reading, then of the text (`Input`), `History`, `Check`; `Thread`; `OutOfMemory`;
+/// `Write`. Nothing is written before any of them but `Write`.
 pub fn check_run<T: Threads + Wait + Sync, R: Read, W: Write>(
     rt: &T,
     alloc: Global,
@@ -58,12 +59,19 @@ pub fn check_run<T: Threads + Wait + Sync, R: Read, W: Write>(
     ensures asked { IsErrOf result CliError.OnlyForRegister
         ↔ (TakesInitial question.judging.checker question.judging.initial → ⊥) }
     ensures unread { IsErrOf result CliError.OnlyForRegister → reader.new ≡ reader.old }
+    ensures asked_model { IsErrOf result CliError.OnlyForListAppend
+        ↔ (TakesInitial question.judging.checker question.judging.initial
+        × (TakesModel question.judging.checker question.judging.model → ⊥)) }
+    ensures unread_model { IsErrOf result CliError.OnlyForListAppend → reader.new ≡ reader.old }
     ensures refused { IfErr result (λ e. OnInput (R.remaining reader.old)
         (λ input. RefusesCheck question input e)) }
     ensures unwritten { IfErr result (λ e. e ≢ CliError.Write → writer.new ≡ writer.old) }
 {
     if !takes_initial(question.judging) {
         return Err(CliError::OnlyForRegister);
+    }
+    if !takes_model(question.judging) {
+        return Err(CliError::OnlyForListAppend);
     }
     let history = read_history(alloc, reader, MAX_READS)?;
     let output = judge_history(rt, alloc, &history, question)?;
@@ -75,6 +83,13 @@ pub(crate) fn takes_initial(judging: Judging) -> bool
     ensures { IsTrue result ↔ TakesInitial judging.checker judging.initial }
 {
     judging.initial.is_none() || matches!(judging.checker, Checker::Register)
+}
+
+/// Whether a consistency model, if there is one, goes with the checker.
+pub(crate) fn takes_model(judging: Judging) -> bool
+    ensures { IsTrue result ↔ TakesModel judging.checker judging.model }
+{
+    judging.model.is_none() || matches!(judging.checker, Checker::ListAppend)
 }
 
 /// What is written for a history.

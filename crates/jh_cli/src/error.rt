@@ -21,8 +21,8 @@ use std::fmt::{self, Display, Formatter};
 use std::io::{self, Write};
 
 /// Why a command ended early. `Read`, `Write`, `Thread` and `OutOfMemory` are errors of the
-/// machine, `Run`, `HistoryFull` and `Mismatch` say that a run was not completed, `OnlyForRegister`
-/// and `BadPalette` refuse the arguments, and all others what was read.
+/// machine, `Run`, `HistoryFull` and `Mismatch` say that a run was not completed, `OnlyForRegister`,
+/// `OnlyForListAppend` and `BadPalette` refuse the arguments, and all others what was read.
 #[derive(Debug, Drop)]
 pub enum CliError {
     /// The input is no text of EDN values.
@@ -50,6 +50,8 @@ pub enum CliError {
     Thread,
     /// There is an initial value, and no register.
     OnlyForRegister,
+    /// There is a consistency model, and no transactions over lists.
+    OnlyForListAppend,
     /// The kinds of faults of a search are no names of kinds.
     BadPalette,
     /// Settings can't say the plan of a search again.
@@ -76,6 +78,7 @@ impl CliError {
             | CliError::Check(_)
             | CliError::Settings(_)
             | CliError::OnlyForRegister
+            | CliError::OnlyForListAppend
             | CliError::BadPalette
             | CliError::Unwritable => 3,
             CliError::Run(_)
@@ -114,6 +117,7 @@ impl Display for CliError {
             CliError::Mismatch => f.write_str("mismatch"),
             CliError::Thread => f.write_str("thread failed"),
             CliError::OnlyForRegister => f.write_str("--initial: only for register"),
+            CliError::OnlyForListAppend => f.write_str("--model: only for list-append"),
             CliError::BadPalette => f.write_str(
                 "--palette: not kinds of cut, slow, loss, fix, pause, kill, bump, with commas between",
             ),

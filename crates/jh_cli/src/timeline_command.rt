@@ -14,9 +14,9 @@ ghost use Rattle.jh_cli.specs.TimelineRefusals.{RefusesTimeline};
 ghost use Rattle.jh_cli.specs.TimelineText as text;
 ghost use Rattle.jh_cli.specs.TimelineText.{IsFoundBy, IsPage, IsTimelineTextOf, Shows};
 ghost use Rattle.jh_cli.specs.TimelineText.{ShowsKeys, ShowsWhole};
-ghost use Rattle.jh_cli.specs.TimelineText.{TakesInitialBy};
+ghost use Rattle.jh_cli.specs.TimelineText.{TakesInitialBy, TakesModelBy};
 
-use crate::check_command::takes_initial;
+use crate::check_command::{takes_initial, takes_model};
 use crate::error::CliError;
 use crate::lines::{finding_text, keys_text};
 use crate::output::{self, MAX_READS, Output, finish};
@@ -60,9 +60,10 @@ struct Shown {
 /// Takes what the checker takes, O(n log n) for n records beside it, and memory for the text, the
 /// history and the page.
 ///
-/// Errors: `OnlyForRegister` where there is an initial value and no register, before anything is
-/// read; an error of reading, then of the text (`Input`), `History`, `Check`; `OutOfMemory`;
-/// `Write`. Nothing is written before any of them but `Write`.
+/// Errors: `OnlyForRegister` where there is an initial value and no register, `OnlyForListAppend`
+/// where there is a consistency model and no transactions over lists, both before anything is read;
+/// an error of reading, then of the text (`Input`), `History`, `Check`; `OutOfMemory`; `Write`.
+/// Nothing is written before any of them but `Write`.
 pub fn timeline_run<R: Read, W: Write>(
     alloc: Global,
     reader: &mut R,
@@ -74,12 +75,18 @@ pub fn timeline_run<R: Read, W: Write>(
     ensures asked { IsErrOf result CliError.OnlyForRegister
         ↔ (TakesInitialBy question.judging → ⊥) }
     ensures unread { IsErrOf result CliError.OnlyForRegister → reader.new ≡ reader.old }
+    ensures asked_model { IsErrOf result CliError.OnlyForListAppend
+        ↔ (TakesInitialBy question.judging × (TakesModelBy question.judging → ⊥)) }
+    ensures unread_model { IsErrOf result CliError.OnlyForListAppend → reader.new ≡ reader.old }
     ensures refused { IfErr result (λ e. OnInput (R.remaining reader.old)
         (λ input. RefusesTimeline question input e)) }
     ensures unwritten { IfErr result (λ e. e ≢ CliError.Write → writer.new ≡ writer.old) }
 {
     if !may_have_initial(question.judging) {
         return Err(CliError::OnlyForRegister);
+    }
+    if !may_have_model(question.judging) {
+        return Err(CliError::OnlyForListAppend);
     }
     let parts = read_history_and_rest(alloc, reader, MAX_READS)?;
     let output = page_of(alloc, parts, question)?;
@@ -92,6 +99,16 @@ fn may_have_initial(judging: Option<Judging>) -> bool
 {
     match judging {
         Some(judging) => takes_initial(judging),
+        None => true,
+    }
+}
+
+/// Whether a consistency model, if there is one, goes with the checker, if there is one.
+fn may_have_model(judging: Option<Judging>) -> bool
+    ensures { IsTrue result ↔ TakesModelBy judging }
+{
+    match judging {
+        Some(judging) => takes_model(judging),
         None => true,
     }
 }

@@ -16,7 +16,7 @@ returns-in_err-judging_by-clause-taken c = λ none question asks.
     let given = text_given (found_of c.args.options.now) (codes "workload") c.get_str.result (Some c.in_ok-name.name.now) (search rules) (search rules) in
     let both : Some c.in_ok-name.name.now ≡ Some (checker_name question.judging.checker) = sym given ∙ asks.workload in
     let same : c.in_ok-name.name.now ≡ checker_name question.judging.checker = cc in
-    c.judging_by.ensures.taken (search rules) question.judging (record { workload = same; initial = asks.initial; budget = asks.budget })
+    c.judging_by.ensures.taken (search rules) question.judging (record { workload = same; initial = asks.initial; model = asks.model; budget = asks.budget })
 
 pub returns-in_err-threads_of-clause-taken : goal.returns-in_err-threads_of-clause-taken
 returns-in_err-threads_of-clause-taken c = λ none question asks. c.threads_of.ensures.taken (search rules) question.threads asks.threads
@@ -28,6 +28,7 @@ returns-clause-parsed c =
     record {
       workload = given ∙ ap Some judged.parsed.workload;
       initial = judged.parsed.initial;
+      model = judged.parsed.model;
       budget = judged.parsed.budget;
       explain = subst (IsFlag (one_of (codes "explain") (rows_of (found_of c.args.options.now)))) (sym judged.explained) c.flag_of-explain.ensures;
       independent = c.flag_of.ensures;

@@ -17,6 +17,7 @@ versioned a = on_top (λ s. record s { has_version = true }) a
 pub returns-clause-line : goal.returns-clause-line
 returns-clause-line c =
     let names = c.workloads-names.result in
+    let models = c.models-models.result in
     let check = c.in_ok-check_command.ensures.check in
     let timeline = c.in_ok-timeline_command.ensures.timeline in
     let shrink = c.in_ok-shrink_command.ensures.shrink in
@@ -32,7 +33,7 @@ returns-clause-line c =
     ∙ (ap app_of_fields c.about-3.ensures ∙ c.new-3.ensures.app))) in
     let top : app_of c.arg_required_else_help.result ≡ helping (wants_one (versioned (new_app (codes "jeprun")))) = ap app_of_fields c.arg_required_else_help.ensures
     ∙ ap helping asked in
-    let whole : app_of c.in_ok-jeprun.jeprun ≡ jeprun names = c.in_ok-jeprun.ensures.shape of_timeline.globals ∙ ap₂ with_subcommand
+    let whole : app_of c.in_ok-jeprun.jeprun ≡ jeprun names models = c.in_ok-jeprun.ensures.shape of_timeline.globals ∙ ap₂ with_subcommand
     (c.in_ok-subcommand-5.ensures.shape of_search.globals ∙ ap₂ with_subcommand
     (c.in_ok-subcommand-4.ensures.shape of_shrink.globals ∙ ap₂ with_subcommand
     (c.in_ok-subcommand-3.ensures.shape (rw (c.after_help-run.ensures, c.about-2.ensures) c.new-2.ensures.local) ∙ ap₂ with_subcommand
@@ -40,4 +41,4 @@ returns-clause-line c =
     (c.in_ok-subcommand.ensures.shape (rw (c.after_help-env.ensures, c.about.ensures) c.new.ensures.local) ∙ ap₂ with_subcommand top (ap (λ (a : App). a.top) env))
     (ap (λ (a : App). a.top) check)) (ap (λ (a : App). a.top) run)) (ap (λ (a : App). a.top) shrink))
     (ap (λ (a : App). a.top) search)) (ap (λ (a : App). a.top) timeline) in
-    (names, c.workloads-names.ensures, whole)
+    (names, models, c.workloads-names.ensures, c.models-models.ensures, whole)
