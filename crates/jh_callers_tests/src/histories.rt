@@ -86,6 +86,7 @@ fn verdict_by_keys(alloc: Global, history: &[Op]) -> Option<Verdict> {
         initial: None,
         budget: 1_000,
         explain: false,
+        model: None,
     };
     let found = check_keys_serial(alloc, history, judging).ok()?;
     verdict_of_all(alloc, &found).ok()

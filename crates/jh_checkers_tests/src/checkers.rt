@@ -12,16 +12,17 @@ fn name_of(name: &str) -> &'static str {
         Some(Checker::Set) => "set",
         Some(Checker::Counter) => "counter",
         Some(Checker::Ids) => "unique-ids",
+        Some(Checker::ListAppend) => "list-append",
         None => "none",
     }
 }
 
 #[test]
 fn names_mean_checkers(rt: HostRuntime) {
-    for name in "register set counter unique-ids".split(' ') {
+    for name in "register set counter unique-ids list-append".split(' ') {
         assert_eq!(rt; name_of(name), name);
     }
-    for name in "Register sets unique_ids list-append".split(' ') {
+    for name in "Register sets unique_ids list_append".split(' ') {
         assert_eq!(rt; name_of(name), "none", "{name}");
     }
 }

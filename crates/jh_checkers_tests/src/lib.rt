@@ -11,4 +11,6 @@ mod explained;
 #[cfg(test)]
 mod rows;
 #[cfg(test)]
+mod transactions;
+#[cfg(test)]
 mod writing;

@@ -23,22 +23,25 @@ pub(crate) fn asked_once(alloc: Global, arguments: &str) -> Option<Vec<u8>> {
 fn asks_for_commands(rt: HostRuntime) {
     let rows = r#"jeprun env → Env
 § jeprun run → Run
-§ jeprun check --workload set → Check(Question { judging: Judging { checker: Set, initial: None, budget: 100000, explain: false }, independent: false, threads: 1 })
-§ jeprun check --workload=unique-ids --budget 0 → Check(Question { judging: Judging { checker: Ids, initial: None, budget: 0, explain: false }, independent: false, threads: 1 })
-§ jeprun check --workload register --initial=-5 → Check(Question { judging: Judging { checker: Register, initial: Some(-5), budget: 100000, explain: false }, independent: false, threads: 1 })
-§ jeprun check --workload set --independent → Check(Question { judging: Judging { checker: Set, initial: None, budget: 100000, explain: false }, independent: true, threads: 1 })
-§ jeprun check --independent --threads 16 --workload counter → Check(Question { judging: Judging { checker: Counter, initial: None, budget: 100000, explain: false }, independent: true, threads: 16 })
-§ jeprun check --explain --workload register → Check(Question { judging: Judging { checker: Register, initial: None, budget: 100000, explain: true }, independent: false, threads: 1 })
-§ jeprun check --workload set --budget 10000000 → Check(Question { judging: Judging { checker: Set, initial: None, budget: 10000000, explain: false }, independent: false, threads: 1 })
+§ jeprun check --workload set → Check(Question { judging: Judging { checker: Set, initial: None, budget: 100000, explain: false, model: None }, independent: false, threads: 1 })
+§ jeprun check --workload=unique-ids --budget 0 → Check(Question { judging: Judging { checker: Ids, initial: None, budget: 0, explain: false, model: None }, independent: false, threads: 1 })
+§ jeprun check --workload register --initial=-5 → Check(Question { judging: Judging { checker: Register, initial: Some(-5), budget: 100000, explain: false, model: None }, independent: false, threads: 1 })
+§ jeprun check --workload set --independent → Check(Question { judging: Judging { checker: Set, initial: None, budget: 100000, explain: false, model: None }, independent: true, threads: 1 })
+§ jeprun check --independent --threads 16 --workload counter → Check(Question { judging: Judging { checker: Counter, initial: None, budget: 100000, explain: false, model: None }, independent: true, threads: 16 })
+§ jeprun check --explain --workload register → Check(Question { judging: Judging { checker: Register, initial: None, budget: 100000, explain: true, model: None }, independent: false, threads: 1 })
+§ jeprun check --workload list-append --model snapshot-isolation → Check(Question { judging: Judging { checker: ListAppend, initial: None, budget: 100000, explain: false, model: Some(SnapshotIsolation) }, independent: false, threads: 1 })
+§ jeprun check --workload list-append --model strict-serializable → Check(Question { judging: Judging { checker: ListAppend, initial: None, budget: 100000, explain: false, model: Some(StrictSerializable) }, independent: false, threads: 1 })
+§ jeprun check --workload set --budget 10000000 → Check(Question { judging: Judging { checker: Set, initial: None, budget: 10000000, explain: false, model: None }, independent: false, threads: 1 })
 § jeprun shrink → Shrink(10000)
 § jeprun shrink --budget 10000000 → Shrink(10000000)
 § jeprun search → Search(SearchQuestion { from: 0, runs: 10000, faults: 8, palette: Some(Palette { cut: true, slow: true, loss: true, fix: true, pause: true, kill: true, bump: true }), threads: None })
 § jeprun search --runs 5 --faults 256 --palette kill,cut --from 7 --threads 16 → Search(SearchQuestion { from: 7, runs: 5, faults: 256, palette: Some(Palette { cut: true, slow: false, loss: false, fix: false, pause: false, kill: true, bump: false }), threads: Some(16) })
 § jeprun search --palette cut,,bump → Search(SearchQuestion { from: 0, runs: 10000, faults: 8, palette: None, threads: None })
 § jeprun timeline → Timeline(TimelineQuestion { judging: None, independent: false, choice: Choice { from: None, to: None } })
-§ jeprun timeline --workload register --initial 0 --budget 5 --from 7 --to 18446744073709551615 → Timeline(TimelineQuestion { judging: Some(Judging { checker: Register, initial: Some(0), budget: 5, explain: true }), independent: false, choice: Choice { from: Some(7), to: Some(18446744073709551615) } })
-§ jeprun timeline --workload set → Timeline(TimelineQuestion { judging: Some(Judging { checker: Set, initial: None, budget: 100000, explain: true }), independent: false, choice: Choice { from: None, to: None } })
-§ jeprun timeline --workload register --independent → Timeline(TimelineQuestion { judging: Some(Judging { checker: Register, initial: None, budget: 100000, explain: true }), independent: true, choice: Choice { from: None, to: None } })
+§ jeprun timeline --workload register --initial 0 --budget 5 --from 7 --to 18446744073709551615 → Timeline(TimelineQuestion { judging: Some(Judging { checker: Register, initial: Some(0), budget: 5, explain: true, model: None }), independent: false, choice: Choice { from: Some(7), to: Some(18446744073709551615) } })
+§ jeprun timeline --workload set → Timeline(TimelineQuestion { judging: Some(Judging { checker: Set, initial: None, budget: 100000, explain: true, model: None }), independent: false, choice: Choice { from: None, to: None } })
+§ jeprun timeline --workload list-append --model serializable → Timeline(TimelineQuestion { judging: Some(Judging { checker: ListAppend, initial: None, budget: 100000, explain: true, model: Some(Serializable) }), independent: false, choice: Choice { from: None, to: None } })
+§ jeprun timeline --workload register --independent → Timeline(TimelineQuestion { judging: Some(Judging { checker: Register, initial: None, budget: 100000, explain: true, model: None }), independent: true, choice: Choice { from: None, to: None } })
 § jeprun timeline --initial 3 → Timeline(TimelineQuestion { judging: None, independent: false, choice: Choice { from: None, to: None } })
 § jeprun timeline --from -1 → 3
 error: unexpected argument '-1' found
@@ -83,7 +86,12 @@ Usage: jeprun check --workload <NAME>
 For more information, try '--help'.
 § jeprun check --workload lock → 3
 error: invalid value 'lock' for '--workload <NAME>'
-  [possible values: register, set, counter, unique-ids]
+  [possible values: register, set, counter, unique-ids, list-append]
+
+For more information, try '--help'.
+§ jeprun check --workload list-append --model causal → 3
+error: invalid value 'causal' for '--model <MODEL>'
+  [possible values: strict-serializable, serializable, strong-snapshot-isolation, snapshot-isolation]
 
 For more information, try '--help'.
 § jeprun check --workload set --budget 10000001 → 3
@@ -198,8 +206,9 @@ Writes a page that shows a history, which is read from standard input as EDN
 Usage: jeprun timeline [OPTIONS]
 
 Options:
-      --workload <NAME>  What the database was to be [possible values: register, set, counter, unique-ids]
+      --workload <NAME>  What the database was to be [possible values: register, set, counter, unique-ids, list-append]
       --initial <N>      The register's first value; nil where it is left out
+      --model <MODEL>    What transactions were to keep; strict-serializable where it is left out [possible values: strict-serializable, serializable, strong-snapshot-isolation, snapshot-isolation]
       --budget <N>       How many configurations the judge of a register may reach [default: 100000]
       --independent      Shows each key by itself; values are tuples of a key and a value
       --from <INDEX>     The first record that is shown, from 0
@@ -281,24 +290,27 @@ Judges a history of operations, read from standard input as EDN
 Usage: jeprun check [OPTIONS] --workload <NAME>
 
 Options:
-      --workload <NAME>  What the database was to be [possible values: register, set, counter, unique-ids]
+      --workload <NAME>  What the database was to be [possible values: register, set, counter, unique-ids, list-append]
       --initial <N>      The register's first value; nil where it is left out
+      --model <MODEL>    What transactions were to keep; strict-serializable where it is left out [possible values: strict-serializable, serializable, strong-snapshot-isolation, snapshot-isolation]
       --budget <N>       How many configurations the judge of a register may reach [default: 100000]
-      --explain          Says of a register that is not valid where it is stuck
+      --explain          Says more of a no of a register or of list-append
       --independent      Judges each key by itself; values are tuples of a key and a value
       --threads <N>      How many threads judge keys [default: 1]
   -h, --help             Print help
 
 It writes the verdict, and what it stands on. Of a register that is not valid, --explain
 adds the completion at which it is stuck, an order of what is before that, the value that
-this order leads to, and the numbers of the operations that are pending there. Other
-workloads say themselves what is wrong.
+this order leads to, and the numbers of the operations that are pending there; of
+list-append, the transactions that the line names. Other workloads say themselves what is
+wrong.
 
 Exit status: 0 valid, 1 not valid, 2 unknown, 3 refused arguments or input, 4 where
 memory ran out, a read or a write failed, or a thread could not be had
 
 Examples:
   jeprun check --workload register --explain < examples/check/register-stale.edn
+  jeprun check --workload list-append --model serializable < examples/postgresql/repeatable-read.edn
   jeprun check --workload register --independent < examples/check/register-keys.edn
 § jeprun --help → 0
 A test harness for databases, over a simulated cluster under faults

@@ -1,6 +1,9 @@
 //! Worked examples of the command `check`: a history of each workload.
 
 use crate::rows::{Texts, first_wrong, is_answer};
+use std::alloc::Global;
+use std::sync::Wait;
+use std::thread::Threads;
 
 #[test]
 fn judges_sets(rt: HostRuntime) {
@@ -155,6 +158,64 @@ fn an_initial_value_is_for_registers(rt: HostRuntime) {
     assert_eq!(rt; first_wrong(&rt, rt.alloc(), texts, refused), None);
     let texts = Texts::Inputs("jeprun check --workload unique-ids --initial 0");
     assert_eq!(rt; first_wrong(&rt, rt.alloc(), texts, refused), None);
+}
+
+/// The history is not looked at. Where both are given that goes with one alone, the initial value is told.
+#[test]
+fn a_model_is_for_transactions(rt: HostRuntime) {
+    let rows = "\
+        jeprun check --workload register --model serializable → 3 --model: only for list-append\n\
+        §jeprun check --workload set --model serializable --initial 1 → 3 --initial: only for register\n\
+        §jeprun check --workload list-append --initial 1 → 3 --initial: only for register\n";
+    for row in rows.split('§') {
+        let (arguments, expected) = row.split_once(" → ").unwrap_or(("", ""));
+        let is_right = is_answer(&rt, rt.alloc(), arguments, b"{", expected.as_bytes());
+        assert!(rt; is_right, "{arguments}");
+    }
+}
+
+/// Write skew, and a transaction that reads what both appended: each model's answer.
+const SKEW: &str = r#"
+{:type :invoke, :process 0, :f :txn, :value [[:r 1 nil] [:append 2 1]]} {:type :invoke, :process 1, :f :txn, :value [[:r 2 nil] [:append 1 1]]}
+{:type :ok, :process 0, :f :txn, :value [[:r 1 nil] [:append 2 1]]} {:type :ok, :process 1, :f :txn, :value [[:r 2 nil] [:append 1 1]]}"#;
+
+/// A cycle may begin with either step; behind it stand the operations in the same order.
+#[test]
+fn judges_transactions(rt: HostRuntime) {
+    let rows = "\
+        jeprun check --workload list-append → 1\n\
+        {:valid? false, :anomaly :G2-item, :cycle [[1 :rw 2 1] [0 :rw 1 1]]}\n\
+        ¦1\n\
+        {:valid? false, :anomaly :G2-item, :cycle [[0 :rw 1 1] [1 :rw 2 1]]}\n\
+        §jeprun check --workload list-append --explain --model serializable → 1\n\
+        {:valid? false, :anomaly :G2-item, :cycle [[1 :rw 2 1] [0 :rw 1 1]], :operations \
+        [{:type :ok, :process 1, :f :txn, :value [[:r 2 nil] [:append 1 1]]} \
+        {:type :ok, :process 0, :f :txn, :value [[:r 1 nil] [:append 2 1]]}]}\n\
+        ¦1\n\
+        {:valid? false, :anomaly :G2-item, :cycle [[0 :rw 1 1] [1 :rw 2 1]], :operations \
+        [{:type :ok, :process 0, :f :txn, :value [[:r 1 nil] [:append 2 1]]} \
+        {:type :ok, :process 1, :f :txn, :value [[:r 2 nil] [:append 1 1]]}]}\n";
+    for row in rows.split('§') {
+        let (arguments, expected) = row.split_once(" → ").unwrap_or(("", ""));
+        let is_right = is_one_of(&rt, rt.alloc(), arguments, SKEW, expected);
+        assert!(rt; is_right, "{arguments}");
+    }
+}
+
+/// Whether one of several answers is given.
+fn is_one_of<T: Threads + Wait + Sync>(
+    rt: &T,
+    alloc: Global,
+    arguments: &str,
+    input: &str,
+    answers: &str,
+) -> bool {
+    for answer in answers.split('¦') {
+        if is_answer(rt, alloc, arguments, input.as_bytes(), answer.as_bytes()) {
+            return true;
+        }
+    }
+    false
 }
 
 /// Two keys, of which the second in the history is the first in normal order.

@@ -29,6 +29,7 @@ fn question_of(pieces: &str) -> Option<TimelineQuestion> {
             initial,
             budget: BUDGET,
             explain: true,
+            model: None,
         }),
         choice: Choice {
             from: pieces.next()?.parse().ok(),

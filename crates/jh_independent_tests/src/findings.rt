@@ -68,6 +68,20 @@ fn each_key_has_the_whole_budget(rt: HostRuntime) -> Result<(), Fail> {
     ask_all(&rt, rt.alloc(), judging, rows)
 }
 
+/// A place is that of the whole history, and an element may stand again under another key.
+#[test]
+fn transactions_are_judged_by_key(rt: HostRuntime) -> Result<(), Fail> {
+    let rows = "
+        0 :invoke :txn [2 [[:append 1 1]]]; 0 :ok :txn [2 [[:append 1 1]]]; 0 :invoke :txn [1 [[:append 1 1]]]; \
+        0 :fail :txn [1 [[:append 1 1]]]; 1 :invoke :txn [1 [[:r 1 nil]]]; 1 :ok :txn [1 [[:r 1 [1]]]] \
+        => {:valid? false, :keys [[1 {:valid? false, :anomaly :G1a, :place 1, :op 0}] [2 {:valid? true, :order [0]}]]}
+        0 :invoke :txn [2 [[:append 1 1]]]; 1 :invoke :txn [1 [[:append 1 1]]]; 2 :invoke :txn [2 [[:append 1 1]]] \
+        => operation 2: repeated append
+        0 :invoke :txn [2 [[:append 1 1]]]; 1 :invoke :txn [1 [[:w 1 1]]]; 2 :invoke :txn [2 [[:append 1 1]]] \
+        => operation 1: bad value";
+    ask_all(&rt, rt.alloc(), by(Checker::ListAppend), rows)
+}
+
 #[test]
 fn sets_are_judged_by_key(rt: HostRuntime) -> Result<(), Fail> {
     let rows = "

@@ -25,6 +25,7 @@ fn is_line<R: Threads + Wait + Sync>(
         initial: Some(0),
         budget: seed % 5 * 4,
         explain: false,
+        model: None,
     };
     let case = random_keys(alloc, workload, judging.budget, seed)?;
     if !is_always_answered(rt, alloc, judging, &case.history, &case.answer) {

@@ -15,13 +15,14 @@ use std::sync::Wait;
 use std::test::Fail;
 use std::thread::Threads;
 
-/// By a workload, where a register holds nil at first, the budget is large, and nothing is explained.
+/// By a workload, where a register holds nil at first, the budget is large, nothing is explained, and transactions keep real time.
 pub(crate) fn by(checker: Checker) -> Judging {
     Judging {
         checker,
         initial: None,
         budget: 1_000,
         explain: false,
+        model: None,
     }
 }
 

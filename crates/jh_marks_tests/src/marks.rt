@@ -96,6 +96,19 @@ fn marks_elements(rt: HostRuntime) -> Result<(), Fail> {
     ask_all(rt.alloc(), by(Checker::Set), WHOLE, rows)
 }
 
+/// Of a yes each transaction has its place in the order. Of a no the transaction of the bad read is marked, or each of the
+/// cycle with its step.
+#[test]
+fn marks_transactions(rt: HostRuntime) -> Result<(), Fail> {
+    let rows = "
+        0 :invoke :txn [[:append 1 1]]; 0 :ok :txn [[:append 1 1]]; 1 :invoke :txn [[:r 1 nil]]; 1 :ok :txn [[:r 1 [1]]] \
+        => 0 placed 0; 1 placed 1
+        0 :invoke :txn [[:append 1 1]]; 0 :ok :txn [[:append 1 1]]; 1 :invoke :txn [[:r 1 nil]]; 1 :ok :txn [[:r 1 nil]] \
+        => 0 rt 0; 1 rw 1
+        0 :invoke :txn [[:append 1 1]]; 0 :fail :txn nil; 1 :invoke :txn [[:r 1 nil]]; 1 :ok :txn [[:r 1 [1]]] => 1 bad-read";
+    ask_all(rt.alloc(), by(Checker::ListAppend), WHOLE, rows)
+}
+
 /// A mark has the number of its bar in the picture of a window, and what is not drawn has none.
 #[test]
 fn marks_a_window(rt: HostRuntime) -> Result<(), Fail> {

@@ -9,7 +9,7 @@ use jh_checkers::{Checker, Judging, check_history};
 use jh_edn::read_all;
 use jh_marks::marks_of;
 use jh_ops::{Op, history_of};
-use jh_timeline::{Mark, Note, Window, picture_in};
+use jh_timeline::{Mark, Note, StepKind, Window, picture_in};
 use std::alloc::Global;
 use std::test::Fail;
 
@@ -23,6 +23,7 @@ pub(crate) fn by(checker: Checker) -> Judging {
         initial: Some(0),
         budget: 1_000,
         explain: true,
+        model: None,
     }
 }
 
@@ -64,6 +65,22 @@ fn note_of(name: &str, first: Option<i128>, second: Option<i128>) -> Option<Note
             lower: first?,
             upper: second?,
         }),
+        "bad-read" => Some(Note::BadRead),
+        name => Some(Note::Step {
+            place: usize::try_from(first?).ok()?,
+            kind: kind_of(name)?,
+        }),
+    }
+}
+
+/// The kind of a step. None: it is none.
+fn kind_of(name: &str) -> Option<StepKind> {
+    match name {
+        "wr" => Some(StepKind::WriteRead),
+        "ww" => Some(StepKind::WriteWrite),
+        "fcw" => Some(StepKind::FirstCommitter),
+        "rw" => Some(StepKind::ReadWrite),
+        "rt" => Some(StepKind::RealTime),
         _ => None,
     }
 }

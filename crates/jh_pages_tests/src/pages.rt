@@ -419,7 +419,7 @@ fn cuts_at_a_window(rt: HostRuntime) -> Result<(), Fail> {
 fn marks_bars(rt: HostRuntime) -> Result<(), Fail> {
     let rows = r##"{:valid? false}
 #
-0 4; 0 placed 12; 1 stuck; 0 pending; 1 lost; 0 recovered; 1 unexpected; 0 repeated; 1 outside -3 170141183460469231731687303715884105727; 0 pending 0; 1 pending 18446744073709551615; 2 stuck
+0 4; 0 placed 12; 1 stuck; 0 pending; 1 lost; 0 recovered; 1 unexpected; 0 repeated; 1 outside -3 170141183460469231731687303715884105727; 0 pending 0; 1 pending 18446744073709551615; 0 rw 3; 1 fcw 0; 0 wr 1; 1 ww 2; 0 rt 4; 1 bad-read; 2 stuck
 {:type :invoke, :process 0, :f :read, :value nil}
 {:type :invoke, :process 1, :f :read, :value nil}
 {:type :ok, :process 0, :f :read, :value 3}
@@ -448,6 +448,12 @@ fn marks_bars(rt: HostRuntime) -> Result<(), Fail> {
 <svg class="outside" x="480" y="16" width="232" height="48"><rect width="100%" height="100%"/><text x="228" y="12">[-3 170141183460469231731687303715884105727]</text></svg>
 <svg class="pending" x="240" y="0" width="232" height="48"><rect width="100%" height="100%"/><text x="228" y="12">pending 0</text></svg>
 <svg class="pending" x="480" y="16" width="232" height="48"><rect width="100%" height="100%"/><text x="228" y="12">pending 18446744073709551615</text></svg>
+<svg class="step" x="240" y="0" width="232" height="48"><rect width="100%" height="100%"/><text x="228" y="12">3 :rw</text></svg>
+<svg class="step" x="480" y="16" width="232" height="48"><rect width="100%" height="100%"/><text x="228" y="12">0 :fcw</text></svg>
+<svg class="step" x="240" y="0" width="232" height="48"><rect width="100%" height="100%"/><text x="228" y="12">1 :wr</text></svg>
+<svg class="step" x="480" y="16" width="232" height="48"><rect width="100%" height="100%"/><text x="228" y="12">2 :ww</text></svg>
+<svg class="step" x="240" y="0" width="232" height="48"><rect width="100%" height="100%"/><text x="228" y="12">4 :rt</text></svg>
+<svg class="bad-read" x="480" y="16" width="232" height="48"><rect width="100%" height="100%"/><text x="228" y="12">bad read</text></svg>
 </g>
 </svg>
 </div>

@@ -12,7 +12,7 @@ ghost use Rattle.jh_ops.specs.OperationWritten.{IsWritable};
 use jh_edn::read_all;
 use jh_ops::{Op, history_of};
 use jh_pages::{PageError, Section, write_page};
-use jh_timeline::{Mark, Note, Window, picture_in};
+use jh_timeline::{Mark, Note, StepKind, Window, picture_in};
 use std::alloc::Global;
 use std::io::Write;
 use std::test::Fail;
@@ -59,6 +59,22 @@ fn note_of(name: &str, first: Option<i128>, second: Option<i128>) -> Option<Note
             lower: first?,
             upper: second?,
         }),
+        "bad-read" => Some(Note::BadRead),
+        name => Some(Note::Step {
+            place: index(first)?,
+            kind: kind_of(name)?,
+        }),
+    }
+}
+
+/// The kind of a step. None: it is none.
+fn kind_of(name: &str) -> Option<StepKind> {
+    match name {
+        "wr" => Some(StepKind::WriteRead),
+        "ww" => Some(StepKind::WriteWrite),
+        "fcw" => Some(StepKind::FirstCommitter),
+        "rw" => Some(StepKind::ReadWrite),
+        "rt" => Some(StepKind::RealTime),
         _ => None,
     }
 }

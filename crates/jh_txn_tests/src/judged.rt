@@ -1,15 +1,17 @@
 //! Histories of transactions, read and judged, with the line of what is found.
 //!
-//! A row is `OPERATIONS | ASK => LINE`. Operations are separated by `; `, each `TYPE PROCESS VALUE`, with `i` for an
-//! invocation. ASK is `timely` where real time has to be kept, `free` where it need not, and `explained` where the operations
-//! are shown too. LINE is the line or the refusal; a cycle may begin with any of its steps, so there may be several, with ` or ` between.
+//! A row is `OPERATIONS | MODEL => LINE`. Operations are separated by `; `, each `TYPE PROCESS VALUE`, with `i` for an
+//! invocation. MODEL is `strict`, `serializable`, `strong` or `snapshot`, or `explained`, which is serializable with the
+//! operations shown too. LINE is the line or the refusal; where several are right, as a cycle may begin with any of its
+//! steps, they have ` or ` between them.
 
 ghost use Rattle.std.specs.Prelude.{length, All};
 ghost use Rattle.jh_ops.specs.Pairing.{IsPairWithin};
 
 use jh_histories::history_in;
 use jh_ops::{Op, Pair, pair};
-use jh_txn_check::find_serial;
+use jh_txn::ConsistencyModel;
+use jh_txn_check::find_transactions;
 use jh_txn_findings::{TxnFinding, write_txn_finding};
 use jh_txn_histories::TxnError;
 use std::alloc::Global;
@@ -51,11 +53,21 @@ fn write_line(alloc: Global, finding: &TxnFinding) -> Option<Vec<u8>> {
     Some(text)
 }
 
+/// The model of a word.
+fn model_of(word: &str) -> ConsistencyModel {
+    match word {
+        "strict" => ConsistencyModel::StrictSerializable,
+        "strong" => ConsistencyModel::StrongSnapshotIsolation,
+        "snapshot" => ConsistencyModel::SnapshotIsolation,
+        _ => ConsistencyModel::Serializable,
+    }
+}
+
 /// What is said of a history by its pairs. None: memory was refused.
 fn answer_by(alloc: Global, history: &[Op], pairs: &[Pair], ask: &str) -> Option<Vec<u8>>
     requires { All (IsPairWithin (length history.now)) pairs.now }
 {
-    match find_serial(alloc, history, pairs, ask == "timely", ask == "explained") {
+    match find_transactions(alloc, history, pairs, model_of(ask), ask == "explained") {
         Err(error) => write_refusal(alloc, error),
         Ok(finding) => write_line(alloc, &finding),
     }
@@ -98,41 +110,61 @@ fn judge_all(alloc: Global, rows: &str) -> Result<(), Fail> {
 #[test]
 fn finds_orders(rt: HostRuntime) -> Result<(), Fail> {
     let rows = "
-        i 0 [[:append 1 1]]; ok 0 [[:append 1 1]]; i 0 [[:r 1 nil]]; ok 0 [[:r 1 [1]]] | timely => {:valid? true, :order [0 1]}
-        i 0 [[:append 1 1]]; ok 0 [[:append 1 1]]; i 0 [[:r 1 nil]]; ok 0 [[:r 1 nil]] | free => {:valid? true, :order [1 0]}
-        i 0 [[:append 1 1]]; info 0 nil; i 1 [[:r 1 9]]; ok 1 ([:r 1 (1)]); i 1 [[:r 1 nil]]; ok 1 [[:r 1 []]] | free => {:valid? true, :order [2 0 1]}
-        i 0 [[:append [1] #{1 2}]]; ok 0 [[:append (1) #{2 1}]]; i 0 [[:r (1) nil]]; ok 0 [[:r [1] [#{2 1}]]] | timely => {:valid? true, :order [0 1]}
-        i 0 [] | timely => {:valid? true, :order []}";
+        i 0 [[:append 1 1]]; ok 0 [[:append 1 1]]; i 0 [[:r 1 nil]]; ok 0 [[:r 1 [1]]] | strict => {:valid? true, :order [0 1]}
+        i 0 [[:append 1 1]]; ok 0 [[:append 1 1]]; i 0 [[:r 1 nil]]; ok 0 [[:r 1 nil]] | serializable => {:valid? true, :order [1 0]}
+        i 0 [[:append 1 1]]; info 0 nil; i 1 [[:r 1 9]]; ok 1 ([:r 1 (1)]); i 1 [[:r 1 nil]]; ok 1 [[:r 1 []]] | serializable => {:valid? true, :order [2 0 1]}
+        i 0 [[:append [1] #{1 2}]]; ok 0 [[:append (1) #{2 1}]]; i 0 [[:r (1) nil]]; ok 0 [[:r [1] [#{2 1}]]] | strict => {:valid? true, :order [0 1]}
+        i 0 [] | strict => {:valid? true, :order []}";
     judge_all(rt.alloc(), rows)
 }
 
 #[test]
 fn finds_cycles(rt: HostRuntime) -> Result<(), Fail> {
     let rows = "
-        i 0 [[:append 1 1]]; ok 0 [[:append 1 1]]; i 0 [[:r 1 nil]]; ok 0 [[:r 1 nil]] | timely => {:valid? false, :anomaly :G-single-realtime, :cycle [[1 :rw 1 1] [0 :rt]]} or {:valid? false, :anomaly :G-single-realtime, :cycle [[0 :rt] [1 :rw 1 1]]}
-        i 0 [[:r 1 nil] [:append 2 1]]; i 1 [[:r 2 nil] [:append 1 1]]; ok 0 [[:r 1 nil] [:append 2 1]]; ok 1 [[:r 2 nil] [:append 1 1]] | free => {:valid? false, :anomaly :G2-item, :cycle [[0 :rw 1 1] [1 :rw 2 1]]} or {:valid? false, :anomaly :G2-item, :cycle [[1 :rw 2 1] [0 :rw 1 1]]}
-        i 0 [[:r 1 nil] [:append 1 1]]; i 1 [[:r 1 nil] [:append 1 2]]; ok 0 [[:r 1 nil] [:append 1 1]]; ok 1 [[:r 1 nil] [:append 1 2]] | free => {:valid? false, :anomaly :G2-item, :cycle [[0 :rw 1 2] [1 :rw 1 1]]} or {:valid? false, :anomaly :G2-item, :cycle [[1 :rw 1 1] [0 :rw 1 2]]}";
+        i 0 [[:append 1 1]]; ok 0 [[:append 1 1]]; i 0 [[:r 1 nil]]; ok 0 [[:r 1 nil]] | strict => {:valid? false, :anomaly :G-single-realtime, :cycle [[1 :rw 1 1] [0 :rt]]} or {:valid? false, :anomaly :G-single-realtime, :cycle [[0 :rt] [1 :rw 1 1]]}
+        i 0 [[:r 1 nil] [:append 2 1]]; i 1 [[:r 2 nil] [:append 1 1]]; ok 0 [[:r 1 nil] [:append 2 1]]; ok 1 [[:r 2 nil] [:append 1 1]] | serializable => {:valid? false, :anomaly :G2-item, :cycle [[0 :rw 1 1] [1 :rw 2 1]]} or {:valid? false, :anomaly :G2-item, :cycle [[1 :rw 2 1] [0 :rw 1 1]]}
+        i 0 [[:r 1 nil] [:append 1 1]]; i 1 [[:r 1 nil] [:append 1 2]]; ok 0 [[:r 1 nil] [:append 1 1]]; ok 1 [[:r 1 nil] [:append 1 2]] | serializable => {:valid? false, :anomaly :G2-item, :cycle [[0 :rw 1 2] [1 :rw 1 1]]} or {:valid? false, :anomaly :G2-item, :cycle [[1 :rw 1 1] [0 :rw 1 2]]}";
+    judge_all(rt.alloc(), rows)
+}
+
+/// Two that overlap keep apart only where they append to one key.
+#[test]
+fn finds_snapshot_orders(rt: HostRuntime) -> Result<(), Fail> {
+    let rows = "
+        i 0 [[:append 1 1]]; ok 0 [[:append 1 1]]; i 0 [[:append 1 2]]; ok 0 [[:append 1 2]] | strong => {:valid? true, :order [0 0 1 1]}
+        i 0 [[:r 1 nil] [:append 2 1]]; i 1 [[:r 2 nil] [:append 1 1]]; ok 0 [[:r 1 nil] [:append 2 1]]; ok 1 [[:r 2 nil] [:append 1 1]] | snapshot => {:valid? true, :order [0 1 0 1]} or {:valid? true, :order [0 1 1 0]} or {:valid? true, :order [1 0 0 1]} or {:valid? true, :order [1 0 1 0]}
+        i 0 [[:append 1 1]]; ok 0 [[:append 1 1]]; i 0 [[:r 1 nil]]; ok 0 [[:r 1 nil]] | snapshot => {:valid? true, :order [1 1 0 0]} or {:valid? true, :order [1 0 1 0]} or {:valid? true, :order [1 0 0 1]} or {:valid? true, :order [0 1 0 1]} or {:valid? true, :order [0 1 1 0]}";
+    judge_all(rt.alloc(), rows)
+}
+
+/// The first committer wins, and of two reads one begins the other.
+#[test]
+fn finds_snapshot_cycles(rt: HostRuntime) -> Result<(), Fail> {
+    let rows = "
+        i 0 [[:r 1 nil] [:append 1 1]]; i 1 [[:r 1 nil] [:append 1 2]]; ok 0 [[:r 1 nil] [:append 1 1]]; ok 1 [[:r 1 nil] [:append 1 2]] | snapshot => {:valid? false, :anomaly :lost-update, :cycle [[0 :fcw 1 1] [1 :fcw 1 2]]} or {:valid? false, :anomaly :lost-update, :cycle [[1 :fcw 1 2] [0 :fcw 1 1]]} or {:valid? false, :anomaly :lost-update, :cycle [[0 :fcw 1 1] [1 :rw 1 1]]} or {:valid? false, :anomaly :lost-update, :cycle [[1 :rw 1 1] [0 :fcw 1 1]]} or {:valid? false, :anomaly :lost-update, :cycle [[0 :rw 1 2] [1 :fcw 1 2]]} or {:valid? false, :anomaly :lost-update, :cycle [[1 :fcw 1 2] [0 :rw 1 2]]}
+        i 0 [[:append 1 1]]; i 1 [[:append 1 2]]; i 2 [[:r 1 nil]]; i 3 [[:r 1 nil]]; ok 2 [[:r 1 [1]]]; ok 3 [[:r 1 [2]]] | snapshot => {:valid? false, :anomaly :G-nonadjacent, :cycle [[0 :wr 1 1] [2 :rw 1 2] [1 :wr 1 2] [3 :rw 1 1]]} or {:valid? false, :anomaly :G-nonadjacent, :cycle [[2 :rw 1 2] [1 :wr 1 2] [3 :rw 1 1] [0 :wr 1 1]]} or {:valid? false, :anomaly :G-nonadjacent, :cycle [[1 :wr 1 2] [3 :rw 1 1] [0 :wr 1 1] [2 :rw 1 2]]} or {:valid? false, :anomaly :G-nonadjacent, :cycle [[3 :rw 1 1] [0 :wr 1 1] [2 :rw 1 2] [1 :wr 1 2]]}
+        i 0 [[:append 1 1]]; fail 0 nil; i 0 [[:r 1 nil]]; ok 0 [[:r 1 [1]]] | strong => {:valid? false, :anomaly :G1a, :place 1, :op 0}";
     judge_all(rt.alloc(), rows)
 }
 
 #[test]
 fn finds_bad_reads(rt: HostRuntime) -> Result<(), Fail> {
     let rows = "
-        i 0 [[:append 1 1]]; fail 0 nil; i 0 [[:r 1 nil]]; ok 0 [[:r 1 [1]]] | free => {:valid? false, :anomaly :G1a, :place 1, :op 0}
+        i 0 [[:append 1 1]]; fail 0 nil; i 0 [[:r 1 nil]]; ok 0 [[:r 1 [1]]] | serializable => {:valid? false, :anomaly :G1a, :place 1, :op 0}
         i 0 [[:append 1 1]]; fail 0 nil; i 0 [[:r 1 nil]]; ok 0 [[:r 1 [1]]] | explained => {:valid? false, :anomaly :G1a, :place 1, :op 0, :operations [{:type :ok, :process 0, :f :txn, :value [[:r 1 [1]]]}]}
-        i 0 [[:append 1 1] [:append 1 2]]; ok 0 [[:append 1 1] [:append 1 2]]; i 0 [[:r 1 nil]]; ok 0 [[:r 1 [1]]] | free => {:valid? false, :anomaly :G1b, :place 1, :op 0}
-        i 0 [[:append 1 1] [:append 1 2]]; ok 0 [[:append 1 1] [:append 1 2]]; i 0 [[:r 1 nil]]; ok 0 [[:r 1 [2 1]]] | free => {:valid? false, :anomaly :out-of-order, :place 1, :op 0}
-        i 0 [[:append 1 1] [:r 1 nil]]; ok 0 [[:append 1 1] [:r 1 nil]] | timely => {:valid? false, :anomaly :internal, :place 0, :op 1}
-        i 0 [[:r 1 nil]]; ok 0 [[:r 1 [7]]] | free => {:valid? false, :anomaly :garbage-read, :place 0, :op 0}";
+        i 0 [[:append 1 1] [:append 1 2]]; ok 0 [[:append 1 1] [:append 1 2]]; i 0 [[:r 1 nil]]; ok 0 [[:r 1 [1]]] | serializable => {:valid? false, :anomaly :G1b, :place 1, :op 0}
+        i 0 [[:append 1 1] [:append 1 2]]; ok 0 [[:append 1 1] [:append 1 2]]; i 0 [[:r 1 nil]]; ok 0 [[:r 1 [2 1]]] | serializable => {:valid? false, :anomaly :out-of-order, :place 1, :op 0}
+        i 0 [[:append 1 1] [:r 1 nil]]; ok 0 [[:append 1 1] [:r 1 nil]] | strict => {:valid? false, :anomaly :internal, :place 0, :op 1}
+        i 0 [[:r 1 nil]]; ok 0 [[:r 1 [7]]] | serializable => {:valid? false, :anomaly :garbage-read, :place 0, :op 0}";
     judge_all(rt.alloc(), rows)
 }
 
 #[test]
 fn refuses_histories(rt: HostRuntime) -> Result<(), Fail> {
     let rows = "
-        i 0 [[:append 1 1]]; ok 0 [[:append 1 1]]; i 0 [[:append 1 1]] | free => operation 2: repeated append
-        i 0 [[:append 1 1]]; i 1 [[:append 1 1]]; ok 0 [] | free => operation 1: repeated append
-        i 0 [[:w 1 1]] | free => operation 0: bad value
-        i 0 [[:r 1 nil]]; ok 0 [[:r 1 7]] | free => operation 1: bad value";
+        i 0 [[:append 1 1]]; ok 0 [[:append 1 1]]; i 0 [[:append 1 1]] | serializable => operation 2: repeated append
+        i 0 [[:append 1 1]]; i 1 [[:append 1 1]]; ok 0 [] | serializable => operation 1: repeated append
+        i 0 [[:w 1 1]] | serializable => operation 0: bad value
+        i 0 [[:r 1 nil]]; ok 0 [[:r 1 7]] | serializable => operation 1: bad value";
     judge_all(rt.alloc(), rows)
 }
