@@ -32,3 +32,5 @@ pub mod PrintedBackLemmas
 pub mod SpelledLemmas
 pub mod TiedLemmas
 pub mod CitedLemmas
+pub mod LineLemmas
+pub mod LineSpelledLemmas

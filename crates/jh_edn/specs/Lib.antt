@@ -17,3 +17,4 @@ pub mod Refused
 pub mod Print
 pub mod Parts
 pub mod TextInside
+pub mod Lines

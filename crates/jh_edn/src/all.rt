@@ -1,6 +1,7 @@
 //! Reading every element of a text.
 
 ghost use Rattle.std.specs.Prelude.{◌≢◌, IfOk, IfErr, IfSome};
+ghost use Rattle.std.specs.Str.{IsUtf8};
 ghost use Rattle.jh_edn.specs.Refused.{RefusesText, IsFirstError};
 ghost use Rattle.jh_edn.specs.Spelling.{SpellsAll};
 ghost use Rattle.jh_edn.specs.View.{views};
@@ -35,6 +36,7 @@ fn values_of(alloc: Global, text: &str) -> Result<Vec<Value>, EdnError>
 pub fn read_all<R: Read>(alloc: Global, reader: &mut R, turns: u32) -> Result<Vec<Value>, EdnError>
     ensures values { IfOk result
         (λ v. IfSome (R.remaining reader.old) (λ bytes. SpellsAll (views v.items) bytes)) }
+    ensures utf8 { IfOk result (λ _. IfSome (R.remaining reader.old) IsUtf8) }
     ensures refused { IfErr result
         (λ e. IfSome (R.remaining reader.old) (λ bytes. RefusesText bytes e)) }
     ensures first_error { IfErr result

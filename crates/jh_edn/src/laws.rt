@@ -1,9 +1,10 @@
 //! Laws of the definitions, each the clause of a function that does nothing.
 
-ghost use Rattle.std.specs.Prelude.{◌≡◌, ℕ, List, [], ◌∷◌, All, IsTrue};
+ghost use Rattle.std.specs.Prelude.{◌≡◌, ◌↔◌, ℕ, List, [], ◌∷◌, All, IsTrue, Ok};
 ghost use Rattle.jh_edn.specs.Edn.{Edn};
 ghost use Rattle.jh_edn.specs.Equality.{Equals};
 ghost use Rattle.jh_edn.specs.Fingerprint.{fingerprint};
+ghost use Rattle.jh_edn.specs.Lines.{values_in};
 ghost use Rattle.jh_edn.specs.Normal.{normal, is_normal};
 ghost use Rattle.std.specs.Cmp.{IsTotalOrder};
 ghost use Rattle.std.specs.declared.cmp.Ordering.TheVariants.{Equal};
@@ -15,6 +16,12 @@ ghost use Rattle.jh_edn.specs.Spelling.{depth_limit, SpellsAll};
 /// A text spells at most one list of values.
 pub fn spelled_once()
     ensures { (text : List ℕ) (xs ys : List Edn) → SpellsAll xs text → SpellsAll ys text → xs ≡ ys }
+{}
+
+/// Reading a text gives the values that it spells, and an error exactly where it spells none.
+pub fn values_are_spelled()
+    ensures { (text : List ℕ) (values : List Edn)
+        → (values_in text ≡ Ok values) ↔ SpellsAll values text }
 {}
 
 /// Equality of values is an equivalence, and equal values have one fingerprint.

@@ -12,6 +12,7 @@ mod fingerprint;
 mod is_normal;
 mod key;
 mod laws;
+mod line;
 mod name;
 mod normal;
 mod order;
@@ -29,7 +30,10 @@ mod writer;
 pub use all::read_all;
 pub use bytes::read_bytes;
 pub use error::EdnError;
-pub use laws::{equality_laws, normal_laws, order_laws, print_laws, spelled_once};
+pub use laws::{
+    equality_laws, normal_laws, order_laws, print_laws, spelled_once, values_are_spelled,
+};
+pub use line::values_in_line;
 pub use parts::{Element, write_part};
 pub use reader::read_one;
 pub use sequence::{Sink, read_sequence};

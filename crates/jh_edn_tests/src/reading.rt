@@ -1,7 +1,10 @@
 //! Where reading goes on and where it ends: places, depth, turns and whole texts.
 
 use crate::rows::{Ask, MALFORMED, ask_all};
-use jh_edn::{EdnError, Value, equality_laws, read_all, read_bytes, read_one, spelled_once, write};
+use jh_edn::{
+    EdnError, Value, equality_laws, read_all, read_bytes, read_one, spelled_once,
+    values_are_spelled, values_in_line, write,
+};
 use std::alloc::{AllocError, Global};
 use std::io::{self, ErrorKind, Read};
 use std::test::Fail;
@@ -185,8 +188,31 @@ fn reads_whole_texts(rt: HostRuntime) -> Result<(), Fail> {
     ask_all(rt.alloc(), &Ask::Count, rows)
 }
 
+/// The values of a line, printed with a space between.
+pub(crate) fn line(alloc: Global, text: &str) -> Result<Vec<u8>, EdnError> {
+    print_all(alloc, &values_in_line(alloc, text)?)
+}
+
+#[test]
+fn reads_lines(rt: HostRuntime) -> Result<(), Fail> {
+    let rows = "\
+        \x1f\
+        \x1e ,\t; nil\x1f\
+        \x1e#_ 1\x1f\
+        \x1e{:f :read}\x1f{:f :read}\
+        \x1e:a [1 2]\n\x1f:a [1 2]\
+        \x1e()[]\"\"1\x1f() [] \"\" 1\
+        \x1e0 1 2 3 4 5 6 7 8 9\x1f0 1 2 3 4 5 6 7 8 9\
+        \x1e1 2.5\x1fline 1: float unsupported\
+        \x1e:a\n]\x1fline 2: bad token\
+        \x1e1 2 {:b\x1fline 1: unexpected end\
+        \x1e1.5 ]\x1fline 1: float unsupported";
+    ask_all(rt.alloc(), &Ask::Line, rows)
+}
+
 #[test]
 fn states_laws() {
     spelled_once();
+    values_are_spelled();
     equality_laws();
 }
