@@ -5,3 +5,4 @@ pub mod RowLemmas
 pub mod BuildLemmas
 pub mod DriverLemmas
 pub mod TextLemmas
+pub mod AskedLemmas

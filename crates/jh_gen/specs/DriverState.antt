@@ -11,7 +11,7 @@ use Rattle.jh_gen.specs.Tally.{Path, Tally}
 use Rattle.jh_gen.specs.Scope.{Scope, Question}
 use Rattle.jh_gen.specs.Offers.{is_exhausted, offer}
 use Rattle.jh_gen.specs.Fits.{fits}
-use Rattle.jh_gen.specs.State.{GeneratorState, state_left}
+use Rattle.jh_gen.specs.State.{GeneratorState, Taking, is_done, state_left, taking}
 use Rattle.jh_gen.specs.StateCode.{state_coded}
 use Rattle.jh_gen.specs.declared.answers.Thread.{Thread}
 use Rattle.jh_gen.specs.declared.answers.Thread.TheVariants as thread
@@ -153,6 +153,30 @@ Answers g t d x random_number (Call p c) e =
     × (offer g t (all_threads d.clients) (question_by d x random_number) ≡ Some (path, c))
     × GivesCall d e x g t path
 
+-- The answer, and the driver after it, by what the generator gives: where it gives nothing, nothing
+-- changes; a call is of the thread's next process, is counted, and makes the thread busy.
+abbrev pub answer_by : DriverState → Thread → Taking GeneratorState → GenAnswer × DriverState
+answer_by d x None = (Pending, d)
+answer_by d x (Some (c, left)) = (
+  Call (next_process d x) c,
+  record d { state = left; given = d.given + 1; busy = set d.busy (thread_number x) true },
+)
+
+-- What a thread that may ask is answered, and the driver after it, as a function of the driver, the
+-- thread and the random number. `Answers` says the same of a generator and a tally.
+abbrev pub asked : DriverState → Thread → ℕ → GenAnswer × DriverState
+asked d x random_number =
+    if is_done d.state then (Done, d)
+    else answer_by d x (taking d.state (question_by d x random_number))
+
+-- The process of a call, if the answer is one, has a small number: a client's first is less than 16,
+-- and each call that ends adds at most 16.
+abbrev pub GivesSmallProcess : GenAnswer → Type 0
+GivesSmallProcess (Call (process.Client n) c) = n ≤ max_clients * max_calls
+GivesSmallProcess (Call process.Nemesis c) = Unit {0}
+GivesSmallProcess Pending = Unit {0}
+GivesSmallProcess Done = Unit {0}
+
 -- Ending an operation.
 
 -- the thread is the driver's, and has an operation outstanding
@@ -188,3 +212,18 @@ pub record IsKept (d : DriverState) : Type 0 where
       (k : ℕ) → k < d.clients + 1
       → slice_index d.processes k + (if slice_index_or d.busy k false then 16 else 0)
       ≤ 16 + 16 * d.given
+
+-- Laws.
+
+-- whatever generator and tally a driver stands for, what it answers a thread of its own is theirs
+abbrev pub AskedAnswers : Type 0
+AskedAnswers =
+    (d : DriverState) (x : Thread) (random_number : ℕ) (g : Generator) (t : Tally)
+    → IsDriverOf d g t → IsKnown d x
+    → Answers g t d x random_number (asked d x random_number).0 (asked d x random_number).1
+
+-- whatever generator and tally a driver stands for, it does so after the end of an operation
+abbrev pub EndKeepsGenerator : Type 0
+EndKeepsGenerator =
+    (d : DriverState) (x : Thread) (end : Ended) (g : Generator) (t : Tally)
+    → IsDriverOf d g t → IsDriverOf (driver_after_end d x end) g t

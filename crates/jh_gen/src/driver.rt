@@ -8,7 +8,7 @@ ghost use Rattle.jh_gen.specs.View.{generator_of};
 ghost use Rattle.jh_gen.specs.Tally.{Tally};
 ghost use Rattle.jh_gen.specs.DriverState as rule;
 ghost use Rattle.jh_gen.specs.DriverState.{Answers, CanDrive, IsFresh, IsKnown, MayAsk, MayEnd};
-ghost use Rattle.jh_gen.specs.DriverState.{RefusesAsking};
+ghost use Rattle.jh_gen.specs.DriverState.{GivesSmallProcess, RefusesAsking};
 ghost use Rattle.jh_gen.specs.DriverState.{RefusesDriver, RefusesEnding, IsDriverOf};
 ghost use Rattle.jh_gen.specs.DriverState.{driver_after_end, next_process, thread_number};
 
@@ -142,8 +142,9 @@ impl Driver {
     }
 
     /// Asks for a thread's next call. The random number is that by which mixtures choose. After a
-    /// call, the thread is busy until `complete`. Takes no memory; the time grows with the size of
-    /// the generator and its copies, and not with the number of calls.
+    /// call, the thread is busy until `complete`. The answer depends on the driver, the thread and
+    /// the random number alone, and a call's process is at most 16,000,000. Takes no memory; the
+    /// time grows with the size of the generator and its copies, and not with the number of calls.
     ///
     /// Errors, in this order: `NoSuchThread`; `BusyThread`; `TooManyOps` after 1,000,000 calls,
     /// also where the generator is spent. The driver is then unchanged.
@@ -151,6 +152,11 @@ impl Driver {
         ensures judged { MatchResult result (λ _. MayAsk self.old thread)
             (RefusesAsking self.old thread) }
         ensures unchanged { OnErr result (self.new ≡ self.old) }
+
+        // The same state, thread and random number have the same answer, and lead to the same state.
+        ensures asked { IfOk result
+            (λ answer. (answer, self.new) ≡ rule.asked self.old thread random_number) }
+        ensures small { IfOk result GivesSmallProcess }
 
         // Whatever generator and tally the driver stands for, the answer is theirs.
         ensures answered { (g : Generator) (t : Tally) → IsDriverOf self.old g t
