@@ -4,6 +4,7 @@
 mod laws;
 mod numbers;
 mod owned;
+mod sought;
 
 pub use laws::number_laws;
 pub use numbers::Numbers;

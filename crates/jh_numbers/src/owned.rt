@@ -1,13 +1,9 @@
 //! An owner with a value, as a key of a hash table. `specs/Numbers.antt` says which of them are one.
 
-ghost use Rattle.std.specs.Prelude.{◌++◌};
-ghost use Rattle.std.specs.Hash as fed;
 ghost use Rattle.std.specs.Cmp.{partial_equiv_from_equiv};
-ghost use Rattle.jh_edn.specs.Fingerprint.{fingerprint};
-ghost use Rattle.jh_edn.specs.View.{view};
 ghost use Rattle.jh_numbers.specs.Numbers.{is_same_owned};
 ghost use Rattle.jh_numbers.specs.View.{view_owned};
-ghost use Rattle.jh_numbers.specs.SameInside.{owned_equiv, owned_alike};
+ghost use Rattle.jh_numbers.specs.SameInside.{input_alike, owned_equiv, owned_input};
 
 use jh_edn::Value;
 use std::cmp::Ordering;
@@ -35,9 +31,9 @@ impl Eq for OwnedValue {
 }
 
 impl Hash for OwnedValue {
-    ghost hash_input = { λ a. fed.usize a.owner ++ fed.u64 (fingerprint (view a.value)) };
+    ghost hash_input = { λ a. owned_input (view_owned a) };
 
-    ghost respects_eq = { owned_alike };
+    ghost respects_eq = { λ a b. input_alike (view_owned a) (view_owned b) };
 
     fn hash<H: Hasher>(&self, state: &mut H) {
         self.owner.hash(state);
