@@ -4,6 +4,7 @@ pub mod NextPointLemmas
 pub mod NextReasonLemmas
 pub mod SaidByReadsLemmas
 pub mod ReadPointLemmas
+pub mod AtOnceLemmas
 pub mod UntoldLemmas
 pub mod OverlapLemmas
 pub mod PointCycleLemmas

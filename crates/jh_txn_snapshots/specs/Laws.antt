@@ -1,6 +1,6 @@
 -- What the definitions imply. Each law is proved as the clause of a function that does nothing. This
 -- project's own.
-use Rattle.std.specs.Prelude.{◌≡◌, ℕ, true, Option, List, ◌∷◌, ◌++◌}
+use Rattle.std.specs.Prelude.{◌≡◌, ℕ, Bool, true, Option, List, ◌∷◌, ◌++◌}
 use Rattle.jh_txn.specs.declared.dependency.Step.{Step}
 use Rattle.jh_txn.specs.declared.dependency.Why.{Why}
 use Rattle.jh_txn.specs.declared.model.ConsistencyModel.{ConsistencyModel}
@@ -14,8 +14,10 @@ use Rattle.jh_txn.specs.Keeping.{KeepsPointsOfDependencies, BeginOneAnother}
 use Rattle.jh_txn.specs.Models.{is_of_snapshots, keeps_real_time}
 use Rattle.jh_txn.specs.Next.{AreLongest}
 use Rattle.jh_txn.specs.RealTime.{CompleteAfterInvocation}
+use Rattle.jh_txn.specs.SerialOrders.{IsSerialOrderFor}
 use Rattle.jh_txn.specs.SnapshotOrders.{HasNoPointTwice, IsSnapshotOrderFor, commits}
 use Rattle.jh_txn.specs.Transactions.{AppendOnce, Saw, list_after, appends_before}
+use Rattle.jh_txn_snapshots.specs.AtOnce.{at_once}
 use Rattle.jh_txn_snapshots.specs.KeptPoints.{ArePointsOfAll, KeepsNextPoints, KeepsReadPoints}
 use Rattle.jh_txn_snapshots.specs.NextPoints.{IsNextDependency}
 use Rattle.jh_txn_snapshots.specs.Overlaps.{IsOverlap}
@@ -48,6 +50,13 @@ NextPointsMakeSnapshotOrders =
     → is_of_snapshots model ≡ true → AreLongest txns longest → ArePointsOfAll txns points
     → AreUntoldApart txns points → KeepsNextPoints txns model longest points
     → IsSnapshotOrderFor txns (keeps_real_time model) points
+
+-- A serial order is a snapshot order, where each transaction starts and commits at once; and it keeps
+-- real time as a snapshot order where it does so as a serial one.
+abbrev pub SerialOrdersAreSnapshotOrders : Type 0
+SerialOrdersAreSnapshotOrders =
+    (txns : List Txn) (real_time : Bool) (order : List ℕ)
+    → IsSerialOrderFor txns real_time order → IsSnapshotOrderFor txns real_time (at_once order)
 
 -- Where each of these commits just behind its start, no two overlap.
 abbrev pub UntoldAtOnceAreApart : Type 0

@@ -4,4 +4,5 @@ pub mod KeptPoints
 pub mod Untold
 pub mod PointCycles
 pub mod Overlaps
+pub mod AtOnce
 pub mod Laws

@@ -3,6 +3,7 @@
 
 ghost use Rattle.jh_txn_snapshots.specs.Laws.{NextPointsAreDependencies};
 ghost use Rattle.jh_txn_snapshots.specs.Laws.{NextPointsSuffice, NextPointsMakeSnapshotOrders};
+ghost use Rattle.jh_txn_snapshots.specs.Laws.{SerialOrdersAreSnapshotOrders};
 ghost use Rattle.jh_txn_snapshots.specs.Laws.{UntoldAtOnceAreApart, UntoldInTurnAreApart};
 ghost use Rattle.jh_txn_snapshots.specs.Laws.{PointCyclesAreSnapshotCycles};
 ghost use Rattle.jh_txn_snapshots.specs.Laws.{OverlapsExcludeSnapshotOrders};
@@ -19,6 +20,11 @@ pub fn next_points_are_dependencies()
 pub fn next_points_suffice()
     ensures kept { NextPointsSuffice }
     ensures snapshot { NextPointsMakeSnapshotOrders }
+{}
+
+/// A serial order is a snapshot order, where each transaction starts and commits at once.
+pub fn serial_orders_are_snapshot_orders()
+    ensures { SerialOrdersAreSnapshotOrders }
 {}
 
 /// Writers of a key of which no read tells the order do not overlap where each commits just behind
