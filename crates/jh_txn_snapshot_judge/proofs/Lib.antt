@@ -1,6 +1,7 @@
 pub mod NodeLemmas
 pub mod StampLemmas
 pub mod UntoldLemmas
+pub mod SerialLemmas
 pub mod TurnLemmas
 pub mod GrownLemmas
 pub mod CycleLemmas

@@ -1,5 +1,5 @@
 -- That an order of the nodes gives a snapshot order.
-use Rattle.std.proofs.Common.{◌≡◌, ℕ, ◌+◌, Bool, true, false, Option, List, filter, get_or, length, map, sym, ap, subst, ◌∙◌, inl, inr}
+use Rattle.std.proofs.Common.{◌≡◌, ℕ, ◌+◌, Bool, true, false, Option, List, filter, get_or, length, map, sym, ap, subst, ◌∙◌, inl, inr, arith}
 use Rattle.std.specs.Prelude.{Vec}
 use Rattle.std.specs.declared.alloc.Global.{Global}
 use Rattle.jh_txn.specs.declared.dependency.Step.{Step}
@@ -28,7 +28,7 @@ use Rattle.jh_txn_seen.specs.Reads.{AreDoneReads, AreLongestOf, longest_of}
 use Rattle.jh_txn_seen.specs.declared.done_reads.DoneRead.{DoneRead}
 use Rattle.jh_txn_seen.proofs.KnownLemmas.{are_longest, marked_of, must_below, must_of}
 use Rattle.jh_txn_snapshot_judge.specs.Nodes.{point_at, transaction_at}
-use Rattle.jh_txn_snapshot_judge.specs.TurnsInside.{AreUntoldMarks, HasEachOnce, IsTurn, KeepsTurns, is_untold_writer, turn_of}
+use Rattle.jh_txn_snapshot_judge.specs.TurnsInside.{AreUntoldMarks, IsTurn, KeepsTurns, is_untold_writer, turn_of}
 use Rattle.jh_txn_snapshot_judge.specs.declared.turns.Turn.{Turn}
 use Rattle.jh_txn_snapshot_judge.proofs.CycleLemmas.{arriving_of, leaving_of}
 use Rattle.jh_txn_snapshot_judge.proofs.NodeLemmas.{at_node, before_map, map_before, map_has}
@@ -87,18 +87,18 @@ module _ (txns : List Txn) (elements : ℕ) (writers : List (Option Writer)) (re
         earlier (leaves_at why first) (arrives_at why second) (leaving_of (MustBeThere txns) why first d.first_there) (arriving_of (MustBeThere txns) why second d.second_there)
         (keeps_next txns elements writers reads there longest real_time graph numbered table are marked longests good ends g nodes kept model asks why first second h)
 
-    -- in turns of a guess that these keep, untold writers do not overlap
-    pub turns_apart : (untold : List Bool) (guess : List ℕ) → AreUntoldMarks txns untold → HasEachOnce (length txns) guess → KeepsTurns txns untold guess nodes → AreUntoldApart txns Points
-    turns_apart untold guess marks first turns = in_turn_apart txns Points (turn_of txns untold guess) all_points (record {
+    -- in turns of an order that these keep, untold writers do not overlap
+    pub turns_apart : (untold : List Bool) (order : List ℕ) → AreUntoldMarks txns untold → KeepsPaths graph (length txns + length txns) order → KeepsTurns txns untold order nodes → AreUntoldApart txns Points
+    turns_apart untold order marks first turns = in_turn_apart txns Points (turn_of txns untold order) all_points (record {
       whole = λ key element place u here.
           let there_too : MustBeThere txns place = (all_points.there place).0 here in
-          filter_includes (is_untold_writer txns untold key) guess place (first.whole place (must_below txns place there_too)) (writer_if txns untold (length longest) elements numbered marks key element place u there_too);
-      there = λ key place h. (all_points.there place).1 (must_writer key place (includes_filter (is_untold_writer txns untold key) guess place h).1);
+          filter_includes (is_untold_writer txns untold key) order place ((first.whole place).1 (omega (arith, must_below txns place there_too))) (writer_if txns untold (length longest) elements numbered marks key element place u there_too);
+      there = λ key place h. (all_points.there place).1 (must_writer key place (includes_filter (is_untold_writer txns untold key) order place h).1);
       next = λ key one other front back is.
-          let neighbours : AreNeighbours (turn_of txns untold guess key) one other = (front, back, is) in
+          let neighbours : AreNeighbours (turn_of txns untold order key) one other = (front, back, is) in
           let turn : Turn = record { first = one; second = other } in
-          let is_turn : IsTurn txns untold guess turn = (turn_differs txns untold guess key one other first.distinct neighbours, key, neighbours) in
-          earlier (Commit one) (Start other) (must_writer key one (first_writer txns untold guess turn is_turn)) (must_writer key other (second_writer txns untold guess turn is_turn)) (turns turn is_turn);
+          let is_turn : IsTurn txns untold order turn = (turn_differs txns untold order key one other first.distinct neighbours, key, neighbours) in
+          earlier (Commit one) (Start other) (must_writer key one (first_writer txns untold order turn is_turn)) (must_writer key other (second_writer txns untold order turn is_turn)) (turns turn is_turn);
     }) where
       must_writer : (key place : ℕ) → is_untold_writer txns untold key place ≡ true → MustBeThere txns place
       must_writer key place h = (untold_of txns untold (length longest) elements numbered marks key place h).2

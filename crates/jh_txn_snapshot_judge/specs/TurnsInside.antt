@@ -1,6 +1,6 @@
 -- The turns of untold writers, as the judge makes them: proofs rest on it, and no public clause names
 -- it. `untold` marks the elements of untold writers. This project's own.
-use Rattle.std.specs.Prelude.{◌≡◌, ◌≢◌, ◌⊎◌, ◌↔◌, ◌&&◌, ◌==◌, ℕ, ◌+◌, ◌<◌, Bool, true, false, List}
+use Rattle.std.specs.Prelude.{◌≡◌, ◌≢◌, ◌⊎◌, ◌↔◌, ◌&&◌, ◌==◌, ℕ, ◌+◌, Bool, true, false, List}
 use Rattle.std.specs.Prelude.{length, filter, Option, Some, None, slice_index_or, if◌then◌else◌}
 use Rattle.std.specs.List.{Contains, list_any}
 use Rattle.jh_txn.specs.declared.dependency.Why.{Why}
@@ -9,7 +9,7 @@ use Rattle.jh_txn.specs.declared.txn.MicroOp.{MicroOp}
 use Rattle.jh_txn.specs.declared.txn.MicroOp.TheVariants.{Append, Read}
 use Rattle.jh_txn.specs.declared.txn.Txn.{Txn}
 use Rattle.jh_txn.specs.Dependencies.{MustBeThere}
-use Rattle.jh_txn.specs.Transactions.{ComesBefore, HasNoRepeat, includes, ops_at}
+use Rattle.jh_txn.specs.Transactions.{ComesBefore, ops_at}
 use Rattle.jh_txn_seen.specs.Marks.{IsMarked}
 use Rattle.jh_txn_snapshot_judge.specs.declared.turns.Turn.{Turn}
 use Rattle.jh_txn_snapshots.specs.Untold.{IsUntold}
@@ -38,11 +38,6 @@ has_append_of untold key ops = list_any (is_append_of untold key) ops
 -- whether the transaction at a place is an untold writer of the key; past the last one there is none
 abbrev pub is_untold_writer : List Txn → List Bool → ℕ → ℕ → Bool
 is_untold_writer txns untold key place = has_append_of untold key (ops_at txns place)
-
--- The starts of all transactions are among these nodes, and no node is there twice.
-pub record HasEachOnce (count : ℕ) (nodes : List ℕ) : Type 0 where
-  pub distinct : HasNoRepeat nodes
-  pub whole : (place : ℕ) → place < count → includes nodes place ≡ true
 
 -- The turn of a key: its untold writers, in the order in which their starts stand among nodes.
 abbrev pub turn_of : List Txn → List Bool → List ℕ → ℕ → List ℕ
@@ -96,10 +91,10 @@ abbrev pub IsAnyTurnStep : ℕ → List Turn → ℕ → Why → ℕ → Type 0
 IsAnyTurnStep count turns place why target =
     (turn : Turn) × Contains turns turn × IsTurnStep count turn place why target
 
--- nodes keep the turns of a guess: each writer commits before the next one starts
+-- nodes keep the turns of an order: each writer commits before the next one starts
 abbrev pub KeepsTurns : List Txn → List Bool → List ℕ → List ℕ → Type 0
-KeepsTurns txns untold guess nodes =
-    (turn : Turn) → IsTurn txns untold guess turn
+KeepsTurns txns untold order nodes =
+    (turn : Turn) → IsTurn txns untold order turn
     → ComesBefore nodes (length txns + turn.first) turn.second
 
 -- there is a turn of two writers

@@ -4,6 +4,7 @@
 
 mod nodes;
 mod places;
+mod serial;
 mod turns;
 mod untold;
 mod verdict;

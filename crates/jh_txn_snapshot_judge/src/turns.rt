@@ -1,5 +1,5 @@
-//! Untold writers of a key one after another, in the order of a guess, each behind the commit of the one
-//! before it.
+//! Untold writers of a key one after another, as they start in an order of nodes, each behind the commit of
+//! the one before it.
 
 ghost use Rattle.std.specs.Prelude.{◌≡◌, ◌≤◌, ◌<◌, ◌+◌, ◌↔◌, ◌∷◌, [], ℕ, Some, None};
 ghost use Rattle.std.specs.Prelude.{length, slice_index_or, slice_set, IfOk, MatchOption, OnOk};
@@ -25,9 +25,9 @@ struct Turn {
     second: usize,
 }
 
-/// An order of a graph's nodes in which untold writers take the turns that a guess tells: each commits
-/// before the next one of its key starts. Where there are no turns, it is the order that is there. None:
-/// the turns close a cycle. Their steps are added to the graph.
+/// An order of a graph's nodes in which untold writers take turns, as they start in the order that is
+/// there: each commits before the next one of its key starts. Where there are no turns, it is that order
+/// itself. None: the turns close a cycle. Their steps are added to the graph.
 pub(crate) fn order_in_turn(
     alloc: Global,
     txns: &[Txn],
@@ -35,18 +35,17 @@ pub(crate) fn order_in_turn(
     keys: usize,
     graph: &mut [Vec<Step>],
     order: Vec<usize>,
-    guess: &[usize],
 ) -> Result<Option<Vec<usize>>, AllocError>
     requires keys { AreKeysBelow keys txns.now }
     requires nodes { length txns.now + length txns.now ≤ length graph.old }
     requires closed { IsClosed graph.old }
     requires upwards { AreHubsUpwards graph.old (length txns.now + length txns.now) }
     requires kept { KeepsPaths graph.old (length txns.now + length txns.now) order.items }
-    ensures { IfOk result (λ found. MatchOption found (HasTurn txns.now untold.now guess.now)
+    ensures { IfOk result (λ found. MatchOption found (HasTurn txns.now untold.now order.items)
         (λ nodes. KeepsPaths graph.old (length txns.now + length txns.now) nodes.items
-        × KeepsTurns txns.now untold.now guess.now nodes.items)) }
+        × KeepsTurns txns.now untold.now order.items nodes.items)) }
 {
-    let turns = turns_of(alloc, txns, untold, keys, guess)?;
+    let turns = turns_of(alloc, txns, untold, keys, &order)?;
     if turns.is_empty() {
         return Ok(Some(order));
     }

@@ -8,17 +8,17 @@ ghost use Rattle.jh_txn.specs.RealTime.{CompleteAfterInvocation};
 ghost use Rattle.jh_txn_seen.specs.Marks.{AreThereMarks};
 ghost use Rattle.jh_txn_seen.specs.Reads.{AreDoneReads, AreForked, AreLongestOf};
 ghost use Rattle.jh_txn_snapshot_judge.specs.Judged.{IsSnapshotJudged, snapshot_model};
-ghost use Rattle.jh_txn_snapshot_judge.specs.TurnsInside.{AreUntoldMarks, HasEachOnce};
+ghost use Rattle.jh_txn_snapshot_judge.specs.TurnsInside.{AreUntoldMarks};
 ghost use Rattle.jh_txn_writers.specs.Numbers.{AreNumbersOf};
 ghost use Rattle.jh_txn_writers.specs.Writers.{AreWriters};
 
 use crate::nodes::{dependencies_of, marked_nodes, points_of_nodes};
+use crate::serial::{points_at_once, serial_places};
 use crate::turns::order_in_turn;
 use crate::untold::marks_of_untold;
 use jh_txn::{Point, Step, Txn};
 use jh_txn_cycles::order_or_short_cycle;
-use jh_txn_edges::graph_of;
-use jh_txn_graph::{OrderOrCycle, order_or_cycle};
+use jh_txn_graph::OrderOrCycle;
 use jh_txn_points::{fork_points_of, points_of};
 use jh_txn_reads::{BadReadAt, find_bad_read};
 use jh_txn_seen::{DoneRead, Longest, longest_reads, marks_of, marks_of_read, reads_of};
@@ -96,9 +96,43 @@ fn judge_good_reads(
     }
 }
 
-/// Judges transactions by the longest read of each key, which all reads of the key begin. An order that
-/// keeps real time is looked for first, whatever is asked for: it tells the better turns.
+/// Judges transactions by the longest read of each key, which all reads of the key begin. Where they have
+/// a serial order, that is a snapshot order too, and the graph of points, twice as large, is not wanted.
 fn judge_longest(
+    alloc: Global,
+    txns: &[Txn],
+    elements: usize,
+    writers: &[Option<Writer>],
+    reads: &[DoneRead<'_>],
+    there: &[bool],
+    longest: &[Option<DoneRead<'_>>],
+    real_time: bool,
+) -> Result<SnapshotVerdict, AllocError>
+    requires numbered { AreNumbersOf txns.now (length longest.now) elements }
+    requires ends { CompleteAfterInvocation txns.now }
+    requires writers { AreWriters txns.now elements writers.now }
+    requires good { HasNoBadRead txns.now }
+    requires reads { AreDoneReads txns.now reads.now }
+    requires there { AreThereMarks txns.now writers.now reads.now there.now }
+    requires longest { AreLongestOf reads.now (length reads.now) longest.now }
+    ensures { IfOk result (IsSnapshotJudged txns.now real_time) }
+{
+    match serial_places(
+        alloc, txns, elements, writers, reads, there, longest, real_time,
+    )? {
+        Some(places) => {
+            let points = points_at_once(alloc, there, &places)?;
+            Ok(SnapshotVerdict::Valid(points))
+        }
+        None => judge_points(
+            alloc, txns, elements, writers, reads, there, longest, real_time,
+        ),
+    }
+}
+
+/// Judges them by the graph of points. An order that keeps real time is looked for first, whatever is
+/// asked for: it tells the better turns.
+fn judge_points(
     alloc: Global,
     txns: &[Txn],
     elements: usize,
@@ -135,8 +169,8 @@ fn judge_longest(
     }
 }
 
-/// Judges them by the graph with real time or without it. The untold writers of a key take turns, by a
-/// guess.
+/// Judges them by the graph of points with real time or without it. The untold writers of a key take
+/// turns, as they start in an order of its nodes.
 fn judge_in_turn(
     alloc: Global,
     txns: &[Txn],
@@ -164,18 +198,7 @@ fn judge_in_turn(
     let count = txns.len();
     match order_or_short_cycle(alloc, &graph, count + count, count)? {
         OrderOrCycle::Order(order) => {
-            let guess = guess_of(
-                alloc, txns, elements, writers, reads, there, longest, real_time, &order,
-            )?;
-            match order_in_turn(
-                alloc,
-                txns,
-                untold,
-                longest.len(),
-                &mut graph,
-                order,
-                &guess,
-            )? {
+            match order_in_turn(alloc, txns, untold, longest.len(), &mut graph, order)? {
                 None => Ok(SnapshotVerdict::Unknown),
                 Some(nodes) => {
                     let nodes = marked_nodes(alloc, there, count, &nodes)?;
@@ -187,41 +210,6 @@ fn judge_in_turn(
         OrderOrCycle::Cycle(steps) => {
             let steps = dependencies_of(alloc, count, &steps)?;
             Ok(SnapshotVerdict::Cycle(steps))
-        }
-    }
-}
-
-/// Transactions in the order in which untold writers are to take turns: a serial order, if there is one,
-/// since by such an order all turns can be kept; else as they start in an order of nodes.
-fn guess_of(
-    alloc: Global,
-    txns: &[Txn],
-    elements: usize,
-    writers: &[Option<Writer>],
-    reads: &[DoneRead<'_>],
-    there: &[bool],
-    longest: &[Option<DoneRead<'_>>],
-    real_time: bool,
-    order: &[usize],
-) -> Result<Vec<usize>, AllocError>
-    requires numbered { AreNumbersOf txns.now (length longest.now) elements }
-    requires ends { CompleteAfterInvocation txns.now }
-    requires writers { AreWriters txns.now elements writers.now }
-    requires good { HasNoBadRead txns.now }
-    requires reads { AreDoneReads txns.now reads.now }
-    requires there { AreThereMarks txns.now writers.now reads.now there.now }
-    requires longest { AreLongestOf reads.now (length reads.now) longest.now }
-    requires order { HasEachOnce (length txns.now) order.now }
-    ensures { IfOk result (λ guess. HasEachOnce (length txns.now) guess.items) }
-{
-    let graph = graph_of(
-        alloc, txns, elements, writers, there, reads, longest, real_time,
-    )?;
-    match order_or_cycle(alloc, &graph, txns.len())? {
-        OrderOrCycle::Order(places) => Ok(places),
-        OrderOrCycle::Cycle(_) => {
-            let nodes = Vec::from_slice(alloc, order)?;
-            Ok(nodes)
         }
     }
 }

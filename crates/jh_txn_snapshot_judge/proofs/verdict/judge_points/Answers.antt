@@ -5,7 +5,7 @@ use Rattle.jh_txn_seen.proofs.KnownLemmas.{longest_below}
 use Rattle.jh_txn_snapshot_judge.specs.TurnsInside.{AreUntoldMarks}
 use Rattle.jh_txn_snapshot_judge.specs.UntoldInside.{IsAnyUntoldAt}
 use Rattle.jh_txn_snapshot_judge.proofs.UntoldLemmas.{are_untold}
-use Rattle.jh_txn_snapshot_judge.proofs.verdict.judge_longest.Goals as goal
+use Rattle.jh_txn_snapshot_judge.proofs.verdict.judge_points.Goals as goal
 
 pub marks_of_read-requires : goal.marks_of_read-requires
 marks_of_read-requires c = longest_below c.args.txns.now (length c.args.longest.now) c.args.elements c.args.writers.now c.requires.numbered c.requires.writers c.args.reads.now c.requires.reads c.args.longest.now c.requires.longest
