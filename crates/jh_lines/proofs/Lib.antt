@@ -1,0 +1,4 @@
+pub mod LineLemmas
+pub mod LawLemmas
+pub mod TalkLemmas
+pub mod StreamLemmas

@@ -1,0 +1,22 @@
+use Rattle.std.proofs.Common.{subst}
+use Rattle.std.specs.Io.KnownBytes.{Appends}
+use Rattle.jh_lines.specs.Replies.{said_to_all}
+use Rattle.jh_lines.proofs.StreamLemmas.{went_over, whole_over}
+use Rattle.jh_lines.proofs.TalkLemmas.{told_to_end}
+use Rattle.jh_lines.proofs.streams.converse_over.Goals as goal
+
+pub returns-clause-talk : goal.returns-clause-talk
+returns-clause-talk g c =
+    let all = c.converse.ensures in
+    let both = went_over (λ s. s.reader) (λ s. s.writer) g.R.Read.remaining g.W.Write.contents c.args.streams.now c.converse.new.peer all.0 all.1 in
+    (all.0, both.0, both.1, all.2, all.3)
+
+pub returns-clause-whole : goal.returns-clause-whole
+returns-clause-whole g c ended =
+    let all = c.converse.ensures in
+    let both = went_over (λ s. s.reader) (λ s. s.writer) g.R.Read.remaining g.W.Write.contents c.args.streams.now c.converse.new.peer all.0 all.1 in
+    let facts = told_to_end g.M.Machine.opening g.M.Machine.after_line g.M.Machine.reply_to g.M.Machine.has_finished _ _ all.0 _ ended all.3 in
+    whole_over (λ s. s.reader) (λ s. s.writer) g.R.Read.remaining g.W.Write.contents c.args.streams.now c.converse.new.peer all.0
+    (λ input. Appends (g.W.Write.contents c.args.streams.now.writer) (g.W.Write.contents c.converse.new.peer.writer)
+    (said_to_all g.M.Machine.opening g.M.Machine.after_line g.M.Machine.reply_to c.args.machine.now input))
+    all.1 facts.0 (subst (Appends (g.W.Write.contents c.args.streams.now.writer) (g.W.Write.contents c.converse.new.peer.writer)) facts.1 both.1)

@@ -1,0 +1,19 @@
+//! A conversation by lines between a machine, which decides what is said, and a peer, which is told
+//! bytes and heard.
+#![tactic(auto)]
+
+mod ending;
+mod hearing;
+pub mod laws;
+mod machine;
+mod peer;
+mod streams;
+mod talking;
+mod writing;
+
+pub use ending::Ending;
+pub use hearing::Hearing;
+pub use machine::Machine;
+pub use peer::Peer;
+pub use streams::{Streams, converse_over};
+pub use talking::converse;

@@ -1,0 +1,37 @@
+//! A machine that answers lines.
+ghost use Rattle.std.specs.Prelude.{◌≡◌, ◌++◌, ℕ, List, Bool, OnOk};
+
+use std::alloc::AllocError;
+
+/// Answers lines. It adds to `out` what it says, and sees neither how the lines come nor where its
+/// answers go.
+///
+/// Lines that came together with the last one that it listened to are given to it too. So one that
+/// listens no more says nothing to a line, and stays as it is.
+pub trait Machine {
+    /// What it says before the first line.
+    ghost opening: { Self → List ℕ };
+
+    /// The machine after a line.
+    ghost after_line: { Self → List ℕ → Self };
+
+    /// What it says to a line.
+    ghost reply_to: { Self → List ℕ → List ℕ };
+
+    /// Whether it listens no more.
+    ghost has_finished: { Self → Bool };
+
+    /// Says what comes before the first line.
+    fn open(&self, out: &mut Vec<u8>) -> Result<(), AllocError>
+        ensures { OnOk result (out.new.items ≡ out.old.items ++ opening self.now) };
+
+    /// Takes a line, without its line feed, and says the answer. After an error the machine is used
+    /// no more.
+    fn reply(&mut self, line: &[u8], out: &mut Vec<u8>) -> Result<(), AllocError>
+        ensures machine { OnOk result (self.new ≡ after_line self.old line.now) }
+        ensures said { OnOk result (out.new.items ≡ out.old.items ++ reply_to self.old line.now) };
+
+    /// Whether it listens no more.
+    fn is_over(&self) -> bool
+        ensures { result ≡ has_finished self.now };
+}
