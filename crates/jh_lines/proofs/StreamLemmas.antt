@@ -1,9 +1,10 @@
 -- Known bytes that are written piece by piece, and read and written by turns.
-use Rattle.std.proofs.Common.{◌≡◌, ℕ, ◌+◌, ◌-◌, List, [], ◌∷◌, take, drop, length, length-drop, sym, ap, refl, ◌∙◌, subst, append-nil, true, false, IfSome}
+use Rattle.std.proofs.Common.{◌≡◌, ℕ, ◌+◌, ◌-◌, List, [], ◌∷◌, ◌++◌, take, drop, length, length-drop, sym, ap, refl, ◌∙◌, subst, append-nil, true, false, IfSome}
 use Rattle.std.proofs.Math.Seq.{take-add}
 use Rattle.std.proofs.KnownBytes.{Appends-trans, Appends-nil, Consumes-trans, Consumes-nil, Consumes-whole, Consumes-kept}
 use Rattle.std.specs.Io.KnownBytes.{Appends, Consumes, IsAtEnd, Keeps}
 use Rattle.std.specs.declared.option.Option.{Option}
+use Rattle.std.specs.declared.option.Option.TheVariants.{None, Some}
 use Rattle.std.specs.declared.io.Error.{Error}
 use Rattle.jh_lines.specs.Events.{TalkEvent, Told, Heard, Ended, TellFailed, ListenFailed, Went, heard_in, told_in, is_at_end}
 
@@ -88,3 +89,9 @@ module _ {S R W : Type 0} (reader : S → R) (writer : S → W) (remaining : R �
   pub whole_over : (s t : S) (past : List TalkEvent) (P : List ℕ → Type 0) → WentOver s past t → is_at_end past ≡ true
       → P (heard_in past) → IfSome (remaining (reader s)) P
   whole_over s t past P went ended h = Consumes-whole _ _ (heard_in past) P (went_over s t past went).0 (ended_over s t past went ended) h
+
+-- what holds whatever is left of a reader's bytes
+pub Consumes-some : (a b : Option (List ℕ)) (bytes : List ℕ) (P : List ℕ → Type 0) → Consumes a b bytes → ((rest : List ℕ) → P (bytes ++ rest)) → IfSome a P
+Consumes-some None b bytes P p h = tt
+Consumes-some (Some x) None bytes P p h = absurd p
+Consumes-some (Some x) (Some y) bytes P p h = subst P (sym p) (h y)

@@ -9,7 +9,7 @@ use Rattle.jh_lines.specs.Events.{TalkEvent, Told, Heard, Ended, TellFailed, Lis
 use Rattle.jh_lines.specs.Endings.{IsEndingOf}
 use Rattle.jh_lines.specs.declared.ending.Ending.{Ending}
 use Rattle.jh_lines.specs.declared.ending.Ending.TheVariants.{Over, InputEnded, ReadFailed, WriteFailed, OutOfMemory}
-use Rattle.jh_lines.proofs.LineLemmas.{rest_from-append, lines_from-append, after_lines-append, replies_to-append}
+use Rattle.jh_lines.proofs.LineLemmas.{rest_from-append, lines_from-append, after_lines-append, replies_to-append, said_to_all-over}
 
 -- some bytes of what is due are a prefix of what is due with them
 starts_with_some : (past bytes due : List ℕ) (n : ℕ) → past ++ bytes ≡ due → StartsWith due (past ++ take n bytes)
@@ -202,12 +202,23 @@ module _ {P M : Type 0} (told heard : P → List ℕ → P → Type 0) (ended : 
         let a = on s e step in
         (Heard bytes ∷ Told shown ∷ s.past, (next, a.went, h.1 some), (all_told _ next machine a, a.prompt), tt)
 
--- where the input ended, all that the machine says to it was told
-pub told_to_end : {M : Type 0} (opening : M → List ℕ) (after_line : M → List ℕ → M) (reply_to : M → List ℕ → List ℕ) (has_finished : M → Bool) (first machine : M)
-    (past : List TalkEvent) (ending : Ending) → ending ≡ InputEnded
-    → IsEndingOf (due_in opening after_line reply_to first) (machine_after after_line first) has_finished past machine ending
-    → (is_at_end past ≡ true) × (told_in past ≡ said_to_all opening after_line reply_to first (heard_in past))
-told_to_end opening after_line reply_to has_finished first machine past ending e h =
-    let k : IsEndingOf (due_in opening after_line reply_to first) (machine_after after_line first) has_finished past machine InputEnded =
-    subst (IsEndingOf (due_in opening after_line reply_to first) (machine_after after_line first) has_finished past machine) e h in
-    (k.2, k.0 ∙ ap (λ b. opening first ++ replies_to after_line reply_to first (cond b (all_lines (heard_in past)) (whole_lines (heard_in past)))) k.2)
+-- what an ending says of what was told, where nothing failed
+module _ {M : Type 0} (opening : M → List ℕ) (after_line : M → List ℕ → M) (reply_to : M → List ℕ → List ℕ) (has_finished : M → Bool) (first machine : M)
+    (past : List TalkEvent) (ending : Ending) where
+  abbrev Ends : Ending → Type 0
+  Ends = IsEndingOf (due_in opening after_line reply_to first) (machine_after after_line first) has_finished past machine
+
+  pub told_to_end : ending ≡ InputEnded → Ends ending → (is_at_end past ≡ true) × (told_in past ≡ said_to_all opening after_line reply_to first (heard_in past))
+  told_to_end e h =
+      let k : Ends InputEnded = subst Ends e h in
+      (k.2, k.0 ∙ ap (λ b. opening first ++ replies_to after_line reply_to first (cond b (all_lines (heard_in past)) (whole_lines (heard_in past)))) k.2)
+
+  pub told_when_over : ((m : M) (line : List ℕ) → has_finished m ≡ true → (reply_to m line ≡ []) × (has_finished (after_line m line) ≡ true))
+      → ending ≡ Over → Ends ending → (rest : List ℕ) → said_to_all opening after_line reply_to first (heard_in past ++ rest) ≡ told_in past
+  told_when_over stays_over e h rest =
+      let k : Ends Over = subst Ends e h in
+      let lines : lines_heard past ≡ whole_lines (heard_in past) = lines_of past k.2 in
+      let over : has_finished (after_lines after_line first (whole_lines (heard_in past))) ≡ true =
+      ap has_finished (sym (k.1 ∙ ap (after_lines after_line first) lines)) ∙ k.3 in
+      said_to_all-over after_line reply_to has_finished stays_over opening first (heard_in past) rest over
+      ∙ ap (λ l. opening first ++ replies_to after_line reply_to first l) (sym lines) ∙ sym k.0

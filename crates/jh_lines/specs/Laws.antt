@@ -1,7 +1,8 @@
 -- What holds of lines and of conversations, however the bytes come (this project's own).
-use Rattle.std.specs.Prelude.{◌≡◌, ◌≢◌, ℕ, List, [], ◌∷◌, ◌++◌}
+use Rattle.std.specs.Prelude.{◌≡◌, ◌≢◌, ℕ, Bool, true, List, [], ◌∷◌, ◌++◌}
 use Rattle.std.specs.List.{flat_map, AllByRecursion}
 use Rattle.jh_lines.specs.Lines.{rest_from, whole_lines}
+use Rattle.jh_lines.specs.Replies.{after_lines, replies_to, said_to_all}
 use Rattle.jh_lines.specs.Events.{TalkEvent, Heard, told_in, IsPrompt}
 
 -- no byte of it is a line feed
@@ -27,3 +28,12 @@ CutsLines = (bytes : List ℕ) → AreLinesOf (whole_lines bytes) (rest_from [] 
 abbrev pub TellsFirst : Type 0
 TellsFirst = (due : List TalkEvent → List ℕ) (later earlier : List TalkEvent) (bytes : List ℕ)
     → IsPrompt due (later ++ Heard bytes ∷ earlier) → told_in earlier ≡ due earlier
+
+module _ {M : Type 0} (opening : M → List ℕ) (after_line : M → List ℕ → M)
+    (reply_to : M → List ℕ → List ℕ) (has_finished : M → Bool) where
+  -- a machine that listens no more after some bytes says nothing to what comes behind them
+  abbrev pub HearsNoMore : Type 0
+  HearsNoMore = (machine : M) (bytes more : List ℕ)
+      → has_finished (after_lines after_line machine (whole_lines bytes)) ≡ true
+      → said_to_all opening after_line reply_to machine (bytes ++ more)
+      ≡ opening machine ++ replies_to after_line reply_to machine (whole_lines bytes)

@@ -1,13 +1,13 @@
 //! A machine that answers lines.
-ghost use Rattle.std.specs.Prelude.{◌≡◌, ◌++◌, ℕ, List, Bool, OnOk};
+ghost use Rattle.std.specs.Prelude.{◌≡◌, ◌++◌, ℕ, List, [], Bool, true, OnOk};
 
 use std::alloc::AllocError;
 
 /// Answers lines. It adds to `out` what it says, and sees neither how the lines come nor where its
 /// answers go.
 ///
-/// Lines that came together with the last one that it listened to are given to it too. So one that
-/// listens no more says nothing to a line, and stays as it is.
+/// Lines that come at once with the last one that it listens to are given to it too, so it may be
+/// given lines when it listens no more.
 pub trait Machine {
     /// What it says before the first line.
     ghost opening: { Self → List ℕ };
@@ -34,4 +34,8 @@ pub trait Machine {
     /// Whether it listens no more.
     fn is_over(&self) -> bool
         ensures { result ≡ has_finished self.now };
+
+    /// One that listens no more says nothing to a line, and goes on to listen to none.
+    ghost stays_over: { (machine : Self) (line : List ℕ) → has_finished machine ≡ true
+        → (reply_to machine line ≡ []) × (has_finished (after_line machine line) ≡ true) };
 }

@@ -1,5 +1,5 @@
 //! A reader and a writer as a peer.
-ghost use Rattle.std.specs.Prelude.{◌≡◌, List, [], IfSome};
+ghost use Rattle.std.specs.Prelude.{◌≡◌, ◌⊎◌, List, [], IfSome};
 ghost use Rattle.std.specs.Io.KnownBytes.{Appends, Consumes, IsAtEnd, Keeps};
 ghost use Rattle.jh_lines.specs.Replies.{said_to_all};
 ghost use Rattle.jh_lines.specs.Events.{TalkEvent, IsPrompt, due_in, heard_in, machine_after, told_in};
@@ -60,8 +60,9 @@ pub fn converse_over<R: Read, W: Write, M: Machine>(
         × IsEndingOf (due_in M.opening M.after_line M.reply_to machine.old)
         (machine_after M.after_line machine.old) M.has_finished past machine.new result }
 
-    // Where the input ended, what was written is what the machine says to all of it.
-    ensures whole { result ≡ Ending.InputEnded → IfSome (R.remaining streams.old.reader) (λ input.
+    // Where nothing failed, what was written is what the machine says to all of the input.
+    ensures whole { (result ≡ Ending.Over) ⊎ (result ≡ Ending.InputEnded)
+        → IfSome (R.remaining streams.old.reader) (λ input.
         Appends (W.contents streams.old.writer) (W.contents streams.new.writer)
         (said_to_all M.opening M.after_line M.reply_to machine.old input)) }
 {

@@ -1,8 +1,8 @@
-use Rattle.std.proofs.Common.{subst}
+use Rattle.std.proofs.Common.{inl, inr, sym, subst}
 use Rattle.std.specs.Io.KnownBytes.{Appends}
 use Rattle.jh_lines.specs.Replies.{said_to_all}
-use Rattle.jh_lines.proofs.StreamLemmas.{went_over, whole_over}
-use Rattle.jh_lines.proofs.TalkLemmas.{told_to_end}
+use Rattle.jh_lines.proofs.StreamLemmas.{Consumes-some, went_over, whole_over}
+use Rattle.jh_lines.proofs.TalkLemmas.{told_to_end, told_when_over}
 use Rattle.jh_lines.proofs.streams.converse_over.Goals as goal
 
 pub returns-clause-talk : goal.returns-clause-talk
@@ -12,11 +12,18 @@ returns-clause-talk g c =
     (all.0, both.0, both.1, all.2, all.3)
 
 pub returns-clause-whole : goal.returns-clause-whole
-returns-clause-whole g c ended =
+returns-clause-whole g c =
     let all = c.converse.ensures in
     let both = went_over (λ s. s.reader) (λ s. s.writer) g.R.Read.remaining g.W.Write.contents c.args.streams.now c.converse.new.peer all.0 all.1 in
-    let facts = told_to_end g.M.Machine.opening g.M.Machine.after_line g.M.Machine.reply_to g.M.Machine.has_finished _ _ all.0 _ ended all.3 in
-    whole_over (λ s. s.reader) (λ s. s.writer) g.R.Read.remaining g.W.Write.contents c.args.streams.now c.converse.new.peer all.0
-    (λ input. Appends (g.W.Write.contents c.args.streams.now.writer) (g.W.Write.contents c.converse.new.peer.writer)
-    (said_to_all g.M.Machine.opening g.M.Machine.after_line g.M.Machine.reply_to c.args.machine.now input))
-    all.1 facts.0 (subst (Appends (g.W.Write.contents c.args.streams.now.writer) (g.W.Write.contents c.converse.new.peer.writer)) facts.1 both.1)
+    let contents = g.W.Write.contents in
+    let says = said_to_all g.M.Machine.opening g.M.Machine.after_line g.M.Machine.reply_to c.args.machine.now in
+    elim [
+      | inl over ↦ Consumes-some _ _ _ (λ input. Appends (contents c.args.streams.now.writer) (contents c.converse.new.peer.writer) (says input)) both.0 (λ rest.
+          subst (Appends (contents c.args.streams.now.writer) (contents c.converse.new.peer.writer))
+          (sym (told_when_over g.M.Machine.opening g.M.Machine.after_line g.M.Machine.reply_to g.M.Machine.has_finished _ _ all.0 _ g.met.M.Machine.stays_over over all.3 rest)) both.1)
+      | inr ended ↦
+          let facts = told_to_end g.M.Machine.opening g.M.Machine.after_line g.M.Machine.reply_to g.M.Machine.has_finished _ _ all.0 _ ended all.3 in
+          whole_over (λ s. s.reader) (λ s. s.writer) g.R.Read.remaining contents c.args.streams.now c.converse.new.peer all.0
+          (λ input. Appends (contents c.args.streams.now.writer) (contents c.converse.new.peer.writer) (says input))
+          all.1 facts.0 (subst (Appends (contents c.args.streams.now.writer) (contents c.converse.new.peer.writer)) facts.1 both.1)
+    ]
