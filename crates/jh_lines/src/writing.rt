@@ -24,6 +24,23 @@ fn write_some<W: Write>(writer: &mut W, bytes: &[u8]) -> io::Result<usize>
     Err(io::Error::from(ErrorKind::TimedOut))
 }
 
+/// Flushes, and again where a signal came between. 2^64 - 1 signals in a row are `TimedOut`.
+fn flush_whole<W: Write>(writer: &mut W) -> io::Result<()>
+    ensures { Keeps (W.contents writer.old) (W.contents writer.new) }
+{
+    for _turn in 0..u64::MAX {
+        match writer.flush() {
+            Ok(()) => return Ok(()),
+            Err(error) => {
+                if error.kind() != ErrorKind::Interrupted {
+                    return Err(error);
+                }
+            }
+        }
+    }
+    Err(io::Error::from(ErrorKind::TimedOut))
+}
+
 /// Writes all bytes, in as many calls as it takes, and flushes them. An `Err` has written some of
 /// them; it is the writer's, or `WriteZero` where the writer takes no byte.
 pub(crate) fn write_whole<W: Write>(writer: &mut W, bytes: &[u8]) -> io::Result<()>
@@ -39,7 +56,7 @@ pub(crate) fn write_whole<W: Write>(writer: &mut W, bytes: &[u8]) -> io::Result<
         }
         sent += count;
     }
-    writer.flush()
+    flush_whole(writer)
 }
 
 /// Reads once, or again where a signal came between. 2^64 - 1 signals in a row are `TimedOut`.
