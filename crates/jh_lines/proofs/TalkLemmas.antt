@@ -6,7 +6,7 @@ use Rattle.std.specs.declared.io.Error.{Error}
 use Rattle.jh_lines.specs.Lines.{lines_from, rest_from, last_line, whole_lines, all_lines}
 use Rattle.jh_lines.specs.Replies.{after_lines, replies_to, said_to_all}
 use Rattle.jh_lines.specs.Events.{TalkEvent, Told, Heard, Ended, TellFailed, ListenFailed, heard_in, told_in, is_at_end, lines_heard, machine_after, due_in, Went, IsPrompt}
-use Rattle.jh_lines.specs.Endings.{IsEndingOf}
+use Rattle.jh_lines.specs.Endings.{IsConversation, IsEndingOf}
 use Rattle.jh_lines.specs.declared.ending.Ending.{Ending}
 use Rattle.jh_lines.specs.declared.ending.Ending.TheVariants.{Over, InputEnded, ReadFailed, WriteFailed, OutOfMemory}
 use Rattle.jh_lines.proofs.LineLemmas.{rest_from-append, lines_from-append, after_lines-append, replies_to-append, said_to_all-over}
@@ -66,7 +66,7 @@ module _ {P M : Type 0} (told heard : P → List ℕ → P → Type 0) (ended : 
   -- the conversation as the contract has it
   abbrev pub Holds : (M → Bool) → P → M → Ending → Type 0
   Holds has_finished peer machine ending = (past : List TalkEvent) × Went told heard ended tell_failed listen_failed begin past peer
-      × IsPrompt due past × IsEndingOf due after has_finished past machine ending
+      × IsConversation opening after_line reply_to has_finished first past machine ending
 
   pub stands_first : (line out : List ℕ) → line ≡ [] → out ≡ [] ++ opening first → Stands 0 begin line first out
   stands_first line out no_line opened = record {
@@ -115,14 +115,13 @@ module _ {P M : Type 0} (told heard : P → List ℕ → P → Type 0) (ended : 
     exit_unwritten error s e (n, step) = (
       TellFailed (take n shown) error ∷ s.past,
       (peer, s.answers.went, step),
-      (starts_with_some (told_in s.past) shown _ n (ap (λ l. told_in s.past ++ l) e ∙ s.answers.is_due), s.answers.prompt),
-      (s.answers.has_heard, refl),
+      ((starts_with_some (told_in s.past) shown _ n (ap (λ l. told_in s.past ++ l) e ∙ s.answers.is_due), s.answers.prompt), (s.answers.has_heard, refl)),
     )
 
     pub exit_over : Stands turns peer line machine out → shown ≡ out → told peer shown next → has_finished machine ≡ true → Holds has_finished next machine Over
     exit_over s e step over =
         let a = on s e step in
-        (Told shown ∷ s.past, a.went, a.prompt, (all_told _ next machine a, a.has_heard, s.goes_on, over))
+        (Told shown ∷ s.past, a.went, (a.prompt, (all_told _ next machine a, a.has_heard, s.goes_on, over)))
 
     pub exit_unread : (last : P) (error : Error) → Stands turns peer line machine out → shown ≡ out → told peer shown next → listen_failed next error last
         → Holds has_finished last machine (ReadFailed error)
@@ -131,8 +130,10 @@ module _ {P M : Type 0} (told heard : P → List ℕ → P → Type 0) (ended : 
         let same : due (ListenFailed error ∷ Told shown ∷ s.past) ≡ due s.past = ap (λ l. opening first ++ replies first l) (sym (lines_of s.past s.goes_on)) in (
           ListenFailed error ∷ Told shown ∷ s.past,
           (next, a.went, failed),
-          (all_told _ next machine a, a.prompt),
-          (all_told _ next machine a ∙ sym same, a.has_heard ∙ ap (after_lines after_line first) (lines_of s.past s.goes_on), refl),
+          (
+            (all_told _ next machine a, a.prompt),
+            (all_told _ next machine a ∙ sym same, a.has_heard ∙ ap (after_lines after_line first) (lines_of s.past s.goes_on), refl),
+          ),
         )
 
     -- the input has ended, and the last line is answered
@@ -151,21 +152,22 @@ module _ {P M : Type 0} (told heard : P → List ℕ → P → Type 0) (ended : 
 
     pub exit_told : (last final : P) (machine' : M) (cleared out' shown' bytes : List ℕ) (count : ℕ) → Stands turns peer line machine out → shown ≡ out → told peer shown next
         → ((count ≡ 0 → ended next last) × (count ≢ 0 → heard next bytes last)) → count ≡ 0 → cleared ≡ [] → machine' ≡ after_lines after_line machine (last_line line)
-        → out' ≡ cleared ++ replies machine (last_line line) → shown' ≡ out' → told last shown' final → Holds has_finished final machine' InputEnded
-    exit_told last final machine' cleared out' shown' bytes count s e step h none clear taken said e' step' =
+        → out' ≡ cleared ++ replies machine (last_line line) → shown' ≡ out' → told last shown' final
+        → (ending : Ending) → ending ≡ InputEnded → Holds has_finished final machine' ending
+    exit_told last final machine' cleared out' shown' bytes count s e step h none clear taken said e' step' ending is =
         let b = answers_told _ last final machine' out' shown' (answers_end last machine' cleared out' bytes count s e step h none clear taken said) e' step' in
-        (Told shown' ∷ Ended ∷ Told shown ∷ s.past, b.went, b.prompt, (all_told _ final machine' b, b.has_heard, refl))
+        subst (Holds has_finished final machine') (sym is) (Told shown' ∷ Ended ∷ Told shown ∷ s.past, b.went, (b.prompt, (all_told _ final machine' b, b.has_heard, refl)))
 
     pub exit_untold : (last final : P) (machine' : M) (cleared out' shown' bytes : List ℕ) (count : ℕ) (error : Error) → Stands turns peer line machine out → shown ≡ out
         → told peer shown next → ((count ≡ 0 → ended next last) × (count ≢ 0 → heard next bytes last)) → count ≡ 0 → cleared ≡ []
         → machine' ≡ after_lines after_line machine (last_line line) → out' ≡ cleared ++ replies machine (last_line line) → shown' ≡ out'
-        → ((n : ℕ) × tell_failed last (take n shown') error final) → Holds has_finished final machine' (WriteFailed error)
-    exit_untold last final machine' cleared out' shown' bytes count error s e step h none clear taken said e' (n, step') =
-        let a = answers_end last machine' cleared out' bytes count s e step h none clear taken said in (
+        → ((n : ℕ) × tell_failed last (take n shown') error final) → (ending : Ending) → ending ≡ WriteFailed error → Holds has_finished final machine' ending
+    exit_untold last final machine' cleared out' shown' bytes count error s e step h none clear taken said e' (n, step') ending is =
+        let a = answers_end last machine' cleared out' bytes count s e step h none clear taken said in
+        subst (Holds has_finished final machine') (sym is) (
           TellFailed (take n shown') error ∷ Ended ∷ Told shown ∷ s.past,
           (last, a.went, step'),
-          (starts_with_some (told_in s.past ++ shown) shown' _ n (ap (λ l. (told_in s.past ++ shown) ++ l) e' ∙ a.is_due), a.prompt),
-          (a.has_heard, refl),
+          ((starts_with_some (told_in s.past ++ shown) shown' _ n (ap (λ l. (told_in s.past ++ shown) ++ l) e' ∙ a.is_due), a.prompt), (a.has_heard, refl)),
         )
 
     -- some bytes were heard, and the lines that end in them are answered
@@ -194,13 +196,13 @@ module _ {P M : Type 0} (told heard : P → List ℕ → P → Type 0) (ended : 
         → ((count ≡ 0 → ended next last) × (count ≢ 0 → heard next bytes last)) → count ≡ 0 → Holds has_finished last other OutOfMemory
     exit_end_memory last other bytes count s e step h none =
         let a = on s e step in
-        (Ended ∷ Told shown ∷ s.past, (next, a.went, h.0 none), (all_told _ next machine a, a.prompt), tt)
+        (Ended ∷ Told shown ∷ s.past, (next, a.went, h.0 none), ((all_told _ next machine a, a.prompt), tt))
 
     pub exit_memory : (last : P) (other : M) (bytes : List ℕ) (count : ℕ) → Stands turns peer line machine out → shown ≡ out → told peer shown next
         → ((count ≡ 0 → ended next last) × (count ≢ 0 → heard next bytes last)) → (count ≡ 0 → ⊥) → Holds has_finished last other OutOfMemory
     exit_memory last other bytes count s e step h some =
         let a = on s e step in
-        (Heard bytes ∷ Told shown ∷ s.past, (next, a.went, h.1 some), (all_told _ next machine a, a.prompt), tt)
+        (Heard bytes ∷ Told shown ∷ s.past, (next, a.went, h.1 some), ((all_told _ next machine a, a.prompt), tt))
 
 -- what an ending says of what was told, where nothing failed
 module _ {M : Type 0} (opening : M → List ℕ) (after_line : M → List ℕ → M) (reply_to : M → List ℕ → List ℕ) (has_finished : M → Bool) (first machine : M)

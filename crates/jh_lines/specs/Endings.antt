@@ -1,6 +1,7 @@
 -- How a conversation ends (this project's own).
 use Rattle.std.specs.Prelude.{◌≡◌, ◌≤◌, ◌-◌, ◌^◌, ℕ, Bool, true, false, List, length}
 use Rattle.jh_lines.specs.Events.{TalkEvent, told_in, is_at_end, HasFailedToTell, HasFailedToListen}
+use Rattle.jh_lines.specs.Events.{IsPrompt, due_in, machine_after}
 use Rattle.jh_lines.specs.declared.ending.Ending.{Ending}
 use Rattle.jh_lines.specs.declared.ending.Ending.TheVariants.{Over, InputEnded, ReadFailed, WriteFailed}
 use Rattle.jh_lines.specs.declared.ending.Ending.TheVariants.{OutOfMemory, TooLong}
@@ -20,3 +21,12 @@ IsEndingOf due after has_finished past machine (WriteFailed error) =
 IsEndingOf due after has_finished past machine OutOfMemory = Unit {0}
 IsEndingOf due after has_finished past machine TooLong =
     (machine ≡ after past) × (2 ^ 64 - 1 ≤ length past)
+
+-- These events are a conversation of a machine, with all that is due told in time; it ended so, and
+-- left this machine.
+abbrev pub IsConversation : {M : Type 0} → (M → List ℕ) → (M → List ℕ → M)
+    → (M → List ℕ → List ℕ) → (M → Bool) → M → List TalkEvent → M → Ending → Type 0
+IsConversation opening after_line reply_to has_finished first past machine ending =
+    IsPrompt (due_in opening after_line reply_to first) past
+    × IsEndingOf (due_in opening after_line reply_to first) (machine_after after_line first)
+    has_finished past machine ending

@@ -4,7 +4,7 @@
 
 mod ending;
 mod hearing;
-pub mod laws;
+mod laws;
 mod machine;
 mod peer;
 mod streams;
@@ -13,6 +13,7 @@ mod writing;
 
 pub use ending::Ending;
 pub use hearing::Hearing;
+pub use laws::{cuts_lines, hears_no_more, tells_first};
 pub use machine::Machine;
 pub use peer::Peer;
 pub use streams::{Streams, converse_over};

@@ -2,8 +2,8 @@
 ghost use Rattle.std.specs.Prelude.{◌≡◌, ◌⊎◌, List, [], IfSome};
 ghost use Rattle.std.specs.Io.KnownBytes.{Appends, Consumes, IsAtEnd, Keeps};
 ghost use Rattle.jh_lines.specs.Replies.{said_to_all};
-ghost use Rattle.jh_lines.specs.Events.{TalkEvent, IsPrompt, due_in, heard_in, machine_after, told_in};
-ghost use Rattle.jh_lines.specs.Endings.{IsEndingOf};
+ghost use Rattle.jh_lines.specs.Events.{TalkEvent, heard_in, told_in};
+ghost use Rattle.jh_lines.specs.Endings.{IsConversation};
 
 use crate::ending::Ending;
 use crate::machine::Machine;
@@ -56,9 +56,8 @@ pub fn converse_over<R: Read, W: Write, M: Machine>(
     ensures talk { (past : List TalkEvent)
         × Consumes (R.remaining streams.old.reader) (R.remaining streams.new.reader) (heard_in past)
         × Appends (W.contents streams.old.writer) (W.contents streams.new.writer) (told_in past)
-        × IsPrompt (due_in M.opening M.after_line M.reply_to machine.old) past
-        × IsEndingOf (due_in M.opening M.after_line M.reply_to machine.old)
-        (machine_after M.after_line machine.old) M.has_finished past machine.new result }
+        × IsConversation M.opening M.after_line M.reply_to M.has_finished machine.old past machine.new
+        result }
 
     // Where nothing failed, what was written is what the machine says to all of the input.
     ensures whole { (result ≡ Ending.Over) ⊎ (result ≡ Ending.InputEnded)

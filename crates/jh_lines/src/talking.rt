@@ -1,7 +1,7 @@
 //! The conversation.
 ghost use Rattle.std.specs.Prelude.{◌≡◌, List};
-ghost use Rattle.jh_lines.specs.Events.{TalkEvent, Went, IsPrompt, due_in, machine_after};
-ghost use Rattle.jh_lines.specs.Endings.{IsEndingOf};
+ghost use Rattle.jh_lines.specs.Events.{TalkEvent, Went};
+ghost use Rattle.jh_lines.specs.Endings.{IsConversation};
 
 use crate::ending::Ending;
 use crate::hearing::Hearing;
@@ -16,9 +16,8 @@ use std::alloc::Global;
 pub fn converse<P: Peer, M: Machine>(alloc: Global, peer: &mut P, machine: &mut M) -> Ending
     ensures { (past : List TalkEvent)
         × Went P.told P.heard P.ended P.tell_failed P.listen_failed peer.old past peer.new
-        × IsPrompt (due_in M.opening M.after_line M.reply_to machine.old) past
-        × IsEndingOf (due_in M.opening M.after_line M.reply_to machine.old)
-        (machine_after M.after_line machine.old) M.has_finished past machine.new result }
+        × IsConversation M.opening M.after_line M.reply_to M.has_finished machine.old past machine.new
+        result }
 {
     let mut hearing = Hearing::new(alloc);
     let mut out = Vec::new(alloc);
@@ -42,10 +41,10 @@ pub fn converse<P: Peer, M: Machine>(alloc: Global, peer: &mut P, machine: &mut 
             let Ok(()) = hearing.hear_end(machine, &mut out) else {
                 return Ending::OutOfMemory;
             };
-            if let Err(error) = peer.tell(out.as_slice()) {
-                return Ending::WriteFailed(error);
-            }
-            return Ending::InputEnded;
+            return match peer.tell(out.as_slice()) {
+                Ok(()) => Ending::InputEnded,
+                Err(error) => Ending::WriteFailed(error),
+            };
         }
         let Ok(()) = hearing.hear(&buffer[..count], machine, &mut out) else {
             return Ending::OutOfMemory;

@@ -1,8 +1,7 @@
 //! Lines that are cut out of pieces, and the laws.
 
 use crate::quoter::Quoter;
-use jh_lines::Hearing;
-use jh_lines::laws::{cuts_lines, hears_no_more, tells_first};
+use jh_lines::{Hearing, cuts_lines, hears_no_more, tells_first};
 use std::alloc::{AllocError, Global};
 
 /// What the machine says to the lines in the pieces of a text, and to its end. An error: memory was refused.

@@ -1,6 +1,7 @@
-use Rattle.std.proofs.Common.{sym}
+use Rattle.std.proofs.Common.{[], refl, sym}
 use Rattle.jh_lines.proofs.TalkLemmas.{exit_unwritten, exit_over, exit_unread, exit_end_memory, exit_untold, exit_told, exit_memory, stands_on}
 use Rattle.jh_lines.proofs.talking.converse.Goals as goal
+use Rattle.jh_lines.proofs.talking.converse.Goals.{in-Ok-tell, in-Err-tell}
 
 pub returns-in-Err : goal.returns-in-Err
 returns-in-Err g c =
@@ -29,14 +30,17 @@ loop-turn-preserved g c =
     stands_on _ _ _ _ _ _ _ _ _ _ g.M.Machine.has_finished _ _ _ _ _ _ _ _ _ _ _ _ _ _ c.loop-turn.invariant c.as_slice.ensures.value c.in_default-tell.ensures
     c.in-Ok-listen.ensures.bytes c.if-count-eq0.false c.clear.ensures.items c.in-Ok-hear.ensures.rest c.in-Ok-hear.ensures.machine c.in-Ok-hear.ensures.said
 
-pub returns-in-Err-tell : goal.returns-in-Err-tell
-returns-in-Err-tell g c =
-    exit_untold _ _ _ _ _ _ _ _ _ _ g.M.Machine.has_finished _ _ _ _ _ _ _ _ _ _ _ _ _ _ _ _ c.loop-turn.invariant c.as_slice.ensures.value c.in_default-tell.ensures
-    c.in-Ok-listen.ensures.bytes c.if-count-eq0.true c.clear.ensures.items c.in-Ok-hear_end.ensures.machine c.in-Ok-hear_end.ensures.said
-    c.as_slice-then-count-eq0.ensures.value c.in-Err-tell.ensures
-
 pub returns-then-count-eq0 : goal.returns-then-count-eq0
-returns-then-count-eq0 g c =
-    exit_told _ _ _ _ _ _ _ _ _ _ g.M.Machine.has_finished _ _ _ _ _ _ _ _ _ _ _ _ _ _ _ c.loop-turn.invariant c.as_slice.ensures.value c.in_default-tell.ensures
-    c.in-Ok-listen.ensures.bytes c.if-count-eq0.true c.clear.ensures.items c.in-Ok-hear_end.ensures.machine c.in-Ok-hear_end.ensures.said
-    c.as_slice-then-count-eq0.ensures.value c.in_default-tell-2.ensures
+returns-then-count-eq0 g c = elim c.match-tell-2.branch [
+  | in-Ok-tell w ↦
+      exit_told _ _ _ _ _ _ _ _ _ _ g.M.Machine.has_finished _ _ _ _ _ _ _ _ _ _ _ _ _ _ _ c.loop-turn.invariant c.as_slice.ensures.value c.in_default-tell.ensures
+      c.in-Ok-listen.ensures.bytes c.if-count-eq0.true c.clear.ensures.items c.in-Ok-hear_end.ensures.machine c.in-Ok-hear_end.ensures.said
+      c.as_slice-then-count-eq0.ensures.value w.in-Ok-tell.ensures _ w.result-is
+  | in-Err-tell w ↦
+      exit_untold _ _ _ _ _ _ _ _ _ _ g.M.Machine.has_finished _ _ _ _ _ _ _ _ _ _ _ _ _ _ _ _ c.loop-turn.invariant c.as_slice.ensures.value c.in_default-tell.ensures
+      c.in-Ok-listen.ensures.bytes c.if-count-eq0.true c.clear.ensures.items c.in-Ok-hear_end.ensures.machine c.in-Ok-hear_end.ensures.said
+      c.as_slice-then-count-eq0.ensures.value w.in-Err-tell.ensures _ w.result-is
+]
+
+pub returns-in_default : goal.returns-in_default
+returns-in_default g c = ([], refl, (tt, tt))
