@@ -1,13 +1,14 @@
 -- How a conversation ends (this project's own).
 use Rattle.std.specs.Prelude.{◌≡◌, ◌≤◌, ◌-◌, ◌^◌, ℕ, Bool, true, false, List, length}
-use Rattle.jh_lines.specs.Events.{TalkEvent, told_in, is_at_end, HasFailedToTell, HasFailedToListen}
-use Rattle.jh_lines.specs.Events.{IsPrompt, due_in, machine_after}
+use Rattle.jh_lines.specs.Events.{TalkEvent, told_in, is_at_end, HasFailedToTell}
+use Rattle.jh_lines.specs.Events.{HasFailedToListen, IsPrompt, due_in, machine_after}
 use Rattle.jh_lines.specs.declared.ending.Ending.{Ending}
-use Rattle.jh_lines.specs.declared.ending.Ending.TheVariants.{Over, InputEnded, ReadFailed, WriteFailed}
-use Rattle.jh_lines.specs.declared.ending.Ending.TheVariants.{OutOfMemory, TooLong}
+use Rattle.jh_lines.specs.declared.ending.Ending.TheVariants.{Over, InputEnded, ReadFailed}
+use Rattle.jh_lines.specs.declared.ending.Ending.TheVariants.{WriteFailed, OutOfMemory, TooLong}
 
--- What an ending says of all that passed, and of the machine that is left: where `due` gives what is
--- due after events, and `after` the machine.
+-- What an ending says of all that passed, and of the machine that is left, where `due` gives what is
+-- due after events and `after` the machine. Memory may be refused in the midst of a line, so of that
+-- ending nothing is said.
 abbrev pub IsEndingOf : {M : Type 0} → (List TalkEvent → List ℕ) → (List TalkEvent → M)
     → (M → Bool) → List TalkEvent → M → Ending → Type 0
 IsEndingOf due after has_finished past machine Over = (told_in past ≡ due past)

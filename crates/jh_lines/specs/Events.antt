@@ -1,5 +1,5 @@
--- What passes between a machine and its peer, and in which order (this project's own). Lists of events
--- have the newest first.
+-- What passes between a machine and its peer, and in which order (this project's own). Lists of
+-- events have the newest first.
 use Rattle.std.specs.Prelude.{◌≡◌, ℕ, Bool, true, false, cond, List, [], ◌∷◌, ◌++◌}
 use Rattle.std.specs.Io.{StartsWith}
 use Rattle.std.specs.declared.io.Error.{Error}
@@ -75,8 +75,8 @@ abbrev pub machine_after : {M : Type 0} → (M → List ℕ → M) → M → Lis
 machine_after after_line machine past = after_lines after_line machine (lines_heard past)
 
 -- what is due by now: what it says before the first line, and to each line that was heard
-abbrev pub due_in : {M : Type 0} → (M → List ℕ) → (M → List ℕ → M) → (M → List ℕ → List ℕ) → M
-    → List TalkEvent → List ℕ
+abbrev pub due_in : {M : Type 0} → (M → List ℕ) → (M → List ℕ → M) → (M → List ℕ → List ℕ)
+    → M → List TalkEvent → List ℕ
 due_in opening after_line reply_to machine past =
     opening machine ++ replies_to after_line reply_to machine (lines_heard past)
 

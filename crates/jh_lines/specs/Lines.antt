@@ -1,5 +1,6 @@
 -- Lines in a stream of bytes, as POSIX defines "Line" and "Incomplete Line": a line ends at a line
--- feed, 10, and at nothing else. That an incomplete line counts where the stream ends is this project's own.
+-- feed, 10, and at nothing else. That an incomplete line counts where the stream ends is this
+-- project's own.
 use Rattle.std.specs.Prelude.{ℕ, ◌==◌, cond, List, [], ◌∷◌, ◌++◌}
 
 -- where `line` has come of a line, the lines that end in these bytes, each without its line feed

@@ -1,11 +1,13 @@
--- What becomes of a machine by lines, one after another, and what it says to them (this project's own).
+-- What becomes of a machine by lines, one after another, and what it says to them (this project's
+-- own).
 use Rattle.std.specs.Prelude.{ℕ, List, [], ◌∷◌, ◌++◌}
 use Rattle.jh_lines.specs.Lines.{all_lines}
 
 -- the machine after these lines
 abbrev pub after_lines : {M : Type 0} → (M → List ℕ → M) → M → List (List ℕ) → M
 after_lines after_line machine [] = machine
-after_lines after_line machine (line ∷ lines) = after_lines after_line (after_line machine line) lines
+after_lines after_line machine (line ∷ lines) =
+    after_lines after_line (after_line machine line) lines
 
 -- all that it says to them
 abbrev pub replies_to : {M : Type 0} → (M → List ℕ → M) → (M → List ℕ → List ℕ) → M

@@ -29,7 +29,8 @@ impl<R: Read, W: Write> Peer for Streams<R, W> {
         × Consumes (R.remaining s.reader) (R.remaining t.reader) bytes };
 
     ghost ended = { λ s t. (t.writer ≡ s.writer)
-        × Consumes (R.remaining s.reader) (R.remaining t.reader) [] × IsAtEnd (R.remaining t.reader) };
+        × Consumes (R.remaining s.reader) (R.remaining t.reader) []
+        × IsAtEnd (R.remaining t.reader) };
 
     ghost tell_failed = { λ s bytes _ t. (t.reader ≡ s.reader)
         × Appends (W.contents s.writer) (W.contents t.writer) bytes };
@@ -56,8 +57,8 @@ pub fn converse_over<R: Read, W: Write, M: Machine>(
     ensures talk { (past : List TalkEvent)
         × Consumes (R.remaining streams.old.reader) (R.remaining streams.new.reader) (heard_in past)
         × Appends (W.contents streams.old.writer) (W.contents streams.new.writer) (told_in past)
-        × IsConversation M.opening M.after_line M.reply_to M.has_finished machine.old past machine.new
-        result }
+        × IsConversation M.opening M.after_line M.reply_to M.has_finished
+        machine.old past machine.new result }
 
     // Where nothing failed, what was written is what the machine says to all of the input.
     ensures whole { (result ≡ Ending.Over) ⊎ (result ≡ Ending.InputEnded)

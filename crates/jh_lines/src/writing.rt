@@ -46,7 +46,8 @@ fn flush_whole<W: Write>(writer: &mut W) -> io::Result<()>
 pub(crate) fn write_whole<W: Write>(writer: &mut W, bytes: &[u8]) -> io::Result<()>
     ensures { MatchResult result
         (λ _. Appends (W.contents writer.old) (W.contents writer.new) bytes.now)
-        (λ _. (n : ℕ) × Appends (W.contents writer.old) (W.contents writer.new) (take n bytes.now)) }
+        (λ _. (n : ℕ)
+        × Appends (W.contents writer.old) (W.contents writer.new) (take n bytes.now)) }
 {
     let mut sent = 0;
     while sent < bytes.len() {

@@ -3,7 +3,9 @@ use Rattle.std.specs.Io.KnownBytes.{Appends}
 use Rattle.jh_lines.proofs.writing.write_whole.Given as goal
 
 abbrev pub invariant-loop-sent : goal.invariant-loop-sent
-invariant-loop-sent g l = (l.sent ≤ length l.bytes) × Appends (g.W.Write.contents l.fn.writer) (g.W.Write.contents l.writer) (take l.sent l.bytes)
+invariant-loop-sent g l =
+    (l.sent ≤ length l.bytes)
+    × Appends (g.W.Write.contents l.fn.writer) (g.W.Write.contents l.writer) (take l.sent l.bytes)
 
 abbrev pub decreases-loop-sent : goal.decreases-loop-sent
 decreases-loop-sent g l = length l.bytes - l.sent

@@ -6,8 +6,12 @@ use Rattle.jh_lines.proofs.hearing.Hearing.hear.Given as goal
 abbrev pub invariant-loop-byte : goal.invariant-loop-byte
 invariant-loop-byte g l = record {
   rest : rest_from l.self-inside.line.items (drop l.byte-index l.bytes) ≡ rest_from l.fn.self l.bytes;
-  machine : after_lines g.M.Machine.after_line l.machine (lines_from l.self-inside.line.items (drop l.byte-index l.bytes))
+  machine : after_lines g.M.Machine.after_line l.machine
+      (lines_from l.self-inside.line.items (drop l.byte-index l.bytes))
       ≡ after_lines g.M.Machine.after_line l.fn.machine (lines_from l.fn.self l.bytes);
-  said : l.out.items ++ replies_to g.M.Machine.after_line g.M.Machine.reply_to l.machine (lines_from l.self-inside.line.items (drop l.byte-index l.bytes))
-      ≡ l.fn.out.items ++ replies_to g.M.Machine.after_line g.M.Machine.reply_to l.fn.machine (lines_from l.fn.self l.bytes);
+  said : l.out.items
+      ++ replies_to g.M.Machine.after_line g.M.Machine.reply_to l.machine
+      (lines_from l.self-inside.line.items (drop l.byte-index l.bytes))
+      ≡ l.fn.out.items
+      ++ replies_to g.M.Machine.after_line g.M.Machine.reply_to l.fn.machine (lines_from l.fn.self l.bytes);
 }
