@@ -1,0 +1,240 @@
+-- No process has two calls open, none goes on after a crash, and each completion is of the call that its process has open.
+use Rattle.std.proofs.Common.{◌≡◌, ◌≢◌, ℕ, zero, suc, ◌+◌, ◌*◌, ◌<◌, ◌≤◌, ◌==◌, true, List, [], ◌∷◌, length, set, get_or, refl, sym, ap, ◌∙◌, arith, subst, eq-eqb, length-set}
+use mathlib.Core.Logic.{◌⊎◌, inl, inr}
+use Rattle.std.specs.Prelude.{Option, None, Some, if◌then◌else◌}
+use Rattle.std.proofs.lemmas.Bool.{and_parts, false≢true, cases_eq, cases_lt, ne_eqb}
+use Rattle.std.proofs.lemmas.List.{get_or-set_same, get_or-set_other}
+use Rattle.std.proofs.Math.Nat.{mul-le-mul_left, mul-suc}
+use Rattle.jh_gen.specs.DriverState.{DriverState}
+use Rattle.jh_nemesis.specs.State.{first_state}
+use Rattle.jh_ops.specs.declared.operation.Kind.{Kind}
+use Rattle.jh_conversation.specs.Laws.{Drivers, IsFormed, Status, after_end, run, status}
+use Rattle.jh_conversation.specs.Laws.Status.{Idle, Busy}
+use Rattle.jh_conversation.specs.Lines.{at_first, kept_pairs, more_crashes}
+use Rattle.jh_conversation.specs.Machine.{Machine, OpenCall, Seat, are_free, has_no_call, new_seats, no_seat, seat_process, seat_of}
+use Rattle.jh_conversation.specs.Records.{Recorded, Invoked, Ended}
+use Rattle.jh_conversation.specs.Test.{TestValue}
+use Rattle.jh_conversation.specs.Turn.{call_made, may_call_in, node_of_thread}
+use Rattle.jh_conversation.specs.declared.parts.Phase.{Phase}
+use Rattle.jh_conversation.specs.declared.parts.Phase.TheVariants.{Main, Heal, Rest, Final, Over}
+use Rattle.jh_conversation.proofs.KeptLemmas.{IsKeptByLine, IsKeptInTurn, by_answers, kept_run}
+
+abbrev seat : List Seat → ℕ → Seat
+seat seats thread = get_or seats thread no_seat
+
+-- what the process of a seat does
+abbrev shown : Option OpenCall → Status
+shown None = Idle
+shown (Some call) = Busy call.asked.function
+
+-- the number of a process tells its thread, and how often that began anew
+lower : (n t u a b : ℕ) → t < n → u < n → a < b → t + n * a ≡ u + n * b → ⊥
+lower n t u a b ht hu h e =
+    let k : n * suc a ≤ n * b = mul-le-mul_left n (let m : suc a ≤ b = omega arith in m) in
+    let j : n * suc a ≡ n * a + n = mul-suc n a in
+    omega arith
+
+same_life : (n t u a b : ℕ) → t < n → u < n → t + n * a ≡ u + n * b → a ≡ b
+same_life n t u a b ht hu e = go (cases_eq a b)
+  where
+    further : a ≢ b → (a < b) ⊎ (b ≤ a) → a ≡ b
+    further ne (inl h) = absurd (lower n t u a b ht hu h e)
+    further ne (inr h) = absurd (lower n u t b a hu ht (omega arith) (sym e))
+
+    go : (a ≡ b) ⊎ (a ≡ b → ⊥) → a ≡ b
+    go (inl is) = is
+    go (inr ne) = further ne (cases_lt a b)
+
+same_thread : (n t u a b : ℕ) → t < n → u < n → t + n * a ≡ u + n * b → t ≡ u
+same_thread n t u a b ht hu e =
+    let k = same_life n t u a b ht hu e in
+    let j : n * a ≡ n * b = ap (λ l. n * l) k in
+    omega arith
+
+pub record Seated (n : ℕ) (seats : List Seat) (crashed : ℕ) (history : List Recorded) : Type 0 where
+  pub wide : length seats ≡ n
+  pub low : (t : ℕ) → t < n → (seat seats t).crashes ≤ crashed
+  pub stands : (t : ℕ) → t < n → status (t + n * (seat seats t).crashes) history ≡ shown (seat seats t).call
+  pub later : (t life : ℕ) → t < n → (seat seats t).crashes < life → status (t + n * life) history ≡ Idle
+  pub formed : IsFormed history
+
+other : (q p : ℕ) (st x : Status) → q ≢ p → (if q == p then st else x) ≡ x
+other q p st x ne = ap (λ b. (if b then st else x)) (ne_eqb q p ne)
+
+this : (q p : ℕ) (st x : Status) → q ≡ p → (if q == p then st else x) ≡ st
+this q p st x e = ap (λ b. (if b then st else x)) (eq-eqb q p e)
+
+-- the status of every process after a record of process q
+abbrev IsNews : ℕ → Status → List Recorded → List Recorded → Type 0
+IsNews q st past next = (p : ℕ) → status p next ≡ (if q == p then st else status p past)
+
+-- a thread's seat changes with a record of its process
+seated_next : (n : ℕ) (seats : List Seat) (crashed most : ℕ) (past next : List Recorded) (t : ℕ) (w : Seat) (st : Status) → Seated n seats crashed past → t < n
+    → IsNews (t + n * (seat seats t).crashes) st past next → IsFormed next
+    → (seat seats t).crashes ≤ w.crashes → crashed ≤ most → w.crashes ≤ most → ((seat seats t).crashes ≡ w.crashes → st ≡ shown w.call) → ((seat seats t).crashes < w.crashes → shown w.call ≡ Idle)
+    → Seated n (set seats t w) most next
+seated_next n seats crashed most past next t w st h within news formed up most_up top same anew = record {
+  wide = length-set seats t w ∙ h.wide;
+  low = λ u hu. low_at u hu (cases_eq u t);
+  stands = λ u hu. stands_at u hu (cases_eq u t);
+  later = λ u life hu. later_at u life hu (cases_eq u t);
+  formed = formed;
+}
+  where
+    old : Seat
+    old = seat seats t
+
+    here : (u : ℕ) → u ≡ t → seat (set seats t w) u ≡ w
+    here u e = ap (seat (set seats t w)) e ∙ get_or-set_same seats t w no_seat (omega (arith, h.wide))
+
+    there : (u : ℕ) → u ≢ t → seat (set seats t w) u ≡ seat seats u
+    there u ne = get_or-set_other seats t u w no_seat ne
+
+    low_at : (u : ℕ) → u < n → (u ≡ t) ⊎ (u ≡ t → ⊥) → (seat (set seats t w) u).crashes ≤ most
+    low_at u hu (inl e) = subst (λ (x : Seat). x.crashes ≤ most) (sym (here u e)) top
+    low_at u hu (inr ne) = let k = h.low u hu in subst (λ (x : Seat). x.crashes ≤ most) (sym (there u ne)) (omega arith)
+
+    own : (w.crashes ≡ (seat seats t).crashes) ⊎ (w.crashes ≡ (seat seats t).crashes → ⊥) → status (t + n * w.crashes) next ≡ shown w.call
+    own (inl e) = news (t + n * w.crashes) ∙ this _ _ st _ (ap (λ l. t + n * l) (sym e)) ∙ same (sym e)
+    own (inr ne) =
+        let less : (seat seats t).crashes < w.crashes = omega arith in
+        news (t + n * w.crashes) ∙ other _ _ st _ (λ e. ne (sym (same_life n t t _ _ within within e))) ∙ h.later t w.crashes within less ∙ sym (anew less)
+
+    stands_at : (u : ℕ) → u < n → (u ≡ t) ⊎ (u ≡ t → ⊥) → status (u + n * (seat (set seats t w) u).crashes) next ≡ shown (seat (set seats t w) u).call
+    stands_at u hu (inl e) =
+        subst (λ (x : Seat). status (u + n * x.crashes) next ≡ shown x.call) (sym (here u e))
+        (subst (λ v. status (v + n * w.crashes) next ≡ shown w.call) (sym e) (own (cases_eq _ _)))
+    stands_at u hu (inr ne) =
+        subst (λ (x : Seat). status (u + n * x.crashes) next ≡ shown x.call) (sym (there u ne))
+        (news (u + n * (seat seats u).crashes) ∙ other _ _ st _ (λ e. ne (sym (same_thread n t u _ _ within hu e))) ∙ h.stands u hu)
+
+    later_at : (u life : ℕ) → u < n → (u ≡ t) ⊎ (u ≡ t → ⊥) → (seat (set seats t w) u).crashes < life → status (u + n * life) next ≡ Idle
+    later_at u life hu (inl e) less =
+        let beyond : w.crashes < life = subst (λ (x : Seat). x.crashes < life) (here u e) less in
+        news (u + n * life) ∙ other _ _ st _ (λ f. let k = same_life n t u _ _ within hu f in let j : (seat seats t).crashes ≡ life = k in absurd (omega arith))
+        ∙ h.later u life hu (subst (λ v. (seat seats v).crashes < life) (sym e) (omega arith))
+    later_at u life hu (inr ne) less =
+        news (u + n * life) ∙ other _ _ st _ (λ f. ne (sym (same_thread n t u _ _ within hu f)))
+        ∙ h.later u life hu (subst (λ (x : Seat). x.crashes < life) (there u ne) less)
+
+in_seats : (seats : List Seat) (t : ℕ) (call : OpenCall) → (seat seats t).call ≡ Some call → t < length seats
+in_seats [] t call e = absurd (cc e)
+in_seats (x ∷ seats) zero call e = omega arith
+in_seats (x ∷ seats) (suc t) call e = let k = in_seats seats t call e in omega arith
+
+free_is : (c : Option OpenCall) → has_no_call c ≡ true → c ≡ None
+free_is None e = refl
+free_is (Some call) e = absurd (false≢true e)
+
+free_at : (seats : List Seat) → are_free seats ≡ true → (t : ℕ) → (seat seats t).call ≡ None
+free_at [] e t = refl
+free_at (x ∷ seats) e zero = free_is x.call (and_parts _ _ e).0
+free_at (x ∷ seats) e (suc t) = free_at seats (and_parts _ _ e).1 t
+
+long_new : (n life : ℕ) → length (new_seats n life) ≡ n
+long_new zero life = refl
+long_new (suc n) life = ap suc (long_new n life)
+
+new_at : (n life t : ℕ) → t < n → seat (new_seats n life) t ≡ record { crashes = life; call = None }
+new_at zero life t h = absurd (omega arith)
+new_at (suc n) life zero h = refl
+new_at (suc n) life (suc t) h = new_at n life t (omega arith)
+
+-- all begin anew, as processes that never were, or went on
+seated_anew : (n : ℕ) (seats : List Seat) (crashed : ℕ) (past : List Recorded) → Seated n seats crashed past → are_free seats ≡ true → Seated n (new_seats n crashed) crashed past
+seated_anew n seats crashed past h free = record {
+  wide = long_new n crashed;
+  low = λ t ht. subst (λ (x : Seat). x.crashes ≤ crashed) (sym (new_at n crashed t ht)) (omega arith);
+  stands = λ t ht. subst (λ (x : Seat). status (t + n * x.crashes) past ≡ shown x.call) (sym (new_at n crashed t ht)) (idle t ht (cases_lt _ _));
+  later = λ t life ht less. let beyond : crashed < life = subst (λ (x : Seat). x.crashes < life) (new_at n crashed t ht) less in let k = h.low t ht in h.later t life ht (omega arith);
+  formed = h.formed;
+}
+  where
+    idle : (t : ℕ) → t < n → ((seat seats t).crashes < crashed) ⊎ (crashed ≤ (seat seats t).crashes) → status (t + n * crashed) past ≡ Idle
+    idle t ht (inl less) = h.later t crashed ht less
+    idle t ht (inr ge) =
+        let k = h.low t ht in
+        let e : crashed ≡ (seat seats t).crashes = omega arith in
+        ap (λ l. status (t + n * l) past) e ∙ h.stands t ht ∙ ap shown (free_at seats free t)
+
+-- between *main* and *final* no call is open
+abbrev IsBetween : Phase → Type 0
+IsBetween Heal = Unit {0}
+IsBetween Rest = Unit {0}
+IsBetween _ = ⊥
+
+abbrev pub Holds : TestValue → Machine → Type 0
+Holds s m = Seated s.clients m.seats m.crashed m.history × (IsBetween m.phase → are_free m.seats ≡ true)
+
+none_between : (s : TestValue) (phase : Phase) (stops given now : ℕ) → may_call_in phase s stops given now ≡ true → IsBetween phase → ⊥
+none_between s Main stops given now may b = b
+none_between s Heal stops given now may b = false≢true may
+none_between s Rest stops given now may b = false≢true may
+none_between s Final stops given now may b = b
+none_between s Over stops given now may b = b
+
+between : (phase next : Phase) → phase ≡ next → IsBetween next → IsBetween phase
+between phase next is h = subst IsBetween (sym is) h
+
+pub holds_in_turn : (s : TestValue) (last : Option DriverState) → IsKeptInTurn s last (Holds s)
+holds_in_turn s last = record {
+  calls = by_answers _ _ (record {
+    asks = λ m d w h. h;
+    spends = λ m h. h;
+    invokes = λ m thread request within idle may h.
+        let call = call_made s m thread request in (
+          seated_next s.clients m.seats m.crashed m.crashed m.history (Invoked m.clock (seat_process s m thread) (node_of_thread s thread) call.asked ∷ m.history) thread
+              (record { crashes = (seat_of m thread).crashes; call = Some call }) (Busy call.asked.function) h.0 within
+              (λ p. refl) (h.0.stands thread within ∙ ap shown idle, h.0.formed) (omega arith) (omega arith) (h.0.low thread within) (λ _. refl) (λ less. absurd (omega arith)),
+          (λ b. absurd (none_between s m.phase m.stops m.given m.clock (and_parts _ _ may).1 b)),
+        );
+  });
+  begins = λ m due w d h. (record { wide = h.0.wide; low = h.0.low; stands = h.0.stands; later = h.0.later; formed = h.0.formed }, h.1);
+  heals = λ m is e h. (h.0, λ _. (and_parts _ _ e).0);
+  rests = λ m is w q h. (h.0, λ _. h.1 (between _ _ is tt));
+  ends_rest = λ m is h. (h.0, λ b. absurd b);
+  finals = λ m d is f h. (seated_anew s.clients m.seats m.crashed m.history h.0 (h.1 (between _ _ is tt)), λ b. absurd b);
+  ends_final = λ m is e h. (h.0, λ b. absurd b);
+}
+
+none-some : (c : Option OpenCall) (x : OpenCall) → c ≡ None → c ≡ Some x → ⊥
+none-some c x e f = cc
+
+pub holds_by_line : (s : TestValue) → IsKeptByLine s (Holds s)
+holds_by_line s = record {
+  listens = λ m h. h;
+  clocks = λ m time h. h;
+  stops = λ m h. h;
+  refuses = λ m why h. h;
+  answers = λ m w op e h. (record { wide = h.0.wide; low = h.0.low; stands = h.0.stands; later = h.0.later; formed = h.0.formed }, h.1);
+  finishes = λ m thread call op is no h.
+      let within : thread < s.clients = let k = in_seats m.seats thread call is in omega (arith, h.0.wide) in (
+        seated_next s.clients m.seats m.crashed (m.crashed + more_crashes op.kind) m.history
+            (Ended m.clock (seat_process s m thread) op.kind call.asked.function op.value (kept_pairs op) ∷ m.history) thread
+            (record { crashes = (seat_of m thread).crashes + more_crashes op.kind; call = None }) (after_end op.kind) h.0 within
+            (λ p. refl) (no, h.0.stands thread within ∙ ap shown is, h.0.formed) (omega arith) (omega arith) (let k = h.0.low thread within in omega arith)
+            (ended op.kind (seat_of m thread).crashes) (λ _. refl),
+        (λ b. absurd (none-some _ call (free_at m.seats (h.1 b) thread) is)),
+      );
+}
+  where
+    ended : (kind : Kind) (life : ℕ) → life ≡ life + more_crashes kind → after_end kind ≡ Idle
+    ended Kind.Invoke life e = refl
+    ended Kind.Ok life e = refl
+    ended Kind.Fail life e = refl
+    ended Kind.Info life e = absurd (omega arith)
+
+pub holds_at_first : (s : TestValue) (d : Drivers s) → Holds s (at_first s d.first (first_state s.start))
+holds_at_first s d = (
+  record {
+    wide = long_new s.clients 0;
+    low = λ t ht. subst (λ (x : Seat). x.crashes ≤ 0) (sym (new_at s.clients 0 t ht)) (omega arith);
+    stands = λ t ht. subst (λ (x : Seat). Idle ≡ shown x.call) (sym (new_at s.clients 0 t ht)) refl;
+    later = λ t life ht less. refl;
+    formed = tt;
+  },
+  λ b. absurd b,
+)
+
+pub all_formed : (s : TestValue) (d : Drivers s) (lines : List (List ℕ)) → IsFormed (run s d lines).history
+all_formed s d lines = (kept_run s d (Holds s) (holds_in_turn s d.last) (holds_by_line s) lines (holds_at_first s d)).0.formed

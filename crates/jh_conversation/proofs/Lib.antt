@@ -1,0 +1,10 @@
+pub mod KeptLemmas
+pub mod TalkLemmas
+pub mod TimeLemmas
+pub mod QuietLemmas
+pub mod CellLemmas
+pub mod FormedLemmas
+pub mod CallLemmas
+pub mod FirstBadLemmas
+pub mod SettledLemmas
+pub mod KindLemmas

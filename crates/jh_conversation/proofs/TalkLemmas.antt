@@ -1,0 +1,134 @@
+-- The history is what was said and what was heard.
+use Rattle.std.proofs.Common.{◌≡◌, ℕ, ◌==◌, Bool, true, false, ◌&&◌, ◌||◌, not, List, [], ◌∷◌, ◌++◌, refl, sym, ap, ◌∙◌, max}
+use Rattle.std.specs.Prelude.{Option, None, Some, if◌then◌else◌}
+use Rattle.std.proofs.lemmas.Bool.{eqb-true}
+use Rattle.std.proofs.lemmas.List.{append_assoc}
+use Rattle.jh_edn.specs.Edn.{is_keyword}
+use Rattle.jh_gen.specs.DriverState.{DriverState}
+use Rattle.jh_nemesis.specs.State.{faults_in, first_state}
+use Rattle.jh_nemesis.specs.Steps.{state_after}
+use Rattle.jh_ops.specs.Operation.{Operation}
+use Rattle.jh_ops.specs.declared.operation.Process.{Process}
+use Rattle.jh_conversation.specs.Laws.{Drivers, answered_by, clock_at, ended_by, heard, heard_from, run, start, talk, talk_at, talk_from}
+use Rattle.jh_ops.specs.Pairing.{is_invoke}
+use Rattle.jh_conversation.specs.Lines.{LineSaid, Nothing, Clock, Stop, Reply, Bad}
+use Rattle.jh_conversation.specs.Lines.{machine_after_lines, answer_step, answers_step, at_first, at_time, finish, is_test_over, kept_pairs, line_said, listen, refuse, reply, fits_call, take_answer, take_completion, take_end, take_in, take_reply, thread_of_process}
+use Rattle.jh_conversation.specs.Machine.{Machine, OpenCall, OpenStep, seat_process, seat_of}
+use Rattle.jh_conversation.specs.Records.{Recorded, Invoked, Ended, Begun, Answered}
+use Rattle.jh_conversation.specs.Test.{TestValue}
+use Rattle.jh_conversation.specs.Told.{told_links, told_nodes}
+use Rattle.jh_conversation.specs.Turn.{call_made, node_of_thread, turn}
+use Rattle.jh_conversation.specs.declared.parts.Complaint.TheVariants as complaint
+use Rattle.jh_conversation.proofs.KeptLemmas.{IsKeptInTurn, by_answers, kept_turn}
+
+-- what was said stands before what was there
+abbrev HasSaid : List Recorded → Machine → Type 0
+HasSaid before m = m.history ≡ m.said ++ before
+
+said_in_turn : (t : TestValue) (last : Option DriverState) (before : List Recorded) → IsKeptInTurn t last (HasSaid before)
+said_in_turn t last before = record {
+  calls = by_answers _ _ (record {
+    asks = λ m d w h. h;
+    spends = λ m h. h;
+    invokes = λ m thread request within idle may h. ap (λ l. Invoked m.clock (seat_process t m thread) (node_of_thread t thread) (call_made t m thread request).asked ∷ l) h;
+  });
+  begins = λ m due w d h.
+      let after = state_after m.nemesis due.step in
+      ap (λ l. Begun m.clock due.entry due.step
+      (told_links m.nemesis.start (faults_in m.nemesis.active) (faults_in after.active))
+      (told_nodes m.nemesis.start (faults_in m.nemesis.active) (faults_in after.active)) ∷ l) h;
+  heals = λ m is e h. h;
+  rests = λ m is w q h. h;
+  ends_rest = λ m is h. h;
+  finals = λ m d is f h. h;
+  ends_final = λ m is e h. h;
+}
+
+-- a line adds the record that it stands for, and says nothing
+abbrev pub Hears : Machine → List Recorded → Machine → Type 0
+Hears m records next = (next.history ≡ records ++ m.history) × (next.said ≡ [])
+
+heard_answer : (m : Machine) (op : Operation) (time : Option ℕ) → m.said ≡ [] → (w : Option OpenStep)
+    → Hears m (answered_by w op (clock_at time m.clock)) (take_answer op time m w)
+heard_answer m op time none None = (refl, none)
+heard_answer m op time none (Some w) =
+    elim (answers_step w op) as (λ b. Hears m (if b then Answered (clock_at time m.clock) w.entry w.code (kept_pairs op) ∷ [] else [])
+    (if b then answer_step w op (at_time time m) else refuse complaint.OtherStep m)) [
+      | true ↦ answered time
+      | false ↦ (refl, none)
+    ]
+  where
+    answered : (time : Option ℕ) → Hears m (Answered (clock_at time m.clock) w.entry w.code (kept_pairs op) ∷ []) (answer_step w op (at_time time m))
+    answered None = (refl, none)
+    answered (Some time) = (refl, none)
+
+heard_finish : (t : TestValue) (m : Machine) (process : ℕ) (op : Operation) (time : Option ℕ) (c : OpenCall) → m.said ≡ [] → seat_process t m (thread_of_process t process) ≡ process
+    → Hears m (Ended (clock_at time m.clock) process op.kind c.asked.function op.value (kept_pairs op) ∷ []) (finish t (thread_of_process t process) c op (at_time time m))
+heard_finish t m process op None c none e = (ap (λ p. Ended m.clock p op.kind c.asked.function op.value (kept_pairs op) ∷ m.history) e, none)
+heard_finish t m process op (Some time) c none e = (ap (λ p. Ended (max m.clock time) p op.kind c.asked.function op.value (kept_pairs op) ∷ m.history) e, none)
+
+heard_end : (t : TestValue) (m : Machine) (process : ℕ) (op : Operation) (time : Option ℕ) (c : OpenCall) → m.said ≡ [] → seat_process t m (thread_of_process t process) ≡ process
+    → Hears m (if not (is_invoke op.kind) && (is_keyword c.asked.function op.f && fits_call t c op.kind op.value) then Ended (clock_at time m.clock) process op.kind c.asked.function op.value (kept_pairs op) ∷ [] else [])
+    (take_end t (thread_of_process t process) c op time m)
+heard_end t m process op time c none e = by_three (is_invoke op.kind) (is_keyword c.asked.function op.f) (fits_call t c op.kind op.value)
+  where
+    by_three : (invokes named suited : Bool)
+        → Hears m (if not invokes && (named && suited) then Ended (clock_at time m.clock) process op.kind c.asked.function op.value (kept_pairs op) ∷ [] else [])
+        (if invokes || not named then refuse complaint.OtherCall m else if not suited then refuse complaint.BadValue m else finish t (thread_of_process t process) c op (at_time time m))
+    by_three true named suited = (refl, none)
+    by_three false false suited = (refl, none)
+    by_three false true false = (refl, none)
+    by_three false true true = heard_finish t m process op time c none e
+
+heard_completion : (t : TestValue) (m : Machine) (process : ℕ) (op : Operation) (time : Option ℕ) → m.said ≡ [] → (c : Option OpenCall)
+    → Hears m (ended_by t m process c op (clock_at time m.clock)) (take_completion t process op time m c)
+heard_completion t m process op time none None = (refl, none)
+heard_completion t m process op time none (Some c) =
+    (elim (seat_process t m (thread_of_process t process) == process) as (λ b. (seat_process t m (thread_of_process t process) == process) ≡ b
+    → Hears m (if b && (not (is_invoke op.kind) && (is_keyword c.asked.function op.f && fits_call t c op.kind op.value)) then Ended (clock_at time m.clock) process op.kind c.asked.function op.value (kept_pairs op) ∷ [] else [])
+    (if b then take_end t (thread_of_process t process) c op time m else refuse complaint.NoCallOpen m)) [
+      | true ↦ λ e. heard_end t m process op time c none (eqb-true _ _ e)
+      | false ↦ λ _. (refl, none)
+    ]) refl
+
+hears_time : (m : Machine) (time : ℕ) → m.said ≡ [] → Hears m [] (at_time (Some time) m)
+hears_time m time none = (refl, none)
+
+pub hears : (t : TestValue) (m : Machine) (line : LineSaid) → m.said ≡ [] → Hears m (heard t m line) (take_in t line m)
+hears t m Nothing none = (refl, none)
+hears t m (Clock time) none = (refl, none)
+hears t m Stop none = (refl, none)
+hears t m (Bad why) none = (refl, none)
+hears t m (Reply op time) none = go op.process
+  where
+    go : (p : Process) → Hears m (heard_from t m op (clock_at time m.clock) p) (take_reply t op time p m)
+    go Process.Nemesis = heard_answer m op time none m.step
+    go (Process.Client process) = heard_completion t m process op time none (seat_of m (thread_of_process t process)).call
+
+talked : (t : TestValue) (d : Drivers t) (m : Machine) (line : List ℕ) → (reply t d.last m line).history ≡ talk_at t d m line ++ m.history
+talked t d m line =
+    elim (is_test_over m) as (λ b. (if b then listen m else turn t d.last (take_in t (line_said line) (listen m))).history
+    ≡ ((if b then listen m else turn t d.last (take_in t (line_said line) (listen m))).said ++ (if b then [] else heard t m (line_said line))) ++ m.history) [
+      | true ↦ refl
+      | false ↦
+          let took = hears t (listen m) (line_said line) refl in
+          let next = take_in t (line_said line) (listen m) in
+          kept_turn t d.last (HasSaid next.history) (said_in_turn t d.last next.history) next (ap (λ l. l ++ next.history) (sym took.1))
+          ∙ ap (λ l. (turn t d.last next).said ++ l) took.0
+          ∙ sym (append_assoc (turn t d.last next).said (heard t m (line_said line)) m.history)
+    ]
+
+talked_all : (t : TestValue) (d : Drivers t) (lines : List (List ℕ)) (m : Machine) → (machine_after_lines t d.last m lines).history ≡ talk_from t d m lines ++ m.history
+talked_all t d [] m = refl
+talked_all t d (line ∷ lines) m =
+    talked_all t d lines (reply t d.last m line) ∙ ap (λ l. talk_from t d (reply t d.last m line) lines ++ l) (talked t d m line)
+    ∙ sym (append_assoc (talk_from t d (reply t d.last m line) lines) (talk_at t d m line) m.history)
+
+pub history_is_talk : (t : TestValue) (d : Drivers t) (lines : List (List ℕ)) → (run t d lines).history ≡ talk t d lines
+history_is_talk t d lines =
+    talked_all t d lines (start t d)
+    ∙ ap (λ l. talk_from t d (start t d) lines ++ l) (kept_turn t d.last (HasSaid []) (said_in_turn t d.last []) (at_first t d.first (first_state t.start)) refl ∙ nothing (start t d).said)
+  where
+    nothing : (l : List Recorded) → l ++ [] ≡ l
+    nothing [] = refl
+    nothing (r ∷ l) = ap (λ l. r ∷ l) (nothing l)

@@ -1,0 +1,345 @@
+-- What holds of every test and every list of lines that is read. Each law is proved as the clause of a
+-- function that does nothing. This project's own.
+use Rattle.std.specs.Prelude.{◌≡◌, ℕ, suc, ◌+◌, ◌==◌, ◌<◌, ◌≤◌, Bool, true, false, not, ◌&&◌, ◌||◌}
+use Rattle.std.specs.Prelude.{◌*◌, ◌^◌, List, [], ◌∷◌, ◌++◌, Option, Some, None, max, if◌then◌else◌}
+use Rattle.std.specs.List.{AllByRecursion}
+use Rattle.jh_edn.specs.Edn.{is_empty, is_keyword}
+use Rattle.jh_env.specs.Cells.{Link, NodeCell, link_at, node_at}
+use Rattle.jh_env.specs.Overlay.{link_over, node_over}
+use Rattle.jh_gen.specs.DriverState.{DriverState, IsDriverOf, IsFresh}
+use Rattle.jh_gen.specs.Generator.{clients, limit}
+use Rattle.jh_nemesis.specs.State.{faults_in, first_state}
+use Rattle.jh_ops.specs.Operation.{Operation}
+use Rattle.jh_ops.specs.declared.operation.Kind.{Kind}
+use Rattle.jh_ops.specs.declared.operation.Process.{Process}
+use Rattle.jh_ops.specs.Pairing.{is_invoke}
+use Rattle.jh_conversation.specs.Lines.{LineSaid, Reply, Bad}
+use Rattle.jh_conversation.specs.Lines.{machine_after_lines, answers_step, at_first, is_test_over}
+use Rattle.jh_conversation.specs.Lines.{kept_pairs, line_said, listen, reply, fits_call, take_in}
+use Rattle.jh_conversation.specs.Lines.{thread_of_process}
+use Rattle.jh_conversation.specs.Machine.{Machine, OpenCall, OpenStep, are_free, seat_process, seat_of}
+use Rattle.jh_conversation.specs.Records.{Recorded, Invoked, Ended, Begun, Answered, LinkTold, NodeTold}
+use Rattle.jh_conversation.specs.Test.{TestValue}
+use Rattle.jh_conversation.specs.Turn.{keeps_rate, may_call, millisecond, move, round, turn}
+use Rattle.jh_conversation.specs.declared.parts.Complaint.{Complaint}
+use Rattle.jh_conversation.specs.declared.parts.Complaint.TheVariants as complaint
+use Rattle.jh_conversation.specs.declared.parts.Phase.{Phase}
+use Rattle.jh_conversation.specs.declared.parts.Phase.TheVariants.{Main, Heal, Rest, Over}
+
+-- The drivers that a test begins with: of its generator, and of its final one where there is one.
+pub record Drivers (t : TestValue) : Type 0 where
+  pub first : DriverState
+  pub is_first : IsDriverOf first (clients (limit t.ops t.generator)) []
+  pub fresh : IsFresh first t.clients
+  pub last : Option DriverState
+
+-- the machine after these lines
+abbrev pub start : (t : TestValue) → Drivers t → Machine
+start t d = turn t d.last (at_first t d.first (first_state t.start))
+
+abbrev pub run : (t : TestValue) → Drivers t → List (List ℕ) → Machine
+run t d lines = machine_after_lines t d.last (start t d) lines
+
+-- The history is the conversation.
+
+-- the clock behind a line with this time
+abbrev pub clock_at : Option ℕ → ℕ → ℕ
+clock_at None now = now
+clock_at (Some time) now = max now time
+
+-- the completion of the call that its process has open
+abbrev pub is_end_of_call : TestValue → Machine → ℕ → OpenCall → Operation → Bool
+is_end_of_call t m process call op =
+    (seat_process t m (thread_of_process t process) == process)
+    && (not (is_invoke op.kind)
+    && (is_keyword call.asked.function op.f && fits_call t call op.kind op.value))
+
+-- the record of an answer of the nemesis, if it is one to the step that is open
+abbrev pub answered_by : Option OpenStep → Operation → ℕ → List Recorded
+answered_by None op now = []
+answered_by (Some step) op now =
+    if answers_step step op then Answered now step.entry step.code (kept_pairs op) ∷ [] else []
+
+-- the record of a completion, if it is one
+abbrev pub ended_by : TestValue → Machine → ℕ → Option OpenCall → Operation → ℕ → List Recorded
+ended_by t m process None op now = []
+ended_by t m process (Some call) op now =
+    if is_end_of_call t m process call op
+    then Ended now process op.kind call.asked.function op.value (kept_pairs op) ∷ [] else []
+
+abbrev pub heard_from : TestValue → Machine → Operation → ℕ → Process → List Recorded
+heard_from t m op now Process.Nemesis = answered_by m.step op now
+heard_from t m op now (Process.Client process) =
+    ended_by t m process (seat_of m (thread_of_process t process)).call op now
+
+-- the record of what a line says, if it is a reply
+abbrev pub heard : TestValue → Machine → LineSaid → List Recorded
+heard t m (Reply op time) = heard_from t m op (clock_at time m.clock) op.process
+heard t m _ = []
+
+-- what is read and what is then said, the newest first; behind the end nothing is heard
+abbrev pub talk_at : (t : TestValue) → Drivers t → Machine → List ℕ → List Recorded
+talk_at t d m line =
+    (reply t d.last m line).said ++ (if is_test_over m then [] else heard t m (line_said line))
+
+abbrev pub talk_from : (t : TestValue) → Drivers t → Machine → List (List ℕ) → List Recorded
+talk_from t d m [] = []
+talk_from t d m (line ∷ lines) = talk_from t d (reply t d.last m line) lines ++ talk_at t d m line
+
+abbrev pub talk : (t : TestValue) → Drivers t → List (List ℕ) → List Recorded
+talk t d lines = talk_from t d (start t d) lines ++ (start t d).said
+
+abbrev pub HistoryIsTalk : Type 0
+HistoryIsTalk =
+    (t : TestValue) (d : Drivers t) (lines : List (List ℕ)) → (run t d lines).history ≡ talk t d lines
+
+-- What is said are calls and steps, what is heard completions and answers.
+abbrev pub IsSaid : Recorded → Type 0
+IsSaid (Invoked time process node asked) = Unit {0}
+IsSaid (Begun time entry step links nodes) = Unit {0}
+IsSaid _ = ⊥
+
+abbrev pub IsHeard : Recorded → Type 0
+IsHeard (Ended time process kind function value rest) = Unit {0}
+IsHeard (Answered time entry code rest) = Unit {0}
+IsHeard _ = ⊥
+
+abbrev pub KindsAreApart : Type 0
+KindsAreApart =
+    (t : TestValue) (d : Drivers t) (lines : List (List ℕ)) (line : List ℕ)
+    → AllByRecursion IsSaid (reply t d.last (run t d lines) line).said
+    × AllByRecursion IsHeard (heard t (run t d lines) (line_said line))
+
+-- its times never go back
+abbrev pub time_of : Recorded → ℕ
+time_of (Invoked time process node asked) = time
+time_of (Ended time process kind function value rest) = time
+time_of (Begun time entry step links nodes) = time
+time_of (Answered time entry code rest) = time
+
+abbrev pub AreTimesInOrder : ℕ → List Recorded → Type 0
+AreTimesInOrder now [] = Unit {0}
+AreTimesInOrder now (r ∷ past) = (time_of r ≤ now) × AreTimesInOrder (time_of r) past
+
+abbrev pub TimesAreInOrder : Type 0
+TimesAreInOrder =
+    (t : TestValue) (d : Drivers t) (lines : List (List ℕ))
+    → AreTimesInOrder (run t d lines).clock (run t d lines).history
+
+-- The history is well formed.
+
+-- what a process does: nothing, a call of this function, or nothing any more
+pub data Status : Type 0 where
+  Idle : Status
+  Busy : List ℕ → Status
+  Gone : Status
+
+abbrev pub after_end : Kind → Status
+after_end Kind.Info = Gone
+after_end _ = Idle
+
+-- what a process does behind a history, the newest record first
+abbrev pub status : ℕ → List Recorded → Status
+status p [] = Idle
+status p (Invoked time process node asked ∷ past) =
+    if process == p then Busy asked.function else status p past
+status p (Ended time process kind function value rest ∷ past) =
+    if process == p then after_end kind else status p past
+status p (_ ∷ past) = status p past
+
+-- A process invokes only while it does nothing, and its call ends, once, only while it is open.
+abbrev pub IsFormed : List Recorded → Type 0
+IsFormed [] = Unit {0}
+IsFormed (Invoked time process node asked ∷ past) = (status process past ≡ Idle) × IsFormed past
+IsFormed (Ended time process kind function value rest ∷ past) =
+    (is_invoke kind ≡ false) × (status process past ≡ Busy function) × IsFormed past
+IsFormed (_ ∷ past) = IsFormed past
+
+abbrev pub HistoryIsFormed : Type 0
+HistoryIsFormed = (t : TestValue) (d : Drivers t) (lines : List (List ℕ)) → IsFormed (run t d lines).history
+
+-- The cells that were told are the environment.
+
+-- what a link that was l is after these were told, in order
+abbrev pub link_told_after : List LinkTold → ℕ → ℕ → Link → Link
+link_told_after [] a b l = l
+link_told_after (told ∷ more) a b l =
+    link_told_after more a b (if told.source == a && told.destination == b then told.link else l)
+
+abbrev pub node_told_after : List NodeTold → ℕ → NodeCell → NodeCell
+node_told_after [] a n = n
+node_told_after (told ∷ more) a n = node_told_after more a (if told.node == a then told.cell else n)
+
+-- what it is after all steps of a history, the newest record first
+abbrev pub told_link_in : List Recorded → ℕ → ℕ → Link → Link
+told_link_in [] a b l = l
+told_link_in (Begun time entry step links nodes ∷ past) a b l =
+    link_told_after links a b (told_link_in past a b l)
+told_link_in (_ ∷ past) a b l = told_link_in past a b l
+
+abbrev pub told_node_in : List Recorded → ℕ → NodeCell → NodeCell
+told_node_in [] a n = n
+told_node_in (Begun time entry step links nodes ∷ past) a n = node_told_after nodes a (told_node_in past a n)
+told_node_in (_ ∷ past) a n = told_node_in past a n
+
+-- at each moment what was told, applied to the start in order, is what the active faults make of it
+abbrev pub CellsAreEnvironment : Type 0
+CellsAreEnvironment =
+    (t : TestValue) (d : Drivers t) (lines : List (List ℕ)) (a b : ℕ) (l : Link) (n : NodeCell)
+    → (link_at t.start.start a b ≡ Some l
+    → told_link_in (run t d lines).history a b l
+    ≡ link_over (faults_in (run t d lines).nemesis.active) a b l)
+    × (node_at t.start.start a ≡ Some n
+    → told_node_in (run t d lines).history a n
+    ≡ node_over (faults_in (run t d lines).nemesis.active) a n)
+
+abbrev pub IsPastHeal : Phase → Type 0
+IsPastHeal Main = ⊥
+IsPastHeal Heal = ⊥
+IsPastHeal _ = Unit {0}
+
+-- from *rest* on no fault is active, and what was told adds up to the start
+abbrev pub RestIsQuiet : Type 0
+RestIsQuiet =
+    (t : TestValue) (d : Drivers t) (lines : List (List ℕ)) → IsPastHeal (run t d lines).phase
+    → is_empty (run t d lines).nemesis.active ≡ true
+
+abbrev pub RestIsStart : Type 0
+RestIsStart =
+    (t : TestValue) (d : Drivers t) (lines : List (List ℕ)) (a b : ℕ) (l : Link) (n : NodeCell)
+    → IsPastHeal (run t d lines).phase
+    → (link_at t.start.start a b ≡ Some l → told_link_in (run t d lines).history a b l ≡ l)
+    × (node_at t.start.start a ≡ Some n → told_node_in (run t d lines).history a n ≡ n)
+
+-- Calls.
+
+abbrev pub invocations_in : List Recorded → ℕ
+invocations_in [] = 0
+invocations_in (Invoked time process node asked ∷ past) = suc (invocations_in past)
+invocations_in (_ ∷ past) = invocations_in past
+
+-- *final* has not begun
+abbrev pub IsBeforeFinal : Phase → Type 0
+IsBeforeFinal Main = Unit {0}
+IsBeforeFinal Heal = Unit {0}
+IsBeforeFinal Rest = Unit {0}
+IsBeforeFinal _ = ⊥
+
+-- the machine that has taken in a line, before its turn
+abbrev pub took : (t : TestValue) → Drivers t → List (List ℕ) → List ℕ → Machine
+took t d lines line = take_in t (line_said line) (listen (run t d lines))
+
+-- from a line on that stops, there is no call until *final* begins
+abbrev pub StopEndsMainCalls : Type 0
+StopEndsMainCalls =
+    (t : TestValue) (d : Drivers t) (lines more : List (List ℕ)) (line : List ℕ)
+    → 1 ≤ (took t d lines line).stops → IsBeforeFinal (run t d (lines ++ line ∷ more)).phase
+    → invocations_in (run t d (lines ++ line ∷ more)).history ≡ invocations_in (run t d lines).history
+
+-- and from one on that stops a second time, or that is no reply, there is none at all
+abbrev pub TwoStopsEndCalls : Type 0
+TwoStopsEndCalls =
+    (t : TestValue) (d : Drivers t) (lines more : List (List ℕ)) (line : List ℕ)
+    → 2 ≤ (took t d lines line).stops
+    → invocations_in (run t d (lines ++ line ∷ more)).history ≡ invocations_in (run t d lines).history
+
+-- before so many milliseconds, where there is a limit
+abbrev pub IsBeforeLimit : Option ℕ → ℕ → Type 0
+IsBeforeLimit None time = Unit {0}
+IsBeforeLimit (Some most) time = time < most * 10 ^ 6
+
+-- the call with this number, from 0, is not before its time at so many calls a second
+abbrev pub IsAtRate : Option ℕ → ℕ → ℕ → Type 0
+IsAtRate None number time = Unit {0}
+IsAtRate (Some rate) number time = number * 10 ^ 9 ≤ time * rate
+
+-- no call is past the limit or faster than the rate
+abbrev pub AreTimely : TestValue → List Recorded → Type 0
+AreTimely t [] = Unit {0}
+AreTimely t (Invoked time process node asked ∷ past) =
+    IsBeforeLimit t.time_limit time × IsAtRate t.rate (invocations_in past) time × AreTimely t past
+AreTimely t (_ ∷ past) = AreTimely t past
+
+abbrev pub CallsAreTimely : Type 0
+CallsAreTimely =
+    (t : TestValue) (d : Drivers t) (lines : List (List ℕ)) → IsBeforeFinal (run t d lines).phase
+    → AreTimely t (run t d lines).history
+
+-- The first line that is no reply is the one that is told.
+
+abbrev pub complaint_of_answer : Option OpenStep → Operation → Option Complaint
+complaint_of_answer None op = Some complaint.NoStepOpen
+complaint_of_answer (Some step) op = if answers_step step op then None else Some complaint.OtherStep
+
+-- why the completion of a call that its process has open is none
+abbrev pub complaint_of_end : TestValue → OpenCall → Operation → Option Complaint
+complaint_of_end t call op =
+    if is_invoke op.kind || not (is_keyword call.asked.function op.f) then Some complaint.OtherCall
+    else if not (fits_call t call op.kind op.value) then Some complaint.BadValue
+    else None
+
+abbrev pub complaint_of_completion : TestValue → Machine → ℕ → Option OpenCall → Operation
+    → Option Complaint
+complaint_of_completion t m process None op = Some complaint.NoCallOpen
+complaint_of_completion t m process (Some call) op =
+    if seat_process t m (thread_of_process t process) == process then complaint_of_end t call op
+    else Some complaint.NoCallOpen
+
+abbrev pub complaint_of_reply : TestValue → Machine → Operation → Process → Option Complaint
+complaint_of_reply t m op Process.Nemesis = complaint_of_answer m.step op
+complaint_of_reply t m op (Process.Client process) =
+    complaint_of_completion t m process (seat_of m (thread_of_process t process)).call op
+
+-- why a line is no reply, if it is none
+abbrev pub complaint_of : TestValue → Machine → LineSaid → Option Complaint
+complaint_of t m (Bad why) = Some why
+complaint_of t m (Reply op time) = complaint_of_reply t m op op.process
+complaint_of t m _ = None
+
+-- the first line that is no reply with its number, counted on from n; what is read behind the end is not
+-- looked at
+abbrev pub first_bad_or : (t : TestValue) → Option Complaint → ℕ → Option (ℕ × Complaint)
+    → Option (ℕ × Complaint)
+first_bad_or t None number later = later
+first_bad_or t (Some why) number later = Some (number, why)
+
+abbrev pub first_bad : (t : TestValue) → Drivers t → Machine → ℕ → List (List ℕ)
+    → Option (ℕ × Complaint)
+first_bad t d m n [] = None
+first_bad t d m n (line ∷ lines) =
+    first_bad_or t (if is_test_over m then None else complaint_of t m (line_said line)) (n + 1)
+    (first_bad t d (reply t d.last m line) (n + 1) lines)
+
+abbrev pub FirstBadIsTold : Type 0
+FirstBadIsTold =
+    (t : TestValue) (d : Drivers t) (lines : List (List ℕ))
+    → (run t d lines).bad ≡ first_bad t d (start t d) 0 lines
+
+-- Each turn ends, and what the machine then waits for.
+
+-- the last of the passes stays in its phase, and its last round gave nothing
+abbrev pub TurnSettles : Type 0
+TurnSettles =
+    (t : TestValue) (d : Drivers t) (lines : List (List ℕ)) (line : List ℕ)
+    → is_test_over (run t d lines) ≡ false
+    → (last : Machine) × (reply t d.last (run t d lines) line ≡ round t last)
+    × ((round t last).given ≡ last.given) × (move t d.last (round t last) ≡ None)
+
+-- What a machine waits for.
+pub data Waits (t : TestValue) (m : Machine) : Type 0 where
+  -- it is over
+  IsOver : m.phase ≡ Over → Waits t m
+  -- a call is open
+  ForCall : are_free m.seats ≡ false → Waits t m
+  -- a step is open
+  ForStep : (step : OpenStep) → m.step ≡ Some step → Waits t m
+  -- one more call would be faster than the rate
+  ForRate : m.phase ≡ Main → keeps_rate t.rate m.given m.clock ≡ false → Waits t m
+  -- the time of recovery has not passed
+  ForRecovery : m.phase ≡ Rest → m.clock < m.rested + t.recovery * millisecond → Waits t m
+  -- in the last round the generator gave no call, though none is open and one may be given
+  ForGenerator : (last : Machine) → m ≡ round t last → m.given ≡ last.given
+      → are_free m.seats ≡ true → may_call t m ≡ true → Waits t m
+
+abbrev pub AlwaysWaits : Type 0
+AlwaysWaits = (t : TestValue) (d : Drivers t) (lines : List (List ℕ)) → Waits t (run t d lines)

@@ -1,0 +1,90 @@
+-- What is known of a test at a moment. This project's own.
+use Rattle.std.specs.Prelude.{ℕ, zero, suc, ◌+◌, ◌*◌, Bool, true, false, ◌&&◌, List, [], ◌∷◌, get_or}
+use Rattle.std.specs.Prelude.{Option, None, Some}
+use Rattle.rand_pcg.specs.Lcg.{Lcg}
+use Rattle.jh_gen.specs.DriverState.{DriverState}
+use Rattle.jh_nemesis.specs.State.{State}
+use Rattle.jh_ops.specs.declared.call.Request.{Request}
+use Rattle.jh_conversation.specs.Records.{Asked, Recorded}
+use Rattle.jh_conversation.specs.Test.{TestValue}
+use Rattle.jh_conversation.specs.Transactions.{TransactionSource}
+use Rattle.jh_conversation.specs.declared.parts.Complaint.{Complaint}
+use Rattle.jh_conversation.specs.declared.parts.Phase.{Phase}
+
+-- a call that waits for its completion
+pub record OpenCall : Type 0 where
+  pub request : Request
+  pub asked : Asked
+
+-- a thread: how many of its processes have crashed, and the call that it has open
+pub record Seat : Type 0 where
+  pub crashes : ℕ
+  pub call : Option OpenCall
+
+-- a step that waits for its answer: the place of its entry, and the code of the nemesis' answer
+pub record OpenStep : Type 0 where
+  pub entry : ℕ
+  pub code : ℕ
+
+-- The history, and what was said since the last line was read, have the newest record first.
+pub record Machine : Type 0 where
+  pub phase : Phase
+  -- what gives the calls of this phase, whether it has no more, and the random numbers for it
+  pub driver : DriverState
+  pub has_spent : Bool
+  pub words : Lcg
+  -- the transactions to come, and how many calls each group of threads was given
+  pub transactions : TransactionSource
+  pub calls_by_group : List ℕ
+  pub seats : List Seat
+  -- calls that were given and that were answered, and processes that have crashed
+  pub given : ℕ
+  pub answered : ℕ
+  pub crashed : ℕ
+  -- the nemesis, how many entries were taken, and the step that waits for its answer
+  pub nemesis : State
+  pub taken : ℕ
+  pub step : Option OpenStep
+  -- how often it was told to stop: once ends the calls of *main*, twice those of *final* too
+  pub stops : ℕ
+  -- the greatest time that was told, and that at which *rest* began, in nanoseconds
+  pub clock : ℕ
+  pub rested : ℕ
+  -- how many lines were read, and the first one that is no reply
+  pub read : ℕ
+  pub bad : Option (ℕ × Complaint)
+  pub history : List Recorded
+  pub said : List Recorded
+
+abbrev pub no_seat : Seat
+no_seat = record { crashes = 0; call = None }
+
+abbrev pub seat_of : Machine → ℕ → Seat
+seat_of m thread = get_or m.seats thread no_seat
+
+-- The process of a thread: the thread's number at first, and greater by the number of threads after
+-- each crash (jepsen.generator).
+abbrev pub seat_process : TestValue → Machine → ℕ → ℕ
+seat_process t m thread = thread + t.clients * (seat_of m thread).crashes
+
+abbrev pub has_no_call : Option OpenCall → Bool
+has_no_call None = true
+has_no_call (Some call) = false
+
+-- no call is open
+abbrev pub are_free : List Seat → Bool
+are_free [] = true
+are_free (seat ∷ seats) = has_no_call seat.call && are_free seats
+
+-- so many threads, each of whose processes have crashed so often
+abbrev pub new_seats : ℕ → ℕ → List Seat
+new_seats zero crashes = []
+new_seats (suc n) crashes = (record { crashes = crashes; call = None }) ∷ new_seats n crashes
+
+-- a record that is written belongs to the history too
+abbrev pub say : Recorded → Machine → Machine
+say r m = record m { history = r ∷ m.history; said = r ∷ m.said }
+
+-- a record that was read
+abbrev pub hear : Recorded → Machine → Machine
+hear r m = record m { history = r ∷ m.history }

@@ -1,0 +1,105 @@
+-- What is recorded in a test of a real database, and the operation that each record is in the
+-- history (jepsen.history: a client's operation is invoked and completed as `:ok`, `:fail` or
+-- `:info`; the nemesis' operations are `:info` both times). Which other keys they have is this
+-- project's own: the node of a call, and of a step the step itself and each cell that it changed.
+use Rattle.std.specs.Prelude.{ℕ, pos, List, [], ◌∷◌, map, codes, Some}
+use Rattle.jh_edn.specs.Edn.{Edn, int, boolean, keyword}
+use Rattle.jh_edn.specs.Parts.{map_of, vector_of}
+use Rattle.jh_env.specs.Cells.{Life, Link, NodeCell, Running, Paused, Killed}
+use Rattle.jh_nemesis.specs.declared.steps.Step.{Step}
+use Rattle.jh_ops.specs.Operation.{Operation}
+use Rattle.jh_ops.specs.declared.operation.Kind.{Kind}
+use Rattle.jh_ops.specs.declared.operation.Process.{Process}
+use Rattle.jh_step_texts.specs.FaultWritten.{name_text}
+use Rattle.jh_step_texts.specs.StepWritten.{text_of_step}
+
+-- a call: its function's name, and its value as it is written, with its key where keys are
+-- independent
+pub record Asked : Type 0 where
+  pub function : List ℕ
+  pub value : Edn
+
+-- a link that a step changed, with what it now is
+pub record LinkTold : Type 0 where
+  pub source : ℕ
+  pub destination : ℕ
+  pub link : Link
+
+-- a node that a step changed, with what it now is
+pub record NodeTold : Type 0 where
+  pub node : ℕ
+  pub cell : NodeCell
+
+-- The records of a test, each with the time at which it was made, in nanoseconds.
+pub data Recorded : Type 0 where
+  -- a process calls a node
+  Invoked : (time process node : ℕ) → Asked → Recorded
+  -- a call of a process ended, with a value and other keys as they came
+  Ended : (time process : ℕ) → Kind → List ℕ → Edn → List (Edn × Edn) → Recorded
+  -- the step of an entry was taken, and these cells have changed
+  Begun : (time entry : ℕ) → Step → List LinkTold → List NodeTold → Recorded
+  -- the adapter has done so; the step was answered by this code
+  Answered : (time entry code : ℕ) → List (Edn × Edn) → Recorded
+
+-- `{:cut true, :delay 0, :loss 0}`
+abbrev pub link_value : Link → Edn
+link_value l = map_of (
+    (keyword (codes "cut"), boolean l.cut) ∷ (keyword (codes "delay"), int (pos l.delay))
+    ∷ (keyword (codes "loss"), int (pos l.loss)) ∷ []
+    )
+
+abbrev pub life_name : Life → List ℕ
+life_name Running = codes "running"
+life_name Paused = codes "paused"
+life_name Killed = codes "killed"
+
+-- `{:process :killed, :clock 0}`
+abbrev pub node_value : NodeCell → Edn
+node_value n = map_of (
+    (keyword (codes "process"), keyword (life_name n.process))
+    ∷ (keyword (codes "clock"), int n.clock) ∷ []
+    )
+
+-- `["n1" "n2" {..}]`
+abbrev pub link_told_value : List (List ℕ) → LinkTold → Edn
+link_told_value names told = vector_of (
+    name_text names told.source ∷ name_text names told.destination ∷ link_value told.link ∷ []
+    )
+
+-- `["n1" {..}]`
+abbrev pub node_told_value : List (List ℕ) → NodeTold → Edn
+node_told_value names told = vector_of (name_text names told.node ∷ node_value told.cell ∷ [])
+
+-- an operation at its place in the history
+abbrev pub operation_placed : (index time : ℕ) → Kind → Process → List ℕ → Edn → List (Edn × Edn)
+    → Operation
+operation_placed index time kind process function value rest = record {
+  kind = kind;
+  process = process;
+  f = keyword function;
+  value = value;
+  time = Some (pos time);
+  index = Some (pos index);
+  rest = rest;
+}
+
+-- the other keys of a step's record
+abbrev pub step_pairs : List (List ℕ) → Step → List LinkTold → List NodeTold → List (Edn × Edn)
+step_pairs names step links nodes =
+    (keyword (codes "step"), text_of_step names step)
+    ∷ (keyword (codes "links"), vector_of (map (link_told_value names) links))
+    ∷ (keyword (codes "nodes"), vector_of (map (node_told_value names) nodes)) ∷ []
+
+-- the operation of a record at this index, over nodes of these names
+abbrev pub operation_of_record : List (List ℕ) → ℕ → Recorded → Operation
+operation_of_record names index (Invoked time process node asked) =
+    operation_placed index time Kind.Invoke (Process.Client process) asked.function asked.value
+    ((keyword (codes "node"), name_text names node) ∷ [])
+operation_of_record names index (Ended time process kind function value rest) =
+    operation_placed index time kind (Process.Client process) function value rest
+operation_of_record names index (Begun time entry step links nodes) =
+    operation_placed index time Kind.Info Process.Nemesis (codes "step") (int (pos entry))
+    (step_pairs names step links nodes)
+operation_of_record names index (Answered time entry code rest) =
+    operation_placed index time Kind.Info Process.Nemesis (codes "step")
+    (vector_of (int (pos entry) ∷ int (pos code) ∷ [])) rest

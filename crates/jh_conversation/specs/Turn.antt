@@ -1,0 +1,270 @@
+-- A turn: all that can be said at a moment. A step that is due is taken, threads that have no call
+-- open ask for one, and a phase that is over makes way for the next one. This project's own; which
+-- call a thread is given is what the driver of the generator answers (jepsen.generator).
+use Rattle.std.specs.Prelude.{ℕ, zero, suc, ◌+◌, ◌*◌, ◌/◌, ◌%◌, ◌^◌, ◌==◌, nat_le, Bool, true, false, not}
+use Rattle.std.specs.Prelude.{◌&&◌, ◌||◌, pos, List, [], ◌∷◌, length, set, slice_get, slice_index_or}
+use Rattle.std.specs.Prelude.{Option, None, Some, if◌then◌else◌}
+use Rattle.rand_pcg.specs.Pcg.{pcg64}
+use Rattle.jh_edn.specs.Edn.{Edn, int, is_empty}
+use Rattle.jh_edn.specs.Parts.{vector_of}
+use Rattle.jh_gen.specs.DriverState.{DriverState, asked, max_calls}
+use Rattle.jh_gen.specs.declared.answers.GenAnswer.{GenAnswer}
+use Rattle.jh_gen.specs.declared.answers.GenAnswer.TheVariants.{Call, Done, Pending}
+use Rattle.jh_gen.specs.declared.answers.Thread.TheVariants as thread
+use Rattle.jh_nemesis.specs.State.{faults_in}
+use Rattle.jh_nemesis.specs.Steps.{answer_of, state_after}
+use Rattle.jh_nemesis.specs.declared.steps.Step.{Step}
+use Rattle.jh_nemesis.specs.declared.steps.Step.TheVariants.{WithdrawAll}
+use Rattle.jh_ops.specs.Words.{content_value}
+use Rattle.jh_ops.specs.declared.call.Call.TheVariants as call
+use Rattle.jh_ops.specs.declared.call.Request.{Request}
+use Rattle.jh_simnode.specs.Histories.{asked_content, code_of, request_name}
+use Rattle.jh_conversation.specs.Machine.{Machine, OpenCall, OpenStep}
+use Rattle.jh_conversation.specs.Machine.{are_free, has_no_call, new_seats, seat_process, say, seat_of}
+use Rattle.jh_conversation.specs.Records.{Begun, Invoked}
+use Rattle.jh_conversation.specs.Test.{KeyShares, TestValue}
+use Rattle.jh_conversation.specs.Told.{told_links, told_nodes}
+use Rattle.jh_conversation.specs.declared.parts.Entry.{Entry}
+use Rattle.jh_conversation.specs.declared.parts.Phase.{Phase}
+use Rattle.jh_conversation.specs.declared.parts.Phase.TheVariants.{Main, Heal, Rest, Final, Over}
+use Rattle.jh_conversation.specs.declared.parts.When.{When}
+use Rattle.jh_conversation.specs.declared.parts.When.TheVariants.{Calls, Milliseconds}
+
+-- How many nanoseconds a second has, and a millisecond.
+abbrev pub second : ℕ
+second = 10 ^ 9
+
+abbrev pub millisecond : ℕ
+millisecond = 10 ^ 6
+
+-- What may be said.
+
+-- a limit in milliseconds has come, where there is one
+abbrev pub has_come : Option ℕ → ℕ → Bool
+has_come None now = false
+has_come (Some limit) now = nat_le (limit * millisecond) now
+
+-- one more call keeps to a rate a second
+abbrev pub keeps_rate : Option ℕ → ℕ → ℕ → Bool
+keeps_rate None given now = true
+keeps_rate (Some rate) given now = nat_le (given * second) (now * rate)
+
+abbrev pub may_call_in : Phase → TestValue → (stops given now : ℕ) → Bool
+may_call_in Main t stops given now =
+    stops == 0 && (not (has_come t.time_limit now) && keeps_rate t.rate given now)
+may_call_in Final t stops given now = not (nat_le 2 stops)
+may_call_in _ t stops given now = false
+
+-- a call may be given: in *main* none after a stop, past the time limit or faster than the rate; in
+-- *final* none after a second stop; none once the driver has no more
+abbrev pub may_call : TestValue → Machine → Bool
+may_call t m = not m.has_spent && may_call_in m.phase t m.stops m.given m.clock
+
+abbrev pub no_more_calls_in : Phase → TestValue → (stops now : ℕ) → Bool
+no_more_calls_in Main t stops now = not (stops == 0) || has_come t.time_limit now
+no_more_calls_in _ t stops now = nat_le 2 stops
+
+-- no call is open, and no more may come
+abbrev pub calls_ended : TestValue → Machine → Bool
+calls_ended t m = are_free m.seats && (m.has_spent || no_more_calls_in m.phase t m.stops m.clock)
+
+abbrev pub has_come_to : When → Machine → Bool
+has_come_to (Calls n) m = nat_le n m.answered
+has_come_to (Milliseconds n) m = nat_le (n * millisecond) m.clock
+
+-- a step that is due, with the place of its entry
+pub record Due : Type 0 where
+  pub entry : ℕ
+  pub step : Step
+
+abbrev pub if_due : Machine → Option Entry → Option Due
+if_due m None = None
+if_due m (Some entry) =
+    if has_come_to entry.at m then Some (record { entry = m.taken; step = entry.step }) else None
+
+-- the step that is due: in *main* that of the next entry, and none once the calls have ended or
+-- after a stop; in *heal* the withdrawal of all faults, where one is active
+abbrev pub due_in_phase : Phase → TestValue → Machine → Option Due
+due_in_phase Main t m =
+    if calls_ended t m || not (m.stops == 0) then None
+    else if_due m (slice_get t.schedule m.taken)
+due_in_phase Heal t m =
+    if is_empty m.nemesis.active then None
+    else Some (record { entry = length t.schedule; step = WithdrawAll })
+due_in_phase _ t m = None
+
+-- 1. The step that is due, where none waits for its answer.
+
+abbrev pub begin : Due → Machine → Machine
+begin due m =
+    let after = state_after m.nemesis due.step in
+    say
+    (Begun m.clock due.entry due.step
+    (told_links m.nemesis.start (faults_in m.nemesis.active) (faults_in after.active))
+    (told_nodes m.nemesis.start (faults_in m.nemesis.active) (faults_in after.active)))
+    (record m {
+      nemesis = after;
+      step = Some (record { entry = due.entry; code = code_of (answer_of m.nemesis due.step) });
+      taken = m.taken + 1;
+    })
+
+abbrev pub begin_due : Machine → Option OpenStep → Option Due → Machine
+begin_due m None (Some due) = begin due m
+begin_due m _ _ = m
+
+abbrev pub step : TestValue → Machine → Machine
+step t m = begin_due m m.step (due_in_phase m.phase t m)
+
+-- 2. Calls: threads that have none open ask, again and again until a whole round gave nothing.
+
+-- the group of a thread, and how many there are
+abbrev pub group_of : KeyShares → ℕ → ℕ
+group_of shares thread = thread / shares.threads
+
+abbrev pub group_count : TestValue → KeyShares → ℕ
+group_count t shares = t.clients / shares.threads
+
+-- the key of a group's call with this number, from 0: the groups' keys take turns
+abbrev pub key_of_call : TestValue → KeyShares → ℕ → ℕ → ℕ
+key_of_call t shares group number = group + group_count t shares * (number / shares.calls)
+
+abbrev pub value_with_key : TestValue → Option KeyShares → ℕ → List ℕ → Edn → Edn
+value_with_key t None thread counts value = value
+value_with_key t (Some shares) thread counts value =
+    let group = group_of shares thread in
+    vector_of (int (pos (key_of_call t shares group (slice_index_or counts group 0))) ∷ value ∷ [])
+
+-- one more call of the thread's group
+abbrev pub counts_after : Option KeyShares → ℕ → List ℕ → List ℕ
+counts_after None thread counts = counts
+counts_after (Some shares) thread counts =
+    let group = group_of shares thread in
+    set counts group (slice_index_or counts group 0 + 1)
+
+-- the call that a thread makes for a request
+abbrev pub call_made : TestValue → Machine → ℕ → Request → OpenCall
+call_made t m thread request = record {
+  request = request;
+  asked = record {
+    function = request_name request;
+    value = value_with_key t t.keys thread m.calls_by_group (content_value (asked_content request));
+  };
+}
+
+-- the node that a thread calls
+abbrev pub node_of_thread : TestValue → ℕ → ℕ
+node_of_thread t thread = thread % length t.start.names
+
+abbrev pub invoke : TestValue → ℕ → Request → Machine → Machine
+invoke t thread request m =
+    let call = call_made t m thread request in
+    say (Invoked m.clock (seat_process t m thread) (node_of_thread t thread) call.asked)
+    (record m {
+      given = m.given + 1;
+      calls_by_group = counts_after t.keys thread m.calls_by_group;
+      seats = set m.seats thread (record { crashes = (seat_of m thread).crashes; call = Some call });
+    })
+
+-- what a thread's answer makes of the machine; a generator of clients gives no step of the nemesis
+abbrev pub told : TestValue → ℕ → GenAnswer → Machine → Machine
+told t number Pending m = m
+told t number Done m = record m { has_spent = true }
+told t number (Call process (call.Client request)) m = invoke t number request m
+told t number (Call process (call.Step place)) m = m
+
+-- a driver that has given all the calls that it may has no more
+abbrev pub answer_to : DriverState → ℕ → ℕ → GenAnswer × DriverState
+answer_to d number random_number =
+    if nat_le max_calls d.given then (Done, d) else asked d (thread.Client number) random_number
+
+abbrev pub ask : TestValue → ℕ → Machine → Machine
+ask t number m =
+    let word = pcg64 m.words in
+    let answer = answer_to m.driver number word.0 in
+    told t number answer.0 (record m { driver = answer.1; words = word.1 })
+
+abbrev pub visit : TestValue → ℕ → Machine → Machine
+visit t number m =
+    if has_no_call (seat_of m number).call && may_call t m then ask t number m else m
+
+-- so many threads from one on
+abbrev pub visits : TestValue → ℕ → ℕ → Machine → Machine
+visits t number zero m = m
+visits t number (suc n) m = visits t (suc number) n (visit t number m)
+
+abbrev pub round : TestValue → Machine → Machine
+round t m = visits t 0 t.clients m
+
+-- at most so many rounds, and none behind one that gave nothing
+abbrev pub rounds : TestValue → ℕ → Machine → Machine
+rounds t zero m = m
+rounds t (suc n) m =
+    if (round t m).given == m.given then round t m else rounds t n (round t m)
+
+-- each round that gives a call makes a thread busy, so one more than the threads is enough
+abbrev pub calls : TestValue → Machine → Machine
+calls t m = rounds t (suc t.clients) m
+
+-- 3. to 6. The next phase, where this one is over.
+
+abbrev pub heal : Machine → Machine
+heal m = record m { phase = Heal }
+
+abbrev pub rest : Machine → Machine
+rest m = record m { phase = Rest; rested = m.clock }
+
+abbrev pub end : Machine → Machine
+end m = record m { phase = Over }
+
+-- the driver of *final*, and all threads with processes that were never there or have not crashed
+abbrev pub final : TestValue → DriverState → Machine → Machine
+final t driver m = record m {
+  phase = Final;
+  driver = driver;
+  has_spent = false;
+  seats = new_seats t.clients m.crashed;
+}
+
+abbrev pub when : Bool → Machine → Option Machine
+when b m = if b then Some m else None
+
+abbrev pub has_healed : Machine → Option OpenStep → Bool
+has_healed m None = is_empty m.nemesis.active
+has_healed m (Some step) = false
+
+abbrev pub has_recovered : TestValue → Machine → Bool
+has_recovered t m = nat_le (m.rested + t.recovery * millisecond) m.clock
+
+-- *rest* goes over to *final*, which a driver is there for, or to the end
+abbrev pub after_rest : TestValue → Option DriverState → Machine → Option Machine
+after_rest t None m = Some (end m)
+after_rest t (Some driver) m =
+    if nat_le 2 m.stops then Some (end m) else when (has_recovered t m) (final t driver m)
+
+abbrev pub move_from : Phase → TestValue → Option DriverState → Machine → Option Machine
+move_from Main t last m = when (calls_ended t m) (heal m)
+move_from Heal t last m = when (has_healed m m.step) (rest m)
+move_from Rest t last m = after_rest t last m
+move_from Final t last m = when (calls_ended t m) (end m)
+move_from Over t last m = None
+
+-- the machine in its next phase, or None where it stays in this one
+abbrev pub move : TestValue → Option DriverState → Machine → Option Machine
+move t last m = move_from m.phase t last m
+
+-- all that can be said in a phase
+abbrev pub work : TestValue → Machine → Machine
+work t m = calls t (step t m)
+
+abbrev pub go_on : (Machine → Machine) → Machine → Option Machine → Machine
+go_on more m None = m
+go_on more m (Some next) = more next
+
+-- so many phases at most; `last` is the driver of *final*, if there is one
+abbrev pub passes : TestValue → Option DriverState → ℕ → Machine → Machine
+passes t last zero m = m
+passes t last (suc n) m = go_on (passes t last n) (work t m) (move t last (work t m))
+
+-- there are five phases, and none comes twice
+unfoldable pub turn : TestValue → Option DriverState → Machine → Machine
+turn t last m = passes t last 5 m

@@ -1,0 +1,53 @@
+//! What holds of every test and every list of lines that is read. Each law is the clause of a function that does nothing;
+//! `specs/Laws.antt` states it.
+
+ghost use Rattle.jh_conversation.specs.Laws.{AlwaysWaits, CallsAreTimely, CellsAreEnvironment};
+ghost use Rattle.jh_conversation.specs.Laws.{FirstBadIsTold, HistoryIsFormed, HistoryIsTalk};
+ghost use Rattle.jh_conversation.specs.Laws.{KindsAreApart, RestIsQuiet, RestIsStart};
+ghost use Rattle.jh_conversation.specs.Laws.{StopEndsMainCalls, TimesAreInOrder, TurnSettles};
+ghost use Rattle.jh_conversation.specs.Laws.{TwoStopsEndCalls};
+
+/// The history has the records that were said and those that were heard, in the order in which they were, each once, and
+/// nothing else. Its times never go back, and by themselves the records tell which were said and which were heard.
+pub fn history_is_the_conversation()
+    ensures talk { HistoryIsTalk }
+    ensures order { TimesAreInOrder }
+    ensures kinds { KindsAreApart }
+{}
+
+/// No process has two calls open, none goes on after a crash, and each completion is of the call that its process has open.
+pub fn history_is_well_formed()
+    ensures { HistoryIsFormed }
+{}
+
+/// At each moment what was told of links and nodes, applied to the start in order, is exactly what the active faults make
+/// of the start.
+pub fn cells_are_environment()
+    ensures { CellsAreEnvironment }
+{}
+
+/// When *rest* begins no fault is active, and what was told adds up to the start itself.
+pub fn rest_is_start()
+    ensures quiet { RestIsQuiet }
+    ensures start { RestIsStart }
+{}
+
+/// A stop ends the calls of *main*, a second one and a line that is no reply those of *final* too; no call of *main* is past
+/// the time limit or faster than the rate.
+pub fn calls_are_bounded()
+    ensures stop { StopEndsMainCalls }
+    ensures stops { TwoStopsEndCalls }
+    ensures timely { CallsAreTimely }
+{}
+
+/// Each turn ends, for the bounds on its rounds and its phases suffice; and the machine then waits for something that has a
+/// name.
+pub fn turns_end()
+    ensures settles { TurnSettles }
+    ensures waits { AlwaysWaits }
+{}
+
+/// The first line that is no reply is told with its number, and no other.
+pub fn first_bad_is_told()
+    ensures { FirstBadIsTold }
+{}
