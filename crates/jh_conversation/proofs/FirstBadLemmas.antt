@@ -10,7 +10,7 @@ use Rattle.jh_conversation.specs.Laws.{Drivers, complaint_of, complaint_of_answe
 use Rattle.jh_ops.specs.Pairing.{is_invoke}
 use Rattle.jh_conversation.specs.Lines.{LineSaid, Nothing, Clock, Stop, Reply, Bad}
 use Rattle.jh_conversation.specs.Lines.{machine_after_lines, answer_step, answers_step, at_first, at_time, finish, first, is_test_over, line_said, listen, refuse, reply, fits_call, take_answer, take_completion, take_end, take_in, take_reply, thread_of_process}
-use Rattle.jh_conversation.specs.Machine.{Machine, OpenCall, OpenStep, seat_process, seat_of}
+use Rattle.jh_conversation.specs.Machine.{Machine, OpenCall, OpenStep, caller_process, caller_of}
 use Rattle.jh_conversation.specs.Test.{TestValue}
 use Rattle.jh_conversation.specs.Turn.{turn}
 use Rattle.jh_conversation.specs.declared.parts.Complaint.{Complaint}
@@ -92,7 +92,7 @@ tells_completion : (t : TestValue) (m : Machine) (process : ℕ) (op : Operation
     → Tells (told_of (complaint_of_completion t m process c op) m.read) m.read (take_completion t process op time m c)
 tells_completion t m process op time none None = refused m complaint.NoCallOpen none
 tells_completion t m process op time none (Some c) =
-    elim (seat_process t m (thread_of_process t process) == process) as (λ b. Tells (told_of (if b then complaint_of_end t c op else Some complaint.NoCallOpen) m.read) m.read
+    elim (caller_process t m (thread_of_process t process) == process) as (λ b. Tells (told_of (if b then complaint_of_end t c op else Some complaint.NoCallOpen) m.read) m.read
     (if b then take_end t (thread_of_process t process) c op time m else refuse complaint.NoCallOpen m)) [
       | true ↦ tells_end t m (thread_of_process t process) c op time none
       | false ↦ refused m complaint.NoCallOpen none
@@ -108,7 +108,7 @@ tells_take t m (Reply op time) none = go op.process
   where
     go : (p : Process) → Tells (told_of (complaint_of_reply t m op p) m.read) m.read (take_reply t op time p m)
     go Process.Nemesis = tells_answer m op time none m.step
-    go (Process.Client process) = tells_completion t m process op time none (seat_of m (thread_of_process t process)).call
+    go (Process.Client process) = tells_completion t m process op time none (caller_of m (thread_of_process t process)).call
 
 -- a complaint is the same behind a listening
 same_complaint : (t : TestValue) (m : Machine) (line : LineSaid) → complaint_of t (listen m) line ≡ complaint_of t m line

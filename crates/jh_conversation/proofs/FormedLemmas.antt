@@ -11,7 +11,7 @@ use Rattle.jh_ops.specs.declared.operation.Kind.{Kind}
 use Rattle.jh_conversation.specs.Laws.{Drivers, IsFormed, Status, after_end, run, status}
 use Rattle.jh_conversation.specs.Laws.Status.{Idle, Busy}
 use Rattle.jh_conversation.specs.Lines.{at_first, kept_pairs, more_crashes}
-use Rattle.jh_conversation.specs.Machine.{Machine, OpenCall, Seat, are_free, has_no_call, new_seats, no_seat, seat_process, seat_of}
+use Rattle.jh_conversation.specs.Machine.{Machine, OpenCall, Caller, are_free, has_no_call, new_callers, no_caller, caller_process, caller_of}
 use Rattle.jh_conversation.specs.Records.{Recorded, Invoked, Ended}
 use Rattle.jh_conversation.specs.Test.{TestValue}
 use Rattle.jh_conversation.specs.Turn.{call_made, may_call_in, node_of_thread}
@@ -19,10 +19,10 @@ use Rattle.jh_conversation.specs.declared.parts.Phase.{Phase}
 use Rattle.jh_conversation.specs.declared.parts.Phase.TheVariants.{Main, Heal, Rest, Final, Over}
 use Rattle.jh_conversation.proofs.KeptLemmas.{IsKeptByLine, IsKeptInTurn, by_answers, kept_run}
 
-abbrev seat : List Seat → ℕ → Seat
-seat seats thread = get_or seats thread no_seat
+abbrev caller : List Caller → ℕ → Caller
+caller callers thread = get_or callers thread no_caller
 
--- what the process of a seat does
+-- what the process of a caller does
 abbrev shown : Option OpenCall → Status
 shown None = Idle
 shown (Some call) = Busy call.asked.function
@@ -51,11 +51,11 @@ same_thread n t u a b ht hu e =
     let j : n * a ≡ n * b = ap (λ l. n * l) k in
     omega arith
 
-pub record Seated (n : ℕ) (seats : List Seat) (crashed : ℕ) (history : List Recorded) : Type 0 where
-  pub wide : length seats ≡ n
-  pub low : (t : ℕ) → t < n → (seat seats t).crashes ≤ crashed
-  pub stands : (t : ℕ) → t < n → status (t + n * (seat seats t).crashes) history ≡ shown (seat seats t).call
-  pub later : (t life : ℕ) → t < n → (seat seats t).crashes < life → status (t + n * life) history ≡ Idle
+pub record AreCallers (n : ℕ) (callers : List Caller) (crashed : ℕ) (history : List Recorded) : Type 0 where
+  pub wide : length callers ≡ n
+  pub low : (t : ℕ) → t < n → (caller callers t).crashes ≤ crashed
+  pub stands : (t : ℕ) → t < n → status (t + n * (caller callers t).crashes) history ≡ shown (caller callers t).call
+  pub later : (t life : ℕ) → t < n → (caller callers t).crashes < life → status (t + n * life) history ≡ Idle
   pub formed : IsFormed history
 
 other : (q p : ℕ) (st x : Status) → q ≢ p → (if q == p then st else x) ≡ x
@@ -68,94 +68,94 @@ this q p st x e = ap (λ b. (if b then st else x)) (eq-eqb q p e)
 abbrev IsNews : ℕ → Status → List Recorded → List Recorded → Type 0
 IsNews q st past next = (p : ℕ) → status p next ≡ (if q == p then st else status p past)
 
--- a thread's seat changes with a record of its process
-seated_next : (n : ℕ) (seats : List Seat) (crashed most : ℕ) (past next : List Recorded) (t : ℕ) (w : Seat) (st : Status) → Seated n seats crashed past → t < n
-    → IsNews (t + n * (seat seats t).crashes) st past next → IsFormed next
-    → (seat seats t).crashes ≤ w.crashes → crashed ≤ most → w.crashes ≤ most → ((seat seats t).crashes ≡ w.crashes → st ≡ shown w.call) → ((seat seats t).crashes < w.crashes → shown w.call ≡ Idle)
-    → Seated n (set seats t w) most next
-seated_next n seats crashed most past next t w st h within news formed up most_up top same anew = record {
-  wide = length-set seats t w ∙ h.wide;
+-- a thread's caller changes with a record of its process
+callers_next : (n : ℕ) (callers : List Caller) (crashed most : ℕ) (past next : List Recorded) (t : ℕ) (w : Caller) (st : Status) → AreCallers n callers crashed past → t < n
+    → IsNews (t + n * (caller callers t).crashes) st past next → IsFormed next
+    → (caller callers t).crashes ≤ w.crashes → crashed ≤ most → w.crashes ≤ most → ((caller callers t).crashes ≡ w.crashes → st ≡ shown w.call) → ((caller callers t).crashes < w.crashes → shown w.call ≡ Idle)
+    → AreCallers n (set callers t w) most next
+callers_next n callers crashed most past next t w st h within news formed up most_up top same anew = record {
+  wide = length-set callers t w ∙ h.wide;
   low = λ u hu. low_at u hu (cases_eq u t);
   stands = λ u hu. stands_at u hu (cases_eq u t);
   later = λ u life hu. later_at u life hu (cases_eq u t);
   formed = formed;
 }
   where
-    old : Seat
-    old = seat seats t
+    old : Caller
+    old = caller callers t
 
-    here : (u : ℕ) → u ≡ t → seat (set seats t w) u ≡ w
-    here u e = ap (seat (set seats t w)) e ∙ get_or-set_same seats t w no_seat (omega (arith, h.wide))
+    here : (u : ℕ) → u ≡ t → caller (set callers t w) u ≡ w
+    here u e = ap (caller (set callers t w)) e ∙ get_or-set_same callers t w no_caller (omega (arith, h.wide))
 
-    there : (u : ℕ) → u ≢ t → seat (set seats t w) u ≡ seat seats u
-    there u ne = get_or-set_other seats t u w no_seat ne
+    there : (u : ℕ) → u ≢ t → caller (set callers t w) u ≡ caller callers u
+    there u ne = get_or-set_other callers t u w no_caller ne
 
-    low_at : (u : ℕ) → u < n → (u ≡ t) ⊎ (u ≡ t → ⊥) → (seat (set seats t w) u).crashes ≤ most
-    low_at u hu (inl e) = subst (λ (x : Seat). x.crashes ≤ most) (sym (here u e)) top
-    low_at u hu (inr ne) = let k = h.low u hu in subst (λ (x : Seat). x.crashes ≤ most) (sym (there u ne)) (omega arith)
+    low_at : (u : ℕ) → u < n → (u ≡ t) ⊎ (u ≡ t → ⊥) → (caller (set callers t w) u).crashes ≤ most
+    low_at u hu (inl e) = subst (λ (x : Caller). x.crashes ≤ most) (sym (here u e)) top
+    low_at u hu (inr ne) = let k = h.low u hu in subst (λ (x : Caller). x.crashes ≤ most) (sym (there u ne)) (omega arith)
 
-    own : (w.crashes ≡ (seat seats t).crashes) ⊎ (w.crashes ≡ (seat seats t).crashes → ⊥) → status (t + n * w.crashes) next ≡ shown w.call
+    own : (w.crashes ≡ (caller callers t).crashes) ⊎ (w.crashes ≡ (caller callers t).crashes → ⊥) → status (t + n * w.crashes) next ≡ shown w.call
     own (inl e) = news (t + n * w.crashes) ∙ this _ _ st _ (ap (λ l. t + n * l) (sym e)) ∙ same (sym e)
     own (inr ne) =
-        let less : (seat seats t).crashes < w.crashes = omega arith in
+        let less : (caller callers t).crashes < w.crashes = omega arith in
         news (t + n * w.crashes) ∙ other _ _ st _ (λ e. ne (sym (same_life n t t _ _ within within e))) ∙ h.later t w.crashes within less ∙ sym (anew less)
 
-    stands_at : (u : ℕ) → u < n → (u ≡ t) ⊎ (u ≡ t → ⊥) → status (u + n * (seat (set seats t w) u).crashes) next ≡ shown (seat (set seats t w) u).call
+    stands_at : (u : ℕ) → u < n → (u ≡ t) ⊎ (u ≡ t → ⊥) → status (u + n * (caller (set callers t w) u).crashes) next ≡ shown (caller (set callers t w) u).call
     stands_at u hu (inl e) =
-        subst (λ (x : Seat). status (u + n * x.crashes) next ≡ shown x.call) (sym (here u e))
+        subst (λ (x : Caller). status (u + n * x.crashes) next ≡ shown x.call) (sym (here u e))
         (subst (λ v. status (v + n * w.crashes) next ≡ shown w.call) (sym e) (own (cases_eq _ _)))
     stands_at u hu (inr ne) =
-        subst (λ (x : Seat). status (u + n * x.crashes) next ≡ shown x.call) (sym (there u ne))
-        (news (u + n * (seat seats u).crashes) ∙ other _ _ st _ (λ e. ne (sym (same_thread n t u _ _ within hu e))) ∙ h.stands u hu)
+        subst (λ (x : Caller). status (u + n * x.crashes) next ≡ shown x.call) (sym (there u ne))
+        (news (u + n * (caller callers u).crashes) ∙ other _ _ st _ (λ e. ne (sym (same_thread n t u _ _ within hu e))) ∙ h.stands u hu)
 
-    later_at : (u life : ℕ) → u < n → (u ≡ t) ⊎ (u ≡ t → ⊥) → (seat (set seats t w) u).crashes < life → status (u + n * life) next ≡ Idle
+    later_at : (u life : ℕ) → u < n → (u ≡ t) ⊎ (u ≡ t → ⊥) → (caller (set callers t w) u).crashes < life → status (u + n * life) next ≡ Idle
     later_at u life hu (inl e) less =
-        let beyond : w.crashes < life = subst (λ (x : Seat). x.crashes < life) (here u e) less in
-        news (u + n * life) ∙ other _ _ st _ (λ f. let k = same_life n t u _ _ within hu f in let j : (seat seats t).crashes ≡ life = k in absurd (omega arith))
-        ∙ h.later u life hu (subst (λ v. (seat seats v).crashes < life) (sym e) (omega arith))
+        let beyond : w.crashes < life = subst (λ (x : Caller). x.crashes < life) (here u e) less in
+        news (u + n * life) ∙ other _ _ st _ (λ f. let k = same_life n t u _ _ within hu f in let j : (caller callers t).crashes ≡ life = k in absurd (omega arith))
+        ∙ h.later u life hu (subst (λ v. (caller callers v).crashes < life) (sym e) (omega arith))
     later_at u life hu (inr ne) less =
         news (u + n * life) ∙ other _ _ st _ (λ f. ne (sym (same_thread n t u _ _ within hu f)))
-        ∙ h.later u life hu (subst (λ (x : Seat). x.crashes < life) (there u ne) less)
+        ∙ h.later u life hu (subst (λ (x : Caller). x.crashes < life) (there u ne) less)
 
-in_seats : (seats : List Seat) (t : ℕ) (call : OpenCall) → (seat seats t).call ≡ Some call → t < length seats
-in_seats [] t call e = absurd (cc e)
-in_seats (x ∷ seats) zero call e = omega arith
-in_seats (x ∷ seats) (suc t) call e = let k = in_seats seats t call e in omega arith
+in_callers : (callers : List Caller) (t : ℕ) (call : OpenCall) → (caller callers t).call ≡ Some call → t < length callers
+in_callers [] t call e = absurd (cc e)
+in_callers (x ∷ callers) zero call e = omega arith
+in_callers (x ∷ callers) (suc t) call e = let k = in_callers callers t call e in omega arith
 
 free_is : (c : Option OpenCall) → has_no_call c ≡ true → c ≡ None
 free_is None e = refl
 free_is (Some call) e = absurd (false≢true e)
 
-free_at : (seats : List Seat) → are_free seats ≡ true → (t : ℕ) → (seat seats t).call ≡ None
+free_at : (callers : List Caller) → are_free callers ≡ true → (t : ℕ) → (caller callers t).call ≡ None
 free_at [] e t = refl
-free_at (x ∷ seats) e zero = free_is x.call (and_parts _ _ e).0
-free_at (x ∷ seats) e (suc t) = free_at seats (and_parts _ _ e).1 t
+free_at (x ∷ callers) e zero = free_is x.call (and_parts _ _ e).0
+free_at (x ∷ callers) e (suc t) = free_at callers (and_parts _ _ e).1 t
 
-long_new : (n life : ℕ) → length (new_seats n life) ≡ n
+long_new : (n life : ℕ) → length (new_callers n life) ≡ n
 long_new zero life = refl
 long_new (suc n) life = ap suc (long_new n life)
 
-new_at : (n life t : ℕ) → t < n → seat (new_seats n life) t ≡ record { crashes = life; call = None }
+new_at : (n life t : ℕ) → t < n → caller (new_callers n life) t ≡ record { crashes = life; call = None }
 new_at zero life t h = absurd (omega arith)
 new_at (suc n) life zero h = refl
 new_at (suc n) life (suc t) h = new_at n life t (omega arith)
 
 -- all begin anew, as processes that never were, or went on
-seated_anew : (n : ℕ) (seats : List Seat) (crashed : ℕ) (past : List Recorded) → Seated n seats crashed past → are_free seats ≡ true → Seated n (new_seats n crashed) crashed past
-seated_anew n seats crashed past h free = record {
+callers_anew : (n : ℕ) (callers : List Caller) (crashed : ℕ) (past : List Recorded) → AreCallers n callers crashed past → are_free callers ≡ true → AreCallers n (new_callers n crashed) crashed past
+callers_anew n callers crashed past h free = record {
   wide = long_new n crashed;
-  low = λ t ht. subst (λ (x : Seat). x.crashes ≤ crashed) (sym (new_at n crashed t ht)) (omega arith);
-  stands = λ t ht. subst (λ (x : Seat). status (t + n * x.crashes) past ≡ shown x.call) (sym (new_at n crashed t ht)) (idle t ht (cases_lt _ _));
-  later = λ t life ht less. let beyond : crashed < life = subst (λ (x : Seat). x.crashes < life) (new_at n crashed t ht) less in let k = h.low t ht in h.later t life ht (omega arith);
+  low = λ t ht. subst (λ (x : Caller). x.crashes ≤ crashed) (sym (new_at n crashed t ht)) (omega arith);
+  stands = λ t ht. subst (λ (x : Caller). status (t + n * x.crashes) past ≡ shown x.call) (sym (new_at n crashed t ht)) (idle t ht (cases_lt _ _));
+  later = λ t life ht less. let beyond : crashed < life = subst (λ (x : Caller). x.crashes < life) (new_at n crashed t ht) less in let k = h.low t ht in h.later t life ht (omega arith);
   formed = h.formed;
 }
   where
-    idle : (t : ℕ) → t < n → ((seat seats t).crashes < crashed) ⊎ (crashed ≤ (seat seats t).crashes) → status (t + n * crashed) past ≡ Idle
+    idle : (t : ℕ) → t < n → ((caller callers t).crashes < crashed) ⊎ (crashed ≤ (caller callers t).crashes) → status (t + n * crashed) past ≡ Idle
     idle t ht (inl less) = h.later t crashed ht less
     idle t ht (inr ge) =
         let k = h.low t ht in
-        let e : crashed ≡ (seat seats t).crashes = omega arith in
-        ap (λ l. status (t + n * l) past) e ∙ h.stands t ht ∙ ap shown (free_at seats free t)
+        let e : crashed ≡ (caller callers t).crashes = omega arith in
+        ap (λ l. status (t + n * l) past) e ∙ h.stands t ht ∙ ap shown (free_at callers free t)
 
 -- between *main* and *final* no call is open
 abbrev IsBetween : Phase → Type 0
@@ -164,7 +164,7 @@ IsBetween Rest = Unit {0}
 IsBetween _ = ⊥
 
 abbrev pub Holds : TestValue → Machine → Type 0
-Holds s m = Seated s.clients m.seats m.crashed m.history × (IsBetween m.phase → are_free m.seats ≡ true)
+Holds s m = AreCallers s.clients m.callers m.crashed m.history × (IsBetween m.phase → are_free m.callers ≡ true)
 
 none_between : (s : TestValue) (phase : Phase) (stops given now : ℕ) → may_call_in phase s stops given now ≡ true → IsBetween phase → ⊥
 none_between s Main stops given now may b = b
@@ -183,8 +183,8 @@ holds_in_turn s last = record {
     spends = λ m h. h;
     invokes = λ m thread request within idle may h.
         let call = call_made s m thread request in (
-          seated_next s.clients m.seats m.crashed m.crashed m.history (Invoked m.clock (seat_process s m thread) (node_of_thread s thread) call.asked ∷ m.history) thread
-              (record { crashes = (seat_of m thread).crashes; call = Some call }) (Busy call.asked.function) h.0 within
+          callers_next s.clients m.callers m.crashed m.crashed m.history (Invoked m.clock (caller_process s m thread) (node_of_thread s thread) call.asked ∷ m.history) thread
+              (record { crashes = (caller_of m thread).crashes; call = Some call }) (Busy call.asked.function) h.0 within
               (λ p. refl) (h.0.stands thread within ∙ ap shown idle, h.0.formed) (omega arith) (omega arith) (h.0.low thread within) (λ _. refl) (λ less. absurd (omega arith)),
           (λ b. absurd (none_between s m.phase m.stops m.given m.clock (and_parts _ _ may).1 b)),
         );
@@ -193,7 +193,7 @@ holds_in_turn s last = record {
   heals = λ m is e h. (h.0, λ _. (and_parts _ _ e).0);
   rests = λ m is w q h. (h.0, λ _. h.1 (between _ _ is tt));
   ends_rest = λ m is h. (h.0, λ b. absurd b);
-  finals = λ m d is f h. (seated_anew s.clients m.seats m.crashed m.history h.0 (h.1 (between _ _ is tt)), λ b. absurd b);
+  finals = λ m d is f h. (callers_anew s.clients m.callers m.crashed m.history h.0 (h.1 (between _ _ is tt)), λ b. absurd b);
   ends_final = λ m is e h. (h.0, λ b. absurd b);
 }
 
@@ -208,13 +208,13 @@ holds_by_line s = record {
   refuses = λ m why h. h;
   answers = λ m w op e h. (record { wide = h.0.wide; low = h.0.low; stands = h.0.stands; later = h.0.later; formed = h.0.formed }, h.1);
   finishes = λ m thread call op is no h.
-      let within : thread < s.clients = let k = in_seats m.seats thread call is in omega (arith, h.0.wide) in (
-        seated_next s.clients m.seats m.crashed (m.crashed + more_crashes op.kind) m.history
-            (Ended m.clock (seat_process s m thread) op.kind call.asked.function op.value (kept_pairs op) ∷ m.history) thread
-            (record { crashes = (seat_of m thread).crashes + more_crashes op.kind; call = None }) (after_end op.kind) h.0 within
+      let within : thread < s.clients = let k = in_callers m.callers thread call is in omega (arith, h.0.wide) in (
+        callers_next s.clients m.callers m.crashed (m.crashed + more_crashes op.kind) m.history
+            (Ended m.clock (caller_process s m thread) op.kind call.asked.function op.value (kept_pairs op) ∷ m.history) thread
+            (record { crashes = (caller_of m thread).crashes + more_crashes op.kind; call = None }) (after_end op.kind) h.0 within
             (λ p. refl) (no, h.0.stands thread within ∙ ap shown is, h.0.formed) (omega arith) (omega arith) (let k = h.0.low thread within in omega arith)
-            (ended op.kind (seat_of m thread).crashes) (λ _. refl),
-        (λ b. absurd (none-some _ call (free_at m.seats (h.1 b) thread) is)),
+            (ended op.kind (caller_of m thread).crashes) (λ _. refl),
+        (λ b. absurd (none-some _ call (free_at m.callers (h.1 b) thread) is)),
       );
 }
   where
@@ -228,8 +228,8 @@ pub holds_at_first : (s : TestValue) (d : Drivers s) → Holds s (at_first s d.f
 holds_at_first s d = (
   record {
     wide = long_new s.clients 0;
-    low = λ t ht. subst (λ (x : Seat). x.crashes ≤ 0) (sym (new_at s.clients 0 t ht)) (omega arith);
-    stands = λ t ht. subst (λ (x : Seat). Idle ≡ shown x.call) (sym (new_at s.clients 0 t ht)) refl;
+    low = λ t ht. subst (λ (x : Caller). x.crashes ≤ 0) (sym (new_at s.clients 0 t ht)) (omega arith);
+    stands = λ t ht. subst (λ (x : Caller). Idle ≡ shown x.call) (sym (new_at s.clients 0 t ht)) refl;
     later = λ t life ht less. refl;
     formed = tt;
   },

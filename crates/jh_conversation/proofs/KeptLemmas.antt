@@ -16,7 +16,7 @@ use Rattle.jh_ops.specs.Pairing.{is_invoke}
 use Rattle.jh_conversation.specs.Lines.{LineSaid, Nothing, Clock, Stop, Reply, Bad}
 use Rattle.jh_nemesis.specs.State.{first_state}
 use Rattle.jh_conversation.specs.Lines.{machine_after_lines, answer_step, answers_step, at_first, at_time, finish, is_test_over, line_said, listen, refuse, reply, stop, fits_call, take_answer, take_completion, take_end, take_in, take_reply, thread_of_process}
-use Rattle.jh_conversation.specs.Machine.{Machine, OpenCall, OpenStep, has_no_call, seat_process, seat_of}
+use Rattle.jh_conversation.specs.Machine.{Machine, OpenCall, OpenStep, has_no_call, caller_process, caller_of}
 use Rattle.jh_conversation.specs.Laws.{Drivers, start, run}
 use Rattle.jh_conversation.specs.Test.{TestValue}
 use Rattle.jh_conversation.specs.Turn.{Due, after_rest, answer_to, ask, begin, begin_due, calls, calls_ended, due_in_phase, end, final, go_on, has_healed, has_recovered, heal, invoke, may_call, move, move_from, passes, rest, round, rounds, step, told, turn, visit, visits, when, work}
@@ -29,11 +29,11 @@ use Rattle.jh_conversation.specs.declared.parts.Phase.TheVariants.{Main, Heal, R
 pub record IsKeptByAnswers (t : TestValue) (P : Machine → Type 0) : Type 0 where
   pub asks : (m : Machine) (driver : DriverState) (words : Lcg) → P m → P (record m { driver = driver; words = words })
   pub spends : (m : Machine) → P m → P (record m { has_spent = true })
-  pub invokes : (m : Machine) (thread : ℕ) (request : Request) → thread < t.clients → (seat_of m thread).call ≡ None → may_call t m ≡ true → P m → P (invoke t thread request m)
+  pub invokes : (m : Machine) (thread : ℕ) (request : Request) → thread < t.clients → (caller_of m thread).call ≡ None → may_call t m ≡ true → P m → P (invoke t thread request m)
 
 -- a thread that asks
 pub record IsKeptByCalls (t : TestValue) (P : Machine → Type 0) : Type 0 where
-  pub visits : (m : Machine) (thread : ℕ) → thread < t.clients → (seat_of m thread).call ≡ None → may_call t m ≡ true → P m → P (ask t thread m)
+  pub visits : (m : Machine) (thread : ℕ) → thread < t.clients → (caller_of m thread).call ≡ None → may_call t m ≡ true → P m → P (ask t thread m)
 
 pub by_answers : (t : TestValue) (P : Machine → Type 0) → IsKeptByAnswers t P → IsKeptByCalls t P
 by_answers t P k = record {
@@ -43,7 +43,7 @@ by_answers t P k = record {
       go (record m { driver = answer.1; words = word.1 }) thread answer.0 within idle may (k.asks m answer.1 word.1 h);
 }
   where
-    go : (m : Machine) (thread : ℕ) (answer : GenAnswer) → thread < t.clients → (seat_of m thread).call ≡ None → may_call t m ≡ true → P m → P (told t thread answer m)
+    go : (m : Machine) (thread : ℕ) (answer : GenAnswer) → thread < t.clients → (caller_of m thread).call ≡ None → may_call t m ≡ true → P m → P (told t thread answer m)
     go m thread Pending within idle may h = h
     go m thread Done within idle may h = k.spends m h
     go m thread (Call p (call.Client request)) within idle may h = k.invokes m thread request within idle may h
@@ -66,7 +66,7 @@ pub record IsKeptByLine (t : TestValue) (P : Machine → Type 0) : Type 0 where
   pub stops : (m : Machine) → P m → P (stop m)
   pub refuses : (m : Machine) (why : Complaint) → P m → P (refuse why m)
   pub answers : (m : Machine) (open_step : OpenStep) (op : Operation) → m.step ≡ Some open_step → P m → P (answer_step open_step op m)
-  pub finishes : (m : Machine) (thread : ℕ) (open_call : OpenCall) (op : Operation) → (seat_of m thread).call ≡ Some open_call → is_invoke op.kind ≡ false → P m → P (finish t thread open_call op m)
+  pub finishes : (m : Machine) (thread : ℕ) (open_call : OpenCall) (op : Operation) → (caller_of m thread).call ≡ Some open_call → is_invoke op.kind ≡ false → P m → P (finish t thread open_call op m)
 
 -- P holds where there is a machine
 abbrev pub IfMoved : (Machine → Type 0) → Option Machine → Type 0
@@ -80,7 +80,7 @@ free (Some c) is = absurd (false≢true is)
 module _ (t : TestValue) (P : Machine → Type 0) (k : IsKeptByCalls t P) where
   pub kept_visit : (m : Machine) (thread : ℕ) → thread < t.clients → P m → P (visit t thread m)
   kept_visit m thread within h =
-      cond_both (has_no_call (seat_of m thread).call && may_call t m) (ask t thread m) m P
+      cond_both (has_no_call (caller_of m thread).call && may_call t m) (ask t thread m) m P
       (λ e. let both = and_parts _ _ e in k.visits m thread within (free _ both.0) both.1 h)
       (λ _. h)
 
@@ -154,7 +154,7 @@ module _ (t : TestValue) (P : Machine → Type 0) (l : IsKeptByLine t P) where
   same_step m None = refl
   same_step m (Some time) = refl
 
-  same_call : (m : Machine) (time : Option ℕ) (thread : ℕ) → (seat_of (at_time time m) thread).call ≡ (seat_of m thread).call
+  same_call : (m : Machine) (time : Option ℕ) (thread : ℕ) → (caller_of (at_time time m) thread).call ≡ (caller_of m thread).call
   same_call m None thread = refl
   same_call m (Some time) thread = refl
 
@@ -169,7 +169,7 @@ module _ (t : TestValue) (P : Machine → Type 0) (l : IsKeptByLine t P) where
   or_parts_false true b e = e
   or_parts_false false b e = refl
 
-  kept_end : (m : Machine) (thread : ℕ) (open_call : OpenCall) (op : Operation) (time : Option ℕ) → (seat_of m thread).call ≡ Some open_call → P m → P (take_end t thread open_call op time m)
+  kept_end : (m : Machine) (thread : ℕ) (open_call : OpenCall) (op : Operation) (time : Option ℕ) → (caller_of m thread).call ≡ Some open_call → P m → P (take_end t thread open_call op time m)
   kept_end m thread open_call op time e h =
       cond_both (is_invoke op.kind || not (is_keyword open_call.asked.function op.f)) (refuse complaint.OtherCall m)
       (if not (fits_call t open_call op.kind op.value) then refuse complaint.BadValue m else finish t thread open_call op (at_time time m)) P
@@ -178,10 +178,10 @@ module _ (t : TestValue) (P : Machine → Type 0) (l : IsKeptByLine t P) where
       (λ _. l.refuses m _ h)
       (λ _. l.finishes (at_time time m) thread open_call op (same_call m time thread ∙ e) (or_parts_false _ _ no) (kept_time m time h)))
 
-  kept_completion : (m : Machine) (process : ℕ) (op : Operation) (time : Option ℕ) (c : Option OpenCall) → (seat_of m (thread_of_process t process)).call ≡ c → P m → P (take_completion t process op time m c)
+  kept_completion : (m : Machine) (process : ℕ) (op : Operation) (time : Option ℕ) (c : Option OpenCall) → (caller_of m (thread_of_process t process)).call ≡ c → P m → P (take_completion t process op time m c)
   kept_completion m process op time None e h = l.refuses m _ h
   kept_completion m process op time (Some c) e h =
-      cond_both (seat_process t m (thread_of_process t process) == process) (take_end t (thread_of_process t process) c op time m) (refuse complaint.NoCallOpen m) P
+      cond_both (caller_process t m (thread_of_process t process) == process) (take_end t (thread_of_process t process) c op time m) (refuse complaint.NoCallOpen m) P
       (λ _. kept_end m (thread_of_process t process) c op time e h)
       (λ _. l.refuses m _ h)
 
@@ -194,7 +194,7 @@ module _ (t : TestValue) (P : Machine → Type 0) (l : IsKeptByLine t P) where
     where
       go : (p : Process) → P (take_reply t op time p m)
       go Process.Nemesis = kept_answer m op time m.step refl h
-      go (Process.Client process) = kept_completion m process op time (seat_of m (thread_of_process t process)).call refl h
+      go (Process.Client process) = kept_completion m process op time (caller_of m (thread_of_process t process)).call refl h
 
 module _ (t : TestValue) (last : Option DriverState) (P : Machine → Type 0) (k : IsKeptInTurn t last P) (l : IsKeptByLine t P) where
   pub kept_reply : (m : Machine) (line : List ℕ) → P m → P (reply t last m line)

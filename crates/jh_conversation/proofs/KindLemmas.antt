@@ -7,7 +7,7 @@ use Rattle.jh_ops.specs.declared.operation.Process.{Process}
 use Rattle.jh_conversation.specs.Laws.{Drivers, IsHeard, IsSaid, answered_by, clock_at, ended_by, heard, heard_from, is_end_of_call, run}
 use Rattle.jh_conversation.specs.Lines.{LineSaid, Nothing, Clock, Stop, Reply, Bad}
 use Rattle.jh_conversation.specs.Lines.{answers_step, is_test_over, kept_pairs, line_said, listen, reply, take_in, thread_of_process}
-use Rattle.jh_conversation.specs.Machine.{Machine, OpenCall, OpenStep, seat_of}
+use Rattle.jh_conversation.specs.Machine.{Machine, OpenCall, OpenStep, caller_of}
 use Rattle.jh_conversation.specs.Records.{Recorded, Answered, Ended}
 use Rattle.jh_conversation.specs.Test.{TestValue}
 use Rattle.jh_conversation.specs.Turn.{turn}
@@ -55,7 +55,7 @@ all_heard t m (Reply op time) = go op.process
 
     go : (p : Process) → AllByRecursion IsHeard (heard_from t m op (clock_at time m.clock) p)
     go Process.Nemesis = answer m.step
-    go (Process.Client process) = completion process (seat_of m (thread_of_process t process)).call
+    go (Process.Client process) = completion process (caller_of m (thread_of_process t process)).call
 
 pub kinds_apart : (t : TestValue) (d : Drivers t) (lines : List (List ℕ)) (line : List ℕ)
     → AllByRecursion IsSaid (reply t d.last (run t d lines) line).said × AllByRecursion IsHeard (heard t (run t d lines) (line_said line))

@@ -9,7 +9,7 @@ use Rattle.jh_nemesis.specs.State.{first_state}
 use Rattle.jh_conversation.specs.Laws.{Drivers, Waits, run, start}
 use Rattle.jh_conversation.specs.Laws.Waits.{IsOver, ForCall, ForStep, ForRate, ForRecovery, ForGenerator}
 use Rattle.jh_conversation.specs.Lines.{machine_after_lines, at_first, is_test_over, line_said, listen, reply, take_in}
-use Rattle.jh_conversation.specs.Machine.{Machine, OpenCall, OpenStep, Seat, are_free, has_no_call, no_seat, seat_of}
+use Rattle.jh_conversation.specs.Machine.{Machine, OpenCall, OpenStep, Caller, are_free, has_no_call, no_caller, caller_of}
 use Rattle.jh_conversation.specs.Test.{TestValue}
 use Rattle.jh_conversation.specs.Turn.{Due, after_rest, begin_due, call_made, calls, due_in_phase, end, final, go_on, has_come, has_healed, has_recovered, keeps_rate, may_call, may_call_in, move, move_from, no_more_calls_in, passes, round, rounds, step, turn, when, work}
 use Rattle.jh_conversation.specs.declared.parts.Phase.{Phase}
@@ -18,57 +18,57 @@ use Rattle.jh_conversation.proofs.CallLemmas.{over_is}
 use Rattle.jh_conversation.proofs.FormedLemmas.{Holds, holds_at_first, holds_by_line, holds_in_turn}
 use Rattle.jh_conversation.proofs.KeptLemmas.{IfMoved, IsKeptByCalls, by_answers, kept_calls, kept_move, kept_reply, kept_round, kept_run, kept_step, kept_take_in, kept_turn, kept_work}
 
--- rounds: each call takes a free seat
+-- rounds: each call takes a free caller
 
-abbrev free_seats : List Seat → ℕ
-free_seats [] = 0
-free_seats (x ∷ seats) = if has_no_call x.call then suc (free_seats seats) else free_seats seats
+abbrev free_callers : List Caller → ℕ
+free_callers [] = 0
+free_callers (x ∷ callers) = if has_no_call x.call then suc (free_callers callers) else free_callers callers
 
-few_free : (seats : List Seat) → free_seats seats ≤ length seats
+few_free : (callers : List Caller) → free_callers callers ≤ length callers
 few_free [] = omega arith
-few_free (x ∷ seats) = let h = few_free seats in elim (has_no_call x.call) as (λ b. (if b then suc (free_seats seats) else free_seats seats) ≤ suc (length seats)) [ true ↦ omega arith | false ↦ omega arith ]
+few_free (x ∷ callers) = let h = few_free callers in elim (has_no_call x.call) as (λ b. (if b then suc (free_callers callers) else free_callers callers) ≤ suc (length callers)) [ true ↦ omega arith | false ↦ omega arith ]
 
-seat_taken : (seats : List Seat) (t : ℕ) (call : OpenCall) (life : ℕ) → t < length seats → (get_or seats t no_seat).call ≡ None
-    → suc (free_seats (set seats t (record { crashes = life; call = Some call }))) ≡ free_seats seats
-seat_taken [] t call life h e = absurd (omega arith)
-seat_taken (x ∷ seats) zero call life h e = sym (ap (λ c. if has_no_call c then suc (free_seats seats) else free_seats seats) e)
-seat_taken (x ∷ seats) (suc t) call life h e =
-    let rest = seat_taken seats t call life (omega arith) e in
-    elim (has_no_call x.call) as (λ b. suc ((if b then suc (free_seats (set seats t (record { crashes = life; call = Some call }))) else free_seats (set seats t (record { crashes = life; call = Some call }))))
-    ≡ (if b then suc (free_seats seats) else free_seats seats)) [ true ↦ ap suc rest | false ↦ rest ]
+caller_taken : (callers : List Caller) (t : ℕ) (call : OpenCall) (life : ℕ) → t < length callers → (get_or callers t no_caller).call ≡ None
+    → suc (free_callers (set callers t (record { crashes = life; call = Some call }))) ≡ free_callers callers
+caller_taken [] t call life h e = absurd (omega arith)
+caller_taken (x ∷ callers) zero call life h e = sym (ap (λ c. if has_no_call c then suc (free_callers callers) else free_callers callers) e)
+caller_taken (x ∷ callers) (suc t) call life h e =
+    let rest = caller_taken callers t call life (omega arith) e in
+    elim (has_no_call x.call) as (λ b. suc ((if b then suc (free_callers (set callers t (record { crashes = life; call = Some call }))) else free_callers (set callers t (record { crashes = life; call = Some call }))))
+    ≡ (if b then suc (free_callers callers) else free_callers callers)) [ true ↦ ap suc rest | false ↦ rest ]
 
--- calls given and free seats are so many together, and no fewer calls than before were given
-record Trades (clients total before : ℕ) (seats : List Seat) (given : ℕ) : Type 0 where
-  all : given + free_seats seats ≡ total
+-- calls given and free callers are so many together, and no fewer calls than before were given
+record Trades (clients total before : ℕ) (callers : List Caller) (given : ℕ) : Type 0 where
+  all : given + free_callers callers ≡ total
   more : before ≤ given
-  wide : length seats ≡ clients
+  wide : length callers ≡ clients
 
-trades_by_calls : (s : TestValue) (total before : ℕ) → IsKeptByCalls s (λ m. Trades s.clients total before m.seats m.given)
+trades_by_calls : (s : TestValue) (total before : ℕ) → IsKeptByCalls s (λ m. Trades s.clients total before m.callers m.given)
 trades_by_calls s total before = by_answers _ _ (record {
   asks = λ m d w h. h;
   spends = λ m h. h;
   invokes = λ m thread request within idle may h.
-      let taken = seat_taken m.seats thread (call_made s m thread request) (seat_of m thread).crashes (omega (arith, h.wide)) idle in
-      record { all = omega (arith, h.all, taken); more = omega (arith, h.more); wide = length-set m.seats thread _ ∙ h.wide };
+      let taken = caller_taken m.callers thread (call_made s m thread request) (caller_of m thread).crashes (omega (arith, h.wide)) idle in
+      record { all = omega (arith, h.all, taken); more = omega (arith, h.more); wide = length-set m.callers thread _ ∙ h.wide };
 })
 
 abbrev HasLast : TestValue → Machine → Type 0
 HasLast s after = (last : Machine) × (after ≡ round s last) × ((round s last).given ≡ last.given)
 
-rounds_settle : (s : TestValue) (n : ℕ) (m : Machine) → length m.seats ≡ s.clients → free_seats m.seats < n → HasLast s (rounds s n m)
+rounds_settle : (s : TestValue) (n : ℕ) (m : Machine) → length m.callers ≡ s.clients → free_callers m.callers < n → HasLast s (rounds s n m)
 rounds_settle s zero m wide h = absurd (omega arith)
 rounds_settle s (suc n) m wide h =
     (elim ((round s m).given == m.given) as (λ b. ((round s m).given == m.given) ≡ b → HasLast s (if b then round s m else rounds s n (round s m))) [
       | true ↦ λ e. (m, refl, eqb-true _ _ e)
       | false ↦ λ e.
-          let trade = kept_round s (λ c. Trades s.clients (m.given + free_seats m.seats) m.given c.seats c.given) (trades_by_calls s (m.given + free_seats m.seats) m.given) m
+          let trade = kept_round s (λ c. Trades s.clients (m.given + free_callers m.callers) m.given c.callers c.given) (trades_by_calls s (m.given + free_callers m.callers) m.given) m
           (record { all = refl; more = omega arith; wide = wide }) in
           let differ : (round s m).given ≢ m.given = eqb-false _ _ e in
           rounds_settle s n (round s m) trade.wide (omega (arith, trade.all, trade.more, differ))
     ]) refl
 
-calls_settle : (s : TestValue) (m : Machine) → length m.seats ≡ s.clients → HasLast s (calls s m)
-calls_settle s m wide = let few = few_free m.seats in rounds_settle s (suc s.clients) m wide (omega (arith, few, wide))
+calls_settle : (s : TestValue) (m : Machine) → length m.callers ≡ s.clients → HasLast s (calls s m)
+calls_settle s m wide = let few = few_free m.callers in rounds_settle s (suc s.clients) m wide (omega (arith, few, wide))
 
 -- passes: the phase goes down
 
@@ -208,14 +208,14 @@ waits_settled t last m h = go m.phase refl
     stays : (phase : Phase) → m.phase ≡ phase → move_from phase t last m ≡ None
     stays phase is = ap (λ p. move_from p t last m) (sym is) ∙ ap (move t last) h.is ∙ h.stays
 
-    asked : are_free m.seats ≡ true → may_call t m ≡ true → Waits t m
+    asked : are_free m.callers ≡ true → may_call t m ≡ true → Waits t m
     asked free may = ForGenerator h.last h.is (ap (λ c. c.given) h.is ∙ h.same) free may
 
-    ended : (phase : Phase) → m.phase ≡ phase → (are_free m.seats && (m.has_spent || no_more_calls_in m.phase t m.stops m.clock)) ≡ false
-        → (are_free m.seats ≡ false) ⊎ ((are_free m.seats ≡ true) × (m.has_spent ≡ false) × (no_more_calls_in phase t m.stops m.clock ≡ false))
-    ended phase is e = free_or_busy _ _ _ (ap (λ p. are_free m.seats && (m.has_spent || no_more_calls_in p t m.stops m.clock)) (sym is) ∙ e)
+    ended : (phase : Phase) → m.phase ≡ phase → (are_free m.callers && (m.has_spent || no_more_calls_in m.phase t m.stops m.clock)) ≡ false
+        → (are_free m.callers ≡ false) ⊎ ((are_free m.callers ≡ true) × (m.has_spent ≡ false) × (no_more_calls_in phase t m.stops m.clock ≡ false))
+    ended phase is e = free_or_busy _ _ _ (ap (λ p. are_free m.callers && (m.has_spent || no_more_calls_in p t m.stops m.clock)) (sym is) ∙ e)
 
-    in_main : m.phase ≡ Main → (are_free m.seats ≡ false) ⊎ ((are_free m.seats ≡ true) × (m.has_spent ≡ false) × (no_more_calls_in Main t m.stops m.clock ≡ false)) → Waits t m
+    in_main : m.phase ≡ Main → (are_free m.callers ≡ false) ⊎ ((are_free m.callers ≡ true) × (m.has_spent ≡ false) × (no_more_calls_in Main t m.stops m.clock ≡ false)) → Waits t m
     in_main is (inl busy) = ForCall busy
     in_main is (inr (free, goes, more)) = rated (main_goes _ _ more) (cases_Bool (keeps_rate t.rate m.given m.clock))
       where
@@ -223,7 +223,7 @@ waits_settled t last m h = go m.phase refl
         rated early (inr fast) = ForRate is fast
         rated early (inl slow) = asked free (may_be t m goes (ap (λ p. may_call_in p t m.stops m.given m.clock) is ∙ and_from _ _ early.0 (and_from _ _ (not_from_false _ early.1) slow)))
 
-    in_final : m.phase ≡ Final → (are_free m.seats ≡ false) ⊎ ((are_free m.seats ≡ true) × (m.has_spent ≡ false) × (no_more_calls_in Final t m.stops m.clock ≡ false)) → Waits t m
+    in_final : m.phase ≡ Final → (are_free m.callers ≡ false) ⊎ ((are_free m.callers ≡ true) × (m.has_spent ≡ false) × (no_more_calls_in Final t m.stops m.clock ≡ false)) → Waits t m
     in_final is (inl busy) = ForCall busy
     in_final is (inr (free, goes, more)) = asked free (may_be t m goes (ap (λ p. may_call_in p t m.stops m.given m.clock) is ∙ not_from_false _ more))
 

@@ -13,7 +13,7 @@ use Rattle.jh_conversation.specs.Laws.{Drivers, answered_by, clock_at, ended_by,
 use Rattle.jh_ops.specs.Pairing.{is_invoke}
 use Rattle.jh_conversation.specs.Lines.{LineSaid, Nothing, Clock, Stop, Reply, Bad}
 use Rattle.jh_conversation.specs.Lines.{machine_after_lines, answer_step, answers_step, at_first, at_time, finish, is_test_over, kept_pairs, line_said, listen, refuse, reply, fits_call, take_answer, take_completion, take_end, take_in, take_reply, thread_of_process}
-use Rattle.jh_conversation.specs.Machine.{Machine, OpenCall, OpenStep, seat_process, seat_of}
+use Rattle.jh_conversation.specs.Machine.{Machine, OpenCall, OpenStep, caller_process, caller_of}
 use Rattle.jh_conversation.specs.Records.{Recorded, Invoked, Ended, Begun, Answered}
 use Rattle.jh_conversation.specs.Test.{TestValue}
 use Rattle.jh_conversation.specs.Told.{told_links, told_nodes}
@@ -30,7 +30,7 @@ said_in_turn t last before = record {
   calls = by_answers _ _ (record {
     asks = λ m d w h. h;
     spends = λ m h. h;
-    invokes = λ m thread request within idle may h. ap (λ l. Invoked m.clock (seat_process t m thread) (node_of_thread t thread) (call_made t m thread request).asked ∷ l) h;
+    invokes = λ m thread request within idle may h. ap (λ l. Invoked m.clock (caller_process t m thread) (node_of_thread t thread) (call_made t m thread request).asked ∷ l) h;
   });
   begins = λ m due w d h.
       let after = state_after m.nemesis due.step in
@@ -62,12 +62,12 @@ heard_answer m op time none (Some w) =
     answered None = (refl, none)
     answered (Some time) = (refl, none)
 
-heard_finish : (t : TestValue) (m : Machine) (process : ℕ) (op : Operation) (time : Option ℕ) (c : OpenCall) → m.said ≡ [] → seat_process t m (thread_of_process t process) ≡ process
+heard_finish : (t : TestValue) (m : Machine) (process : ℕ) (op : Operation) (time : Option ℕ) (c : OpenCall) → m.said ≡ [] → caller_process t m (thread_of_process t process) ≡ process
     → Hears m (Ended (clock_at time m.clock) process op.kind c.asked.function op.value (kept_pairs op) ∷ []) (finish t (thread_of_process t process) c op (at_time time m))
 heard_finish t m process op None c none e = (ap (λ p. Ended m.clock p op.kind c.asked.function op.value (kept_pairs op) ∷ m.history) e, none)
 heard_finish t m process op (Some time) c none e = (ap (λ p. Ended (max m.clock time) p op.kind c.asked.function op.value (kept_pairs op) ∷ m.history) e, none)
 
-heard_end : (t : TestValue) (m : Machine) (process : ℕ) (op : Operation) (time : Option ℕ) (c : OpenCall) → m.said ≡ [] → seat_process t m (thread_of_process t process) ≡ process
+heard_end : (t : TestValue) (m : Machine) (process : ℕ) (op : Operation) (time : Option ℕ) (c : OpenCall) → m.said ≡ [] → caller_process t m (thread_of_process t process) ≡ process
     → Hears m (if not (is_invoke op.kind) && (is_keyword c.asked.function op.f && fits_call t c op.kind op.value) then Ended (clock_at time m.clock) process op.kind c.asked.function op.value (kept_pairs op) ∷ [] else [])
     (take_end t (thread_of_process t process) c op time m)
 heard_end t m process op time c none e = by_three (is_invoke op.kind) (is_keyword c.asked.function op.f) (fits_call t c op.kind op.value)
@@ -84,7 +84,7 @@ heard_completion : (t : TestValue) (m : Machine) (process : ℕ) (op : Operation
     → Hears m (ended_by t m process c op (clock_at time m.clock)) (take_completion t process op time m c)
 heard_completion t m process op time none None = (refl, none)
 heard_completion t m process op time none (Some c) =
-    (elim (seat_process t m (thread_of_process t process) == process) as (λ b. (seat_process t m (thread_of_process t process) == process) ≡ b
+    (elim (caller_process t m (thread_of_process t process) == process) as (λ b. (caller_process t m (thread_of_process t process) == process) ≡ b
     → Hears m (if b && (not (is_invoke op.kind) && (is_keyword c.asked.function op.f && fits_call t c op.kind op.value)) then Ended (clock_at time m.clock) process op.kind c.asked.function op.value (kept_pairs op) ∷ [] else [])
     (if b then take_end t (thread_of_process t process) c op time m else refuse complaint.NoCallOpen m)) [
       | true ↦ λ e. heard_end t m process op time c none (eqb-true _ _ e)
@@ -103,7 +103,7 @@ hears t m (Reply op time) none = go op.process
   where
     go : (p : Process) → Hears m (heard_from t m op (clock_at time m.clock) p) (take_reply t op time p m)
     go Process.Nemesis = heard_answer m op time none m.step
-    go (Process.Client process) = heard_completion t m process op time none (seat_of m (thread_of_process t process)).call
+    go (Process.Client process) = heard_completion t m process op time none (caller_of m (thread_of_process t process)).call
 
 talked : (t : TestValue) (d : Drivers t) (m : Machine) (line : List ℕ) → (reply t d.last m line).history ≡ talk_at t d m line ++ m.history
 talked t d m line =

@@ -17,7 +17,7 @@ use Rattle.jh_conversation.specs.Lines.{LineSaid, Reply, Bad}
 use Rattle.jh_conversation.specs.Lines.{machine_after_lines, answers_step, at_first, is_test_over}
 use Rattle.jh_conversation.specs.Lines.{kept_pairs, line_said, listen, reply, fits_call, take_in}
 use Rattle.jh_conversation.specs.Lines.{thread_of_process}
-use Rattle.jh_conversation.specs.Machine.{Machine, OpenCall, OpenStep, are_free, seat_process, seat_of}
+use Rattle.jh_conversation.specs.Machine.{Machine, OpenCall, OpenStep, are_free, caller_process, caller_of}
 use Rattle.jh_conversation.specs.Records.{Recorded, Invoked, Ended, Begun, Answered, LinkTold, NodeTold}
 use Rattle.jh_conversation.specs.Test.{TestValue}
 use Rattle.jh_conversation.specs.Turn.{keeps_rate, may_call, millisecond, move, round, turn}
@@ -50,7 +50,7 @@ clock_at (Some time) now = max now time
 -- the completion of the call that its process has open
 abbrev pub is_end_of_call : TestValue → Machine → ℕ → OpenCall → Operation → Bool
 is_end_of_call t m process call op =
-    (seat_process t m (thread_of_process t process) == process)
+    (caller_process t m (thread_of_process t process) == process)
     && (not (is_invoke op.kind)
     && (is_keyword call.asked.function op.f && fits_call t call op.kind op.value))
 
@@ -70,7 +70,7 @@ ended_by t m process (Some call) op now =
 abbrev pub heard_from : TestValue → Machine → Operation → ℕ → Process → List Recorded
 heard_from t m op now Process.Nemesis = answered_by m.step op now
 heard_from t m op now (Process.Client process) =
-    ended_by t m process (seat_of m (thread_of_process t process)).call op now
+    ended_by t m process (caller_of m (thread_of_process t process)).call op now
 
 -- the record of what a line says, if it is a reply
 abbrev pub heard : TestValue → Machine → LineSaid → List Recorded
@@ -282,13 +282,13 @@ abbrev pub complaint_of_completion : TestValue → Machine → ℕ → Option Op
     → Option Complaint
 complaint_of_completion t m process None op = Some complaint.NoCallOpen
 complaint_of_completion t m process (Some call) op =
-    if seat_process t m (thread_of_process t process) == process then complaint_of_end t call op
+    if caller_process t m (thread_of_process t process) == process then complaint_of_end t call op
     else Some complaint.NoCallOpen
 
 abbrev pub complaint_of_reply : TestValue → Machine → Operation → Process → Option Complaint
 complaint_of_reply t m op Process.Nemesis = complaint_of_answer m.step op
 complaint_of_reply t m op (Process.Client process) =
-    complaint_of_completion t m process (seat_of m (thread_of_process t process)).call op
+    complaint_of_completion t m process (caller_of m (thread_of_process t process)).call op
 
 -- why a line is no reply, if it is none
 abbrev pub complaint_of : TestValue → Machine → LineSaid → Option Complaint
@@ -330,7 +330,7 @@ pub data Waits (t : TestValue) (m : Machine) : Type 0 where
   -- it is over
   IsOver : m.phase ≡ Over → Waits t m
   -- a call is open
-  ForCall : are_free m.seats ≡ false → Waits t m
+  ForCall : are_free m.callers ≡ false → Waits t m
   -- a step is open
   ForStep : (step : OpenStep) → m.step ≡ Some step → Waits t m
   -- one more call would be faster than the rate
@@ -339,7 +339,7 @@ pub data Waits (t : TestValue) (m : Machine) : Type 0 where
   ForRecovery : m.phase ≡ Rest → m.clock < m.rested + t.recovery * millisecond → Waits t m
   -- in the last round the generator gave no call, though none is open and one may be given
   ForGenerator : (last : Machine) → m ≡ round t last → m.given ≡ last.given
-      → are_free m.seats ≡ true → may_call t m ≡ true → Waits t m
+      → are_free m.callers ≡ true → may_call t m ≡ true → Waits t m
 
 abbrev pub AlwaysWaits : Type 0
 AlwaysWaits = (t : TestValue) (d : Drivers t) (lines : List (List ℕ)) → Waits t (run t d lines)

@@ -26,7 +26,7 @@ use Rattle.jh_ops.specs.declared.operation.Kind.{Kind}
 use Rattle.jh_ops.specs.declared.operation.Process.{Process}
 use Rattle.jh_txn_histories.specs.Written.{is_equal}
 use Rattle.jh_conversation.specs.Machine.{Machine, OpenCall, OpenStep}
-use Rattle.jh_conversation.specs.Machine.{hear, new_seats, seat_process, seat_of}
+use Rattle.jh_conversation.specs.Machine.{hear, new_callers, caller_process, caller_of}
 use Rattle.jh_conversation.specs.Transactions.{first_source}
 use Rattle.jh_conversation.specs.Records.{Answered, Ended as EndedCall}
 use Rattle.jh_conversation.specs.Test.{KeyShares, TestValue}
@@ -191,14 +191,14 @@ ended_as _ = ended.Info
 abbrev pub finish : TestValue → ℕ → OpenCall → Operation → Machine → Machine
 finish t number call op m =
     hear
-    (EndedCall m.clock (seat_process t m number) op.kind call.asked.function op.value
+    (EndedCall m.clock (caller_process t m number) op.kind call.asked.function op.value
     (kept_pairs op))
     (record m {
       driver = driver_after_end m.driver (thread.Client number) (ended_as op.kind);
       answered = m.answered + 1;
       crashed = m.crashed + more_crashes op.kind;
-      seats = set m.seats number (record {
-        crashes = (seat_of m number).crashes + more_crashes op.kind;
+      callers = set m.callers number (record {
+        crashes = (caller_of m number).crashes + more_crashes op.kind;
         call = None;
       });
     })
@@ -214,7 +214,7 @@ abbrev pub take_completion : TestValue → ℕ → Operation → Option ℕ → 
     → Machine
 take_completion t process op time m None = refuse complaint.NoCallOpen m
 take_completion t process op time m (Some call) =
-    if seat_process t m (thread_of_process t process) == process
+    if caller_process t m (thread_of_process t process) == process
     then take_end t (thread_of_process t process) call op time m
     else refuse complaint.NoCallOpen m
 
@@ -237,7 +237,7 @@ take_answer op time m (Some step) =
 abbrev pub take_reply : TestValue → Operation → Option ℕ → Process → Machine → Machine
 take_reply t op time Process.Nemesis m = take_answer op time m m.step
 take_reply t op time (Process.Client process) m =
-    take_completion t process op time m (seat_of m (thread_of_process t process)).call
+    take_completion t process op time m (caller_of m (thread_of_process t process)).call
 
 abbrev pub take_in : TestValue → LineSaid → Machine → Machine
 take_in t Nothing m = m
@@ -269,7 +269,7 @@ at_first t driver nemesis = record {
   words = started 128 multiplier_128 t.seed (increment_of 128 0);
   transactions = first_source t.transactions t.seed;
   calls_by_group = replicate t.clients 0;
-  seats = new_seats t.clients 0;
+  callers = new_callers t.clients 0;
   given = 0;
   answered = 0;
   crashed = 0;

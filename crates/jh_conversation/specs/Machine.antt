@@ -17,7 +17,7 @@ pub record OpenCall : Type 0 where
   pub asked : Asked
 
 -- a thread: how many of its processes have crashed, and the call that it has open
-pub record Seat : Type 0 where
+pub record Caller : Type 0 where
   pub crashes : ℕ
   pub call : Option OpenCall
 
@@ -36,7 +36,7 @@ pub record Machine : Type 0 where
   -- the transactions to come, and how many calls each group of threads was given
   pub transactions : TransactionSource
   pub calls_by_group : List ℕ
-  pub seats : List Seat
+  pub callers : List Caller
   -- calls that were given and that were answered, and processes that have crashed
   pub given : ℕ
   pub answered : ℕ
@@ -56,30 +56,30 @@ pub record Machine : Type 0 where
   pub history : List Recorded
   pub said : List Recorded
 
-abbrev pub no_seat : Seat
-no_seat = record { crashes = 0; call = None }
+abbrev pub no_caller : Caller
+no_caller = record { crashes = 0; call = None }
 
-abbrev pub seat_of : Machine → ℕ → Seat
-seat_of m thread = get_or m.seats thread no_seat
+abbrev pub caller_of : Machine → ℕ → Caller
+caller_of m thread = get_or m.callers thread no_caller
 
 -- The process of a thread: the thread's number at first, and greater by the number of threads after
 -- each crash (jepsen.generator).
-abbrev pub seat_process : TestValue → Machine → ℕ → ℕ
-seat_process t m thread = thread + t.clients * (seat_of m thread).crashes
+abbrev pub caller_process : TestValue → Machine → ℕ → ℕ
+caller_process t m thread = thread + t.clients * (caller_of m thread).crashes
 
 abbrev pub has_no_call : Option OpenCall → Bool
 has_no_call None = true
 has_no_call (Some call) = false
 
 -- no call is open
-abbrev pub are_free : List Seat → Bool
+abbrev pub are_free : List Caller → Bool
 are_free [] = true
-are_free (seat ∷ seats) = has_no_call seat.call && are_free seats
+are_free (caller ∷ callers) = has_no_call caller.call && are_free callers
 
 -- so many threads, each of whose processes have crashed so often
-abbrev pub new_seats : ℕ → ℕ → List Seat
-new_seats zero crashes = []
-new_seats (suc n) crashes = (record { crashes = crashes; call = None }) ∷ new_seats n crashes
+abbrev pub new_callers : ℕ → ℕ → List Caller
+new_callers zero crashes = []
+new_callers (suc n) crashes = (record { crashes = crashes; call = None }) ∷ new_callers n crashes
 
 -- a record that is written belongs to the history too
 abbrev pub say : Recorded → Machine → Machine

@@ -20,7 +20,7 @@ use Rattle.jh_ops.specs.declared.call.Call.TheVariants as call
 use Rattle.jh_ops.specs.declared.call.Request.{Request}
 use Rattle.jh_simnode.specs.Histories.{asked_content, code_of, request_name}
 use Rattle.jh_conversation.specs.Machine.{Machine, OpenCall, OpenStep}
-use Rattle.jh_conversation.specs.Machine.{are_free, has_no_call, new_seats, seat_process, say, seat_of}
+use Rattle.jh_conversation.specs.Machine.{are_free, has_no_call, new_callers, caller_process, say, caller_of}
 use Rattle.jh_conversation.specs.Records.{Begun, Invoked}
 use Rattle.jh_conversation.specs.Test.{KeyShares, TestValue}
 use Rattle.jh_conversation.specs.Told.{told_links, told_nodes}
@@ -66,7 +66,7 @@ no_more_calls_in _ t stops now = nat_le 2 stops
 
 -- no call is open, and no more may come
 abbrev pub calls_ended : TestValue → Machine → Bool
-calls_ended t m = are_free m.seats && (m.has_spent || no_more_calls_in m.phase t m.stops m.clock)
+calls_ended t m = are_free m.callers && (m.has_spent || no_more_calls_in m.phase t m.stops m.clock)
 
 abbrev pub has_come_to : When → Machine → Bool
 has_come_to (Calls n) m = nat_le n m.answered
@@ -158,11 +158,11 @@ node_of_thread t thread = thread % length t.start.names
 abbrev pub invoke : TestValue → ℕ → Request → Machine → Machine
 invoke t thread request m =
     let call = call_made t m thread request in
-    say (Invoked m.clock (seat_process t m thread) (node_of_thread t thread) call.asked)
+    say (Invoked m.clock (caller_process t m thread) (node_of_thread t thread) call.asked)
     (record m {
       given = m.given + 1;
       calls_by_group = counts_after t.keys thread m.calls_by_group;
-      seats = set m.seats thread (record { crashes = (seat_of m thread).crashes; call = Some call });
+      callers = set m.callers thread (record { crashes = (caller_of m thread).crashes; call = Some call });
     })
 
 -- what a thread's answer makes of the machine; a generator of clients gives no step of the nemesis
@@ -185,7 +185,7 @@ ask t number m =
 
 abbrev pub visit : TestValue → ℕ → Machine → Machine
 visit t number m =
-    if has_no_call (seat_of m number).call && may_call t m then ask t number m else m
+    if has_no_call (caller_of m number).call && may_call t m then ask t number m else m
 
 -- so many threads from one on
 abbrev pub visits : TestValue → ℕ → ℕ → Machine → Machine
@@ -222,7 +222,7 @@ final t driver m = record m {
   phase = Final;
   driver = driver;
   has_spent = false;
-  seats = new_seats t.clients m.crashed;
+  callers = new_callers t.clients m.crashed;
 }
 
 abbrev pub when : Bool → Machine → Option Machine
