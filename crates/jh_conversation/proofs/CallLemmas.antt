@@ -3,9 +3,9 @@ use Rattle.std.proofs.Common.{◌≡◌, ◌≢◌, ℕ, suc, ◌+◌, ◌≤◌
 use mathlib.Core.Logic.{◌⊎◌, inl, inr}
 use Rattle.std.specs.Prelude.{None, Option, Some, if◌then◌else◌}
 use Rattle.std.proofs.lemmas.Bool.{and_parts, eqb-true, false≢true, le-leb, leb-false, leb-true, not-true}
-use Rattle.jh_gen.specs.DriverState.{DriverState}
+use Rattle.jh_lines.specs.Replies.{after_lines}
 use Rattle.jh_conversation.specs.Laws.{AreTimely, Drivers, IsAtRate, IsBeforeFinal, IsBeforeLimit, invocations_in, run, start, took}
-use Rattle.jh_conversation.specs.Lines.{machine_after_lines, is_test_over, is_end_phase, line_said, listen, reply, stops_by, take_in}
+use Rattle.jh_conversation.specs.Lines.{is_test_over, is_end_phase, line_said, listen, reply, stops_after, stops_by, take_in}
 use Rattle.jh_conversation.specs.Machine.{Machine}
 use Rattle.jh_conversation.specs.Test.{TestValue}
 use Rattle.jh_conversation.specs.Turn.{has_come, keeps_rate, may_call, may_call_in, turn}
@@ -72,8 +72,8 @@ stopped_gives_none_before : (t : TestValue) (m : Machine) → HasStopped 1 m →
 stopped_gives_none_before t m (inl over) may before = over_gives_none t m over may
 stopped_gives_none_before t m (inr stopped) may before = main_gives_none t m.phase m.stops m.given m.clock stopped (and_parts _ _ may).1 before
 
-main_in_turn : (t : TestValue) (last : Option DriverState) (n : ℕ) → IsKeptInTurn t last (HasGivenMain n)
-main_in_turn t last n = record {
+main_in_turn : (t : TestValue) (n : ℕ) → IsKeptInTurn t (HasGivenMain n)
+main_in_turn t n = record {
   calls = by_answers _ _ (record {
     asks = λ m d w h. h;
     spends = λ m h. h;
@@ -87,22 +87,22 @@ main_in_turn t last n = record {
   ends_final = λ m is e h. (inl refl, λ b. absurd b);
 }
 
-more_stops : (count : ℕ) (m : Machine) (more : ℕ) → HasStopped count m → (m.phase ≡ Over) ⊎ (count ≤ m.stops + more)
-more_stops count m more (inl over) = inl over
-more_stops count m more (inr stopped) = inr (omega (arith, stopped))
+more_stops : (count : ℕ) (m : Machine) (more : ℕ) → count ≤ 2 → HasStopped count m → (m.phase ≡ Over) ⊎ (count ≤ stops_after more m.stops)
+more_stops count m more few (inl over) = inl over
+more_stops count m more few (inr stopped) = inr (omega (arith, few, stopped))
 
 main_by_line : (t : TestValue) (n : ℕ) → IsKeptByLine t (HasGivenMain n)
 main_by_line t n = record {
   listens = λ m h. h;
   clocks = λ m time h. h;
-  stops = λ m h. (more_stops 1 m (stops_by m.phase) h.0, h.1);
-  refuses = λ m why h. (more_stops 1 m 2 h.0, h.1);
+  stops = λ m h. (more_stops 1 m (stops_by m.phase) (omega arith) h.0, h.1);
+  refuses = λ m why h. (more_stops 1 m 2 (omega arith) h.0, h.1);
   answers = λ m w op e h. h;
   finishes = λ m thread c op e no h. h;
 }
 
-given_in_turn : (t : TestValue) (last : Option DriverState) (n : ℕ) → IsKeptInTurn t last (HasGiven n)
-given_in_turn t last n = record {
+given_in_turn : (t : TestValue) (n : ℕ) → IsKeptInTurn t (HasGiven n)
+given_in_turn t n = record {
   calls = by_answers _ _ (record {
     asks = λ m d w h. h;
     spends = λ m h. h;
@@ -120,8 +120,8 @@ given_by_line : (t : TestValue) (n : ℕ) → IsKeptByLine t (HasGiven n)
 given_by_line t n = record {
   listens = λ m h. h;
   clocks = λ m time h. h;
-  stops = λ m h. (more_stops 2 m (stops_by m.phase) h.0, h.1);
-  refuses = λ m why h. (more_stops 2 m 2 h.0, h.1);
+  stops = λ m h. (more_stops 2 m (stops_by m.phase) (omega arith) h.0, h.1);
+  refuses = λ m why h. (more_stops 2 m 2 (omega arith) h.0, h.1);
   answers = λ m w op e h. h;
   finishes = λ m thread c op e no h. h;
 }
@@ -137,9 +137,9 @@ same_calls t n = record {
   finishes = λ m thread c op e no h. h;
 }
 
-pub after_both : (t : TestValue) (last : Option DriverState) (m : Machine) (lines more : List (List ℕ)) → machine_after_lines t last m (lines ++ more) ≡ machine_after_lines t last (machine_after_lines t last m lines) more
-after_both t last m [] more = refl
-after_both t last m (line ∷ lines) more = after_both t last (reply t last m line) lines more
+pub after_both : (t : TestValue) (m : Machine) (lines more : List (List ℕ)) → after_lines (reply t) m (lines ++ more) ≡ after_lines (reply t) (after_lines (reply t) m lines) more
+after_both t m [] more = refl
+after_both t m (line ∷ lines) more = after_both t (reply t m line) lines more
 
 pub over_is : (phase : Phase) → is_end_phase phase ≡ true → phase ≡ Over
 over_is Main e = absurd (false≢true e)
@@ -152,20 +152,20 @@ over_is Over e = refl
 took_same : (t : TestValue) (m : Machine) (line : List ℕ) → invocations_in (take_in t (line_said line) (listen m)).history ≡ invocations_in m.history
 took_same t m line = kept_take_in t (λ n. invocations_in n.history ≡ invocations_in m.history) (same_calls t (invocations_in m.history)) (listen m) (line_said line) refl
 
-module _ (t : TestValue) (last : Option DriverState) (m : Machine) (line : List ℕ) where
-  main_stops : 1 ≤ (take_in t (line_said line) (listen m)).stops → HasGivenMain (invocations_in m.history) (reply t last m line)
+module _ (t : TestValue) (m : Machine) (line : List ℕ) where
+  main_stops : 1 ≤ (take_in t (line_said line) (listen m)).stops → HasGivenMain (invocations_in m.history) (reply t m line)
   main_stops stopped =
-      (elim (is_test_over m) as (λ b. is_test_over m ≡ b → HasGivenMain (invocations_in m.history) (if b then listen m else turn t last (take_in t (line_said line) (listen m)))) [
+      (elim (is_test_over m) as (λ b. is_test_over m ≡ b → HasGivenMain (invocations_in m.history) (if b then listen m else turn t (take_in t (line_said line) (listen m)))) [
         | true ↦ λ e. (inl (over_is m.phase e), λ _. refl)
-        | false ↦ λ _. kept_turn t last (HasGivenMain (invocations_in m.history)) (main_in_turn t last (invocations_in m.history)) (take_in t (line_said line) (listen m))
+        | false ↦ λ _. kept_turn t (HasGivenMain (invocations_in m.history)) (main_in_turn t (invocations_in m.history)) (take_in t (line_said line) (listen m))
             (inr stopped, λ _. took_same t m line)
       ]) refl
 
-  all_stop : 2 ≤ (take_in t (line_said line) (listen m)).stops → HasGiven (invocations_in m.history) (reply t last m line)
+  all_stop : 2 ≤ (take_in t (line_said line) (listen m)).stops → HasGiven (invocations_in m.history) (reply t m line)
   all_stop stopped =
-      (elim (is_test_over m) as (λ b. is_test_over m ≡ b → HasGiven (invocations_in m.history) (if b then listen m else turn t last (take_in t (line_said line) (listen m)))) [
+      (elim (is_test_over m) as (λ b. is_test_over m ≡ b → HasGiven (invocations_in m.history) (if b then listen m else turn t (take_in t (line_said line) (listen m)))) [
         | true ↦ λ e. (inl (over_is m.phase e), refl)
-        | false ↦ λ _. kept_turn t last (HasGiven (invocations_in m.history)) (given_in_turn t last (invocations_in m.history)) (take_in t (line_said line) (listen m))
+        | false ↦ λ _. kept_turn t (HasGiven (invocations_in m.history)) (given_in_turn t (invocations_in m.history)) (take_in t (line_said line) (listen m))
             (inr stopped, took_same t m line)
       ]) refl
 
@@ -173,16 +173,16 @@ pub stop_ends_main : (t : TestValue) (d : Drivers t) (lines more : List (List �
     → IsBeforeFinal (run t d (lines ++ line ∷ more)).phase → invocations_in (run t d (lines ++ line ∷ more)).history ≡ invocations_in (run t d lines).history
 stop_ends_main t d lines more line stopped before =
     let n = invocations_in (run t d lines).history in
-    let late = kept_lines t d.last (HasGivenMain n) (main_in_turn t d.last n) (main_by_line t n) more (reply t d.last (run t d lines) line) (main_stops t d.last (run t d lines) line stopped) in
-    let both = after_both t d.last (start t d) lines (line ∷ more) in
+    let late = kept_lines t (HasGivenMain n) (main_in_turn t n) (main_by_line t n) more (reply t (run t d lines) line) (main_stops t (run t d lines) line stopped) in
+    let both = after_both t (start t d) lines (line ∷ more) in
     ap (λ m. invocations_in m.history) both ∙ late.1 (subst (λ (m : Machine). IsBeforeFinal m.phase) both before)
 
 pub two_stops_end : (t : TestValue) (d : Drivers t) (lines more : List (List ℕ)) (line : List ℕ) → 2 ≤ (took t d lines line).stops
     → invocations_in (run t d (lines ++ line ∷ more)).history ≡ invocations_in (run t d lines).history
 two_stops_end t d lines more line stopped =
     let n = invocations_in (run t d lines).history in
-    let late = kept_lines t d.last (HasGiven n) (given_in_turn t d.last n) (given_by_line t n) more (reply t d.last (run t d lines) line) (all_stop t d.last (run t d lines) line stopped) in
-    ap (λ m. invocations_in m.history) (after_both t d.last (start t d) lines (line ∷ more)) ∙ late.1
+    let late = kept_lines t (HasGiven n) (given_in_turn t n) (given_by_line t n) more (reply t (run t d lines) line) (all_stop t (run t d lines) line stopped) in
+    ap (λ m. invocations_in m.history) (after_both t (start t d) lines (line ∷ more)) ∙ late.1
 
 -- Calls come in time.
 
@@ -206,8 +206,8 @@ timely_call t Rest stops given now before may = absurd (false≢true may)
 timely_call t Final stops given now before may = absurd before
 timely_call t Over stops given now before may = absurd before
 
-timely_in_turn : (t : TestValue) (last : Option DriverState) → IsKeptInTurn t last (IsInTime t)
-timely_in_turn t last = record {
+timely_in_turn : (t : TestValue) → IsKeptInTurn t (IsInTime t)
+timely_in_turn t = record {
   calls = by_answers _ _ (record {
     asks = λ m d w h. h;
     spends = λ m h. h;
@@ -236,4 +236,4 @@ timely_by_line t = record {
 }
 
 pub calls_timely : (t : TestValue) (d : Drivers t) (lines : List (List ℕ)) → IsBeforeFinal (run t d lines).phase → AreTimely t (run t d lines).history
-calls_timely t d lines before = (kept_run t d (IsInTime t) (timely_in_turn t d.last) (timely_by_line t) lines ((λ _. tt), refl)).0 before
+calls_timely t d lines before = (kept_run t d (IsInTime t) (timely_in_turn t) (timely_by_line t) lines ((λ _. tt), refl)).0 before

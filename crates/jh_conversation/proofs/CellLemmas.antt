@@ -9,7 +9,6 @@ use Rattle.std.proofs.lemmas.Bool.Decides.{Decides-int_eq}
 use Rattle.jh_env.specs.Cells.{Table, Life, Link, NodeCell, Running, Paused, Killed, link_at, node_at}
 use Rattle.jh_env.specs.Faults.{FaultValue}
 use Rattle.jh_env.specs.Overlay.{link_over, node_over}
-use Rattle.jh_gen.specs.DriverState.{DriverState}
 use Rattle.jh_nemesis.specs.State.{Active, State, faults_in, state_back_to, state_forth_to}
 use Rattle.jh_nemesis.specs.Steps.{answer_of, is_ok, moved_state, state_after}
 use Rattle.jh_nemesis.specs.declared.steps.Step.{Step}
@@ -19,9 +18,10 @@ use Rattle.jh_conversation.specs.Machine.{Machine}
 use Rattle.jh_conversation.specs.Test.{TestValue}
 use Rattle.jh_edn.specs.Edn.{is_empty}
 use Rattle.jh_conversation.specs.Laws.{IsPastHeal}
+use Rattle.jh_conversation.specs.declared.records.LinkTold.{LinkTold}
+use Rattle.jh_conversation.specs.declared.records.NodeTold.{NodeTold}
 use Rattle.jh_conversation.proofs.KeptLemmas.{IsKeptByLine, IsKeptInTurn, by_answers, kept_run}
 use Rattle.jh_conversation.proofs.QuietLemmas.{rest_is_quiet}
-use Rattle.jh_conversation.specs.Records.{LinkTold, NodeTold}
 use Rattle.jh_conversation.specs.Told.{is_same_life, are_same_links, are_same_nodes, places_of_nodes, told_if_other_link, told_if_other_node, told_link, told_links, told_node, told_nodes}
 
 -- cells that are the same are equal
@@ -258,14 +258,14 @@ moved_keeps s WithdrawAll = refl
 moved_keeps s Undo = back_keeps s s.past
 moved_keeps s Redo = forth_keeps s s.future
 
-start_stays : (s : State) (step : Step) → (state_after s step).start ≡ s.start
+pub start_stays : (s : State) (step : Step) → (state_after s step).start ≡ s.start
 start_stays s step = elim (is_ok (answer_of s step)) as (λ b. (if b then moved_state s step else s).start ≡ s.start) [
   | true ↦ moved_keeps s step
   | false ↦ refl
 ]
 
-node_in_turn : (t : TestValue) (last : Option DriverState) (start : Table) (a : ℕ) (n : NodeCell) → node_at start a ≡ Some n → IsKeptInTurn t last (NodeAddsUp start a n)
-node_in_turn t last start a n there = record {
+node_in_turn : (t : TestValue) (start : Table) (a : ℕ) (n : NodeCell) → node_at start a ≡ Some n → IsKeptInTurn t (NodeAddsUp start a n)
+node_in_turn t start a n there = record {
   calls = by_answers _ _ (record { asks = λ m d w h. h; spends = λ m h. h; invokes = λ m thread request w i y h. h });
   begins = λ m due w d h.
       let before = faults_in m.nemesis.active in
@@ -291,8 +291,8 @@ node_by_line t start a n = record {
   finishes = λ m thread c op e no h. h;
 }
 
-link_in_turn : (t : TestValue) (last : Option DriverState) (start : Table) (a b : ℕ) (l : Link) → link_at start a b ≡ Some l → IsKeptInTurn t last (LinkAddsUp start a b l)
-link_in_turn t last start a b l there = record {
+link_in_turn : (t : TestValue) (start : Table) (a b : ℕ) (l : Link) → link_at start a b ≡ Some l → IsKeptInTurn t (LinkAddsUp start a b l)
+link_in_turn t start a b l there = record {
   calls = by_answers _ _ (record { asks = λ m d w h. h; spends = λ m h. h; invokes = λ m thread request w i y h. h });
   begins = λ m due w d h.
       let before = faults_in m.nemesis.active in
@@ -337,12 +337,12 @@ no_fault_link a b l = link_by l.cut (l.cut || false) l.delay (l.delay + 0) l.los
 pub nodes_add_up : (t : TestValue) (d : Drivers t) (lines : List (List ℕ)) (a : ℕ) (n : NodeCell) → node_at t.start.start a ≡ Some n
     → told_node_in (run t d lines).history a n ≡ node_over (faults_in (run t d lines).nemesis.active) a n
 nodes_add_up t d lines a n there =
-    (kept_run t d (NodeAddsUp t.start.start a n) (node_in_turn t d.last t.start.start a n there) (node_by_line t t.start.start a n) lines (refl, no_fault_node a n)).1
+    (kept_run t d (NodeAddsUp t.start.start a n) (node_in_turn t t.start.start a n there) (node_by_line t t.start.start a n) lines (refl, no_fault_node a n)).1
 
 pub links_add_up : (t : TestValue) (d : Drivers t) (lines : List (List ℕ)) (a b : ℕ) (l : Link) → link_at t.start.start a b ≡ Some l
     → told_link_in (run t d lines).history a b l ≡ link_over (faults_in (run t d lines).nemesis.active) a b l
 links_add_up t d lines a b l there =
-    (kept_run t d (LinkAddsUp t.start.start a b l) (link_in_turn t d.last t.start.start a b l there) (link_by_line t t.start.start a b l) lines (refl, no_fault_link a b l)).1
+    (kept_run t d (LinkAddsUp t.start.start a b l) (link_in_turn t t.start.start a b l there) (link_by_line t t.start.start a b l) lines (refl, no_fault_link a b l)).1
 
 pub cells_are_environment : (t : TestValue) (d : Drivers t) (lines : List (List ℕ)) (a b : ℕ) (l : Link) (n : NodeCell)
     → (link_at t.start.start a b ≡ Some l → told_link_in (run t d lines).history a b l ≡ link_over (faults_in (run t d lines).nemesis.active) a b l)

@@ -2,17 +2,20 @@
 use Rattle.std.proofs.Common.{◌≡◌, ℕ, ◌+◌, ◌==◌, Bool, true, false, not, ◌||◌, List, [], ◌∷◌, refl, ap, ◌∙◌}
 use Rattle.std.specs.Prelude.{Option, None, Some, if◌then◌else◌}
 use Rattle.jh_edn.specs.Edn.{is_keyword}
-use Rattle.jh_gen.specs.DriverState.{DriverState}
+use Rattle.jh_lines.specs.Replies.{after_lines}
 use Rattle.jh_nemesis.specs.State.{first_state}
 use Rattle.jh_ops.specs.Operation.{Operation}
 use Rattle.jh_ops.specs.declared.operation.Process.{Process}
+use Rattle.jh_simnode.specs.Histories.{request_name}
 use Rattle.jh_conversation.specs.Laws.{Drivers, complaint_of, complaint_of_answer, complaint_of_completion, complaint_of_end, complaint_of_reply, first_bad, first_bad_or, run, start}
 use Rattle.jh_ops.specs.Pairing.{is_invoke}
 use Rattle.jh_conversation.specs.Lines.{LineSaid, Nothing, Clock, Stop, Reply, Bad}
-use Rattle.jh_conversation.specs.Lines.{machine_after_lines, answer_step, answers_step, at_first, at_time, finish, first, is_test_over, line_said, listen, refuse, reply, fits_call, take_answer, take_completion, take_end, take_in, take_reply, thread_of_process}
-use Rattle.jh_conversation.specs.Machine.{Machine, OpenCall, OpenStep, caller_process, caller_of}
+use Rattle.jh_conversation.specs.Lines.{answer_step, answers_step, at_first, at_time, finish, first, is_test_over, line_said, listen, refuse, reply, fits_call, take_answer, take_completion, take_end, take_in, take_reply, thread_of_process}
+use Rattle.jh_conversation.specs.Machine.{Machine, caller_process, caller_of}
 use Rattle.jh_conversation.specs.Test.{TestValue}
 use Rattle.jh_conversation.specs.Turn.{turn}
+use Rattle.jh_conversation.specs.declared.calls.Asked.{Asked}
+use Rattle.jh_conversation.specs.declared.calls.OpenStep.{OpenStep}
 use Rattle.jh_conversation.specs.declared.parts.Complaint.{Complaint}
 use Rattle.jh_conversation.specs.declared.parts.Complaint.TheVariants as complaint
 use Rattle.jh_conversation.proofs.KeptLemmas.{IsKeptByLine, IsKeptInTurn, by_answers, kept_lines, kept_turn}
@@ -24,8 +27,8 @@ Tells bad read m = (m.bad ≡ bad) × (m.read ≡ read)
 abbrev HasTold : ℕ × Complaint → Machine → Type 0
 HasTold told m = m.bad ≡ Some told
 
-tells_in_turn : (t : TestValue) (last : Option DriverState) (bad : Option (ℕ × Complaint)) (read : ℕ) → IsKeptInTurn t last (Tells bad read)
-tells_in_turn t last bad read = record {
+tells_in_turn : (t : TestValue) (bad : Option (ℕ × Complaint)) (read : ℕ) → IsKeptInTurn t (Tells bad read)
+tells_in_turn t bad read = record {
   calls = by_answers _ _ (record { asks = λ m d w h. h; spends = λ m h. h; invokes = λ m thread request w i y h. h });
   begins = λ m due w d h. h;
   heals = λ m is e h. h;
@@ -35,8 +38,8 @@ tells_in_turn t last bad read = record {
   ends_final = λ m is e h. h;
 }
 
-told_in_turn : (t : TestValue) (last : Option DriverState) (told : ℕ × Complaint) → IsKeptInTurn t last (HasTold told)
-told_in_turn t last told = record {
+told_in_turn : (t : TestValue) (told : ℕ × Complaint) → IsKeptInTurn t (HasTold told)
+told_in_turn t told = record {
   calls = by_answers _ _ (record { asks = λ m d w h. h; spends = λ m h. h; invokes = λ m thread request w i y h. h });
   begins = λ m due w d h. h;
   heals = λ m is e h. h;
@@ -77,18 +80,18 @@ tells_answer m op time none (Some w) =
       | false ↦ refused m complaint.OtherStep none
     ]
 
-tells_end : (t : TestValue) (m : Machine) (thread : ℕ) (c : OpenCall) (op : Operation) (time : Option ℕ) → m.bad ≡ None
+tells_end : (t : TestValue) (m : Machine) (thread : ℕ) (c : Asked) (op : Operation) (time : Option ℕ) → m.bad ≡ None
     → Tells (told_of (complaint_of_end t c op) m.read) m.read (take_end t thread c op time m)
-tells_end t m thread c op time none = by_two (is_invoke op.kind || not (is_keyword c.asked.function op.f)) (not (fits_call t c op.kind op.value))
+tells_end t m thread c op time none = by_two (is_invoke op.kind || not (is_keyword (request_name c.request) op.f)) (not (fits_call t c op.kind op.value))
   where
     by_two : (other odd : Bool)
         → Tells (told_of (if other then Some complaint.OtherCall else if odd then Some complaint.BadValue else None) m.read) m.read
-        (if other then refuse complaint.OtherCall m else if odd then refuse complaint.BadValue m else finish t thread c op (at_time time m))
+        (if other then refuse complaint.OtherCall m else if odd then refuse complaint.BadValue m else finish t thread c.request op (at_time time m))
     by_two true odd = refused m complaint.OtherCall none
     by_two false true = refused m complaint.BadValue none
     by_two false false = timed m time none
 
-tells_completion : (t : TestValue) (m : Machine) (process : ℕ) (op : Operation) (time : Option ℕ) → m.bad ≡ None → (c : Option OpenCall)
+tells_completion : (t : TestValue) (m : Machine) (process : ℕ) (op : Operation) (time : Option ℕ) → m.bad ≡ None → (c : Option Asked)
     → Tells (told_of (complaint_of_completion t m process c op) m.read) m.read (take_completion t process op time m c)
 tells_completion t m process op time none None = refused m complaint.NoCallOpen none
 tells_completion t m process op time none (Some c) =
@@ -122,32 +125,32 @@ same_complaint t m (Reply op time) = go op.process
     go Process.Nemesis = refl
     go (Process.Client process) = refl
 
-tells_reply : (t : TestValue) (last : Option DriverState) (m : Machine) (line : List ℕ) → m.bad ≡ None
-    → Tells (told_of (if is_test_over m then None else complaint_of t m (line_said line)) (m.read + 1)) (m.read + 1) (reply t last m line)
-tells_reply t last m line none =
-    elim (is_test_over m) as (λ b. Tells (told_of (if b then None else complaint_of t m (line_said line)) (m.read + 1)) (m.read + 1) (if b then listen m else turn t last (take_in t (line_said line) (listen m)))) [
+tells_reply : (t : TestValue) (m : Machine) (line : List ℕ) → m.bad ≡ None
+    → Tells (told_of (if is_test_over m then None else complaint_of t m (line_said line)) (m.read + 1)) (m.read + 1) (reply t m line)
+tells_reply t m line none =
+    elim (is_test_over m) as (λ b. Tells (told_of (if b then None else complaint_of t m (line_said line)) (m.read + 1)) (m.read + 1) (if b then listen m else turn t (take_in t (line_said line) (listen m)))) [
       | true ↦ (none, refl)
       | false ↦
           let told = told_of (complaint_of t m (line_said line)) (m.read + 1) in
           let took = tells_take t (listen m) (line_said line) none in
-          kept_turn t last (Tells told (m.read + 1)) (tells_in_turn t last told (m.read + 1)) (take_in t (line_said line) (listen m))
+          kept_turn t (Tells told (m.read + 1)) (tells_in_turn t told (m.read + 1)) (take_in t (line_said line) (listen m))
           (took.0 ∙ ap (λ c. told_of c (m.read + 1)) (same_complaint t m (line_said line)), took.1)
     ]
 
-tells_all : (t : TestValue) (d : Drivers t) (lines : List (List ℕ)) (m : Machine) (n : ℕ) → Tells None n m → (machine_after_lines t d.last m lines).bad ≡ first_bad t d m n lines
+tells_all : (t : TestValue) (d : Drivers t) (lines : List (List ℕ)) (m : Machine) (n : ℕ) → Tells None n m → (after_lines (reply t) m lines).bad ≡ first_bad t m n lines
 tells_all t d [] m n h = h.0
 tells_all t d (line ∷ lines) m n h =
-    let one = tells_reply t d.last m line h.0 in
+    let one = tells_reply t m line h.0 in
     let number : m.read + 1 ≡ n + 1 = ap (λ k. k + 1) h.1 in
     go (if is_test_over m then None else complaint_of t m (line_said line)) (one.0 ∙ ap (told_of (if is_test_over m then None else complaint_of t m (line_said line))) number)
-    (λ none. tells_all t d lines (reply t d.last m line) (n + 1) (none, one.1 ∙ number))
+    (λ none. tells_all t d lines (reply t m line) (n + 1) (none, one.1 ∙ number))
   where
-    go : (c : Option Complaint) → (reply t d.last m line).bad ≡ told_of c (n + 1)
-        → ((reply t d.last m line).bad ≡ None → (machine_after_lines t d.last (reply t d.last m line) lines).bad ≡ first_bad t d (reply t d.last m line) (n + 1) lines)
-        → (machine_after_lines t d.last (reply t d.last m line) lines).bad ≡ first_bad_or t c (n + 1) (first_bad t d (reply t d.last m line) (n + 1) lines)
+    go : (c : Option Complaint) → (reply t m line).bad ≡ told_of c (n + 1)
+        → ((reply t m line).bad ≡ None → (after_lines (reply t) (reply t m line) lines).bad ≡ first_bad t (reply t m line) (n + 1) lines)
+        → (after_lines (reply t) (reply t m line) lines).bad ≡ first_bad_or t c (n + 1) (first_bad t (reply t m line) (n + 1) lines)
     go None e later = later e
-    go (Some why) e later = kept_lines t d.last (HasTold (n + 1, why)) (told_in_turn t d.last (n + 1, why)) (told_by_line t (n + 1, why)) lines (reply t d.last m line) e
+    go (Some why) e later = kept_lines t (HasTold (n + 1, why)) (told_in_turn t (n + 1, why)) (told_by_line t (n + 1, why)) lines (reply t m line) e
 
-pub first_told : (t : TestValue) (d : Drivers t) (lines : List (List ℕ)) → (run t d lines).bad ≡ first_bad t d (start t d) 0 lines
+pub first_told : (t : TestValue) (d : Drivers t) (lines : List (List ℕ)) → (run t d lines).bad ≡ first_bad t (start t d) 0 lines
 first_told t d lines =
-    tells_all t d lines (start t d) 0 (kept_turn t d.last (Tells None 0) (tells_in_turn t d.last None 0) (at_first t d.first (first_state t.start)) (refl, refl))
+    tells_all t d lines (start t d) 0 (kept_turn t (Tells None 0) (tells_in_turn t None 0) (at_first t d.first d.last (first_state t.start)) (refl, refl))

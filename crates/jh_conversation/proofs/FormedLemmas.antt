@@ -3,18 +3,21 @@ use Rattle.std.proofs.Common.{◌≡◌, ◌≢◌, ℕ, zero, suc, ◌+◌, ◌
 use mathlib.Core.Logic.{◌⊎◌, inl, inr}
 use Rattle.std.specs.Prelude.{Option, None, Some, if◌then◌else◌}
 use Rattle.std.proofs.lemmas.Bool.{and_parts, false≢true, cases_eq, cases_lt, ne_eqb}
-use Rattle.std.proofs.lemmas.List.{get_or-set_same, get_or-set_other}
+use Rattle.std.proofs.lemmas.List.{get_or-replicate, get_or-set_same, get_or-set_other, length-replicate}
 use Rattle.std.proofs.Math.Nat.{mul-le-mul_left, mul-suc}
-use Rattle.jh_gen.specs.DriverState.{DriverState}
 use Rattle.jh_nemesis.specs.State.{first_state}
 use Rattle.jh_ops.specs.declared.operation.Kind.{Kind}
 use Rattle.jh_conversation.specs.Laws.{Drivers, IsFormed, Status, after_end, run, status}
 use Rattle.jh_conversation.specs.Laws.Status.{Idle, Busy}
 use Rattle.jh_conversation.specs.Lines.{at_first, kept_pairs, more_crashes}
-use Rattle.jh_conversation.specs.Machine.{Machine, OpenCall, Caller, are_free, has_no_call, new_callers, no_caller, caller_process, caller_of}
-use Rattle.jh_conversation.specs.Records.{Recorded, Invoked, Ended}
+use Rattle.jh_conversation.specs.Machine.{Machine, are_free, has_no_call, new_callers, no_caller, caller_process, caller_of}
+use Rattle.jh_conversation.specs.Sound.{IsBetween}
 use Rattle.jh_conversation.specs.Test.{TestValue}
 use Rattle.jh_conversation.specs.Turn.{call_made, may_call_in, node_of_thread}
+use Rattle.jh_conversation.specs.declared.calls.Asked.{Asked}
+use Rattle.jh_conversation.specs.declared.calls.Caller.{Caller}
+use Rattle.jh_conversation.specs.declared.records.Recorded.TheVariants.{Invoked, Ended}
+use Rattle.jh_conversation.specs.declared.records.Recorded.{Recorded}
 use Rattle.jh_conversation.specs.declared.parts.Phase.{Phase}
 use Rattle.jh_conversation.specs.declared.parts.Phase.TheVariants.{Main, Heal, Rest, Final, Over}
 use Rattle.jh_conversation.proofs.KeptLemmas.{IsKeptByLine, IsKeptInTurn, by_answers, kept_run}
@@ -23,9 +26,9 @@ abbrev caller : List Caller → ℕ → Caller
 caller callers thread = get_or callers thread no_caller
 
 -- what the process of a caller does
-abbrev shown : Option OpenCall → Status
+abbrev shown : Option Asked → Status
 shown None = Idle
-shown (Some call) = Busy call.asked.function
+shown (Some call) = Busy call.request
 
 -- the number of a process tells its thread, and how often that began anew
 lower : (n t u a b : ℕ) → t < n → u < n → a < b → t + n * a ≡ u + n * b → ⊥
@@ -117,28 +120,25 @@ callers_next n callers crashed most past next t w st h within news formed up mos
         news (u + n * life) ∙ other _ _ st _ (λ f. ne (sym (same_thread n t u _ _ within hu f)))
         ∙ h.later u life hu (subst (λ (x : Caller). x.crashes < life) (there u ne) less)
 
-in_callers : (callers : List Caller) (t : ℕ) (call : OpenCall) → (caller callers t).call ≡ Some call → t < length callers
+pub in_callers : (callers : List Caller) (t : ℕ) (call : Asked) → (caller callers t).call ≡ Some call → t < length callers
 in_callers [] t call e = absurd (cc e)
 in_callers (x ∷ callers) zero call e = omega arith
 in_callers (x ∷ callers) (suc t) call e = let k = in_callers callers t call e in omega arith
 
-free_is : (c : Option OpenCall) → has_no_call c ≡ true → c ≡ None
+free_is : (c : Option Asked) → has_no_call c ≡ true → c ≡ None
 free_is None e = refl
 free_is (Some call) e = absurd (false≢true e)
 
-free_at : (callers : List Caller) → are_free callers ≡ true → (t : ℕ) → (caller callers t).call ≡ None
+pub free_at : (callers : List Caller) → are_free callers ≡ true → (t : ℕ) → (caller callers t).call ≡ None
 free_at [] e t = refl
 free_at (x ∷ callers) e zero = free_is x.call (and_parts _ _ e).0
 free_at (x ∷ callers) e (suc t) = free_at callers (and_parts _ _ e).1 t
 
-long_new : (n life : ℕ) → length (new_callers n life) ≡ n
-long_new zero life = refl
-long_new (suc n) life = ap suc (long_new n life)
+pub long_new : (n life : ℕ) → length (new_callers n life) ≡ n
+long_new n life = length-replicate n _
 
-new_at : (n life t : ℕ) → t < n → caller (new_callers n life) t ≡ record { crashes = life; call = None }
-new_at zero life t h = absurd (omega arith)
-new_at (suc n) life zero h = refl
-new_at (suc n) life (suc t) h = new_at n life t (omega arith)
+pub new_at : (n life t : ℕ) → t < n → caller (new_callers n life) t ≡ record { crashes = life; call = None }
+new_at n life t h = get_or-replicate n t _ no_caller h
 
 -- all begin anew, as processes that never were, or went on
 callers_anew : (n : ℕ) (callers : List Caller) (crashed : ℕ) (past : List Recorded) → AreCallers n callers crashed past → are_free callers ≡ true → AreCallers n (new_callers n crashed) crashed past
@@ -157,34 +157,28 @@ callers_anew n callers crashed past h free = record {
         let e : crashed ≡ (caller callers t).crashes = omega arith in
         ap (λ l. status (t + n * l) past) e ∙ h.stands t ht ∙ ap shown (free_at callers free t)
 
--- between *main* and *final* no call is open
-abbrev IsBetween : Phase → Type 0
-IsBetween Heal = Unit {0}
-IsBetween Rest = Unit {0}
-IsBetween _ = ⊥
-
 abbrev pub Holds : TestValue → Machine → Type 0
 Holds s m = AreCallers s.clients m.callers m.crashed m.history × (IsBetween m.phase → are_free m.callers ≡ true)
 
-none_between : (s : TestValue) (phase : Phase) (stops given now : ℕ) → may_call_in phase s stops given now ≡ true → IsBetween phase → ⊥
+pub none_between : (s : TestValue) (phase : Phase) (stops given now : ℕ) → may_call_in phase s stops given now ≡ true → IsBetween phase → ⊥
 none_between s Main stops given now may b = b
 none_between s Heal stops given now may b = false≢true may
 none_between s Rest stops given now may b = false≢true may
 none_between s Final stops given now may b = b
 none_between s Over stops given now may b = b
 
-between : (phase next : Phase) → phase ≡ next → IsBetween next → IsBetween phase
+pub between : (phase next : Phase) → phase ≡ next → IsBetween next → IsBetween phase
 between phase next is h = subst IsBetween (sym is) h
 
-pub holds_in_turn : (s : TestValue) (last : Option DriverState) → IsKeptInTurn s last (Holds s)
-holds_in_turn s last = record {
+pub holds_in_turn : (s : TestValue) → IsKeptInTurn s (Holds s)
+holds_in_turn s = record {
   calls = by_answers _ _ (record {
     asks = λ m d w h. h;
     spends = λ m h. h;
     invokes = λ m thread request within idle may h.
         let call = call_made s m thread request in (
-          callers_next s.clients m.callers m.crashed m.crashed m.history (Invoked m.clock (caller_process s m thread) (node_of_thread s thread) call.asked ∷ m.history) thread
-              (record { crashes = (caller_of m thread).crashes; call = Some call }) (Busy call.asked.function) h.0 within
+          callers_next s.clients m.callers m.crashed m.crashed m.history (Invoked m.clock (caller_process s m thread) (node_of_thread s thread) call ∷ m.history) thread
+              (record { crashes = (caller_of m thread).crashes; call = Some call }) (Busy call.request) h.0 within
               (λ p. refl) (h.0.stands thread within ∙ ap shown idle, h.0.formed) (omega arith) (omega arith) (h.0.low thread within) (λ _. refl) (λ less. absurd (omega arith)),
           (λ b. absurd (none_between s m.phase m.stops m.given m.clock (and_parts _ _ may).1 b)),
         );
@@ -197,7 +191,7 @@ holds_in_turn s last = record {
   ends_final = λ m is e h. (h.0, λ b. absurd b);
 }
 
-none-some : (c : Option OpenCall) (x : OpenCall) → c ≡ None → c ≡ Some x → ⊥
+none-some : (c : Option Asked) (x : Asked) → c ≡ None → c ≡ Some x → ⊥
 none-some c x e f = cc
 
 pub holds_by_line : (s : TestValue) → IsKeptByLine s (Holds s)
@@ -210,7 +204,7 @@ holds_by_line s = record {
   finishes = λ m thread call op is no h.
       let within : thread < s.clients = let k = in_callers m.callers thread call is in omega (arith, h.0.wide) in (
         callers_next s.clients m.callers m.crashed (m.crashed + more_crashes op.kind) m.history
-            (Ended m.clock (caller_process s m thread) op.kind call.asked.function op.value (kept_pairs op) ∷ m.history) thread
+            (Ended m.clock (caller_process s m thread) op.kind call.request op.value (kept_pairs op) ∷ m.history) thread
             (record { crashes = (caller_of m thread).crashes + more_crashes op.kind; call = None }) (after_end op.kind) h.0 within
             (λ p. refl) (no, h.0.stands thread within ∙ ap shown is, h.0.formed) (omega arith) (omega arith) (let k = h.0.low thread within in omega arith)
             (ended op.kind (caller_of m thread).crashes) (λ _. refl),
@@ -224,7 +218,7 @@ holds_by_line s = record {
     ended Kind.Fail life e = refl
     ended Kind.Info life e = absurd (omega arith)
 
-pub holds_at_first : (s : TestValue) (d : Drivers s) → Holds s (at_first s d.first (first_state s.start))
+pub holds_at_first : (s : TestValue) (d : Drivers s) → Holds s (at_first s d.first d.last (first_state s.start))
 holds_at_first s d = (
   record {
     wide = long_new s.clients 0;
@@ -237,4 +231,4 @@ holds_at_first s d = (
 )
 
 pub all_formed : (s : TestValue) (d : Drivers s) (lines : List (List ℕ)) → IsFormed (run s d lines).history
-all_formed s d lines = (kept_run s d (Holds s) (holds_in_turn s d.last) (holds_by_line s) lines (holds_at_first s d)).0.formed
+all_formed s d lines = (kept_run s d (Holds s) (holds_in_turn s) (holds_by_line s) lines (holds_at_first s d)).0.formed

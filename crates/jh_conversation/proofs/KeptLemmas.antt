@@ -13,13 +13,18 @@ use Rattle.jh_ops.specs.declared.call.Call.TheVariants as call
 use Rattle.jh_ops.specs.declared.call.Request.{Request}
 use Rattle.jh_ops.specs.declared.operation.Process.{Process}
 use Rattle.jh_ops.specs.Pairing.{is_invoke}
+use Rattle.jh_simnode.specs.Histories.{request_name}
 use Rattle.jh_conversation.specs.Lines.{LineSaid, Nothing, Clock, Stop, Reply, Bad}
+use Rattle.jh_lines.specs.Replies.{after_lines}
 use Rattle.jh_nemesis.specs.State.{first_state}
-use Rattle.jh_conversation.specs.Lines.{machine_after_lines, answer_step, answers_step, at_first, at_time, finish, is_test_over, line_said, listen, refuse, reply, stop, fits_call, take_answer, take_completion, take_end, take_in, take_reply, thread_of_process}
-use Rattle.jh_conversation.specs.Machine.{Machine, OpenCall, OpenStep, has_no_call, caller_process, caller_of}
+use Rattle.jh_conversation.specs.Lines.{answer_step, answers_step, at_first, at_time, finish, is_test_over, line_said, listen, refuse, reply, stop, fits_call, take_answer, take_completion, take_end, take_in, take_reply, thread_of_process}
+use Rattle.jh_conversation.specs.Machine.{Machine, has_no_call, caller_process, caller_of}
 use Rattle.jh_conversation.specs.Laws.{Drivers, start, run}
 use Rattle.jh_conversation.specs.Test.{TestValue}
-use Rattle.jh_conversation.specs.Turn.{Due, after_rest, answer_to, ask, begin, begin_due, calls, calls_ended, due_in_phase, end, final, go_on, has_healed, has_recovered, heal, invoke, may_call, move, move_from, passes, rest, round, rounds, step, told, turn, visit, visits, when, work}
+use Rattle.jh_conversation.specs.Turn.{after_rest, answer_to, ask, begin, begin_due, calls, calls_ended, due_in_phase, end, final, go_on, has_healed, has_recovered, heal, invoke, may_call, move, move_from, passes, rest, round, rounds, step, told, turn, visit, visits, when, work}
+use Rattle.jh_conversation.specs.declared.turns.Due.{Due}
+use Rattle.jh_conversation.specs.declared.calls.Asked.{Asked}
+use Rattle.jh_conversation.specs.declared.calls.OpenStep.{OpenStep}
 use Rattle.jh_conversation.specs.declared.parts.Complaint.{Complaint}
 use Rattle.jh_conversation.specs.declared.parts.Complaint.TheVariants as complaint
 use Rattle.jh_conversation.specs.declared.parts.Phase.{Phase}
@@ -47,16 +52,16 @@ by_answers t P k = record {
     go m thread Pending within idle may h = h
     go m thread Done within idle may h = k.spends m h
     go m thread (Call p (call.Client request)) within idle may h = k.invokes m thread request within idle may h
-    go m thread (Call p (call.Step place)) within idle may h = h
+    go m thread (Call p (call.Step place)) within idle may h = k.spends m h
 
 -- those of a turn
-pub record IsKeptInTurn (t : TestValue) (last : Option DriverState) (P : Machine → Type 0) : Type 0 where
+pub record IsKeptInTurn (t : TestValue) (P : Machine → Type 0) : Type 0 where
   pub calls : IsKeptByCalls t P
   pub begins : (m : Machine) (due : Due) → m.step ≡ None → due_in_phase m.phase t m ≡ Some due → P m → P (begin due m)
   pub heals : (m : Machine) → m.phase ≡ Main → calls_ended t m ≡ true → P m → P (heal m)
   pub rests : (m : Machine) → m.phase ≡ Heal → m.step ≡ None → is_empty m.nemesis.active ≡ true → P m → P (rest m)
   pub ends_rest : (m : Machine) → m.phase ≡ Rest → P m → P (end m)
-  pub finals : (m : Machine) (driver : DriverState) → m.phase ≡ Rest → last ≡ Some driver → P m → P (final t driver m)
+  pub finals : (m : Machine) (driver : DriverState) → m.phase ≡ Rest → m.last ≡ Some driver → P m → P (final t driver m)
   pub ends_final : (m : Machine) → m.phase ≡ Final → calls_ended t m ≡ true → P m → P (end m)
 
 -- and those of a line
@@ -66,14 +71,14 @@ pub record IsKeptByLine (t : TestValue) (P : Machine → Type 0) : Type 0 where
   pub stops : (m : Machine) → P m → P (stop m)
   pub refuses : (m : Machine) (why : Complaint) → P m → P (refuse why m)
   pub answers : (m : Machine) (open_step : OpenStep) (op : Operation) → m.step ≡ Some open_step → P m → P (answer_step open_step op m)
-  pub finishes : (m : Machine) (thread : ℕ) (open_call : OpenCall) (op : Operation) → (caller_of m thread).call ≡ Some open_call → is_invoke op.kind ≡ false → P m → P (finish t thread open_call op m)
+  pub finishes : (m : Machine) (thread : ℕ) (open_call : Asked) (op : Operation) → (caller_of m thread).call ≡ Some open_call → is_invoke op.kind ≡ false → P m → P (finish t thread open_call.request op m)
 
 -- P holds where there is a machine
 abbrev pub IfMoved : (Machine → Type 0) → Option Machine → Type 0
 IfMoved P None = Unit {0}
 IfMoved P (Some m) = P m
 
-free : (c : Option OpenCall) → has_no_call c ≡ true → c ≡ None
+free : (c : Option Asked) → has_no_call c ≡ true → c ≡ None
 free None is = refl
 free (Some c) is = absurd (false≢true is)
 
@@ -98,7 +103,7 @@ module _ (t : TestValue) (P : Machine → Type 0) (k : IsKeptByCalls t P) where
   pub kept_calls : (m : Machine) → P m → P (calls t m)
   kept_calls m h = kept_rounds (suc t.clients) m h
 
-module _ (t : TestValue) (last : Option DriverState) (P : Machine → Type 0) (k : IsKeptInTurn t last P) where
+module _ (t : TestValue) (P : Machine → Type 0) (k : IsKeptInTurn t P) where
   pub kept_step : (m : Machine) → P m → P (step t m)
   kept_step m h = go m.step (due_in_phase m.phase t m) refl refl
     where
@@ -115,33 +120,33 @@ module _ (t : TestValue) (last : Option DriverState) (P : Machine → Type 0) (k
   kept_when true m h = h refl
   kept_when false m h = tt
 
-  pub kept_move : (m : Machine) → P m → IfMoved P (move t last m)
+  pub kept_move : (m : Machine) → P m → IfMoved P (move t m)
   kept_move m h = go m.phase refl
     where
       healed : (w : Option OpenStep) → m.step ≡ w → has_healed m w ≡ true → m.phase ≡ Heal → P (rest m)
       healed None e quiet is = k.rests m is e quiet h
       healed (Some w) e quiet is = absurd (false≢true quiet)
 
-      rested : (d : Option DriverState) → last ≡ d → m.phase ≡ Rest → IfMoved P (after_rest t d m)
+      rested : (d : Option DriverState) → m.last ≡ d → m.phase ≡ Rest → IfMoved P (after_rest t d m)
       rested None e is = k.ends_rest m is h
       rested (Some d) e is = cond_both (nat_le 2 m.stops) (Some (end m)) (when (has_recovered t m) (final t d m)) (IfMoved P) (λ _. k.ends_rest m is h) (λ _. kept_when _ _ (λ _. k.finals m d is e h))
 
-      go : (phase : Phase) → m.phase ≡ phase → IfMoved P (move_from phase t last m)
+      go : (phase : Phase) → m.phase ≡ phase → IfMoved P (move_from phase t m)
       go Main is = kept_when _ _ (λ e. k.heals m is e h)
       go Heal is = kept_when _ _ (λ e. healed m.step refl e is)
-      go Rest is = rested last refl is
+      go Rest is = rested m.last refl is
       go Final is = kept_when _ _ (λ e. k.ends_final m is e h)
       go Over is = tt
 
-  pub kept_passes : (n : ℕ) (m : Machine) → P m → P (passes t last n m)
+  pub kept_passes : (n : ℕ) (m : Machine) → P m → P (passes t n m)
   kept_passes zero m h = h
-  kept_passes (suc n) m h = go (λ next i. kept_passes n next i) (move t last (work t m)) (kept_move (work t m) (kept_work m h))
+  kept_passes (suc n) m h = go (λ next i. kept_passes n next i) (move t (work t m)) (kept_move (work t m) (kept_work m h))
     where
-      go : ((next : Machine) → P next → P (passes t last n next)) → (next : Option Machine) → IfMoved P next → P (go_on (passes t last n) (work t m) next)
+      go : ((next : Machine) → P next → P (passes t n next)) → (next : Option Machine) → IfMoved P next → P (go_on (passes t n) (work t m) next)
       go more None i = kept_work m h
       go more (Some next) i = more next i
 
-  pub kept_turn : (m : Machine) → P m → P (turn t last m)
+  pub kept_turn : (m : Machine) → P m → P (turn t m)
   unfolding turn
   kept_turn m h = kept_passes 5 m h
 
@@ -169,16 +174,16 @@ module _ (t : TestValue) (P : Machine → Type 0) (l : IsKeptByLine t P) where
   or_parts_false true b e = e
   or_parts_false false b e = refl
 
-  kept_end : (m : Machine) (thread : ℕ) (open_call : OpenCall) (op : Operation) (time : Option ℕ) → (caller_of m thread).call ≡ Some open_call → P m → P (take_end t thread open_call op time m)
+  kept_end : (m : Machine) (thread : ℕ) (open_call : Asked) (op : Operation) (time : Option ℕ) → (caller_of m thread).call ≡ Some open_call → P m → P (take_end t thread open_call op time m)
   kept_end m thread open_call op time e h =
-      cond_both (is_invoke op.kind || not (is_keyword open_call.asked.function op.f)) (refuse complaint.OtherCall m)
-      (if not (fits_call t open_call op.kind op.value) then refuse complaint.BadValue m else finish t thread open_call op (at_time time m)) P
+      cond_both (is_invoke op.kind || not (is_keyword (request_name open_call.request) op.f)) (refuse complaint.OtherCall m)
+      (if not (fits_call t open_call op.kind op.value) then refuse complaint.BadValue m else finish t thread open_call.request op (at_time time m)) P
       (λ _. l.refuses m _ h)
-      (λ no. cond_both (not (fits_call t open_call op.kind op.value)) (refuse complaint.BadValue m) (finish t thread open_call op (at_time time m)) P
+      (λ no. cond_both (not (fits_call t open_call op.kind op.value)) (refuse complaint.BadValue m) (finish t thread open_call.request op (at_time time m)) P
       (λ _. l.refuses m _ h)
       (λ _. l.finishes (at_time time m) thread open_call op (same_call m time thread ∙ e) (or_parts_false _ _ no) (kept_time m time h)))
 
-  kept_completion : (m : Machine) (process : ℕ) (op : Operation) (time : Option ℕ) (c : Option OpenCall) → (caller_of m (thread_of_process t process)).call ≡ c → P m → P (take_completion t process op time m c)
+  kept_completion : (m : Machine) (process : ℕ) (op : Operation) (time : Option ℕ) (c : Option Asked) → (caller_of m (thread_of_process t process)).call ≡ c → P m → P (take_completion t process op time m c)
   kept_completion m process op time None e h = l.refuses m _ h
   kept_completion m process op time (Some c) e h =
       cond_both (caller_process t m (thread_of_process t process) == process) (take_end t (thread_of_process t process) c op time m) (refuse complaint.NoCallOpen m) P
@@ -196,19 +201,19 @@ module _ (t : TestValue) (P : Machine → Type 0) (l : IsKeptByLine t P) where
       go Process.Nemesis = kept_answer m op time m.step refl h
       go (Process.Client process) = kept_completion m process op time (caller_of m (thread_of_process t process)).call refl h
 
-module _ (t : TestValue) (last : Option DriverState) (P : Machine → Type 0) (k : IsKeptInTurn t last P) (l : IsKeptByLine t P) where
-  pub kept_reply : (m : Machine) (line : List ℕ) → P m → P (reply t last m line)
+module _ (t : TestValue) (P : Machine → Type 0) (k : IsKeptInTurn t P) (l : IsKeptByLine t P) where
+  pub kept_reply : (m : Machine) (line : List ℕ) → P m → P (reply t m line)
   kept_reply m line h =
-      cond_both (is_test_over m) (listen m) (turn t last (take_in t (line_said line) (listen m))) P
+      cond_both (is_test_over m) (listen m) (turn t (take_in t (line_said line) (listen m))) P
       (λ _. l.listens m h)
-      (λ _. kept_turn t last P k (take_in t (line_said line) (listen m)) (kept_take_in t P l (listen m) (line_said line) (l.listens m h)))
+      (λ _. kept_turn t P k (take_in t (line_said line) (listen m)) (kept_take_in t P l (listen m) (line_said line) (l.listens m h)))
 
-  pub kept_lines : (lines : List (List ℕ)) (m : Machine) → P m → P (machine_after_lines t last m lines)
+  pub kept_lines : (lines : List (List ℕ)) (m : Machine) → P m → P (after_lines (reply t) m lines)
   kept_lines [] m h = h
-  kept_lines (line ∷ lines) m h = kept_lines lines (reply t last m line) (kept_reply m line h)
+  kept_lines (line ∷ lines) m h = kept_lines lines (reply t m line) (kept_reply m line h)
 
 -- what holds at first holds after all lines
-pub kept_run : (t : TestValue) (d : Drivers t) (P : Machine → Type 0) → IsKeptInTurn t d.last P → IsKeptByLine t P
-    → (lines : List (List ℕ)) → P (at_first t d.first (first_state t.start)) → P (run t d lines)
+pub kept_run : (t : TestValue) (d : Drivers t) (P : Machine → Type 0) → IsKeptInTurn t P → IsKeptByLine t P
+    → (lines : List (List ℕ)) → P (at_first t d.first d.last (first_state t.start)) → P (run t d lines)
 kept_run t d P k l lines h =
-    kept_lines t d.last P k l lines (start t d) (kept_turn t d.last P k (at_first t d.first (first_state t.start)) h)
+    kept_lines t P k l lines (start t d) (kept_turn t P k (at_first t d.first d.last (first_state t.start)) h)

@@ -2,23 +2,25 @@
 use Rattle.std.proofs.Common.{◌≡◌, ℕ, true, false, List, [], ◌∷◌, refl, sym, subst}
 use Rattle.std.specs.Prelude.{Option, None, Some, if◌then◌else◌}
 use Rattle.std.specs.List.{AllByRecursion}
-use Rattle.jh_gen.specs.DriverState.{DriverState}
 use Rattle.jh_ops.specs.declared.operation.Process.{Process}
 use Rattle.jh_conversation.specs.Laws.{Drivers, IsHeard, IsSaid, answered_by, clock_at, ended_by, heard, heard_from, is_end_of_call, run}
 use Rattle.jh_conversation.specs.Lines.{LineSaid, Nothing, Clock, Stop, Reply, Bad}
 use Rattle.jh_conversation.specs.Lines.{answers_step, is_test_over, kept_pairs, line_said, listen, reply, take_in, thread_of_process}
-use Rattle.jh_conversation.specs.Machine.{Machine, OpenCall, OpenStep, caller_of}
-use Rattle.jh_conversation.specs.Records.{Recorded, Answered, Ended}
+use Rattle.jh_conversation.specs.Machine.{Machine, caller_of}
 use Rattle.jh_conversation.specs.Test.{TestValue}
 use Rattle.jh_conversation.specs.Turn.{turn}
+use Rattle.jh_conversation.specs.declared.calls.Asked.{Asked}
+use Rattle.jh_conversation.specs.declared.calls.OpenStep.{OpenStep}
+use Rattle.jh_conversation.specs.declared.records.Recorded.TheVariants.{Answered, Ended}
+use Rattle.jh_conversation.specs.declared.records.Recorded.{Recorded}
 use Rattle.jh_conversation.proofs.KeptLemmas.{IsKeptInTurn, by_answers, kept_turn}
 use Rattle.jh_conversation.proofs.TalkLemmas.{hears}
 
 abbrev SaysSaid : Machine → Type 0
 SaysSaid m = AllByRecursion IsSaid m.said
 
-said_by_turn : (t : TestValue) (last : Option DriverState) → IsKeptInTurn t last SaysSaid
-said_by_turn t last = record {
+said_by_turn : (t : TestValue) → IsKeptInTurn t SaysSaid
+said_by_turn t = record {
   calls = by_answers _ _ (record { asks = λ m d w h. h; spends = λ m h. h; invokes = λ m thread request w i y h. (tt, h) });
   begins = λ m due w d h. (tt, h);
   heals = λ m is e h. h;
@@ -28,11 +30,11 @@ said_by_turn t last = record {
   ends_final = λ m is e h. h;
 }
 
-reply_said : (t : TestValue) (last : Option DriverState) (m : Machine) (line : List ℕ) → AllByRecursion IsSaid (reply t last m line).said
-reply_said t last m line =
-    elim (is_test_over m) as (λ b. AllByRecursion IsSaid (if b then listen m else turn t last (take_in t (line_said line) (listen m))).said) [
+reply_said : (t : TestValue) (m : Machine) (line : List ℕ) → AllByRecursion IsSaid (reply t m line).said
+reply_said t m line =
+    elim (is_test_over m) as (λ b. AllByRecursion IsSaid (if b then listen m else turn t (take_in t (line_said line) (listen m))).said) [
       | true ↦ tt
-      | false ↦ kept_turn t last SaysSaid (said_by_turn t last) (take_in t (line_said line) (listen m)) (none_said (sym (hears t (listen m) (line_said line) refl).1))
+      | false ↦ kept_turn t SaysSaid (said_by_turn t) (take_in t (line_said line) (listen m)) (none_said (sym (hears t (listen m) (line_said line) refl).1))
     ]
   where
     none_said : {l : List Recorded} → [] ≡ l → AllByRecursion IsSaid l
@@ -49,14 +51,14 @@ all_heard t m (Reply op time) = go op.process
     answer None = tt
     answer (Some w) = elim (answers_step w op) as (λ b. AllByRecursion IsHeard (if b then Answered (clock_at time m.clock) w.entry w.code (kept_pairs op) ∷ [] else [])) [ true ↦ (tt, tt) | false ↦ tt ]
 
-    completion : (process : ℕ) (c : Option OpenCall) → AllByRecursion IsHeard (ended_by t m process c op (clock_at time m.clock))
+    completion : (process : ℕ) (c : Option Asked) → AllByRecursion IsHeard (ended_by t m process c op (clock_at time m.clock))
     completion process None = tt
-    completion process (Some c) = elim (is_end_of_call t m process c op) as (λ b. AllByRecursion IsHeard (if b then Ended (clock_at time m.clock) process op.kind c.asked.function op.value (kept_pairs op) ∷ [] else [])) [ true ↦ (tt, tt) | false ↦ tt ]
+    completion process (Some c) = elim (is_end_of_call t m process c op) as (λ b. AllByRecursion IsHeard (if b then Ended (clock_at time m.clock) process op.kind c.request op.value (kept_pairs op) ∷ [] else [])) [ true ↦ (tt, tt) | false ↦ tt ]
 
     go : (p : Process) → AllByRecursion IsHeard (heard_from t m op (clock_at time m.clock) p)
     go Process.Nemesis = answer m.step
     go (Process.Client process) = completion process (caller_of m (thread_of_process t process)).call
 
 pub kinds_apart : (t : TestValue) (d : Drivers t) (lines : List (List ℕ)) (line : List ℕ)
-    → AllByRecursion IsSaid (reply t d.last (run t d lines) line).said × AllByRecursion IsHeard (heard t (run t d lines) (line_said line))
-kinds_apart t d lines line = (reply_said t d.last (run t d lines) line, all_heard t (run t d lines) (line_said line))
+    → AllByRecursion IsSaid (reply t (run t d lines) line).said × AllByRecursion IsHeard (heard t (run t d lines) (line_said line))
+kinds_apart t d lines line = (reply_said t (run t d lines) line, all_heard t (run t d lines) (line_said line))

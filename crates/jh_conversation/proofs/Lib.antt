@@ -8,3 +8,8 @@ pub mod CallLemmas
 pub mod FirstBadLemmas
 pub mod SettledLemmas
 pub mod KindLemmas
+pub mod SoundLemmas
+pub mod CodeLemmas
+pub mod LineLemmas
+pub mod ToldLemmas
+pub mod TextLemmas

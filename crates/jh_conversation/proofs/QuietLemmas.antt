@@ -1,12 +1,12 @@
 -- From *rest* on no fault is active.
 use Rattle.std.proofs.Common.{◌≡◌, ℕ, true, List, sym, subst}
-use Rattle.std.specs.Prelude.{Option, None, Some}
+use Rattle.std.specs.Prelude.{None, Some}
 use Rattle.jh_edn.specs.Edn.{is_empty}
-use Rattle.jh_gen.specs.DriverState.{DriverState}
 use Rattle.jh_conversation.specs.Laws.{Drivers, IsPastHeal, run}
 use Rattle.jh_conversation.specs.Machine.{Machine}
 use Rattle.jh_conversation.specs.Test.{TestValue}
-use Rattle.jh_conversation.specs.Turn.{Due, due_in_phase}
+use Rattle.jh_conversation.specs.Turn.{due_in_phase}
+use Rattle.jh_conversation.specs.declared.turns.Due.{Due}
 use Rattle.jh_conversation.specs.declared.parts.Phase.{Phase}
 use Rattle.jh_conversation.specs.declared.parts.Phase.TheVariants.{Main, Heal, Rest, Final, Over}
 use Rattle.jh_conversation.proofs.KeptLemmas.{IsKeptByLine, IsKeptInTurn, by_answers, kept_run}
@@ -27,8 +27,8 @@ none_due t m due Over past is = none-some due is
 past : (phase next : Phase) → next ≡ phase → IsPastHeal phase → IsPastHeal next
 past phase next is h = subst IsPastHeal (sym is) h
 
-quiet_in_turn : (t : TestValue) (last : Option DriverState) → IsKeptInTurn t last IsQuietNow
-quiet_in_turn t last = record {
+quiet_in_turn : (t : TestValue) → IsKeptInTurn t IsQuietNow
+quiet_in_turn t = record {
   calls = by_answers _ _ (record { asks = λ m d w h. h; spends = λ m h. h; invokes = λ m thread request within idle may h. h });
   begins = λ m due w d h p. absurd (none_due t m due m.phase p d);
   heals = λ m is e h p. absurd p;
@@ -49,4 +49,4 @@ quiet_by_line t = record {
 }
 
 pub rest_is_quiet : (t : TestValue) (d : Drivers t) (lines : List (List ℕ)) → IsPastHeal (run t d lines).phase → is_empty (run t d lines).nemesis.active ≡ true
-rest_is_quiet t d lines = kept_run t d IsQuietNow (quiet_in_turn t d.last) (quiet_by_line t) lines (λ p. absurd p)
+rest_is_quiet t d lines = kept_run t d IsQuietNow (quiet_in_turn t) (quiet_by_line t) lines (λ p. absurd p)

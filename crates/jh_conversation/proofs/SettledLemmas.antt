@@ -5,13 +5,18 @@ use Rattle.std.specs.Prelude.{Option, None, Some, if◌then◌else◌}
 use Rattle.std.proofs.lemmas.Bool.{and_from, not_from_false, false≢true, true≢false, eqb-true, eqb-false, leb-false, cases_Bool}
 use Rattle.jh_edn.specs.Edn.{is_empty}
 use Rattle.jh_gen.specs.DriverState.{DriverState}
+use Rattle.jh_lines.specs.Replies.{after_lines}
 use Rattle.jh_nemesis.specs.State.{first_state}
 use Rattle.jh_conversation.specs.Laws.{Drivers, Waits, run, start}
 use Rattle.jh_conversation.specs.Laws.Waits.{IsOver, ForCall, ForStep, ForRate, ForRecovery, ForGenerator}
-use Rattle.jh_conversation.specs.Lines.{machine_after_lines, at_first, is_test_over, line_said, listen, reply, take_in}
-use Rattle.jh_conversation.specs.Machine.{Machine, OpenCall, OpenStep, Caller, are_free, has_no_call, no_caller, caller_of}
+use Rattle.jh_conversation.specs.Lines.{at_first, is_test_over, line_said, listen, reply, take_in}
+use Rattle.jh_conversation.specs.Machine.{Machine, are_free, has_no_call, no_caller, caller_of}
 use Rattle.jh_conversation.specs.Test.{TestValue}
-use Rattle.jh_conversation.specs.Turn.{Due, after_rest, begin_due, call_made, calls, due_in_phase, end, final, go_on, has_come, has_healed, has_recovered, keeps_rate, may_call, may_call_in, move, move_from, no_more_calls_in, passes, round, rounds, step, turn, when, work}
+use Rattle.jh_conversation.specs.Turn.{after_rest, begin_due, call_made, calls, due_in_phase, end, final, go_on, has_come, has_healed, has_recovered, keeps_rate, may_call, may_call_in, move, move_from, no_more_calls_in, passes, round, rounds, step, turn, when, work}
+use Rattle.jh_conversation.specs.declared.turns.Due.{Due}
+use Rattle.jh_conversation.specs.declared.calls.Asked.{Asked}
+use Rattle.jh_conversation.specs.declared.calls.Caller.{Caller}
+use Rattle.jh_conversation.specs.declared.calls.OpenStep.{OpenStep}
 use Rattle.jh_conversation.specs.declared.parts.Phase.{Phase}
 use Rattle.jh_conversation.specs.declared.parts.Phase.TheVariants.{Main, Heal, Rest, Final, Over}
 use Rattle.jh_conversation.proofs.CallLemmas.{over_is}
@@ -28,7 +33,7 @@ few_free : (callers : List Caller) → free_callers callers ≤ length callers
 few_free [] = omega arith
 few_free (x ∷ callers) = let h = few_free callers in elim (has_no_call x.call) as (λ b. (if b then suc (free_callers callers) else free_callers callers) ≤ suc (length callers)) [ true ↦ omega arith | false ↦ omega arith ]
 
-caller_taken : (callers : List Caller) (t : ℕ) (call : OpenCall) (life : ℕ) → t < length callers → (get_or callers t no_caller).call ≡ None
+caller_taken : (callers : List Caller) (t : ℕ) (call : Asked) (life : ℕ) → t < length callers → (get_or callers t no_caller).call ≡ None
     → suc (free_callers (set callers t (record { crashes = life; call = Some call }))) ≡ free_callers callers
 caller_taken [] t call life h e = absurd (omega arith)
 caller_taken (x ∷ callers) zero call life h e = sym (ap (λ c. if has_no_call c then suc (free_callers callers) else free_callers callers) e)
@@ -102,12 +107,12 @@ lower_rest s m next (Some g) e =
       | false ↦ λ f. let k : 1 ≡ rank next.phase = ap (λ x. rank x.phase) (when_is _ _ next f) in omega arith
     ]) e
 
-lower_from : (s : TestValue) (last : Option DriverState) (m next : Machine) (phase : Phase) → move_from phase s last m ≡ Some next → rank next.phase < rank phase
-lower_from s last m next Main e = let k : 3 ≡ rank next.phase = ap (λ x. rank x.phase) (when_is _ _ next e) in omega arith
-lower_from s last m next Heal e = let k : 2 ≡ rank next.phase = ap (λ x. rank x.phase) (when_is _ _ next e) in omega arith
-lower_from s last m next Rest e = lower_rest s m next last e
-lower_from s last m next Final e = let k : 0 ≡ rank next.phase = ap (λ x. rank x.phase) (when_is _ _ next e) in omega arith
-lower_from s last m next Over e = absurd (cc e)
+lower_from : (s : TestValue) (m next : Machine) (phase : Phase) → move_from phase s m ≡ Some next → rank next.phase < rank phase
+lower_from s m next Main e = let k : 3 ≡ rank next.phase = ap (λ x. rank x.phase) (when_is _ _ next e) in omega arith
+lower_from s m next Heal e = let k : 2 ≡ rank next.phase = ap (λ x. rank x.phase) (when_is _ _ next e) in omega arith
+lower_from s m next Rest e = lower_rest s m next m.last e
+lower_from s m next Final e = let k : 0 ≡ rank next.phase = ap (λ x. rank x.phase) (when_is _ _ next e) in omega arith
+lower_from s m next Over e = absurd (cc e)
 
 abbrev IsIn : Phase → Machine → Type 0
 IsIn phase m = m.phase ≡ phase
@@ -147,38 +152,38 @@ step_heals s m = go m.step (due_in_phase m.phase s m) refl refl
     go (Some w) None e f is none = absurd (cc (e, none))
     go (Some w) (Some due) e f is none = absurd (cc (e, none))
 
-pub record Settled (s : TestValue) (next : Option DriverState) (m : Machine) : Type 0 where
+pub record Settled (s : TestValue) (m : Machine) : Type 0 where
   pub last : Machine
   pub is : m ≡ round s last
   pub same : (round s last).given ≡ last.given
-  pub stays : move s next (round s last) ≡ None
+  pub stays : move s (round s last) ≡ None
   pub heals : IsHealing s m
 
-passes_settle : (s : TestValue) (last : Option DriverState) (n : ℕ) (m : Machine) → Holds s m → rank m.phase < n → Settled s last (passes s last n m)
-passes_settle s last zero m h few = absurd (omega arith)
-passes_settle s last (suc n) m h few = go (λ next less kept. passes_settle s last n next kept less) (move s last (work s m)) refl (kept_move s last (Holds s) (holds_in_turn s last) (work s m) (kept_work s last (Holds s) (holds_in_turn s last) m h))
+passes_settle : (s : TestValue) (n : ℕ) (m : Machine) → Holds s m → rank m.phase < n → Settled s (passes s n m)
+passes_settle s zero m h few = absurd (omega arith)
+passes_settle s (suc n) m h few = go (λ next less kept. passes_settle s n next kept less) (move s (work s m)) refl (kept_move s (Holds s) (holds_in_turn s) (work s m) (kept_work s (Holds s) (holds_in_turn s) m h))
   where
-    go : ((next : Machine) → rank next.phase < n → Holds s next → Settled s last (passes s last n next)) → (next : Option Machine) → move s last (work s m) ≡ next
-        → IfMoved (Holds s) next → Settled s last (go_on (passes s last n) (work s m) next)
+    go : ((next : Machine) → rank next.phase < n → Holds s next → Settled s (passes s n next)) → (next : Option Machine) → move s (work s m) ≡ next
+        → IfMoved (Holds s) next → Settled s (go_on (passes s n) (work s m) next)
     go more None e kept =
-        let settled = calls_settle s (step s m) (kept_step s last (Holds s) (holds_in_turn s last) m h).0.wide in
-        record { last = settled.0; is = settled.1; same = settled.2; stays = ap (move s last) (sym settled.1) ∙ e; heals = kept_calls s (IsHealing s) (healing_by_calls s) (step s m) (step_heals s m) }
+        let settled = calls_settle s (step s m) (kept_step s (Holds s) (holds_in_turn s) m h).0.wide in
+        record { last = settled.0; is = settled.1; same = settled.2; stays = ap (move s) (sym settled.1) ∙ e; heals = kept_calls s (IsHealing s) (healing_by_calls s) (step s m) (step_heals s m) }
     go more (Some next) e kept =
-        let less = lower_from s last (work s m) next (work s m).phase e in
+        let less = lower_from s (work s m) next (work s m).phase e in
         let same = ap rank (work_stays s m) in
         more next (omega (arith, less, same)) kept
 
-pub turn_settles : (s : TestValue) (last : Option DriverState) (m : Machine) → Holds s m → Settled s last (turn s last m)
+pub turn_settles : (s : TestValue) (m : Machine) → Holds s m → Settled s (turn s m)
 unfolding turn
-turn_settles s last m h = passes_settle s last 5 m h (rank_few m.phase)
+turn_settles s m h = passes_settle s 5 m h (rank_few m.phase)
 
 pub turn_law : (t : TestValue) (d : Drivers t) (lines : List (List ℕ)) (line : List ℕ) → is_test_over (run t d lines) ≡ false
-    → (last : Machine) × (reply t d.last (run t d lines) line ≡ round t last)
-    × ((round t last).given ≡ last.given) × (move t d.last (round t last) ≡ None)
+    → (last : Machine) × (reply t (run t d lines) line ≡ round t last)
+    × ((round t last).given ≡ last.given) × (move t (round t last) ≡ None)
 turn_law t d lines line goes =
-    let h = turn_settles t d.last (take_in t (line_said line) (listen (run t d lines))) (kept_take_in t (Holds t) (holds_by_line t) (listen (run t d lines)) (line_said line)
-    (kept_run t d (Holds t) (holds_in_turn t d.last) (holds_by_line t) lines (holds_at_first t d))) in
-    (h.last, ap (λ b. if b then listen (run t d lines) else turn t d.last (take_in t (line_said line) (listen (run t d lines)))) goes ∙ h.is, h.same, h.stays)
+    let h = turn_settles t (take_in t (line_said line) (listen (run t d lines))) (kept_take_in t (Holds t) (holds_by_line t) (listen (run t d lines)) (line_said line)
+    (kept_run t d (Holds t) (holds_in_turn t) (holds_by_line t) lines (holds_at_first t d))) in
+    (h.last, ap (λ b. if b then listen (run t d lines) else turn t (take_in t (line_said line) (listen (run t d lines)))) goes ∙ h.is, h.same, h.stays)
 
 -- what it waits for
 
@@ -202,11 +207,11 @@ waits_rest t m (Some d) is e =
       | false ↦ λ f. ForRecovery is (leb-false _ _ (when_not _ _ f))
     ]) e
 
-waits_settled : (t : TestValue) (last : Option DriverState) (m : Machine) → Settled t last m → Waits t m
-waits_settled t last m h = go m.phase refl
+waits_settled : (t : TestValue) (m : Machine) → Settled t m → Waits t m
+waits_settled t m h = go m.phase refl
   where
-    stays : (phase : Phase) → m.phase ≡ phase → move_from phase t last m ≡ None
-    stays phase is = ap (λ p. move_from p t last m) (sym is) ∙ ap (move t last) h.is ∙ h.stays
+    stays : (phase : Phase) → m.phase ≡ phase → move_from phase t m ≡ None
+    stays phase is = ap (λ p. move_from p t m) (sym is) ∙ ap (move t) h.is ∙ h.stays
 
     asked : are_free m.callers ≡ true → may_call t m ≡ true → Waits t m
     asked free may = ForGenerator h.last h.is (ap (λ c. c.given) h.is ∙ h.same) free may
@@ -234,23 +239,23 @@ waits_settled t last m h = go m.phase refl
     go : (phase : Phase) → m.phase ≡ phase → Waits t m
     go Main is = in_main is (ended Main is (when_not _ _ (stays Main is)))
     go Heal is = in_heal is m.step refl (when_not _ _ (stays Heal is))
-    go Rest is = waits_rest t m last is (stays Rest is)
+    go Rest is = waits_rest t m m.last is (stays Rest is)
     go Final is = in_final is (ended Final is (when_not _ _ (stays Final is)))
     go Over is = IsOver is
 
-waits_reply : (t : TestValue) (last : Option DriverState) (m : Machine) (line : List ℕ) → Holds t m → Waits t (reply t last m line)
-waits_reply t last m line h =
-    (elim (is_test_over m) as (λ b. is_test_over m ≡ b → Waits t (if b then listen m else turn t last (take_in t (line_said line) (listen m)))) [
+waits_reply : (t : TestValue) (m : Machine) (line : List ℕ) → Holds t m → Waits t (reply t m line)
+waits_reply t m line h =
+    (elim (is_test_over m) as (λ b. is_test_over m ≡ b → Waits t (if b then listen m else turn t (take_in t (line_said line) (listen m)))) [
       | true ↦ λ e. IsOver (over_is m.phase e)
-      | false ↦ λ _. waits_settled t last (turn t last (take_in t (line_said line) (listen m))) (turn_settles t last (take_in t (line_said line) (listen m)) (kept_take_in t (Holds t) (holds_by_line t) (listen m) (line_said line) h))
+      | false ↦ λ _. waits_settled t (turn t (take_in t (line_said line) (listen m))) (turn_settles t (take_in t (line_said line) (listen m)) (kept_take_in t (Holds t) (holds_by_line t) (listen m) (line_said line) h))
     ]) refl
 
-waits_lines : (t : TestValue) (last : Option DriverState) (lines : List (List ℕ)) (m : Machine) → Holds t m → Waits t m → Waits t (machine_after_lines t last m lines)
-waits_lines t last [] m h w = w
-waits_lines t last (line ∷ lines) m h w =
-    waits_lines t last lines (reply t last m line) (kept_reply t last (Holds t) (holds_in_turn t last) (holds_by_line t) m line h) (waits_reply t last m line h)
+waits_lines : (t : TestValue) (lines : List (List ℕ)) (m : Machine) → Holds t m → Waits t m → Waits t (after_lines (reply t) m lines)
+waits_lines t [] m h w = w
+waits_lines t (line ∷ lines) m h w =
+    waits_lines t lines (reply t m line) (kept_reply t (Holds t) (holds_in_turn t) (holds_by_line t) m line h) (waits_reply t m line h)
 
 pub always_waits : (t : TestValue) (d : Drivers t) (lines : List (List ℕ)) → Waits t (run t d lines)
 always_waits t d lines =
-    waits_lines t d.last lines (start t d) (kept_turn t d.last (Holds t) (holds_in_turn t d.last) (at_first t d.first (first_state t.start)) (holds_at_first t d))
-    (waits_settled t d.last (start t d) (turn_settles t d.last (at_first t d.first (first_state t.start)) (holds_at_first t d)))
+    waits_lines t lines (start t d) (kept_turn t (Holds t) (holds_in_turn t) (at_first t d.first d.last (first_state t.start)) (holds_at_first t d))
+    (waits_settled t (start t d) (turn_settles t (at_first t d.first d.last (first_state t.start)) (holds_at_first t d)))

@@ -1,23 +1,27 @@
 -- The history is what was said and what was heard.
-use Rattle.std.proofs.Common.{◌≡◌, ℕ, ◌==◌, Bool, true, false, ◌&&◌, ◌||◌, not, List, [], ◌∷◌, ◌++◌, refl, sym, ap, ◌∙◌, max}
+use Rattle.std.proofs.Common.{◌≡◌, ℕ, ◌==◌, Bool, true, false, ◌&&◌, ◌||◌, not, List, [], ◌∷◌, ◌++◌, refl, sym, ap, ◌∙◌}
 use Rattle.std.specs.Prelude.{Option, None, Some, if◌then◌else◌}
 use Rattle.std.proofs.lemmas.Bool.{eqb-true}
 use Rattle.std.proofs.lemmas.List.{append_assoc}
 use Rattle.jh_edn.specs.Edn.{is_keyword}
-use Rattle.jh_gen.specs.DriverState.{DriverState}
+use Rattle.jh_lines.specs.Replies.{after_lines}
 use Rattle.jh_nemesis.specs.State.{faults_in, first_state}
 use Rattle.jh_nemesis.specs.Steps.{state_after}
 use Rattle.jh_ops.specs.Operation.{Operation}
 use Rattle.jh_ops.specs.declared.operation.Process.{Process}
+use Rattle.jh_simnode.specs.Histories.{request_name}
 use Rattle.jh_conversation.specs.Laws.{Drivers, answered_by, clock_at, ended_by, heard, heard_from, run, start, talk, talk_at, talk_from}
 use Rattle.jh_ops.specs.Pairing.{is_invoke}
 use Rattle.jh_conversation.specs.Lines.{LineSaid, Nothing, Clock, Stop, Reply, Bad}
-use Rattle.jh_conversation.specs.Lines.{machine_after_lines, answer_step, answers_step, at_first, at_time, finish, is_test_over, kept_pairs, line_said, listen, refuse, reply, fits_call, take_answer, take_completion, take_end, take_in, take_reply, thread_of_process}
-use Rattle.jh_conversation.specs.Machine.{Machine, OpenCall, OpenStep, caller_process, caller_of}
-use Rattle.jh_conversation.specs.Records.{Recorded, Invoked, Ended, Begun, Answered}
+use Rattle.jh_conversation.specs.Lines.{answer_step, answers_step, at_first, at_time, clock_after, finish, is_test_over, kept_pairs, line_said, listen, refuse, reply, fits_call, take_answer, take_completion, take_end, take_in, take_reply, thread_of_process}
+use Rattle.jh_conversation.specs.Machine.{Machine, caller_process, caller_of}
 use Rattle.jh_conversation.specs.Test.{TestValue}
-use Rattle.jh_conversation.specs.Told.{told_links, told_nodes}
+use Rattle.jh_conversation.specs.Told.{cells_told}
 use Rattle.jh_conversation.specs.Turn.{call_made, node_of_thread, turn}
+use Rattle.jh_conversation.specs.declared.calls.Asked.{Asked}
+use Rattle.jh_conversation.specs.declared.calls.OpenStep.{OpenStep}
+use Rattle.jh_conversation.specs.declared.records.Recorded.TheVariants.{Invoked, Ended, Begun, Answered}
+use Rattle.jh_conversation.specs.declared.records.Recorded.{Recorded}
 use Rattle.jh_conversation.specs.declared.parts.Complaint.TheVariants as complaint
 use Rattle.jh_conversation.proofs.KeptLemmas.{IsKeptInTurn, by_answers, kept_turn}
 
@@ -25,18 +29,16 @@ use Rattle.jh_conversation.proofs.KeptLemmas.{IsKeptInTurn, by_answers, kept_tur
 abbrev HasSaid : List Recorded → Machine → Type 0
 HasSaid before m = m.history ≡ m.said ++ before
 
-said_in_turn : (t : TestValue) (last : Option DriverState) (before : List Recorded) → IsKeptInTurn t last (HasSaid before)
-said_in_turn t last before = record {
+said_in_turn : (t : TestValue) (before : List Recorded) → IsKeptInTurn t (HasSaid before)
+said_in_turn t before = record {
   calls = by_answers _ _ (record {
     asks = λ m d w h. h;
     spends = λ m h. h;
-    invokes = λ m thread request within idle may h. ap (λ l. Invoked m.clock (caller_process t m thread) (node_of_thread t thread) (call_made t m thread request).asked ∷ l) h;
+    invokes = λ m thread request within idle may h. ap (λ l. Invoked m.clock (caller_process t m thread) (node_of_thread t thread) (call_made t m thread request) ∷ l) h;
   });
   begins = λ m due w d h.
       let after = state_after m.nemesis due.step in
-      ap (λ l. Begun m.clock due.entry due.step
-      (told_links m.nemesis.start (faults_in m.nemesis.active) (faults_in after.active))
-      (told_nodes m.nemesis.start (faults_in m.nemesis.active) (faults_in after.active)) ∷ l) h;
+      ap (λ l. Begun m.clock due.entry due.step (cells_told m.nemesis.start (faults_in m.nemesis.active) (faults_in after.active)) ∷ l) h;
   heals = λ m is e h. h;
   rests = λ m is w q h. h;
   ends_rest = λ m is h. h;
@@ -62,30 +64,30 @@ heard_answer m op time none (Some w) =
     answered None = (refl, none)
     answered (Some time) = (refl, none)
 
-heard_finish : (t : TestValue) (m : Machine) (process : ℕ) (op : Operation) (time : Option ℕ) (c : OpenCall) → m.said ≡ [] → caller_process t m (thread_of_process t process) ≡ process
-    → Hears m (Ended (clock_at time m.clock) process op.kind c.asked.function op.value (kept_pairs op) ∷ []) (finish t (thread_of_process t process) c op (at_time time m))
-heard_finish t m process op None c none e = (ap (λ p. Ended m.clock p op.kind c.asked.function op.value (kept_pairs op) ∷ m.history) e, none)
-heard_finish t m process op (Some time) c none e = (ap (λ p. Ended (max m.clock time) p op.kind c.asked.function op.value (kept_pairs op) ∷ m.history) e, none)
+heard_finish : (t : TestValue) (m : Machine) (process : ℕ) (op : Operation) (time : Option ℕ) (c : Asked) → m.said ≡ [] → caller_process t m (thread_of_process t process) ≡ process
+    → Hears m (Ended (clock_at time m.clock) process op.kind c.request op.value (kept_pairs op) ∷ []) (finish t (thread_of_process t process) c.request op (at_time time m))
+heard_finish t m process op None c none e = (ap (λ p. Ended m.clock p op.kind c.request op.value (kept_pairs op) ∷ m.history) e, none)
+heard_finish t m process op (Some time) c none e = (ap (λ p. Ended (clock_after m.clock time) p op.kind c.request op.value (kept_pairs op) ∷ m.history) e, none)
 
-heard_end : (t : TestValue) (m : Machine) (process : ℕ) (op : Operation) (time : Option ℕ) (c : OpenCall) → m.said ≡ [] → caller_process t m (thread_of_process t process) ≡ process
-    → Hears m (if not (is_invoke op.kind) && (is_keyword c.asked.function op.f && fits_call t c op.kind op.value) then Ended (clock_at time m.clock) process op.kind c.asked.function op.value (kept_pairs op) ∷ [] else [])
+heard_end : (t : TestValue) (m : Machine) (process : ℕ) (op : Operation) (time : Option ℕ) (c : Asked) → m.said ≡ [] → caller_process t m (thread_of_process t process) ≡ process
+    → Hears m (if not (is_invoke op.kind) && (is_keyword (request_name c.request) op.f && fits_call t c op.kind op.value) then Ended (clock_at time m.clock) process op.kind c.request op.value (kept_pairs op) ∷ [] else [])
     (take_end t (thread_of_process t process) c op time m)
-heard_end t m process op time c none e = by_three (is_invoke op.kind) (is_keyword c.asked.function op.f) (fits_call t c op.kind op.value)
+heard_end t m process op time c none e = by_three (is_invoke op.kind) (is_keyword (request_name c.request) op.f) (fits_call t c op.kind op.value)
   where
     by_three : (invokes named suited : Bool)
-        → Hears m (if not invokes && (named && suited) then Ended (clock_at time m.clock) process op.kind c.asked.function op.value (kept_pairs op) ∷ [] else [])
-        (if invokes || not named then refuse complaint.OtherCall m else if not suited then refuse complaint.BadValue m else finish t (thread_of_process t process) c op (at_time time m))
+        → Hears m (if not invokes && (named && suited) then Ended (clock_at time m.clock) process op.kind c.request op.value (kept_pairs op) ∷ [] else [])
+        (if invokes || not named then refuse complaint.OtherCall m else if not suited then refuse complaint.BadValue m else finish t (thread_of_process t process) c.request op (at_time time m))
     by_three true named suited = (refl, none)
     by_three false false suited = (refl, none)
     by_three false true false = (refl, none)
     by_three false true true = heard_finish t m process op time c none e
 
-heard_completion : (t : TestValue) (m : Machine) (process : ℕ) (op : Operation) (time : Option ℕ) → m.said ≡ [] → (c : Option OpenCall)
+heard_completion : (t : TestValue) (m : Machine) (process : ℕ) (op : Operation) (time : Option ℕ) → m.said ≡ [] → (c : Option Asked)
     → Hears m (ended_by t m process c op (clock_at time m.clock)) (take_completion t process op time m c)
 heard_completion t m process op time none None = (refl, none)
 heard_completion t m process op time none (Some c) =
     (elim (caller_process t m (thread_of_process t process) == process) as (λ b. (caller_process t m (thread_of_process t process) == process) ≡ b
-    → Hears m (if b && (not (is_invoke op.kind) && (is_keyword c.asked.function op.f && fits_call t c op.kind op.value)) then Ended (clock_at time m.clock) process op.kind c.asked.function op.value (kept_pairs op) ∷ [] else [])
+    → Hears m (if b && (not (is_invoke op.kind) && (is_keyword (request_name c.request) op.f && fits_call t c op.kind op.value)) then Ended (clock_at time m.clock) process op.kind c.request op.value (kept_pairs op) ∷ [] else [])
     (if b then take_end t (thread_of_process t process) c op time m else refuse complaint.NoCallOpen m)) [
       | true ↦ λ e. heard_end t m process op time c none (eqb-true _ _ e)
       | false ↦ λ _. (refl, none)
@@ -105,29 +107,29 @@ hears t m (Reply op time) none = go op.process
     go Process.Nemesis = heard_answer m op time none m.step
     go (Process.Client process) = heard_completion t m process op time none (caller_of m (thread_of_process t process)).call
 
-talked : (t : TestValue) (d : Drivers t) (m : Machine) (line : List ℕ) → (reply t d.last m line).history ≡ talk_at t d m line ++ m.history
+talked : (t : TestValue) (d : Drivers t) (m : Machine) (line : List ℕ) → (reply t m line).history ≡ talk_at t m line ++ m.history
 talked t d m line =
-    elim (is_test_over m) as (λ b. (if b then listen m else turn t d.last (take_in t (line_said line) (listen m))).history
-    ≡ ((if b then listen m else turn t d.last (take_in t (line_said line) (listen m))).said ++ (if b then [] else heard t m (line_said line))) ++ m.history) [
+    elim (is_test_over m) as (λ b. (if b then listen m else turn t (take_in t (line_said line) (listen m))).history
+    ≡ ((if b then listen m else turn t (take_in t (line_said line) (listen m))).said ++ (if b then [] else heard t m (line_said line))) ++ m.history) [
       | true ↦ refl
       | false ↦
           let took = hears t (listen m) (line_said line) refl in
           let next = take_in t (line_said line) (listen m) in
-          kept_turn t d.last (HasSaid next.history) (said_in_turn t d.last next.history) next (ap (λ l. l ++ next.history) (sym took.1))
-          ∙ ap (λ l. (turn t d.last next).said ++ l) took.0
-          ∙ sym (append_assoc (turn t d.last next).said (heard t m (line_said line)) m.history)
+          kept_turn t (HasSaid next.history) (said_in_turn t next.history) next (ap (λ l. l ++ next.history) (sym took.1))
+          ∙ ap (λ l. (turn t next).said ++ l) took.0
+          ∙ sym (append_assoc (turn t next).said (heard t m (line_said line)) m.history)
     ]
 
-talked_all : (t : TestValue) (d : Drivers t) (lines : List (List ℕ)) (m : Machine) → (machine_after_lines t d.last m lines).history ≡ talk_from t d m lines ++ m.history
+talked_all : (t : TestValue) (d : Drivers t) (lines : List (List ℕ)) (m : Machine) → (after_lines (reply t) m lines).history ≡ talk_from t m lines ++ m.history
 talked_all t d [] m = refl
 talked_all t d (line ∷ lines) m =
-    talked_all t d lines (reply t d.last m line) ∙ ap (λ l. talk_from t d (reply t d.last m line) lines ++ l) (talked t d m line)
-    ∙ sym (append_assoc (talk_from t d (reply t d.last m line) lines) (talk_at t d m line) m.history)
+    talked_all t d lines (reply t m line) ∙ ap (λ l. talk_from t (reply t m line) lines ++ l) (talked t d m line)
+    ∙ sym (append_assoc (talk_from t (reply t m line) lines) (talk_at t m line) m.history)
 
 pub history_is_talk : (t : TestValue) (d : Drivers t) (lines : List (List ℕ)) → (run t d lines).history ≡ talk t d lines
 history_is_talk t d lines =
     talked_all t d lines (start t d)
-    ∙ ap (λ l. talk_from t d (start t d) lines ++ l) (kept_turn t d.last (HasSaid []) (said_in_turn t d.last []) (at_first t d.first (first_state t.start)) refl ∙ nothing (start t d).said)
+    ∙ ap (λ l. talk_from t (start t d) lines ++ l) (kept_turn t (HasSaid []) (said_in_turn t []) (at_first t d.first d.last (first_state t.start)) refl ∙ nothing (start t d).said)
   where
     nothing : (l : List Recorded) → l ++ [] ≡ l
     nothing [] = refl

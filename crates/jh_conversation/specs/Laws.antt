@@ -1,58 +1,76 @@
 -- What holds of every test and every list of lines that is read. Each law is proved as the clause of a
 -- function that does nothing. This project's own.
 use Rattle.std.specs.Prelude.{◌≡◌, ℕ, suc, ◌+◌, ◌==◌, ◌<◌, ◌≤◌, Bool, true, false, not, ◌&&◌, ◌||◌}
-use Rattle.std.specs.Prelude.{◌*◌, ◌^◌, List, [], ◌∷◌, ◌++◌, Option, Some, None, max, if◌then◌else◌}
+use Rattle.std.specs.Prelude.{◌*◌, ◌^◌, List, [], ◌∷◌, ◌++◌, Option, Some, None, if◌then◌else◌}
 use Rattle.std.specs.List.{AllByRecursion}
 use Rattle.jh_edn.specs.Edn.{is_empty, is_keyword}
 use Rattle.jh_env.specs.Cells.{Link, NodeCell, link_at, node_at}
 use Rattle.jh_env.specs.Overlay.{link_over, node_over}
 use Rattle.jh_gen.specs.DriverState.{DriverState, IsDriverOf, IsFresh}
-use Rattle.jh_gen.specs.Generator.{clients, limit}
+use Rattle.jh_gen.specs.Generator.{Generator, clients, limit}
+use Rattle.jh_lines.specs.Replies.{after_lines}
 use Rattle.jh_nemesis.specs.State.{faults_in, first_state}
 use Rattle.jh_ops.specs.Operation.{Operation}
+use Rattle.jh_ops.specs.declared.call.Request.{Request}
 use Rattle.jh_ops.specs.declared.operation.Kind.{Kind}
 use Rattle.jh_ops.specs.declared.operation.Process.{Process}
 use Rattle.jh_ops.specs.Pairing.{is_invoke}
+use Rattle.jh_simnode.specs.Histories.{request_name}
 use Rattle.jh_conversation.specs.Lines.{LineSaid, Reply, Bad}
-use Rattle.jh_conversation.specs.Lines.{machine_after_lines, answers_step, at_first, is_test_over}
+use Rattle.jh_conversation.specs.Lines.{answers_step, at_first, clock_after, is_test_over}
 use Rattle.jh_conversation.specs.Lines.{kept_pairs, line_said, listen, reply, fits_call, take_in}
 use Rattle.jh_conversation.specs.Lines.{thread_of_process}
-use Rattle.jh_conversation.specs.Machine.{Machine, OpenCall, OpenStep, are_free, caller_process, caller_of}
-use Rattle.jh_conversation.specs.Records.{Recorded, Invoked, Ended, Begun, Answered, LinkTold, NodeTold}
+use Rattle.jh_conversation.specs.Machine.{Machine, are_free, caller_process, caller_of}
 use Rattle.jh_conversation.specs.Test.{TestValue}
 use Rattle.jh_conversation.specs.Turn.{keeps_rate, may_call, millisecond, move, round, turn}
+use Rattle.jh_conversation.specs.declared.calls.Asked.{Asked}
+use Rattle.jh_conversation.specs.declared.calls.OpenStep.{OpenStep}
 use Rattle.jh_conversation.specs.declared.parts.Complaint.{Complaint}
 use Rattle.jh_conversation.specs.declared.parts.Complaint.TheVariants as complaint
 use Rattle.jh_conversation.specs.declared.parts.Phase.{Phase}
 use Rattle.jh_conversation.specs.declared.parts.Phase.TheVariants.{Main, Heal, Rest, Over}
+use Rattle.jh_conversation.specs.declared.records.LinkTold.{LinkTold}
+use Rattle.jh_conversation.specs.declared.records.NodeTold.{NodeTold}
+use Rattle.jh_conversation.specs.declared.records.Recorded.{Recorded}
+use Rattle.jh_conversation.specs.declared.records.Recorded.TheVariants.{Invoked, Ended, Begun, Answered}
+
+-- a driver of the test before its first call, of this generator
+abbrev pub IsDriverAtFirst : TestValue → Generator → DriverState → Type 0
+IsDriverAtFirst t generator driver =
+    IsDriverOf driver (clients (limit t.ops generator)) [] × IsFresh driver t.clients
+
+abbrev pub IsLastDriver : TestValue → Option Generator → Option DriverState → Type 0
+IsLastDriver t None None = Unit {0}
+IsLastDriver t (Some generator) (Some driver) = IsDriverAtFirst t generator driver
+IsLastDriver t _ _ = ⊥
 
 -- The drivers that a test begins with: of its generator, and of its final one where there is one.
 pub record Drivers (t : TestValue) : Type 0 where
   pub first : DriverState
-  pub is_first : IsDriverOf first (clients (limit t.ops t.generator)) []
-  pub fresh : IsFresh first t.clients
+  pub is_first : IsDriverAtFirst t t.generator first
   pub last : Option DriverState
+  pub is_last : IsLastDriver t t.final last
 
 -- the machine after these lines
 abbrev pub start : (t : TestValue) → Drivers t → Machine
-start t d = turn t d.last (at_first t d.first (first_state t.start))
+start t d = turn t (at_first t d.first d.last (first_state t.start))
 
 abbrev pub run : (t : TestValue) → Drivers t → List (List ℕ) → Machine
-run t d lines = machine_after_lines t d.last (start t d) lines
+run t d lines = after_lines (reply t) (start t d) lines
 
 -- The history is the conversation.
 
 -- the clock behind a line with this time
 abbrev pub clock_at : Option ℕ → ℕ → ℕ
 clock_at None now = now
-clock_at (Some time) now = max now time
+clock_at (Some time) now = clock_after now time
 
 -- the completion of the call that its process has open
-abbrev pub is_end_of_call : TestValue → Machine → ℕ → OpenCall → Operation → Bool
+abbrev pub is_end_of_call : TestValue → Machine → ℕ → Asked → Operation → Bool
 is_end_of_call t m process call op =
     (caller_process t m (thread_of_process t process) == process)
     && (not (is_invoke op.kind)
-    && (is_keyword call.asked.function op.f && fits_call t call op.kind op.value))
+    && (is_keyword (request_name call.request) op.f && fits_call t call op.kind op.value))
 
 -- the record of an answer of the nemesis, if it is one to the step that is open
 abbrev pub answered_by : Option OpenStep → Operation → ℕ → List Recorded
@@ -61,11 +79,11 @@ answered_by (Some step) op now =
     if answers_step step op then Answered now step.entry step.code (kept_pairs op) ∷ [] else []
 
 -- the record of a completion, if it is one
-abbrev pub ended_by : TestValue → Machine → ℕ → Option OpenCall → Operation → ℕ → List Recorded
+abbrev pub ended_by : TestValue → Machine → ℕ → Option Asked → Operation → ℕ → List Recorded
 ended_by t m process None op now = []
 ended_by t m process (Some call) op now =
     if is_end_of_call t m process call op
-    then Ended now process op.kind call.asked.function op.value (kept_pairs op) ∷ [] else []
+    then Ended now process op.kind call.request op.value (kept_pairs op) ∷ [] else []
 
 abbrev pub heard_from : TestValue → Machine → Operation → ℕ → Process → List Recorded
 heard_from t m op now Process.Nemesis = answered_by m.step op now
@@ -78,16 +96,16 @@ heard t m (Reply op time) = heard_from t m op (clock_at time m.clock) op.process
 heard t m _ = []
 
 -- what is read and what is then said, the newest first; behind the end nothing is heard
-abbrev pub talk_at : (t : TestValue) → Drivers t → Machine → List ℕ → List Recorded
-talk_at t d m line =
-    (reply t d.last m line).said ++ (if is_test_over m then [] else heard t m (line_said line))
+abbrev pub talk_at : TestValue → Machine → List ℕ → List Recorded
+talk_at t m line =
+    (reply t m line).said ++ (if is_test_over m then [] else heard t m (line_said line))
 
-abbrev pub talk_from : (t : TestValue) → Drivers t → Machine → List (List ℕ) → List Recorded
-talk_from t d m [] = []
-talk_from t d m (line ∷ lines) = talk_from t d (reply t d.last m line) lines ++ talk_at t d m line
+abbrev pub talk_from : TestValue → Machine → List (List ℕ) → List Recorded
+talk_from t m [] = []
+talk_from t m (line ∷ lines) = talk_from t (reply t m line) lines ++ talk_at t m line
 
 abbrev pub talk : (t : TestValue) → Drivers t → List (List ℕ) → List Recorded
-talk t d lines = talk_from t d (start t d) lines ++ (start t d).said
+talk t d lines = talk_from t (start t d) lines ++ (start t d).said
 
 abbrev pub HistoryIsTalk : Type 0
 HistoryIsTalk =
@@ -95,26 +113,26 @@ HistoryIsTalk =
 
 -- What is said are calls and steps, what is heard completions and answers.
 abbrev pub IsSaid : Recorded → Type 0
-IsSaid (Invoked time process node asked) = Unit {0}
-IsSaid (Begun time entry step links nodes) = Unit {0}
+IsSaid (Invoked time process node call) = Unit {0}
+IsSaid (Begun time entry step cells) = Unit {0}
 IsSaid _ = ⊥
 
 abbrev pub IsHeard : Recorded → Type 0
-IsHeard (Ended time process kind function value rest) = Unit {0}
+IsHeard (Ended time process kind request value rest) = Unit {0}
 IsHeard (Answered time entry code rest) = Unit {0}
 IsHeard _ = ⊥
 
 abbrev pub KindsAreApart : Type 0
 KindsAreApart =
     (t : TestValue) (d : Drivers t) (lines : List (List ℕ)) (line : List ℕ)
-    → AllByRecursion IsSaid (reply t d.last (run t d lines) line).said
+    → AllByRecursion IsSaid (reply t (run t d lines) line).said
     × AllByRecursion IsHeard (heard t (run t d lines) (line_said line))
 
 -- its times never go back
 abbrev pub time_of : Recorded → ℕ
-time_of (Invoked time process node asked) = time
-time_of (Ended time process kind function value rest) = time
-time_of (Begun time entry step links nodes) = time
+time_of (Invoked time process node call) = time
+time_of (Ended time process kind request value rest) = time
+time_of (Begun time entry step cells) = time
 time_of (Answered time entry code rest) = time
 
 abbrev pub AreTimesInOrder : ℕ → List Recorded → Type 0
@@ -128,10 +146,10 @@ TimesAreInOrder =
 
 -- The history is well formed.
 
--- what a process does: nothing, a call of this function, or nothing any more
+-- what a process does: nothing, a call with this request, or nothing any more
 pub data Status : Type 0 where
   Idle : Status
-  Busy : List ℕ → Status
+  Busy : Request → Status
   Gone : Status
 
 abbrev pub after_end : Kind → Status
@@ -141,18 +159,18 @@ after_end _ = Idle
 -- what a process does behind a history, the newest record first
 abbrev pub status : ℕ → List Recorded → Status
 status p [] = Idle
-status p (Invoked time process node asked ∷ past) =
-    if process == p then Busy asked.function else status p past
-status p (Ended time process kind function value rest ∷ past) =
+status p (Invoked time process node call ∷ past) =
+    if process == p then Busy call.request else status p past
+status p (Ended time process kind request value rest ∷ past) =
     if process == p then after_end kind else status p past
 status p (_ ∷ past) = status p past
 
 -- A process invokes only while it does nothing, and its call ends, once, only while it is open.
 abbrev pub IsFormed : List Recorded → Type 0
 IsFormed [] = Unit {0}
-IsFormed (Invoked time process node asked ∷ past) = (status process past ≡ Idle) × IsFormed past
-IsFormed (Ended time process kind function value rest ∷ past) =
-    (is_invoke kind ≡ false) × (status process past ≡ Busy function) × IsFormed past
+IsFormed (Invoked time process node call ∷ past) = (status process past ≡ Idle) × IsFormed past
+IsFormed (Ended time process kind request value rest ∷ past) =
+    (is_invoke kind ≡ false) × (status process past ≡ Busy request) × IsFormed past
 IsFormed (_ ∷ past) = IsFormed past
 
 abbrev pub HistoryIsFormed : Type 0
@@ -173,13 +191,13 @@ node_told_after (told ∷ more) a n = node_told_after more a (if told.node == a 
 -- what it is after all steps of a history, the newest record first
 abbrev pub told_link_in : List Recorded → ℕ → ℕ → Link → Link
 told_link_in [] a b l = l
-told_link_in (Begun time entry step links nodes ∷ past) a b l =
-    link_told_after links a b (told_link_in past a b l)
+told_link_in (Begun time entry step cells ∷ past) a b l =
+    link_told_after cells.links a b (told_link_in past a b l)
 told_link_in (_ ∷ past) a b l = told_link_in past a b l
 
 abbrev pub told_node_in : List Recorded → ℕ → NodeCell → NodeCell
 told_node_in [] a n = n
-told_node_in (Begun time entry step links nodes ∷ past) a n = node_told_after nodes a (told_node_in past a n)
+told_node_in (Begun time entry step cells ∷ past) a n = node_told_after cells.nodes a (told_node_in past a n)
 told_node_in (_ ∷ past) a n = told_node_in past a n
 
 -- at each moment what was told, applied to the start in order, is what the active faults make of it
@@ -215,7 +233,7 @@ RestIsStart =
 
 abbrev pub invocations_in : List Recorded → ℕ
 invocations_in [] = 0
-invocations_in (Invoked time process node asked ∷ past) = suc (invocations_in past)
+invocations_in (Invoked time process node call ∷ past) = suc (invocations_in past)
 invocations_in (_ ∷ past) = invocations_in past
 
 -- *final* has not begun
@@ -256,7 +274,7 @@ IsAtRate (Some rate) number time = number * 10 ^ 9 ≤ time * rate
 -- no call is past the limit or faster than the rate
 abbrev pub AreTimely : TestValue → List Recorded → Type 0
 AreTimely t [] = Unit {0}
-AreTimely t (Invoked time process node asked ∷ past) =
+AreTimely t (Invoked time process node call ∷ past) =
     IsBeforeLimit t.time_limit time × IsAtRate t.rate (invocations_in past) time × AreTimely t past
 AreTimely t (_ ∷ past) = AreTimely t past
 
@@ -272,13 +290,13 @@ complaint_of_answer None op = Some complaint.NoStepOpen
 complaint_of_answer (Some step) op = if answers_step step op then None else Some complaint.OtherStep
 
 -- why the completion of a call that its process has open is none
-abbrev pub complaint_of_end : TestValue → OpenCall → Operation → Option Complaint
+abbrev pub complaint_of_end : TestValue → Asked → Operation → Option Complaint
 complaint_of_end t call op =
-    if is_invoke op.kind || not (is_keyword call.asked.function op.f) then Some complaint.OtherCall
+    if is_invoke op.kind || not (is_keyword (request_name call.request) op.f) then Some complaint.OtherCall
     else if not (fits_call t call op.kind op.value) then Some complaint.BadValue
     else None
 
-abbrev pub complaint_of_completion : TestValue → Machine → ℕ → Option OpenCall → Operation
+abbrev pub complaint_of_completion : TestValue → Machine → ℕ → Option Asked → Operation
     → Option Complaint
 complaint_of_completion t m process None op = Some complaint.NoCallOpen
 complaint_of_completion t m process (Some call) op =
@@ -303,17 +321,17 @@ abbrev pub first_bad_or : (t : TestValue) → Option Complaint → ℕ → Optio
 first_bad_or t None number later = later
 first_bad_or t (Some why) number later = Some (number, why)
 
-abbrev pub first_bad : (t : TestValue) → Drivers t → Machine → ℕ → List (List ℕ)
+abbrev pub first_bad : TestValue → Machine → ℕ → List (List ℕ)
     → Option (ℕ × Complaint)
-first_bad t d m n [] = None
-first_bad t d m n (line ∷ lines) =
+first_bad t m n [] = None
+first_bad t m n (line ∷ lines) =
     first_bad_or t (if is_test_over m then None else complaint_of t m (line_said line)) (n + 1)
-    (first_bad t d (reply t d.last m line) (n + 1) lines)
+    (first_bad t (reply t m line) (n + 1) lines)
 
 abbrev pub FirstBadIsTold : Type 0
 FirstBadIsTold =
     (t : TestValue) (d : Drivers t) (lines : List (List ℕ))
-    → (run t d lines).bad ≡ first_bad t d (start t d) 0 lines
+    → (run t d lines).bad ≡ first_bad t (start t d) 0 lines
 
 -- Each turn ends, and what the machine then waits for.
 
@@ -322,8 +340,8 @@ abbrev pub TurnSettles : Type 0
 TurnSettles =
     (t : TestValue) (d : Drivers t) (lines : List (List ℕ)) (line : List ℕ)
     → is_test_over (run t d lines) ≡ false
-    → (last : Machine) × (reply t d.last (run t d lines) line ≡ round t last)
-    × ((round t last).given ≡ last.given) × (move t d.last (round t last) ≡ None)
+    → (last : Machine) × (reply t (run t d lines) line ≡ round t last)
+    × ((round t last).given ≡ last.given) × (move t (round t last) ≡ None)
 
 -- What a machine waits for.
 pub data Waits (t : TestValue) (m : Machine) : Type 0 where

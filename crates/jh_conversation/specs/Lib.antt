@@ -1,8 +1,16 @@
 pub mod Records
 pub mod Told
+pub mod ToldInside
 pub mod Test
+pub mod TestInside
 pub mod Transactions
 pub mod Machine
+pub mod MachineInside
+pub mod Sound
 pub mod Turn
+pub mod TurnInside
 pub mod Lines
+pub mod LinesInside
 pub mod Laws
+pub mod Text
+pub mod Conversations

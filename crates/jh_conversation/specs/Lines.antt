@@ -1,11 +1,11 @@
 -- What a line says that is read, and what the machine makes of it. This project's own; that a client
 -- which crashed goes on as another process is jepsen.generator's.
-use Rattle.std.specs.Prelude.{ℕ, ◌+◌, ◌%◌, ◌==◌, max, Bool, true, false, ◌&&◌, ◌||◌, not, ℤ, pos, List}
+use Rattle.std.specs.Prelude.{ℕ, ◌+◌, ◌-◌, ◌%◌, ◌^◌, ◌==◌, max, min, Bool, true, false, ◌&&◌, ◌||◌, not, ℤ, pos, List}
 use Rattle.std.specs.Prelude.{[], ◌∷◌, set, codes, filter, Option, None, Some, Result, Ok, Err}
 use Rattle.std.specs.Prelude.{if◌then◌else◌, is_some, replicate}
 use Rattle.std.specs.List.{list_any}
 use Rattle.std.specs.Str.{is_utf8}
-use Rattle.jh_edn.specs.Edn.{Edn, nil, int, elements_of, is_integer, is_keyword}
+use Rattle.jh_edn.specs.Edn.{Edn, nil, int, elements_of, integer_of, is_integer, is_keyword}
 use Rattle.jh_edn.specs.Lines.{values_in}
 use Rattle.jh_edn.specs.Reading.{error_at, line_at}
 use Rattle.jh_edn.specs.declared.error.EdnError.{EdnError}
@@ -24,20 +24,24 @@ use Rattle.jh_ops.specs.declared.call.Request.TheVariants.{Read, Generate}
 use Rattle.jh_ops.specs.declared.op_text.OpError.{OpError}
 use Rattle.jh_ops.specs.declared.operation.Kind.{Kind}
 use Rattle.jh_ops.specs.declared.operation.Process.{Process}
+use Rattle.jh_simnode.specs.Histories.{request_name}
 use Rattle.jh_txn_histories.specs.Written.{is_equal}
-use Rattle.jh_conversation.specs.Machine.{Machine, OpenCall, OpenStep}
+use Rattle.jh_conversation.specs.Machine.{Machine}
 use Rattle.jh_conversation.specs.Machine.{hear, new_callers, caller_process, caller_of}
 use Rattle.jh_conversation.specs.Transactions.{first_source}
-use Rattle.jh_conversation.specs.Records.{Answered, Ended as EndedCall}
-use Rattle.jh_conversation.specs.Test.{KeyShares, TestValue}
+use Rattle.jh_conversation.specs.Test.{TestValue}
 use Rattle.jh_conversation.specs.Turn.{turn}
+use Rattle.jh_conversation.specs.declared.calls.Asked.{Asked}
+use Rattle.jh_conversation.specs.declared.calls.OpenStep.{OpenStep}
 use Rattle.jh_conversation.specs.declared.parts.Complaint.{Complaint}
 use Rattle.jh_conversation.specs.declared.parts.Complaint.TheVariants as complaint
+use Rattle.jh_conversation.specs.declared.parts.KeyShares.{KeyShares}
 use Rattle.jh_conversation.specs.declared.parts.Phase.{Phase}
 use Rattle.jh_conversation.specs.declared.parts.Phase.TheVariants.{Main, Over}
 use Rattle.jh_conversation.specs.declared.parts.Tested.{Tested}
 use Rattle.jh_conversation.specs.declared.parts.Tested.TheVariants.{Register, Counter, Set, Ids}
 use Rattle.jh_conversation.specs.declared.parts.Tested.TheVariants.{Transactions}
+use Rattle.jh_conversation.specs.declared.records.Recorded.TheVariants.{Answered, Ended as EndedCall}
 
 -- What a line says by itself: nothing; a time in nanoseconds; stop; an operation, with its time, where
 -- it has one; or nothing that can be understood.
@@ -73,12 +77,19 @@ said_by_parsed (Err refusal) = Bad (complaint.Op refusal)
 abbrev pub said_by_operation : Edn → LineSaid
 said_by_operation value = said_by_parsed (parsed_op value)
 
--- what a value says
-abbrev pub said_by_value : Edn → LineSaid
-said_by_value (int (pos time)) = Clock time
-said_by_value (int z) = Bad complaint.BadTime
-said_by_value value =
+-- what an integer says
+abbrev pub said_by_number : ℤ → LineSaid
+said_by_number (pos time) = Clock time
+said_by_number _ = Bad complaint.BadTime
+
+-- what a value says, which may be an integer
+abbrev pub said_by_number_or : Edn → Option ℤ → LineSaid
+said_by_number_or value (Some number) = said_by_number number
+said_by_number_or value None =
     if is_keyword (codes "stop") value then Stop else said_by_operation value
+
+abbrev pub said_by_value : Edn → LineSaid
+said_by_value value = said_by_number_or value (integer_of value)
 
 abbrev pub said_by_values : List Edn → LineSaid
 said_by_values [] = Nothing
@@ -114,13 +125,21 @@ abbrev pub first : Option (ℕ × Complaint) → ℕ × Complaint → Option (�
 first None told = Some told
 first (Some earlier) told = Some earlier
 
+-- how often it was told to stop after so many more stops; twice is all that counts
+abbrev pub stops_after : ℕ → ℕ → ℕ
+stops_after more stops = min 2 (stops + more)
+
 -- A line that is no reply: the first one is told, and each counts as two stops.
 abbrev pub refuse : Complaint → Machine → Machine
-refuse why m = record m { bad = first m.bad (m.read, why); stops = m.stops + 2 }
+refuse why m = record m { bad = first m.bad (m.read, why); stops = stops_after 2 m.stops }
+
+-- the greatest time that was told; an integer of a text is less than 2^63
+abbrev pub clock_after : ℕ → ℕ → ℕ
+clock_after now time = min (max now time) (2 ^ 63 - 1)
 
 abbrev pub at_time : Option ℕ → Machine → Machine
 at_time None m = m
-at_time (Some time) m = record m { clock = max m.clock time }
+at_time (Some time) m = record m { clock = clock_after m.clock time }
 
 -- once in *main*, twice elsewhere
 abbrev pub stops_by : Phase → ℕ
@@ -128,7 +147,7 @@ stops_by Main = 1
 stops_by _ = 2
 
 abbrev pub stop : Machine → Machine
-stop m = record m { stops = m.stops + stops_by m.phase }
+stop m = record m { stops = stops_after (stops_by m.phase) m.stops }
 
 -- The values of completions.
 
@@ -165,16 +184,16 @@ list_or_none None = []
 list_or_none (Some values) = values
 
 -- of independent keys a tuple of the same key and such an answer
-abbrev pub is_good_value : TestValue → Option KeyShares → OpenCall → Edn → Bool
-is_good_value t None call value = is_good_answer t.tested call.request call.asked.value value
+abbrev pub is_good_value : TestValue → Option KeyShares → Asked → Edn → Bool
+is_good_value t None call value = is_good_answer t.tested call.request call.value value
 is_good_value t (Some shares) call value =
-    answers_with_key t.tested call.request (list_or_none (elements_of call.asked.value))
+    answers_with_key t.tested call.request (list_or_none (elements_of call.value))
     (elements_of value)
 
 -- a completion that is not `:ok` has the call's own value
-abbrev pub fits_call : TestValue → OpenCall → Kind → Edn → Bool
+abbrev pub fits_call : TestValue → Asked → Kind → Edn → Bool
 fits_call t call Kind.Ok value = is_good_value t t.keys call value
-fits_call t call _ value = is_equal call.asked.value value
+fits_call t call _ value = is_equal call.value value
 
 -- Completions.
 
@@ -187,11 +206,11 @@ ended_as Kind.Ok = ended.Ok
 ended_as Kind.Fail = ended.Fail
 ended_as _ = ended.Info
 
--- a call of a thread has ended
-abbrev pub finish : TestValue → ℕ → OpenCall → Operation → Machine → Machine
-finish t number call op m =
+-- a call of a thread, which made this request, has ended
+abbrev pub finish : TestValue → ℕ → Request → Operation → Machine → Machine
+finish t number request op m =
     hear
-    (EndedCall m.clock (caller_process t m number) op.kind call.asked.function op.value
+    (EndedCall m.clock (caller_process t m number) op.kind request op.value
     (kept_pairs op))
     (record m {
       driver = driver_after_end m.driver (thread.Client number) (ended_as op.kind);
@@ -203,14 +222,14 @@ finish t number call op m =
       });
     })
 
-abbrev pub take_end : TestValue → ℕ → OpenCall → Operation → Option ℕ → Machine → Machine
+abbrev pub take_end : TestValue → ℕ → Asked → Operation → Option ℕ → Machine → Machine
 take_end t number call op time m =
-    if is_invoke op.kind || not (is_keyword call.asked.function op.f) then refuse complaint.OtherCall m
+    if is_invoke op.kind || not (is_keyword (request_name call.request) op.f) then refuse complaint.OtherCall m
     else if not (fits_call t call op.kind op.value) then refuse complaint.BadValue m
-    else finish t number call op (at_time time m)
+    else finish t number call.request op (at_time time m)
 
 -- the call of a process, where the thread has it open under this number
-abbrev pub take_completion : TestValue → ℕ → Operation → Option ℕ → Machine → Option OpenCall
+abbrev pub take_completion : TestValue → ℕ → Operation → Option ℕ → Machine → Option Asked
     → Machine
 take_completion t process op time m None = refuse complaint.NoCallOpen m
 take_completion t process op time m (Some call) =
@@ -250,21 +269,17 @@ take_in t (Reply op time) m = take_reply t op time op.process m
 abbrev pub listen : Machine → Machine
 listen m = record m { read = m.read + 1; said = [] }
 
--- The machine after a line; `last` is the driver of *final*, if there is one. Nothing is said or heard
--- behind the end.
-abbrev pub reply : TestValue → Option DriverState → Machine → List ℕ → Machine
-reply t last m line =
-    if is_test_over m then listen m else turn t last (take_in t (line_said line) (listen m))
-
-abbrev pub machine_after_lines : TestValue → Option DriverState → Machine → List (List ℕ) → Machine
-machine_after_lines t last m [] = m
-machine_after_lines t last m (line ∷ lines) = machine_after_lines t last (reply t last m line) lines
+-- The machine after a line. Nothing is said or heard behind the end.
+abbrev pub reply : TestValue → Machine → List ℕ → Machine
+reply t m line =
+    if is_test_over m then listen m else turn t (take_in t (line_said line) (listen m))
 
 -- the machine before its first turn
-abbrev pub at_first : TestValue → DriverState → State → Machine
-at_first t driver nemesis = record {
+abbrev pub at_first : TestValue → DriverState → Option DriverState → State → Machine
+at_first t driver last nemesis = record {
   phase = Main;
   driver = driver;
+  last = last;
   has_spent = false;
   words = started 128 multiplier_128 t.seed (increment_of 128 0);
   transactions = first_source t.transactions t.seed;

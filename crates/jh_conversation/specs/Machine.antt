@@ -1,36 +1,26 @@
 -- What is known of a test at a moment. This project's own.
-use Rattle.std.specs.Prelude.{ℕ, zero, suc, ◌+◌, ◌*◌, Bool, true, false, ◌&&◌, List, [], ◌∷◌, get_or}
+use Rattle.std.specs.Prelude.{ℕ, ◌+◌, ◌*◌, Bool, true, false, List, ◌∷◌, get_or, replicate}
 use Rattle.std.specs.Prelude.{Option, None, Some}
+use Rattle.std.specs.List.{list_all}
 use Rattle.rand_pcg.specs.Lcg.{Lcg}
 use Rattle.jh_gen.specs.DriverState.{DriverState}
 use Rattle.jh_nemesis.specs.State.{State}
-use Rattle.jh_ops.specs.declared.call.Request.{Request}
-use Rattle.jh_conversation.specs.Records.{Asked, Recorded}
 use Rattle.jh_conversation.specs.Test.{TestValue}
 use Rattle.jh_conversation.specs.Transactions.{TransactionSource}
+use Rattle.jh_conversation.specs.declared.calls.Asked.{Asked}
+use Rattle.jh_conversation.specs.declared.calls.Caller.{Caller}
+use Rattle.jh_conversation.specs.declared.calls.OpenStep.{OpenStep}
 use Rattle.jh_conversation.specs.declared.parts.Complaint.{Complaint}
 use Rattle.jh_conversation.specs.declared.parts.Phase.{Phase}
-
--- a call that waits for its completion
-pub record OpenCall : Type 0 where
-  pub request : Request
-  pub asked : Asked
-
--- a thread: how many of its processes have crashed, and the call that it has open
-pub record Caller : Type 0 where
-  pub crashes : ℕ
-  pub call : Option OpenCall
-
--- a step that waits for its answer: the place of its entry, and the code of the nemesis' answer
-pub record OpenStep : Type 0 where
-  pub entry : ℕ
-  pub code : ℕ
+use Rattle.jh_conversation.specs.declared.records.Recorded.{Recorded}
 
 -- The history, and what was said since the last line was read, have the newest record first.
 pub record Machine : Type 0 where
   pub phase : Phase
-  -- what gives the calls of this phase, whether it has no more, and the random numbers for it
+  -- what gives the calls of this phase, and what will give those of *final*, where it is to come; whether
+  -- the former has no more, and the random numbers for it
   pub driver : DriverState
+  pub last : Option DriverState
   pub has_spent : Bool
   pub words : Lcg
   -- the transactions to come, and how many calls each group of threads was given
@@ -45,7 +35,7 @@ pub record Machine : Type 0 where
   pub nemesis : State
   pub taken : ℕ
   pub step : Option OpenStep
-  -- how often it was told to stop: once ends the calls of *main*, twice those of *final* too
+  -- how often it was told to stop, up to twice: once ends the calls of *main*, twice those of *final* too
   pub stops : ℕ
   -- the greatest time that was told, and that at which *rest* began, in nanoseconds
   pub clock : ℕ
@@ -67,19 +57,17 @@ caller_of m thread = get_or m.callers thread no_caller
 abbrev pub caller_process : TestValue → Machine → ℕ → ℕ
 caller_process t m thread = thread + t.clients * (caller_of m thread).crashes
 
-abbrev pub has_no_call : Option OpenCall → Bool
+abbrev pub has_no_call : Option Asked → Bool
 has_no_call None = true
 has_no_call (Some call) = false
 
 -- no call is open
 abbrev pub are_free : List Caller → Bool
-are_free [] = true
-are_free (caller ∷ callers) = has_no_call caller.call && are_free callers
+are_free callers = list_all (λ caller. has_no_call caller.call) callers
 
 -- so many threads, each of whose processes have crashed so often
 abbrev pub new_callers : ℕ → ℕ → List Caller
-new_callers zero crashes = []
-new_callers (suc n) crashes = (record { crashes = crashes; call = None }) ∷ new_callers n crashes
+new_callers n crashes = replicate n (record { crashes = crashes; call = None })
 
 -- a record that is written belongs to the history too
 abbrev pub say : Recorded → Machine → Machine

@@ -12,34 +12,13 @@ use Rattle.jh_ops.specs.declared.operation.Kind.{Kind}
 use Rattle.jh_ops.specs.declared.operation.Process.{Process}
 use Rattle.jh_step_texts.specs.FaultWritten.{name_text}
 use Rattle.jh_step_texts.specs.StepWritten.{text_of_step}
-
--- a call: its function's name, and its value as it is written, with its key where keys are
--- independent
-pub record Asked : Type 0 where
-  pub function : List ℕ
-  pub value : Edn
-
--- a link that a step changed, with what it now is
-pub record LinkTold : Type 0 where
-  pub source : ℕ
-  pub destination : ℕ
-  pub link : Link
-
--- a node that a step changed, with what it now is
-pub record NodeTold : Type 0 where
-  pub node : ℕ
-  pub cell : NodeCell
-
--- The records of a test, each with the time at which it was made, in nanoseconds.
-pub data Recorded : Type 0 where
-  -- a process calls a node
-  Invoked : (time process node : ℕ) → Asked → Recorded
-  -- a call of a process ended, with a value and other keys as they came
-  Ended : (time process : ℕ) → Kind → List ℕ → Edn → List (Edn × Edn) → Recorded
-  -- the step of an entry was taken, and these cells have changed
-  Begun : (time entry : ℕ) → Step → List LinkTold → List NodeTold → Recorded
-  -- the adapter has done so; the step was answered by this code
-  Answered : (time entry code : ℕ) → List (Edn × Edn) → Recorded
+use Rattle.jh_simnode.specs.Histories.{request_name}
+use Rattle.jh_conversation.specs.Told.{CellsTold}
+use Rattle.jh_conversation.specs.declared.calls.Asked.{Asked}
+use Rattle.jh_conversation.specs.declared.records.LinkTold.{LinkTold}
+use Rattle.jh_conversation.specs.declared.records.NodeTold.{NodeTold}
+use Rattle.jh_conversation.specs.declared.records.Recorded.{Recorded}
+use Rattle.jh_conversation.specs.declared.records.Recorded.TheVariants.{Invoked, Ended, Begun, Answered}
 
 -- `{:cut true, :delay 0, :loss 0}`
 abbrev pub link_value : Link → Edn
@@ -84,22 +63,23 @@ operation_placed index time kind process function value rest = record {
 }
 
 -- the other keys of a step's record
-abbrev pub step_pairs : List (List ℕ) → Step → List LinkTold → List NodeTold → List (Edn × Edn)
-step_pairs names step links nodes =
+abbrev pub step_pairs : List (List ℕ) → Step → CellsTold → List (Edn × Edn)
+step_pairs names step cells =
     (keyword (codes "step"), text_of_step names step)
-    ∷ (keyword (codes "links"), vector_of (map (link_told_value names) links))
-    ∷ (keyword (codes "nodes"), vector_of (map (node_told_value names) nodes)) ∷ []
+    ∷ (keyword (codes "links"), vector_of (map (link_told_value names) cells.links))
+    ∷ (keyword (codes "nodes"), vector_of (map (node_told_value names) cells.nodes)) ∷ []
 
 -- the operation of a record at this index, over nodes of these names
 abbrev pub operation_of_record : List (List ℕ) → ℕ → Recorded → Operation
-operation_of_record names index (Invoked time process node asked) =
-    operation_placed index time Kind.Invoke (Process.Client process) asked.function asked.value
+operation_of_record names index (Invoked time process node call) =
+    operation_placed index time Kind.Invoke (Process.Client process) (request_name call.request)
+    call.value
     ((keyword (codes "node"), name_text names node) ∷ [])
-operation_of_record names index (Ended time process kind function value rest) =
-    operation_placed index time kind (Process.Client process) function value rest
-operation_of_record names index (Begun time entry step links nodes) =
+operation_of_record names index (Ended time process kind request value rest) =
+    operation_placed index time kind (Process.Client process) (request_name request) value rest
+operation_of_record names index (Begun time entry step cells) =
     operation_placed index time Kind.Info Process.Nemesis (codes "step") (int (pos entry))
-    (step_pairs names step links nodes)
+    (step_pairs names step cells)
 operation_of_record names index (Answered time entry code rest) =
     operation_placed index time Kind.Info Process.Nemesis (codes "step")
     (vector_of (int (pos entry) ∷ int (pos code) ∷ [])) rest

@@ -1,23 +1,24 @@
 -- What a test of a real database is set to, beside how its history is judged. This project's own;
 -- generators, workloads and faults are those of a run.
-use Rattle.std.specs.Prelude.{ℕ, List, Option}
+use Rattle.std.specs.Prelude.{◌≡◌, ℕ, ◌%◌, ◌==◌, ◌≤◌, Bool, true, false, ◌&&◌, not, All, List, length}
+use Rattle.std.specs.Prelude.{Option, None, Some, option_map}
 use Rattle.jh_env.specs.Overlay.{EnvValue}
 use Rattle.jh_gen.specs.Generator.{Generator}
+use Rattle.jh_gen.specs.Suits.{suits}
+use Rattle.jh_gen.specs.View.{generator_of}
+use Rattle.jh_nemesis.specs.Steps.{FitsNodes}
+use Rattle.jh_ops.specs.declared.call.Workload.TheVariants as workload
 use Rattle.jh_conversation.specs.declared.parts.Entry.{Entry}
+use Rattle.jh_conversation.specs.declared.parts.KeyShares.{KeyShares}
 use Rattle.jh_conversation.specs.declared.parts.Tested.{Tested}
-
--- Keys are independent: threads fall into groups of so many, and so many calls of a group go to one
--- key before the next one takes its place.
-pub record KeyShares : Type 0 where
-  pub threads : ℕ
-  pub calls : ℕ
-
--- How transactions are made: over so many keys at a time, of so many micro-operations at most, with
--- so many appends of a key before another one takes its place.
-pub record TransactionShape : Type 0 where
-  pub keys : ℕ
-  pub most : ℕ
-  pub appends : ℕ
+use Rattle.jh_conversation.specs.declared.parts.Tested.TheVariants.{Register, Counter, Set, Ids}
+use Rattle.jh_conversation.specs.declared.parts.Tested.TheVariants.{Transactions}
+use Rattle.jh_conversation.specs.declared.parts.TransactionShape.{TransactionShape}
+use Rattle.jh_conversation.specs.declared.test.TestData.{TestData}
+use Rattle.jh_conversation.specs.declared.test.TestError.{TestError}
+use Rattle.jh_conversation.specs.declared.test.TestError.TheVariants.{BadClients, BadOps, BadKeys}
+use Rattle.jh_conversation.specs.declared.test.TestError.TheVariants.{BadGenerator, BadFinal}
+use Rattle.jh_conversation.specs.declared.test.TestError.TheVariants.{BadSchedule, OutOfMemory}
 
 pub record TestValue : Type 0 where
   -- the environment before the first fault
@@ -39,3 +40,80 @@ pub record TestValue : Type 0 where
   pub recovery : ℕ
   pub seed : ℕ
   pub schedule : List Entry
+
+-- the test that is made of this data
+abbrev pub test_of_data : TestData → TestValue
+test_of_data fields = record {
+  start = fields.environment;
+  tested = fields.tested;
+  generator = generator_of fields.generator;
+  final = option_map generator_of fields.last;
+  clients = fields.clients;
+  ops = fields.ops;
+  time_limit = fields.time_limit;
+  rate = fields.rate;
+  keys = fields.keys;
+  transactions = fields.transactions;
+  recovery = fields.recovery;
+  seed = fields.seed;
+  schedule = fields.schedule.items;
+}
+
+-- Which tests can be made.
+
+abbrev pub HasClients : TestValue → Type 0
+HasClients t = (1 ≤ t.clients) × (t.clients ≤ 16)
+
+abbrev pub HasOps : TestValue → Type 0
+HasOps t = (1 ≤ t.ops) × (t.ops ≤ 1000000)
+
+-- the threads of a key divide the clients, and each key has calls
+abbrev pub are_shares : ℕ → Option KeyShares → Bool
+are_shares clients None = true
+are_shares clients (Some shares) =
+    not (shares.threads == 0) && (clients % shares.threads == 0 && not (shares.calls == 0))
+
+abbrev pub HasKeys : TestValue → Type 0
+HasKeys t = are_shares t.clients t.keys ≡ true
+
+-- the generator's calls are requests of what is tested; no request is a transaction yet
+abbrev pub suits_tested : Tested → ℕ → Generator → Bool
+suits_tested Register clients generator = suits workload.Register clients generator
+suits_tested Counter clients generator = suits workload.Counter clients generator
+suits_tested Set clients generator = suits workload.Set clients generator
+suits_tested Ids clients generator = suits workload.Ids clients generator
+suits_tested Transactions clients generator = false
+
+abbrev pub last_suits : Tested → ℕ → Option Generator → Bool
+last_suits tested clients None = true
+last_suits tested clients (Some generator) = suits_tested tested clients generator
+
+abbrev pub HasGenerator : TestValue → Type 0
+HasGenerator t = suits_tested t.tested t.clients t.generator ≡ true
+
+abbrev pub HasFinal : TestValue → Type 0
+HasFinal t = last_suits t.tested t.clients t.final ≡ true
+
+-- there are not too many entries, and each node that a fault names is in the environment
+abbrev pub HasSchedule : TestValue → Type 0
+HasSchedule t =
+    (length t.schedule ≤ 1024) × All (λ entry. FitsNodes (length t.start.names) entry.step) t.schedule
+
+pub record IsFitTest (t : TestValue) : Type 0 where
+  pub clients : HasClients t
+  pub ops : HasOps t
+  pub keys : HasKeys t
+  pub generator : HasGenerator t
+  pub final : HasFinal t
+  pub schedule : HasSchedule t
+
+-- why a test is refused: each is looked at only where those before it are right
+abbrev pub RefusesTest : TestValue → TestError → Type 0
+RefusesTest t BadClients = HasClients t → ⊥
+RefusesTest t BadOps = HasClients t × (HasOps t → ⊥)
+RefusesTest t BadKeys = HasClients t × HasOps t × (HasKeys t → ⊥)
+RefusesTest t BadGenerator = HasClients t × HasOps t × HasKeys t × (HasGenerator t → ⊥)
+RefusesTest t BadFinal = HasClients t × HasOps t × HasKeys t × HasGenerator t × (HasFinal t → ⊥)
+RefusesTest t BadSchedule =
+    HasClients t × HasOps t × HasKeys t × HasGenerator t × HasFinal t × (HasSchedule t → ⊥)
+RefusesTest t OutOfMemory = IsFitTest t

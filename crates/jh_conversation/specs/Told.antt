@@ -9,7 +9,13 @@ use Rattle.jh_env.specs.Cells.{Table, Life, Link, NodeCell, Running, Paused, Kil
 use Rattle.jh_env.specs.Cells.{link_at, node_at}
 use Rattle.jh_env.specs.Faults.{FaultValue}
 use Rattle.jh_env.specs.Overlay.{link_over, node_over}
-use Rattle.jh_conversation.specs.Records.{LinkTold, NodeTold}
+use Rattle.jh_conversation.specs.declared.records.LinkTold.{LinkTold}
+use Rattle.jh_conversation.specs.declared.records.NodeTold.{NodeTold}
+
+-- the links and the nodes that a step changed, each with what it now is
+pub record CellsTold : Type 0 where
+  pub links : List LinkTold
+  pub nodes : List NodeTold
 
 abbrev pub are_same_links : Link → Link → Bool
 are_same_links l k = beq l.cut k.cut && (l.delay == k.delay && l.loss == k.loss)
@@ -56,3 +62,7 @@ told_links start before after =
 -- the nodes that are told, by place
 abbrev pub told_nodes : Table → List FaultValue → List FaultValue → List NodeTold
 told_nodes start before after = filter_map (told_node start before after) (places_of_nodes start)
+
+abbrev pub cells_told : Table → List FaultValue → List FaultValue → CellsTold
+cells_told start before after =
+    record { links = told_links start before after; nodes = told_nodes start before after }

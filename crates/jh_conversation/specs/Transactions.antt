@@ -6,12 +6,8 @@ use Rattle.rand_pcg.specs.Lcg.{Lcg, started, increment_of}
 use Rattle.rand_pcg.specs.Pcg.{pcg64, multiplier_128}
 use Rattle.jh_edn.specs.Edn.{Edn, nil, int, keyword}
 use Rattle.jh_edn.specs.Parts.{vector_of}
-use Rattle.jh_conversation.specs.Test.{TransactionShape}
-
--- a slot: its key, and how many appends of it were made
-pub record Slot : Type 0 where
-  pub key : ℕ
-  pub appends : ℕ
+use Rattle.jh_conversation.specs.declared.parts.TransactionShape.{TransactionShape}
+use Rattle.jh_conversation.specs.declared.transactions.Slot.{Slot}
 
 -- where the transactions stand: the random numbers, the slots, and the next key that was never used
 pub record TransactionSource : Type 0 where

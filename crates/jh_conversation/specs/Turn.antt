@@ -18,17 +18,21 @@ use Rattle.jh_nemesis.specs.declared.steps.Step.TheVariants.{WithdrawAll}
 use Rattle.jh_ops.specs.Words.{content_value}
 use Rattle.jh_ops.specs.declared.call.Call.TheVariants as call
 use Rattle.jh_ops.specs.declared.call.Request.{Request}
-use Rattle.jh_simnode.specs.Histories.{asked_content, code_of, request_name}
-use Rattle.jh_conversation.specs.Machine.{Machine, OpenCall, OpenStep}
+use Rattle.jh_simnode.specs.Histories.{asked_content, code_of}
+use Rattle.jh_conversation.specs.Machine.{Machine}
 use Rattle.jh_conversation.specs.Machine.{are_free, has_no_call, new_callers, caller_process, say, caller_of}
-use Rattle.jh_conversation.specs.Records.{Begun, Invoked}
-use Rattle.jh_conversation.specs.Test.{KeyShares, TestValue}
-use Rattle.jh_conversation.specs.Told.{told_links, told_nodes}
+use Rattle.jh_conversation.specs.Test.{TestValue}
+use Rattle.jh_conversation.specs.Told.{cells_told}
+use Rattle.jh_conversation.specs.declared.calls.Asked.{Asked}
+use Rattle.jh_conversation.specs.declared.calls.OpenStep.{OpenStep}
+use Rattle.jh_conversation.specs.declared.turns.Due.{Due}
 use Rattle.jh_conversation.specs.declared.parts.Entry.{Entry}
+use Rattle.jh_conversation.specs.declared.parts.KeyShares.{KeyShares}
 use Rattle.jh_conversation.specs.declared.parts.Phase.{Phase}
 use Rattle.jh_conversation.specs.declared.parts.Phase.TheVariants.{Main, Heal, Rest, Final, Over}
 use Rattle.jh_conversation.specs.declared.parts.When.{When}
 use Rattle.jh_conversation.specs.declared.parts.When.TheVariants.{Calls, Milliseconds}
+use Rattle.jh_conversation.specs.declared.records.Recorded.TheVariants.{Begun, Invoked}
 
 -- How many nanoseconds a second has, and a millisecond.
 abbrev pub second : ℕ
@@ -72,11 +76,6 @@ abbrev pub has_come_to : When → Machine → Bool
 has_come_to (Calls n) m = nat_le n m.answered
 has_come_to (Milliseconds n) m = nat_le (n * millisecond) m.clock
 
--- a step that is due, with the place of its entry
-pub record Due : Type 0 where
-  pub entry : ℕ
-  pub step : Step
-
 abbrev pub if_due : Machine → Option Entry → Option Due
 if_due m None = None
 if_due m (Some entry) =
@@ -100,8 +99,7 @@ begin due m =
     let after = state_after m.nemesis due.step in
     say
     (Begun m.clock due.entry due.step
-    (told_links m.nemesis.start (faults_in m.nemesis.active) (faults_in after.active))
-    (told_nodes m.nemesis.start (faults_in m.nemesis.active) (faults_in after.active)))
+    (cells_told m.nemesis.start (faults_in m.nemesis.active) (faults_in after.active)))
     (record m {
       nemesis = after;
       step = Some (record { entry = due.entry; code = code_of (answer_of m.nemesis due.step) });
@@ -142,13 +140,10 @@ counts_after (Some shares) thread counts =
     set counts group (slice_index_or counts group 0 + 1)
 
 -- the call that a thread makes for a request
-abbrev pub call_made : TestValue → Machine → ℕ → Request → OpenCall
+abbrev pub call_made : TestValue → Machine → ℕ → Request → Asked
 call_made t m thread request = record {
   request = request;
-  asked = record {
-    function = request_name request;
-    value = value_with_key t t.keys thread m.calls_by_group (content_value (asked_content request));
-  };
+  value = value_with_key t t.keys thread m.calls_by_group (content_value (asked_content request));
 }
 
 -- the node that a thread calls
@@ -158,19 +153,20 @@ node_of_thread t thread = thread % length t.start.names
 abbrev pub invoke : TestValue → ℕ → Request → Machine → Machine
 invoke t thread request m =
     let call = call_made t m thread request in
-    say (Invoked m.clock (caller_process t m thread) (node_of_thread t thread) call.asked)
+    say (Invoked m.clock (caller_process t m thread) (node_of_thread t thread) call)
     (record m {
       given = m.given + 1;
       calls_by_group = counts_after t.keys thread m.calls_by_group;
       callers = set m.callers thread (record { crashes = (caller_of m thread).crashes; call = Some call });
     })
 
--- what a thread's answer makes of the machine; a generator of clients gives no step of the nemesis
+-- what a thread's answer makes of the machine; a generator of clients gives no step of the nemesis, and one
+-- would end the calls
 abbrev pub told : TestValue → ℕ → GenAnswer → Machine → Machine
 told t number Pending m = m
 told t number Done m = record m { has_spent = true }
 told t number (Call process (call.Client request)) m = invoke t number request m
-told t number (Call process (call.Step place)) m = m
+told t number (Call process (call.Step place)) m = record m { has_spent = true }
 
 -- a driver that has given all the calls that it may has no more
 abbrev pub answer_to : DriverState → ℕ → ℕ → GenAnswer × DriverState
@@ -221,6 +217,7 @@ abbrev pub final : TestValue → DriverState → Machine → Machine
 final t driver m = record m {
   phase = Final;
   driver = driver;
+  last = None;
   has_spent = false;
   callers = new_callers t.clients m.crashed;
 }
@@ -241,16 +238,16 @@ after_rest t None m = Some (end m)
 after_rest t (Some driver) m =
     if nat_le 2 m.stops then Some (end m) else when (has_recovered t m) (final t driver m)
 
-abbrev pub move_from : Phase → TestValue → Option DriverState → Machine → Option Machine
-move_from Main t last m = when (calls_ended t m) (heal m)
-move_from Heal t last m = when (has_healed m m.step) (rest m)
-move_from Rest t last m = after_rest t last m
-move_from Final t last m = when (calls_ended t m) (end m)
-move_from Over t last m = None
+abbrev pub move_from : Phase → TestValue → Machine → Option Machine
+move_from Main t m = when (calls_ended t m) (heal m)
+move_from Heal t m = when (has_healed m m.step) (rest m)
+move_from Rest t m = after_rest t m.last m
+move_from Final t m = when (calls_ended t m) (end m)
+move_from Over t m = None
 
 -- the machine in its next phase, or None where it stays in this one
-abbrev pub move : TestValue → Option DriverState → Machine → Option Machine
-move t last m = move_from m.phase t last m
+abbrev pub move : TestValue → Machine → Option Machine
+move t m = move_from m.phase t m
 
 -- all that can be said in a phase
 abbrev pub work : TestValue → Machine → Machine
@@ -260,11 +257,11 @@ abbrev pub go_on : (Machine → Machine) → Machine → Option Machine → Mach
 go_on more m None = m
 go_on more m (Some next) = more next
 
--- so many phases at most; `last` is the driver of *final*, if there is one
-abbrev pub passes : TestValue → Option DriverState → ℕ → Machine → Machine
-passes t last zero m = m
-passes t last (suc n) m = go_on (passes t last n) (work t m) (move t last (work t m))
+-- so many phases at most
+abbrev pub passes : TestValue → ℕ → Machine → Machine
+passes t zero m = m
+passes t (suc n) m = go_on (passes t n) (work t m) (move t (work t m))
 
 -- there are five phases, and none comes twice
-unfoldable pub turn : TestValue → Option DriverState → Machine → Machine
-turn t last m = passes t last 5 m
+unfoldable pub turn : TestValue → Machine → Machine
+turn t m = passes t 5 m

@@ -45,6 +45,28 @@ pub enum Tested {
     Transactions,
 }
 
+/// Keys are independent: threads fall into groups of so many, and so many calls of a group go to one
+/// key before the next one takes its place.
+#[derive(Clone, Copy, Debug, PartialEq, Eq)]
+pub struct KeyShares {
+    /// 1 to 16, by which the number of threads can be divided.
+    pub threads: u32,
+    /// 1 to 1,000,000.
+    pub calls: u32,
+}
+
+/// How transactions are made: over so many keys at a time, of so many micro-operations at most, with
+/// so many appends of a key before another one takes its place.
+#[derive(Clone, Copy, Debug, PartialEq, Eq)]
+pub struct TransactionShape {
+    /// 1 to 1,000.
+    pub keys: u32,
+    /// 1 to 100.
+    pub most: u32,
+    /// 1 to 10,000.
+    pub appends: u32,
+}
+
 /// Why a line is no reply.
 #[derive(Clone, Copy, Debug, PartialEq, Eq)]
 pub enum Complaint {

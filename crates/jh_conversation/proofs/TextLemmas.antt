@@ -1,0 +1,121 @@
+-- Lists that the code makes one by one.
+use Rattle.std.proofs.Common.{◌≡◌, ℕ, zero, suc, true, false, append-nil, codes, ◌+◌, ◌-◌, ◌<◌, ◌≤◌, List, [], ◌∷◌, ◌++◌, length, get_or, take, drop, map, reverse, refl, sym, ap, ap₂, ◌∙◌, arith, add-one, subst, All}
+use Rattle.std.specs.Prelude.{Option, None, Some, if◌then◌else◌, option_map, slice_get, slice_index_or}
+use Rattle.std.specs.List.{AllByRecursion}
+use Rattle.std.specs.Option.{unwrap_or}
+use Rattle.std.proofs.lemmas.List.{append_assoc, get_or-reverse, length-reverse, map-append, reverse-append, reverse-reverse, take-append-drop, take_more}
+use Rattle.std.proofs.lemmas.Option.{get_or_from_slice_get}
+use Rattle.jh_edn.specs.Edn.{Edn}
+use Rattle.jh_edn.specs.View.{view, views}
+use Rattle.jh_edn.specs.declared.value.Value.{Value}
+use Rattle.jh_conversation.specs.Lines.{is_test_over}
+use Rattle.jh_conversation.specs.Machine.{Machine}
+use Rattle.jh_conversation.specs.Test.{TestValue}
+use Rattle.jh_conversation.specs.Text.{record_lines, said_lines}
+use Rattle.jh_conversation.specs.Transactions.{slots_from}
+use Rattle.jh_conversation.specs.declared.records.Recorded.{Recorded}
+use Rattle.jh_conversation.specs.declared.transactions.Slot.{Slot}
+
+-- the name at a place, or an empty one
+
+none_at : (names : List (List ℕ)) (k : ℕ) → slice_get names k ≡ None → slice_index_or names k [] ≡ []
+none_at [] k e = refl
+none_at (x ∷ names) zero e = absurd (cc e)
+none_at (x ∷ names) (suc k) e = none_at names k e
+
+pub named : {A : Type 0} (now : A → List ℕ) (o : Option A) (d : A) (names : List (List ℕ)) (k : ℕ) → now d ≡ [] → option_map now o ≡ slice_get names k → now (unwrap_or o d) ≡ slice_index_or names k []
+named now None d names k e f = e ∙ sym (none_at names k (sym f))
+named now (Some x) d names k e f = sym (get_or_from_slice_get names k (now x) [] (sym f))
+
+-- slots
+
+slots_more : (n key : ℕ) → slots_from key n ++ (record { key = key + n; appends = 0 }) ∷ [] ≡ slots_from key (suc n)
+slots_more zero key = ap (λ k. let s : Slot = record { key = k; appends = 0 } in s ∷ []) (let e : key + 0 ≡ key = omega arith in e)
+slots_more (suc n) key =
+    let on : key + suc n ≡ key + 1 + n = omega arith in
+    let first : Slot = record { key = key; appends = 0 } in
+    ap (λ l. first ∷ l) (ap (λ k. let s : Slot = record { key = k; appends = 0 } in slots_from (key + 1) n ++ s ∷ []) on ∙ slots_more n (key + 1))
+
+pub slots_next : (n : ℕ) → slots_from 0 n ++ (record { key = n; appends = 0 }) ∷ [] ≡ slots_from 0 (n + 1)
+slots_next n =
+    ap (λ k. let s : Slot = record { key = k; appends = 0 } in slots_from 0 n ++ s ∷ []) (let e : n ≡ 0 + n = omega arith in e) ∙ slots_more n 0 ∙ ap (slots_from 0) (sym (add-one n))
+
+-- values
+
+pub values_more : {A : Type 0} (f : A → Edn) (xs : List A) (i : ℕ) (x : A) (values next : List Value) (v : Value) → i < length xs → x ≡ get_or xs i x
+    → views values ≡ map f (take i xs) → view v ≡ f x → next ≡ values ++ v ∷ [] → views next ≡ map f (take (i + 1) xs)
+values_more f xs i x values next v less item so_far is added =
+    ap views added ∙ map-append view values (v ∷ [])
+    ∙ ap₂ (λ l y. l ++ y ∷ []) so_far (is ∙ ap f item)
+    ∙ sym (map-append f (take i xs) (get_or xs i x ∷ []))
+    ∙ ap (map f) (sym (take_more xs i x less))
+
+-- What was said is the end of the history.
+
+take_front : {A : Type 0} (a b : List A) → take (length a) (a ++ b) ≡ a
+take_front [] b = refl
+take_front (x ∷ a) b = ap (λ l. x ∷ l) (take_front a b)
+
+length_drop : {A : Type 0} (k : ℕ) (xs : List A) → k ≤ length xs → length (drop k xs) + k ≡ length xs
+length_drop zero xs h = omega arith
+length_drop (suc k) [] h = absurd (omega arith)
+length_drop (suc k) (x ∷ xs) h = let rest = length_drop k xs (omega arith) in omega (arith, rest)
+
+pub said_end : {A : Type 0} (xs : List A) (n : ℕ) → n ≤ length xs → reverse (take n (reverse xs)) ≡ drop (length xs - n) xs
+said_end xs n few =
+    let k = length xs - n in
+    let long : length (reverse (drop k xs)) ≡ n = (let a = length_drop k xs (omega arith) in let b = length-reverse (drop k xs) in omega (arith, a, b, few)) in
+    ap (λ l. reverse (take n (reverse l))) (sym (take-append-drop k xs))
+    ∙ ap (λ l. reverse (take n l)) (reverse-append (take k xs) (drop k xs))
+    ∙ ap (λ m. reverse (take m (reverse (drop k xs) ++ reverse (take k xs)))) (sym long)
+    ∙ ap reverse (take_front (reverse (drop k xs)) (reverse (take k xs)))
+    ∙ reverse-reverse (drop k xs)
+
+length_take : {A : Type 0} (n : ℕ) (xs : List A) → n ≤ length xs → length (take n xs) ≡ n
+length_take zero xs h = refl
+length_take (suc n) [] h = absurd (omega arith)
+length_take (suc n) (x ∷ xs) h = ap suc (length_take n xs (omega arith))
+
+pub said_first : {A : Type 0} (xs : List A) (n : ℕ) → n ≤ length xs → length (reverse xs) - length (take n (reverse xs)) ≡ length xs - n
+said_first xs n few = let a = length-reverse xs in let b = length_take n (reverse xs) (let e = length-reverse xs in omega (arith, e, few)) in omega (arith, a, b)
+
+-- what holds of all records, newest first, holds of each
+
+at_place : {A : Type 0} (P : A → Type 0) (ys : List A) (k : ℕ) (d : A) → AllByRecursion P ys → k < length ys → P (get_or ys k d)
+at_place P [] k d all h = absurd (omega arith)
+at_place P (y ∷ ys) zero d all h = all.0
+at_place P (y ∷ ys) (suc k) d all h = at_place P ys k d all.1 (omega arith)
+
+pub all_reversed : {A : Type 0} (P : A → Type 0) (xs : List A) → AllByRecursion P (reverse xs) → All P xs
+all_reversed P xs all = λ k d less.
+    let long = length-reverse xs in
+    let there : get_or (reverse (reverse xs)) k d ≡ get_or (reverse xs) (length (reverse xs) - 1 - k) d = get_or-reverse (reverse xs) k d (omega (arith, less, long)) in
+    subst P (sym there ∙ ap (λ l. get_or l k d) (reverse-reverse xs)) (at_place P (reverse xs) (length (reverse xs) - 1 - k) d all (omega (arith, less, long)))
+
+-- what is written
+
+abbrev end_line : List ℕ
+end_line = codes ":end" ++ 10 ∷ []
+
+lines_are : (t : TestValue) (m : Machine) (records : List Recorded) (n : ℕ) → n ≤ length records → m.history ≡ reverse records → m.said ≡ take n m.history
+    → record_lines t.start.names (length records - n) (drop (length records - n) records) ≡ record_lines t.start.names (length m.history - length m.said) (reverse m.said)
+lines_are t m records n few history said =
+    let first : length m.history - length m.said ≡ length records - n =
+        ap₂ (λ (h s : List Recorded). length h - length s) history (said ∙ ap (take n) history) ∙ said_first records n few in
+    let last : reverse m.said ≡ drop (length records - n) records = ap reverse (said ∙ ap (take n) history) ∙ said_end records n few in
+    ap₂ (record_lines t.start.names) (sym first) (sym last)
+
+module _ (t : TestValue) (m : Machine) (records : List Recorded) (n : ℕ) (few : n ≤ length records) (history : m.history ≡ reverse records) (said : m.said ≡ take n m.history) (out written : List ℕ)
+    (lines : written ≡ out ++ record_lines t.start.names (length records - n) (drop (length records - n) records)) where
+  pub written_over : (next : List ℕ) → next ≡ written ++ end_line → is_test_over m ≡ true → next ≡ out ++ said_lines t m
+  written_over next added over =
+      let all = record_lines t.start.names (length m.history - length m.said) (reverse m.said) in
+      added ∙ ap (λ l. l ++ end_line) (lines ∙ ap (λ l. out ++ l) (lines_are t m records n few history said))
+      ∙ append_assoc out all end_line
+      ∙ ap (λ b. out ++ (all ++ (if b then end_line else []))) (sym over)
+
+  pub written_on : is_test_over m ≡ false → written ≡ out ++ said_lines t m
+  written_on over =
+      let all = record_lines t.start.names (length m.history - length m.said) (reverse m.said) in
+      lines ∙ ap (λ l. out ++ l) (lines_are t m records n few history said ∙ sym (append-nil all))
+      ∙ ap (λ b. out ++ (all ++ (if b then end_line else []))) (sym over)

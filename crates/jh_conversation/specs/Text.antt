@@ -1,0 +1,27 @@
+-- What is written of a conversation: each record that is said as a line, and a line behind the last
+-- one. This project's own.
+use Rattle.std.specs.Prelude.{ℕ, ◌+◌, ◌-◌, List, [], ◌∷◌, ◌++◌, codes, length, reverse, if◌then◌else◌}
+use Rattle.jh_edn.specs.Print.{print}
+use Rattle.jh_ops.specs.OperationWritten.{value_written}
+use Rattle.jh_conversation.specs.Lines.{is_test_over, reply}
+use Rattle.jh_conversation.specs.Machine.{Machine}
+use Rattle.jh_conversation.specs.Records.{operation_of_record}
+use Rattle.jh_conversation.specs.Test.{TestValue}
+use Rattle.jh_conversation.specs.declared.records.Recorded.{Recorded}
+
+-- records one after another, the first at this index of the history, over nodes of these names
+abbrev pub record_lines : List (List ℕ) → ℕ → List Recorded → List ℕ
+record_lines names index [] = []
+record_lines names index (r ∷ rs) =
+    (print (value_written (operation_of_record names index r)) ++ 10 ∷ [])
+    ++ record_lines names (index + 1) rs
+
+-- what a machine has said since the last line that it read
+abbrev pub said_lines : TestValue → Machine → List ℕ
+said_lines t m =
+    record_lines t.start.names (length m.history - length m.said) (reverse m.said)
+    ++ (if is_test_over m then codes ":end" ++ 10 ∷ [] else [])
+
+-- what it says to a line; nothing behind the end
+abbrev pub text_to : TestValue → Machine → List ℕ → List ℕ
+text_to t m line = if is_test_over m then [] else said_lines t (reply t m line)

@@ -1,0 +1,19 @@
+-- What the code of a turn finds on its way; `Turn` has the rule. This project's own.
+use Rattle.std.specs.Prelude.{ℕ, pos, [], ◌∷◌, Option, None, Some}
+use Rattle.jh_edn.specs.Edn.{Edn, int}
+use Rattle.jh_edn.specs.Parts.{vector_of}
+use Rattle.jh_conversation.specs.Machine.{Machine}
+use Rattle.jh_conversation.specs.Test.{TestValue}
+use Rattle.jh_conversation.specs.Turn.{counts_after}
+
+abbrev pub value_behind_key : ℕ → Edn → Edn
+value_behind_key key value = vector_of (int (pos key) ∷ value ∷ [])
+
+-- the next machine where there is one, else this one
+abbrev pub moved : Machine → Option Machine → Machine
+moved m None = m
+moved m (Some next) = next
+
+-- one more call of the thread's group is counted
+abbrev pub counted : TestValue → ℕ → Machine → Machine
+counted t thread m = record m { calls_by_group = counts_after t.keys thread m.calls_by_group }

@@ -1,0 +1,165 @@
+//! A test as a conversation by lines, which `jh_lines` holds with an adapter. `specs/Laws.antt` says
+//! what holds of it.
+
+ghost use Rattle.std.specs.Prelude.{◌≡◌, IfOk, true};
+ghost use Rattle.jh_gen.specs.View.{generator_of};
+ghost use Rattle.jh_conversation.specs.Conversations.{IsBegun};
+ghost use Rattle.jh_conversation.specs.Laws.{IsDriverAtFirst, IsLastDriver};
+ghost use Rattle.jh_conversation.specs.Test.{suits_tested};
+
+use crate::machine::Machine;
+use crate::parts::Complaint;
+use crate::test::Test;
+use jh_gen::{Driver, DriverError, Gen, Inner};
+use jh_nemesis::Nemesis;
+use std::alloc::{AllocError, Global};
+use std::marker::Model;
+
+/// A test and where it stands. Once memory was refused in the midst of a line it is used no more.
+#[derive(Drop)]
+pub struct Conversation {
+    alloc: Global,
+    test: Test,
+    machine: Machine,
+    has_failed: bool,
+}
+
+impl Model for Conversation {
+    ghost use Rattle.jh_conversation.specs.Conversations.{ConversationValue};
+
+    ghost Value = { ConversationValue };
+
+    ghost use Rattle.std.specs.Coded.{codes};
+    ghost use Rattle.jh_edn.specs.Code.{edn_coded};
+    ghost use Rattle.jh_gen.specs.Code.{generator_coded};
+    ghost use Rattle.jh_gen.specs.DriverState.{driver_coded};
+
+    ghost coded = { Prim.hlevel (codes, edn_coded, generator_coded, driver_coded) };
+
+    ghost view = { λ a. record { test = a.test; machine = a.machine } };
+
+    ghost use Rattle.std.specs.Prelude.{◌≡◌, false};
+    ghost use Rattle.jh_conversation.specs.Sound.{IsSound};
+
+    ghost invariant = { λ a. a.has_failed ≡ false → IsSound a.test a.machine };
+}
+
+/// A driver of the calls of a generator, before its first call.
+fn driver_of(alloc: Global, test: &Test, generator: &Gen) -> Result<Driver, AllocError>
+    requires { suits_tested test.now.tested test.now.clients (generator_of generator.now) ≡ true }
+    ensures { IfOk result (IsDriverAtFirst test.now (generator_of generator.now)) }
+{
+    let limited = Gen::Limit(test.ops(), Inner::of(alloc, generator.copy(alloc)?)?);
+    let source = Gen::Clients(Inner::of(alloc, limited)?);
+    match Driver::new(alloc, source, test.clients()) {
+        Ok(driver) => Ok(driver),
+        Err(DriverError::OutOfMemory) => Err(AllocError),
+        Err(_) => unreachable!(),
+    }
+}
+
+/// The driver of the calls of *main*.
+fn first_driver(alloc: Global, test: &Test) -> Result<Driver, AllocError>
+    ensures { IfOk result (IsDriverAtFirst test.now test.now.generator) }
+{
+    // That the test is one that can be made.
+    let _clients = test.clients();
+    driver_of(alloc, test, test.generator())
+}
+
+/// The driver of the calls of *final*, where there are some.
+fn last_driver(alloc: Global, test: &Test) -> Result<Option<Driver>, AllocError>
+    ensures { IfOk result (IsLastDriver test.now test.now.final) }
+{
+    // That the test is one that can be made.
+    let _clients = test.clients();
+    match test.last() {
+        None => Ok(None),
+        Some(generator) => Ok(Some(driver_of(alloc, test, generator)?)),
+    }
+}
+
+impl Conversation {
+    /// Begins a test: says what is to be said before the first line is read.
+    ///
+    /// Error: memory was refused.
+    pub fn begin(alloc: Global, test: Test) -> Result<Conversation, AllocError>
+        ensures { IfOk result (IsBegun test) }
+    {
+        // That the test is one that can be made.
+        let _clients = test.clients();
+        let driver = first_driver(alloc, &test)?;
+        let last = last_driver(alloc, &test)?;
+        let mut machine = Machine::at_first(alloc, &test, driver, last)?;
+        machine.turn(alloc, &test)?;
+        Ok(Conversation {
+            alloc,
+            test,
+            machine,
+            has_failed: false,
+        })
+    }
+
+    /// The first line that was no reply, by its number from 1, and why it is none.
+    pub fn bad(&self) -> Option<(u64, Complaint)>
+        ensures { result ≡ self.now.machine.bad }
+    {
+        self.machine.bad
+    }
+
+    /// The nemesis, with the faults that are active now.
+    pub fn nemesis(&self) -> &Nemesis
+        ensures { result.now.state ≡ self.now.machine.nemesis }
+    {
+        &self.machine.nemesis
+    }
+}
+
+impl jh_lines::Machine for Conversation {
+    ghost use Rattle.std.specs.Prelude.{[], if◌then◌else◌};
+    ghost use Rattle.std.proofs.Common.{ap, ◌∙◌};
+    ghost use Rattle.jh_conversation.specs.Lines.{is_test_over, line_said, listen, reply, take_in};
+    ghost use Rattle.jh_conversation.specs.Text.{said_lines, text_to};
+    ghost use Rattle.jh_conversation.specs.Turn.{turn};
+
+    ghost opening = { λ c. said_lines c.test c.machine };
+
+    ghost after_line = { λ c line. record { test = c.test; machine = reply c.test c.machine line } };
+
+    ghost reply_to = { λ c line. text_to c.test c.machine line };
+
+    ghost has_finished = { λ c. is_test_over c.machine };
+
+    ghost stays_over = { λ c line over. (
+      ap (λ b. if b then [] else said_lines c.test (reply c.test c.machine line)) over,
+      ap (λ b. is_test_over (if b then listen c.machine
+        else turn c.test (take_in c.test (line_said line) (listen c.machine)))) over ∙ over,
+    ) };
+
+    fn open(&self, out: &mut Vec<u8>) -> Result<(), AllocError> {
+        if self.has_failed {
+            return Err(AllocError);
+        }
+        self.machine.write_said(self.alloc, &self.test, out)
+    }
+
+    fn reply(&mut self, line: &[u8], out: &mut Vec<u8>) -> Result<(), AllocError> {
+        if self.has_failed {
+            return Err(AllocError);
+        }
+        // That the test is one that can be made.
+        let _clients = self.test.clients();
+        let was_over = self.machine.is_over();
+        self.has_failed = true;
+        self.machine.reply(self.alloc, &self.test, line)?;
+        self.has_failed = false;
+        if was_over {
+            return Ok(());
+        }
+        self.machine.write_said(self.alloc, &self.test, out)
+    }
+
+    fn is_over(&self) -> bool {
+        self.machine.is_over()
+    }
+}

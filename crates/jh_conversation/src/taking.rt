@@ -1,0 +1,341 @@
+//! What the machine makes of a line. `specs/Lines.antt` has the rule.
+
+ghost use Rattle.std.specs.Prelude.{◌≡◌, ◌<◌, ◌≤◌, ◌^◌, [], IfOk, OnOk, false, filter};
+ghost use Rattle.jh_edn.specs.View.{view, view_pair};
+ghost use Rattle.jh_ops.specs.Operation.{operation};
+ghost use Rattle.jh_conversation.specs.Lines as rule;
+ghost use Rattle.jh_conversation.specs.LinesInside as inside;
+ghost use Rattle.jh_conversation.specs.LinesInside.{line_said_by};
+ghost use Rattle.jh_conversation.specs.Machine as machine;
+ghost use Rattle.jh_conversation.specs.Sound.{IsSound};
+
+use crate::calls::{Caller, Datum, OpenStep, name_of};
+use crate::line::{Said, line_said};
+use crate::machine::Machine;
+use crate::parts::{Complaint, Phase};
+use crate::records::Recorded;
+use crate::test::Test;
+use crate::values::{are_equal, fits_call};
+use jh_edn::{Pairs, Value};
+use jh_gen::{Ended, Thread};
+use jh_ops::{Kind, Op, Process, Request};
+use std::alloc::{AllocError, Global};
+
+/// The greatest time that a line can tell, in nanoseconds.
+const MOST_TIME: u64 = i64::MAX as u64;
+
+/// How many more processes have crashed.
+fn more_crashes(kind: Kind) -> u64
+    ensures crashes { result ≡ rule.more_crashes kind }
+    ensures few { result ≤ 1 }
+{
+    match kind {
+        Kind::Info => 1,
+        Kind::Invoke | Kind::Ok | Kind::Fail => 0,
+    }
+}
+
+/// How a call ends for the driver.
+fn ended_as(kind: Kind) -> Ended
+    ensures { result ≡ rule.ended_as kind }
+{
+    match kind {
+        Kind::Ok => Ended::Ok,
+        Kind::Fail => Ended::Fail,
+        Kind::Invoke | Kind::Info => Ended::Info,
+    }
+}
+
+/// Whether a conversation gives the value of this key by itself.
+fn is_own_key(key: &Value) -> bool
+    ensures { result ≡ rule.is_own_key (view key.now) }
+{
+    key.is_keyword("time") || key.is_keyword("index") || key.is_keyword("node")
+}
+
+/// Whether the pair of an operation is kept as it stands.
+fn is_kept(pair: &(Value, Value)) -> bool
+    ensures { result ≡ inside.is_kept (view_pair pair.now) }
+{
+    !is_own_key(&pair.0)
+}
+
+/// Those of these pairs that are kept.
+fn kept(alloc: Global, pairs: Vec<(Value, Value)>) -> Result<Vec<(Value, Value)>, AllocError>
+    ensures { IfOk result (λ kept. kept.items
+        ≡ filter (λ pair. inside.is_kept (view_pair pair)) pairs.items) }
+{
+    pairs.into_iter().filter(|pair| is_kept(pair)).collect(alloc)
+}
+
+/// The pairs of an operation that are kept as they stand.
+fn kept_pairs(alloc: Global, rest: Pairs) -> Result<Pairs, AllocError>
+    ensures { IfOk result (λ kept. kept ≡ inside.pairs_kept rest) }
+{
+    Ok(Pairs::of(kept(alloc, rest.into_vec())?))
+}
+
+/// Whether an operation answers the step that waits for its answer.
+fn answers_step(alloc: Global, step: OpenStep, op: &Op) -> Result<bool, AllocError>
+    requires { step.entry < 2 ^ 63 }
+    ensures { IfOk result (λ yes. yes ≡ rule.answers_step step (operation op.now)) }
+{
+    if !op.kind.is(Kind::Info) || !op.f.is_keyword("step") {
+        return Ok(false);
+    }
+    are_equal(alloc, &Value::Int(step.entry as i64), &op.value)
+}
+
+impl Machine {
+    /// Tells a line that is no reply, if it is the first one; it counts as two stops.
+    fn refuse(&mut self, why: Complaint)
+        ensures { self.new ≡ rule.refuse why self.old }
+    {
+        if self.bad.is_none() {
+            self.bad = Some((self.read, why));
+        }
+        self.stops = self.stops.saturating_add(2).min(2);
+    }
+
+    /// Moves the clock on.
+    fn at_time(&mut self, time: Option<u64>)
+        ensures { self.new ≡ rule.at_time time self.old }
+    {
+        if let Some(time) = time {
+            self.clock = self.clock.max(time).min(MOST_TIME);
+        }
+    }
+
+    /// Stops the calls of this phase.
+    fn stop(&mut self)
+        ensures { self.new ≡ rule.stop self.old }
+    {
+        let more = match self.phase {
+            Phase::Main => 1,
+            Phase::Heal | Phase::Rest | Phase::Final | Phase::Over => 2,
+        };
+        self.stops = self.stops.saturating_add(more).min(2);
+    }
+
+    /// Ends a call of a thread, which made this request.
+    fn finish(
+        &mut self,
+        alloc: Global,
+        test: &Test,
+        thread: u32,
+        request: Request,
+        op: Op,
+    ) -> Result<(), AllocError>
+        requires sound { IsSound test.now self.old }
+        requires within { thread < test.now.clients }
+        requires open { machine.has_no_call (machine.caller_of self.old thread).call ≡ false }
+        requires silent { self.old.said ≡ [] }
+        ensures { OnOk result (self.new ≡ rule.finish test.now thread request (operation op) self.old) }
+    {
+        let Op {
+            kind,
+            f: _,
+            value,
+            process: _,
+            time: _,
+            index: _,
+            rest,
+        } = op;
+        let process = self.process_of(test, thread);
+        let rest = kept_pairs(alloc, rest)?;
+        match self.driver.complete(Thread::Client(thread), ended_as(kind)) {
+            Ok(()) => {}
+            Err(_) => unreachable!(),
+        }
+        let more = more_crashes(kind);
+        let crashes = self.callers[thread as usize].crashes + more;
+        self.answered += 1;
+        self.crashed += more;
+        self.callers[thread as usize] = Caller {
+            crashes,
+            call: None,
+        };
+        let value = Datum::of(value);
+        self.hear(Recorded::Ended(self.clock, process, kind, request, value, rest))
+    }
+
+    /// The request whose call an operation of a process ends, or why it ends none.
+    fn ended_request(
+        &self,
+        alloc: Global,
+        test: &Test,
+        process: u64,
+        op: &Op,
+    ) -> Result<Result<Request, Complaint>, AllocError>
+        requires { IsSound test.now self.now }
+        ensures { IfOk result (λ ended. ended ≡ inside.ended_request test.now self.now process
+            (operation op.now)
+            (machine.caller_of self.now (rule.thread_of_process test.now process)).call) }
+    {
+        let thread = test.thread_of(process);
+        let Some(call) = &self.callers[thread as usize].call else {
+            return Ok(Err(Complaint::NoCallOpen));
+        };
+        if self.process_of(test, thread) != process {
+            return Ok(Err(Complaint::NoCallOpen));
+        }
+        if op.kind.is(Kind::Invoke) || !op.f.is_keyword(name_of(call.request)) {
+            return Ok(Err(Complaint::OtherCall));
+        }
+        if !fits_call(alloc, test, call, op.kind, &op.value)? {
+            return Ok(Err(Complaint::BadValue));
+        }
+        Ok(Ok(call.request))
+    }
+
+    /// Ends a call of a thread, or tells why none is ended.
+    fn take_ended(
+        &mut self,
+        alloc: Global,
+        test: &Test,
+        thread: u32,
+        ended: Result<Request, Complaint>,
+        op: Op,
+        time: Option<u64>,
+    ) -> Result<(), AllocError>
+        requires sound { IsSound test.now self.old }
+        requires within { thread < test.now.clients }
+        requires open { IfOk ended
+            (λ _. machine.has_no_call (machine.caller_of self.old thread).call ≡ false) }
+        requires silent { self.old.said ≡ [] }
+        ensures { OnOk result (self.new
+            ≡ inside.after_completion test.now thread (operation op) time self.old ended) }
+    {
+        match ended {
+            Err(why) => {
+                self.refuse(why);
+                Ok(())
+            }
+            Ok(request) => {
+                self.at_time(time);
+                self.finish(alloc, test, thread, request, op)
+            }
+        }
+    }
+
+    /// Takes the completion of a call of a process.
+    fn take_completion(
+        &mut self,
+        alloc: Global,
+        test: &Test,
+        process: u64,
+        op: Op,
+        time: Option<u64>,
+    ) -> Result<(), AllocError>
+        requires sound { IsSound test.now self.old }
+        requires silent { self.old.said ≡ [] }
+        ensures { OnOk result (self.new ≡ rule.take_completion test.now process (operation op) time
+            self.old (machine.caller_of self.old (rule.thread_of_process test.now process)).call) }
+    {
+        let ended = self.ended_request(alloc, test, process, &op)?;
+        self.take_ended(alloc, test, test.thread_of(process), ended, op, time)
+    }
+
+    /// Takes the answer of the nemesis.
+    fn take_answer(
+        &mut self,
+        alloc: Global,
+        test: &Test,
+        op: Op,
+        time: Option<u64>,
+    ) -> Result<(), AllocError>
+        requires sound { IsSound test.now self.old }
+        requires silent { self.old.said ≡ [] }
+        ensures { OnOk result
+            (self.new ≡ rule.take_answer (operation op) time self.old self.old.step) }
+    {
+        let Some(step) = self.step else {
+            self.refuse(Complaint::NoStepOpen);
+            return Ok(());
+        };
+        if !answers_step(alloc, step, &op)? {
+            self.refuse(Complaint::OtherStep);
+            return Ok(());
+        }
+        self.at_time(time);
+        self.step = None;
+        let Op {
+            kind: _,
+            f: _,
+            value: _,
+            process: _,
+            time: _,
+            index: _,
+            rest,
+        } = op;
+        let rest = kept_pairs(alloc, rest)?;
+        self.hear(Recorded::Answered(self.clock, step.entry, step.code, rest))
+    }
+
+    /// Takes in what a line says.
+    fn take_in(&mut self, alloc: Global, test: &Test, said: Said) -> Result<(), AllocError>
+        requires sound { IsSound test.now self.old }
+        requires silent { self.old.said ≡ [] }
+        ensures { OnOk result (self.new ≡ rule.take_in test.now (line_said_by said) self.old) }
+    {
+        match said {
+            Said::Nothing => Ok(()),
+            Said::Clock(time) => {
+                self.at_time(Some(time));
+                Ok(())
+            }
+            Said::Stop => {
+                self.stop();
+                Ok(())
+            }
+            Said::Bad(why) => {
+                self.refuse(why);
+                Ok(())
+            }
+            Said::Reply(op, time) => match op.process {
+                Process::Nemesis => self.take_answer(alloc, test, op, time),
+                Process::Client(process) => self.take_completion(alloc, test, process, op, time),
+            },
+        }
+    }
+
+    /// Whether it says and hears nothing more.
+    pub(crate) fn is_over(&self) -> bool
+        ensures { result ≡ rule.is_test_over self.now }
+    {
+        match self.phase {
+            Phase::Over => true,
+            Phase::Main | Phase::Heal | Phase::Rest | Phase::Final => false,
+        }
+    }
+
+    /// Counts a line; what was said is what is said to it.
+    ///
+    /// Error: 2^64 - 1 lines were read.
+    fn listen(&mut self) -> Result<(), AllocError>
+        ensures { OnOk result (self.new ≡ rule.listen self.old) }
+    {
+        if self.read == u64::MAX {
+            return Err(AllocError);
+        }
+        self.read += 1;
+        self.said = 0;
+        Ok(())
+    }
+
+    /// Takes a line, without its line feed, and says all that can then be said.
+    pub(crate) fn reply(&mut self, alloc: Global, test: &Test, line: &[u8]) -> Result<(), AllocError>
+        requires { IsSound test.now self.old }
+        ensures { OnOk result (self.new ≡ rule.reply test.now self.old line.now) }
+    {
+        // That the test is one that can be made.
+        let _clients = test.clients();
+        self.listen()?;
+        if self.is_over() {
+            return Ok(());
+        }
+        let said = line_said(alloc, line)?;
+        self.take_in(alloc, test, said)?;
+        self.turn(alloc, test)
+    }
+}

@@ -1,0 +1,95 @@
+//! What is written of a conversation. `specs/Text.antt` has the rule.
+
+ghost use Rattle.std.specs.Prelude.{◌≡◌, ◌<◌, ◌≤◌, ◌++◌, ◌∷◌, ◌^◌, [], All, drop, length, OnOk, reverse, take};
+ghost use Rattle.jh_edn.specs.Print.{print};
+ghost use Rattle.jh_ops.specs.OperationWritten.{value_written};
+ghost use Rattle.jh_conversation.specs.Records.{operation_of_record};
+ghost use Rattle.jh_conversation.specs.Sound.{IsSound, IsWritable};
+ghost use Rattle.jh_conversation.specs.Text as rule;
+
+use crate::machine::Machine;
+use crate::operations::operation_of;
+use crate::records::Recorded;
+use crate::test::Test;
+use jh_env::Nodes;
+use jh_ops::write_operation;
+use std::alloc::{AllocError, Global};
+
+/// Adds the line of a record.
+fn write_record(
+    alloc: Global,
+    nodes: &Nodes,
+    index: usize,
+    recorded: &Recorded,
+    out: &mut Vec<u8>,
+) -> Result<(), AllocError>
+    requires index { index < 2 ^ 63 }
+    requires writable { IsWritable (length nodes.now) recorded.now }
+    ensures { OnOk result (out.new.items ≡ out.old.items
+        ++ (print (value_written (operation_of_record nodes.now index recorded.now)) ++ 10 ∷ [])) }
+{
+    let op = operation_of(alloc, nodes, index, recorded)?;
+    if write_operation(&op, out).is_err() {
+        return Err(AllocError);
+    }
+    out.push(b'\n')?;
+    Ok(())
+}
+
+/// Adds the lines of these records from an index on.
+fn write_records(
+    alloc: Global,
+    nodes: &Nodes,
+    records: &[Recorded],
+    first: usize,
+    out: &mut Vec<u8>,
+) -> Result<(), AllocError>
+    requires few { length records.now < 2 ^ 63 }
+    requires writable { All (IsWritable (length nodes.now)) records.now }
+    ensures { OnOk result (out.new.items
+        ≡ out.old.items ++ rule.record_lines nodes.now first (drop first records.now)) }
+{
+    for index in first..records.len() {
+        write_record(alloc, nodes, index, &records[index], out)?;
+    }
+    Ok(())
+}
+
+impl Machine {
+    /// The history, the oldest record first.
+    pub(crate) fn records(&self) -> &[Recorded]
+        ensures history { self.now.history ≡ reverse result.now }
+        ensures few { length result.now < 2 ^ 63 }
+    {
+        self.history.as_slice()
+    }
+
+    /// How many records were said since the last line that was read.
+    fn count_said(&self) -> usize
+        ensures said { self.now.said ≡ take result self.now.history }
+        ensures few { result ≤ length self.now.history }
+    {
+        self.said
+    }
+
+    /// Adds the lines of what was said since the last line that was read, and behind the last record
+    /// the line of the end.
+    pub(crate) fn write_said(
+        &self,
+        alloc: Global,
+        test: &Test,
+        out: &mut Vec<u8>,
+    ) -> Result<(), AllocError>
+        requires { IsSound test.now self.now }
+        ensures { OnOk result
+            (out.new.items ≡ out.old.items ++ rule.said_lines test.now self.now) }
+    {
+        let records = self.records();
+        let first = records.len() - self.count_said();
+        write_records(alloc, test.nodes(), records, first, out)?;
+        if self.is_over() {
+            out.extend_from_slice(b":end\n")?;
+        }
+        Ok(())
+    }
+}
