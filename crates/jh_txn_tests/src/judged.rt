@@ -168,3 +168,34 @@ fn refuses_histories(rt: HostRuntime) -> Result<(), Fail> {
         i 0 [[:r 1 nil]]; ok 0 [[:r 1 7]] | serializable => operation 1: bad value";
     judge_all(rt.alloc(), rows)
 }
+
+/// Of two cycles that of the kind with the earlier name, though the other one is shorter.
+#[test]
+fn shows_the_first_kind(rt: HostRuntime) -> Result<(), Fail> {
+    let rows = "
+        i 0 [[:append 1 1] [:append 3 2] [:r 4 nil]]; i 1 [[:append 1 2] [:append 2 1] [:append 4 1]]; i 2 [[:append 2 2] [:append 3 1]]; ok 0 [[:append 1 1] [:append 3 2] [:r 4 [1]]]; ok 1 [[:append 1 2] [:append 2 1] [:append 4 1]]; ok 2 [[:append 2 2] [:append 3 1]]; i 3 [[:r 1 nil] [:r 2 nil] [:r 3 nil]]; ok 3 [[:r 1 [1 2]] [:r 2 [1 2]] [:r 3 [1 2]]] | serializable => {:valid? false, :anomaly :G0, :cycle [[0 :ww 1 1] [1 :ww 2 1] [2 :ww 3 1]]} or {:valid? false, :anomaly :G0, :cycle [[1 :ww 2 1] [2 :ww 3 1] [0 :ww 1 1]]} or {:valid? false, :anomaly :G0, :cycle [[2 :ww 3 1] [0 :ww 1 1] [1 :ww 2 1]]}
+        i 0 [[:append 1 1] [:r 3 nil] [:append 4 1]]; i 1 [[:r 1 nil] [:append 2 1] [:r 4 nil]]; i 2 [[:r 2 nil] [:append 3 1]]; ok 0 [[:append 1 1] [:r 3 [1]] [:append 4 1]]; ok 1 [[:r 1 [1]] [:append 2 1] [:r 4 nil]]; ok 2 [[:r 2 [1]] [:append 3 1]]; i 3 [[:r 4 nil]]; ok 3 [[:r 4 [1]]] | serializable => {:valid? false, :anomaly :G1c, :cycle [[0 :wr 1 1] [1 :wr 2 1] [2 :wr 3 1]]} or {:valid? false, :anomaly :G1c, :cycle [[1 :wr 2 1] [2 :wr 3 1] [0 :wr 1 1]]} or {:valid? false, :anomaly :G1c, :cycle [[2 :wr 3 1] [0 :wr 1 1] [1 :wr 2 1]]}
+        i 0 [[:r 1 nil] [:r 4 nil]]; i 1 [[:append 1 1] [:append 2 1]]; i 2 [[:r 2 nil] [:r 3 nil] [:append 5 1]]; i 3 [[:r 5 nil] [:append 6 1]]; i 4 [[:append 3 1] [:append 4 1] [:r 6 nil]]; ok 0 [[:r 1 nil] [:r 4 [1]]]; ok 1 [[:append 1 1] [:append 2 1]]; ok 2 [[:r 2 [1]] [:r 3 nil] [:append 5 1]]; ok 3 [[:r 5 [1]] [:append 6 1]]; ok 4 [[:append 3 1] [:append 4 1] [:r 6 [1]]]; i 5 [[:r 1 nil] [:r 3 nil]]; ok 5 [[:r 1 [1]] [:r 3 [1]]] | serializable => {:valid? false, :anomaly :G-single, :cycle [[0 :rw 1 1] [1 :wr 2 1] [2 :wr 5 1] [3 :wr 6 1] [4 :wr 4 1]]} or {:valid? false, :anomaly :G-single, :cycle [[1 :wr 2 1] [2 :wr 5 1] [3 :wr 6 1] [4 :wr 4 1] [0 :rw 1 1]]} or {:valid? false, :anomaly :G-single, :cycle [[2 :wr 5 1] [3 :wr 6 1] [4 :wr 4 1] [0 :rw 1 1] [1 :wr 2 1]]} or {:valid? false, :anomaly :G-single, :cycle [[3 :wr 6 1] [4 :wr 4 1] [0 :rw 1 1] [1 :wr 2 1] [2 :wr 5 1]]} or {:valid? false, :anomaly :G-single, :cycle [[4 :wr 4 1] [0 :rw 1 1] [1 :wr 2 1] [2 :wr 5 1] [3 :wr 6 1]]}
+        i 0 [[:r 1 nil] [:r 3 nil] [:append 4 1]]; i 1 [[:append 1 1] [:append 2 1] [:r 4 nil]]; i 2 [[:r 2 nil] [:append 3 1]]; ok 0 [[:r 1 nil] [:r 3 [1]] [:append 4 1]]; ok 1 [[:append 1 1] [:append 2 1] [:r 4 nil]]; ok 2 [[:r 2 [1]] [:append 3 1]]; i 3 [[:r 1 nil] [:r 4 nil]]; ok 3 [[:r 1 [1]] [:r 4 [1]]] | serializable => {:valid? false, :anomaly :G-single, :cycle [[0 :rw 1 1] [1 :wr 2 1] [2 :wr 3 1]]} or {:valid? false, :anomaly :G-single, :cycle [[1 :wr 2 1] [2 :wr 3 1] [0 :rw 1 1]]} or {:valid? false, :anomaly :G-single, :cycle [[2 :wr 3 1] [0 :rw 1 1] [1 :wr 2 1]]}
+        i 0 [[:r 1 nil] [:r 4 nil]]; i 1 [[:append 1 1] [:append 2 1] [:r 5 nil]]; i 2 [[:r 2 nil] [:r 3 nil]]; i 3 [[:append 3 1] [:append 4 1] [:append 5 1]]; ok 0 [[:r 1 nil] [:r 4 [1]]]; ok 1 [[:append 1 1] [:append 2 1] [:r 5 nil]]; ok 2 [[:r 2 [1]] [:r 3 nil]]; ok 3 [[:append 3 1] [:append 4 1] [:append 5 1]]; i 4 [[:r 1 nil] [:r 3 nil] [:r 5 nil]]; ok 4 [[:r 1 [1]] [:r 3 [1]] [:r 5 [1]]] | serializable => {:valid? false, :anomaly :G-nonadjacent, :cycle [[0 :rw 1 1] [1 :wr 2 1] [2 :rw 3 1] [3 :wr 4 1]]} or {:valid? false, :anomaly :G-nonadjacent, :cycle [[1 :wr 2 1] [2 :rw 3 1] [3 :wr 4 1] [0 :rw 1 1]]} or {:valid? false, :anomaly :G-nonadjacent, :cycle [[2 :rw 3 1] [3 :wr 4 1] [0 :rw 1 1] [1 :wr 2 1]]} or {:valid? false, :anomaly :G-nonadjacent, :cycle [[3 :wr 4 1] [0 :rw 1 1] [1 :wr 2 1] [2 :rw 3 1]]}";
+    judge_all(rt.alloc(), rows)
+}
+
+/// The same of snapshot orders, and of cycles with real time and without.
+#[test]
+fn shows_the_first_kind_of_each_model(rt: HostRuntime) -> Result<(), Fail> {
+    let rows = "
+        i 0 [[:append 1 1] [:r 2 nil]]; i 1 [[:append 2 1] [:append 3 1]]; i 2 [[:r 3 nil] [:append 4 1]]; ok 0 [[:append 1 1] [:r 2 nil]]; i 3 [[:r 1 nil] [:r 4 nil]]; ok 1 [[:append 2 1] [:append 3 1]]; ok 2 [[:r 3 [1]] [:append 4 1]]; ok 3 [[:r 1 nil] [:r 4 [1]]]; i 4 [[:r 1 nil] [:r 2 nil]]; ok 4 [[:r 1 [1]] [:r 2 [1]]] | strict => {:valid? false, :anomaly :G2-item, :cycle [[0 :rw 2 1] [1 :wr 3 1] [2 :wr 4 1] [3 :rw 1 1]]} or {:valid? false, :anomaly :G2-item, :cycle [[1 :wr 3 1] [2 :wr 4 1] [3 :rw 1 1] [0 :rw 2 1]]} or {:valid? false, :anomaly :G2-item, :cycle [[2 :wr 4 1] [3 :rw 1 1] [0 :rw 2 1] [1 :wr 3 1]]} or {:valid? false, :anomaly :G2-item, :cycle [[3 :rw 1 1] [0 :rw 2 1] [1 :wr 3 1] [2 :wr 4 1]]}
+        i 0 [[:r 4 nil] [:append 4 1] [:append 1 1] [:r 3 nil]]; i 1 [[:r 4 nil] [:append 4 2] [:r 1 nil] [:append 2 1]]; i 2 [[:r 2 nil] [:append 3 1]]; ok 0 [[:r 4 nil] [:append 4 1] [:append 1 1] [:r 3 [1]]]; ok 1 [[:r 4 nil] [:append 4 2] [:r 1 [1]] [:append 2 1]]; ok 2 [[:r 2 [1]] [:append 3 1]] | snapshot => {:valid? false, :anomaly :G1c, :cycle [[0 :wr 1 1] [1 :wr 2 1] [2 :wr 3 1]]} or {:valid? false, :anomaly :G1c, :cycle [[1 :wr 2 1] [2 :wr 3 1] [0 :wr 1 1]]} or {:valid? false, :anomaly :G1c, :cycle [[2 :wr 3 1] [0 :wr 1 1] [1 :wr 2 1]]}
+        i 0 [[:append 1 1] [:append 4 2]]; i 1 [[:r 1 nil] [:append 2 1]]; ok 0 [[:append 1 1] [:append 4 2]]; i 2 [[:r 2 nil] [:append 4 1]]; ok 1 [[:r 1 [1]] [:append 2 1]]; ok 2 [[:r 2 [1]] [:append 4 1]]; i 3 [[:r 4 nil]]; ok 3 [[:r 4 [1 2]]] | strong => {:valid? false, :anomaly :G1c, :cycle [[0 :wr 1 1] [1 :wr 2 1] [2 :ww 4 1]]} or {:valid? false, :anomaly :G1c, :cycle [[1 :wr 2 1] [2 :ww 4 1] [0 :wr 1 1]]} or {:valid? false, :anomaly :G1c, :cycle [[2 :ww 4 1] [0 :wr 1 1] [1 :wr 2 1]]}";
+    judge_all(rt.alloc(), rows)
+}
+
+/// Of two cycles of one kind the short one, whichever is met first.
+#[test]
+fn shows_the_short_cycle(rt: HostRuntime) -> Result<(), Fail> {
+    let rows = "
+        i 0 [[:append 1 1] [:r 3 nil] [:r 4 nil]]; i 1 [[:r 1 nil] [:append 2 1] [:append 4 1]]; i 2 [[:r 2 nil] [:append 3 1]]; ok 0 [[:append 1 1] [:r 3 [1]] [:r 4 [1]]]; ok 1 [[:r 1 [1]] [:append 2 1] [:append 4 1]]; ok 2 [[:r 2 [1]] [:append 3 1]] | serializable => {:valid? false, :anomaly :G1c, :cycle [[0 :wr 1 1] [1 :wr 4 1]]} or {:valid? false, :anomaly :G1c, :cycle [[1 :wr 4 1] [0 :wr 1 1]]}
+        i 0 [[:append 1 1] [:r 4 nil] [:r 3 nil]]; i 1 [[:r 1 nil] [:append 2 1] [:append 4 1]]; i 2 [[:r 2 nil] [:append 3 1]]; ok 0 [[:append 1 1] [:r 4 [1]] [:r 3 [1]]]; ok 1 [[:r 1 [1]] [:append 2 1] [:append 4 1]]; ok 2 [[:r 2 [1]] [:append 3 1]] | serializable => {:valid? false, :anomaly :G1c, :cycle [[0 :wr 1 1] [1 :wr 4 1]]} or {:valid? false, :anomaly :G1c, :cycle [[1 :wr 4 1] [0 :wr 1 1]]}";
+    judge_all(rt.alloc(), rows)
+}
