@@ -3,7 +3,7 @@ use Rattle.std.proofs.Common.{◌≡◌, ◌≢◌, ℕ, zero, suc, ◌+◌, ◌
 use Rattle.std.specs.Prelude.{Option, None, Some, if◌then◌else◌, is_some}
 use Rattle.std.proofs.lemmas.Bool.{ne_eqb, false≢true, true≢false}
 use Rattle.jh_conversation.specs.Machine.{Machine}
-use Rattle.jh_conversation.specs.Sound.{IsSound}
+use Rattle.jh_conversation.specs.Sound.{IsSoundMachine}
 use Rattle.jh_conversation.specs.Test.{IsFitTest, TestValue}
 use Rattle.jh_conversation.specs.Turn.{calls, go_on, move, passes, round, rounds, step, visit, visits, work}
 use Rattle.jh_conversation.specs.TurnInside.{moved}
@@ -42,22 +42,22 @@ round_last t m next n most all h rest is same =
 
 -- The machine stays sound.
 
-pub sound_visit : (t : TestValue) (m next : Machine) (thread : ℕ) → IsFitTest t → thread < t.clients → IsSound t m → next ≡ visit t thread m → IsSound t next
-sound_visit t m next thread fit within h is = subst (IsSound t) (sym is) (kept_visit t (IsSound t) (sound_by_calls t fit) m thread within h)
+pub sound_visit : (t : TestValue) (m next : Machine) (thread : ℕ) → IsFitTest t → thread < t.clients → IsSoundMachine t m → next ≡ visit t thread m → IsSoundMachine t next
+sound_visit t m next thread fit within h is = subst (IsSoundMachine t) (sym is) (kept_visit t (IsSoundMachine t) (sound_by_calls t fit) m thread within h)
 
-pub sound_round : (t : TestValue) (m next : Machine) → IsFitTest t → IsSound t m → next ≡ round t m → IsSound t next
-sound_round t m next fit h is = subst (IsSound t) (sym is) (kept_round t (IsSound t) (sound_by_calls t fit) m h)
+pub sound_round : (t : TestValue) (m next : Machine) → IsFitTest t → IsSoundMachine t m → next ≡ round t m → IsSoundMachine t next
+sound_round t m next fit h is = subst (IsSoundMachine t) (sym is) (kept_round t (IsSoundMachine t) (sound_by_calls t fit) m h)
 
-pub sound_step : (t : TestValue) (m next : Machine) → IsFitTest t → IsSound t m → next ≡ step t m → IsSound t next
-sound_step t m next fit h is = subst (IsSound t) (sym is) (kept_step t (IsSound t) (sound_in_turn t fit) m h)
+pub sound_step : (t : TestValue) (m next : Machine) → IsFitTest t → IsSoundMachine t m → next ≡ step t m → IsSoundMachine t next
+sound_step t m next fit h is = subst (IsSoundMachine t) (sym is) (kept_step t (IsSoundMachine t) (sound_in_turn t fit) m h)
 
-pub sound_pass : (t : TestValue) (m stepped worked next : Machine) → IsFitTest t → IsSound t m → stepped ≡ step t m → worked ≡ calls t stepped → next ≡ moved worked (move t worked) → IsSound t next
-sound_pass t m stepped worked next fit h one two three = subst (IsSound t) (sym three) (go (move t worked) (kept_move t (IsSound t) (sound_in_turn t fit) worked there))
+pub sound_pass : (t : TestValue) (m stepped worked next : Machine) → IsFitTest t → IsSoundMachine t m → stepped ≡ step t m → worked ≡ calls t stepped → next ≡ moved worked (move t worked) → IsSoundMachine t next
+sound_pass t m stepped worked next fit h one two three = subst (IsSoundMachine t) (sym three) (go (move t worked) (kept_move t (IsSoundMachine t) (sound_in_turn t fit) worked there))
   where
-    there : IsSound t worked
-    there = subst (IsSound t) (sym two) (kept_calls t (IsSound t) (sound_by_calls t fit) stepped (sound_step t m stepped fit h one))
+    there : IsSoundMachine t worked
+    there = subst (IsSoundMachine t) (sym two) (kept_calls t (IsSoundMachine t) (sound_by_calls t fit) stepped (sound_step t m stepped fit h one))
 
-    go : (n : Option Machine) → IfMoved (IsSound t) n → IsSound t (moved worked n)
+    go : (n : Option Machine) → IfMoved (IsSoundMachine t) n → IsSoundMachine t (moved worked n)
     go None k = there
     go (Some n) k = k
 

@@ -30,7 +30,7 @@ use Rattle.jh_simnode.specs.Histories.{code_of}
 use Rattle.jh_conversation.specs.Laws.{Drivers, IsLastDriver}
 use Rattle.jh_conversation.specs.Lines.{at_first, clock_after, ended_as, more_crashes}
 use Rattle.jh_conversation.specs.Machine.{Machine, are_free, caller_process, has_no_call, new_callers, no_caller}
-use Rattle.jh_conversation.specs.Sound.{AreCounted, AreGivenByDrivers, AreGroups, HasSmallCounts, HasSmallNumbers, IsBetween, IsFreshIfThere, IsOverStart, IsSmallStep, IsSound, IsTied, earlier_calls, is_busy, is_idle, open_calls}
+use Rattle.jh_conversation.specs.Sound.{AreCounted, AreGivenByDrivers, AreGroups, HasSmallCounts, HasSmallNumbers, IsBetween, IsFreshIfThere, IsOverStart, IsSmallStep, IsSoundMachine, IsTied, earlier_calls, is_busy_for, is_idle, open_calls}
 use Rattle.jh_conversation.specs.Test.{IsFitTest, TestValue}
 use Rattle.jh_conversation.specs.Turn.{answer_to, ask, call_made, calls_ended, counts_after, due_in_phase, group_of, has_come_to, if_due, invoke, may_call, told}
 use Rattle.jh_conversation.specs.declared.calls.Asked.{Asked}
@@ -90,10 +90,10 @@ tied_next clients d e spent callers t w b h within same set_is calls free = reco
   idle = λ goes k hk is. idle_at goes k hk (cases_eq k t) is;
 }
   where
-    at_here : (k : ℕ) → k ≡ t → is_busy e k ≡ b
+    at_here : (k : ℕ) → k ≡ t → is_busy_for e k ≡ b
     at_here k is = ap (λ l. slice_index_or l (k + 1) false) set_is ∙ ap (λ j. slice_index_or (set d.busy (t + 1) b) (j + 1) false) is ∙ busy_here d.busy t b (omega (arith, h.long))
 
-    at_there : (k : ℕ) → k ≢ t → is_busy e k ≡ is_busy d k
+    at_there : (k : ℕ) → k ≢ t → is_busy_for e k ≡ is_busy_for d k
     at_there k ne = ap (λ l. slice_index_or l (k + 1) false) set_is ∙ busy_there d.busy t k b ne
 
     call_here : (k : ℕ) → k ≡ t → is_idle (set callers t w) k ≡ has_no_call w.call
@@ -102,11 +102,11 @@ tied_next clients d e spent callers t w b h within same set_is calls free = reco
     call_there : (k : ℕ) → k ≢ t → is_idle (set callers t w) k ≡ is_idle callers k
     call_there k ne = ap (λ (x : Caller). has_no_call x.call) (there callers t k w ne)
 
-    busy_at : (k : ℕ) → k < clients → (k ≡ t) ⊎ (k ≡ t → ⊥) → is_idle (set callers t w) k ≡ false → is_busy e k ≡ true
+    busy_at : (k : ℕ) → k < clients → (k ≡ t) ⊎ (k ≡ t → ⊥) → is_idle (set callers t w) k ≡ false → is_busy_for e k ≡ true
     busy_at k hk (inl is) busy = at_here k is ∙ calls (sym (call_here k is) ∙ busy)
     busy_at k hk (inr ne) busy = at_there k ne ∙ h.busy k hk (sym (call_there k ne) ∙ busy)
 
-    idle_at : spent ≡ false → (k : ℕ) → k < clients → (k ≡ t) ⊎ (k ≡ t → ⊥) → is_idle (set callers t w) k ≡ true → is_busy e k ≡ false
+    idle_at : spent ≡ false → (k : ℕ) → k < clients → (k ≡ t) ⊎ (k ≡ t → ⊥) → is_idle (set callers t w) k ≡ true → is_busy_for e k ≡ false
     idle_at goes k hk (inl is) none = at_here k is ∙ free (sym (call_here k is) ∙ none)
     idle_at goes k hk (inr ne) none = at_there k ne ∙ h.idle goes k hk (sym (call_there k ne) ∙ none)
 
@@ -200,7 +200,7 @@ all_given Rest d given h = let a = h.0 in let b = h.1 in omega (arith, a, b)
 all_given Final d given h = let a = h.0 in let b = h.1 in omega (arith, a, b)
 all_given Over d given h = let a = h.0 in let b = h.1 in omega (arith, a, b)
 
-pub small_counts : (t : TestValue) (m : Machine) → IsSound t m → HasSmallCounts t m
+pub small_counts : (t : TestValue) (m : Machine) → IsSoundMachine t m → HasSmallCounts t m
 small_counts t m h = record {
   wide = h.0.wide;
   crashes = λ k hk. let low = h.2.each k hk in let few = h.2.few in let all = h.2.all in let given = all_given m.phase m.driver m.given h.1 in omega (arith, low, few, all, given);
@@ -269,16 +269,16 @@ names_stay s step = elim (is_ok (answer_of s step)) as (λ b. (if b then moved_s
 
 -- Calls.
 
-module _ (t : TestValue) (fit : IsFitTest t) (m : Machine) (n : ℕ) (words : Lcg) (within : n < t.clients) (idle : is_idle m.callers n ≡ true) (may : may_call t m ≡ true) (h : IsSound t m) where
-  sound_same : (e : DriverState) → e ≡ m.driver → IsSound t (record m { driver = e; words = words })
-  sound_same e is = subst (λ d. IsSound t (record m { driver = d; words = words })) (sym is) h
+module _ (t : TestValue) (fit : IsFitTest t) (m : Machine) (n : ℕ) (words : Lcg) (within : n < t.clients) (idle : is_idle m.callers n ≡ true) (may : may_call t m ≡ true) (h : IsSoundMachine t m) where
+  sound_same : (e : DriverState) → e ≡ m.driver → IsSoundMachine t (record m { driver = e; words = words })
+  sound_same e is = subst (λ d. IsSoundMachine t (record m { driver = d; words = words })) (sym is) h
 
-  sound_spent : (e : DriverState) → e ≡ m.driver → IsSound t (record m { driver = e; words = words; has_spent = true })
-  sound_spent e is = subst (λ d. IsSound t (record m { driver = d; words = words; has_spent = true })) (sym is) (tied_spent t.clients m.driver m.has_spent m.callers h.0, h.1, h.2, h.3, h.4, h.5, h.6, h.7)
+  sound_spent : (e : DriverState) → e ≡ m.driver → IsSoundMachine t (record m { driver = e; words = words; has_spent = true })
+  sound_spent e is = subst (λ d. IsSoundMachine t (record m { driver = d; words = words; has_spent = true })) (sym is) (tied_spent t.clients m.driver m.has_spent m.callers h.0, h.1, h.2, h.3, h.4, h.5, h.6, h.7)
 
   -- a step ends the calls, though its thread is busy for the driver
   sound_stepped : (e : DriverState) → (e.clients ≡ m.driver.clients) × (e.given ≡ m.driver.given + 1) × (e.busy ≡ set m.driver.busy (n + 1) true) × (m.driver.given < max_calls)
-      → IsSound t (record m { driver = e; words = words; has_spent = true })
+      → IsSoundMachine t (record m { driver = e; words = words; has_spent = true })
   sound_stepped e g = (
     record {
       clients_is = g.0 ∙ h.0.clients_is;
@@ -291,12 +291,12 @@ module _ (t : TestValue) (fit : IsFitTest t) (m : Machine) (n : ℕ) (words : Lc
     h.2, h.3, h.4, h.5, h.6, h.7,
   )
     where
-      go : (k : ℕ) → k < t.clients → is_idle m.callers k ≡ false → (k ≡ n) ⊎ (k ≡ n → ⊥) → is_busy e k ≡ true
+      go : (k : ℕ) → k < t.clients → is_idle m.callers k ≡ false → (k ≡ n) ⊎ (k ≡ n → ⊥) → is_busy_for e k ≡ true
       go k hk is (inl same) = absurd (true≢false (sym idle ∙ ap (is_idle m.callers) (sym same) ∙ is))
       go k hk is (inr ne) = ap (λ l. slice_index_or l (k + 1) false) g.2 ∙ busy_there m.driver.busy n k true ne ∙ h.0.busy k hk is
 
   sound_called : (e : DriverState) (request : Request) → (e.clients ≡ m.driver.clients) × (e.given ≡ m.driver.given + 1) × (e.busy ≡ set m.driver.busy (n + 1) true) × (m.driver.given < max_calls)
-      → IsSound t (invoke t n request (record m { driver = e; words = words }))
+      → IsSoundMachine t (invoke t n request (record m { driver = e; words = words }))
   sound_called e request g =
       let made = call_made t m n request in
       let crashes = (get_or m.callers n no_caller).crashes in
@@ -321,7 +321,7 @@ module _ (t : TestValue) (fit : IsFitTest t) (m : Machine) (n : ℕ) (words : Lc
         },
       )
 
-  pub sound_told : (x : GenAnswer × DriverState) → HasAsked m.driver n x → IsSound t (told t n x.0 (record m { driver = x.1; words = words }))
+  pub sound_told : (x : GenAnswer × DriverState) → HasAsked m.driver n x → IsSoundMachine t (told t n x.0 (record m { driver = x.1; words = words }))
   sound_told (Pending, e) is = sound_same e is
   sound_told (Done, e) is = sound_spent e is
   sound_told (Call p (call.Step place), e) is = sound_stepped e is
@@ -330,7 +330,7 @@ module _ (t : TestValue) (fit : IsFitTest t) (m : Machine) (n : ℕ) (words : Lc
 idle_is : (callers : List Caller) (k : ℕ) → (get_or callers k no_caller).call ≡ None → is_idle callers k ≡ true
 idle_is callers k e = ap has_no_call e
 
-pub sound_by_calls : (t : TestValue) → IsFitTest t → IsKeptByCalls t (IsSound t)
+pub sound_by_calls : (t : TestValue) → IsFitTest t → IsKeptByCalls t (IsSoundMachine t)
 sound_by_calls t fit = record {
   visits = λ m n within none may h.
       let word = pcg64 m.words in
@@ -369,7 +369,7 @@ small_due t fit m due e = subst (IsSmallDue t) e (go m.phase)
     go Final = tt
     go Over = tt
 
-pub sound_in_turn : (t : TestValue) → IsFitTest t → IsKeptInTurn t (IsSound t)
+pub sound_in_turn : (t : TestValue) → IsFitTest t → IsKeptInTurn t (IsSoundMachine t)
 sound_in_turn t fit = record {
   calls = sound_by_calls t fit;
   begins = λ m due none is h.
@@ -404,7 +404,7 @@ sound_in_turn t fit = record {
 
 -- A line.
 
-pub sound_by_line : (t : TestValue) → IsFitTest t → IsKeptByLine t (IsSound t)
+pub sound_by_line : (t : TestValue) → IsFitTest t → IsKeptByLine t (IsSoundMachine t)
 sound_by_line t fit = record {
   listens = λ m h. h;
   clocks = λ m time h. (h.0, h.1, h.2, h.3, h.4, h.5, h.6, record { time = omega arith; entries = h.7.entries; answer = h.7.answer; records = h.7.records });
@@ -459,7 +459,7 @@ fresh_if_there t (Some g) None h = absurd h
 fresh_if_there t None (Some d) h = absurd h
 fresh_if_there t (Some g) (Some d) h = (h.1, h.0.count)
 
-pub sound_at_first : (t : TestValue) (d : Drivers t) → IsSound t (at_first t d.first d.last (first_state t.start))
+pub sound_at_first : (t : TestValue) (d : Drivers t) → IsSoundMachine t (at_first t d.first d.last (first_state t.start))
 sound_at_first t d =
     let given : d.first.given ≡ 0 = d.is_first.0.count in (
       tied_fresh t.clients d.first 0 d.is_first.1,

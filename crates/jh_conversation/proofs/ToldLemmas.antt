@@ -13,7 +13,7 @@ use Rattle.jh_env.specs.Faults.{FaultValue}
 use Rattle.jh_env.specs.Names.{node_places}
 use Rattle.jh_env.specs.Overlay.{EnvValue, IsOverlay, StandsFor, cells_of, link_of, link_over, node_of, node_over}
 use Rattle.jh_conversation.specs.Told.{CellsTold, cells_told, places_of_nodes, told_if_other_link, told_if_other_node, told_link, told_links, told_node, told_nodes}
-use Rattle.jh_conversation.specs.ToldInside.{link_told, links_told, node_told, nodes_told, places}
+use Rattle.jh_conversation.specs.ToldInside.{link_told, links_told, node_told, nodes_told, places_named}
 use Rattle.jh_conversation.specs.declared.records.LinkTold.{LinkTold}
 use Rattle.jh_conversation.specs.declared.records.NodeTold.{NodeTold}
 
@@ -86,7 +86,7 @@ module _ (before after : EnvValue) (earlier later : List FaultValue) (first : St
       go None = refl
       go (Some n) = refl
 
-  places_are : length (cells_of before).nodes ≡ length before.names → places before ≡ places_of_nodes before.start
+  places_are : length (cells_of before).nodes ≡ length before.names → places_named before ≡ places_of_nodes before.start
   places_are whole = ap node_places (sym whole ∙ as_many (cells_of before).nodes before.start.nodes (node_over earlier) running_node first.cells.nodes)
 
   pub cells_are : length (cells_of before).nodes ≡ length before.names → ◌≡◌ {A = CellsTold} (record { links = links_told before after; nodes = nodes_told before after }) (cells_told before.start earlier later)

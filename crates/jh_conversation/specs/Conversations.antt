@@ -9,5 +9,5 @@ pub record ConversationValue : Type 0 where
   pub machine : Machine
 
 -- the test has begun, with drivers of its generators, and nothing was read yet
-abbrev pub IsBegun : TestValue → ConversationValue → Type 0
-IsBegun t c = (c.test ≡ t) × (d : Drivers t) × (c.machine ≡ start t d)
+abbrev pub IsTestBegun : TestValue → ConversationValue → Type 0
+IsTestBegun t c = (c.test ≡ t) × (d : Drivers t) × (c.machine ≡ start t d)

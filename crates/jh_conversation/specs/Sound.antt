@@ -21,8 +21,8 @@ abbrev pub is_idle : List Caller → ℕ → Bool
 is_idle callers thread = has_no_call (get_or callers thread no_caller).call
 
 -- the thread is busy for the driver
-abbrev pub is_busy : DriverState → ℕ → Bool
-is_busy d thread = slice_index_or d.busy (thread + 1) false
+abbrev pub is_busy_for : DriverState → ℕ → Bool
+is_busy_for d thread = slice_index_or d.busy (thread + 1) false
 
 -- The driver has so many threads. Those that have a call open are busy for it, and while it has more to
 -- give, no other one is.
@@ -30,8 +30,8 @@ pub record IsTied (clients : ℕ) (d : DriverState) (has_spent : Bool) (callers 
   pub clients_is : d.clients ≡ clients
   pub long : length d.busy ≡ clients + 1
   pub wide : length callers ≡ clients
-  pub busy : (k : ℕ) → k < clients → is_idle callers k ≡ false → is_busy d k ≡ true
-  pub idle : has_spent ≡ false → (k : ℕ) → k < clients → is_idle callers k ≡ true → is_busy d k ≡ false
+  pub busy : (k : ℕ) → k < clients → is_idle callers k ≡ false → is_busy_for d k ≡ true
+  pub idle : has_spent ≡ false → (k : ℕ) → k < clients → is_idle callers k ≡ true → is_busy_for d k ≡ false
 
 -- how many calls are open
 abbrev pub open_calls : List Caller → ℕ
@@ -64,12 +64,12 @@ IsBetween _ = ⊥
 
 -- the record can be written over so many nodes: its numbers are integers of a text, and its step
 -- names some of the nodes
-abbrev pub IsWritable : ℕ → Recorded → Type 0
-IsWritable nodes (Invoked time process node call) = (time < 2 ^ 63) × (process < 2 ^ 63)
-IsWritable nodes (Ended time process kind request value rest) = (time < 2 ^ 63) × (process < 2 ^ 63)
-IsWritable nodes (Begun time entry step cells) =
+abbrev pub IsWritableRecord : ℕ → Recorded → Type 0
+IsWritableRecord nodes (Invoked time process node call) = (time < 2 ^ 63) × (process < 2 ^ 63)
+IsWritableRecord nodes (Ended time process kind request value rest) = (time < 2 ^ 63) × (process < 2 ^ 63)
+IsWritableRecord nodes (Begun time entry step cells) =
     (time < 2 ^ 63) × (entry < 2 ^ 63) × FitsNodes nodes step
-IsWritable nodes (Answered time entry code rest) =
+IsWritableRecord nodes (Answered time entry code rest) =
     (time < 2 ^ 63) × (entry < 2 ^ 63) × (code < 2 ^ 63)
 
 abbrev pub IsSmallStep : Option OpenStep → Type 0
@@ -92,10 +92,10 @@ pub record HasSmallNumbers (nodes clock taken : ℕ) (step : Option OpenStep) (h
   pub time : clock < 2 ^ 63
   pub entries : taken ≤ length history
   pub answer : IsSmallStep step
-  pub records : AllByRecursion (IsWritable nodes) history
+  pub records : AllByRecursion (IsWritableRecord nodes) history
 
-abbrev pub IsSound : TestValue → Machine → Type 0
-IsSound t m =
+abbrev pub IsSoundMachine : TestValue → Machine → Type 0
+IsSoundMachine t m =
     IsTied t.clients m.driver m.has_spent m.callers
     × AreGivenByDrivers m.phase m.given m.driver
     × AreCounted t.clients m.given m.answered m.crashed m.callers

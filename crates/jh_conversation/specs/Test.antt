@@ -61,11 +61,11 @@ test_of_data fields = record {
 
 -- Which tests can be made.
 
-abbrev pub HasClients : TestValue → Type 0
-HasClients t = (1 ≤ t.clients) × (t.clients ≤ 16)
+abbrev pub HasTestClients : TestValue → Type 0
+HasTestClients t = (1 ≤ t.clients) × (t.clients ≤ 16)
 
-abbrev pub HasOps : TestValue → Type 0
-HasOps t = (1 ≤ t.ops) × (t.ops ≤ 1000000)
+abbrev pub HasTestOps : TestValue → Type 0
+HasTestOps t = (1 ≤ t.ops) × (t.ops ≤ 1000000)
 
 -- the threads of a key divide the clients, and each key has calls
 abbrev pub are_shares : ℕ → Option KeyShares → Bool
@@ -88,8 +88,8 @@ abbrev pub last_suits : Tested → ℕ → Option Generator → Bool
 last_suits tested clients None = true
 last_suits tested clients (Some generator) = suits_tested tested clients generator
 
-abbrev pub HasGenerator : TestValue → Type 0
-HasGenerator t = suits_tested t.tested t.clients t.generator ≡ true
+abbrev pub HasTestGenerator : TestValue → Type 0
+HasTestGenerator t = suits_tested t.tested t.clients t.generator ≡ true
 
 abbrev pub HasFinal : TestValue → Type 0
 HasFinal t = last_suits t.tested t.clients t.final ≡ true
@@ -100,20 +100,20 @@ HasSchedule t =
     (length t.schedule ≤ 1024) × All (λ entry. FitsNodes (length t.start.names) entry.step) t.schedule
 
 pub record IsFitTest (t : TestValue) : Type 0 where
-  pub clients : HasClients t
-  pub ops : HasOps t
+  pub clients : HasTestClients t
+  pub ops : HasTestOps t
   pub keys : HasKeys t
-  pub generator : HasGenerator t
+  pub generator : HasTestGenerator t
   pub final : HasFinal t
   pub schedule : HasSchedule t
 
 -- why a test is refused: each is looked at only where those before it are right
 abbrev pub RefusesTest : TestValue → TestError → Type 0
-RefusesTest t BadClients = HasClients t → ⊥
-RefusesTest t BadOps = HasClients t × (HasOps t → ⊥)
-RefusesTest t BadKeys = HasClients t × HasOps t × (HasKeys t → ⊥)
-RefusesTest t BadGenerator = HasClients t × HasOps t × HasKeys t × (HasGenerator t → ⊥)
-RefusesTest t BadFinal = HasClients t × HasOps t × HasKeys t × HasGenerator t × (HasFinal t → ⊥)
+RefusesTest t BadClients = HasTestClients t → ⊥
+RefusesTest t BadOps = HasTestClients t × (HasTestOps t → ⊥)
+RefusesTest t BadKeys = HasTestClients t × HasTestOps t × (HasKeys t → ⊥)
+RefusesTest t BadGenerator = HasTestClients t × HasTestOps t × HasKeys t × (HasTestGenerator t → ⊥)
+RefusesTest t BadFinal = HasTestClients t × HasTestOps t × HasKeys t × HasTestGenerator t × (HasFinal t → ⊥)
 RefusesTest t BadSchedule =
-    HasClients t × HasOps t × HasKeys t × HasGenerator t × HasFinal t × (HasSchedule t → ⊥)
+    HasTestClients t × HasTestOps t × HasKeys t × HasTestGenerator t × HasFinal t × (HasSchedule t → ⊥)
 RefusesTest t OutOfMemory = IsFitTest t

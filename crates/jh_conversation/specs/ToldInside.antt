@@ -7,8 +7,8 @@ use Rattle.jh_conversation.specs.Told.{told_if_other_link, told_if_other_node}
 use Rattle.jh_conversation.specs.declared.records.LinkTold.{LinkTold}
 use Rattle.jh_conversation.specs.declared.records.NodeTold.{NodeTold}
 
-abbrev pub places : EnvValue → List ℕ
-places env = node_places (length env.names)
+abbrev pub places_named : EnvValue → List ℕ
+places_named env = node_places (length env.names)
 
 abbrev pub link_told : EnvValue → EnvValue → ℕ → ℕ → Option LinkTold
 link_told before after a b =
@@ -21,7 +21,7 @@ node_told before after a =
     (node_of before a)
 
 abbrev pub links_told : EnvValue → EnvValue → List LinkTold
-links_told before after = flat_map (λ a. filter_map (link_told before after a) (places before)) (places before)
+links_told before after = flat_map (λ a. filter_map (link_told before after a) (places_named before)) (places_named before)
 
 abbrev pub nodes_told : EnvValue → EnvValue → List NodeTold
-nodes_told before after = filter_map (node_told before after) (places before)
+nodes_told before after = filter_map (node_told before after) (places_named before)

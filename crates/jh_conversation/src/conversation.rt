@@ -3,7 +3,7 @@
 
 ghost use Rattle.std.specs.Prelude.{◌≡◌, IfOk, true};
 ghost use Rattle.jh_gen.specs.View.{generator_of};
-ghost use Rattle.jh_conversation.specs.Conversations.{IsBegun};
+ghost use Rattle.jh_conversation.specs.Conversations.{IsTestBegun};
 ghost use Rattle.jh_conversation.specs.Laws.{IsDriverAtFirst, IsLastDriver};
 ghost use Rattle.jh_conversation.specs.Test.{suits_tested};
 
@@ -39,9 +39,9 @@ impl Model for Conversation {
     ghost view = { λ a. record { test = a.test; machine = a.machine } };
 
     ghost use Rattle.std.specs.Prelude.{◌≡◌, false};
-    ghost use Rattle.jh_conversation.specs.Sound.{IsSound};
+    ghost use Rattle.jh_conversation.specs.Sound.{IsSoundMachine};
 
-    ghost invariant = { λ a. a.has_failed ≡ false → IsSound a.test a.machine };
+    ghost invariant = { λ a. a.has_failed ≡ false → IsSoundMachine a.test a.machine };
 }
 
 /// A driver of the calls of a generator, before its first call.
@@ -84,7 +84,7 @@ impl Conversation {
     ///
     /// Error: memory was refused.
     pub fn begin(alloc: Global, test: Test) -> Result<Conversation, AllocError>
-        ensures { IfOk result (IsBegun test) }
+        ensures { IfOk result (IsTestBegun test) }
     {
         // That the test is one that can be made.
         let _clients = test.clients();

@@ -11,7 +11,7 @@ ghost use Rattle.jh_step_texts.specs.FaultWritten.{name_text};
 ghost use Rattle.jh_nemesis.specs.Steps.{FitsNodes};
 ghost use Rattle.jh_tables.specs.Standing.{IsLinkInRange};
 ghost use Rattle.jh_conversation.specs.Records as rule;
-ghost use Rattle.jh_conversation.specs.Sound.{IsWritable};
+ghost use Rattle.jh_conversation.specs.Sound.{IsWritableRecord};
 
 use crate::calls::name_of;
 use crate::records::{CellsTold, LinkTold, NodeTold, Recorded};
@@ -212,7 +212,7 @@ pub(crate) fn operation_of(
     recorded: &Recorded,
 ) -> Result<Op, AllocError>
     requires index { index < 2 ^ 63 }
-    requires writable { IsWritable (length nodes.now) recorded.now }
+    requires writable { IsWritableRecord (length nodes.now) recorded.now }
     ensures { IfOk result
         (λ op. operation op ≡ rule.operation_of_record nodes.now index recorded.now) }
 {

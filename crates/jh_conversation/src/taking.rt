@@ -7,7 +7,7 @@ ghost use Rattle.jh_conversation.specs.Lines as rule;
 ghost use Rattle.jh_conversation.specs.LinesInside as inside;
 ghost use Rattle.jh_conversation.specs.LinesInside.{line_said_by};
 ghost use Rattle.jh_conversation.specs.Machine as machine;
-ghost use Rattle.jh_conversation.specs.Sound.{IsSound};
+ghost use Rattle.jh_conversation.specs.Sound.{IsSoundMachine};
 
 use crate::calls::{Caller, Datum, OpenStep, name_of};
 use crate::line::{Said, line_said};
@@ -126,7 +126,7 @@ impl Machine {
         request: Request,
         op: Op,
     ) -> Result<(), AllocError>
-        requires sound { IsSound test.now self.old }
+        requires sound { IsSoundMachine test.now self.old }
         requires within { thread < test.now.clients }
         requires open { machine.has_no_call (machine.caller_of self.old thread).call ≡ false }
         requires silent { self.old.said ≡ [] }
@@ -167,7 +167,7 @@ impl Machine {
         process: u64,
         op: &Op,
     ) -> Result<Result<Request, Complaint>, AllocError>
-        requires { IsSound test.now self.now }
+        requires { IsSoundMachine test.now self.now }
         ensures { IfOk result (λ ended. ended ≡ inside.ended_request test.now self.now process
             (operation op.now)
             (machine.caller_of self.now (rule.thread_of_process test.now process)).call) }
@@ -198,7 +198,7 @@ impl Machine {
         op: Op,
         time: Option<u64>,
     ) -> Result<(), AllocError>
-        requires sound { IsSound test.now self.old }
+        requires sound { IsSoundMachine test.now self.old }
         requires within { thread < test.now.clients }
         requires open { IfOk ended
             (λ _. machine.has_no_call (machine.caller_of self.old thread).call ≡ false) }
@@ -227,7 +227,7 @@ impl Machine {
         op: Op,
         time: Option<u64>,
     ) -> Result<(), AllocError>
-        requires sound { IsSound test.now self.old }
+        requires sound { IsSoundMachine test.now self.old }
         requires silent { self.old.said ≡ [] }
         ensures { OnOk result (self.new ≡ rule.take_completion test.now process (operation op) time
             self.old (machine.caller_of self.old (rule.thread_of_process test.now process)).call) }
@@ -244,7 +244,7 @@ impl Machine {
         op: Op,
         time: Option<u64>,
     ) -> Result<(), AllocError>
-        requires sound { IsSound test.now self.old }
+        requires sound { IsSoundMachine test.now self.old }
         requires silent { self.old.said ≡ [] }
         ensures { OnOk result
             (self.new ≡ rule.take_answer (operation op) time self.old self.old.step) }
@@ -274,7 +274,7 @@ impl Machine {
 
     /// Takes in what a line says.
     fn take_in(&mut self, alloc: Global, test: &Test, said: Said) -> Result<(), AllocError>
-        requires sound { IsSound test.now self.old }
+        requires sound { IsSoundMachine test.now self.old }
         requires silent { self.old.said ≡ [] }
         ensures { OnOk result (self.new ≡ rule.take_in test.now (line_said_by said) self.old) }
     {
@@ -325,7 +325,7 @@ impl Machine {
 
     /// Takes a line, without its line feed, and says all that can then be said.
     pub(crate) fn reply(&mut self, alloc: Global, test: &Test, line: &[u8]) -> Result<(), AllocError>
-        requires { IsSound test.now self.old }
+        requires { IsSoundMachine test.now self.old }
         ensures { OnOk result (self.new ≡ rule.reply test.now self.old line.now) }
     {
         // That the test is one that can be made.

@@ -4,7 +4,7 @@ ghost use Rattle.std.specs.Prelude.{◌≡◌, ◌<◌, ◌≤◌, ◌++◌, ◌
 ghost use Rattle.jh_edn.specs.Print.{print};
 ghost use Rattle.jh_ops.specs.OperationWritten.{value_written};
 ghost use Rattle.jh_conversation.specs.Records.{operation_of_record};
-ghost use Rattle.jh_conversation.specs.Sound.{IsSound, IsWritable};
+ghost use Rattle.jh_conversation.specs.Sound.{IsSoundMachine, IsWritableRecord};
 ghost use Rattle.jh_conversation.specs.Text as rule;
 
 use crate::machine::Machine;
@@ -24,7 +24,7 @@ fn write_record(
     out: &mut Vec<u8>,
 ) -> Result<(), AllocError>
     requires index { index < 2 ^ 63 }
-    requires writable { IsWritable (length nodes.now) recorded.now }
+    requires writable { IsWritableRecord (length nodes.now) recorded.now }
     ensures { OnOk result (out.new.items ≡ out.old.items
         ++ (print (value_written (operation_of_record nodes.now index recorded.now)) ++ 10 ∷ [])) }
 {
@@ -45,7 +45,7 @@ fn write_records(
     out: &mut Vec<u8>,
 ) -> Result<(), AllocError>
     requires few { length records.now < 2 ^ 63 }
-    requires writable { All (IsWritable (length nodes.now)) records.now }
+    requires writable { All (IsWritableRecord (length nodes.now)) records.now }
     ensures { OnOk result (out.new.items
         ≡ out.old.items ++ rule.record_lines nodes.now first (drop first records.now)) }
 {
@@ -80,7 +80,7 @@ impl Machine {
         test: &Test,
         out: &mut Vec<u8>,
     ) -> Result<(), AllocError>
-        requires { IsSound test.now self.now }
+        requires { IsSoundMachine test.now self.now }
         ensures { OnOk result
             (out.new.items ≡ out.old.items ++ rule.said_lines test.now self.now) }
     {

@@ -96,7 +96,7 @@ fn push_links(
 ) -> Result<(), AllocError>
     requires { All (λ told. IsLinkInRange told.link) links.old.items }
     ensures told { OnOk result (links.new.items ≡ links.old.items
-        ++ filter_map (inside.link_told before.now after.now source) (inside.places before.now)) }
+        ++ filter_map (inside.link_told before.now after.now source) (inside.places_named before.now)) }
     ensures within { OnOk result (All (λ told. IsLinkInRange told.link) links.new.items) }
 {
     for destination in before.nodes().all().as_slice() {

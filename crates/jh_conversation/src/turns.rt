@@ -8,7 +8,7 @@ ghost use Rattle.jh_nemesis.specs.Steps.{StepFits, answer_of, state_after};
 ghost use Rattle.jh_simnode.specs.Histories.{code_of};
 ghost use Rattle.jh_conversation.specs.Told as told;
 ghost use Rattle.jh_conversation.specs.Machine as machine;
-ghost use Rattle.jh_conversation.specs.Sound.{HasSmallCounts, IsSound};
+ghost use Rattle.jh_conversation.specs.Sound.{HasSmallCounts, IsSoundMachine};
 ghost use Rattle.jh_conversation.specs.Turn as rule;
 ghost use Rattle.jh_conversation.specs.TurnInside as inside;
 
@@ -177,7 +177,7 @@ impl Machine {
 
     /// Takes a step, and says which cells it changed.
     fn begin(&mut self, alloc: Global, test: &Test, due: Due) -> Result<(), AllocError>
-        requires sound { IsSound test.now self.old }
+        requires sound { IsSoundMachine test.now self.old }
         requires fits { StepFits self.old.nemesis due.step }
         ensures { OnOk result (self.new ≡ rule.begin due self.old) }
     {
@@ -191,7 +191,7 @@ impl Machine {
 
     /// Takes the step that is due, where none waits for its answer.
     fn step(&mut self, alloc: Global, test: &Test) -> Result<(), AllocError>
-        requires { IsSound test.now self.old }
+        requires { IsSoundMachine test.now self.old }
         ensures { OnOk result (self.new ≡ rule.step test.now self.old) }
     {
         if self.step.is_some() {
@@ -294,7 +294,7 @@ impl Machine {
 
     /// Lets a thread ask that has no call open.
     fn ask(&mut self, alloc: Global, test: &Test, thread: u32) -> Result<(), AllocError>
-        requires sound { IsSound test.now self.old }
+        requires sound { IsSoundMachine test.now self.old }
         requires within { thread < test.now.clients }
         requires idle { machine.has_no_call (machine.caller_of self.old thread).call ≡ true }
         requires may { rule.may_call test.now self.old ≡ true }
@@ -324,7 +324,7 @@ impl Machine {
 
     /// Lets a thread ask, if it has no call open and may be given one.
     fn visit(&mut self, alloc: Global, test: &Test, thread: u32) -> Result<(), AllocError>
-        requires sound { IsSound test.now self.old }
+        requires sound { IsSoundMachine test.now self.old }
         requires within { thread < test.now.clients }
         ensures { OnOk result (self.new ≡ rule.visit test.now thread self.old) }
     {
@@ -336,7 +336,7 @@ impl Machine {
 
     /// Goes through all threads once.
     fn round(&mut self, alloc: Global, test: &Test) -> Result<(), AllocError>
-        requires { IsSound test.now self.old }
+        requires { IsSoundMachine test.now self.old }
         ensures { OnOk result (self.new ≡ rule.round test.now self.old) }
     {
         for thread in 0..test.clients() {
@@ -354,7 +354,7 @@ impl Machine {
 
     /// Lets threads ask until a whole round gave nothing.
     fn calls(&mut self, alloc: Global, test: &Test) -> Result<(), AllocError>
-        requires { IsSound test.now self.old }
+        requires { IsSoundMachine test.now self.old }
         ensures { OnOk result (self.new ≡ rule.calls test.now self.old) }
     {
         let most = test.clients() + 1;
@@ -458,7 +458,7 @@ impl Machine {
     /// Says all that can be said now.
     #[tactic(auto, unfolding(crate::specs::Turn::turn))]
     pub(crate) fn turn(&mut self, alloc: Global, test: &Test) -> Result<(), AllocError>
-        requires { IsSound test.now self.old }
+        requires { IsSoundMachine test.now self.old }
         ensures { OnOk result (self.new ≡ rule.turn test.now self.old) }
     {
         // That the test is one that can be made.

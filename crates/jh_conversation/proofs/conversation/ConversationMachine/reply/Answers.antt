@@ -1,5 +1,5 @@
 use Rattle.std.proofs.Common.{subst, sym}
-use Rattle.jh_conversation.specs.Sound.{IsSound}
+use Rattle.jh_conversation.specs.Sound.{IsSoundMachine}
 use Rattle.jh_conversation.proofs.KeptLemmas.{kept_reply}
 use Rattle.jh_conversation.proofs.SoundLemmas.{sound_by_line, sound_in_turn}
 use Rattle.jh_conversation.proofs.conversation.ConversationMachine.reply.Goals as goal
@@ -8,10 +8,10 @@ pub write_said-requires : goal.write_said-requires
 write_said-requires c =
     let t = c.self.inside.test in
     let fit = c.clients-clients.ensures.fit in
-    subst (IsSound t) (sym c.in_ok-reply.ensures) (kept_reply t (IsSound t) (sound_in_turn t fit) (sound_by_line t fit) c.self.inside.machine c.args.line.now (c.self.invariant c.if-self.false))
+    subst (IsSoundMachine t) (sym c.in_ok-reply.ensures) (kept_reply t (IsSoundMachine t) (sound_in_turn t fit) (sound_by_line t fit) c.self.inside.machine c.args.line.now (c.self.invariant c.if-self.false))
 
 pub invariant_of-self-2 : goal.invariant_of-self-2
 invariant_of-self-2 c = λ _.
     let t = c.self.inside.test in
     let fit = c.clients-clients.ensures.fit in
-    subst (IsSound t) (sym c.in_ok-reply.ensures) (kept_reply t (IsSound t) (sound_in_turn t fit) (sound_by_line t fit) c.self.inside.machine c.args.line.now (c.self.invariant c.if-self.false))
+    subst (IsSoundMachine t) (sym c.in_ok-reply.ensures) (kept_reply t (IsSoundMachine t) (sound_in_turn t fit) (sound_by_line t fit) c.self.inside.machine c.args.line.now (c.self.invariant c.if-self.false))

@@ -1,5 +1,5 @@
 use Rattle.std.proofs.Common.{◌≡◌, ◌-◌}
-use Rattle.jh_conversation.specs.Sound.{IsSound}
+use Rattle.jh_conversation.specs.Sound.{IsSoundMachine}
 use Rattle.jh_conversation.specs.Test.{IsFitTest}
 use Rattle.jh_conversation.specs.Turn as rule
 use Rattle.jh_conversation.proofs.machine.Machine.calls.Given as goal
@@ -7,6 +7,6 @@ use Rattle.jh_conversation.proofs.machine.Machine.calls.Given as goal
 abbrev pub invariant-loop-round : goal.invariant-loop-round
 invariant-loop-round l = record {
   rest : rule.rounds l.test (l.most - l._round) l.self ≡ rule.calls l.test l.fn.self;
-  sound : IsSound l.test l.self;
+  sound : IsSoundMachine l.test l.self;
   fit : IsFitTest l.test;
 }

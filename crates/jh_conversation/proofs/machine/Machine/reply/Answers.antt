@@ -1,6 +1,6 @@
 use Rattle.std.proofs.Common.{subst, sym}
 use Rattle.jh_conversation.specs.LinesInside.{line_said_by}
-use Rattle.jh_conversation.specs.Sound.{IsSound}
+use Rattle.jh_conversation.specs.Sound.{IsSoundMachine}
 use Rattle.jh_conversation.proofs.KeptLemmas.{kept_take_in}
 use Rattle.jh_conversation.proofs.SoundLemmas.{sound_by_line}
 use Rattle.jh_conversation.proofs.machine.Machine.reply.Goals as goal
@@ -8,5 +8,5 @@ use Rattle.jh_conversation.proofs.machine.Machine.reply.Goals as goal
 pub turn-requires : goal.turn-requires
 turn-requires c =
     let t = c.args.test.now in
-    subst (IsSound t) (sym c.in_ok-take_in.ensures)
-    (kept_take_in t (IsSound t) (sound_by_line t c.clients-clients.ensures.fit) c.listen.new.self (line_said_by c.in_ok-said.said) (subst (IsSound t) (sym c.in_ok-listen.ensures) c.requires))
+    subst (IsSoundMachine t) (sym c.in_ok-take_in.ensures)
+    (kept_take_in t (IsSoundMachine t) (sound_by_line t c.clients-clients.ensures.fit) c.listen.new.self (line_said_by c.in_ok-said.said) (subst (IsSoundMachine t) (sym c.in_ok-listen.ensures) c.requires))

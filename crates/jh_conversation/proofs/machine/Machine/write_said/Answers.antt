@@ -1,7 +1,7 @@
 use Rattle.std.proofs.Common.{◌≡◌, ◌∙◌, ◌-◌, ◌++◌, ◌≤◌, ap, subst, sym, All, List, ℕ, length, drop}
 use Rattle.std.specs.List.{AllByRecursion}
 use Rattle.std.proofs.lemmas.List.{length-reverse}
-use Rattle.jh_conversation.specs.Sound.{IsWritable}
+use Rattle.jh_conversation.specs.Sound.{IsWritableRecord}
 use Rattle.jh_conversation.specs.Text.{record_lines}
 use Rattle.jh_conversation.proofs.TextLemmas.{all_reversed, written_on, written_over}
 use Rattle.jh_conversation.proofs.machine.Machine.write_said.Goals as goal
@@ -10,8 +10,8 @@ pub write_records-requires-clause-writable : goal.write_records-requires-clause-
 write_records-requires-clause-writable c =
     let names = c.args.test.now.start.names in
     let records = c.records-records.result.now in
-    subst (λ (l : List (List ℕ)). All (IsWritable (length l)) records) (sym c.nodes.ensures)
-    (all_reversed (IsWritable (length names)) records (subst (AllByRecursion (IsWritable (length names))) c.records-records.ensures.history c.requires.7.records))
+    subst (λ (l : List (List ℕ)). All (IsWritableRecord (length l)) records) (sym c.nodes.ensures)
+    (all_reversed (IsWritableRecord (length names)) records (subst (AllByRecursion (IsWritableRecord (length names))) c.records-records.ensures.history c.requires.7.records))
 
 pub returns-in_ok-extend_from_slice : goal.returns-in_ok-extend_from_slice
 returns-in_ok-extend_from_slice c =
