@@ -288,7 +288,12 @@ module _ (t : TestValue) (fit : IsFitTest t) (m : Machine) (n : ℕ) (words : Lc
       idle = λ b. absurd (true≢false b);
     },
     (let a = h.1.0 in let b = g.1 in omega (arith, a, b), let a = g.1 in let b = g.3 in omega (arith, a, b)),
-    h.2, h.3, h.4, h.5, h.6, h.7,
+    h.2,
+    h.3,
+    h.4,
+    h.5,
+    h.6,
+    h.7,
   )
     where
       go : (k : ℕ) → k < t.clients → is_idle m.callers k ≡ false → (k ≡ n) ⊎ (k ≡ n → ⊥) → is_busy_for e k ≡ true
@@ -301,8 +306,7 @@ module _ (t : TestValue) (fit : IsFitTest t) (m : Machine) (n : ℕ) (words : Lc
       let made = call_made t m n request in
       let crashes = (get_or m.callers n no_caller).crashes in
       let low = h.2.each n within in
-      let inside : n < length m.callers = let wide = h.0.wide in omega (arith, wide, within) in
-      (
+      let inside : n < length m.callers = let wide = h.0.wide in omega (arith, wide, within) in (
         tied_next t.clients m.driver e m.has_spent m.callers n (record { crashes = crashes; call = Some made }) true h.0 within g.0 g.2 (λ _. refl) (λ b. absurd (false≢true b)),
         (let a = h.1.0 in let b = g.1 in omega (arith, a, b), let a = g.1 in let b = g.3 in omega (arith, a, b)),
         record {
@@ -312,7 +316,8 @@ module _ (t : TestValue) (fit : IsFitTest t) (m : Machine) (n : ℕ) (words : Lc
         },
         groups_next t.clients m.given m.calls_by_group t.keys n h.3,
         (λ b. absurd (none_between t m.phase m.stops m.given m.clock (and_parts _ _ may).1 b)),
-        h.5, h.6,
+        h.5,
+        h.6,
         record {
           time = h.7.time;
           entries = (let a = h.7.entries in omega (arith, a));
@@ -375,7 +380,12 @@ sound_in_turn t fit = record {
   begins = λ m due none is h.
       let fits = small_due t fit m due is in
       let few = fits.0 in (
-        h.0, h.1, h.2, h.3, h.4, h.5,
+        h.0,
+        h.1,
+        h.2,
+        h.3,
+        h.4,
+        h.5,
         (names_stay m.nemesis due.step ∙ h.6.0, start_stays m.nemesis due.step ∙ h.6.1),
         record {
           time = h.7.time;
@@ -397,7 +407,11 @@ sound_in_turn t fit = record {
           few = h.2.few;
           each = λ k hk. subst (λ (x : Caller). x.crashes ≤ m.crashed) (sym (new_at t.clients m.crashed k hk)) (omega arith);
         },
-        h.3, (λ b. absurd b), tt, h.6, h.7,
+        h.3,
+        (λ b. absurd b),
+        tt,
+        h.6,
+        h.7,
       );
   ends_final = λ m is e h. (h.0, (given_on m.phase Over m.given m.driver (earlier_few m.phase) h.1), h.2, h.3, (λ b. absurd b), h.5, h.6, h.7);
 }
@@ -412,7 +426,13 @@ sound_by_line t fit = record {
   refuses = λ m why h. h;
   answers = λ m step op is h.
       let small : (step.entry < 2 ^ 63) × (step.code < 2 ^ 63) = subst IsSmallStep is h.7.answer in (
-        h.0, h.1, h.2, h.3, h.4, h.5, h.6,
+        h.0,
+        h.1,
+        h.2,
+        h.3,
+        h.4,
+        h.5,
+        h.6,
         record {
           time = h.7.time;
           entries = (let a = h.7.entries in omega (arith, a));
@@ -435,7 +455,8 @@ sound_by_line t fit = record {
         },
         h.3,
         (λ b. absurd (true≢false (sym (idle_is m.callers n (free_at m.callers (h.4 b) n)) ∙ busy))),
-        h.5, h.6,
+        h.5,
+        h.6,
         record {
           time = h.7.time;
           entries = (let a = h.7.entries in omega (arith, a));

@@ -101,7 +101,7 @@ lines_are : (t : TestValue) (m : Machine) (records : List Recorded) (n : ℕ) �
     → record_lines t.start.names (length records - n) (drop (length records - n) records) ≡ record_lines t.start.names (length m.history - length m.said) (reverse m.said)
 lines_are t m records n few history said =
     let first : length m.history - length m.said ≡ length records - n =
-        ap₂ (λ (h s : List Recorded). length h - length s) history (said ∙ ap (take n) history) ∙ said_first records n few in
+    ap₂ (λ (h s : List Recorded). length h - length s) history (said ∙ ap (take n) history) ∙ said_first records n few in
     let last : reverse m.said ≡ drop (length records - n) records = ap reverse (said ∙ ap (take n) history) ∙ said_end records n few in
     ap₂ (record_lines t.start.names) (sym first) (sym last)
 

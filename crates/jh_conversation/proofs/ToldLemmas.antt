@@ -93,9 +93,9 @@ module _ (before after : EnvValue) (earlier later : List FaultValue) (first : St
   cells_are whole =
       let all = places_are whole in
       let links : links_told before after ≡ told_links before.start earlier later =
-          ap (λ ps. flat_map (λ a. filter_map (link_told before after a) ps) ps) all
-          ∙ flat_same (λ a. filter_map (link_told before after a) (places_of_nodes before.start)) (λ a. filter_map (told_link before.start earlier later a) (places_of_nodes before.start))
-          (λ a. filter_same (link_told before after a) (told_link before.start earlier later a) (link_is a) (places_of_nodes before.start)) (places_of_nodes before.start) in
+      ap (λ ps. flat_map (λ a. filter_map (link_told before after a) ps) ps) all
+      ∙ flat_same (λ a. filter_map (link_told before after a) (places_of_nodes before.start)) (λ a. filter_map (told_link before.start earlier later a) (places_of_nodes before.start))
+      (λ a. filter_same (link_told before after a) (told_link before.start earlier later a) (link_is a) (places_of_nodes before.start)) (places_of_nodes before.start) in
       let nodes : nodes_told before after ≡ told_nodes before.start earlier later =
-          ap (filter_map (node_told before after)) all ∙ filter_same (node_told before after) (told_node before.start earlier later) node_is (places_of_nodes before.start) in
+      ap (filter_map (node_told before after)) all ∙ filter_same (node_told before after) (told_node before.start earlier later) node_is (places_of_nodes before.start) in
       ap₂ (λ l n. let c : CellsTold = record { links = l; nodes = n } in c) links nodes

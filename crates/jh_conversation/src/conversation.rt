@@ -133,7 +133,7 @@ impl jh_lines::Machine for Conversation {
     ghost stays_over = { λ c line over. (
       ap (λ b. if b then [] else said_lines c.test (reply c.test c.machine line)) over,
       ap (λ b. is_test_over (if b then listen c.machine
-        else turn c.test (take_in c.test (line_said line) (listen c.machine)))) over ∙ over,
+          else turn c.test (take_in c.test (line_said line) (listen c.machine)))) over ∙ over,
     ) };
 
     fn open(&self, out: &mut Vec<u8>) -> Result<(), AllocError> {

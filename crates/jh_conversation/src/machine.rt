@@ -73,7 +73,11 @@ pub(crate) fn has_no_call(call: &Option<Asked>) -> bool
 }
 
 /// So many threads that have no call open, each of whose processes have crashed so often.
-pub(crate) fn new_callers(alloc: Global, count: u32, crashes: u64) -> Result<Vec<Caller>, AllocError>
+pub(crate) fn new_callers(
+    alloc: Global,
+    count: u32,
+    crashes: u64,
+) -> Result<Vec<Caller>, AllocError>
     ensures { IfOk result (λ callers. callers.items ≡ rule.new_callers count crashes) }
 {
     let mut callers = Vec::new(alloc);

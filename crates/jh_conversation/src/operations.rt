@@ -221,7 +221,15 @@ pub(crate) fn operation_of(
             let value = call.value.value().copy(alloc)?;
             let rest = node_pairs(alloc, nodes, *node)?;
             let name = name_of(call.request);
-            client_operation(alloc, (index, *time), Kind::Invoke, *process, name, value, rest)
+            client_operation(
+                alloc,
+                (index, *time),
+                Kind::Invoke,
+                *process,
+                name,
+                value,
+                rest,
+            )
         }
         Recorded::Ended(time, process, kind, request, value, rest) => {
             let value = value.value().copy(alloc)?;

@@ -65,7 +65,10 @@ fn kept(alloc: Global, pairs: Vec<(Value, Value)>) -> Result<Vec<(Value, Value)>
     ensures { IfOk result (λ kept. kept.items
         ≡ filter (λ pair. inside.is_kept (view_pair pair)) pairs.items) }
 {
-    pairs.into_iter().filter(|pair| is_kept(pair)).collect(alloc)
+    pairs
+        .into_iter()
+        .filter(|pair| is_kept(pair))
+        .collect(alloc)
 }
 
 /// The pairs of an operation that are kept as they stand.
@@ -324,7 +327,12 @@ impl Machine {
     }
 
     /// Takes a line, without its line feed, and says all that can then be said.
-    pub(crate) fn reply(&mut self, alloc: Global, test: &Test, line: &[u8]) -> Result<(), AllocError>
+    pub(crate) fn reply(
+        &mut self,
+        alloc: Global,
+        test: &Test,
+        line: &[u8],
+    ) -> Result<(), AllocError>
         requires { IsSoundMachine test.now self.old }
         ensures { OnOk result (self.new ≡ rule.reply test.now self.old line.now) }
     {

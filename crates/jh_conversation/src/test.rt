@@ -155,9 +155,7 @@ fn are_shares(clients: u32, keys: Option<KeyShares>) -> bool
 {
     match keys {
         None => true,
-        Some(shares) => {
-            0 < shares.threads && clients % shares.threads == 0 && 0 < shares.calls
-        }
+        Some(shares) => { 0 < shares.threads && clients % shares.threads == 0 && 0 < shares.calls }
     }
 }
 

@@ -49,7 +49,11 @@ fn first_slots(alloc: Global, count: u32) -> Result<Vec<Slot>, AllocError>
 
 impl TransactionSource {
     /// The transactions of a seed, before the first one.
-    pub(crate) fn first(alloc: Global, shape: TransactionShape, seed: u64) -> Result<Self, AllocError>
+    pub(crate) fn first(
+        alloc: Global,
+        shape: TransactionShape,
+        seed: u64,
+    ) -> Result<Self, AllocError>
         ensures { IfOk result (λ source. source ≡ rule.first_source shape seed) }
     {
         Ok(TransactionSource {

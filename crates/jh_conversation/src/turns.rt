@@ -28,6 +28,7 @@ use std::alloc::{AllocError, Global};
 
 /// Nanoseconds of a second, and of a millisecond.
 const SECOND: u128 = 1_000_000_000;
+
 const MILLISECOND: u64 = 1_000_000;
 
 /// A step that is due, with the place of its entry.

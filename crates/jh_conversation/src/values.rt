@@ -88,8 +88,10 @@ fn answers_with_key(
     if asked.len() != 2 || answer.len() != 2 {
         return Ok(false);
     }
-    Ok(are_equal(alloc, &asked[0], &answer[0])?
-        && is_good_answer(alloc, tested, request, &asked[1], &answer[1])?)
+    Ok(
+        are_equal(alloc, &asked[0], &answer[0])?
+            && is_good_answer(alloc, tested, request, &asked[1], &answer[1])?,
+    )
 }
 
 /// Whether a call that was done may be answered so.

@@ -45,10 +45,12 @@ fn says(alloc: Global, settings: &str, lines: &str, expected: &str) -> bool {
 
 /// Two nodes and a register; a write and a read by one client; and the first node cut off from the second one behind
 /// the first answered call.
-const CUT: &str = r#"{:start {:nodes ["n1" "n2"]}, :ops 2, :generator [:seq [:once [:write 5]] [:once :read]],
+const CUT: &str =
+    r#"{:start {:nodes ["n1" "n2"]}, :ops 2, :generator [:seq [:once [:write 5]] [:once :read]],
     :schedule [[1 [:begin 1 [:cut [["n1" "n2"]]]]]]}"#;
 
-const WRITE: &str = "{:index 0, :time 0, :type :invoke, :process 0, :f :write, :value 5, :node \"n1\"}\n";
+const WRITE: &str =
+    "{:index 0, :time 0, :type :invoke, :process 0, :f :write, :value 5, :node \"n1\"}\n";
 
 const STEP: &str = "{:index 2, :time 7, :type :info, :process :nemesis, :f :step, :value 0, \
     :step [:begin 1 [:cut [[\"n1\" \"n2\"]]]], :links [[\"n1\" \"n2\" {:cut true, :delay 0, :loss 0}]], :nodes []}\n\
@@ -153,7 +155,10 @@ fn tests_are_refused(rt: HostRuntime) {
         let Ok(text) = format!(in rt.alloc(); "{{:start {{:nodes [\"a\"]}}, {settings}}}") else {
             return;
         };
-        let found = refusal_of(rt.alloc(), text.as_str()).or_else(|| refusal_of(rt.alloc(), text.as_str()));
+        let found = refusal_of(rt.alloc(), text.as_str()).or_else(|| refusal_of(
+            rt.alloc(),
+            text.as_str(),
+        ));
         assert!(rt; found == Some(bad), "{row}");
     }
 }

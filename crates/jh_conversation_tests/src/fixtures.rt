@@ -7,7 +7,9 @@
 ghost use Rattle.std.specs.Prelude.{[], IfSome};
 ghost use Rattle.jh_env.specs.Overlay.{StandsFor};
 
-use jh_conversation::{Entry, KeyShares, Test, TestData, TestError, Tested, TransactionShape, When};
+use jh_conversation::{
+    Entry, KeyShares, Test, TestData, TestError, Tested, TransactionShape, When,
+};
 use jh_edn::{Value, read_all};
 use jh_env::{Env, Nodes, env_of_value};
 use jh_gen::{Gen, gen_of_value};
