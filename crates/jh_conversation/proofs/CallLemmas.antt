@@ -1,17 +1,23 @@
 -- When calls are given.
-use Rattle.std.proofs.Common.{◌≡◌, ◌≢◌, ℕ, suc, ◌+◌, ◌≤◌, true, false, List, [], ◌∷◌, ◌++◌, refl, sym, ap, ◌∙◌, arith, subst}
+use Rattle.std.proofs.Common.{◌≡◌, ◌≢◌, ℕ, suc, ◌+◌, ◌≤◌, true, false, List, [], ◌∷◌, ◌++◌, refl}
+use Rattle.std.proofs.Common.{sym, ap, ◌∙◌, arith, subst}
 use mathlib.Core.Logic.{◌⊎◌, inl, inr}
 use Rattle.std.specs.Prelude.{None, Option, Some, if◌then◌else◌}
-use Rattle.std.proofs.lemmas.Bool.{and_parts, eqb-true, false≢true, le-leb, leb-false, leb-true, not-true}
+use Rattle.std.proofs.lemmas.Bool.{and_parts, eqb-true, false≢true, le-leb, leb-false, leb-true}
+use Rattle.std.proofs.lemmas.Bool.{not-true}
 use Rattle.jh_lines.specs.Replies.{after_lines}
-use Rattle.jh_conversation.specs.Laws.{AreTimely, Drivers, IsAtRate, IsBeforeFinal, IsBeforeLimit, invocations_in, run, start, took}
-use Rattle.jh_conversation.specs.Lines.{is_test_over, is_end_phase, line_said, listen, reply, stops_after, stops_by, take_in}
+use Rattle.jh_conversation.specs.Laws.{AreTimely, Drivers, IsAtRate, IsBeforeFinal, IsBeforeLimit}
+use Rattle.jh_conversation.specs.Laws.{invocations_in, run, start, took}
+use Rattle.jh_conversation.specs.Lines.{is_test_over, is_end_phase, listen, reply, stops_after}
+use Rattle.jh_conversation.specs.Lines.{stops_by, take_in}
+use Rattle.jh_test_parts.specs.Said.{line_said}
 use Rattle.jh_conversation.specs.Machine.{Machine}
-use Rattle.jh_conversation.specs.Test.{TestValue}
+use Rattle.jh_test_parts.specs.Test.{TestValue}
 use Rattle.jh_conversation.specs.Turn.{has_come, keeps_rate, may_call, may_call_in, turn}
-use Rattle.jh_conversation.specs.declared.parts.Phase.{Phase}
-use Rattle.jh_conversation.specs.declared.parts.Phase.TheVariants.{Main, Heal, Rest, Final, Over}
-use Rattle.jh_conversation.proofs.KeptLemmas.{IsKeptByLine, IsKeptInTurn, by_answers, kept_lines, kept_run, kept_take_in, kept_turn}
+use Rattle.jh_conversation.specs.declared.phase.Phase.{Phase}
+use Rattle.jh_conversation.specs.declared.phase.Phase.TheVariants.{Main, Heal, Rest, Final, Over}
+use Rattle.jh_conversation.proofs.KeptLemmas.{IsKeptByLine, IsKeptInTurn, by_answers, kept_lines}
+use Rattle.jh_conversation.proofs.KeptLemmas.{kept_run, kept_take_in, kept_turn}
 
 -- It is over, or was stopped so often.
 abbrev HasStopped : ℕ → Machine → Type 0

@@ -1,28 +1,37 @@
 -- What was told of the cells, in order, adds up to the environment.
-use Rattle.std.proofs.Common.{◌≡◌, ◌≢◌, ℕ, zero, suc, ◌+◌, ◌<◌, ◌≤◌, ◌==◌, nat_lt, Bool, true, false, ◌&&◌, ◌||◌, not, ℤ, List, [], ◌∷◌, ◌++◌, length, slice_get, refl, sym, ap, ◌∙◌, arith, eq-eqb}
+use Rattle.std.proofs.Common.{◌≡◌, ◌≢◌, ℕ, zero, suc, ◌+◌, ◌<◌, ◌≤◌, ◌==◌, nat_lt, Bool, true}
+use Rattle.std.proofs.Common.{false, ◌&&◌, ◌||◌, not, ℤ, List, [], ◌∷◌, ◌++◌, length, slice_get}
+use Rattle.std.proofs.Common.{refl, sym, ap, ◌∙◌, arith, eq-eqb}
 use mathlib.Core.Logic.{◌⊎◌, inl, inr}
-use Rattle.std.specs.Prelude.{Option, None, Some, flat_map, filter_map, option_and_then, if◌then◌else◌}
+use Rattle.std.specs.Prelude.{Option, None, Some, flat_map, filter_map, option_and_then}
+use Rattle.std.specs.Prelude.{if◌then◌else◌}
 use Rattle.std.specs.List.{cons_option, range_with_len}
 use Rattle.std.specs.Cmp.{booleans_Decides}
-use Rattle.std.proofs.lemmas.Bool.{and_parts, eqb-true, ltb-true, false≢true, true≢false, cases_Bool}
+use Rattle.std.proofs.lemmas.Bool.{and_parts, eqb-true, ltb-true, false≢true, true≢false}
+use Rattle.std.proofs.lemmas.Bool.{cases_Bool}
 use Rattle.std.proofs.lemmas.Bool.Decides.{Decides-int_eq}
-use Rattle.jh_env.specs.Cells.{Table, Life, Link, NodeCell, Running, Paused, Killed, link_at, node_at}
+use Rattle.jh_env.specs.Cells.{Table, Life, Link, NodeCell, Running, Paused, Killed, link_at}
+use Rattle.jh_env.specs.Cells.{node_at}
 use Rattle.jh_env.specs.Faults.{FaultValue}
 use Rattle.jh_env.specs.Overlay.{link_over, node_over}
 use Rattle.jh_nemesis.specs.State.{Active, State, faults_in, state_back_to, state_forth_to}
 use Rattle.jh_nemesis.specs.Steps.{answer_of, is_ok, moved_state, state_after}
 use Rattle.jh_nemesis.specs.declared.steps.Step.{Step}
-use Rattle.jh_nemesis.specs.declared.steps.Step.TheVariants.{Begin, Withdraw, WithdrawAll, Undo, Redo}
-use Rattle.jh_conversation.specs.Laws.{Drivers, link_told_after, node_told_after, run, told_link_in, told_node_in}
+use Rattle.jh_nemesis.specs.declared.steps.Step.TheVariants.{Begin, Withdraw, WithdrawAll, Undo}
+use Rattle.jh_nemesis.specs.declared.steps.Step.TheVariants.{Redo}
+use Rattle.jh_conversation.specs.Laws.{Drivers, link_told_after, node_told_after, run, told_link_in}
+use Rattle.jh_conversation.specs.Laws.{told_node_in}
 use Rattle.jh_conversation.specs.Machine.{Machine}
-use Rattle.jh_conversation.specs.Test.{TestValue}
+use Rattle.jh_test_parts.specs.Test.{TestValue}
 use Rattle.jh_edn.specs.Edn.{is_empty}
 use Rattle.jh_conversation.specs.Laws.{IsPastHeal}
-use Rattle.jh_conversation.specs.declared.records.LinkTold.{LinkTold}
-use Rattle.jh_conversation.specs.declared.records.NodeTold.{NodeTold}
+use Rattle.jh_test_parts.specs.declared.records.LinkTold.{LinkTold}
+use Rattle.jh_test_parts.specs.declared.records.NodeTold.{NodeTold}
 use Rattle.jh_conversation.proofs.KeptLemmas.{IsKeptByLine, IsKeptInTurn, by_answers, kept_run}
 use Rattle.jh_conversation.proofs.QuietLemmas.{rest_is_quiet}
-use Rattle.jh_conversation.specs.Told.{is_same_life, are_same_links, are_same_nodes, places_of_nodes, told_if_other_link, told_if_other_node, told_link, told_links, told_node, told_nodes}
+use Rattle.jh_test_parts.specs.Told.{is_same_life, are_same_links, are_same_nodes, places_of_nodes}
+use Rattle.jh_test_parts.specs.Told.{told_if_other_link, told_if_other_node, told_link, told_links}
+use Rattle.jh_test_parts.specs.Told.{told_node, told_nodes}
 
 -- cells that are the same are equal
 

@@ -1,13 +1,16 @@
 -- What the loops of the code keep.
-use Rattle.std.proofs.Common.{◌≡◌, ◌≢◌, ℕ, zero, suc, ◌+◌, ◌-◌, ◌<◌, ◌≤◌, ◌==◌, true, false, refl, sym, ap, ◌∙◌, arith, add-one, eq-eqb, subst}
+use Rattle.std.proofs.Common.{◌≡◌, ◌≢◌, ℕ, suc, ◌+◌, ◌-◌, ◌<◌, ◌==◌, true, false, refl, sym, ap}
+use Rattle.std.proofs.Common.{◌∙◌, arith, add-one, eq-eqb, subst}
 use Rattle.std.specs.Prelude.{Option, None, Some, if◌then◌else◌, is_some}
 use Rattle.std.proofs.lemmas.Bool.{ne_eqb, false≢true, true≢false}
 use Rattle.jh_conversation.specs.Machine.{Machine}
 use Rattle.jh_conversation.specs.Sound.{IsSoundMachine}
-use Rattle.jh_conversation.specs.Test.{IsFitTest, TestValue}
-use Rattle.jh_conversation.specs.Turn.{calls, go_on, move, passes, round, rounds, step, visit, visits, work}
+use Rattle.jh_test_parts.specs.Test.{IsFitTest, TestValue}
+use Rattle.jh_conversation.specs.Turn.{calls, go_on, move, passes, round, rounds, step, visit}
+use Rattle.jh_conversation.specs.Turn.{visits, work}
 use Rattle.jh_conversation.specs.TurnInside.{moved}
-use Rattle.jh_conversation.proofs.KeptLemmas.{IfMoved, kept_calls, kept_move, kept_round, kept_step, kept_visit}
+use Rattle.jh_conversation.proofs.KeptLemmas.{IfMoved, kept_calls, kept_move, kept_round, kept_step}
+use Rattle.jh_conversation.proofs.KeptLemmas.{kept_visit}
 use Rattle.jh_conversation.proofs.SoundLemmas.{sound_by_calls, sound_in_turn}
 
 -- Rounds.

@@ -1,5 +1,6 @@
 -- The first line that is no reply is the one that is told.
-use Rattle.std.proofs.Common.{◌≡◌, ℕ, ◌+◌, ◌==◌, Bool, true, false, not, ◌||◌, List, [], ◌∷◌, refl, ap, ◌∙◌}
+use Rattle.std.proofs.Common.{◌≡◌, ℕ, ◌+◌, ◌==◌, Bool, true, false, not, ◌||◌, List, [], ◌∷◌, refl}
+use Rattle.std.proofs.Common.{ap, ◌∙◌}
 use Rattle.std.specs.Prelude.{Option, None, Some, if◌then◌else◌}
 use Rattle.jh_edn.specs.Edn.{is_keyword}
 use Rattle.jh_lines.specs.Replies.{after_lines}
@@ -7,18 +8,26 @@ use Rattle.jh_nemesis.specs.State.{first_state}
 use Rattle.jh_ops.specs.Operation.{Operation}
 use Rattle.jh_ops.specs.declared.operation.Process.{Process}
 use Rattle.jh_simnode.specs.Histories.{request_name}
-use Rattle.jh_conversation.specs.Laws.{Drivers, complaint_of, complaint_of_answer, complaint_of_completion, complaint_of_end, complaint_of_reply, first_bad, first_bad_or, run, start}
+use Rattle.jh_conversation.specs.Laws.{Drivers, complaint_of, complaint_of_answer}
+use Rattle.jh_conversation.specs.Laws.{complaint_of_completion, complaint_of_end}
+use Rattle.jh_conversation.specs.Laws.{complaint_of_reply, first_bad, first_bad_or, run, start}
 use Rattle.jh_ops.specs.Pairing.{is_invoke}
-use Rattle.jh_conversation.specs.Lines.{LineSaid, Nothing, Clock, Stop, Reply, Bad}
-use Rattle.jh_conversation.specs.Lines.{answer_step, answers_step, at_first, at_time, finish, first, is_test_over, line_said, listen, refuse, reply, fits_call, take_answer, take_completion, take_end, take_in, take_reply, thread_of_process}
+use Rattle.jh_test_parts.specs.Said.{LineSaid, Nothing, Clock, Stop, Reply, Bad}
+use Rattle.jh_conversation.specs.Lines.{answer_step, answers_step, at_first, at_time, finish, first}
+use Rattle.jh_conversation.specs.Lines.{is_test_over, listen, refuse, reply, take_answer}
+use Rattle.jh_conversation.specs.Lines.{take_completion, take_end, take_in, take_reply}
+use Rattle.jh_test_parts.specs.Said.{line_said}
+use Rattle.jh_test_parts.specs.Values.{fits_call}
+use Rattle.jh_test_parts.specs.Test.{thread_of_process}
 use Rattle.jh_conversation.specs.Machine.{Machine, caller_process, caller_of}
-use Rattle.jh_conversation.specs.Test.{TestValue}
+use Rattle.jh_test_parts.specs.Test.{TestValue}
 use Rattle.jh_conversation.specs.Turn.{turn}
-use Rattle.jh_conversation.specs.declared.calls.Asked.{Asked}
-use Rattle.jh_conversation.specs.declared.calls.OpenStep.{OpenStep}
-use Rattle.jh_conversation.specs.declared.parts.Complaint.{Complaint}
-use Rattle.jh_conversation.specs.declared.parts.Complaint.TheVariants as complaint
-use Rattle.jh_conversation.proofs.KeptLemmas.{IsKeptByLine, IsKeptInTurn, by_answers, kept_lines, kept_turn}
+use Rattle.jh_test_parts.specs.declared.calls.Asked.{Asked}
+use Rattle.jh_conversation.specs.declared.callers.OpenStep.{OpenStep}
+use Rattle.jh_test_parts.specs.declared.complaints.Complaint.{Complaint}
+use Rattle.jh_test_parts.specs.declared.complaints.Complaint.TheVariants as complaint
+use Rattle.jh_conversation.proofs.KeptLemmas.{IsKeptByLine, IsKeptInTurn, by_answers, kept_lines}
+use Rattle.jh_conversation.proofs.KeptLemmas.{kept_turn}
 
 -- what was told, and how many lines were read
 abbrev Tells : Option (ℕ × Complaint) → ℕ → Machine → Type 0

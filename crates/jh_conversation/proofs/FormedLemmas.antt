@@ -1,25 +1,31 @@
 -- No process has two calls open, none goes on after a crash, and each completion is of the call that its process has open.
-use Rattle.std.proofs.Common.{◌≡◌, ◌≢◌, ℕ, zero, suc, ◌+◌, ◌*◌, ◌<◌, ◌≤◌, ◌==◌, true, List, [], ◌∷◌, length, set, get_or, refl, sym, ap, ◌∙◌, arith, subst, eq-eqb, length-set}
+use Rattle.std.proofs.Common.{◌≡◌, ◌≢◌, ℕ, zero, suc, ◌+◌, ◌*◌, ◌<◌, ◌≤◌, ◌==◌, true, List, [], ◌∷◌}
+use Rattle.std.proofs.Common.{length, set, get_or, refl, sym, ap, ◌∙◌, arith, subst, eq-eqb}
+use Rattle.std.proofs.Common.{length-set}
 use mathlib.Core.Logic.{◌⊎◌, inl, inr}
 use Rattle.std.specs.Prelude.{Option, None, Some, if◌then◌else◌}
 use Rattle.std.proofs.lemmas.Bool.{and_parts, false≢true, cases_eq, cases_lt, ne_eqb}
-use Rattle.std.proofs.lemmas.List.{get_or-replicate, get_or-set_same, get_or-set_other, length-replicate}
+use Rattle.std.proofs.lemmas.List.{get_or-replicate, get_or-set_same, get_or-set_other}
+use Rattle.std.proofs.lemmas.List.{length-replicate}
 use Rattle.std.proofs.Math.Nat.{mul-le-mul_left, mul-suc}
 use Rattle.jh_nemesis.specs.State.{first_state}
 use Rattle.jh_ops.specs.declared.operation.Kind.{Kind}
 use Rattle.jh_conversation.specs.Laws.{Drivers, IsFormed, Status, after_end, run, status}
 use Rattle.jh_conversation.specs.Laws.Status.{Idle, Busy}
-use Rattle.jh_conversation.specs.Lines.{at_first, kept_pairs, more_crashes}
-use Rattle.jh_conversation.specs.Machine.{Machine, are_free, has_no_call, new_callers, no_caller, caller_process, caller_of}
+use Rattle.jh_conversation.specs.Lines.{at_first, more_crashes}
+use Rattle.jh_test_parts.specs.Said.{kept_pairs}
+use Rattle.jh_conversation.specs.Machine.{Machine, are_free, has_no_call, new_callers, no_caller}
+use Rattle.jh_conversation.specs.Machine.{caller_process, caller_of}
 use Rattle.jh_conversation.specs.Sound.{IsBetween}
-use Rattle.jh_conversation.specs.Test.{TestValue}
-use Rattle.jh_conversation.specs.Turn.{call_made, may_call_in, node_of_thread}
-use Rattle.jh_conversation.specs.declared.calls.Asked.{Asked}
-use Rattle.jh_conversation.specs.declared.calls.Caller.{Caller}
-use Rattle.jh_conversation.specs.declared.records.Recorded.TheVariants.{Invoked, Ended}
-use Rattle.jh_conversation.specs.declared.records.Recorded.{Recorded}
-use Rattle.jh_conversation.specs.declared.parts.Phase.{Phase}
-use Rattle.jh_conversation.specs.declared.parts.Phase.TheVariants.{Main, Heal, Rest, Final, Over}
+use Rattle.jh_test_parts.specs.Test.{TestValue}
+use Rattle.jh_conversation.specs.Turn.{call_made, may_call_in}
+use Rattle.jh_test_parts.specs.Test.{node_of_thread}
+use Rattle.jh_test_parts.specs.declared.calls.Asked.{Asked}
+use Rattle.jh_conversation.specs.declared.callers.Caller.{Caller}
+use Rattle.jh_test_parts.specs.declared.records.Recorded.TheVariants.{Invoked, Ended}
+use Rattle.jh_test_parts.specs.declared.records.Recorded.{Recorded}
+use Rattle.jh_conversation.specs.declared.phase.Phase.{Phase}
+use Rattle.jh_conversation.specs.declared.phase.Phase.TheVariants.{Main, Heal, Rest, Final, Over}
 use Rattle.jh_conversation.proofs.KeptLemmas.{IsKeptByLine, IsKeptInTurn, by_answers, kept_run}
 
 abbrev caller : List Caller → ℕ → Caller

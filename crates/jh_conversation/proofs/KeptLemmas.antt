@@ -1,5 +1,6 @@
 -- What each single change keeps is kept by a turn, by a line and by every list of lines.
-use Rattle.std.proofs.Common.{◌≡◌, ℕ, zero, suc, ◌+◌, ◌<◌, ◌≤◌, ◌==◌, Bool, true, false, ◌&&◌, ◌||◌, not, nat_le, List, [], ◌∷◌, refl, ◌∙◌, arith}
+use Rattle.std.proofs.Common.{◌≡◌, ℕ, zero, suc, ◌+◌, ◌<◌, ◌≤◌, ◌==◌, Bool, true, false, ◌&&◌, ◌||◌}
+use Rattle.std.proofs.Common.{not, nat_le, List, [], ◌∷◌, refl, ◌∙◌, arith}
 use Rattle.std.specs.Prelude.{Option, None, Some, if◌then◌else◌}
 use Rattle.std.proofs.lemmas.Bool.{cond_both, and_parts, false≢true}
 use Rattle.rand_pcg.specs.Lcg.{Lcg}
@@ -14,21 +15,30 @@ use Rattle.jh_ops.specs.declared.call.Request.{Request}
 use Rattle.jh_ops.specs.declared.operation.Process.{Process}
 use Rattle.jh_ops.specs.Pairing.{is_invoke}
 use Rattle.jh_simnode.specs.Histories.{request_name}
-use Rattle.jh_conversation.specs.Lines.{LineSaid, Nothing, Clock, Stop, Reply, Bad}
+use Rattle.jh_test_parts.specs.Said.{LineSaid, Nothing, Clock, Stop, Reply, Bad}
 use Rattle.jh_lines.specs.Replies.{after_lines}
 use Rattle.jh_nemesis.specs.State.{first_state}
-use Rattle.jh_conversation.specs.Lines.{answer_step, answers_step, at_first, at_time, finish, is_test_over, line_said, listen, refuse, reply, stop, fits_call, take_answer, take_completion, take_end, take_in, take_reply, thread_of_process}
+use Rattle.jh_conversation.specs.Lines.{answer_step, answers_step, at_first, at_time, finish}
+use Rattle.jh_conversation.specs.Lines.{is_test_over, listen, refuse, reply, stop, take_answer}
+use Rattle.jh_conversation.specs.Lines.{take_completion, take_end, take_in, take_reply}
+use Rattle.jh_test_parts.specs.Said.{line_said}
+use Rattle.jh_test_parts.specs.Values.{fits_call}
+use Rattle.jh_test_parts.specs.Test.{thread_of_process}
 use Rattle.jh_conversation.specs.Machine.{Machine, has_no_call, caller_process, caller_of}
 use Rattle.jh_conversation.specs.Laws.{Drivers, start, run}
-use Rattle.jh_conversation.specs.Test.{TestValue}
-use Rattle.jh_conversation.specs.Turn.{after_rest, answer_to, ask, begin, begin_due, calls, calls_ended, due_in_phase, end, final, go_on, has_healed, has_recovered, heal, invoke, may_call, move, move_from, passes, rest, round, rounds, step, told, turn, visit, visits, when, work}
+use Rattle.jh_test_parts.specs.Test.{TestValue}
+use Rattle.jh_conversation.specs.Turn.{after_rest, answer_to, ask, begin, begin_due, calls}
+use Rattle.jh_conversation.specs.Turn.{calls_ended, due_in_phase, end, final, go_on, has_healed}
+use Rattle.jh_conversation.specs.Turn.{has_recovered, heal, invoke, may_call, move, move_from}
+use Rattle.jh_conversation.specs.Turn.{passes, rest, round, rounds, step, told, turn, visit, visits}
+use Rattle.jh_conversation.specs.Turn.{when, work}
 use Rattle.jh_conversation.specs.declared.turns.Due.{Due}
-use Rattle.jh_conversation.specs.declared.calls.Asked.{Asked}
-use Rattle.jh_conversation.specs.declared.calls.OpenStep.{OpenStep}
-use Rattle.jh_conversation.specs.declared.parts.Complaint.{Complaint}
-use Rattle.jh_conversation.specs.declared.parts.Complaint.TheVariants as complaint
-use Rattle.jh_conversation.specs.declared.parts.Phase.{Phase}
-use Rattle.jh_conversation.specs.declared.parts.Phase.TheVariants.{Main, Heal, Rest, Final, Over}
+use Rattle.jh_test_parts.specs.declared.calls.Asked.{Asked}
+use Rattle.jh_conversation.specs.declared.callers.OpenStep.{OpenStep}
+use Rattle.jh_test_parts.specs.declared.complaints.Complaint.{Complaint}
+use Rattle.jh_test_parts.specs.declared.complaints.Complaint.TheVariants as complaint
+use Rattle.jh_conversation.specs.declared.phase.Phase.{Phase}
+use Rattle.jh_conversation.specs.declared.phase.Phase.TheVariants.{Main, Heal, Rest, Final, Over}
 
 -- what a thread is told
 pub record IsKeptByAnswers (t : TestValue) (P : Machine → Type 0) : Type 0 where

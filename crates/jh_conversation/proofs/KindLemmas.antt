@@ -3,16 +3,19 @@ use Rattle.std.proofs.Common.{◌≡◌, ℕ, true, false, List, [], ◌∷◌, 
 use Rattle.std.specs.Prelude.{Option, None, Some, if◌then◌else◌}
 use Rattle.std.specs.List.{AllByRecursion}
 use Rattle.jh_ops.specs.declared.operation.Process.{Process}
-use Rattle.jh_conversation.specs.Laws.{Drivers, IsHeard, IsSaid, answered_by, clock_at, ended_by, heard, heard_from, is_end_of_call, run}
-use Rattle.jh_conversation.specs.Lines.{LineSaid, Nothing, Clock, Stop, Reply, Bad}
-use Rattle.jh_conversation.specs.Lines.{answers_step, is_test_over, kept_pairs, line_said, listen, reply, take_in, thread_of_process}
+use Rattle.jh_conversation.specs.Laws.{Drivers, IsHeard, IsSaid, answered_by, clock_at, ended_by}
+use Rattle.jh_conversation.specs.Laws.{heard, heard_from, is_end_of_call, run}
+use Rattle.jh_test_parts.specs.Said.{LineSaid, Nothing, Clock, Stop, Reply, Bad}
+use Rattle.jh_conversation.specs.Lines.{answers_step, is_test_over, listen, reply, take_in}
+use Rattle.jh_test_parts.specs.Said.{kept_pairs, line_said}
+use Rattle.jh_test_parts.specs.Test.{thread_of_process}
 use Rattle.jh_conversation.specs.Machine.{Machine, caller_of}
-use Rattle.jh_conversation.specs.Test.{TestValue}
+use Rattle.jh_test_parts.specs.Test.{TestValue}
 use Rattle.jh_conversation.specs.Turn.{turn}
-use Rattle.jh_conversation.specs.declared.calls.Asked.{Asked}
-use Rattle.jh_conversation.specs.declared.calls.OpenStep.{OpenStep}
-use Rattle.jh_conversation.specs.declared.records.Recorded.TheVariants.{Answered, Ended}
-use Rattle.jh_conversation.specs.declared.records.Recorded.{Recorded}
+use Rattle.jh_test_parts.specs.declared.calls.Asked.{Asked}
+use Rattle.jh_conversation.specs.declared.callers.OpenStep.{OpenStep}
+use Rattle.jh_test_parts.specs.declared.records.Recorded.TheVariants.{Answered, Ended}
+use Rattle.jh_test_parts.specs.declared.records.Recorded.{Recorded}
 use Rattle.jh_conversation.proofs.KeptLemmas.{IsKeptInTurn, by_answers, kept_turn}
 use Rattle.jh_conversation.proofs.TalkLemmas.{hears}
 

@@ -11,5 +11,4 @@ pub mod KindLemmas
 pub mod SoundLemmas
 pub mod CodeLemmas
 pub mod LineLemmas
-pub mod ToldLemmas
 pub mod TextLemmas

@@ -4,11 +4,11 @@ use Rattle.std.specs.Prelude.{None, Some}
 use Rattle.jh_edn.specs.Edn.{is_empty}
 use Rattle.jh_conversation.specs.Laws.{Drivers, IsPastHeal, run}
 use Rattle.jh_conversation.specs.Machine.{Machine}
-use Rattle.jh_conversation.specs.Test.{TestValue}
+use Rattle.jh_test_parts.specs.Test.{TestValue}
 use Rattle.jh_conversation.specs.Turn.{due_in_phase}
 use Rattle.jh_conversation.specs.declared.turns.Due.{Due}
-use Rattle.jh_conversation.specs.declared.parts.Phase.{Phase}
-use Rattle.jh_conversation.specs.declared.parts.Phase.TheVariants.{Main, Heal, Rest, Final, Over}
+use Rattle.jh_conversation.specs.declared.phase.Phase.{Phase}
+use Rattle.jh_conversation.specs.declared.phase.Phase.TheVariants.{Main, Heal, Rest, Final, Over}
 use Rattle.jh_conversation.proofs.KeptLemmas.{IsKeptByLine, IsKeptInTurn, by_answers, kept_run}
 
 abbrev IsQuietNow : Machine → Type 0

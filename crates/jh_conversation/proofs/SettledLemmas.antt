@@ -1,27 +1,38 @@
 -- A turn ends, and what a machine then waits for.
-use Rattle.std.proofs.Common.{◌≡◌, ◌≢◌, ℕ, zero, suc, ◌+◌, ◌<◌, ◌≤◌, ◌==◌, Bool, true, false, not, ◌&&◌, ◌||◌, nat_le, List, [], ◌∷◌, length, set, get_or, refl, sym, ap, ◌∙◌, arith, length-set}
+use Rattle.std.proofs.Common.{◌≡◌, ◌≢◌, ℕ, zero, suc, ◌+◌, ◌<◌, ◌≤◌, ◌==◌, Bool, true, false, not}
+use Rattle.std.proofs.Common.{◌&&◌, ◌||◌, nat_le, List, [], ◌∷◌, length, set, get_or, refl, sym, ap}
+use Rattle.std.proofs.Common.{◌∙◌, arith, length-set}
 use mathlib.Core.Logic.{◌⊎◌, inl, inr}
 use Rattle.std.specs.Prelude.{Option, None, Some, if◌then◌else◌}
-use Rattle.std.proofs.lemmas.Bool.{and_from, not_from_false, false≢true, true≢false, eqb-true, eqb-false, leb-false, cases_Bool}
+use Rattle.std.proofs.lemmas.Bool.{and_from, not_from_false, false≢true, true≢false, eqb-true}
+use Rattle.std.proofs.lemmas.Bool.{eqb-false, leb-false, cases_Bool}
 use Rattle.jh_edn.specs.Edn.{is_empty}
 use Rattle.jh_gen.specs.DriverState.{DriverState}
 use Rattle.jh_lines.specs.Replies.{after_lines}
 use Rattle.jh_nemesis.specs.State.{first_state}
 use Rattle.jh_conversation.specs.Laws.{Drivers, Waits, run, start}
-use Rattle.jh_conversation.specs.Laws.Waits.{IsOver, ForCall, ForStep, ForRate, ForRecovery, ForGenerator}
-use Rattle.jh_conversation.specs.Lines.{at_first, is_test_over, line_said, listen, reply, take_in}
+use Rattle.jh_conversation.specs.Laws.Waits.{IsOver, ForCall, ForStep, ForRate, ForRecovery}
+use Rattle.jh_conversation.specs.Laws.Waits.{ForGenerator}
+use Rattle.jh_conversation.specs.Lines.{at_first, is_test_over, listen, reply, take_in}
+use Rattle.jh_test_parts.specs.Said.{line_said}
 use Rattle.jh_conversation.specs.Machine.{Machine, are_free, has_no_call, no_caller, caller_of}
-use Rattle.jh_conversation.specs.Test.{TestValue}
-use Rattle.jh_conversation.specs.Turn.{after_rest, begin_due, call_made, calls, due_in_phase, end, final, go_on, has_come, has_healed, has_recovered, keeps_rate, may_call, may_call_in, move, move_from, no_more_calls_in, passes, round, rounds, step, turn, when, work}
+use Rattle.jh_test_parts.specs.Test.{TestValue}
+use Rattle.jh_conversation.specs.Turn.{after_rest, begin_due, call_made, calls, due_in_phase, end}
+use Rattle.jh_conversation.specs.Turn.{final, go_on, has_come, has_healed, has_recovered}
+use Rattle.jh_conversation.specs.Turn.{keeps_rate, may_call, may_call_in, move, move_from}
+use Rattle.jh_conversation.specs.Turn.{no_more_calls_in, passes, round, rounds, step, turn, when}
+use Rattle.jh_conversation.specs.Turn.{work}
 use Rattle.jh_conversation.specs.declared.turns.Due.{Due}
-use Rattle.jh_conversation.specs.declared.calls.Asked.{Asked}
-use Rattle.jh_conversation.specs.declared.calls.Caller.{Caller}
-use Rattle.jh_conversation.specs.declared.calls.OpenStep.{OpenStep}
-use Rattle.jh_conversation.specs.declared.parts.Phase.{Phase}
-use Rattle.jh_conversation.specs.declared.parts.Phase.TheVariants.{Main, Heal, Rest, Final, Over}
+use Rattle.jh_test_parts.specs.declared.calls.Asked.{Asked}
+use Rattle.jh_conversation.specs.declared.callers.Caller.{Caller}
+use Rattle.jh_conversation.specs.declared.callers.OpenStep.{OpenStep}
+use Rattle.jh_conversation.specs.declared.phase.Phase.{Phase}
+use Rattle.jh_conversation.specs.declared.phase.Phase.TheVariants.{Main, Heal, Rest, Final, Over}
 use Rattle.jh_conversation.proofs.CallLemmas.{over_is}
 use Rattle.jh_conversation.proofs.FormedLemmas.{Holds, holds_at_first, holds_by_line, holds_in_turn}
-use Rattle.jh_conversation.proofs.KeptLemmas.{IfMoved, IsKeptByCalls, by_answers, kept_calls, kept_move, kept_reply, kept_round, kept_run, kept_step, kept_take_in, kept_turn, kept_work}
+use Rattle.jh_conversation.proofs.KeptLemmas.{IfMoved, IsKeptByCalls, by_answers, kept_calls}
+use Rattle.jh_conversation.proofs.KeptLemmas.{kept_move, kept_reply, kept_round, kept_run}
+use Rattle.jh_conversation.proofs.KeptLemmas.{kept_step, kept_take_in, kept_turn, kept_work}
 
 -- rounds: each call takes a free caller
 

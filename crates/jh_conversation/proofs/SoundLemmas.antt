@@ -1,26 +1,31 @@
 -- The machine is sound at each moment.
-use Rattle.std.proofs.Common.{◌≡◌, ◌≢◌, ℕ, zero, suc, ◌+◌, ◌*◌, ◌<◌, ◌≤◌, ◌^◌, Bool, true, false, nat_le, List, [], ◌∷◌, length, set, get_or, refl, sym, ap, ◌∙◌, arith, subst, length-set}
+use Rattle.std.proofs.Common.{◌≡◌, ◌≢◌, ℕ, zero, suc, ◌+◌, ◌*◌, ◌<◌, ◌≤◌, ◌^◌, Bool, true, false}
+use Rattle.std.proofs.Common.{nat_le, List, [], ◌∷◌, length, set, get_or, refl, sym, ap, ◌∙◌, arith}
+use Rattle.std.proofs.Common.{subst, length-set}
 use mathlib.Core.Logic.{◌⊎◌, inl, inr}
-use Rattle.std.specs.Prelude.{Option, None, Some, All, if◌then◌else◌, ◌||◌, ◌==◌, not, replicate, slice_get, slice_index_or}
-use Rattle.std.specs.List.{AllByRecursion}
-use Rattle.std.proofs.lemmas.Bool.{and_parts, cases_eq, cases_lt, cond_both, false≢true, true≢false, leb-false}
-use Rattle.std.proofs.lemmas.List.{get_or-replicate, get_or-set_same, get_or-set_other, length-replicate, set_past}
+use Rattle.std.specs.Prelude.{Option, None, Some, All, if◌then◌else◌, ◌||◌, ◌==◌, not, replicate}
+use Rattle.std.specs.Prelude.{slice_get, slice_index_or}
+use Rattle.std.proofs.lemmas.Bool.{and_parts, cases_eq, cases_lt, cond_both, false≢true, true≢false}
+use Rattle.std.proofs.lemmas.Bool.{leb-false}
+use Rattle.std.proofs.lemmas.List.{get_or-replicate, get_or-set_same, get_or-set_other}
+use Rattle.std.proofs.lemmas.List.{length-replicate, set_past}
 use Rattle.std.proofs.lemmas.Option.{slice_get-get_or, slice_get_within}
 use Rattle.std.proofs.Math.Nat.{mul-le-mul}
 use Rattle.rand_pcg.specs.Lcg.{Lcg}
 use Rattle.rand_pcg.specs.Pcg.{pcg64}
 use Rattle.jh_edn.specs.Edn.{is_empty}
-use Rattle.jh_gen.specs.DriverState.{DriverState, IsFresh, answer_by, asked, driver_after_end, max_calls, question_by}
+use Rattle.jh_gen.specs.DriverState.{DriverState, IsFresh, answer_by, asked, driver_after_end}
+use Rattle.jh_gen.specs.DriverState.{max_calls, question_by}
 use Rattle.jh_gen.specs.Generator.{Generator}
 use Rattle.jh_gen.specs.State.{GeneratorState, Taking, is_done, taking}
-use Rattle.jh_gen.specs.declared.answers.Ended.{Ended}
 use Rattle.jh_gen.specs.declared.answers.GenAnswer.{GenAnswer}
 use Rattle.jh_gen.specs.declared.answers.GenAnswer.TheVariants.{Call, Done, Pending}
 use Rattle.jh_gen.specs.declared.answers.Thread.TheVariants as thread
 use Rattle.jh_nemesis.specs.State.{Active, State, first_state, state_back_to, state_forth_to}
 use Rattle.jh_nemesis.specs.Steps.{FitsNodes, answer_of, is_ok, moved_state, state_after}
 use Rattle.jh_nemesis.specs.declared.steps.Step.{Step}
-use Rattle.jh_nemesis.specs.declared.steps.Step.TheVariants.{Begin, Withdraw, WithdrawAll, Undo, Redo}
+use Rattle.jh_nemesis.specs.declared.steps.Step.TheVariants.{Begin, Withdraw, WithdrawAll, Undo}
+use Rattle.jh_nemesis.specs.declared.steps.Step.TheVariants.{Redo}
 use Rattle.jh_nemesis.specs.declared.steps.StepAnswer.{StepAnswer}
 use Rattle.jh_nemesis.specs.declared.steps.StepAnswer.TheVariants as answer
 use Rattle.jh_ops.specs.declared.call.Call.TheVariants as call
@@ -28,21 +33,26 @@ use Rattle.jh_ops.specs.declared.call.Request.{Request}
 use Rattle.jh_ops.specs.declared.operation.Kind.{Kind}
 use Rattle.jh_simnode.specs.Histories.{code_of}
 use Rattle.jh_conversation.specs.Laws.{Drivers, IsLastDriver}
-use Rattle.jh_conversation.specs.Lines.{at_first, clock_after, ended_as, more_crashes}
-use Rattle.jh_conversation.specs.Machine.{Machine, are_free, caller_process, has_no_call, new_callers, no_caller}
-use Rattle.jh_conversation.specs.Sound.{AreCounted, AreGivenByDrivers, AreGroups, HasSmallCounts, HasSmallNumbers, IsBetween, IsFreshIfThere, IsOverStart, IsSmallStep, IsSoundMachine, IsTied, earlier_calls, is_busy_for, is_idle, open_calls}
-use Rattle.jh_conversation.specs.Test.{IsFitTest, TestValue}
-use Rattle.jh_conversation.specs.Turn.{answer_to, ask, call_made, calls_ended, counts_after, due_in_phase, group_of, has_come_to, if_due, invoke, may_call, told}
-use Rattle.jh_conversation.specs.declared.calls.Asked.{Asked}
-use Rattle.jh_conversation.specs.declared.calls.Caller.{Caller}
-use Rattle.jh_conversation.specs.declared.calls.OpenStep.{OpenStep}
-use Rattle.jh_conversation.specs.declared.parts.Entry.{Entry}
-use Rattle.jh_conversation.specs.declared.parts.KeyShares.{KeyShares}
-use Rattle.jh_conversation.specs.declared.parts.Phase.{Phase}
-use Rattle.jh_conversation.specs.declared.parts.Phase.TheVariants.{Main, Heal, Rest, Final, Over}
+use Rattle.jh_conversation.specs.Lines.{at_first, ended_as, more_crashes}
+use Rattle.jh_conversation.specs.Machine.{Machine, are_free, caller_process, has_no_call}
+use Rattle.jh_conversation.specs.Machine.{new_callers, no_caller}
+use Rattle.jh_conversation.specs.Sound.{AreGivenByDrivers, AreGroups, HasSmallCounts}
+use Rattle.jh_conversation.specs.Sound.{IsFreshIfThere, IsSmallStep, IsSoundMachine, IsTied}
+use Rattle.jh_conversation.specs.Sound.{earlier_calls, is_busy_for, is_idle, open_calls}
+use Rattle.jh_test_parts.specs.Test.{IsFitTest, TestValue}
+use Rattle.jh_conversation.specs.Turn.{answer_to, call_made, calls_ended, counts_after}
+use Rattle.jh_conversation.specs.Turn.{due_in_phase, group_of, has_come_to, if_due, invoke}
+use Rattle.jh_conversation.specs.Turn.{may_call, told}
+use Rattle.jh_test_parts.specs.declared.calls.Asked.{Asked}
+use Rattle.jh_conversation.specs.declared.callers.Caller.{Caller}
+use Rattle.jh_test_parts.specs.declared.parts.Entry.{Entry}
+use Rattle.jh_test_parts.specs.declared.parts.KeyShares.{KeyShares}
+use Rattle.jh_conversation.specs.declared.phase.Phase.{Phase}
+use Rattle.jh_conversation.specs.declared.phase.Phase.TheVariants.{Main, Heal, Rest, Final, Over}
 use Rattle.jh_conversation.specs.declared.turns.Due.{Due}
 use Rattle.jh_conversation.proofs.CellLemmas.{start_stays}
-use Rattle.jh_conversation.proofs.FormedLemmas.{between, free_at, in_callers, long_new, new_at, none_between}
+use Rattle.jh_conversation.proofs.FormedLemmas.{between, free_at, in_callers, long_new, new_at}
+use Rattle.jh_conversation.proofs.FormedLemmas.{none_between}
 use Rattle.jh_conversation.proofs.KeptLemmas.{IsKeptByCalls, IsKeptByLine, IsKeptInTurn}
 
 -- What asking makes of a driver.

@@ -1,5 +1,6 @@
 -- The history is what was said and what was heard.
-use Rattle.std.proofs.Common.{◌≡◌, ℕ, ◌==◌, Bool, true, false, ◌&&◌, ◌||◌, not, List, [], ◌∷◌, ◌++◌, refl, sym, ap, ◌∙◌}
+use Rattle.std.proofs.Common.{◌≡◌, ℕ, ◌==◌, Bool, true, false, ◌&&◌, ◌||◌, not, List, [], ◌∷◌, ◌++◌}
+use Rattle.std.proofs.Common.{refl, sym, ap, ◌∙◌}
 use Rattle.std.specs.Prelude.{Option, None, Some, if◌then◌else◌}
 use Rattle.std.proofs.lemmas.Bool.{eqb-true}
 use Rattle.std.proofs.lemmas.List.{append_assoc}
@@ -10,19 +11,28 @@ use Rattle.jh_nemesis.specs.Steps.{state_after}
 use Rattle.jh_ops.specs.Operation.{Operation}
 use Rattle.jh_ops.specs.declared.operation.Process.{Process}
 use Rattle.jh_simnode.specs.Histories.{request_name}
-use Rattle.jh_conversation.specs.Laws.{Drivers, answered_by, clock_at, ended_by, heard, heard_from, run, start, talk, talk_at, talk_from}
+use Rattle.jh_conversation.specs.Conversations.{ConversationIsRun, ConversationValue, conversation_after}
+use Rattle.jh_conversation.specs.Laws.{Drivers, answered_by, clock_at, ended_by, heard, heard_from}
+use Rattle.jh_conversation.specs.Laws.{run, start, talk, talk_at, talk_from}
 use Rattle.jh_ops.specs.Pairing.{is_invoke}
-use Rattle.jh_conversation.specs.Lines.{LineSaid, Nothing, Clock, Stop, Reply, Bad}
-use Rattle.jh_conversation.specs.Lines.{answer_step, answers_step, at_first, at_time, clock_after, finish, is_test_over, kept_pairs, line_said, listen, refuse, reply, fits_call, take_answer, take_completion, take_end, take_in, take_reply, thread_of_process}
+use Rattle.jh_test_parts.specs.Said.{LineSaid, Nothing, Clock, Stop, Reply, Bad}
+use Rattle.jh_conversation.specs.Lines.{answer_step, answers_step, at_first, at_time, clock_after}
+use Rattle.jh_conversation.specs.Lines.{finish, is_test_over, listen, refuse, reply, take_answer}
+use Rattle.jh_conversation.specs.Lines.{take_completion, take_end, take_in, take_reply}
+use Rattle.jh_test_parts.specs.Said.{kept_pairs, line_said}
+use Rattle.jh_test_parts.specs.Values.{fits_call}
+use Rattle.jh_test_parts.specs.Test.{thread_of_process}
 use Rattle.jh_conversation.specs.Machine.{Machine, caller_process, caller_of}
-use Rattle.jh_conversation.specs.Test.{TestValue}
-use Rattle.jh_conversation.specs.Told.{cells_told}
-use Rattle.jh_conversation.specs.Turn.{call_made, node_of_thread, turn}
-use Rattle.jh_conversation.specs.declared.calls.Asked.{Asked}
-use Rattle.jh_conversation.specs.declared.calls.OpenStep.{OpenStep}
-use Rattle.jh_conversation.specs.declared.records.Recorded.TheVariants.{Invoked, Ended, Begun, Answered}
-use Rattle.jh_conversation.specs.declared.records.Recorded.{Recorded}
-use Rattle.jh_conversation.specs.declared.parts.Complaint.TheVariants as complaint
+use Rattle.jh_test_parts.specs.Test.{TestValue}
+use Rattle.jh_test_parts.specs.Told.{cells_told}
+use Rattle.jh_conversation.specs.Turn.{call_made, turn}
+use Rattle.jh_test_parts.specs.Test.{node_of_thread}
+use Rattle.jh_test_parts.specs.declared.calls.Asked.{Asked}
+use Rattle.jh_conversation.specs.declared.callers.OpenStep.{OpenStep}
+use Rattle.jh_test_parts.specs.declared.records.Recorded.TheVariants.{Invoked, Ended, Begun}
+use Rattle.jh_test_parts.specs.declared.records.Recorded.TheVariants.{Answered}
+use Rattle.jh_test_parts.specs.declared.records.Recorded.{Recorded}
+use Rattle.jh_test_parts.specs.declared.complaints.Complaint.TheVariants as complaint
 use Rattle.jh_conversation.proofs.KeptLemmas.{IsKeptInTurn, by_answers, kept_turn}
 
 -- what was said stands before what was there
@@ -134,3 +144,12 @@ history_is_talk t d lines =
     nothing : (l : List Recorded) → l ++ [] ≡ l
     nothing [] = refl
     nothing (r ∷ l) = ap (λ l. r ∷ l) (nothing l)
+
+-- a conversation keeps its test, and its machine takes each line
+after_is : (t : TestValue) (m : Machine) (lines : List (List ℕ))
+    → ◌≡◌ {A = ConversationValue} (after_lines conversation_after (record { test = t; machine = m }) lines) (record { test = t; machine = after_lines (reply t) m lines })
+after_is t m [] = refl
+after_is t m (line ∷ lines) = after_is t (reply t m line) lines
+
+pub conversation_run : ConversationIsRun
+conversation_run t d lines = after_is t (start t d) lines

@@ -1,54 +1,18 @@
 -- Lists that the code makes one by one.
-use Rattle.std.proofs.Common.{◌≡◌, ℕ, zero, suc, true, false, append-nil, codes, ◌+◌, ◌-◌, ◌<◌, ◌≤◌, List, [], ◌∷◌, ◌++◌, length, get_or, take, drop, map, reverse, refl, sym, ap, ap₂, ◌∙◌, arith, add-one, subst, All}
-use Rattle.std.specs.Prelude.{Option, None, Some, if◌then◌else◌, option_map, slice_get, slice_index_or}
+use Rattle.std.proofs.Common.{◌≡◌, ℕ, zero, suc, true, false, append-nil, codes, ◌+◌, ◌-◌, ◌<◌, ◌≤◌}
+use Rattle.std.proofs.Common.{List, [], ◌∷◌, ◌++◌, length, get_or, take, drop, reverse, refl, sym}
+use Rattle.std.proofs.Common.{ap, ap₂, ◌∙◌, arith, subst, All}
+use Rattle.std.specs.Prelude.{if◌then◌else◌}
 use Rattle.std.specs.List.{AllByRecursion}
-use Rattle.std.specs.Option.{unwrap_or}
-use Rattle.std.proofs.lemmas.List.{append_assoc, get_or-reverse, length-reverse, map-append, reverse-append, reverse-reverse, take-append-drop, take_more}
-use Rattle.std.proofs.lemmas.Option.{get_or_from_slice_get}
-use Rattle.jh_edn.specs.Edn.{Edn}
-use Rattle.jh_edn.specs.View.{view, views}
-use Rattle.jh_edn.specs.declared.value.Value.{Value}
+use Rattle.std.proofs.lemmas.List.{append_assoc, get_or-reverse, length-reverse, reverse-append}
+use Rattle.std.proofs.lemmas.List.{reverse-reverse, take-append-drop}
+use Rattle.jh_ops.specs.Operation.{Operation}
+use Rattle.jh_test_parts.specs.Records.{recorded_operations}
 use Rattle.jh_conversation.specs.Lines.{is_test_over}
 use Rattle.jh_conversation.specs.Machine.{Machine}
-use Rattle.jh_conversation.specs.Test.{TestValue}
-use Rattle.jh_conversation.specs.Text.{record_lines, said_lines}
-use Rattle.jh_conversation.specs.Transactions.{slots_from}
-use Rattle.jh_conversation.specs.declared.records.Recorded.{Recorded}
-use Rattle.jh_conversation.specs.declared.transactions.Slot.{Slot}
-
--- the name at a place, or an empty one
-
-none_at : (names : List (List ℕ)) (k : ℕ) → slice_get names k ≡ None → slice_index_or names k [] ≡ []
-none_at [] k e = refl
-none_at (x ∷ names) zero e = absurd (cc e)
-none_at (x ∷ names) (suc k) e = none_at names k e
-
-pub named : {A : Type 0} (now : A → List ℕ) (o : Option A) (d : A) (names : List (List ℕ)) (k : ℕ) → now d ≡ [] → option_map now o ≡ slice_get names k → now (unwrap_or o d) ≡ slice_index_or names k []
-named now None d names k e f = e ∙ sym (none_at names k (sym f))
-named now (Some x) d names k e f = sym (get_or_from_slice_get names k (now x) [] (sym f))
-
--- slots
-
-slots_more : (n key : ℕ) → slots_from key n ++ (record { key = key + n; appends = 0 }) ∷ [] ≡ slots_from key (suc n)
-slots_more zero key = ap (λ k. let s : Slot = record { key = k; appends = 0 } in s ∷ []) (let e : key + 0 ≡ key = omega arith in e)
-slots_more (suc n) key =
-    let on : key + suc n ≡ key + 1 + n = omega arith in
-    let first : Slot = record { key = key; appends = 0 } in
-    ap (λ l. first ∷ l) (ap (λ k. let s : Slot = record { key = k; appends = 0 } in slots_from (key + 1) n ++ s ∷ []) on ∙ slots_more n (key + 1))
-
-pub slots_next : (n : ℕ) → slots_from 0 n ++ (record { key = n; appends = 0 }) ∷ [] ≡ slots_from 0 (n + 1)
-slots_next n =
-    ap (λ k. let s : Slot = record { key = k; appends = 0 } in slots_from 0 n ++ s ∷ []) (let e : n ≡ 0 + n = omega arith in e) ∙ slots_more n 0 ∙ ap (slots_from 0) (sym (add-one n))
-
--- values
-
-pub values_more : {A : Type 0} (f : A → Edn) (xs : List A) (i : ℕ) (x : A) (values next : List Value) (v : Value) → i < length xs → x ≡ get_or xs i x
-    → views values ≡ map f (take i xs) → view v ≡ f x → next ≡ values ++ v ∷ [] → views next ≡ map f (take (i + 1) xs)
-values_more f xs i x values next v less item so_far is added =
-    ap views added ∙ map-append view values (v ∷ [])
-    ∙ ap₂ (λ l y. l ++ y ∷ []) so_far (is ∙ ap f item)
-    ∙ sym (map-append f (take i xs) (get_or xs i x ∷ []))
-    ∙ ap (map f) (sym (take_more xs i x less))
+use Rattle.jh_test_parts.specs.Test.{TestValue}
+use Rattle.jh_conversation.specs.Text.{end_line, recorded_lines, recorded_history, record_lines, said_lines}
+use Rattle.jh_test_parts.specs.declared.records.Recorded.{Recorded}
 
 -- What was said is the end of the history.
 
@@ -94,9 +58,6 @@ all_reversed P xs all = λ k d less.
 
 -- what is written
 
-abbrev end_line : List ℕ
-end_line = codes ":end" ++ 10 ∷ []
-
 lines_are : (t : TestValue) (m : Machine) (records : List Recorded) (n : ℕ) → n ≤ length records → m.history ≡ reverse records → m.said ≡ take n m.history
     → record_lines t.start.names (length records - n) (drop (length records - n) records) ≡ record_lines t.start.names (length m.history - length m.said) (reverse m.said)
 lines_are t m records n few history said =
@@ -119,3 +80,12 @@ module _ (t : TestValue) (m : Machine) (records : List Recorded) (n : ℕ) (few 
       let all = record_lines t.start.names (length m.history - length m.said) (reverse m.said) in
       lines ∙ ap (λ l. out ++ l) (lines_are t m records n few history said ∙ sym (append-nil all))
       ∙ ap (λ b. out ++ (all ++ (if b then end_line else []))) (sym over)
+
+-- the whole history
+
+module _ (t : TestValue) (m : Machine) (records : List Recorded) (names : List (List ℕ)) where
+  pub history_written : (out next : List ℕ) → names ≡ t.start.names → m.history ≡ reverse records → next ≡ out ++ record_lines names 0 (drop 0 records) → next ≡ out ++ recorded_lines t m
+  history_written out next named history is = is ∙ ap₂ (λ (n : List (List ℕ)) r. out ++ record_lines n 0 r) named (sym (ap reverse history ∙ reverse-reverse records))
+
+  pub history_is : names ≡ t.start.names → m.history ≡ reverse records → (ops : List Operation) → ops ≡ recorded_operations names 0 records → ops ≡ recorded_history t m
+  history_is named history ops is = is ∙ ap₂ (λ (n : List (List ℕ)) r. recorded_operations n 0 r) named (sym (ap reverse history ∙ reverse-reverse records))

@@ -3,8 +3,8 @@ use Rattle.std.proofs.Common.{ℕ, ◌<◌, ◌≤◌, ◌^◌, List, [], ◌∷
 use Rattle.jh_conversation.specs.Laws.{Drivers, AreTimesInOrder, run, time_of}
 use Rattle.jh_conversation.specs.Lines.{clock_after}
 use Rattle.jh_conversation.specs.Machine.{Machine}
-use Rattle.jh_conversation.specs.Test.{TestValue}
-use Rattle.jh_conversation.specs.declared.records.Recorded.{Recorded}
+use Rattle.jh_test_parts.specs.Test.{TestValue}
+use Rattle.jh_test_parts.specs.declared.records.Recorded.{Recorded}
 use Rattle.jh_conversation.proofs.KeptLemmas.{IsKeptByLine, IsKeptInTurn, by_answers, kept_run}
 
 abbrev KeepsTime : Machine → Type 0

@@ -16,23 +16,26 @@ use Rattle.jh_ops.specs.declared.operation.Kind.{Kind}
 use Rattle.jh_ops.specs.declared.operation.Process.{Process}
 use Rattle.jh_ops.specs.Pairing.{is_invoke}
 use Rattle.jh_simnode.specs.Histories.{request_name}
-use Rattle.jh_conversation.specs.Lines.{LineSaid, Reply, Bad}
+use Rattle.jh_test_parts.specs.Said.{LineSaid, Reply, Bad}
 use Rattle.jh_conversation.specs.Lines.{answers_step, at_first, clock_after, is_test_over}
-use Rattle.jh_conversation.specs.Lines.{kept_pairs, line_said, listen, reply, fits_call, take_in}
-use Rattle.jh_conversation.specs.Lines.{thread_of_process}
+use Rattle.jh_test_parts.specs.Said.{kept_pairs, line_said}
+use Rattle.jh_conversation.specs.Lines.{listen, reply, take_in}
+use Rattle.jh_test_parts.specs.Values.{fits_call}
+use Rattle.jh_test_parts.specs.Test.{thread_of_process}
 use Rattle.jh_conversation.specs.Machine.{Machine, are_free, caller_process, caller_of}
-use Rattle.jh_conversation.specs.Test.{TestValue}
+use Rattle.jh_test_parts.specs.Test.{TestValue}
 use Rattle.jh_conversation.specs.Turn.{keeps_rate, may_call, millisecond, move, round, turn}
-use Rattle.jh_conversation.specs.declared.calls.Asked.{Asked}
-use Rattle.jh_conversation.specs.declared.calls.OpenStep.{OpenStep}
-use Rattle.jh_conversation.specs.declared.parts.Complaint.{Complaint}
-use Rattle.jh_conversation.specs.declared.parts.Complaint.TheVariants as complaint
-use Rattle.jh_conversation.specs.declared.parts.Phase.{Phase}
-use Rattle.jh_conversation.specs.declared.parts.Phase.TheVariants.{Main, Heal, Rest, Over}
-use Rattle.jh_conversation.specs.declared.records.LinkTold.{LinkTold}
-use Rattle.jh_conversation.specs.declared.records.NodeTold.{NodeTold}
-use Rattle.jh_conversation.specs.declared.records.Recorded.{Recorded}
-use Rattle.jh_conversation.specs.declared.records.Recorded.TheVariants.{Invoked, Ended, Begun, Answered}
+use Rattle.jh_test_parts.specs.declared.calls.Asked.{Asked}
+use Rattle.jh_conversation.specs.declared.callers.OpenStep.{OpenStep}
+use Rattle.jh_test_parts.specs.declared.complaints.Complaint.{Complaint}
+use Rattle.jh_test_parts.specs.declared.complaints.Complaint.TheVariants as complaint
+use Rattle.jh_conversation.specs.declared.phase.Phase.{Phase}
+use Rattle.jh_conversation.specs.declared.phase.Phase.TheVariants.{Main, Heal, Rest, Over}
+use Rattle.jh_test_parts.specs.declared.records.LinkTold.{LinkTold}
+use Rattle.jh_test_parts.specs.declared.records.NodeTold.{NodeTold}
+use Rattle.jh_test_parts.specs.declared.records.Recorded.{Recorded}
+use Rattle.jh_test_parts.specs.declared.records.Recorded.TheVariants.{Invoked, Ended, Begun}
+use Rattle.jh_test_parts.specs.declared.records.Recorded.TheVariants.{Answered}
 
 -- a driver of the test before its first call, of this generator
 abbrev pub IsDriverAtFirst : TestValue → Generator → DriverState → Type 0

@@ -1,9 +1,3 @@
-pub mod Records
-pub mod Told
-pub mod ToldInside
-pub mod Test
-pub mod TestInside
-pub mod Transactions
 pub mod Machine
 pub mod MachineInside
 pub mod Sound

@@ -1,14 +1,10 @@
 -- What a line says that is read, and what the machine makes of it. This project's own; that a client
 -- which crashed goes on as another process is jepsen.generator's.
-use Rattle.std.specs.Prelude.{ℕ, ◌+◌, ◌-◌, ◌%◌, ◌^◌, ◌==◌, max, min, Bool, true, false, ◌&&◌, ◌||◌, not, ℤ, pos, List}
-use Rattle.std.specs.Prelude.{[], ◌∷◌, set, codes, filter, Option, None, Some, Result, Ok, Err}
-use Rattle.std.specs.Prelude.{if◌then◌else◌, is_some, replicate}
-use Rattle.std.specs.List.{list_any}
-use Rattle.std.specs.Str.{is_utf8}
-use Rattle.jh_edn.specs.Edn.{Edn, nil, int, elements_of, integer_of, is_integer, is_keyword}
-use Rattle.jh_edn.specs.Lines.{values_in}
-use Rattle.jh_edn.specs.Reading.{error_at, line_at}
-use Rattle.jh_edn.specs.declared.error.EdnError.{EdnError}
+use Rattle.std.specs.Prelude.{ℕ, ◌+◌, ◌-◌, ◌^◌, ◌==◌, max, min, Bool, true, false, ◌&&◌, ◌||◌, not}
+use Rattle.std.specs.Prelude.{pos, List}
+use Rattle.std.specs.Prelude.{[], set, codes, Option, None, Some}
+use Rattle.std.specs.Prelude.{if◌then◌else◌, replicate}
+use Rattle.jh_edn.specs.Edn.{int, is_keyword}
 use Rattle.jh_gen.specs.DriverState.{DriverState, driver_after_end}
 use Rattle.jh_gen.specs.declared.answers.Ended.{Ended}
 use Rattle.jh_gen.specs.declared.answers.Ended.TheVariants as ended
@@ -18,95 +14,23 @@ use Rattle.rand_pcg.specs.Lcg.{started, increment_of}
 use Rattle.rand_pcg.specs.Pcg.{multiplier_128}
 use Rattle.jh_ops.specs.Operation.{Operation}
 use Rattle.jh_ops.specs.Pairing.{is_info, is_invoke}
-use Rattle.jh_ops.specs.OperationText.{parsed_op}
 use Rattle.jh_ops.specs.declared.call.Request.{Request}
-use Rattle.jh_ops.specs.declared.call.Request.TheVariants.{Read, Generate}
-use Rattle.jh_ops.specs.declared.op_text.OpError.{OpError}
 use Rattle.jh_ops.specs.declared.operation.Kind.{Kind}
 use Rattle.jh_ops.specs.declared.operation.Process.{Process}
 use Rattle.jh_simnode.specs.Histories.{request_name}
 use Rattle.jh_txn_histories.specs.Written.{is_equal}
 use Rattle.jh_conversation.specs.Machine.{Machine}
 use Rattle.jh_conversation.specs.Machine.{hear, new_callers, caller_process, caller_of}
-use Rattle.jh_conversation.specs.Transactions.{first_source}
-use Rattle.jh_conversation.specs.Test.{TestValue}
+use Rattle.jh_test_parts.specs.Transactions.{first_source}
+use Rattle.jh_test_parts.specs.Test.{TestValue}
 use Rattle.jh_conversation.specs.Turn.{turn}
-use Rattle.jh_conversation.specs.declared.calls.Asked.{Asked}
-use Rattle.jh_conversation.specs.declared.calls.OpenStep.{OpenStep}
-use Rattle.jh_conversation.specs.declared.parts.Complaint.{Complaint}
-use Rattle.jh_conversation.specs.declared.parts.Complaint.TheVariants as complaint
-use Rattle.jh_conversation.specs.declared.parts.KeyShares.{KeyShares}
-use Rattle.jh_conversation.specs.declared.parts.Phase.{Phase}
-use Rattle.jh_conversation.specs.declared.parts.Phase.TheVariants.{Main, Over}
-use Rattle.jh_conversation.specs.declared.parts.Tested.{Tested}
-use Rattle.jh_conversation.specs.declared.parts.Tested.TheVariants.{Register, Counter, Set, Ids}
-use Rattle.jh_conversation.specs.declared.parts.Tested.TheVariants.{Transactions}
-use Rattle.jh_conversation.specs.declared.records.Recorded.TheVariants.{Answered, Ended as EndedCall}
-
--- What a line says by itself: nothing; a time in nanoseconds; stop; an operation, with its time, where
--- it has one; or nothing that can be understood.
-pub data LineSaid : Type 0 where
-  Nothing : LineSaid
-  Clock : ℕ → LineSaid
-  Stop : LineSaid
-  Reply : Operation → Option ℕ → LineSaid
-  Bad : Complaint → LineSaid
-
--- a key of an operation that a conversation gives by itself
-abbrev pub is_own_key : Edn → Bool
-is_own_key key =
-    list_any (λ name. is_keyword name key) (codes "time" ∷ codes "index" ∷ codes "node" ∷ [])
-
--- the pairs of an operation that are kept as they stand
-abbrev pub kept_pairs : Operation → List (Edn × Edn)
-kept_pairs op = filter (λ pair. not (is_own_key pair.0)) op.rest
-
--- a `:time` that is no integer stands among the other pairs
-abbrev pub has_odd_time : Operation → Bool
-has_odd_time op = list_any (λ pair. is_keyword (codes "time") pair.0) op.rest
-
-abbrev pub said_at_time : Operation → Option ℤ → LineSaid
-said_at_time op None = if has_odd_time op then Bad complaint.BadTime else Reply op None
-said_at_time op (Some (pos time)) = Reply op (Some time)
-said_at_time op (Some _) = Bad complaint.BadTime
-
-abbrev pub said_by_parsed : Result Operation OpError → LineSaid
-said_by_parsed (Ok op) = said_at_time op op.time
-said_by_parsed (Err refusal) = Bad (complaint.Op refusal)
-
-abbrev pub said_by_operation : Edn → LineSaid
-said_by_operation value = said_by_parsed (parsed_op value)
-
--- what an integer says
-abbrev pub said_by_number : ℤ → LineSaid
-said_by_number (pos time) = Clock time
-said_by_number _ = Bad complaint.BadTime
-
--- what a value says, which may be an integer
-abbrev pub said_by_number_or : Edn → Option ℤ → LineSaid
-said_by_number_or value (Some number) = said_by_number number
-said_by_number_or value None =
-    if is_keyword (codes "stop") value then Stop else said_by_operation value
-
-abbrev pub said_by_value : Edn → LineSaid
-said_by_value value = said_by_number_or value (integer_of value)
-
-abbrev pub said_by_values : List Edn → LineSaid
-said_by_values [] = Nothing
-said_by_values (value ∷ []) = said_by_value value
-said_by_values values = Bad complaint.MoreThanOne
-
--- what a text says by what was read of it, or by its first error
-abbrev pub said_by_read : {E : Type 0} → (E → EdnError) → Result (List Edn) E → LineSaid
-said_by_read error (Ok values) = said_by_values values
-said_by_read error (Err e) = Bad (complaint.Edn (error e))
-
--- what the bytes of a line say
-abbrev pub line_said : List ℕ → LineSaid
-line_said bytes =
-    if is_utf8 bytes
-    then said_by_read (λ e. error_at e.kind (line_at bytes e.left)) (values_in bytes)
-    else Bad complaint.Utf8
+use Rattle.jh_test_parts.specs.declared.calls.Asked.{Asked}
+use Rattle.jh_conversation.specs.declared.callers.OpenStep.{OpenStep}
+use Rattle.jh_test_parts.specs.declared.complaints.Complaint.{Complaint}
+use Rattle.jh_test_parts.specs.declared.complaints.Complaint.TheVariants as complaint
+use Rattle.jh_conversation.specs.declared.phase.Phase.{Phase}
+use Rattle.jh_conversation.specs.declared.phase.Phase.TheVariants.{Main, Over}
+use Rattle.jh_test_parts.specs.declared.records.Recorded.TheVariants.{Answered, Ended as EndedCall}
 
 -- What the machine makes of it.
 
@@ -116,9 +40,6 @@ is_end_phase _ = false
 
 abbrev pub is_test_over : Machine → Bool
 is_test_over m = is_end_phase m.phase
-
-abbrev pub thread_of_process : TestValue → ℕ → ℕ
-thread_of_process t process = process % t.clients
 
 -- the first of these numbers is kept
 abbrev pub first : Option (ℕ × Complaint) → ℕ × Complaint → Option (ℕ × Complaint)
@@ -148,52 +69,6 @@ stops_by _ = 2
 
 abbrev pub stop : Machine → Machine
 stop m = record m { stops = stops_after (stops_by m.phase) m.stops }
-
--- The values of completions.
-
-abbrev pub is_nil_value : Edn → Bool
-is_nil_value nil = true
-is_nil_value _ = false
-
-abbrev pub is_collection : Edn → Bool
-is_collection (Edn.set xs) = true
-is_collection value = is_some (elements_of value)
-
--- what a read may see: an integer or nil of a register, an integer of a counter, of a set a list, a
--- vector or a set
-abbrev pub is_readable : Tested → Edn → Bool
-is_readable Register value = is_nil_value value || is_integer value
-is_readable Counter value = is_integer value
-is_readable Set value = is_collection value
-is_readable Ids value = true
-is_readable Transactions value = true
-
--- what a call that was done may be answered, but for its key
-abbrev pub is_good_answer : Tested → Request → (asked answer : Edn) → Bool
-is_good_answer tested Read asked answer = is_readable tested answer
-is_good_answer tested Generate asked answer = true
-is_good_answer tested _ asked answer = is_equal asked answer
-
-abbrev pub answers_with_key : Tested → Request → List Edn → Option (List Edn) → Bool
-answers_with_key tested request (key ∷ asked ∷ []) (Some (other ∷ answer ∷ [])) =
-    is_equal key other && is_good_answer tested request asked answer
-answers_with_key tested request _ _ = false
-
-abbrev pub list_or_none : Option (List Edn) → List Edn
-list_or_none None = []
-list_or_none (Some values) = values
-
--- of independent keys a tuple of the same key and such an answer
-abbrev pub is_good_value : TestValue → Option KeyShares → Asked → Edn → Bool
-is_good_value t None call value = is_good_answer t.tested call.request call.value value
-is_good_value t (Some shares) call value =
-    answers_with_key t.tested call.request (list_or_none (elements_of call.value))
-    (elements_of value)
-
--- a completion that is not `:ok` has the call's own value
-abbrev pub fits_call : TestValue → Asked → Kind → Edn → Bool
-fits_call t call Kind.Ok value = is_good_value t t.keys call value
-fits_call t call _ value = is_equal call.value value
 
 -- Completions.
 

@@ -1,28 +1,19 @@
 -- What the code finds of a line on its way; `Lines` has the rule. This project's own.
-use Rattle.std.specs.Prelude.{ℕ, ◌||◌, ◌==◌, not, Bool, List, filter, Option, None, Some, Result, Ok, Err}
+use Rattle.std.specs.Prelude.{ℕ, ◌||◌, ◌==◌, not, Option, None, Some, Result, Ok, Err}
 use Rattle.std.specs.Prelude.{if◌then◌else◌}
-use Rattle.jh_edn.specs.Edn.{Edn, is_keyword}
-use Rattle.jh_ops.specs.Operation.{Operation, operation}
+use Rattle.jh_edn.specs.Edn.{is_keyword}
+use Rattle.jh_ops.specs.Operation.{Operation}
 use Rattle.jh_ops.specs.Pairing.{is_invoke}
 use Rattle.jh_ops.specs.declared.call.Request.{Request}
 use Rattle.jh_simnode.specs.Histories.{request_name}
-use Rattle.jh_conversation.specs.Lines.{LineSaid, Nothing, Clock, Stop, Reply, Bad}
-use Rattle.jh_conversation.specs.Lines.{at_time, finish, fits_call, is_own_key, refuse, thread_of_process}
+use Rattle.jh_conversation.specs.Lines.{at_time, finish, refuse}
+use Rattle.jh_test_parts.specs.Values.{fits_call}
+use Rattle.jh_test_parts.specs.Test.{thread_of_process}
 use Rattle.jh_conversation.specs.Machine.{Machine, caller_process}
-use Rattle.jh_conversation.specs.Test.{TestValue}
-use Rattle.jh_conversation.specs.declared.calls.Asked.{Asked}
-use Rattle.jh_conversation.specs.declared.line.Said.{Said}
-use Rattle.jh_conversation.specs.declared.line.Said.TheVariants as said
-use Rattle.jh_conversation.specs.declared.parts.Complaint.{Complaint}
-use Rattle.jh_conversation.specs.declared.parts.Complaint.TheVariants as complaint
-
--- what a line says, as the program holds it
-abbrev pub line_said_by : Said → LineSaid
-line_said_by said.Nothing = Nothing
-line_said_by (said.Clock time) = Clock time
-line_said_by said.Stop = Stop
-line_said_by (said.Reply op time) = Reply (operation op) time
-line_said_by (said.Bad why) = Bad why
+use Rattle.jh_test_parts.specs.Test.{TestValue}
+use Rattle.jh_test_parts.specs.declared.calls.Asked.{Asked}
+use Rattle.jh_test_parts.specs.declared.complaints.Complaint.{Complaint}
+use Rattle.jh_test_parts.specs.declared.complaints.Complaint.TheVariants as complaint
 
 -- the request whose call this operation ends, or why it ends none
 abbrev pub ended_call : TestValue → Asked → Operation → Result Request Complaint
@@ -44,10 +35,3 @@ abbrev pub after_completion : TestValue → ℕ → Operation → Option ℕ →
     → Machine
 after_completion t thread op time m (Err why) = refuse why m
 after_completion t thread op time m (Ok request) = finish t thread request op (at_time time m)
-
--- the pairs of an operation's other keys that are kept
-abbrev pub is_kept : Edn × Edn → Bool
-is_kept pair = not (is_own_key pair.0)
-
-abbrev pub pairs_kept : List (Edn × Edn) → List (Edn × Edn)
-pairs_kept rest = filter is_kept rest

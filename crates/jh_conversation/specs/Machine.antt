@@ -5,14 +5,14 @@ use Rattle.std.specs.List.{list_all}
 use Rattle.rand_pcg.specs.Lcg.{Lcg}
 use Rattle.jh_gen.specs.DriverState.{DriverState}
 use Rattle.jh_nemesis.specs.State.{State}
-use Rattle.jh_conversation.specs.Test.{TestValue}
-use Rattle.jh_conversation.specs.Transactions.{TransactionSource}
-use Rattle.jh_conversation.specs.declared.calls.Asked.{Asked}
-use Rattle.jh_conversation.specs.declared.calls.Caller.{Caller}
-use Rattle.jh_conversation.specs.declared.calls.OpenStep.{OpenStep}
-use Rattle.jh_conversation.specs.declared.parts.Complaint.{Complaint}
-use Rattle.jh_conversation.specs.declared.parts.Phase.{Phase}
-use Rattle.jh_conversation.specs.declared.records.Recorded.{Recorded}
+use Rattle.jh_test_parts.specs.Test.{TestValue}
+use Rattle.jh_test_parts.specs.Transactions.{TransactionSource}
+use Rattle.jh_test_parts.specs.declared.calls.Asked.{Asked}
+use Rattle.jh_conversation.specs.declared.callers.Caller.{Caller}
+use Rattle.jh_conversation.specs.declared.callers.OpenStep.{OpenStep}
+use Rattle.jh_test_parts.specs.declared.complaints.Complaint.{Complaint}
+use Rattle.jh_conversation.specs.declared.phase.Phase.{Phase}
+use Rattle.jh_test_parts.specs.declared.records.Recorded.{Recorded}
 
 -- The history, and what was said since the last line was read, have the newest record first.
 pub record Machine : Type 0 where

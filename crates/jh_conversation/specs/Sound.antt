@@ -1,20 +1,19 @@
 -- What holds of a machine at each moment: the driver knows which threads have a call open, numbers stay
 -- small, and the nemesis stands over the test's nodes. The code of its parts relies on it. This
 -- project's own.
-use Rattle.std.specs.Prelude.{◌≡◌, ℕ, suc, ◌+◌, ◌*◌, ◌<◌, ◌≤◌, ◌^◌, Bool, true, false, List, [], ◌∷◌}
+use Rattle.std.specs.Prelude.{◌≡◌, ℕ, suc, ◌+◌, ◌*◌, ◌<◌, ◌≤◌, ◌^◌, Bool, true, false, List, []}
+use Rattle.std.specs.Prelude.{◌∷◌}
 use Rattle.std.specs.Prelude.{get_or, length, slice_index_or, Option, None, Some, if◌then◌else◌}
 use Rattle.std.specs.List.{AllByRecursion}
 use Rattle.jh_gen.specs.DriverState.{DriverState, IsFresh, max_calls}
 use Rattle.jh_nemesis.specs.State.{State}
-use Rattle.jh_nemesis.specs.Steps.{FitsNodes}
 use Rattle.jh_conversation.specs.Machine.{Machine, are_free, has_no_call, no_caller}
-use Rattle.jh_conversation.specs.Test.{TestValue}
-use Rattle.jh_conversation.specs.declared.calls.Caller.{Caller}
-use Rattle.jh_conversation.specs.declared.calls.OpenStep.{OpenStep}
-use Rattle.jh_conversation.specs.declared.parts.Phase.{Phase}
-use Rattle.jh_conversation.specs.declared.parts.Phase.TheVariants.{Main, Heal, Rest, Final, Over}
-use Rattle.jh_conversation.specs.declared.records.Recorded.{Recorded}
-use Rattle.jh_conversation.specs.declared.records.Recorded.TheVariants.{Invoked, Ended, Begun, Answered}
+use Rattle.jh_test_parts.specs.Test.{TestValue}
+use Rattle.jh_conversation.specs.declared.callers.Caller.{Caller}
+use Rattle.jh_conversation.specs.declared.callers.OpenStep.{OpenStep}
+use Rattle.jh_conversation.specs.declared.phase.Phase.{Phase}
+use Rattle.jh_conversation.specs.declared.phase.Phase.TheVariants.{Heal, Rest, Final, Over}
+use Rattle.jh_test_parts.specs.declared.records.Recorded.{Recorded}
 
 -- the thread has no call open
 abbrev pub is_idle : List Caller → ℕ → Bool
@@ -61,16 +60,6 @@ abbrev pub IsBetween : Phase → Type 0
 IsBetween Heal = Unit {0}
 IsBetween Rest = Unit {0}
 IsBetween _ = ⊥
-
--- the record can be written over so many nodes: its numbers are integers of a text, and its step
--- names some of the nodes
-abbrev pub IsWritableRecord : ℕ → Recorded → Type 0
-IsWritableRecord nodes (Invoked time process node call) = (time < 2 ^ 63) × (process < 2 ^ 63)
-IsWritableRecord nodes (Ended time process kind request value rest) = (time < 2 ^ 63) × (process < 2 ^ 63)
-IsWritableRecord nodes (Begun time entry step cells) =
-    (time < 2 ^ 63) × (entry < 2 ^ 63) × FitsNodes nodes step
-IsWritableRecord nodes (Answered time entry code rest) =
-    (time < 2 ^ 63) × (entry < 2 ^ 63) × (code < 2 ^ 63)
 
 abbrev pub IsSmallStep : Option OpenStep → Type 0
 IsSmallStep None = Unit {0}

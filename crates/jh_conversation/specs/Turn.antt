@@ -1,8 +1,10 @@
 -- A turn: all that can be said at a moment. A step that is due is taken, threads that have no call
 -- open ask for one, and a phase that is over makes way for the next one. This project's own; which
 -- call a thread is given is what the driver of the generator answers (jepsen.generator).
-use Rattle.std.specs.Prelude.{ℕ, zero, suc, ◌+◌, ◌*◌, ◌/◌, ◌%◌, ◌^◌, ◌==◌, nat_le, Bool, true, false, not}
-use Rattle.std.specs.Prelude.{◌&&◌, ◌||◌, pos, List, [], ◌∷◌, length, set, slice_get, slice_index_or}
+use Rattle.std.specs.Prelude.{ℕ, zero, suc, ◌+◌, ◌*◌, ◌/◌, ◌^◌, ◌==◌, nat_le, Bool, true, false}
+use Rattle.std.specs.Prelude.{not}
+use Rattle.std.specs.Prelude.{◌&&◌, ◌||◌, pos, List, [], ◌∷◌, length, set, slice_get}
+use Rattle.std.specs.Prelude.{slice_index_or}
 use Rattle.std.specs.Prelude.{Option, None, Some, if◌then◌else◌}
 use Rattle.rand_pcg.specs.Pcg.{pcg64}
 use Rattle.jh_edn.specs.Edn.{Edn, int, is_empty}
@@ -13,26 +15,26 @@ use Rattle.jh_gen.specs.declared.answers.GenAnswer.TheVariants.{Call, Done, Pend
 use Rattle.jh_gen.specs.declared.answers.Thread.TheVariants as thread
 use Rattle.jh_nemesis.specs.State.{faults_in}
 use Rattle.jh_nemesis.specs.Steps.{answer_of, state_after}
-use Rattle.jh_nemesis.specs.declared.steps.Step.{Step}
 use Rattle.jh_nemesis.specs.declared.steps.Step.TheVariants.{WithdrawAll}
 use Rattle.jh_ops.specs.Words.{content_value}
 use Rattle.jh_ops.specs.declared.call.Call.TheVariants as call
 use Rattle.jh_ops.specs.declared.call.Request.{Request}
 use Rattle.jh_simnode.specs.Histories.{asked_content, code_of}
 use Rattle.jh_conversation.specs.Machine.{Machine}
-use Rattle.jh_conversation.specs.Machine.{are_free, has_no_call, new_callers, caller_process, say, caller_of}
-use Rattle.jh_conversation.specs.Test.{TestValue}
-use Rattle.jh_conversation.specs.Told.{cells_told}
-use Rattle.jh_conversation.specs.declared.calls.Asked.{Asked}
-use Rattle.jh_conversation.specs.declared.calls.OpenStep.{OpenStep}
+use Rattle.jh_conversation.specs.Machine.{are_free, has_no_call, new_callers, caller_process, say}
+use Rattle.jh_conversation.specs.Machine.{caller_of}
+use Rattle.jh_test_parts.specs.Test.{TestValue}
+use Rattle.jh_test_parts.specs.Told.{cells_told}
+use Rattle.jh_test_parts.specs.declared.calls.Asked.{Asked}
+use Rattle.jh_conversation.specs.declared.callers.OpenStep.{OpenStep}
 use Rattle.jh_conversation.specs.declared.turns.Due.{Due}
-use Rattle.jh_conversation.specs.declared.parts.Entry.{Entry}
-use Rattle.jh_conversation.specs.declared.parts.KeyShares.{KeyShares}
-use Rattle.jh_conversation.specs.declared.parts.Phase.{Phase}
-use Rattle.jh_conversation.specs.declared.parts.Phase.TheVariants.{Main, Heal, Rest, Final, Over}
-use Rattle.jh_conversation.specs.declared.parts.When.{When}
-use Rattle.jh_conversation.specs.declared.parts.When.TheVariants.{Calls, Milliseconds}
-use Rattle.jh_conversation.specs.declared.records.Recorded.TheVariants.{Begun, Invoked}
+use Rattle.jh_test_parts.specs.declared.parts.Entry.{Entry}
+use Rattle.jh_test_parts.specs.declared.parts.KeyShares.{KeyShares}
+use Rattle.jh_conversation.specs.declared.phase.Phase.{Phase}
+use Rattle.jh_conversation.specs.declared.phase.Phase.TheVariants.{Main, Heal, Rest, Final, Over}
+use Rattle.jh_test_parts.specs.declared.parts.When.{When}
+use Rattle.jh_test_parts.specs.declared.parts.When.TheVariants.{Calls, Milliseconds}
+use Rattle.jh_test_parts.specs.declared.records.Recorded.TheVariants.{Begun, Invoked}
 
 -- How many nanoseconds a second has, and a millisecond.
 abbrev pub second : ℕ
@@ -145,10 +147,6 @@ call_made t m thread request = record {
   request = request;
   value = value_with_key t t.keys thread m.calls_by_group (content_value (asked_content request));
 }
-
--- the node that a thread calls
-abbrev pub node_of_thread : TestValue → ℕ → ℕ
-node_of_thread t thread = thread % length t.start.names
 
 abbrev pub invoke : TestValue → ℕ → Request → Machine → Machine
 invoke t thread request m =

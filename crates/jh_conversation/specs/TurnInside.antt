@@ -3,7 +3,7 @@ use Rattle.std.specs.Prelude.{ℕ, pos, [], ◌∷◌, Option, None, Some}
 use Rattle.jh_edn.specs.Edn.{Edn, int}
 use Rattle.jh_edn.specs.Parts.{vector_of}
 use Rattle.jh_conversation.specs.Machine.{Machine}
-use Rattle.jh_conversation.specs.Test.{TestValue}
+use Rattle.jh_test_parts.specs.Test.{TestValue}
 use Rattle.jh_conversation.specs.Turn.{counts_after}
 
 abbrev pub value_behind_key : ℕ → Edn → Edn

@@ -1,17 +1,19 @@
 //! A test as a conversation by lines, which `jh_lines` holds with an adapter. `specs/Laws.antt` says
 //! what holds of it.
 
-ghost use Rattle.std.specs.Prelude.{◌≡◌, IfOk, true};
+ghost use Rattle.std.specs.Prelude.{◌≡◌, ◌++◌, IfOk, OnOk, true};
 ghost use Rattle.jh_gen.specs.View.{generator_of};
 ghost use Rattle.jh_conversation.specs.Conversations.{IsTestBegun};
 ghost use Rattle.jh_conversation.specs.Laws.{IsDriverAtFirst, IsLastDriver};
-ghost use Rattle.jh_conversation.specs.Test.{suits_tested};
+ghost use Rattle.jh_conversation.specs.Text.{recorded_lines, recorded_history};
+ghost use Rattle.jh_ops.specs.Operation.{operations};
+ghost use Rattle.jh_test_parts.specs.Test.{suits_checker};
 
 use crate::machine::Machine;
-use crate::parts::Complaint;
-use crate::test::Test;
 use jh_gen::{Driver, DriverError, Gen, Inner};
 use jh_nemesis::Nemesis;
+use jh_ops::Op;
+use jh_test_parts::{Complaint, Test};
 use std::alloc::{AllocError, Global};
 use std::marker::Model;
 
@@ -46,7 +48,7 @@ impl Model for Conversation {
 
 /// A driver of the calls of a generator, before its first call.
 fn driver_of(alloc: Global, test: &Test, generator: &Gen) -> Result<Driver, AllocError>
-    requires { suits_tested test.now.tested test.now.clients (generator_of generator.now) ≡ true }
+    requires { suits_checker test.now.checker test.now.clients (generator_of generator.now) ≡ true }
     ensures { IfOk result (IsDriverAtFirst test.now (generator_of generator.now)) }
 {
     let limited = Gen::Limit(test.ops(), Inner::of(alloc, generator.copy(alloc)?)?);
@@ -107,6 +109,39 @@ impl Conversation {
         self.machine.bad
     }
 
+    /// The test that is conducted.
+    pub fn test(&self) -> &Test
+        ensures { result.now ≡ self.now.test }
+    {
+        &self.test
+    }
+
+    /// Adds a line for each record of the history, the oldest first.
+    ///
+    /// Error: memory was refused, now or for a line before.
+    pub fn write_history(&self, out: &mut Vec<u8>) -> Result<(), AllocError>
+        ensures { OnOk result (out.new.items
+            ≡ out.old.items ++ recorded_lines self.now.test self.now.machine) }
+    {
+        if self.has_failed {
+            return Err(AllocError);
+        }
+        self.machine.write_history(self.alloc, &self.test, out)
+    }
+
+    /// The history, with an operation for each record, the oldest first.
+    ///
+    /// Error: memory was refused, now or for a line before.
+    pub fn into_history(self) -> Result<Vec<Op>, AllocError>
+        ensures { IfOk result
+            (λ history. operations history.items ≡ recorded_history self.test self.machine) }
+    {
+        if self.has_failed {
+            return Err(AllocError);
+        }
+        self.machine.history(self.alloc, &self.test)
+    }
+
     /// The nemesis, with the faults that are active now.
     pub fn nemesis(&self) -> &Nemesis
         ensures { result.now.state ≡ self.now.machine.nemesis }
@@ -118,17 +153,20 @@ impl Conversation {
 impl jh_lines::Machine for Conversation {
     ghost use Rattle.std.specs.Prelude.{[], if◌then◌else◌};
     ghost use Rattle.std.proofs.Common.{ap, ◌∙◌};
-    ghost use Rattle.jh_conversation.specs.Lines.{is_test_over, line_said, listen, reply, take_in};
-    ghost use Rattle.jh_conversation.specs.Text.{said_lines, text_to};
+    ghost use Rattle.jh_conversation.specs.Conversations.{answer_to_line, conversation_after};
+    ghost use Rattle.jh_conversation.specs.Conversations.{has_no_more, opening_of};
+    ghost use Rattle.jh_conversation.specs.Lines.{is_test_over, listen, reply, take_in};
+    ghost use Rattle.jh_test_parts.specs.Said.{line_said};
+    ghost use Rattle.jh_conversation.specs.Text.{said_lines};
     ghost use Rattle.jh_conversation.specs.Turn.{turn};
 
-    ghost opening = { λ c. said_lines c.test c.machine };
+    ghost opening = { opening_of };
 
-    ghost after_line = { λ c line. record { test = c.test; machine = reply c.test c.machine line } };
+    ghost after_line = { conversation_after };
 
-    ghost reply_to = { λ c line. text_to c.test c.machine line };
+    ghost reply_to = { answer_to_line };
 
-    ghost has_finished = { λ c. is_test_over c.machine };
+    ghost has_finished = { has_no_more };
 
     ghost stays_over = { λ c line over. (
       ap (λ b. if b then [] else said_lines c.test (reply c.test c.machine line)) over,

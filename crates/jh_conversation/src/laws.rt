@@ -1,6 +1,7 @@
 //! What holds of every test and every list of lines that is read. Each law is the clause of a function that does nothing;
 //! `specs/Laws.antt` states it.
 
+ghost use Rattle.jh_conversation.specs.Conversations.{ConversationIsRun};
 ghost use Rattle.jh_conversation.specs.Laws.{AlwaysWaits, CallsAreTimely, CellsAreEnvironment};
 ghost use Rattle.jh_conversation.specs.Laws.{FirstBadIsTold, HistoryIsFormed, HistoryIsTalk};
 ghost use Rattle.jh_conversation.specs.Laws.{KindsAreApart, RestIsQuiet, RestIsStart};
@@ -50,4 +51,9 @@ pub fn turns_end()
 /// The first line that is no reply is told with its number, and no other.
 pub fn first_bad_is_told()
     ensures { FirstBadIsTold }
+{}
+
+/// A conversation that has heard some lines is the machine that all other laws speak of, after these lines.
+pub fn conversation_is_run()
+    ensures { ConversationIsRun }
 {}

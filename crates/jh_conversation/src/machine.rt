@@ -7,13 +7,11 @@ ghost use Rattle.jh_conversation.specs.Lines.{at_first};
 ghost use Rattle.jh_conversation.specs.Machine as rule;
 ghost use Rattle.jh_conversation.specs.Sound.{HasSmallCounts};
 
-use crate::calls::{Asked, Caller, OpenStep};
-use crate::parts::{Complaint, Phase};
-use crate::records::Recorded;
-use crate::test::Test;
-use crate::transactions::TransactionSource;
+use crate::callers::{Caller, OpenStep};
+use crate::phase::Phase;
 use jh_gen::Driver;
 use jh_nemesis::Nemesis;
+use jh_test_parts::{Asked, Complaint, Recorded, Test, TransactionSource};
 use rand_pcg::Lcg128Xsl64;
 use std::alloc::{AllocError, Global};
 use std::marker::Model;

@@ -1,24 +1,23 @@
 //! What the machine makes of a line. `specs/Lines.antt` has the rule.
 
-ghost use Rattle.std.specs.Prelude.{◌≡◌, ◌<◌, ◌≤◌, ◌^◌, [], IfOk, OnOk, false, filter};
-ghost use Rattle.jh_edn.specs.View.{view, view_pair};
+ghost use Rattle.std.specs.Prelude.{◌≡◌, ◌<◌, ◌≤◌, ◌^◌, [], IfOk, OnOk, false};
 ghost use Rattle.jh_ops.specs.Operation.{operation};
 ghost use Rattle.jh_conversation.specs.Lines as rule;
 ghost use Rattle.jh_conversation.specs.LinesInside as inside;
-ghost use Rattle.jh_conversation.specs.LinesInside.{line_said_by};
+ghost use Rattle.jh_test_parts.specs.Said.{line_said_by};
 ghost use Rattle.jh_conversation.specs.Machine as machine;
+ghost use Rattle.jh_test_parts.specs.Test.{thread_of_process};
 ghost use Rattle.jh_conversation.specs.Sound.{IsSoundMachine};
 
-use crate::calls::{Caller, Datum, OpenStep, name_of};
-use crate::line::{Said, line_said};
+use crate::callers::{Caller, OpenStep};
 use crate::machine::Machine;
-use crate::parts::{Complaint, Phase};
-use crate::records::Recorded;
-use crate::test::Test;
-use crate::values::{are_equal, fits_call};
-use jh_edn::{Pairs, Value};
+use crate::phase::Phase;
+use jh_edn::Value;
 use jh_gen::{Ended, Thread};
 use jh_ops::{Kind, Op, Process, Request};
+use jh_test_parts::{
+    Complaint, Datum, Recorded, Said, Test, are_equal, fits_call, kept_pairs, line_said, name_of,
+};
 use std::alloc::{AllocError, Global};
 
 /// The greatest time that a line can tell, in nanoseconds.
@@ -44,38 +43,6 @@ fn ended_as(kind: Kind) -> Ended
         Kind::Fail => Ended::Fail,
         Kind::Invoke | Kind::Info => Ended::Info,
     }
-}
-
-/// Whether a conversation gives the value of this key by itself.
-fn is_own_key(key: &Value) -> bool
-    ensures { result ≡ rule.is_own_key (view key.now) }
-{
-    key.is_keyword("time") || key.is_keyword("index") || key.is_keyword("node")
-}
-
-/// Whether the pair of an operation is kept as it stands.
-fn is_kept(pair: &(Value, Value)) -> bool
-    ensures { result ≡ inside.is_kept (view_pair pair.now) }
-{
-    !is_own_key(&pair.0)
-}
-
-/// Those of these pairs that are kept.
-fn kept(alloc: Global, pairs: Vec<(Value, Value)>) -> Result<Vec<(Value, Value)>, AllocError>
-    ensures { IfOk result (λ kept. kept.items
-        ≡ filter (λ pair. inside.is_kept (view_pair pair)) pairs.items) }
-{
-    pairs
-        .into_iter()
-        .filter(|pair| is_kept(pair))
-        .collect(alloc)
-}
-
-/// The pairs of an operation that are kept as they stand.
-fn kept_pairs(alloc: Global, rest: Pairs) -> Result<Pairs, AllocError>
-    ensures { IfOk result (λ kept. kept ≡ inside.pairs_kept rest) }
-{
-    Ok(Pairs::of(kept(alloc, rest.into_vec())?))
 }
 
 /// Whether an operation answers the step that waits for its answer.
@@ -173,7 +140,7 @@ impl Machine {
         requires { IsSoundMachine test.now self.now }
         ensures { IfOk result (λ ended. ended ≡ inside.ended_request test.now self.now process
             (operation op.now)
-            (machine.caller_of self.now (rule.thread_of_process test.now process)).call) }
+            (machine.caller_of self.now (thread_of_process test.now process)).call) }
     {
         let thread = test.thread_of(process);
         let Some(call) = &self.callers[thread as usize].call else {
@@ -233,7 +200,7 @@ impl Machine {
         requires sound { IsSoundMachine test.now self.old }
         requires silent { self.old.said ≡ [] }
         ensures { OnOk result (self.new ≡ rule.take_completion test.now process (operation op) time
-            self.old (machine.caller_of self.old (rule.thread_of_process test.now process)).call) }
+            self.old (machine.caller_of self.old (thread_of_process test.now process)).call) }
     {
         let ended = self.ended_request(alloc, test, process, &op)?;
         self.take_ended(alloc, test, test.thread_of(process), ended, op, time)

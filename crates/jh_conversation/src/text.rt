@@ -1,18 +1,19 @@
 //! What is written of a conversation. `specs/Text.antt` has the rule.
 
-ghost use Rattle.std.specs.Prelude.{◌≡◌, ◌<◌, ◌≤◌, ◌++◌, ◌∷◌, ◌^◌, [], All, drop, length, OnOk, reverse, take};
+ghost use Rattle.std.specs.Prelude.{◌≡◌, ◌<◌, ◌≤◌, ◌++◌, ◌∷◌, ◌^◌, [], All, drop, length, IfOk, OnOk, reverse};
+ghost use Rattle.std.specs.Prelude.{take};
 ghost use Rattle.jh_edn.specs.Print.{print};
+ghost use Rattle.jh_ops.specs.Operation.{operations};
 ghost use Rattle.jh_ops.specs.OperationWritten.{value_written};
-ghost use Rattle.jh_conversation.specs.Records.{operation_of_record};
-ghost use Rattle.jh_conversation.specs.Sound.{IsSoundMachine, IsWritableRecord};
+ghost use Rattle.jh_test_parts.specs.Records.{operation_of_record};
+ghost use Rattle.jh_conversation.specs.Sound.{IsSoundMachine};
+ghost use Rattle.jh_test_parts.specs.Records.{IsWritableRecord};
 ghost use Rattle.jh_conversation.specs.Text as rule;
 
 use crate::machine::Machine;
-use crate::operations::operation_of;
-use crate::records::Recorded;
-use crate::test::Test;
 use jh_env::Nodes;
-use jh_ops::write_operation;
+use jh_ops::{Op, write_operation};
+use jh_test_parts::{Recorded, Test, operation_of, operations_of};
 use std::alloc::{AllocError, Global};
 
 /// Adds the line of a record.
@@ -91,5 +92,28 @@ impl Machine {
             out.extend_from_slice(b":end\n")?;
         }
         Ok(())
+    }
+
+    /// Adds a line for each record of the history.
+    pub(crate) fn write_history(
+        &self,
+        alloc: Global,
+        test: &Test,
+        out: &mut Vec<u8>,
+    ) -> Result<(), AllocError>
+        requires { IsSoundMachine test.now self.now }
+        ensures { OnOk result
+            (out.new.items ≡ out.old.items ++ rule.recorded_lines test.now self.now) }
+    {
+        write_records(alloc, test.nodes(), self.records(), 0, out)
+    }
+
+    /// The history, with an operation for each record.
+    pub(crate) fn history(&self, alloc: Global, test: &Test) -> Result<Vec<Op>, AllocError>
+        requires { IsSoundMachine test.now self.now }
+        ensures { IfOk result
+            (λ history. operations history.items ≡ rule.recorded_history test.now self.now) }
+    {
+        operations_of(alloc, test.nodes(), self.records())
     }
 }

@@ -6,23 +6,23 @@ ghost use Rattle.jh_edn.specs.View.{view};
 ghost use Rattle.jh_nemesis.specs.State.{faults_in};
 ghost use Rattle.jh_nemesis.specs.Steps.{StepFits, answer_of, state_after};
 ghost use Rattle.jh_simnode.specs.Histories.{code_of};
-ghost use Rattle.jh_conversation.specs.Told as told;
+ghost use Rattle.jh_test_parts.specs.Told as told;
 ghost use Rattle.jh_conversation.specs.Machine as machine;
 ghost use Rattle.jh_conversation.specs.Sound.{HasSmallCounts, IsSoundMachine};
 ghost use Rattle.jh_conversation.specs.Turn as rule;
 ghost use Rattle.jh_conversation.specs.TurnInside as inside;
 
-use crate::calls::{Asked, Caller, Datum, OpenStep, value_asked};
+use crate::callers::{Caller, OpenStep};
 use crate::machine::{Machine, has_no_call, new_callers};
-use crate::parts::{Entry, KeyShares, Phase, When};
-use crate::records::{CellsTold, Recorded};
-use crate::test::Test;
-use crate::told::cells_told;
+use crate::phase::Phase;
 use jh_edn::{Value, Values};
 use jh_gen::{Driver, GenAnswer, GenError, Thread};
 use jh_nemesis::{Nemesis, Step};
 use jh_ops::{Call, Request};
 use jh_simnode::code_of;
+use jh_test_parts::{
+    Asked, CellsTold, Datum, Entry, KeyShares, Recorded, Test, When, cells_told, value_asked,
+};
 use rand_core::utils::NextWord;
 use std::alloc::{AllocError, Global};
 

@@ -1,7 +1,7 @@
 use Rattle.std.proofs.Common.{◌∙◌, ap, ap₂, subst, sym}
 use Rattle.jh_env.specs.Overlay.{EnvValue, StandsFor}
 use Rattle.jh_nemesis.specs.State.{State, faults_in}
-use Rattle.jh_conversation.specs.Told.{cells_told}
+use Rattle.jh_test_parts.specs.Told.{cells_told}
 use Rattle.jh_conversation.proofs.turns.take_step.Goals as goal
 
 pub returns-clause-cells : goal.returns-clause-cells

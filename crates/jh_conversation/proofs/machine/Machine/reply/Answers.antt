@@ -1,5 +1,5 @@
 use Rattle.std.proofs.Common.{subst, sym}
-use Rattle.jh_conversation.specs.LinesInside.{line_said_by}
+use Rattle.jh_test_parts.specs.Said.{line_said_by}
 use Rattle.jh_conversation.specs.Sound.{IsSoundMachine}
 use Rattle.jh_conversation.proofs.KeptLemmas.{kept_take_in}
 use Rattle.jh_conversation.proofs.SoundLemmas.{sound_by_line}

@@ -1,6 +1,6 @@
 use Rattle.std.proofs.Common.{◌≡◌, ◌-◌}
 use Rattle.jh_conversation.specs.Sound.{IsSoundMachine}
-use Rattle.jh_conversation.specs.Test.{IsFitTest}
+use Rattle.jh_test_parts.specs.Test.{IsFitTest}
 use Rattle.jh_conversation.specs.Turn as rule
 use Rattle.jh_conversation.proofs.machine.Machine.round.Given as goal
 

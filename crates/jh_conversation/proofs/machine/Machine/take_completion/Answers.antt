@@ -1,7 +1,7 @@
 use Rattle.std.proofs.Common.{◌≡◌, ◌∙◌, ap₂, sym, subst, OnOk, IfOk, false}
 use Rattle.jh_ops.specs.Operation.{operation}
 use Rattle.jh_conversation.specs.LinesInside.{after_completion, ended_request}
-use Rattle.jh_conversation.specs.Lines.{thread_of_process}
+use Rattle.jh_test_parts.specs.Test.{thread_of_process}
 use Rattle.jh_conversation.specs.Machine.{caller_of, has_no_call}
 use Rattle.jh_conversation.proofs.LineLemmas.{completion_is, ended_open}
 use Rattle.jh_conversation.proofs.machine.Machine.take_completion.Goals as goal

@@ -1,7 +1,7 @@
 use Rattle.std.proofs.Common.{◌≡◌, ◌∙◌, ◌-◌, ◌++◌, ◌≤◌, ap, subst, sym, All, List, ℕ, length, drop}
 use Rattle.std.specs.List.{AllByRecursion}
 use Rattle.std.proofs.lemmas.List.{length-reverse}
-use Rattle.jh_conversation.specs.Sound.{IsWritableRecord}
+use Rattle.jh_test_parts.specs.Records.{IsWritableRecord}
 use Rattle.jh_conversation.specs.Text.{record_lines}
 use Rattle.jh_conversation.proofs.TextLemmas.{all_reversed, written_on, written_over}
 use Rattle.jh_conversation.proofs.machine.Machine.write_said.Goals as goal

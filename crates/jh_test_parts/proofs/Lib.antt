@@ -1,0 +1,3 @@
+pub mod LineLemmas
+pub mod ToldLemmas
+pub mod ValueLemmas

@@ -1,0 +1,9 @@
+pub mod Test
+pub mod TestInside
+pub mod Told
+pub mod ToldInside
+pub mod Records
+pub mod Complaints
+pub mod Said
+pub mod Values
+pub mod Transactions

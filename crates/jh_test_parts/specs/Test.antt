@@ -1,0 +1,128 @@
+-- What a test of a real database is set to, beside how its history is judged. This project's own;
+-- generators, workloads and faults are those of a run.
+use Rattle.std.specs.Prelude.{◌≡◌, ℕ, ◌%◌, ◌==◌, ◌≤◌, Bool, true, false, ◌&&◌, not, All, List}
+use Rattle.std.specs.Prelude.{length}
+use Rattle.std.specs.Prelude.{Option, None, Some, option_map}
+use Rattle.jh_env.specs.Overlay.{EnvValue}
+use Rattle.jh_gen.specs.Generator.{Generator}
+use Rattle.jh_gen.specs.Suits.{suits}
+use Rattle.jh_gen.specs.View.{generator_of}
+use Rattle.jh_nemesis.specs.Steps.{FitsNodes}
+use Rattle.jh_ops.specs.declared.call.Workload.TheVariants as workload
+use Rattle.jh_test_parts.specs.declared.parts.Entry.{Entry}
+use Rattle.jh_test_parts.specs.declared.parts.KeyShares.{KeyShares}
+use Rattle.jh_checkers.specs.declared.checker.Checker.{Checker}
+use Rattle.jh_checkers.specs.declared.checker.Checker.TheVariants.{Register, Counter, Set, Ids}
+use Rattle.jh_checkers.specs.declared.checker.Checker.TheVariants.{ListAppend}
+use Rattle.jh_test_parts.specs.declared.parts.TransactionShape.{TransactionShape}
+use Rattle.jh_test_parts.specs.declared.test.TestData.{TestData}
+use Rattle.jh_test_parts.specs.declared.test.TestError.{TestError}
+use Rattle.jh_test_parts.specs.declared.test.TestError.TheVariants.{BadClients, BadOps, BadKeys}
+use Rattle.jh_test_parts.specs.declared.test.TestError.TheVariants.{BadGenerator, BadFinal}
+use Rattle.jh_test_parts.specs.declared.test.TestError.TheVariants.{BadSchedule, OutOfMemory}
+
+pub record TestValue : Type 0 where
+  -- the environment before the first fault
+  pub start : EnvValue
+  pub checker : Checker
+  -- the calls of *main*, and of *final* where there is one
+  pub generator : Generator
+  pub final : Option Generator
+  -- how many threads make calls, and how many calls they make at most
+  pub clients : ℕ
+  pub ops : ℕ
+  -- milliseconds from which on no call of *main* is given
+  pub time_limit : Option ℕ
+  -- calls of *main* a second, at most
+  pub rate : Option ℕ
+  pub keys : Option KeyShares
+  pub transactions : TransactionShape
+  -- milliseconds between the end of all faults and the final calls
+  pub recovery : ℕ
+  pub seed : ℕ
+  pub schedule : List Entry
+
+-- the test that is made of this data
+abbrev pub test_of_data : TestData → TestValue
+test_of_data fields = record {
+  start = fields.environment;
+  checker = fields.checker;
+  generator = generator_of fields.generator;
+  final = option_map generator_of fields.last;
+  clients = fields.clients;
+  ops = fields.ops;
+  time_limit = fields.time_limit;
+  rate = fields.rate;
+  keys = fields.keys;
+  transactions = fields.transactions;
+  recovery = fields.recovery;
+  seed = fields.seed;
+  schedule = fields.schedule.items;
+}
+
+-- Which tests can be made.
+
+abbrev pub HasTestClients : TestValue → Type 0
+HasTestClients t = (1 ≤ t.clients) × (t.clients ≤ 16)
+
+abbrev pub HasTestOps : TestValue → Type 0
+HasTestOps t = (1 ≤ t.ops) × (t.ops ≤ 1000000)
+
+-- the threads of a key divide the clients, and each key has calls
+abbrev pub are_shares : ℕ → Option KeyShares → Bool
+are_shares clients None = true
+are_shares clients (Some shares) =
+    not (shares.threads == 0) && (clients % shares.threads == 0 && not (shares.calls == 0))
+
+abbrev pub HasKeys : TestValue → Type 0
+HasKeys t = are_shares t.clients t.keys ≡ true
+
+-- the generator's calls are requests of what is checker; no request is a transaction yet
+abbrev pub suits_checker : Checker → ℕ → Generator → Bool
+suits_checker Register clients generator = suits workload.Register clients generator
+suits_checker Counter clients generator = suits workload.Counter clients generator
+suits_checker Set clients generator = suits workload.Set clients generator
+suits_checker Ids clients generator = suits workload.Ids clients generator
+suits_checker ListAppend clients generator = false
+
+abbrev pub last_suits : Checker → ℕ → Option Generator → Bool
+last_suits checker clients None = true
+last_suits checker clients (Some generator) = suits_checker checker clients generator
+
+abbrev pub HasTestGenerator : TestValue → Type 0
+HasTestGenerator t = suits_checker t.checker t.clients t.generator ≡ true
+
+abbrev pub HasFinal : TestValue → Type 0
+HasFinal t = last_suits t.checker t.clients t.final ≡ true
+
+-- there are not too many entries, and each node that a fault names is in the environment
+abbrev pub HasSchedule : TestValue → Type 0
+HasSchedule t =
+    (length t.schedule ≤ 1024) × All (λ entry. FitsNodes (length t.start.names) entry.step) t.schedule
+
+pub record IsFitTest (t : TestValue) : Type 0 where
+  pub clients : HasTestClients t
+  pub ops : HasTestOps t
+  pub keys : HasKeys t
+  pub generator : HasTestGenerator t
+  pub final : HasFinal t
+  pub schedule : HasSchedule t
+
+-- why a test is refused: each is looked at only where those before it are right
+abbrev pub RefusesTest : TestValue → TestError → Type 0
+RefusesTest t BadClients = HasTestClients t → ⊥
+RefusesTest t BadOps = HasTestClients t × (HasTestOps t → ⊥)
+RefusesTest t BadKeys = HasTestClients t × HasTestOps t × (HasKeys t → ⊥)
+RefusesTest t BadGenerator = HasTestClients t × HasTestOps t × HasKeys t × (HasTestGenerator t → ⊥)
+RefusesTest t BadFinal = HasTestClients t × HasTestOps t × HasKeys t × HasTestGenerator t × (HasFinal t → ⊥)
+RefusesTest t BadSchedule =
+    HasTestClients t × HasTestOps t × HasKeys t × HasTestGenerator t × HasFinal t × (HasSchedule t → ⊥)
+RefusesTest t OutOfMemory = IsFitTest t
+
+-- the thread of a process: a client that crashed goes on as a process of its thread (jepsen.generator)
+abbrev pub thread_of_process : TestValue → ℕ → ℕ
+thread_of_process t process = process % t.clients
+
+-- the node that a thread calls
+abbrev pub node_of_thread : TestValue → ℕ → ℕ
+node_of_thread t thread = thread % length t.start.names

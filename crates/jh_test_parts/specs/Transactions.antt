@@ -1,0 +1,92 @@
+-- The transactions of a test, one after another, as random numbers choose them. This project's own;
+-- their form is that of Jepsen's workload list-append (jepsen.tests.cycle.append).
+use Rattle.std.specs.Prelude.{ℕ, zero, suc, ◌+◌, ◌%◌, ◌==◌, pos, Bool, List, [], ◌∷◌, codes, set}
+use Rattle.std.specs.Prelude.{slice_index_or, if◌then◌else◌}
+use Rattle.rand_pcg.specs.Lcg.{Lcg, started, increment_of}
+use Rattle.rand_pcg.specs.Pcg.{pcg64, multiplier_128}
+use Rattle.jh_edn.specs.Edn.{Edn, nil, int, keyword}
+use Rattle.jh_edn.specs.Parts.{vector_of}
+use Rattle.jh_test_parts.specs.declared.parts.TransactionShape.{TransactionShape}
+use Rattle.jh_test_parts.specs.declared.transactions.Slot.{Slot}
+
+-- where the transactions stand: the random numbers, the slots, and the next key that was never used
+pub record TransactionSource : Type 0 where
+  pub words : Lcg
+  pub slots : List Slot
+  pub next_key : ℕ
+
+abbrev pub no_slot : Slot
+no_slot = record { key = 0; appends = 0 }
+
+abbrev pub slots_from : ℕ → ℕ → List Slot
+slots_from key zero = []
+slots_from key (suc n) = (record { key = key; appends = 0 }) ∷ slots_from (key + 1) n
+
+-- slot s has the key s at first; the random numbers are those of the seed's second stream
+abbrev pub first_source : TransactionShape → ℕ → TransactionSource
+first_source shape seed = record {
+  words = started 128 multiplier_128 seed (increment_of 128 1);
+  slots = slots_from 0 shape.keys;
+  next_key = shape.keys;
+}
+
+abbrev pub after_word : TransactionSource → TransactionSource
+after_word source = record source { words = (pcg64 source.words).1 }
+
+abbrev pub word_of : TransactionSource → ℕ
+word_of source = (pcg64 source.words).0
+
+-- `[:r K nil]` and `[:append K E]`
+abbrev pub read_written : ℕ → Edn
+read_written key = vector_of (keyword (codes "r") ∷ int (pos key) ∷ nil ∷ [])
+
+abbrev pub append_of : ℕ → ℕ → Edn
+append_of key element =
+    vector_of (keyword (codes "append") ∷ int (pos key) ∷ int (pos element) ∷ [])
+
+-- the slot after one more append: another key takes its place where this one has all its appends
+abbrev pub slot_after : TransactionShape → ℕ → Slot → Slot
+slot_after shape next_key slot =
+    if slot.appends + 1 == shape.appends then record { key = next_key; appends = 0 }
+    else record { key = slot.key; appends = slot.appends + 1 }
+
+abbrev pub key_after : TransactionShape → ℕ → Slot → ℕ
+key_after shape next_key slot =
+    if slot.appends + 1 == shape.appends then next_key + 1 else next_key
+
+abbrev pub source_after_append : TransactionShape → TransactionSource → ℕ → Slot → TransactionSource
+source_after_append shape source place slot = record source {
+  slots = set source.slots place (slot_after shape source.next_key slot);
+  next_key = key_after shape source.next_key slot;
+}
+
+-- a micro-operation on a slot: an append where the number that chose it is odd, else a read
+abbrev pub op_on_slot : TransactionShape → TransactionSource → Bool → ℕ → Slot
+    → Edn × TransactionSource
+op_on_slot shape source reads place slot =
+    if reads then (read_written slot.key, source)
+    else (append_of slot.key (slot.appends + 1), source_after_append shape source place slot)
+
+abbrev pub op_on : TransactionShape → TransactionSource → Bool → ℕ → Edn × TransactionSource
+op_on shape source reads place =
+    op_on_slot shape source reads place (slice_index_or source.slots place no_slot)
+
+-- the next micro-operation takes two numbers: what it does, and the slot
+abbrev pub next_op : TransactionShape → TransactionSource → Edn × TransactionSource
+next_op shape source =
+    let chosen = after_word source in
+    op_on shape (after_word chosen) (word_of source % 2 == 0) (word_of chosen % shape.keys)
+
+-- so many micro-operations
+abbrev pub next_ops : TransactionShape → ℕ → TransactionSource → List Edn × TransactionSource
+next_ops shape zero source = ([], source)
+next_ops shape (suc n) source =
+    let first = next_op shape source in
+    let more = next_ops shape n first.1 in
+    (first.0 ∷ more.0, more.1)
+
+-- the next transaction takes a number for its length, and then those of its micro-operations
+abbrev pub next_transaction : TransactionShape → TransactionSource → Edn × TransactionSource
+next_transaction shape source =
+    let ops = next_ops shape (1 + word_of source % shape.most) (after_word source) in
+    (vector_of ops.0, ops.1)

@@ -1,0 +1,97 @@
+//! The calls of a test. `specs/Records.antt` says what is recorded of them.
+
+ghost use Rattle.std.specs.Prelude.{◌≡◌, IfOk};
+ghost use Rattle.jh_edn.specs.View.{view};
+ghost use Rattle.jh_ops.specs.Words.{content_value};
+ghost use Rattle.jh_simnode.specs.Histories as histories;
+ghost use Rattle.jh_simnode.specs.Histories.{asked_content};
+
+use jh_edn::Value;
+use jh_ops::{Op, Request};
+use jh_simnode::invocation;
+use std::alloc::{AllocError, Global};
+use std::marker::Model;
+
+/// The value of a call or of its completion. A contract sees the value as EDN has it.
+#[derive(Debug, Drop)]
+pub struct Datum {
+    value: Value,
+}
+
+impl Model for Datum {
+    ghost use Rattle.jh_edn.specs.Edn.{Edn};
+    ghost use Rattle.jh_edn.specs.Code.{edn_coded};
+
+    ghost Value = { Edn };
+
+    ghost coded = { edn_coded };
+
+    ghost use Rattle.jh_edn.specs.View.{view as view_of};
+
+    ghost view = { λ a. view_of a.value };
+}
+
+/// A call: its request, and its value as it is written, with its key where keys are independent.
+#[derive(Debug, Drop)]
+pub struct Asked {
+    pub request: Request,
+    pub value: Datum,
+}
+
+impl Datum {
+    /// The value of this element.
+    pub fn of(value: Value) -> Self
+        ensures { result ≡ view value }
+    {
+        Datum { value }
+    }
+
+    /// The element.
+    pub fn value(&self) -> &Value
+        ensures { view result.now ≡ self.now }
+    {
+        &self.value
+    }
+
+    /// The same value once more. Costs as much as the value is large.
+    pub fn copy(&self, alloc: Global) -> Result<Self, AllocError>
+        ensures { IfOk result (λ copy. copy ≡ self.now) }
+    {
+        Ok(Datum {
+            value: self.value.copy(alloc)?,
+        })
+    }
+}
+
+impl Asked {
+    /// The same call once more.
+    pub fn copy(&self, alloc: Global) -> Result<Self, AllocError>
+        ensures { IfOk result (λ copy. copy ≡ self.now) }
+    {
+        Ok(Asked {
+            request: self.request,
+            value: self.value.copy(alloc)?,
+        })
+    }
+}
+
+/// The name of a request's function.
+pub fn name_of(request: Request) -> &'static str
+    ensures { result.now ≡ histories.request_name request }
+{
+    match request {
+        Request::Read => "read",
+        Request::Write(_) => "write",
+        Request::Cas(_, _) => "cas",
+        Request::Add(_) => "add",
+        Request::Generate => "generate",
+    }
+}
+
+/// The value that a request asks with.
+pub fn value_asked(alloc: Global, request: Request) -> Result<Value, AllocError>
+    ensures { IfOk result (λ value. view value ≡ content_value (asked_content request)) }
+{
+    let Op { value, .. } = invocation(alloc, 0, request)?;
+    Ok(value)
+}

@@ -1,0 +1,25 @@
+//! The parts of a test of a real database: what it is set to, what is recorded in it, and what a line
+//! says that is read.
+#![tactic(auto)]
+
+mod calls;
+mod complaints;
+mod line;
+mod operations;
+mod parts;
+mod records;
+mod test;
+mod told;
+mod transactions;
+mod values;
+
+pub use calls::{Asked, Datum, name_of, value_asked};
+pub use complaints::Complaint;
+pub use line::{Said, kept_pairs, line_said};
+pub use operations::{operation_of, operations_of};
+pub use parts::{Entry, KeyShares, TransactionShape, When};
+pub use records::{CellsTold, LinkTold, NodeTold, Recorded};
+pub use test::{MAX_ENTRIES, Test, TestData, TestError};
+pub use told::cells_told;
+pub use transactions::{Slot, TransactionSource};
+pub use values::{are_equal, fits_call};

@@ -1,0 +1,171 @@
+//! What a line says by itself, and what is kept of it. `specs/Said.antt` has the rule.
+
+ghost use Rattle.std.specs.Prelude.{◌≡◌, ◌↔◌, IfOk, IsTrue, filter};
+ghost use Rattle.std.specs.List.{list_any};
+ghost use Rattle.jh_edn.specs.Edn.{is_keyword};
+ghost use Rattle.jh_edn.specs.declared.error.EdnError.TheVariants.{OutOfMemory};
+ghost use Rattle.jh_edn.specs.View.{view, view_pair, views};
+ghost use Rattle.jh_ops.specs.Operation.{operation};
+ghost use Rattle.jh_test_parts.specs.Said as rule;
+ghost use Rattle.jh_test_parts.specs.Said.{line_said_by};
+
+use crate::complaints::Complaint;
+use jh_edn::{EdnError, Pairs, Value, values_in_line};
+use jh_ops::{Op, OpError, op_of};
+use std::alloc::{AllocError, Global};
+use std::str;
+
+/// What a line says by itself.
+#[derive(Drop)]
+pub enum Said {
+    Nothing,
+    /// So many nanoseconds have passed since the test began.
+    Clock(u64),
+    Stop,
+    /// An operation, with its time, where it has one.
+    Reply(Op, Option<u64>),
+    /// Nothing that can be understood.
+    Bad(Complaint),
+}
+
+/// Whether a pair has this keyword.
+fn has_key(name: &str, pairs: &[(Value, Value)]) -> bool
+    ensures { result ≡ list_any (λ pair. is_keyword name.now (view pair.0)) pairs.now }
+{
+    pairs.iter().any(|pair| pair.0.is_keyword(name))
+}
+
+/// Whether a `:time` stands among the other pairs of an operation: then it is no integer.
+fn has_odd_time(op: &Op) -> bool
+    ensures { result ≡ rule.has_odd_time (operation op.now) }
+{
+    has_key("time", op.rest.as_slice())
+}
+
+/// What an operation says with its time.
+fn said_at_time(op: Op) -> Said
+    ensures { line_said_by result ≡ rule.said_at_time (operation op) op.time }
+{
+    match op.time {
+        None => {
+            if has_odd_time(&op) {
+                Said::Bad(Complaint::BadTime)
+            } else {
+                Said::Reply(op, None)
+            }
+        }
+        Some(time) => {
+            if time < 0 {
+                Said::Bad(Complaint::BadTime)
+            } else {
+                Said::Reply(op, Some(time as u64))
+            }
+        }
+    }
+}
+
+/// What a value says that may be an operation.
+fn said_by_operation(alloc: Global, value: Value) -> Result<Said, AllocError>
+    ensures { IfOk result (λ said. line_said_by said ≡ rule.said_by_operation (view value)) }
+{
+    match op_of(alloc, value) {
+        Ok(op) => Ok(said_at_time(op)),
+        Err(OpError::OutOfMemory) => Err(AllocError),
+        Err(error) => Ok(Said::Bad(Complaint::Op(error))),
+    }
+}
+
+/// What an integer says.
+fn said_by_number(number: i64) -> Said
+    ensures { line_said_by result ≡ rule.said_by_number number }
+{
+    if number < 0 {
+        Said::Bad(Complaint::BadTime)
+    } else {
+        Said::Clock(number as u64)
+    }
+}
+
+/// What a value says.
+fn said_by_value(alloc: Global, value: Value) -> Result<Said, AllocError>
+    ensures { IfOk result (λ said. line_said_by said ≡ rule.said_by_value (view value)) }
+{
+    if let Some(number) = value.as_integer() {
+        return Ok(said_by_number(number));
+    }
+    if value.is_keyword("stop") {
+        return Ok(Said::Stop);
+    }
+    said_by_operation(alloc, value)
+}
+
+/// What the values of a line say.
+fn said_by_values(alloc: Global, values: Vec<Value>) -> Result<Said, AllocError>
+    ensures { IfOk result (λ said. line_said_by said ≡ rule.said_by_values (views values.items)) }
+{
+    let mut values = values;
+    if values.len() > 1 {
+        return Ok(Said::Bad(Complaint::MoreThanOne));
+    }
+    match values.pop() {
+        None => Ok(Said::Nothing),
+        Some(value) => said_by_value(alloc, value),
+    }
+}
+
+/// Whether memory was refused.
+fn is_memory(error: EdnError) -> bool
+    ensures { IsTrue result ↔ (error ≡ OutOfMemory) }
+{
+    matches!(error, EdnError::OutOfMemory)
+}
+
+/// What the bytes of a line say, which stand without its line feed.
+pub fn line_said(alloc: Global, line: &[u8]) -> Result<Said, AllocError>
+    ensures { IfOk result (λ said. line_said_by said ≡ rule.line_said line.now) }
+{
+    let Ok(text) = str::from_utf8(line) else {
+        return Ok(Said::Bad(Complaint::Utf8));
+    };
+    match values_in_line(alloc, text) {
+        Ok(values) => said_by_values(alloc, values),
+        Err(error) => {
+            if is_memory(error) {
+                return Err(AllocError);
+            }
+            Ok(Said::Bad(Complaint::Edn(error)))
+        }
+    }
+}
+
+/// Whether a conversation gives the value of this key by itself.
+fn is_own_key(key: &Value) -> bool
+    ensures { result ≡ rule.is_own_key (view key.now) }
+{
+    key.is_keyword("time") || key.is_keyword("index") || key.is_keyword("node")
+}
+
+/// Whether the pair of an operation is kept as it stands.
+fn is_kept(pair: &(Value, Value)) -> bool
+    ensures { result ≡ rule.is_kept (view_pair pair.now) }
+{
+    !is_own_key(&pair.0)
+}
+
+/// Those of these pairs that are kept.
+fn kept(alloc: Global, pairs: Vec<(Value, Value)>) -> Result<Vec<(Value, Value)>, AllocError>
+    ensures { IfOk result (λ kept. kept.items
+        ≡ filter (λ pair. rule.is_kept (view_pair pair)) pairs.items) }
+{
+    pairs
+        .into_iter()
+        .filter(|pair| is_kept(pair))
+        .collect(alloc)
+}
+
+/// The pairs of an operation that are kept as they stand.
+pub fn kept_pairs(alloc: Global, rest: Pairs) -> Result<Pairs, AllocError>
+    ensures { IfOk result (λ kept. kept ≡ rule.pairs_kept rest) }
+{
+    Ok(Pairs::of(kept(alloc, rest.into_vec())?))
+}

@@ -1,0 +1,41 @@
+//! The parts of a conversation. `specs/Test.antt` and `specs/Machine.antt` say what they are for.
+
+use jh_nemesis::Step;
+
+/// When an entry of the schedule is due, once all before it were taken.
+#[derive(Clone, Copy, Debug, PartialEq, Eq)]
+pub enum When {
+    /// After so many answered calls.
+    Calls(u32),
+    /// So many milliseconds after the test began.
+    Milliseconds(u32),
+}
+
+/// A step of the nemesis, and when it is due.
+#[derive(Debug, Drop)]
+pub struct Entry {
+    pub at: When,
+    pub step: Step,
+}
+
+/// Keys are independent: threads fall into groups of so many, and so many calls of a group go to one
+/// key before the next one takes its place.
+#[derive(Clone, Copy, Debug, PartialEq, Eq)]
+pub struct KeyShares {
+    /// 1 to 16, by which the number of threads can be divided.
+    pub threads: u32,
+    /// 1 to 1,000,000.
+    pub calls: u32,
+}
+
+/// How transactions are made: over so many keys at a time, of so many micro-operations at most, with
+/// so many appends of a key before another one takes its place.
+#[derive(Clone, Copy, Debug, PartialEq, Eq)]
+pub struct TransactionShape {
+    /// 1 to 1,000.
+    pub keys: u32,
+    /// 1 to 100.
+    pub most: u32,
+    /// 1 to 10,000.
+    pub appends: u32,
+}

@@ -1,0 +1,56 @@
+//! What is recorded in a test. `specs/Records.antt` says which operation of the history a record is.
+
+use crate::calls::{Asked, Datum};
+use jh_edn::Pairs;
+use jh_env::{Link, Node, NodeCell};
+use jh_nemesis::Step;
+use jh_ops::{Kind, Request};
+use std::marker::Model;
+
+/// A link that a step changed, with what it now is.
+#[derive(Clone, Copy, Debug)]
+pub struct LinkTold {
+    pub source: Node,
+    pub destination: Node,
+    pub link: Link,
+}
+
+/// A node that a step changed, with what it now is.
+#[derive(Clone, Copy, Debug)]
+pub struct NodeTold {
+    pub node: Node,
+    pub cell: NodeCell,
+}
+
+/// The cells that a step changed. A contract sees two lists.
+#[derive(Debug, Drop)]
+pub struct CellsTold {
+    pub(crate) links: Vec<LinkTold>,
+    pub(crate) nodes: Vec<NodeTold>,
+}
+
+impl Model for CellsTold {
+    ghost use Rattle.jh_test_parts.specs.Told.{CellsTold as TwoLists};
+
+    ghost Value = { TwoLists };
+
+    ghost view = { λ a. record { links = a.links.items; nodes = a.nodes.items } };
+
+    ghost use Rattle.std.specs.List.{All};
+    ghost use Rattle.jh_tables.specs.Standing.{IsLinkInRange};
+
+    ghost invariant = { λ a. All (λ told. IsLinkInRange told.link) a.links.items };
+}
+
+/// A record of a test. Its first number is the time at which it was made, in nanoseconds.
+#[derive(Debug, Drop)]
+pub enum Recorded {
+    /// This process calls this node.
+    Invoked(u64, u64, Node, Asked),
+    /// A call of this process ended, with a value and other keys as they came.
+    Ended(u64, u64, Kind, Request, Datum, Pairs),
+    /// The step of the entry at this place was taken, and these cells have changed.
+    Begun(u64, u64, Step, CellsTold),
+    /// The adapter has done so; the nemesis had answered the step of this entry with this code.
+    Answered(u64, u64, u64, Pairs),
+}

@@ -1,0 +1,132 @@
+//! Which values the completion of a call may have. `specs/Values.antt` has the rule.
+
+ghost use Rattle.std.specs.Prelude.{◌≡◌, IfOk, option_map};
+ghost use Rattle.jh_edn.specs.View.{view, views};
+ghost use Rattle.jh_txn_histories.specs.Written.{is_equal};
+ghost use Rattle.jh_test_parts.specs.Values as rule;
+
+use crate::calls::Asked;
+use crate::test::Test;
+use jh_checkers::Checker;
+use jh_edn::Value;
+use jh_ops::{Kind, Request};
+use std::alloc::{AllocError, Global};
+use std::cmp::Ordering;
+
+/// Whether two values are equal, as EDN says.
+pub fn are_equal(alloc: Global, one: &Value, other: &Value) -> Result<bool, AllocError>
+    ensures { IfOk result (λ yes. yes ≡ is_equal (view one.now) (view other.now)) }
+{
+    Ok(one.normal(alloc)?.compare(&other.normal(alloc)?) == Ordering::Equal)
+}
+
+/// Whether a value is nil.
+fn is_nil(value: &Value) -> bool
+    ensures { result ≡ rule.is_nil_value (view value.now) }
+{
+    match value {
+        Value::Nil => true,
+        _ => false,
+    }
+}
+
+/// Whether a value is a list, a vector or a set.
+fn is_collection(value: &Value) -> bool
+    ensures { result ≡ rule.is_collection (view value.now) }
+{
+    match value {
+        Value::List(_) => true,
+        Value::Vector(_) => true,
+        Value::Set(_) => true,
+        _ => false,
+    }
+}
+
+/// Whether a read may see a value.
+fn is_readable(checker: Checker, value: &Value) -> bool
+    ensures { result ≡ rule.is_readable checker (view value.now) }
+{
+    match checker {
+        Checker::Register => is_nil(value) || value.is_integer(),
+        Checker::Counter => value.is_integer(),
+        Checker::Set => is_collection(value),
+        Checker::Ids | Checker::ListAppend => true,
+    }
+}
+
+/// Whether a call that was done may be answered so, but for its key.
+fn is_good_answer(
+    alloc: Global,
+    checker: Checker,
+    request: Request,
+    asked: &Value,
+    answer: &Value,
+) -> Result<bool, AllocError>
+    ensures { IfOk result
+        (λ yes. yes ≡ rule.is_good_answer checker request (view asked.now) (view answer.now)) }
+{
+    match request {
+        Request::Read => Ok(is_readable(checker, answer)),
+        Request::Generate => Ok(true),
+        Request::Write(_) | Request::Cas(_, _) | Request::Add(_) => {
+            are_equal(alloc, asked, answer)
+        }
+    }
+}
+
+/// Whether a pair of a key and a value is answered by a pair of the same key and a good answer.
+fn answers_with_key(
+    alloc: Global,
+    checker: Checker,
+    request: Request,
+    asked: &[Value],
+    answer: &[Value],
+) -> Result<bool, AllocError>
+    ensures { IfOk result (λ yes. yes
+        ≡ rule.answers_with_key checker request (views asked.now) (Some (views answer.now))) }
+{
+    if asked.len() != 2 || answer.len() != 2 {
+        return Ok(false);
+    }
+    Ok(
+        are_equal(alloc, &asked[0], &answer[0])?
+            && is_good_answer(alloc, checker, request, &asked[1], &answer[1])?,
+    )
+}
+
+/// Whether a call that was done may be answered so.
+fn is_good_value(
+    alloc: Global,
+    test: &Test,
+    call: &Asked,
+    value: &Value,
+) -> Result<bool, AllocError>
+    ensures { IfOk result
+        (λ yes. yes ≡ rule.is_good_value test.now test.now.keys call.now (view value.now)) }
+{
+    let asked = call.value.value();
+    if test.keys().is_none() {
+        return is_good_answer(alloc, test.checker(), call.request, asked, value);
+    }
+    let (Some(asked), Some(answer)) = (asked.elements(), value.elements()) else {
+        return Ok(false);
+    };
+    answers_with_key(alloc, test.checker(), call.request, asked, answer)
+}
+
+/// Whether a call can end as this kind, with this value.
+pub fn fits_call(
+    alloc: Global,
+    test: &Test,
+    call: &Asked,
+    kind: Kind,
+    value: &Value,
+) -> Result<bool, AllocError>
+    ensures { IfOk result
+        (λ yes. yes ≡ rule.fits_call test.now call.now kind (view value.now)) }
+{
+    match kind {
+        Kind::Ok => is_good_value(alloc, test, call, value),
+        Kind::Invoke | Kind::Fail | Kind::Info => are_equal(alloc, call.value.value(), value),
+    }
+}
