@@ -11,7 +11,7 @@
 //! - `counter`: the line of a counter's history, in which all operations are those of clients.
 //!
 //! To the standard error it prints the nanoseconds of processor time that it takes behind the reading, by the system's clock of
-//! the process. It has status 3 where the text is refused.
+//! the process. It has status 3 where the text is refused. `bench/drive/plain.rs` writes by it, too.
 
 use std::collections::HashMap;
 use std::io::{self, BufWriter, Read, Write};
@@ -19,11 +19,11 @@ use std::process;
 
 #[allow(dead_code)]
 #[path = "../reading/plain.rs"]
-mod reading;
+pub mod reading;
 
 use reading::{Value, values_of};
 
-fn write_value<W: Write>(value: &Value, to: &mut W) -> io::Result<()> {
+pub fn write_value<W: Write>(value: &Value, to: &mut W) -> io::Result<()> {
     match value {
         Value::Nil => to.write_all(b"nil"),
         Value::Bool(held) => write!(to, "{held}"),
