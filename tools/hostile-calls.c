@@ -1,8 +1,8 @@
 /* What tools/hostile-calls puts between the program and the C library, by LD_PRELOAD.
  *
  * MEMORY=N refuses the N-th malloc or realloc, and ALL=1 each one behind it too; READ=K and WRITE=K refuse the K-th read of
- * standard input and the K-th write of standard output; BYTES=1 gives and takes one byte at a time. COUNTS names a file into which the
- * number of each of the three is written at the end.
+ * standard input and the K-th write of standard output, FILE=K the K-th read of any other file; BYTES=1 gives and takes one byte at a
+ * time. COUNTS names a file into which the number of each of the four is written at the end.
  */
 #define _GNU_SOURCE
 #include <dlfcn.h>
@@ -12,14 +12,14 @@
 #include <stdlib.h>
 #include <unistd.h>
 
-static atomic_long memory, reads, writes;
-static long no_memory, no_read, no_write;
+static atomic_long memory, reads, writes, files;
+static long no_memory, no_read, no_write, no_file;
 static int is_all, is_ready, by_bytes;
 
 static long number(const char *name) { return getenv(name) ? atol(getenv(name)) : 0; }
 
 __attribute__((constructor)) static void begin(void) {
-    no_memory = number("MEMORY"), no_read = number("READ"), no_write = number("WRITE");
+    no_memory = number("MEMORY"), no_read = number("READ"), no_write = number("WRITE"), no_file = number("FILE");
     is_all = number("ALL"), by_bytes = number("BYTES"), is_ready = 1;
 }
 
@@ -48,7 +48,8 @@ void *realloc(void *block, size_t size) {
 
 ssize_t read(int file, void *bytes, size_t size) {
     ssize_t (*real)(int, void *, size_t) = dlsym(RTLD_NEXT, "read");
-    return file == 0 && has_failed(&reads, no_read, &size) ? -1 : real(file, bytes, size);
+    int failed = file == 0 ? has_failed(&reads, no_read, &size) : has_failed(&files, no_file, &size);
+    return failed ? -1 : real(file, bytes, size);
 }
 
 ssize_t write(int file, const void *bytes, size_t size) {
@@ -60,7 +61,7 @@ void _exit(int status) {
     void (*real)(int) = dlsym(RTLD_NEXT, "_exit");
     FILE *counts = getenv("COUNTS") ? fopen(getenv("COUNTS"), "w") : NULL;
     is_ready = 0, no_memory = 0;
-    if (counts) fprintf(counts, "%ld %ld %ld\n", memory, reads, writes), fclose(counts);
+    if (counts) fprintf(counts, "%ld %ld %ld %ld\n", memory, reads, writes, files), fclose(counts);
     real(status);
     __builtin_unreachable();
 }
