@@ -64,7 +64,8 @@ TESTS = {
 
 def entries(name, calls):
     """After how many answered calls each entry of the schedule is due; the plain program has the same."""
-    count = min(ENTRIES, calls // 20 * 2 + 1) if name == "ids, faults" else 0
+    has_faults = name == "ids, faults" and calls >= 20
+    count = min(ENTRIES, calls // 20 * 2 + 1) if has_faults else 0
     return [calls // (count + 1) * (entry + 1) for entry in range(count)]
 
 
