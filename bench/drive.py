@@ -24,10 +24,8 @@ written, which is in those of `jeprun drive` too, but for its reading.
 
 The last row of each program, `answers`, is of a conversation through pipes: behind N records (500,000) of unique ids N replies (20,000)
 are written one by one, each when the answer of the one before was read, and the time between the two is measured, by this
-script, whose own time is in it. It has the median, the 99th percentile and the greatest.
-
-Aims, on a quiet machine: a million calls in at most 6 s, 1,000 MB and 3 times the plain program; an answer in 50 microseconds at the
-median, and in 1,000 at the 99th percentile.
+script, whose own time is in it. It has the median, the 99th percentile and the greatest. Below each table stands what is aimed at,
+on a quiet machine.
 """
 
 import argparse
@@ -47,6 +45,8 @@ CLIENTS = 16
 THREADS_PER_KEY, CALLS_PER_KEY = 4, 100
 MOST_CALLS = 1_000_000
 ENTRIES = 1_001
+AIM_OF_TESTS = "Aims, of ids and 1,000,000 calls: 6 s, 1,000 MB, 3 times plain."
+AIM_OF_ANSWERS = "Aims, behind 500,000 records: 50 µs at the median, 1,000 µs at the 99th percentile."
 # Each test: its workload, its generator, and which other lines its settings have.
 TESTS = {
     "ids": ("unique-ids", "[:forever :generate]", []),
@@ -322,15 +322,17 @@ def main():
         for name in taken:
             if name in TESTS:
                 show(row(name, asked, plain, room))
+        if taken != ["answers"]:
+            print(f"\n{AIM_OF_TESTS}\n")
         if "answers" in taken:
             test = os.path.join(room, "answers.toml")
             with open(test, "w", encoding="ascii") as to:
                 to.write(settings("ids", MOST_CALLS))
-            print()
             show(["Answers", "Records before", "Replies", "median µs", "99 % µs", "greatest µs"])
             print("|---" * 6 + "|")
             show(answers_row("plain", [plain, str(MOST_CALLS), str(CLIENTS), "0"], asked))
             show(answers_row("jeprun", [asked.program, "drive", test], asked))
+            print(f"\n{AIM_OF_ANSWERS}")
 
 
 if __name__ == "__main__":
