@@ -12,9 +12,8 @@ use Rattle.std.specs.Bool.{MatchBool}
 use Rattle.std.proofs.lemmas.Bool.{true≢false}
 use Rattle.jh_edn.specs.View.{view}
 use Rattle.jh_edn.specs.declared.value.Value.{Value}
-use Rattle.jh_settings.specs.Inside.{IsNoElement, IsElementIn, IsEntryIn}
-use Rattle.jh_settings.specs.Parsed.{parsed_entry}
-use Rattle.jh_simnode.specs.declared.schedule.Entry.{Entry}
+use Rattle.jh_settings.specs.Inside.{IsNoElement}
+use Rattle.jh_settings.specs.Readers.{IsElementIn}
 use Rattle.jh_settings.specs.Keys.{data_under}
 use Rattle.jh_settings.specs.Kinds.{IsElement, HoldsElement}
 use Rattle.jh_settings.specs.declared.keys.Key.{Key}
@@ -56,13 +55,17 @@ spelled_in value text is (Ok None) none = λ x h. none x (subst (SpellsAll (x �
 spelled_in value text is (Ok (Some element)) spelled = (text, is, spelled)
 spelled_in value text is (Err e) h = tt
 
+-- what a value means that is a text of one element
+abbrev pub IsMeant : {E : Type 0} → (Edn → Option E) → Data → E → Type 0
+IsMeant parse value entry = (x : Edn) × IsElement value x × (parse x ≡ Some entry)
+
 -- the entry of an element is that of the value that spells it
-pub entry_from : (names : List (List ℕ)) (value : Data) (x : Edn) → IsElement value x → (r : Result (Option Entry) AllocError) → IfOk r (λ entry. entry ≡ parsed_entry names x) → IfOk r (IsEntryIn names value)
-entry_from names value x is (Ok None) none = λ entry h.
+pub entry_from : {E : Type 0} (parse : Edn → Option E) (value : Data) (x : Edn) → IsElement value x → (r : Result (Option E) AllocError) → IfOk r (λ entry. entry ≡ parse x) → IfOk r (λ found. MatchOption found ((entry : E) → IsMeant parse value entry → ⊥) (IsMeant parse value))
+entry_from parse value x is (Ok None) none = λ entry h.
     let same : x ≡ h.0 = element_once value x h.0 is h.1 in
-    none_not entry (none ∙ ap (parsed_entry names) same ∙ h.2)
-entry_from names value x is (Ok (Some entry)) parsed = (x, is, sym parsed)
-entry_from names value x is (Err e) h = tt
+    none_not entry (none ∙ ap parse same ∙ h.2)
+entry_from parse value x is (Ok (Some entry)) parsed = (x, is, sym parsed)
+entry_from parse value x is (Err e) h = tt
 
 -- a key under which there is nothing holds no element
 pub nothing_held : (key : Key) (document : Members) → data_under key document ≡ None → ((x : Edn) × HoldsElement key document x) → ⊥

@@ -7,8 +7,9 @@ use Rattle.jh_ops.specs.declared.call.Workload.{Workload}
 use Rattle.jh_simnode.specs.declared.settings.Store.{Store}
 use Rattle.jh_settings.specs.declared.choices.Mode.{Mode}
 use Rattle.jh_simnode.specs.declared.schedule.Entry.{Entry}
-use Rattle.jh_settings.specs.Inside.{RefusesValue, RefusesKeyValues, RefusesDocumentValues, IsParsedCluster, IsParsedLoad, AreParsedLimits, cluster_keys, load_keys, limit_keys}
-use Rattle.jh_settings.specs.Keys.{keys}
+use Rattle.jh_settings.specs.Readers.{RefusesValue, RefusesKeyValues}
+use Rattle.jh_settings.specs.Inside.{RefusesDocumentValues, IsParsedCluster, IsParsedLoad, AreParsedLimits, cluster_keys, load_keys, limit_keys}
+use Rattle.jh_settings.specs.Keys.{run_keys}
 use Rattle.jh_settings.specs.Refusals.{IsGood, AreGood, IsFirstBadKey}
 use Rattle.jh_settings.specs.Parsed.{IsParsedStart, IsParsedSchedule}
 use Rattle.jh_settings.specs.declared.error.SettingsError.{SettingsError}
@@ -16,56 +17,57 @@ use Rattle.jh_settings.specs.declared.error.SettingsError.TheVariants.{NotToml, 
 use Rattle.jh_settings.specs.declared.keys.Key.{Key}
 use Rattle.jh_settings.proofs.StartLemmas.{nodes_once}
 
-first_front : (document : Members) (some more : List Key) (key : Key) → IsFirstBadKey document some key → IsFirstBadKey document (some ++ more) key
-first_front document [] more key h = absurd h
-first_front document (other ∷ some) more key (inl here) = inl here
-first_front document (other ∷ some) more key (inr behind) = inr (behind.0, first_front document some more key behind.1)
+module _ (Good : Key → Type 0) where
+  first_front : (some more : List Key) (key : Key) → IsFirstBadKey Good some key → IsFirstBadKey Good (some ++ more) key
+  first_front [] more key h = absurd h
+  first_front (other ∷ some) more key (inl here) = inl here
+  first_front (other ∷ some) more key (inr behind) = inr (behind.0, first_front some more key behind.1)
 
-first_behind : (document : Members) (some more : List Key) (key : Key) → AreGood document some → IsFirstBadKey document more key → IsFirstBadKey document (some ++ more) key
-first_behind document [] more key good h = h
-first_behind document (other ∷ some) more key good h = inr (good.0, first_behind document some more key good.1 h)
+  first_behind : (some more : List Key) (key : Key) → AreGood Good some → IsFirstBadKey Good more key → IsFirstBadKey Good (some ++ more) key
+  first_behind [] more key good h = h
+  first_behind (other ∷ some) more key good h = inr (good.0, first_behind some more key good.1 h)
 
--- a bad value of the front is the first of all
-pub refused_front : (document : Members) (some more : List Key) (e : SettingsError) → RefusesKeyValues document some e → RefusesKeyValues document (some ++ more) e
-refused_front document some more NotToml h = absurd h
-refused_front document some more (Unknown name) h = absurd h
-refused_front document some more (Missing key) h = absurd h
-refused_front document some more (BadValue key) h = first_front document some more key h
-refused_front document some more OutOfMemory h = tt
+  -- a bad value of the front is the first of all
+  pub refused_front : (some more : List Key) (e : SettingsError) → RefusesKeyValues Good some e → RefusesKeyValues Good (some ++ more) e
+  refused_front some more NotToml h = absurd h
+  refused_front some more (Unknown name) h = absurd h
+  refused_front some more (Missing key) h = absurd h
+  refused_front some more (BadValue key) h = first_front some more key h
+  refused_front some more OutOfMemory h = tt
 
--- behind good values, a bad one is the first of all
-pub refused_behind : (document : Members) (some more : List Key) (e : SettingsError) → AreGood document some → RefusesKeyValues document more e → RefusesKeyValues document (some ++ more) e
-refused_behind document some more NotToml good h = absurd h
-refused_behind document some more (Unknown name) good h = absurd h
-refused_behind document some more (Missing key) good h = absurd h
-refused_behind document some more (BadValue key) good h = first_behind document some more key good h
-refused_behind document some more OutOfMemory good h = tt
+  -- behind good values, a bad one is the first of all
+  pub refused_behind : (some more : List Key) (e : SettingsError) → AreGood Good some → RefusesKeyValues Good more e → RefusesKeyValues Good (some ++ more) e
+  refused_behind some more NotToml good h = absurd h
+  refused_behind some more (Unknown name) good h = absurd h
+  refused_behind some more (Missing key) good h = absurd h
+  refused_behind some more (BadValue key) good h = first_behind some more key good h
+  refused_behind some more OutOfMemory good h = tt
 
-pub all_refused : (document : Members) (e : SettingsError) → RefusesKeyValues document keys e → RefusesDocumentValues document e
+  pub good_append : (some more : List Key) → AreGood Good some → AreGood Good more → AreGood Good (some ++ more)
+  good_append [] more h k = k
+  good_append (key ∷ some) more h k = (h.0, good_append some more h.1 k)
+
+pub all_refused : (document : Members) (e : SettingsError) → RefusesKeyValues (IsGood document) run_keys e → RefusesDocumentValues document e
 all_refused document NotToml h = absurd h
 all_refused document (Unknown name) h = absurd h
 all_refused document (Missing key) h = absurd h
 all_refused document (BadValue key) h = inl h
 all_refused document OutOfMemory h = tt
 
-pub good_append : (document : Members) (some more : List Key) → AreGood document some → AreGood document more → AreGood document (some ++ more)
-good_append document [] more h k = k
-good_append document (key ∷ some) more h k = (h.0, good_append document some more h.1 k)
-
 -- what is parsed is good
-is_parsed : {A : Type 0} {o : Option A} {x : A} → o ≡ Some x → IsSome o
+pub is_parsed : {A : Type 0} {o : Option A} {x : A} → o ≡ Some x → IsSome o
 is_parsed e = subst IsSome (sym e) refl
 
 module _ {document : Members} where
   pub cluster_good : {environment : EnvValue} {store : Store} {workload : Workload} {g : Generator}
-      → IsParsedCluster document environment store workload g → AreGood document cluster_keys
+      → IsParsedCluster document environment store workload g → AreGood (IsGood document) cluster_keys
   cluster_good h = ((_, h.start), (is_parsed h.in_store, (is_parsed h.of_workload, ((_, h.source), tt))))
 
   pub load_good : {clients ops : ℕ} {mode : Mode} {volatile : Bool} {initial : Option ℤ}
-      → IsParsedLoad document clients ops mode volatile initial → AreGood document load_keys
+      → IsParsedLoad document clients ops mode volatile initial → AreGood (IsGood document) load_keys
   load_good h = (is_parsed h.by_clients, (is_parsed h.calls, (is_parsed h.in_mode, (is_parsed h.forgets, (is_parsed h.holds, tt)))))
 
-  pub limits_good : {tick_every rows seed budget : ℕ} → AreParsedLimits document tick_every rows seed budget → AreGood document limit_keys
+  pub limits_good : {tick_every rows seed budget : ℕ} → AreParsedLimits document tick_every rows seed budget → AreGood (IsGood document) limit_keys
   limits_good h = (is_parsed h.ticks, (is_parsed h.of_rows, (is_parsed h.from_seed, (is_parsed h.within, tt))))
 
 no_schedule : (document : Members) (env : EnvValue) → IsParsedStart document env → (((entries : List Entry) × IsParsedSchedule env.names document entries) → ⊥) → IsGood document Key.Schedule → ⊥
@@ -73,7 +75,7 @@ no_schedule document env start none good =
     none (good.1, subst (λ names. IsParsedSchedule names document good.1) (nodes_once document good.0 env good.2 start) good.3)
 
 -- a bad schedule over the nodes of the start is bad
-pub schedule_refused : (document : Members) (env : EnvValue) (e : SettingsError) → IsParsedStart document env → RefusesValue ((entries : List Entry) × IsParsedSchedule env.names document entries) Key.Schedule e → RefusesKeyValues document (Key.Schedule ∷ []) e
+pub schedule_refused : (document : Members) (env : EnvValue) (e : SettingsError) → IsParsedStart document env → RefusesValue ((entries : List Entry) × IsParsedSchedule env.names document entries) Key.Schedule e → RefusesKeyValues (IsGood document) (Key.Schedule ∷ []) e
 schedule_refused document env NotToml start h = absurd h
 schedule_refused document env (Unknown name) start h = absurd h
 schedule_refused document env (Missing key) start h = absurd h

@@ -12,9 +12,9 @@ use Rattle.jh_simnode.specs.Plans.{PlanValue, IsFit, RefusesPlan, plan_of_data}
 use Rattle.jh_simnode.specs.declared.plan.PlanData.{PlanData}
 use Rattle.jh_simnode.specs.declared.plan.PlanError.{PlanError}
 use Rattle.jh_settings.specs.Inside.{RefusesDocumentValues, RefusesWith, IsParsedCluster, IsParsedLoad, AreParsedLimits, plan_refusal, cluster_keys, load_keys, limit_keys}
-use Rattle.jh_settings.specs.Keys.{HasKnownKeys, keys, data_under}
+use Rattle.jh_settings.specs.Keys.{HasKnownKeys, run_keys, data_under}
 use Rattle.jh_settings.specs.Kinds.{whole_number_in, needed_value}
-use Rattle.jh_settings.specs.Refusals.{AreGood}
+use Rattle.jh_settings.specs.Refusals.{IsGood, AreGood}
 use Rattle.jh_settings.specs.Settings.{AreSettings}
 use Rattle.jh_settings.specs.Parsed.{IsParsedSchedule, parsed_clients, parsed_ops, parsed_rows, parsed_workload}
 use Rattle.jh_settings.specs.declared.choices.Mode.{Mode}
@@ -23,7 +23,7 @@ use Rattle.jh_settings.specs.declared.keys.Key.{Key}
 use Rattle.jh_settings.proofs.ElementLemmas.{none_not}
 use Rattle.jh_settings.proofs.OrderLemmas.{cluster_good, load_good, limits_good, good_append}
 
-whole_is : (least most : ℕ) (value : Data) (n : ℕ) → whole_number_in least most value ≡ Some n → (least ≤ n) × (n ≤ most)
+pub whole_is : (least most : ℕ) (value : Data) (n : ℕ) → whole_number_in least most value ≡ Some n → (least ≤ n) × (n ≤ most)
 whole_is least most (integer (pos m)) n e =
     elim (cases_Bool (nat_le least m && nat_le m most)) [
       | inl within ↦
@@ -34,7 +34,7 @@ whole_is least most (integer (pos m)) n e =
     ]
 whole_is least most _ n e = absurd (none_not n e)
 
-needed_is : (least most : ℕ) (value : Option Data) (n : ℕ) → option_and_then (whole_number_in least most) value ≡ Some n → (least ≤ n) × (n ≤ most)
+pub needed_is : (least most : ℕ) (value : Option Data) (n : ℕ) → option_and_then (whole_number_in least most) value ≡ Some n → (least ≤ n) × (n ≤ most)
 needed_is least most None n e = absurd (none_not n e)
 needed_is least most (Some value) n e = whole_is least most value n e
 
@@ -43,7 +43,7 @@ pub default_is : (least most default : ℕ) (value : Option Data) (n : ℕ) → 
 default_is least most default None n low high e = let same : default ≡ n = same_Some default n e in (omega (arith, same), omega (arith, same))
 default_is least most default (Some value) n low high e = whole_is least most value n e
 
-has_clients : (document : Members) (n : ℕ) → parsed_clients document ≡ Some n → (1 ≤ n) × (n ≤ 16)
+pub has_clients : (document : Members) (n : ℕ) → parsed_clients document ≡ Some n → (1 ≤ n) × (n ≤ 16)
 has_clients document n e = needed_is 1 16 (data_under Key.Clients document) n e
 
 has_rows : (document : Members) (n : ℕ) → parsed_rows document ≡ Some n → (1 ≤ n) × (n ≤ 65536)
@@ -57,7 +57,7 @@ has_ops document workload n parsed e =
 
 -- the parts of a plan, the mode and the budget that a document means
 pub record AreParsedParts (document : Members) (parts : PlanData) (mode : Mode) (budget : ℕ) : Type 0 where
-  pub known : HasKnownKeys document
+  pub known : HasKnownKeys run_keys document
   pub cluster : IsParsedCluster document parts.environment parts.settings.store parts.settings.workload (generator_of parts.generator)
   pub load : IsParsedLoad document parts.clients parts.ops mode parts.settings.volatile parts.settings.initial
   pub limits : AreParsedLimits document parts.tick_every parts.rows parts.seed budget
@@ -85,12 +85,12 @@ module _ (document : Members) (parts : PlanData) (mode : Mode) (budget : ℕ) (p
     fit = fit;
   }
 
-  all_good : AreGood document keys
+  all_good : AreGood (IsGood document) run_keys
   all_good =
-      let last : AreGood document (Key.Schedule ∷ []) = ((parts.environment, parts.schedule, parsed.cluster.start, parsed.schedule), tt) in
-      let limits = good_append document limit_keys (Key.Schedule ∷ []) (limits_good parsed.limits) last in
-      let load = good_append document load_keys (limit_keys ++ Key.Schedule ∷ []) (load_good parsed.load) limits in
-      good_append document cluster_keys (load_keys ++ (limit_keys ++ Key.Schedule ∷ [])) (cluster_good parsed.cluster) load
+      let last : AreGood (IsGood document) (Key.Schedule ∷ []) = ((parts.environment, parts.schedule, parsed.cluster.start, parsed.schedule), tt) in
+      let limits = good_append (IsGood document) limit_keys (Key.Schedule ∷ []) (limits_good parsed.limits) last in
+      let load = good_append (IsGood document) load_keys (limit_keys ++ Key.Schedule ∷ []) (load_good parsed.load) limits in
+      good_append (IsGood document) cluster_keys (load_keys ++ (limit_keys ++ Key.Schedule ∷ [])) (cluster_good parsed.cluster) load
 
   -- a plan of good parts is refused for its generator alone
   refused : (error : PlanError) → RefusesPlan (plan_of_data parts) error → RefusesDocumentValues document (plan_refusal error)

@@ -14,7 +14,8 @@ use Rattle.jh_env.specs.declared.names.NodesError.{NodesError}
 use Rattle.jh_env.specs.declared.names.NodesError.TheVariants as names
 use Rattle.jh_env.specs.declared.texts.EnvTextError.{EnvTextError}
 use Rattle.jh_env.specs.declared.texts.EnvTextError.TheVariants.{NotMap, UnknownKey, MissingNodes, BadEntry, NoNodes, TooManyNodes, BadName, DuplicateName, UnknownNode, SelfLink, BadAmount, RepeatedEntry, OutOfMemory}
-use Rattle.jh_settings.specs.Inside.{RefusesValue, start_refusal}
+use Rattle.jh_settings.specs.Inside.{start_refusal}
+use Rattle.jh_settings.specs.Readers.{RefusesValue}
 use Rattle.jh_settings.specs.Kinds.{HoldsElement}
 use Rattle.jh_settings.specs.Parsed.{IsParsedStart}
 use Rattle.jh_settings.specs.declared.keys.Key.{Key}

@@ -1,11 +1,8 @@
 -- What the parts of the code say to each other (this project's own).
-use Rattle.std.specs.Prelude.{◌≡◌, ℕ, ℤ, Bool, List, [], ◌∷◌, Option, Some, None, Result}
-use Rattle.std.specs.Prelude.{MatchOption, MatchResult}
+use Rattle.std.specs.Prelude.{◌≡◌, ℕ, ℤ, Bool, List, [], ◌∷◌, Option, Some, MatchOption}
 use Rattle.toml.specs.Data.{Data, Members}
 use Rattle.jh_edn.specs.Edn.{Edn}
 use Rattle.jh_edn.specs.Spelling.{SpellsAll}
-use Rattle.jh_edn.specs.View.{view}
-use Rattle.jh_edn.specs.declared.value.Value.{Value}
 use Rattle.jh_env.specs.declared.texts.EnvTextError.{EnvTextError}
 use Rattle.jh_settings.specs.declared.keys.Key.{Key}
 use Rattle.jh_settings.specs.declared.choices.Mode.{Mode}
@@ -15,45 +12,18 @@ use Rattle.jh_ops.specs.declared.call.Workload.{Workload}
 use Rattle.jh_simnode.specs.declared.schedule.Entry.{Entry}
 use Rattle.jh_simnode.specs.declared.settings.Store.{Store}
 use Rattle.jh_settings.specs.declared.error.SettingsError.{SettingsError}
-use Rattle.jh_settings.specs.declared.error.SettingsError.TheVariants.{NotToml, Unknown, Missing}
 use Rattle.jh_settings.specs.declared.error.SettingsError.TheVariants.{BadValue, OutOfMemory}
-use Rattle.jh_settings.specs.Kinds.{IsElement}
 use Rattle.jh_settings.specs.Parsed.{IsParsedEntry, IsParsedStart, parsed_store, parsed_workload}
 use Rattle.jh_settings.specs.Parsed.{IsParsedGenerator, parsed_clients, parsed_ops, parsed_mode}
 use Rattle.jh_settings.specs.Parsed.{parsed_volatile, parsed_initial, parsed_tick_every}
 use Rattle.jh_settings.specs.Parsed.{parsed_rows, parsed_seed, parsed_budget}
-use Rattle.jh_settings.specs.Refusals.{IsFirstBadKey}
 use Rattle.jh_settings.specs.Settings.{IsBadValue}
-use Rattle.jh_settings.specs.Keys.{IsDocument, HasKnownKeys, IsFirstUnknown, first_missing}
 use Rattle.jh_simnode.specs.Plans.{PlanValue, RefusesPlan}
 use Rattle.jh_simnode.specs.declared.plan.PlanError.{PlanError}
-
--- what is parsed, or a bad value under the key
-abbrev pub IsValueParsed : {A : Type 0} → Result A SettingsError → Key → Option A → Type 0
-IsValueParsed answer key parsed =
-    MatchResult answer (λ x. parsed ≡ Some x) (λ e. (e ≡ BadValue key) × (parsed ≡ None))
-
--- such a value is bad under the key, or memory was refused
-abbrev pub RefusesValue : Type 0 → Key → SettingsError → Type 0
-RefusesValue Good key (BadValue other) = (key ≡ other) × (Good → ⊥)
-RefusesValue Good key OutOfMemory = Unit {0}
-RefusesValue Good key _ = ⊥
-
--- one of these keys is the first with a bad value, or memory was refused
-abbrev pub RefusesKeyValues : Members → List Key → SettingsError → Type 0
-RefusesKeyValues document some (BadValue key) = IsFirstBadKey document some key
-RefusesKeyValues document some OutOfMemory = Unit {0}
-RefusesKeyValues document some _ = ⊥
 
 -- no value is all that the text spells
 abbrev pub IsNoElement : List ℕ → Type 0
 IsNoElement text = (x : Edn) → SpellsAll (x ∷ []) text → ⊥
-
--- what is found is the one element that a value, which is a text, spells
-abbrev pub IsElementIn : Data → Option Value → Type 0
-IsElementIn value found =
-    MatchOption found ((x : Edn) → IsElement value x → ⊥)
-    (λ element. IsElement value (view element))
 
 -- what is found is the entry that a value means
 abbrev pub IsEntryIn : List (List ℕ) → Data → Option Entry → Type 0
@@ -96,20 +66,6 @@ pub record AreParsedLimits (document : Members) (tick_every rows seed budget : �
   pub of_rows : parsed_rows document ≡ Some rows
   pub from_seed : parsed_seed document ≡ Some seed
   pub within : parsed_budget document ≡ Some budget
-
--- why bytes are no table
-abbrev pub RefusesBytes : List ℕ → SettingsError → Type 0
-RefusesBytes bytes NotToml = (document : Members) → IsDocument bytes document → ⊥
-RefusesBytes bytes OutOfMemory = Unit {0}
-RefusesBytes bytes _ = ⊥
-
--- why keys are refused
-abbrev pub RefusesDocumentKeys : Members → SettingsError → Type 0
-RefusesDocumentKeys document (Unknown name) = IsFirstUnknown document name
-RefusesDocumentKeys document (Missing key) =
-    HasKnownKeys document × (first_missing document ≡ Some key)
-RefusesDocumentKeys document OutOfMemory = Unit {0}
-RefusesDocumentKeys document _ = ⊥
 
 -- why values are refused
 abbrev pub RefusesDocumentValues : Members → SettingsError → Type 0

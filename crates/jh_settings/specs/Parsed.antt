@@ -1,6 +1,6 @@
--- What each setting means, key by key (this project's own). A new setting is a new definition here,
--- a key in Keys and a line of `IsGood`.
-use Rattle.std.specs.Prelude.{◌≡◌, ℕ, ◌≤◌, ℤ, pos, Bool, false, List, [], ◌∷◌, length, codes}
+-- What each setting of a run means, key by key (this project's own). A new setting is a new definition
+-- here, a key in Keys and a line of `IsGood`. Settings of `drive` mean the same where they are here.
+use Rattle.std.specs.Prelude.{◌≡◌, ℕ, ◌≤◌, ℤ, pos, Bool, true, false, List, [], ◌∷◌, length, codes}
 use Rattle.std.specs.Prelude.{nat_le, if◌then◌else◌, Option, Some, None, option_map}
 use Rattle.std.specs.Prelude.{option_and_then, Result, Ok, Err}
 use Rattle.std.specs.Str.{bytes_eq}
@@ -41,9 +41,13 @@ parsed_store document = choice_under store_of Key.Store document
 abbrev pub parsed_workload : Members → Option Workload
 parsed_workload document = choice_under workload_named Key.Workload document
 
+-- the generator under a key
+abbrev pub IsGeneratorUnder : Key → Members → Generator → Type 0
+IsGeneratorUnder key document g =
+    (x : Edn) × HoldsElement key document x × (parsed_generator x ≡ Some g)
+
 abbrev pub IsParsedGenerator : Members → Generator → Type 0
-IsParsedGenerator document g =
-    (x : Edn) × HoldsElement Key.Generator document x × (parsed_generator x ≡ Some g)
+IsParsedGenerator document g = IsGeneratorUnder Key.Generator document g
 
 abbrev pub parsed_clients : Members → Option ℕ
 parsed_clients document = needed_value (whole_number_in 1 16) Key.Clients document
@@ -69,15 +73,19 @@ parsed_mode document = value_or_default Mode.Threads (choice_in mode_of) Key.Mod
 abbrev pub parsed_volatile : Members → Option Bool
 parsed_volatile document = value_or_default false as_bool Key.Volatile document
 
--- what a register holds at first: an integer, or nothing; of another workload it may not be given
-abbrev pub initial_of : Workload → Option Data → Option (Option ℤ)
-initial_of workload None = Some None
-initial_of Workload.Register (Some value) = option_map Some (as_integer value)
-initial_of _ (Some value) = None
+abbrev pub is_register : Workload → Bool
+is_register Workload.Register = true
+is_register _ = false
+
+-- what a register holds at first: an integer, or nothing; of anything else it may not be given
+abbrev pub initial_of : Bool → Option Data → Option (Option ℤ)
+initial_of of_register None = Some None
+initial_of true (Some value) = option_map Some (as_integer value)
+initial_of false (Some value) = None
 
 abbrev pub parsed_initial : Members → Option (Option ℤ)
 parsed_initial document =
-    option_and_then (λ workload. initial_of workload (data_under Key.Initial document))
+    option_and_then (λ workload. initial_of (is_register workload) (data_under Key.Initial document))
     (parsed_workload document)
 
 abbrev pub parsed_tick_every : Members → Option ℕ
@@ -117,22 +125,30 @@ IsParsedEntry names value entry =
     (x : Edn) × IsElement value x × (parsed_entry names x ≡ Some entry)
 
 -- each value means an entry, in order
-abbrev pub AreParsedEntries : List (List ℕ) → Items → List Entry → Type 0
-AreParsedEntries names no_items [] = Unit {0}
-AreParsedEntries names (item value values) (entry ∷ entries) =
-    IsParsedEntry names value entry × AreParsedEntries names values entries
-AreParsedEntries names _ _ = ⊥
+abbrev pub AreEach : {E : Type 0} → (Data → E → Type 0) → Items → List E → Type 0
+AreEach Means no_items [] = Unit {0}
+AreEach Means (item value values) (entry ∷ entries) =
+    Means value entry × AreEach Means values entries
+AreEach Means _ _ = ⊥
 
 -- and there are at most 1,024
-abbrev pub AreFewParsedEntries : List (List ℕ) → Items → List Entry → Type 0
-AreFewParsedEntries names values entries =
-    AreParsedEntries names values entries × (length entries ≤ 1024)
+abbrev pub AreFewEach : {E : Type 0} → (Data → E → Type 0) → Items → List E → Type 0
+AreFewEach Means values entries = AreEach Means values entries × (length entries ≤ 1024)
 
 -- none by default
+abbrev pub IsScheduleOf : {E : Type 0} → (Data → E → Type 0) → Option Data → List E → Type 0
+IsScheduleOf Means None entries = entries ≡ []
+IsScheduleOf Means (Some (array values)) entries = AreFewEach Means values entries
+IsScheduleOf Means (Some _) entries = ⊥
+
+abbrev pub AreParsedEntries : List (List ℕ) → Items → List Entry → Type 0
+AreParsedEntries names values entries = AreEach (IsParsedEntry names) values entries
+
+abbrev pub AreFewParsedEntries : List (List ℕ) → Items → List Entry → Type 0
+AreFewParsedEntries names values entries = AreFewEach (IsParsedEntry names) values entries
+
 abbrev pub IsScheduleValue : List (List ℕ) → Option Data → List Entry → Type 0
-IsScheduleValue names None entries = entries ≡ []
-IsScheduleValue names (Some (array values)) entries = AreFewParsedEntries names values entries
-IsScheduleValue names (Some _) entries = ⊥
+IsScheduleValue names value entries = IsScheduleOf (IsParsedEntry names) value entries
 
 abbrev pub IsParsedSchedule : List (List ℕ) → Members → List Entry → Type 0
 IsParsedSchedule names document entries =

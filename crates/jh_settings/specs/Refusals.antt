@@ -1,10 +1,14 @@
--- Which settings are refused, and in which order (this project's own).
-use Rattle.std.specs.Prelude.{◌≡◌, ◌⊎◌, List, [], ◌∷◌, IsSome}
+-- Which settings are refused, and in which order (this project's own). What holds of the settings of
+-- every command takes which values are good, or which documents are refused, as an argument.
+use Rattle.std.specs.Prelude.{◌≡◌, ◌⊎◌, ℕ, List, [], ◌∷◌, IsSome}
 use Rattle.toml.specs.Data.{Members}
 use Rattle.jh_env.specs.Overlay.{EnvValue}
 use Rattle.jh_gen.specs.Generator.{Generator}
 use Rattle.jh_simnode.specs.declared.schedule.Entry.{Entry}
+use Rattle.jh_settings.specs.declared.error.SettingsError.{SettingsError}
+use Rattle.jh_settings.specs.declared.error.SettingsError.TheVariants.{NotToml, OutOfMemory}
 use Rattle.jh_settings.specs.declared.keys.Key.{Key}
+use Rattle.jh_settings.specs.Keys.{IsDocument}
 use Rattle.jh_settings.specs.Parsed.{IsParsedStart, parsed_store, parsed_workload}
 use Rattle.jh_settings.specs.Parsed.{IsParsedGenerator, parsed_clients, parsed_ops, parsed_mode}
 use Rattle.jh_settings.specs.Parsed.{parsed_volatile, parsed_initial, parsed_tick_every}
@@ -12,7 +16,7 @@ use Rattle.jh_settings.specs.Parsed.{parsed_rows, parsed_seed, parsed_budget, Is
 
 -- The value under a key is good by itself; a key that may be missing is good where it is. How many
 -- calls there are and what is held at first is looked at beside the workload, and the schedule
--- beside the nodes of the start.
+-- beside the nodes of the start. A key of `drive` alone is none of a run.
 abbrev pub IsGood : Members → Key → Type 0
 IsGood document Key.Start = (env : EnvValue) × IsParsedStart document env
 IsGood document Key.Store = IsSome (parsed_store document)
@@ -30,15 +34,23 @@ IsGood document Key.Budget = IsSome (parsed_budget document)
 IsGood document Key.Schedule =
     (env : EnvValue) × (entries : List Entry) × IsParsedStart document env
     × IsParsedSchedule env.names document entries
+IsGood document _ = ⊥
 
 -- each of some keys is good
-abbrev pub AreGood : Members → List Key → Type 0
-AreGood document [] = Unit {0}
-AreGood document (key ∷ others) = IsGood document key × AreGood document others
+abbrev pub AreGood : (Key → Type 0) → List Key → Type 0
+AreGood Good [] = Unit {0}
+AreGood Good (key ∷ others) = Good key × AreGood Good others
 
 -- of some keys it is the first whose value is bad
-abbrev pub IsFirstBadKey : Members → List Key → Key → Type 0
-IsFirstBadKey document [] key = ⊥
-IsFirstBadKey document (other ∷ others) key =
-    ((other ≡ key) × (IsGood document key → ⊥))
-    ⊎ (IsGood document other × IsFirstBadKey document others key)
+abbrev pub IsFirstBadKey : (Key → Type 0) → List Key → Key → Type 0
+IsFirstBadKey Good [] key = ⊥
+IsFirstBadKey Good (other ∷ others) key =
+    ((other ≡ key) × (Good key → ⊥)) ⊎ (Good other × IsFirstBadKey Good others key)
+
+-- why bytes are refused: they spell no document, or that is refused; memory may be refused for any
+-- bytes
+abbrev pub RefusesSpelled : (Members → SettingsError → Type 0) → List ℕ → SettingsError → Type 0
+RefusesSpelled Refuses bytes NotToml = (document : Members) → IsDocument bytes document → ⊥
+RefusesSpelled Refuses bytes OutOfMemory = Unit {0}
+RefusesSpelled Refuses bytes e =
+    (document : Members) × IsDocument bytes document × Refuses document e

@@ -10,17 +10,18 @@ use Rattle.jh_settings.specs.declared.error.SettingsError.TheVariants.{NotToml, 
 use Rattle.jh_settings.specs.declared.error.SettingsError.TheVariants.{BadValue, OutOfMemory}
 use Rattle.jh_settings.specs.declared.keys.Key.{Key}
 use Rattle.jh_settings.specs.declared.choices.Mode.{Mode}
-use Rattle.jh_settings.specs.Keys.{IsDocument, HasKnownKeys, IsFirstUnknown, first_missing, keys}
+use Rattle.jh_settings.specs.Keys.{IsDocument, HasKnownKeys, IsFirstUnknown, first_missing}
+use Rattle.jh_settings.specs.Keys.{run_keys, needed_run_keys}
 use Rattle.jh_settings.specs.Parsed.{IsParsedStart, parsed_store, parsed_workload}
 use Rattle.jh_settings.specs.Parsed.{IsParsedGenerator, parsed_clients, parsed_ops, parsed_mode}
 use Rattle.jh_settings.specs.Parsed.{parsed_volatile, parsed_initial, parsed_tick_every}
 use Rattle.jh_settings.specs.Parsed.{parsed_rows, parsed_seed, parsed_budget, IsParsedSchedule}
-use Rattle.jh_settings.specs.Refusals.{AreGood, IsFirstBadKey}
+use Rattle.jh_settings.specs.Refusals.{IsGood, AreGood, IsFirstBadKey, RefusesSpelled}
 
 -- a document means this plan, in which mode it is run, and how many tries a judgement has
 pub record AreSettings (document : Members) (plan : PlanValue) (run_mode : Mode)
     (tries : ℕ) : Type 0 where
-  pub known : HasKnownKeys document
+  pub known : HasKnownKeys run_keys document
   pub start : IsParsedStart document plan.env
   pub store : parsed_store document ≡ Some plan.settings.store
   pub workload : parsed_workload document ≡ Some plan.settings.workload
@@ -46,7 +47,7 @@ AreSettingsOf bytes plan mode tries =
 -- clients
 abbrev pub IsUnsuited : Members → Type 0
 IsUnsuited document =
-    (workload : Workload) × (clients : ℕ) × (g : Generator) × AreGood document keys
+    (workload : Workload) × (clients : ℕ) × (g : Generator) × AreGood (IsGood document) run_keys
     × (parsed_workload document ≡ Some workload)
     × (parsed_clients document ≡ Some clients) × IsParsedGenerator document g
     × (suits workload clients g ≡ true → ⊥)
@@ -54,21 +55,19 @@ IsUnsuited document =
 -- the first value that is bad by itself, and then the generator
 abbrev pub IsBadValue : Members → Key → Type 0
 IsBadValue document key =
-    IsFirstBadKey document keys key ⊎ ((key ≡ Key.Generator) × IsUnsuited document)
+    IsFirstBadKey (IsGood document) run_keys key ⊎ ((key ≡ Key.Generator) × IsUnsuited document)
 
 -- why a document is refused: an unknown key, then a missing one, then a bad value
 abbrev pub RefusesDocument : Members → SettingsError → Type 0
 RefusesDocument document NotToml = ⊥
-RefusesDocument document (Unknown choice) = IsFirstUnknown document choice
-RefusesDocument document (Missing key) = HasKnownKeys document × (first_missing document ≡ Some key)
+RefusesDocument document (Unknown choice) = IsFirstUnknown run_keys document choice
+RefusesDocument document (Missing key) =
+    HasKnownKeys run_keys document × (first_missing needed_run_keys document ≡ Some key)
 RefusesDocument document (BadValue key) =
-    HasKnownKeys document × (first_missing document ≡ None) × IsBadValue document key
+    HasKnownKeys run_keys document × (first_missing needed_run_keys document ≡ None)
+    × IsBadValue document key
 RefusesDocument document OutOfMemory = Unit {0}
 
--- why bytes are refused: they spell no document, or that is refused; memory may be refused for any
--- bytes
+-- why bytes are refused
 abbrev pub RefusesSettings : List ℕ → SettingsError → Type 0
-RefusesSettings bytes NotToml = (document : Members) → IsDocument bytes document → ⊥
-RefusesSettings bytes OutOfMemory = Unit {0}
-RefusesSettings bytes e =
-    (document : Members) × IsDocument bytes document × RefusesDocument document e
+RefusesSettings bytes e = RefusesSpelled RefusesDocument bytes e

@@ -3,10 +3,10 @@
 
 ghost use Rattle.std.specs.Prelude.{◌≡◌};
 ghost use Rattle.toml.specs.View.{table_view};
-ghost use Rattle.jh_settings.specs.Inside.{IsValueParsed};
 ghost use Rattle.jh_settings.specs.Keys.{data_under};
 ghost use Rattle.jh_settings.specs.Parsed as rule;
 ghost use Rattle.jh_settings.specs.Parsed.{initial_of, parsed_mode, parsed_store, parsed_workload};
+ghost use Rattle.jh_settings.specs.Readers.{IsValueParsed};
 
 use crate::error::SettingsError;
 use crate::keys::Key;
@@ -89,16 +89,27 @@ pub(crate) fn mode_under(table: &Table) -> Result<Mode, SettingsError>
     }
 }
 
-/// What a register holds at first, the value under `initial`.
-pub(crate) fn initial_under(table: &Table, workload: Workload) -> Result<Option<i64>, SettingsError>
+/// Whether a register is asked of the cluster.
+pub(crate) fn is_register(workload: Workload) -> bool
+    ensures { result ≡ rule.is_register workload }
+{
+    matches!(workload, Workload::Register)
+}
+
+/// What a register holds at first, the value under `initial`: an integer, or nothing where nothing
+/// stands there.
+///
+/// Errors: `BadValue` with `Key::Initial` where another value stands there, or what holds it is no
+/// register.
+pub fn initial_under(table: &Table, of_register: bool) -> Result<Option<i64>, SettingsError>
     ensures { IsValueParsed result Key.Initial
-        (initial_of workload (data_under Key.Initial (table_view table.now))) }
+        (initial_of of_register (data_under Key.Initial (table_view table.now))) }
 {
     let Some(value) = value_under(table, Key::Initial) else {
         return Ok(None);
     };
-    match (workload, value.as_integer()) {
-        (Workload::Register, Some(number)) => Ok(Some(number)),
+    match (of_register, value.as_integer()) {
+        (true, Some(number)) => Ok(Some(number)),
         _ => Err(SettingsError::BadValue(Key::Initial)),
     }
 }

@@ -14,12 +14,12 @@ ghost use Rattle.jh_nemesis.specs.Steps.{FitsNodes};
 ghost use Rattle.jh_gen.specs.Generator.{Generator};
 ghost use Rattle.jh_gen.specs.View.{generator_of};
 ghost use Rattle.jh_simnode.specs.declared.schedule.Entry.{Entry};
-ghost use Rattle.jh_settings.specs.Inside.{IsElementIn, IsEntryIn, IsNoElement, RefusesValue};
-ghost use Rattle.jh_settings.specs.Inside.{start_refusal};
+ghost use Rattle.jh_settings.specs.Inside.{IsEntryIn, IsNoElement, start_refusal};
 ghost use Rattle.jh_settings.specs.Kinds.{HoldsElement};
 ghost use Rattle.jh_settings.specs.Parsed as rule;
-ghost use Rattle.jh_settings.specs.Parsed.{AreFewParsedEntries, IsParsedGenerator};
+ghost use Rattle.jh_settings.specs.Parsed.{AreFewParsedEntries, IsGeneratorUnder};
 ghost use Rattle.jh_settings.specs.Parsed.{IsParsedSchedule, IsParsedStart};
+ghost use Rattle.jh_settings.specs.Readers.{IsElementIn, RefusesValue};
 
 use crate::error::SettingsError;
 use crate::keys::Key;
@@ -93,8 +93,9 @@ fn only_element(alloc: Global, text: &str) -> Result<Option<Value>, AllocError>
     }
 }
 
-/// The one element that a value, which is a text, spells.
-fn element_in(alloc: Global, value: &toml::Value) -> Result<Option<Value>, AllocError>
+/// The one element that a value, which is a text, spells, with gaps around it. None where the value is
+/// no such text.
+pub fn element_in(alloc: Global, value: &toml::Value) -> Result<Option<Value>, AllocError>
     ensures { IfOk result (IsElementIn (toml.view value.now)) }
 {
     match value.as_str() {
@@ -128,8 +129,10 @@ fn start_error(error: EnvTextError) -> SettingsError
     }
 }
 
-/// The environment under `start`.
-pub(crate) fn start_under(alloc: Global, table: &Table) -> Result<Env, SettingsError>
+/// The environment under `start`, on which no fault is laid.
+///
+/// Errors: `BadValue` with `Key::Start` where no text of an environment stands there; `OutOfMemory`.
+pub fn start_under(alloc: Global, table: &Table) -> Result<Env, SettingsError>
     ensures { MatchResult result
         (IsParsedStart (table_view table.now))
         (RefusesValue ((env : EnvValue) × IsParsedStart (table_view table.now) env) Key.Start) }
@@ -141,17 +144,18 @@ pub(crate) fn start_under(alloc: Global, table: &Table) -> Result<Env, SettingsE
     }
 }
 
-/// The generator under `generator`.
-pub(crate) fn generator_under(alloc: Global, table: &Table) -> Result<Gen, SettingsError>
+/// The generator under a key.
+///
+/// Errors: `BadValue` with the key where no text of a generator stands there; `OutOfMemory`.
+pub fn generator_under(alloc: Global, table: &Table, key: Key) -> Result<Gen, SettingsError>
     ensures { MatchResult result
-        (λ source. IsParsedGenerator (table_view table.now) (generator_of source))
-        (RefusesValue ((g : Generator) × IsParsedGenerator (table_view table.now) g)
-        Key.Generator) }
+        (λ source. IsGeneratorUnder key (table_view table.now) (generator_of source))
+        (RefusesValue ((g : Generator) × IsGeneratorUnder key (table_view table.now) g) key) }
 {
-    let element = element_under(alloc, table, Key::Generator)?;
+    let element = element_under(alloc, table, key)?;
     match gen_of_value(alloc, &element) {
         Ok(source) => Ok(source),
-        Err(GenTextError::BadGenerator) => Err(SettingsError::BadValue(Key::Generator)),
+        Err(GenTextError::BadGenerator) => Err(SettingsError::BadValue(key)),
         Err(GenTextError::OutOfMemory) => Err(SettingsError::OutOfMemory),
     }
 }

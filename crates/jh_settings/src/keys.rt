@@ -1,16 +1,16 @@
-//! The keys of the settings. `specs/Keys.antt` has them in their order, and says which keys a
-//! document has.
+//! The keys of the settings. `specs/Keys.antt` has those of each command in their order, and says
+//! which keys a document has.
 
 ghost use Rattle.std.specs.Prelude.{◌≡◌, MatchOption};
 ghost use Rattle.toml.specs.View.{table_view};
 ghost use Rattle.jh_settings.specs.Keys as rule;
-ghost use Rattle.jh_settings.specs.Keys.{HasKnownKeys, IsFirstUnknown, key_name, keys};
+ghost use Rattle.jh_settings.specs.Keys.{HasKnownKeys, IsFirstUnknown, key_name};
 
 use crate::table::value_under;
 use std::fmt::{self, Display, Formatter, Write};
 use toml::Table;
 
-/// A key of the settings.
+/// A key of the settings of a command.
 #[derive(Clone, Copy, Debug, PartialEq, Eq)]
 pub enum Key {
     Start,
@@ -19,18 +19,28 @@ pub enum Key {
     Generator,
     Clients,
     Ops,
+    TimeLimit,
+    Rate,
+    ThreadsPerKey,
+    OpsPerKey,
+    Recovery,
+    Final,
     Mode,
     Volatile,
     Initial,
     TickEvery,
     Rows,
+    Keys,
+    MaxTxn,
+    AppendsPerKey,
+    Model,
     Seed,
     Budget,
     Schedule,
 }
 
-/// All keys, in their order.
-const KEYS: [Key; 14] = [
+/// The keys of `run`, in their order.
+static RUN_KEYS: [Key; 14] = [
     Key::Start,
     Key::Store,
     Key::Workload,
@@ -48,7 +58,7 @@ const KEYS: [Key; 14] = [
 ];
 
 /// Those without which there is no run, in their order.
-const NEEDED: [Key; 6] = [
+static NEEDED_RUN_KEYS: [Key; 6] = [
     Key::Start,
     Key::Store,
     Key::Workload,
@@ -56,6 +66,66 @@ const NEEDED: [Key; 6] = [
     Key::Clients,
     Key::Ops,
 ];
+
+/// The keys of `drive`, in their order.
+static DRIVE_KEYS: [Key; 19] = [
+    Key::Start,
+    Key::Workload,
+    Key::Generator,
+    Key::Clients,
+    Key::Ops,
+    Key::TimeLimit,
+    Key::Rate,
+    Key::ThreadsPerKey,
+    Key::OpsPerKey,
+    Key::Recovery,
+    Key::Final,
+    Key::Initial,
+    Key::Keys,
+    Key::MaxTxn,
+    Key::AppendsPerKey,
+    Key::Model,
+    Key::Seed,
+    Key::Budget,
+    Key::Schedule,
+];
+
+/// Those without which there is no test, in their order.
+static NEEDED_DRIVE_KEYS: [Key; 5] = [
+    Key::Start,
+    Key::Workload,
+    Key::Generator,
+    Key::Clients,
+    Key::Ops,
+];
+
+/// The keys of `run`, in the order in which their values are judged.
+pub(crate) fn run_keys() -> &'static [Key]
+    ensures { result.now ≡ rule.run_keys }
+{
+    RUN_KEYS.as_slice()
+}
+
+/// The keys that `run` needs, in the order in which they are missed.
+pub(crate) fn needed_run_keys() -> &'static [Key]
+    ensures { result.now ≡ rule.needed_run_keys }
+{
+    NEEDED_RUN_KEYS.as_slice()
+}
+
+/// The keys of `drive`, in the order in which their values are judged.
+pub fn drive_keys() -> &'static [Key]
+    ensures { result.now ≡ rule.drive_keys }
+{
+    DRIVE_KEYS.as_slice()
+}
+
+/// The keys that `drive` needs, in the order in which they are missed.
+pub fn needed_drive_keys() -> &'static [Key]
+    ensures { result.now ≡ rule.needed_drive_keys }
+{
+    NEEDED_DRIVE_KEYS.as_slice()
+}
 
 impl Key {
     /// The key, as a document has it.
@@ -69,11 +139,21 @@ impl Key {
             Key::Generator => "generator",
             Key::Clients => "clients",
             Key::Ops => "ops",
+            Key::TimeLimit => "time_limit",
+            Key::Rate => "rate",
+            Key::ThreadsPerKey => "threads_per_key",
+            Key::OpsPerKey => "ops_per_key",
+            Key::Recovery => "recovery",
+            Key::Final => "final",
             Key::Mode => "mode",
             Key::Volatile => "volatile",
             Key::Initial => "initial",
             Key::TickEvery => "tick_every",
             Key::Rows => "rows",
+            Key::Keys => "keys",
+            Key::MaxTxn => "max_txn",
+            Key::AppendsPerKey => "appends_per_key",
+            Key::Model => "model",
             Key::Seed => "seed",
             Key::Budget => "budget",
             Key::Schedule => "schedule",
@@ -92,22 +172,22 @@ impl Display for Key {
     }
 }
 
-/// Whether a key of the settings has this name.
+/// Whether one of these keys has this name.
 #[tactic(auto, unfolding(crate::specs::Keys::is_key_name))]
-fn is_known(name: &str) -> bool
-    ensures { result ≡ rule.is_key_name name.now }
+fn is_known(keys: &[Key], name: &str) -> bool
+    ensures { result ≡ rule.is_key_name keys.now name.now }
 {
-    KEYS.iter().any(|key| name == key.as_str())
+    keys.iter().any(|key| name == key.as_str())
 }
 
-/// The first key, in byte order, that no setting has.
-pub(crate) fn first_unknown(table: &Table) -> Option<&str>
+/// The first key of a table, in byte order, that is none of these.
+pub(crate) fn first_unknown<'a>(table: &'a Table, keys: &[Key]) -> Option<&'a str>
     ensures { MatchOption result
-        (HasKnownKeys (table_view table.now))
-        (λ name. IsFirstUnknown (table_view table.now) name.now) }
+        (HasKnownKeys keys.now (table_view table.now))
+        (λ name. IsFirstUnknown keys.now (table_view table.now) name.now) }
 {
     for key in table.keys() {
-        if !is_known(key.as_str()) {
+        if !is_known(keys, key.as_str()) {
             return Some(key.as_str());
         }
     }
@@ -115,19 +195,19 @@ pub(crate) fn first_unknown(table: &Table) -> Option<&str>
 }
 
 /// Whether nothing stands under a key.
-fn is_missing(table: &Table, key: Key) -> bool
+pub fn is_missing(table: &Table, key: Key) -> bool
     ensures { result ≡ rule.is_missing (table_view table.now) key }
 {
     value_under(table, key).is_none()
 }
 
-/// The first key that is needed and does not stand in the table.
-pub(crate) fn first_missing(table: &Table) -> Option<Key>
-    ensures { result ≡ rule.first_missing (table_view table.now) }
+/// The first of these keys that does not stand in the table.
+pub(crate) fn first_missing(table: &Table, needed: &[Key]) -> Option<Key>
+    ensures { result ≡ rule.first_missing needed.now (table_view table.now) }
 {
-    for key in NEEDED {
-        if is_missing(table, key) {
-            return Some(key);
+    for key in needed {
+        if is_missing(table, *key) {
+            return Some(*key);
         }
     }
     None

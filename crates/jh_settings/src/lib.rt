@@ -1,7 +1,9 @@
-//! The settings of a run, in TOML: from bytes to a plan that can be run.
+//! The settings of a run, in TOML: from bytes to a plan that can be run. What the settings of every
+//! command share stands here: their keys, their refusals, and the readers of their values.
 #![tactic(auto)]
 
 mod choices;
+mod document;
 mod elements;
 mod error;
 mod keys;
@@ -9,7 +11,11 @@ mod numbers;
 mod settings;
 mod table;
 
-pub use choices::Mode;
+pub use choices::{Mode, initial_under};
+pub use document::{judge_keys, table_of};
+pub use elements::{element_in, generator_under, start_under};
 pub use error::{KeyText, SettingsError};
-pub use keys::Key;
+pub use keys::{Key, drive_keys, is_missing, needed_drive_keys};
+pub use numbers::{budget_under, clients_under, seed_under};
 pub use settings::{RunSettings, settings_of};
+pub use table::{number_or, number_under, text_under, value_under, whole_in};

@@ -3,9 +3,9 @@
 
 ghost use Rattle.std.specs.Prelude.{◌≡◌, Some};
 ghost use Rattle.toml.specs.View.{table_view};
-ghost use Rattle.jh_settings.specs.Inside.{IsValueParsed};
 ghost use Rattle.jh_settings.specs.Parsed.{parsed_budget, parsed_clients, parsed_ops, parsed_rows};
 ghost use Rattle.jh_settings.specs.Parsed.{parsed_seed, parsed_tick_every, parsed_workload};
+ghost use Rattle.jh_settings.specs.Readers.{IsValueParsed};
 
 use crate::error::SettingsError;
 use crate::keys::Key;
@@ -22,7 +22,9 @@ const MAX_TICK_EVERY: u64 = 10_000;
 const MAX_BUDGET: u64 = 10_000_000;
 
 /// How many client threads, under `clients`: from 1 to 16.
-pub(crate) fn clients_under(table: &Table) -> Result<u32, SettingsError>
+///
+/// Errors: `BadValue` with `Key::Clients` where no such number stands there.
+pub fn clients_under(table: &Table) -> Result<u32, SettingsError>
     ensures { IsValueParsed result Key.Clients (parsed_clients (table_view table.now)) }
 {
     let clients = number_under(table, Key::Clients, 1, u64::from(MAX_CLIENTS))?;
@@ -56,14 +58,18 @@ pub(crate) fn rows_under(table: &Table) -> Result<u32, SettingsError>
 }
 
 /// The seed, under `seed`: from 0, the default, to the greatest integer of TOML.
-pub(crate) fn seed_under(table: &Table) -> Result<u64, SettingsError>
+///
+/// Errors: `BadValue` with `Key::Seed` where another value stands there.
+pub fn seed_under(table: &Table) -> Result<u64, SettingsError>
     ensures { IsValueParsed result Key.Seed (parsed_seed (table_view table.now)) }
 {
     number_or(table, Key::Seed, 0, 0, i64::MAX as u64)
 }
 
 /// The budget of the judgement, under `budget`: from 0 to 10,000,000, and 100,000 by default.
-pub(crate) fn budget_under(table: &Table) -> Result<u64, SettingsError>
+///
+/// Errors: `BadValue` with `Key::Budget` where another value stands there.
+pub fn budget_under(table: &Table) -> Result<u64, SettingsError>
     ensures { IsValueParsed result Key.Budget (parsed_budget (table_view table.now)) }
 {
     number_or(table, Key::Budget, 100_000, 0, MAX_BUDGET)

@@ -1,24 +1,26 @@
 //! The settings of a run. `specs/Settings.antt` says which settings a document means, and why
 //! others are refused.
 
-ghost use Rattle.std.specs.Prelude.{◌≡◌, Some, None, [], MatchResult};
+ghost use Rattle.std.specs.Prelude.{◌≡◌, Some, [], MatchResult};
 ghost use Rattle.toml.specs.View.{table_view};
 ghost use Rattle.jh_env.specs.Overlay.{StandsFor};
 ghost use Rattle.jh_gen.specs.View.{generator_of};
 ghost use Rattle.jh_simnode.specs.Plans.{IsFit, plan_of_data};
-ghost use Rattle.jh_settings.specs.Inside.{RefusesBytes, RefusesDocumentKeys};
 ghost use Rattle.jh_settings.specs.Inside.{AreParsedLimits, IsParsedCluster, IsParsedLoad};
-ghost use Rattle.jh_settings.specs.Inside.{RefusesDocumentValues, RefusesKeyValues, RefusesWith};
+ghost use Rattle.jh_settings.specs.Inside.{RefusesDocumentValues, RefusesWith};
 ghost use Rattle.jh_settings.specs.Inside.{cluster_keys, limit_keys, load_keys, plan_refusal};
 ghost use Rattle.jh_settings.specs.Keys as rule;
-ghost use Rattle.jh_settings.specs.Keys.{HasKnownKeys, IsDocument};
+ghost use Rattle.jh_settings.specs.Keys.{HasKnownKeys};
 ghost use Rattle.jh_settings.specs.Parsed.{parsed_workload};
+ghost use Rattle.jh_settings.specs.Readers.{RefusesKeyValues};
+ghost use Rattle.jh_settings.specs.Refusals.{IsGood};
 ghost use Rattle.jh_settings.specs.Settings.{AreSettings, AreSettingsOf, RefusesSettings};
 
-use crate::choices::{Mode, initial_under, mode_under, store_under, workload_under};
+use crate::choices::{Mode, initial_under, is_register, mode_under, store_under, workload_under};
+use crate::document::{judge_keys, table_of};
 use crate::elements::{generator_under, schedule_under, start_under};
-use crate::error::{KeyText, SettingsError};
-use crate::keys::{Key, first_missing, first_unknown};
+use crate::error::SettingsError;
+use crate::keys::{Key, needed_run_keys, run_keys};
 use crate::numbers::{
     budget_under, clients_under, ops_under, rows_under, seed_under, tick_every_under,
 };
@@ -71,12 +73,12 @@ fn cluster_of(alloc: Global, table: &Table) -> Result<(Env, Store, Workload, Gen
     ensures { MatchResult result
         (λ parts. IsParsedCluster (table_view table.now)
         parts.0 parts.1 parts.2 (generator_of parts.3))
-        (RefusesKeyValues (table_view table.now) cluster_keys) }
+        (RefusesKeyValues (IsGood (table_view table.now)) cluster_keys) }
 {
     let environment = start_under(alloc, table)?;
     let store = store_under(table)?;
     let workload = workload_under(table)?;
-    let generator = generator_under(alloc, table)?;
+    let generator = generator_under(alloc, table, Key::Generator)?;
     Ok((environment, store, workload, generator))
 }
 
@@ -89,13 +91,13 @@ fn load_of(
     ensures { MatchResult result
         (λ parts. IsParsedLoad (table_view table.now)
         parts.0 parts.1 parts.2 parts.3 parts.4)
-        (RefusesKeyValues (table_view table.now) load_keys) }
+        (RefusesKeyValues (IsGood (table_view table.now)) load_keys) }
 {
     let clients = clients_under(table)?;
     let ops = ops_under(table, workload)?;
     let mode = mode_under(table)?;
     let volatile = truth_or(table, Key::Volatile, false)?;
-    let initial = initial_under(table, workload)?;
+    let initial = initial_under(table, is_register(workload))?;
     Ok((clients, ops, mode, volatile, initial))
 }
 
@@ -103,7 +105,7 @@ fn load_of(
 fn limits_of(table: &Table) -> Result<(u32, u32, u64, u64), SettingsError>
     ensures { MatchResult result
         (λ parts. AreParsedLimits (table_view table.now) parts.0 parts.1 parts.2 parts.3)
-        (RefusesKeyValues (table_view table.now) limit_keys) }
+        (RefusesKeyValues (IsGood (table_view table.now)) limit_keys) }
 {
     let tick_every = tick_every_under(table)?;
     let rows = rows_under(table)?;
@@ -112,9 +114,9 @@ fn limits_of(table: &Table) -> Result<(u32, u32, u64, u64), SettingsError>
     Ok((tick_every, rows, seed, budget))
 }
 
-/// The settings that the values of a table mean, read in the order of `Key`.
+/// The settings that the values of a table mean, read in the order of `run_keys`.
 fn settings_in(alloc: Global, table: &Table) -> Result<RunSettings, SettingsError>
-    requires { HasKnownKeys (table_view table.now) }
+    requires { HasKnownKeys rule.run_keys (table_view table.now) }
     ensures { MatchResult result
         (λ settings. AreSettings (table_view table.now) settings.plan settings.mode settings.budget)
         (RefusesDocumentValues (table_view table.now)) }
@@ -143,47 +145,13 @@ fn settings_in(alloc: Global, table: &Table) -> Result<RunSettings, SettingsErro
     Ok(RunSettings { plan, mode, budget })
 }
 
-/// The table that bytes mean, a TOML document in UTF-8.
-fn table_of(alloc: Global, bytes: &[u8]) -> Result<Table, SettingsError>
-    ensures { MatchResult result
-        (λ table. IsDocument bytes.now (table_view table))
-        (RefusesBytes bytes.now) }
-{
-    match toml::table_from_slice(alloc, bytes) {
-        Ok(table) => Ok(table),
-        Err(error) => {
-            if error.is_memory() {
-                Err(SettingsError::OutOfMemory)
-            } else {
-                Err(SettingsError::NotToml)
-            }
-        }
-    }
-}
-
-/// Looks at the keys of a table alone.
-fn judge_keys(alloc: Global, table: &Table) -> Result<(), SettingsError>
-    ensures { MatchResult result
-        (λ _. HasKnownKeys (table_view table.now)
-        × (rule.first_missing (table_view table.now) ≡ None))
-        (RefusesDocumentKeys (table_view table.now)) }
-{
-    if let Some(name) = first_unknown(table) {
-        return Err(SettingsError::Unknown(KeyText::of(alloc, name)?));
-    }
-    match first_missing(table) {
-        Some(key) => Err(SettingsError::Missing(key)),
-        None => Ok(()),
-    }
-}
-
 /// The settings that bytes mean, a TOML document in UTF-8. A missing mode means `Mode::Threads`.
 ///
 /// Takes time and memory in proportion to the bytes.
 ///
 /// Errors, in this order: `NotToml`; `Unknown` with the first key, in byte order, that no setting
 /// has; `Missing` with the first needed key that does not stand there; `BadValue` with the first
-/// key, in the order of `Key`, whose value is bad by itself, and then with `Generator` where it
+/// key, in their order, whose value is bad by itself, and then with `Generator` where it
 /// does not suit the workload and the number of clients (`Gen::suits`); `OutOfMemory` where memory
 /// was refused before another error was found.
 pub fn settings_of(alloc: Global, bytes: &[u8]) -> Result<RunSettings, SettingsError>
@@ -192,6 +160,6 @@ pub fn settings_of(alloc: Global, bytes: &[u8]) -> Result<RunSettings, SettingsE
         (RefusesSettings bytes.now) }
 {
     let table = table_of(alloc, bytes)?;
-    judge_keys(alloc, &table)?;
+    judge_keys(alloc, &table, run_keys(), needed_run_keys())?;
     settings_in(alloc, &table)
 }

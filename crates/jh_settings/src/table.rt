@@ -6,24 +6,24 @@
 ghost use Rattle.std.specs.Prelude.{◌≡◌, ◌≤◌, option_map, IfSome, IfOk};
 ghost use Rattle.toml.specs.Data.{as_bool};
 ghost use Rattle.toml.specs.View.{table_view, view};
-ghost use Rattle.jh_settings.specs.Inside.{IsValueParsed};
 ghost use Rattle.jh_settings.specs.Keys.{data_under};
 ghost use Rattle.jh_settings.specs.Kinds.{needed_value, value_or_default, text_under};
 ghost use Rattle.jh_settings.specs.Kinds.{whole_number_in};
+ghost use Rattle.jh_settings.specs.Readers.{IsValueParsed};
 
 use crate::error::SettingsError;
 use crate::keys::Key;
 use toml::{Table, Value};
 
-/// The value under a key.
-pub(crate) fn value_under<'a>(table: &'a Table, key: Key) -> Option<&'a Value>
+/// The value under a key. None where nothing stands there.
+pub fn value_under<'a>(table: &'a Table, key: Key) -> Option<&'a Value>
     ensures { option_map (λ value. view value.now) result ≡ data_under key (table_view table.now) }
 {
     table.get(key.as_str())
 }
 
-/// The text under a key.
-pub(crate) fn text_under<'a>(table: &'a Table, key: Key) -> Option<&'a str>
+/// The text under a key. None where nothing stands there, or what stands there is no text.
+pub fn text_under<'a>(table: &'a Table, key: Key) -> Option<&'a str>
     ensures { option_map (λ text. text.now) result ≡ text_under key (table_view table.now) }
 {
     match value_under(table, key) {
@@ -33,7 +33,7 @@ pub(crate) fn text_under<'a>(table: &'a Table, key: Key) -> Option<&'a str>
 }
 
 /// The number, where it is from the least to the most.
-fn whole_in(value: &Value, least: u64, most: u64) -> Option<u64>
+pub fn whole_in(value: &Value, least: u64, most: u64) -> Option<u64>
     ensures number { result ≡ whole_number_in least most (view value.now) }
     ensures within { IfSome result (λ number. number ≤ most) }
 {
@@ -46,12 +46,9 @@ fn whole_in(value: &Value, least: u64, most: u64) -> Option<u64>
 }
 
 /// The number under a key, from the least to the most.
-pub(crate) fn number_under(
-    table: &Table,
-    key: Key,
-    least: u64,
-    most: u64,
-) -> Result<u64, SettingsError>
+///
+/// Errors: `BadValue` with the key where no such number stands there.
+pub fn number_under(table: &Table, key: Key, least: u64, most: u64) -> Result<u64, SettingsError>
     ensures parsed { IsValueParsed result key
         (needed_value (whole_number_in least most) key (table_view table.now)) }
     ensures within { IfOk result (λ number. number ≤ most) }
@@ -65,8 +62,10 @@ pub(crate) fn number_under(
     }
 }
 
-/// The same, and a default where nothing stands under the key.
-pub(crate) fn number_or(
+/// The number under a key, from the least to the most, and a default where nothing stands there.
+///
+/// Errors: `BadValue` with the key where another value stands there.
+pub fn number_or(
     table: &Table,
     key: Key,
     default: u64,
@@ -78,10 +77,10 @@ pub(crate) fn number_or(
         (value_or_default default (whole_number_in least most) key (table_view table.now)) }
     ensures within { IfOk result (λ number. number ≤ most) }
 {
-    let Some(value) = value_under(table, key) else {
+    let Some(given) = value_under(table, key) else {
         return Ok(default);
     };
-    match whole_in(value, least, most) {
+    match whole_in(given, least, most) {
         Some(number) => Ok(number),
         None => Err(SettingsError::BadValue(key)),
     }

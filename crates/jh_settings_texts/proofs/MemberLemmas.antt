@@ -12,9 +12,9 @@ use Rattle.jh_simnode.specs.declared.schedule.Entry.{Entry}
 use Rattle.jh_simnode.specs.Plans.{PlanValue}
 use Rattle.jh_settings.specs.declared.keys.Key.{Key}
 use Rattle.jh_settings.specs.declared.choices.Mode.{Mode}
-use Rattle.jh_settings.specs.Keys.{HasKnownKeys, data_under, is_key_name}
+use Rattle.jh_settings.specs.Keys.{HasKnownKeys, data_under, is_key_name, run_keys}
 use Rattle.jh_settings.specs.Kinds.{choice_in, needed_value, whole_number_in}
-use Rattle.jh_settings.specs.Parsed.{store_of, mode_of, initial_of, parsed_store, parsed_workload, parsed_clients, parsed_ops, parsed_mode, parsed_volatile, parsed_initial, parsed_tick_every, parsed_rows, parsed_seed, parsed_budget}
+use Rattle.jh_settings.specs.Parsed.{store_of, mode_of, is_register, initial_of, parsed_store, parsed_workload, parsed_clients, parsed_ops, parsed_mode, parsed_volatile, parsed_initial, parsed_tick_every, parsed_rows, parsed_seed, parsed_budget}
 use Rattle.jh_settings_texts.specs.DocumentWritten.{document_of, keyed_members, members_before_initial, initial_member, members_behind_initial, store_name, printed_text, whole_number, schedule_texts}
 
 -- the document, with this held at first
@@ -22,7 +22,7 @@ abbrev pub document_with : PlanValue → ℕ → Option ℤ → Members
 document_with p budget o = keyed_members (members_before_initial p budget ++ (initial_member o ++ members_behind_initial p))
 
 module _ (p : PlanValue) (budget : ℕ) where
-  known_with : (o : Option ℤ) → HasKnownKeys (document_with p budget o)
+  known_with : (o : Option ℤ) → HasKnownKeys run_keys (document_with p budget o)
   unfolding is_key_name
   known_with None = refl
   known_with (Some z) = refl
@@ -75,7 +75,7 @@ module _ (p : PlanValue) (budget : ℕ) where
 
   -- ---- what is found in the document itself
 
-  pub known_keys : HasKnownKeys (document_of p budget)
+  pub known_keys : HasKnownKeys run_keys (document_of p budget)
   known_keys = known_with p.settings.initial
 
   pub schedule_there : data_under Key.Schedule (document_of p budget) ≡ Some (array (schedule_texts p.env.names p.schedule))
@@ -103,16 +103,16 @@ workload_back Workload.Ids = refl
 whole_back : (least most n : ℕ) → least ≤ n → n ≤ most → whole_number_in least most (whole_number n) ≡ Some n
 whole_back least most n low high = rw (le-leb least n low, le-leb n most high) refl
 
-initial_none : (w : Workload) → initial_of w None ≡ Some None
+initial_none : (w : Workload) → initial_of (is_register w) None ≡ Some None
 initial_none Workload.Register = refl
 initial_none Workload.Counter = refl
 initial_none Workload.Set = refl
 initial_none Workload.Ids = refl
 
 module _ (p : PlanValue) (budget : ℕ) where
-  initial_back : (w : Workload) (o : Option ℤ) → IfSome o (λ _. w ≡ Workload.Register) → initial_of w (data_under Key.Initial (document_with p budget o)) ≡ Some o
-  initial_back w None h = ap (initial_of w) (no_initial p budget) ∙ initial_none w
-  initial_back w (Some z) h = ap (initial_of w) (some_initial p budget z) ∙ ap (λ v. initial_of v (Some (integer z))) h
+  initial_back : (w : Workload) (o : Option ℤ) → IfSome o (λ _. w ≡ Workload.Register) → initial_of (is_register w) (data_under Key.Initial (document_with p budget o)) ≡ Some o
+  initial_back w None h = ap (initial_of (is_register w)) (no_initial p budget) ∙ initial_none w
+  initial_back w (Some z) h = ap (initial_of (is_register w)) (some_initial p budget z) ∙ ap (λ v. initial_of (is_register v) (Some (integer z))) h
 
   pub store_parsed : parsed_store (document_of p budget) ≡ Some p.settings.store
   store_parsed = ap (λ d. option_and_then store_of (option_and_then as_str d)) (store_with p budget p.settings.initial) ∙ store_back p.settings.store
@@ -137,7 +137,7 @@ module _ (p : PlanValue) (budget : ℕ) where
 
   pub initial_parsed : IfSome p.settings.initial (λ _. p.settings.workload ≡ Workload.Register) → parsed_initial (document_of p budget) ≡ Some p.settings.initial
   initial_parsed h =
-      ap (option_and_then (λ w. initial_of w (data_under Key.Initial (document_of p budget)))) workload_parsed
+      ap (option_and_then (λ w. initial_of (is_register w) (data_under Key.Initial (document_of p budget)))) workload_parsed
       ∙ initial_back p.settings.workload p.settings.initial h
 
   pub tick_every_parsed : p.tick_every ≤ 10000 → parsed_tick_every (document_of p budget) ≡ Some p.tick_every

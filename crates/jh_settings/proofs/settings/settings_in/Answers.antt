@@ -3,6 +3,7 @@ use Rattle.std.proofs.lemmas.Result.{err_from_is_err_and}
 use Rattle.toml.specs.View.{table_view}
 use Rattle.jh_simnode.specs.declared.plan.PlanData.{PlanData}
 use Rattle.jh_settings.specs.Inside.{RefusesDocumentValues, cluster_keys, load_keys, limit_keys}
+use Rattle.jh_settings.specs.Refusals.{IsGood}
 use Rattle.jh_settings.specs.declared.keys.Key.{Key}
 use Rattle.jh_settings.proofs.OrderLemmas.{refused_front, refused_behind, all_refused, cluster_good, load_good, limits_good, schedule_refused}
 use Rattle.jh_settings.proofs.PlanLemmas.{AreParsedParts, planned_settings, planned_refusal}
@@ -13,8 +14,8 @@ returns-in_err-clients c =
     let d = table_view c.args.table.now in
     let e = c.in_err-clients.field-0.0 in
     let cluster = cluster_good c.in_ok-environment.ensures in
-    let load = refused_front d load_keys (limit_keys ++ Key.Schedule ∷ []) e c.in_err-clients.ensures in
-    let refused : RefusesDocumentValues d e = all_refused d e (refused_behind d cluster_keys (load_keys ++ (limit_keys ++ Key.Schedule ∷ [])) e cluster load) in
+    let load = refused_front (IsGood d) load_keys (limit_keys ++ Key.Schedule ∷ []) e c.in_err-clients.ensures in
+    let refused : RefusesDocumentValues d e = all_refused d e (refused_behind (IsGood d) cluster_keys (load_keys ++ (limit_keys ++ Key.Schedule ∷ [])) e cluster load) in
     let p = err_from_is_err_and c.from_residual-in_err-clients.result c.from_residual-in_err-clients.ensures.1 in
     rw (p.1, p.2) refused
 
@@ -22,9 +23,9 @@ pub returns-in_err-tick_every : goal.returns-in_err-tick_every
 returns-in_err-tick_every c =
     let d = table_view c.args.table.now in
     let e = c.in_err-tick_every.field-0.0 in
-    let limits = refused_front d limit_keys (Key.Schedule ∷ []) e c.in_err-tick_every.ensures in
-    let behind = refused_behind d load_keys (limit_keys ++ Key.Schedule ∷ []) e (load_good c.in_ok-clients.ensures) limits in
-    let refused : RefusesDocumentValues d e = all_refused d e (refused_behind d cluster_keys (load_keys ++ (limit_keys ++ Key.Schedule ∷ [])) e (cluster_good c.in_ok-environment.ensures) behind) in
+    let limits = refused_front (IsGood d) limit_keys (Key.Schedule ∷ []) e c.in_err-tick_every.ensures in
+    let behind = refused_behind (IsGood d) load_keys (limit_keys ++ Key.Schedule ∷ []) e (load_good c.in_ok-clients.ensures) limits in
+    let refused : RefusesDocumentValues d e = all_refused d e (refused_behind (IsGood d) cluster_keys (load_keys ++ (limit_keys ++ Key.Schedule ∷ [])) e (cluster_good c.in_ok-environment.ensures) behind) in
     let p = err_from_is_err_and c.from_residual-in_err-tick_every.result c.from_residual-in_err-tick_every.ensures.1 in
     rw (p.1, p.2) refused
 
@@ -34,9 +35,9 @@ returns-in_err-schedule c =
     let e = c.in_err-schedule.field-0.0 in
     let names = rw c.nodes.ensures.names at c.in_err-schedule.ensures.parsed in
     let schedule = schedule_refused d c.in_ok-environment.environment e c.in_ok-environment.ensures.start names in
-    let limits = refused_behind d limit_keys (Key.Schedule ∷ []) e (limits_good c.in_ok-tick_every.ensures) schedule in
-    let behind = refused_behind d load_keys (limit_keys ++ Key.Schedule ∷ []) e (load_good c.in_ok-clients.ensures) limits in
-    let refused : RefusesDocumentValues d e = all_refused d e (refused_behind d cluster_keys (load_keys ++ (limit_keys ++ Key.Schedule ∷ [])) e (cluster_good c.in_ok-environment.ensures) behind) in
+    let limits = refused_behind (IsGood d) limit_keys (Key.Schedule ∷ []) e (limits_good c.in_ok-tick_every.ensures) schedule in
+    let behind = refused_behind (IsGood d) load_keys (limit_keys ++ Key.Schedule ∷ []) e (load_good c.in_ok-clients.ensures) limits in
+    let refused : RefusesDocumentValues d e = all_refused d e (refused_behind (IsGood d) cluster_keys (load_keys ++ (limit_keys ++ Key.Schedule ∷ [])) e (cluster_good c.in_ok-environment.ensures) behind) in
     let p = err_from_is_err_and c.from_residual-in_err-schedule.result c.from_residual-in_err-schedule.ensures.1 in
     rw (p.1, p.2) refused
 
