@@ -21,6 +21,9 @@ use Rattle.jh_simnode.specs.Histories.{request_name}
 use Rattle.jh_txn_histories.specs.Written.{is_equal}
 use Rattle.jh_conversation.specs.Machine.{Machine}
 use Rattle.jh_conversation.specs.Machine.{hear, new_callers, caller_process, caller_of}
+use Rattle.jh_test_parts.specs.Said.{LineSaid, Nothing, Clock, Stop, Reply, Bad, kept_pairs, line_said}
+use Rattle.jh_test_parts.specs.Test.{thread_of_process}
+use Rattle.jh_test_parts.specs.Values.{fits_call}
 use Rattle.jh_test_parts.specs.Transactions.{first_source}
 use Rattle.jh_test_parts.specs.Test.{TestValue}
 use Rattle.jh_conversation.specs.Turn.{turn}

@@ -8,6 +8,7 @@ use Rattle.std.specs.List.{AllByRecursion}
 use Rattle.jh_gen.specs.DriverState.{DriverState, IsFresh, max_calls}
 use Rattle.jh_nemesis.specs.State.{State}
 use Rattle.jh_conversation.specs.Machine.{Machine, are_free, has_no_call, no_caller}
+use Rattle.jh_test_parts.specs.Records.{IsWritableRecord}
 use Rattle.jh_test_parts.specs.Test.{TestValue}
 use Rattle.jh_conversation.specs.declared.callers.Caller.{Caller}
 use Rattle.jh_conversation.specs.declared.callers.OpenStep.{OpenStep}

@@ -23,7 +23,7 @@ use Rattle.jh_simnode.specs.Histories.{asked_content, code_of}
 use Rattle.jh_conversation.specs.Machine.{Machine}
 use Rattle.jh_conversation.specs.Machine.{are_free, has_no_call, new_callers, caller_process, say}
 use Rattle.jh_conversation.specs.Machine.{caller_of}
-use Rattle.jh_test_parts.specs.Test.{TestValue}
+use Rattle.jh_test_parts.specs.Test.{TestValue, node_of_thread}
 use Rattle.jh_test_parts.specs.Told.{cells_told}
 use Rattle.jh_test_parts.specs.declared.calls.Asked.{Asked}
 use Rattle.jh_conversation.specs.declared.callers.OpenStep.{OpenStep}
