@@ -1,5 +1,6 @@
 -- What is written of a search, and why one is refused.
-use Rattle.std.proofs.Common.{◌≡◌, ℕ, ◌<◌, ◌≤◌, ◌^◌, List, ◌++◌, codes, Some, refl, subst, sym, ◌∙◌, arith}
+use Rattle.std.proofs.Common.{◌≡◌, ℕ, ◌<◌, ◌≤◌, ◌^◌, List, ◌++◌, codes, Some, refl, subst, sym, ◌∙◌}
+use Rattle.std.proofs.Common.{arith}
 use Rattle.std.specs.Fmt.{decimal}
 use Rattle.jh_simnode.specs.Plans.{PlanValue}
 use Rattle.jh_search.specs.Candidates.{candidate_of}
@@ -12,13 +13,18 @@ use Rattle.jh_settings.specs.declared.choices.Mode.{Mode}
 use Rattle.jh_settings.specs.declared.keys.Key.{Key}
 use Rattle.jh_settings.proofs.PlanLemmas.{default_is}
 use Rattle.jh_settings_texts.specs.Comments.{IsComment, behind_comment}
-use Rattle.jh_settings_texts.specs.SettingsWritten.{plan_in_order}
+use Rattle.jh_settings_texts.specs.SettingsWritten.{CanBeWritten, plan_in_order}
 use Rattle.jh_settings_texts.proofs.CommentedLemmas.{number_in_comment, both_in_comment}
 use Rattle.jh_cli.specs.SearchRefusals.{RefusesSearch, RefusesSearchBytes}
 use Rattle.jh_cli.specs.SearchText.{IsFoundText, candidate_comment}
 use Rattle.jh_cli.specs.Status.{search_error}
 use Rattle.jh_cli.specs.declared.error.CliError.{CliError}
-use Rattle.jh_cli.specs.declared.error.CliError.TheVariants.{Input, EnvironmentMissing, Environment, Element, History, Check, Settings, Run, HistoryFull, Mismatch, Thread, OnlyForRegister, OnlyForListAppend, BadPalette, Unwritable, Read, Write, OutOfMemory}
+use Rattle.jh_cli.specs.declared.error.CliError.TheVariants.{Input, EnvironmentMissing, Environment}
+use Rattle.jh_cli.specs.declared.error.CliError.TheVariants.{Element, History, Check, Settings, Run}
+use Rattle.jh_cli.specs.declared.error.CliError.TheVariants.{HistoryFull, Mismatch, Thread}
+use Rattle.jh_cli.specs.declared.error.CliError.TheVariants.{OnlyForRegister, OnlyForListAppend}
+use Rattle.jh_cli.specs.declared.error.CliError.TheVariants.{BadPalette, Unwritable, Read, Write}
+use Rattle.jh_cli.specs.declared.error.CliError.TheVariants.{OutOfMemory}
 use Rattle.jh_cli.specs.declared.search_command.SearchQuestion.{SearchQuestion}
 
 -- the comment before a candidate is one
@@ -45,9 +51,9 @@ pub budget_few : (input : List ℕ) (p : PlanValue) (mode : Mode) (budget : ℕ)
 budget_few input p mode budget are =
     (default_is 0 10000000 100000 (data_under Key.Budget are.0) budget (omega arith) (omega arith) are.2.budget).1
 
-pub search_refused : (input : List ℕ) (e : SearchError) → RefusesSearchBytes input (search_error e)
-search_refused input search.Thread = tt
-search_refused input search.OutOfMemory = tt
+pub search_refused : (input : List ℕ) (p : PlanValue) (mode : Mode) (budget : ℕ) (e : SearchError) → AreSettingsOf input p mode budget → CanBeWritten p → RefusesSearchBytes input (search_error e)
+search_refused input p mode budget search.Thread are can = (p, mode, budget, are, can)
+search_refused input p mode budget search.OutOfMemory are can = tt
 
 -- why the plan that bytes mean is not searched is why the command refuses them
 pub refused_by_bytes : (question : SearchQuestion) (input : List ℕ) (e : CliError) → RefusesSearchBytes input e → RefusesSearch question input e

@@ -1,13 +1,10 @@
 -- Steps that are parsed one after another.
-use Rattle.std.proofs.Common.{◌≡◌, ℕ, suc, ◌+◌, ◌<◌, List, [], ◌∷◌, ◌++◌, length, take, drop, get_or, ap, sym, ◌∙◌, arith, drop-cons, inl, inr}
-use Rattle.std.specs.Prelude.{map, ◌⊎◌, Some, Ok, Err, IsOk, pos, slice_get}
-use Rattle.std.proofs.lemmas.Option.{slice_get_within, get_or_from_slice_get}
-use Rattle.std.proofs.lemmas.List.{length-map, map-append, length-take-le, take-append-drop, take_more}
-use Rattle.jh_edn.specs.Edn.{int}
+use Rattle.std.proofs.Common.{◌≡◌, ℕ, suc, ◌+◌, ◌<◌, List, ◌∷◌, ◌++◌, length, take, drop, get_or}
+use Rattle.std.proofs.Common.{ap, sym, ◌∙◌, arith, drop-cons, inl, inr}
+use Rattle.std.specs.Prelude.{map, ◌⊎◌, Ok, Err, IsOk}
+use Rattle.std.proofs.lemmas.List.{length-map, map-append, length-take-le, take-append-drop}
 use Rattle.jh_edn.specs.View.{view, views}
 use Rattle.jh_edn.specs.declared.value.Value.{Value}
-use Rattle.jh_env.specs.Faults.{FaultValue}
-use Rattle.jh_nemesis.specs.State.{Active}
 use Rattle.jh_step_texts.specs.StepText.{parsed_step}
 use Rattle.jh_nemesis.specs.declared.steps.Step.{Step}
 use Rattle.jh_step_texts.specs.declared.steps.StepTextError.TheVariants as StepTextError
@@ -46,10 +43,3 @@ refuses_element names values i v steps StepTextError.UnknownNode e below is pars
 refuses_element names values i v steps StepTextError.SelfLink e below is parsed (inl at) named = rw named (has_step_error names values i v steps StepTextError.SelfLink below is parsed at)
 refuses_element names values i v steps StepTextError.BadAmount e below is parsed (inl at) named = rw named (has_step_error names values i v steps StepTextError.BadAmount below is parsed at)
 refuses_element names values i v steps error e below is parsed (inr memory) named = absurd (let bad = memory.0 in cc)
-
--- the id of one more active error
-pub one_more_id : (active : Active) (i : ℕ) (id : ℕ) (f : FaultValue) → slice_get active i ≡ Some (id, f)
-    → map (λ fault. int (pos fault.0)) (take (i + 1) active) ≡ map (λ fault. int (pos fault.0)) (take i active) ++ int (pos id) ∷ []
-one_more_id active i id f is =
-    let below = slice_get_within active i (id, f) is in
-    rw (take_more active i (id, f) below, get_or_from_slice_get active i (id, f) (id, f) is) (map-append (λ fault. int (pos fault.0)) (take i active) ((id, f) ∷ []))

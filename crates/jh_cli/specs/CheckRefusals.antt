@@ -7,12 +7,11 @@ use Rattle.jh_edn.specs.Refused as edn
 use Rattle.jh_ops.specs.Operation.{Operation}
 use Rattle.jh_ops.specs.HistoryText as histories
 use Rattle.jh_check.specs.declared.error.CheckError.{CheckError}
-use Rattle.jh_check.specs.declared.error.CheckError.TheVariants as CheckErrors
-use Rattle.jh_checkers.specs.Findings.{RefusesChecking}
 use Rattle.jh_independent.specs.Refusals.{RefusesKeys, keys_question}
 use Rattle.jh_independent.specs.declared.error.KeysError.{KeysError}
 use Rattle.jh_checkers.specs.declared.checker.Checker.{Checker}
 use Rattle.jh_checkers.specs.declared.finding.Judging.{Judging}
+use Rattle.jh_reports.specs.Judged.{RefusesLine}
 use Rattle.jh_cli.specs.CheckText.{TakesInitial, TakesModel, IsCheckTextOf}
 use Rattle.jh_cli.specs.Status.{check_error, keys_error, IsInputError, IsHistoryError}
 use Rattle.jh_cli.specs.declared.check_command.Question.{Question}
@@ -21,11 +20,7 @@ use Rattle.jh_cli.specs.declared.error.CliError.TheVariants.{Input, History, Onl
 use Rattle.jh_cli.specs.declared.error.CliError.TheVariants.{OnlyForListAppend, Read, Write}
 use Rattle.jh_cli.specs.declared.error.CliError.TheVariants.{OutOfMemory}
 
--- why no line is made of a history, judged as one: its checker refuses it, or memory runs out
-abbrev pub RefusesLine : Checker → List Operation → CheckError → Type 0
-RefusesLine checker history CheckErrors.OutOfMemory = Unit {0}
-RefusesLine checker history error = RefusesChecking checker history error
-
+-- a history is not judged as one
 abbrev pub RefusesWhole : Checker → List Operation → CliError → Type 0
 RefusesWhole checker history e =
     (error : CheckError) × RefusesLine checker history error × (e ≡ check_error error)

@@ -11,7 +11,7 @@ use Rattle.jh_nemesis.specs.Steps.{answers_of, state_after_all}
 use Rattle.jh_step_texts.specs.StepText.{parsed_step}
 use Rattle.jh_nemesis.specs.declared.steps.Step.{Step}
 use Rattle.jh_nemesis.specs.declared.steps.StepAnswer.{StepAnswer}
-use Rattle.jh_cli.specs.Lines.{IsEnvOf, active_line, environment_line, line}
+use Rattle.jh_reports.specs.Lines.{IsEnvOf, active_line, environment_line, line}
 
 abbrev pub answer_keyword : StepAnswer → List ℕ
 answer_keyword StepAnswer.Ok = codes ":ok"

@@ -1,6 +1,5 @@
 pub mod Status
 pub mod Outputs
-pub mod Lines
 pub mod EnvText
 pub mod EnvRefusals
 pub mod CheckText

@@ -1,8 +1,6 @@
--- The frame of the commands (this project's own): what each writes for the bytes that it reads, and
--- the exit status of a verdict.
+-- The frame of the commands (this project's own): what each writes for the bytes that it reads.
 use Rattle.std.specs.Prelude.{ℕ, List, Option, IfSome}
 use Rattle.std.specs.Io.KnownBytes.{Appends}
-use Rattle.jh_check.specs.declared.verdict.Verdict.{Verdict}
 
 -- It holds of the bytes that a reader gives, where these are known. Of a file, a pipe or a terminal
 -- no contract knows them: there nothing is said.
@@ -16,9 +14,3 @@ abbrev pub WritesOutput : Option (List ℕ) → (List ℕ → ℕ → List ℕ �
 WritesOutput input IsTextOf status before after =
     OnInput input (λ bytes.
     (output : List ℕ) × IsTextOf bytes status output × Appends before after output)
-
--- the exit status of a verdict
-abbrev pub verdict_status : Verdict → ℕ
-verdict_status Verdict.True = 0
-verdict_status Verdict.False = 1
-verdict_status Verdict.Unknown = 2

@@ -1,13 +1,9 @@
 -- What `jeprun run` writes (this project's own): a line for each operation of the run's history, as
 -- Jepsen writes histories, a line with the ids of the active faults, one with the environment, and
 -- the line of the checker of the workload.
-use Rattle.std.specs.Prelude.{◌≡◌, ℕ, List, ◌++◌}
-use Rattle.std.specs.List.{flat_map}
-use Rattle.jh_edn.specs.Print.{print}
-use Rattle.jh_env.specs.Overlay.{EnvValue}
+use Rattle.std.specs.Prelude.{◌≡◌, ℕ, List}
 use Rattle.jh_nemesis.specs.State.{State}
 use Rattle.jh_ops.specs.Operation.{Operation}
-use Rattle.jh_ops.specs.OperationWritten.{value_written}
 use Rattle.jh_checkers.specs.Findings.{IsFinding, finding_verdict}
 use Rattle.jh_checkers.specs.Lines.{finding_line}
 use Rattle.jh_checkers.specs.declared.finding.Finding.{Finding}
@@ -21,20 +17,14 @@ use Rattle.jh_workers.specs.Shown.{IsJournal}
 use Rattle.jh_judged_runs.specs.JudgedRuns.{IsJudgedRun, run_judging}
 use Rattle.jh_settings.specs.Settings.{AreSettingsOf}
 use Rattle.jh_settings.specs.declared.choices.Mode.{Mode}
-use Rattle.jh_cli.specs.Lines.{IsEnvOf, active_line, environment_line, line}
-use Rattle.jh_cli.specs.Outputs.{verdict_status}
-
--- a line for each operation
-abbrev pub output_lines : List Operation → List ℕ
-output_lines history = flat_map (λ op. line (print (value_written op))) history
+use Rattle.jh_reports.specs.Lines.{line}
+use Rattle.jh_reports.specs.Reports.{IsTestReport, verdict_status}
 
 -- The lines of a history, of what the faults of a state make, and of what is found, with the exit
 -- status.
 abbrev pub IsRunOutput : State → List Operation → Finding → ℕ → List ℕ → Type 0
 IsRunOutput last history finding status output =
-    (env : EnvValue) × IsEnvOf last env
-    × (output ≡ output_lines history
-    ++ (active_line last.active ++ (environment_line env ++ line (finding_line finding))))
+    IsTestReport last history (line (finding_line finding)) output
     × (status ≡ verdict_status (finding_verdict finding))
 
 -- for a plan that is run serially

@@ -15,14 +15,16 @@ use Rattle.jh_cli.specs.declared.error.CliError.TheVariants.{OutOfMemory}
 use Rattle.jh_cli.specs.declared.search_command.SearchQuestion.{SearchQuestion}
 
 -- Why the candidates of the plan that bytes mean are not searched. One whose generator is nested as
--- deep as a text may be, where it is written in another way, can't be written again.
+-- deep as a text may be, where it is written in another way, can't be written again; threads are asked
+-- for only where it can.
 abbrev pub RefusesSearchBytes : List ℕ → CliError → Type 0
 RefusesSearchBytes input (Settings error) =
     IsSettingsError error × settings.RefusesSettings input error
 RefusesSearchBytes input Unwritable =
     (p : PlanValue) × (mode : Mode) × (budget : ℕ) × AreSettingsOf input p mode budget
     × (CanBeWritten p → ⊥)
-RefusesSearchBytes input Thread = ⊤
+RefusesSearchBytes input Thread =
+    (p : PlanValue) × (mode : Mode) × (budget : ℕ) × AreSettingsOf input p mode budget × CanBeWritten p
 RefusesSearchBytes input OutOfMemory = ⊤
 RefusesSearchBytes input e = ⊥
 

@@ -14,7 +14,7 @@ use Rattle.jh_shrink.specs.declared.shrinking.Shrunk.TheVariants.{Minimal, Budge
 use Rattle.jh_settings.specs.Settings.{AreSettingsOf}
 use Rattle.jh_settings_texts.specs.DocumentWritten.{entry_value}
 use Rattle.jh_settings.specs.declared.choices.Mode.{Mode}
-use Rattle.jh_cli.specs.Lines.{line}
+use Rattle.jh_reports.specs.Lines.{line}
 
 -- ---- when a run fails
 

@@ -17,7 +17,7 @@ use Rattle.jh_sections.specs.HistoryAndRest.{AreHistoryAndRest}
 use Rattle.jh_sections.specs.Sections.{IsSectionOf}
 use Rattle.jh_sections.specs.declared.window.Choice.{Choice}
 use Rattle.jh_cli.specs.CheckText.{TakesInitial, TakesModel}
-use Rattle.jh_cli.specs.Outputs.{verdict_status}
+use Rattle.jh_reports.specs.Reports.{verdict_status}
 use Rattle.jh_cli.specs.declared.timeline_command.TimelineQuestion.{TimelineQuestion}
 
 -- An initial value is for a register alone.

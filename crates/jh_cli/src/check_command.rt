@@ -7,17 +7,18 @@ ghost use Rattle.std.specs.Prelude.{MatchResult};
 ghost use Rattle.jh_ops.specs.Operation.{operations};
 ghost use Rattle.jh_cli.specs.CheckRefusals.{RefusesByKeys, RefusesCheck, RefusesJudging};
 ghost use Rattle.jh_cli.specs.CheckRefusals.{RefusesWhole};
-ghost use Rattle.jh_cli.specs.CheckText.{IsCheckTextOf, IsHistoryText, IsKeysText, IsWholeText};
+ghost use Rattle.jh_cli.specs.CheckText.{IsCheckTextOf, IsHistoryText};
 ghost use Rattle.jh_cli.specs.CheckText.{TakesInitial, TakesModel};
 ghost use Rattle.jh_cli.specs.Outputs.{OnInput, WritesOutput};
+ghost use Rattle.jh_reports.specs.Judged.{IsKeysText, IsWholeText};
 
 use crate::error::CliError;
-use crate::lines::{finding_text, keys_text};
-use crate::output::{MAX_READS, Output, finish, status_of};
-use jh_checkers::{Checker, Judging, check_history};
+use crate::output::{MAX_READS, finish};
+use jh_checkers::{Checker, Judging};
 use jh_histories::read_history;
-use jh_independent::{check_keys, verdict_of_all};
+use jh_independent::check_keys;
 use jh_ops::Op;
+use jh_reports::{Output, output_of_keys};
 use std::alloc::Global;
 use std::io::{Read, Write};
 use std::sync::Wait;
@@ -118,13 +119,7 @@ fn judge_whole(alloc: Global, history: &[Op], judging: Judging) -> Result<Output
         (λ output. IsWholeText judging (operations history.now) output.status output.text.items)
         (RefusesWhole judging.checker (operations history.now)) }
 {
-    let finding = check_history(alloc, history, judging)?;
-    let mut text = finding_text(alloc, &finding)?;
-    text.push(b'\n')?;
-    Ok(Output {
-        status: status_of(finding.verdict()),
-        text,
-    })
+    Ok(jh_reports::judge_whole(alloc, history, judging)?)
 }
 
 /// What is written for the history of each key.
@@ -141,11 +136,5 @@ fn judge_keys<T: Threads + Wait + Sync>(
         (RefusesByKeys judging (operations history.now)) }
 {
     let found = check_keys(rt, alloc, history, judging, threads)?;
-    let verdict = verdict_of_all(alloc, &found)?;
-    let mut text = keys_text(alloc, verdict, &found)?;
-    text.push(b'\n')?;
-    Ok(Output {
-        status: status_of(verdict),
-        text,
-    })
+    Ok(output_of_keys(alloc, &found)?)
 }

@@ -11,16 +11,16 @@ ghost use Rattle.jh_nemesis.specs.Steps.{FitsNodes, StepFits, answers_of, state_
 ghost use Rattle.jh_cli.specs.EnvRefusals.{RefusesEnv, RefusesSteps, RefusesEnvValues};
 ghost use Rattle.jh_cli.specs.EnvText as text;
 ghost use Rattle.jh_cli.specs.EnvText.{IsEnvText, IsEnvTextOf, IsReport, answer_lines};
-ghost use Rattle.jh_cli.specs.Lines.{line};
+ghost use Rattle.jh_reports.specs.Lines.{line};
 ghost use Rattle.jh_cli.specs.Outputs.{OnInput, WritesOutput};
 ghost use Rattle.jh_cli.specs.Status.{step_error};
 
 use crate::error::CliError;
-use crate::lines::{write_active, write_environment};
-use crate::output::{MAX_READS, Output, finish};
+use crate::output::{MAX_READS, finish};
 use jh_edn::{Value, read_all};
 use jh_env::{Nodes, env_of_value};
 use jh_nemesis::{Nemesis, Step, StepAnswer};
+use jh_reports::{Output, write_active, write_environment};
 use jh_step_texts::{StepTextError, step_of_value};
 use std::alloc::{AllocError, Global};
 use std::io::{Read, Write};

@@ -7,7 +7,6 @@
 mod check_command;
 mod env_command;
 mod error;
-mod lines;
 mod output;
 mod run_command;
 mod search_command;

@@ -3,31 +3,27 @@
 //! `specs/RunText.antt`, why an input is refused or a run not completed in
 //! `specs/RunRefusals.antt`.
 
-ghost use Rattle.std.specs.Prelude.{◌≡◌, ◌≢◌, ◌++◌, [], OnOk, IfOk, IfErr, MatchResult};
-ghost use Rattle.jh_edn.specs.Print.{print};
-ghost use Rattle.jh_ops.specs.Operation.{operation, operations};
-ghost use Rattle.jh_ops.specs.OperationWritten.{value_written};
+ghost use Rattle.std.specs.Prelude.{◌≡◌, ◌≢◌, [], IfOk, IfErr, MatchResult};
+ghost use Rattle.jh_ops.specs.Operation.{operations};
 ghost use Rattle.jh_checkers.specs.Checkers.{checker_of};
 ghost use Rattle.jh_checkers.specs.Findings.{IsFinding};
 ghost use Rattle.jh_judged_runs.specs.JudgedRuns.{run_judging};
-ghost use Rattle.jh_cli.specs.Lines.{line};
 ghost use Rattle.jh_cli.specs.Outputs.{OnInput, WritesOutput};
 ghost use Rattle.jh_cli.specs.RunInside.{own_error};
 ghost use Rattle.jh_cli.specs.RunRefusals.{RefusesRunBytes, RefusesOwn, RefusesRun, RefusesSerial};
 ghost use Rattle.jh_cli.specs.RunRefusals.{RefusesRunIn, RefusesThreads};
-ghost use Rattle.jh_cli.specs.RunText as text;
 ghost use Rattle.jh_cli.specs.RunText.{IsOutcome, IsRunOutput, IsRunText, IsRunTextOf};
 ghost use Rattle.jh_cli.specs.RunText.{IsSerialText, IsThreadsText};
 
 use crate::error::CliError;
-use crate::lines::{finding_text, write_active, write_environment};
-use crate::output::{MAX_READS, Output, finish, status_of};
+use crate::output::{MAX_READS, finish};
 use jh_check::CheckError;
 use jh_checkers::{Finding, check_history};
 use jh_edn::read_bytes;
 use jh_judged_runs::{judge_run, run_judging};
 use jh_nemesis::Nemesis;
-use jh_ops::{Op, write_operation};
+use jh_ops::Op;
+use jh_reports::{Output, output_of_finding, write_report};
 use jh_settings::{Mode, RunSettings, settings_of};
 use jh_simnode::{Event, Plan, World, nemesis_after, world_of};
 use jh_workers::{LockedWorld, Outcome, RunError as ThreadsError, run};
@@ -219,38 +215,11 @@ fn output_of(
     ensures { IfOk result (λ output. IsRunOutput nemesis.now.state (operations history.now)
         finding.now output.status output.text.items) }
 {
-    let judged = finding_text(alloc, finding)?;
+    let found = output_of_finding(alloc, finding)?;
     let mut text = Vec::new(alloc);
-    write_history(history, &mut text)?;
-    write_active(alloc, nemesis, &mut text)?;
-    write_environment(alloc, nemesis.env(), &mut text)?;
-    text.extend_from_slice(&judged)?;
-    text.push(b'\n')?;
+    write_report(alloc, nemesis, history, &found.text, &mut text)?;
     Ok(Output {
-        status: status_of(finding.verdict()),
+        status: found.status,
         text,
     })
-}
-
-/// Writes a line for each operation.
-fn write_history(history: &[Op], output: &mut Vec<u8>) -> Result<(), AllocError>
-    ensures { OnOk result
-        (output.new.items ≡ output.old.items ++ text.output_lines (operations history.now)) }
-{
-    for op in history {
-        write_operation_line(op, output)?;
-    }
-    Ok(())
-}
-
-/// Writes the line of an operation.
-fn write_operation_line(op: &Op, output: &mut Vec<u8>) -> Result<(), AllocError>
-    ensures { OnOk result
-        (output.new.items ≡ output.old.items ++ line (print (value_written (operation op.now)))) }
-{
-    if write_operation(op, output).is_err() {
-        return Err(AllocError);
-    }
-    output.push(b'\n')?;
-    Ok(())
 }

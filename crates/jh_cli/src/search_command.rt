@@ -13,8 +13,9 @@ ghost use Rattle.jh_cli.specs.SearchText.{IsFoundText, IsSearchTextOf, IsSearche
 ghost use Rattle.jh_cli.specs.SearchText.{candidate_comment, search_options};
 
 use crate::error::CliError;
-use crate::output::{MAX_READS, Output, finish};
+use crate::output::{MAX_READS, finish};
 use jh_edn::read_bytes;
+use jh_reports::Output;
 use jh_search::{
     Options, Palette, SearchError, SearchObserver, Searched, candidate, search_observed,
 };

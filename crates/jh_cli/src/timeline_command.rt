@@ -18,12 +18,12 @@ ghost use Rattle.jh_cli.specs.TimelineText.{TakesInitialBy, TakesModelBy};
 
 use crate::check_command::{takes_initial, takes_model};
 use crate::error::CliError;
-use crate::lines::{finding_text, keys_text};
-use crate::output::{self, MAX_READS, Output, finish};
+use crate::output::{MAX_READS, finish};
 use jh_checkers::{Finding, Judging, check_history};
 use jh_independent::{check_keys_serial, verdict_of_all};
 use jh_ops::Op;
 use jh_pages::{Section, write_page};
+use jh_reports::{Output, finding_text, keys_text};
 use jh_sections::{Choice, HistoryAndRest, read_history_and_rest, section_of, sections_of_keys};
 use std::alloc::{AllocError, Global};
 use std::io::{Read, Write};
@@ -144,7 +144,7 @@ fn status_of(found: Option<&Finding>) -> u8
     ensures { result ≡ text.found_status (option_copied found.entry) }
 {
     match found {
-        Some(found) => output::status_of(found.verdict()),
+        Some(found) => jh_reports::status_of(found.verdict()),
         None => 0,
     }
 }
@@ -243,7 +243,7 @@ fn shown_judged(
     let line = keys_text(alloc, verdict, &findings)?;
     let sections = sections_of_keys(alloc, history, Some(findings), choice)?;
     Ok(Shown {
-        status: output::status_of(verdict),
+        status: jh_reports::status_of(verdict),
         line,
         sections,
     })

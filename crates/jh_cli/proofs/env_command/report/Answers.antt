@@ -1,7 +1,7 @@
 use Rattle.std.proofs.Common.{◌≡◌, ◌++◌, ◌∙◌, refl, append_assoc}
 use Rattle.jh_nemesis.specs.Steps.{answers_of, state_after_all}
 use Rattle.jh_cli.specs.EnvText.{answer_lines}
-use Rattle.jh_cli.specs.Lines.{active_line, environment_line}
+use Rattle.jh_reports.specs.Lines.{active_line, environment_line}
 use Rattle.jh_cli.proofs.env_command.report.Goals as goal
 
 pub returns : goal.returns

@@ -1,4 +1,4 @@
-use Rattle.std.proofs.Common.{◌≤◌, subst, sym}
+use Rattle.std.proofs.Common.{◌≤◌, subst, sym, rules}
 use Rattle.jh_search.specs.declared.options.Options.{Options}
 use Rattle.jh_cli.specs.SearchRefusals.{RefusesSearchBytes}
 use Rattle.jh_cli.specs.SearchText.{IsSearchedText}
@@ -25,4 +25,8 @@ returns-in-Ok g c =
     )
 
 pub returns : goal.returns
-returns g c = subst (RefusesSearchBytes c.args.input.now) (sym c.from.ensures) (search_refused c.args.input.now c.in-Err.error)
+returns g c =
+    let settings = c.in_ok-settings.settings in
+    subst (RefusesSearchBytes c.args.input.now) (sym c.from.ensures)
+    (search_refused c.args.input.now settings.plan settings.mode settings.budget c.in-Err.error c.in_ok-settings.ensures
+    (c.can_be_written.ensures.0 (search rules)))

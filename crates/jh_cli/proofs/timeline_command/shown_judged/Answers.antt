@@ -1,6 +1,6 @@
 use Rattle.std.proofs.Common.{◌∙◌, ap, Some}
 use Rattle.jh_independent.specs.Lines.{keys_line, verdict_of_all}
-use Rattle.jh_cli.specs.Outputs.{verdict_status}
+use Rattle.jh_reports.specs.Reports.{verdict_status}
 use Rattle.jh_cli.proofs.timeline_command.shown_judged.Goals as goal
 
 pub returns-clause-shows : goal.returns-clause-shows

@@ -4,9 +4,9 @@ use Rattle.std.proofs.lemmas.List.{map-append}
 use Rattle.std.proofs.lemmas.Option.{slice_get-get_or}
 use Rattle.jh_edn.specs.View.{view}
 use Rattle.jh_env.specs.Faults.{Cut}
-use Rattle.jh_cli.proofs.StepLemmas.{one_more_id}
-use Rattle.jh_cli.proofs.lines.active_ids.Goals as goal
-use Rattle.jh_cli.proofs.lines.active_ids.Goals.{in-Some+in_ok-push, in_default}
+use Rattle.jh_reports.proofs.IdLemmas.{one_more_id}
+use Rattle.jh_reports.proofs.lines.active_ids.Goals as goal
+use Rattle.jh_reports.proofs.lines.active_ids.Goals.{in-Some+in_ok-push, in_default}
 
 pub loop-place-preserved : goal.loop-place-preserved
 loop-place-preserved c =

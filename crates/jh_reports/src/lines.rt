@@ -8,7 +8,7 @@ ghost use Rattle.jh_edn.specs.View.{view};
 ghost use Rattle.jh_checkers.specs.Lines.{finding_line};
 ghost use Rattle.jh_independent.specs.Lines as keys;
 ghost use Rattle.jh_independent.specs.Lines.{keys_line};
-ghost use Rattle.jh_cli.specs.Lines.{active_line, environment_line, ids_of, line};
+ghost use Rattle.jh_reports.specs.Lines.{active_line, environment_line, ids_of, line};
 
 use jh_check::Verdict;
 use jh_checkers::{Finding, write_finding};
@@ -19,7 +19,7 @@ use jh_nemesis::Nemesis;
 use std::alloc::{AllocError, Global};
 
 /// The line of what is found in a history as one, without its line feed.
-pub(crate) fn finding_text(alloc: Global, finding: &Finding) -> Result<Vec<u8>, AllocError>
+pub fn finding_text(alloc: Global, finding: &Finding) -> Result<Vec<u8>, AllocError>
     ensures { IfOk result (λ text. text.items ≡ finding_line finding.now) }
 {
     let mut text = Vec::new(alloc);
@@ -30,7 +30,7 @@ pub(crate) fn finding_text(alloc: Global, finding: &Finding) -> Result<Vec<u8>, 
 }
 
 /// The line of what is found of all keys, with the verdict on them, without its line feed.
-pub(crate) fn keys_text(
+pub fn keys_text(
     alloc: Global,
     verdict: Verdict,
     found: &[KeyFinding],
@@ -46,7 +46,7 @@ pub(crate) fn keys_text(
 }
 
 /// Writes the ids of the active faults, in order.
-pub(crate) fn write_active(
+pub fn write_active(
     alloc: Global,
     nemesis: &Nemesis,
     output: &mut Vec<u8>,
@@ -80,18 +80,14 @@ fn active_ids(alloc: Global, nemesis: &Nemesis) -> Result<Value, AllocError>
 }
 
 /// Writes a line with an environment.
-pub(crate) fn write_environment(
-    alloc: Global,
-    env: &Env,
-    output: &mut Vec<u8>,
-) -> Result<(), AllocError>
+pub fn write_environment(alloc: Global, env: &Env, output: &mut Vec<u8>) -> Result<(), AllocError>
     ensures { OnOk result (output.new.items ≡ output.old.items ++ environment_line env.now) }
 {
     write_line(&value_of_env(alloc, env)?, output)
 }
 
 /// Writes a value and a line feed.
-pub(crate) fn write_line(value: &Value, output: &mut Vec<u8>) -> Result<(), AllocError>
+pub fn write_line(value: &Value, output: &mut Vec<u8>) -> Result<(), AllocError>
     ensures { OnOk result (output.new.items ≡ output.old.items ++ line (print (view value.now))) }
 {
     if write(value, output).is_err() {
