@@ -3,6 +3,7 @@ use Rattle.std.proofs.Common.{◌≡◌, ℕ, zero, suc, true, false, append-nil
 use Rattle.std.proofs.Common.{List, [], ◌∷◌, ◌++◌, length, get_or, take, drop, reverse, refl, sym}
 use Rattle.std.proofs.Common.{ap, ap₂, ◌∙◌, arith, subst, All}
 use Rattle.std.specs.Prelude.{if◌then◌else◌}
+use Rattle.std.specs.Prelude.{Result, Ok, Err, IfOk, OnOk}
 use Rattle.std.specs.List.{AllByRecursion}
 use Rattle.std.proofs.lemmas.List.{append_assoc, get_or-reverse, length-reverse, reverse-append}
 use Rattle.std.proofs.lemmas.List.{reverse-reverse, take-append-drop}
@@ -80,6 +81,16 @@ module _ (t : TestValue) (m : Machine) (records : List Recorded) (n : ℕ) (few 
       let all = record_lines t.start.names (length m.history - length m.said) (reverse m.said) in
       lines ∙ ap (λ l. out ++ l) (lines_are t m records n few history said ∙ sym (append-nil all))
       ∙ ap (λ b. out ++ (all ++ (if b then end_line else []))) (sym over)
+
+-- what follows where a call succeeded
+
+pub on_ok : {A E : Type 0} {P Q : Type 0} (r : Result A E) → (P → Q) → OnOk r P → OnOk r Q
+on_ok (Ok a) follows p = follows p
+on_ok (Err e) follows p = tt
+
+pub if_ok : {A E : Type 0} {P Q : A → Type 0} (r : Result A E) → ((a : A) → P a → Q a) → IfOk r P → IfOk r Q
+if_ok (Ok a) follows p = follows a p
+if_ok (Err e) follows p = tt
 
 -- the whole history
 

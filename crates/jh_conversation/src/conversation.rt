@@ -132,9 +132,9 @@ impl Conversation {
     /// The history, with an operation for each record, the oldest first.
     ///
     /// Error: memory was refused, now or for a line before.
-    pub fn into_history(self) -> Result<Vec<Op>, AllocError>
-        ensures { IfOk result
-            (λ history. operations history.items ≡ recorded_history self.test self.machine) }
+    pub fn history(&self) -> Result<Vec<Op>, AllocError>
+        ensures { IfOk result (λ history. operations history.items
+            ≡ recorded_history self.now.test self.now.machine) }
     {
         if self.has_failed {
             return Err(AllocError);
