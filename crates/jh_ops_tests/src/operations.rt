@@ -65,8 +65,10 @@ pub(crate) fn history(alloc: Global, text: &str) -> Option<Vec<u8>> {
 
 /// Prints an operation by `write_operation`, and a line feed.
 fn print_text(op: &Op, text: &mut Vec<u8>) -> Option<()> {
-    write_operation(op, text).ok()?;
-    text.push(b'\n').ok()
+    match write_operation(op, text) {
+        Ok(()) => text.push(b'\n').ok(),
+        Err(_) => None,
+    }
 }
 
 pub(crate) fn printed(alloc: Global, text: &str) -> Option<Vec<u8>> {
@@ -76,13 +78,27 @@ pub(crate) fn printed(alloc: Global, text: &str) -> Option<Vec<u8>> {
     Some(printed)
 }
 
-pub(crate) fn copied(alloc: Global, text: &str) -> Option<Vec<u8>> {
-    let op = op_once(alloc, text)?.ok()?;
+/// Prints a copy of an operation, and a line feed.
+fn print_copy(alloc: Global, op: &Op, text: &mut Vec<u8>) -> Option<()> {
+    print_text(&op.copy(alloc).ok()?, text)
+}
+
+/// Prints an operation with its function for a value, and a line feed.
+fn print_with_function(alloc: Global, op: &Op, text: &mut Vec<u8>) -> Option<()> {
     let value = op.f.copy(alloc).ok()?;
+    print_text(&op.with_value(alloc, value).ok()?, text)
+}
+
+/// Prints both behind one another.
+fn copies(alloc: Global, op: &Op) -> Option<Vec<u8>> {
     let mut printed = Vec::new(alloc);
-    print_text(&op.copy(alloc).ok()?, &mut printed)?;
-    print_text(&op.with_value(alloc, value).ok()?, &mut printed)?;
+    print_copy(alloc, op, &mut printed)?;
+    print_with_function(alloc, op, &mut printed)?;
     Some(printed)
+}
+
+pub(crate) fn copied(alloc: Global, text: &str) -> Option<Vec<u8>> {
+    copies(alloc, &op_once(alloc, text)?.ok()?)
 }
 
 pub(crate) fn pairs(alloc: Global, text: &str) -> Option<Vec<u8>> {
@@ -147,12 +163,18 @@ fn copies_an_operation(rt: HostRuntime) -> Result<(), Fail> {
     ask_all(rt.alloc(), rows)
 }
 
+/// Prints an operation of a client with this number, and a line feed.
+fn print_of_client(number: u64, op: Op, text: &mut Vec<u8>) -> Option<()> {
+    let mut op = op;
+    op.process = Process::Client(number);
+    print_text(&op, text)
+}
+
 /// The text of an operation of a client with this number. None: memory was refused.
 fn by_client(alloc: Global, number: u64) -> Option<Vec<u8>> {
     let op = op_once(alloc, "{:type :ok, :process 0, :f :read}")?.ok()?;
-    let process = Process::Client(number);
     let mut text = Vec::new(alloc);
-    print_text(&Op { process, ..op }, &mut text)?;
+    print_of_client(number, op, &mut text)?;
     Some(text)
 }
 

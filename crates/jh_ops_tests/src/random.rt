@@ -65,11 +65,16 @@ fn value_of(alloc: Global, record: &Record, tags: u64) -> Option<Value> {
     tagged(alloc, bare_value_of(alloc, record)?, tags)
 }
 
+/// Adds the value of a record, with so many tags around it.
+fn add_value(alloc: Global, record: &Record, tags: u64, items: &mut Vec<Value>) -> Option<()> {
+    items.push(value_of(alloc, record, tags)?).ok()
+}
+
 /// The values of records.
 fn items_of(alloc: Global, records: &Records) -> Option<Vec<Value>> {
     let mut items = Vec::new(alloc);
     for record in &records.records {
-        items.push(value_of(alloc, record, records.tags)?).ok()?;
+        add_value(alloc, record, records.tags, &mut items)?;
     }
     Some(items)
 }

@@ -1,6 +1,6 @@
 //! Random events of up to four seats of one log, each compared with what the plain log answers.
 //!
-//! None is answered where two answers differ, or memory was refused.
+//! None or false is answered where two answers differ, or memory was refused.
 
 ghost use Rattle.std.specs.Prelude.{◌≡◌, ◌≤◌};
 
@@ -54,18 +54,63 @@ fn random_word(dice: &mut Dice) -> u64 {
 }
 
 impl<'a, B: OfLog> Both<'a, B> {
+    /// A seat with no claim.
+    fn new(player: Player<'a, B>) -> Self {
+        Both {
+            player,
+            plain: None,
+            room: 0,
+        }
+    }
+
+    /// Two of one, where the seat is split. The first has the claim.
+    fn split(self) -> (Self, Option<Self>) {
+        let Both {
+            player,
+            plain,
+            room,
+        } = self;
+        let (player, other) = player.split();
+        let first = Both {
+            player,
+            plain,
+            room,
+        };
+        match other {
+            Some(other) => (first, Some(Both::new(other))),
+            None => (first, None),
+        }
+    }
+
+    /// One of two, with the claim of the first.
+    fn join(self, other: Self) -> Self {
+        let Both {
+            player,
+            plain,
+            room,
+        } = self;
+        Both {
+            player: player.join(other.player),
+            plain,
+            room,
+        }
+    }
+
     fn claim(
         &mut self,
         alloc: Global,
         log: &mut PlainSlots,
         counts: &mut Counts,
         rows: u32,
-    ) -> Option<bool> {
+    ) -> bool {
+        let Ok(plain) = log.claim(alloc, rows) else {
+            return false;
+        };
         self.room = 5 * u64::from(rows);
-        self.plain = log.claim(alloc, rows).ok()?;
+        self.plain = plain;
         let is_claimed = self.player.claim(rows);
         count(counts, usize::from(is_claimed), 1);
-        Some(is_claimed == self.plain.is_some())
+        is_claimed == self.plain.is_some()
     }
 
     fn write(&mut self, place: u64, value: u64) {
@@ -129,50 +174,28 @@ impl<'a, B: OfLog> Game<'a, B> {
         }
     }
 
+    /// Puts a seat back. Whether memory sufficed.
+    fn put(&mut self, seat: Both<'a, B>) -> bool {
+        self.seats.push(seat).is_ok()
+    }
+
     /// Makes two seats of one.
-    fn split(&mut self, one: Both<'a, B>) -> Option<()> {
-        let Both {
-            player,
-            plain,
-            room,
-        } = one;
-        let (player, other) = player.split();
-        self.seats
-            .push(Both {
-                player,
-                plain,
-                room,
-            })
-            .ok()?;
-        self.seats
-            .push(Both {
-                player: other?,
-                plain: None,
-                room: 0,
-            })
-            .ok()
+    fn split(&mut self, one: Both<'a, B>) -> bool {
+        let (one, other) = one.split();
+        match other {
+            Some(other) => self.put(one) && self.put(other),
+            None => false,
+        }
     }
 
     /// Makes one seat of two. Where both have a claim, one of these is voided.
-    fn join(&mut self, one: Both<'a, B>, other: Both<'a, B>) -> Option<()> {
+    fn join(&mut self, one: Both<'a, B>, other: Both<'a, B>) -> bool {
         let (first, mut second) = match other.player.has_claim() {
             true => (other, one),
             false => (one, other),
         };
         second.void(&mut self.log);
-        let Both {
-            player,
-            plain,
-            room,
-        } = first;
-        let player = player.join(second.player);
-        self.seats
-            .push(Both {
-                player,
-                plain,
-                room,
-            })
-            .ok()
+        self.put(first.join(second))
     }
 
     /// Reads any row into a buffer of any length.
@@ -183,7 +206,7 @@ impl<'a, B: OfLog> Game<'a, B> {
     }
 
     /// Lets a seat do something by itself.
-    fn act(&mut self, alloc: Global, dice: &mut Dice, seat: &mut Both<'a, B>) -> Option<bool> {
+    fn act(&mut self, alloc: Global, dice: &mut Dice, seat: &mut Both<'a, B>) -> bool {
         match (dice.below(8), seat.player.has_claim()) {
             (0..=2, false) => {
                 let rows = random_rows(dice);
@@ -191,58 +214,64 @@ impl<'a, B: OfLog> Game<'a, B> {
             }
             (0..=1, true) => {
                 seat.write(dice.below(seat.room.max(1)), random_word(dice));
-                Some(true)
+                true
             }
             (2, true) => {
                 let len = dice.below(seat.room.max(1)) + 1;
-                Some(seat.publish(&mut self.log, len))
+                seat.publish(&mut self.log, len)
             }
             (3, true) if dice.below(2) == 0 => {
                 seat.void(&mut self.log);
-                Some(true)
+                true
             }
-            _ => Some(self.read(dice, seat)),
+            _ => self.read(dice, seat),
         }
     }
 
     /// Joins a seat with any other.
-    fn join_any(&mut self, dice: &mut Dice, seat: Both<'a, B>) -> Option<()> {
-        let other = self.take(dice)?;
-        self.join(seat, other)
+    fn join_any(&mut self, dice: &mut Dice, seat: Both<'a, B>) -> bool {
+        match self.take(dice) {
+            Some(other) => self.join(seat, other),
+            None => false,
+        }
     }
 
     /// Lets a seat do something, and puts it back.
-    fn act_with(&mut self, alloc: Global, dice: &mut Dice, seat: Both<'a, B>) -> Option<bool> {
+    fn act_with(&mut self, alloc: Global, dice: &mut Dice, seat: Both<'a, B>) -> bool {
         let mut seat = seat;
-        let is_same = self.act(alloc, dice, &mut seat)?;
-        self.seats.push(seat).ok()?;
-        Some(is_same)
+        self.act(alloc, dice, &mut seat) && self.put(seat)
     }
 
     /// One event, of any seat.
-    fn event(&mut self, alloc: Global, dice: &mut Dice) -> Option<bool> {
-        let seat = self.take(dice)?;
+    fn event(&mut self, alloc: Global, dice: &mut Dice) -> bool {
+        let Some(seat) = self.take(dice) else {
+            return false;
+        };
         match dice.below(12) {
-            0 if self.seats.len() < 3 => Some(self.split(seat).is_some()),
-            1 if !self.seats.is_empty() => Some(self.join_any(dice, seat).is_some()),
+            0 if self.seats.len() < 3 => self.split(seat),
+            1 if !self.seats.is_empty() => self.join_any(dice, seat),
             _ => self.act_with(alloc, dice, seat),
         }
     }
 
-    /// Lets each seat read all rows. How often each answer was given.
-    fn end(self) -> Option<Counts> {
-        let Game {
-            rows,
-            log,
-            mut seats,
-            mut counts,
-        } = self;
-        for seat in seats.iter_mut() {
-            if !seat.reads_all(&log, &mut counts, rows) {
-                return None;
+    /// So many events.
+    fn events(&mut self, alloc: Global, dice: &mut Dice, count: u64) -> bool {
+        for _ in 0..count {
+            if !self.event(alloc, dice) {
+                return false;
             }
         }
-        Some(counts)
+        true
+    }
+
+    /// Lets each seat read all rows.
+    fn reads_all(&mut self) -> bool {
+        for seat in self.seats.iter_mut() {
+            if !seat.reads_all(&self.log, &mut self.counts, self.rows) {
+                return false;
+            }
+        }
+        true
     }
 }
 
@@ -263,19 +292,15 @@ fn run<B: OfLog>(
         seats: Vec::new(alloc),
         counts: [0; 6],
     };
-    game.seats
-        .push(Both {
-            player: Player::<B>::new(slots, seat),
-            plain: None,
-            room: 0,
-        })
-        .ok()?;
-    for _ in 0..dice.below(31) + 30 {
-        if !game.event(alloc, dice)? {
-            return None;
-        }
+    let count = dice.below(31) + 30;
+    if game.put(Both::new(Player::<B>::new(slots, seat)))
+        && game.events(alloc, dice, count)
+        && game.reads_all()
+    {
+        Some(game.counts)
+    } else {
+        None
     }
-    game.end()
 }
 
 fn counts_of(alloc: Global, seed: u64) -> Option<Counts> {

@@ -3,11 +3,10 @@
 //!
 //! Each test passes, too, where one allocation is refused: the call that answers so is made again.
 
-ghost use Rattle.std.specs.Prelude.{◌≡◌, ◌*◌, ◌≤◌, length, IfOk};
+ghost use Rattle.std.specs.Prelude.{◌≡◌, ◌*◌, ◌≤◌, length, IfOk, IfSome};
 
 use jh_slots::{Full, Read, Receipt, Seat, Slots, SlotsError};
 use std::alloc::Global;
-use std::test::Fail;
 use std::thread::join;
 
 // A log and its seat, once more where memory was refused.
@@ -18,6 +17,15 @@ fn log(alloc: Global, rows: u32) -> Result<(Slots, Seat), SlotsError>
         Err(SlotsError::OutOfMemory) => Slots::new(alloc, rows),
         answer => answer,
     }
+}
+
+// A log and two seats of it.
+fn log_of_two(alloc: Global, rows: u32) -> Option<(Slots, Seat, Seat)>
+    ensures { IfSome result (λ all. (all.1.table ≡ all.0.table) × (all.2.table ≡ all.0.table)) }
+{
+    let (slots, seat) = log(alloc, rows).ok()?;
+    let (one, other) = slots.split(seat).ok()?;
+    Some((slots, one, other))
 }
 
 // Claims so many rows, and publishes the words there.
@@ -74,41 +82,43 @@ fn first_words(slots: &Slots, seat: &mut Seat) -> [u64; 4]
     [one, two, three, four]
 }
 
+// Publishes two records, each of a word and ten times that word. Whether both had a row.
+fn publish_both(slots: &Slots, seat: &mut Seat, first: u64, second: u64) -> bool
+    requires { seat.old.table ≡ slots.now.table }
+    ensures { seat.new.table ≡ seat.old.table }
+{
+    publish(slots, seat, 1, &[first, first.wrapping_mul(10)]).is_some()
+        && publish(slots, seat, 1, &[second, second.wrapping_mul(10)]).is_some()
+}
+
+// Whether these are the four words that two threads publish, in any order.
+fn has_all(words: &[u64]) -> bool {
+    words.contains(&10) && words.contains(&11) && words.contains(&20) && words.contains(&21)
+}
+
 #[test]
-fn two_threads_fill_a_log(rt: HostRuntime) -> Result<(), Fail> {
-    let (slots, seat) = log(rt.alloc(), 4)?;
-    let Ok((mut one, rest)) = slots.split(seat) else {
-        panic!(rt; "split handed the seat back")
+fn two_threads_fill_a_log(rt: HostRuntime) {
+    let Some((slots, mut one, rest)) = log_of_two(rt.alloc(), 4) else {
+        panic!(rt; "no log with two seats")
     };
     let Ok((mut two, mut three)) = slots.split(rest) else {
         panic!(rt; "split handed the seat back")
     };
     let (a, b) = join(
         &rt,
-        || {
-            publish(&slots, &mut one, 1, &[10, 100]).is_some()
-                && publish(&slots, &mut one, 1, &[11, 110]).is_some()
-        },
-        || {
-            publish(&slots, &mut two, 1, &[20, 200]).is_some()
-                && publish(&slots, &mut two, 1, &[21, 210]).is_some()
-        },
+        || publish_both(&slots, &mut one, 10, 11),
+        || publish_both(&slots, &mut two, 20, 21),
     );
     assert!(rt; a && b && is_full(&slots, &mut three));
     let words = first_words(&slots, &mut three);
-    assert!(rt; first_words(&slots, &mut three) == words);
-    for word in [10, 11, 20, 21] {
-        assert!(rt; words.contains(&word));
-    }
-    Ok(())
+    assert!(rt; first_words(&slots, &mut three) == words && has_all(&words));
 }
 
 #[test]
-fn a_size_is_from_1_to_65536(rt: HostRuntime) -> Result<(), Fail> {
+fn a_size_is_from_1_to_65536(rt: HostRuntime) {
     assert!(rt; matches!(Slots::new(rt.alloc(), 0), Err(SlotsError::BadSize)));
     assert!(rt; matches!(Slots::new(rt.alloc(), 65_537), Err(SlotsError::BadSize)));
     assert!(rt; log(rt.alloc(), 65_536).is_ok());
-    Ok(())
 }
 
 /// Whether this is the text of an error. It is written once more where memory was refused.
@@ -130,10 +140,9 @@ fn errors_have_texts(rt: HostRuntime) {
 }
 
 #[test]
-fn another_seat_reads_a_record_of_five_words(rt: HostRuntime) -> Result<(), Fail> {
-    let (slots, seat) = log(rt.alloc(), 4)?;
-    let Ok((mut one, mut two)) = slots.split(seat) else {
-        panic!(rt; "split handed the seat back")
+fn another_seat_reads_a_record_of_five_words(rt: HostRuntime) {
+    let Some((slots, mut one, mut two)) = log_of_two(rt.alloc(), 4) else {
+        panic!(rt; "no log with two seats")
     };
     assert!(rt; publish(&slots, &mut one, 1, &[1, 2, 3, 4, 5]) == Some(Receipt { row: 0, len: 5 }));
     let mut small = [7u64; 4];
@@ -143,33 +152,33 @@ fn another_seat_reads_a_record_of_five_words(rt: HostRuntime) -> Result<(), Fail
         slots.read(&mut two, 0, &mut words) == Read::Words(5) && words == [1, 2, 3, 4, 5, 7]
     );
     assert!(rt; slots.read(&mut two, 0, &mut words[..5]) == Read::Words(5));
-    Ok(())
 }
 
 #[test]
-fn a_free_row_and_one_beyond_are_absent(rt: HostRuntime) -> Result<(), Fail> {
-    let (slots, mut seat) = log(rt.alloc(), 4)?;
+fn a_free_row_and_one_beyond_are_absent(rt: HostRuntime) {
+    let Ok((slots, mut seat)) = log(rt.alloc(), 4) else {
+        panic!(rt; "no log")
+    };
     let mut words = [7u64; 5];
     assert!(rt; slots.read(&mut seat, 3, &mut words) == Read::Absent);
     assert!(rt; slots.read(&mut seat, 4, &mut words) == Read::Absent && words == [7; 5]);
-    Ok(())
 }
 
 #[test]
-fn a_voided_claim_reads_as_void(rt: HostRuntime) -> Result<(), Fail> {
-    let (slots, seat) = log(rt.alloc(), 1)?;
-    let Ok((mut one, mut two)) = slots.split(seat) else {
-        panic!(rt; "split handed the seat back")
+fn a_voided_claim_reads_as_void(rt: HostRuntime) {
+    let Some((slots, mut one, mut two)) = log_of_two(rt.alloc(), 1) else {
+        panic!(rt; "no log with two seats")
     };
     let mut words = [7u64; 5];
     assert!(rt; !is_full(&slots, &mut one) && is_full(&slots, &mut two));
     assert!(rt; slots.read(&mut two, 0, &mut words) == Read::Void && words == [7; 5]);
-    Ok(())
 }
 
 #[test]
-fn places_that_are_not_written_are_0(rt: HostRuntime) -> Result<(), Fail> {
-    let (slots, mut seat) = log(rt.alloc(), 1)?;
+fn places_that_are_not_written_are_0(rt: HostRuntime) {
+    let Ok((slots, mut seat)) = log(rt.alloc(), 1) else {
+        panic!(rt; "no log")
+    };
     match slots.claim(&mut seat, 1) {
         Err(Full) => panic!(rt; "a free log is full"),
         Ok(mut claim) => {
@@ -181,40 +190,66 @@ fn places_that_are_not_written_are_0(rt: HostRuntime) -> Result<(), Fail> {
     assert!(rt;
         slots.read(&mut seat, 0, &mut words) == Read::Words(5) && words == [0, 0, 0, u64::MAX, 0]
     );
-    Ok(())
+}
+
+// Whether the first row has these words, and a buffer of five places is too small for them and stays as it was.
+fn reads_seven(slots: &Slots, seat: &mut Seat, given: &[u64; 7]) -> bool
+    requires { seat.old.table ≡ slots.now.table }
+    ensures { seat.new.table ≡ seat.old.table }
+{
+    let mut words = [0u64; 7];
+    let small = slots.read(seat, 0, &mut words[..5]);
+    if small != Read::TooSmall(7) || words != [0; 7] {
+        return false;
+    }
+    slots.read(seat, 0, &mut words) == Read::Words(7) && words == *given
+}
+
+fn is_absent(slots: &Slots, seat: &mut Seat, row: u32) -> bool
+    requires { seat.old.table ≡ slots.now.table }
+    ensures { seat.new.table ≡ seat.old.table }
+{
+    let mut words = [0u64; 7];
+    slots.read(seat, row, &mut words) == Read::Absent
 }
 
 #[test]
-fn seven_words_stand_in_two_rows(rt: HostRuntime) -> Result<(), Fail> {
-    let (slots, seat) = log(rt.alloc(), 10)?;
-    let Ok((mut one, mut two)) = slots.split(seat) else {
-        panic!(rt; "split handed the seat back")
+fn seven_words_stand_in_two_rows(rt: HostRuntime) {
+    let Some((slots, mut one, mut two)) = log_of_two(rt.alloc(), 10) else {
+        panic!(rt; "no log with two seats")
     };
     let given = [1, 2, 3, 4, 5, 6, 7];
     assert!(rt; publish(&slots, &mut one, 2, &given) == Some(Receipt { row: 0, len: 7 }));
-    let mut words = [0u64; 7];
-    assert!(rt; slots.read(&mut two, 0, &mut words[..5]) == Read::TooSmall(7) && words == [0; 7]);
-    assert!(rt; slots.read(&mut two, 0, &mut words) == Read::Words(7) && words == given);
-    assert!(rt; slots.read(&mut two, 1, &mut words) == Read::Absent);
-    assert!(rt; slots.read(&mut two, 9, &mut words) == Read::Absent);
-    Ok(())
+    assert!(rt; reads_seven(&slots, &mut two, &given));
+    assert!(rt; is_absent(&slots, &mut two, 1) && is_absent(&slots, &mut two, 9));
 }
 
-#[test]
-fn the_longest_record_is_read_back(rt: HostRuntime) -> Result<(), Fail> {
-    let (slots, seat) = log(rt.alloc(), 300)?;
-    let Ok((mut one, mut two)) = slots.split(seat) else {
-        panic!(rt; "split handed the seat back")
-    };
+// As many words as a record may have, each another.
+fn longest() -> [u64; 1_275] {
     let mut given = [0u64; 1_275];
     for place in 0..1_275 {
         given[place] = u64::MAX - place as u64;
     }
-    assert!(rt; publish(&slots, &mut one, 255, &given) == Some(Receipt { row: 0, len: 1_275 }));
+    given
+}
+
+// Whether the first row has these words.
+fn reads_longest(slots: &Slots, seat: &mut Seat, given: &[u64; 1_275]) -> bool
+    requires { seat.old.table ≡ slots.now.table }
+    ensures { seat.new.table ≡ seat.old.table }
+{
     let mut words = [0u64; 1_275];
-    assert!(rt; slots.read(&mut two, 0, &mut words) == Read::Words(1_275));
-    assert!(rt; words == given);
-    Ok(())
+    slots.read(seat, 0, &mut words) == Read::Words(1_275) && words == *given
+}
+
+#[test]
+fn the_longest_record_is_read_back(rt: HostRuntime) {
+    let Some((slots, mut one, mut two)) = log_of_two(rt.alloc(), 300) else {
+        panic!(rt; "no log with two seats")
+    };
+    let given = longest();
+    assert!(rt; publish(&slots, &mut one, 255, &given) == Some(Receipt { row: 0, len: 1_275 }));
+    assert!(rt; reads_longest(&slots, &mut two, &given));
 }
 
 // Two words in a row, as a thread with a seat of its own publishes them.
@@ -226,19 +261,27 @@ fn publish_two(slots: &Slots, mut seat: Seat, words: [u64; 2]) -> Seat
     seat
 }
 
+// A record by each of three seats, which are one then.
+fn publish_three(slots: &Slots, one: Seat, two: Seat, three: Seat) -> Seat
+    requires one { one.table ≡ slots.now.table }
+    requires two { two.table ≡ slots.now.table }
+    requires three { three.table ≡ slots.now.table }
+    ensures { result.table ≡ slots.now.table }
+{
+    let one = publish_two(slots, one, [10, 100]);
+    let two = publish_two(slots, two, [20, 200]);
+    let three = publish_two(slots, three, [30, 300]);
+    slots.join(slots.join(one, two), three)
+}
+
 #[test]
-fn the_seat_of_three_reads_what_each_published(rt: HostRuntime) -> Result<(), Fail> {
-    let (slots, seat) = log(rt.alloc(), 4)?;
-    let Ok((one, rest)) = slots.split(seat) else {
-        panic!(rt; "split handed the seat back")
+fn the_seat_of_three_reads_what_each_published(rt: HostRuntime) {
+    let Some((slots, one, rest)) = log_of_two(rt.alloc(), 4) else {
+        panic!(rt; "no log with two seats")
     };
     let Ok((two, three)) = slots.split(rest) else {
         panic!(rt; "split handed the seat back")
     };
-    let one = publish_two(&slots, one, [10, 100]);
-    let two = publish_two(&slots, two, [20, 200]);
-    let three = publish_two(&slots, three, [30, 300]);
-    let mut all = slots.join(slots.join(one, two), three);
+    let mut all = publish_three(&slots, one, two, three);
     assert!(rt; first_words(&slots, &mut all) == [10, 20, 30, 0]);
-    Ok(())
 }
