@@ -1,0 +1,3 @@
+pub mod ShareLemmas
+pub mod GoodLemmas
+pub mod TestLemmas

@@ -1,0 +1,105 @@
+-- The test of parts that are good by themselves.
+use Rattle.std.proofs.Common.{◌≡◌, ℕ, ◌≤◌, inl, inr, List, length, Option, Some, None, sym, ap, subst, ◌∙◌, arith}
+use Rattle.std.specs.Prelude.{option_map}
+use Rattle.std.proofs.lemmas.Option.{same_Some}
+use Rattle.toml.specs.Data.{Data, array, Members}
+use Rattle.jh_gen.specs.View.{generator_of}
+use Rattle.jh_settings.specs.declared.error.SettingsError.{SettingsError}
+use Rattle.jh_settings.specs.declared.error.SettingsError.TheVariants.{NotToml, Unknown, Missing, BadValue, OutOfMemory}
+use Rattle.jh_settings.specs.declared.keys.Key.{Key}
+use Rattle.jh_settings.specs.Keys.{HasKnownKeys, data_under, drive_keys}
+use Rattle.jh_settings.specs.Parsed.{IsScheduleOf}
+use Rattle.jh_settings.proofs.ElementLemmas.{none_not}
+use Rattle.jh_settings.proofs.PlanLemmas.{has_clients, needed_is}
+use Rattle.jh_test_parts.specs.declared.parts.Entry.{Entry}
+use Rattle.jh_test_parts.specs.declared.parts.KeyShares.{KeyShares}
+use Rattle.jh_checkers.specs.declared.checker.Checker.{Checker}
+use Rattle.jh_test_parts.specs.declared.test.TestError.{TestError}
+use Rattle.jh_test_parts.specs.Test.{TestValue, IsFitTest, RefusesTest, HasSchedule}
+use Rattle.jh_drive_settings.specs.declared.parts.Parts.{Parts}
+use Rattle.jh_drive_settings.specs.Inside.{AreParsedParts, RefusesShares, RefusesAllowed, RefusesDriveValues, lone_key, test_of_parts, test_refusal}
+use Rattle.jh_drive_settings.specs.Parsed.{IsParsedTestEntry, parsed_checker, parsed_test_ops, parsed_threads_per_key, parsed_ops_per_key}
+use Rattle.jh_drive_settings.specs.Settings.{AreDriveSettings, IsFinalAllowed, IsLoneShare, IsParsedTest}
+use Rattle.jh_drive_settings.proofs.GoodLemmas.{all_good}
+use Rattle.jh_drive_settings.proofs.ShareLemmas.{share_missing, share_there}
+
+lone_share : (document : Members) (checker : Checker) → parsed_checker document ≡ Some checker → (threads calls : Option ℕ) → parsed_threads_per_key document ≡ Some threads → parsed_ops_per_key document ≡ Some calls
+    → (key : Key) → lone_key threads calls ≡ Some key → IsLoneShare document key
+lone_share document checker is None None h k key e = absurd (none_not key e)
+lone_share document checker is None (Some n) h k key e =
+    subst (IsLoneShare document) (same_Some Key.ThreadsPerKey key e) (share_missing 16 Key.ThreadsPerKey document checker is h, share_there 1000000 Key.OpsPerKey document checker is n k)
+lone_share document checker is (Some n) None h k key e =
+    subst (IsLoneShare document) (same_Some Key.OpsPerKey key e) (share_missing 1000000 Key.OpsPerKey document checker is k, share_there 16 Key.ThreadsPerKey document checker is n h)
+lone_share document checker is (Some n) (Some m) h k key e = absurd (none_not key e)
+
+few_entries : (Means : Data → Entry → Type 0) (o : Option Data) (entries : List Entry) → IsScheduleOf Means o entries → length entries ≤ 1024
+few_entries Means None entries h = omega (arith, ap length h)
+few_entries Means (Some (array values)) entries h = h.1
+few_entries Means (Some value) entries h = absurd h
+
+has_ops : (document : Members) (n : ℕ) → parsed_test_ops document ≡ Some n → (1 ≤ n) × (n ≤ 1000000)
+has_ops document n e = needed_is 1 1000000 (data_under Key.Ops document) n e
+
+module _ (document : Members) (parts : Parts) (parsed : AreParsedParts document parts) where
+  -- one of two numbers alone is missing the other
+  pub shares_refused : (e : SettingsError) → RefusesShares parts.pace.threads parts.pace.calls e → RefusesDriveValues document e
+  shares_refused NotToml h = absurd h
+  shares_refused (Unknown name) h = absurd h
+  shares_refused (Missing key) h =
+      (all_good document parts (option_map generator_of parts.last) parsed.at_last parsed, lone_share document parts.asked.checker parsed.asked.workload parts.pace.threads parts.pace.calls parsed.pace.by_threads parsed.pace.by_calls key h)
+  shares_refused (BadValue key) h = absurd h
+  shares_refused OutOfMemory h = absurd h
+
+  module _ (shares : Option KeyShares) (threads : parts.pace.threads ≡ option_map (λ (s : KeyShares). s.threads) shares) (calls : parts.pace.calls ≡ option_map (λ (s : KeyShares). s.calls) shares) where
+    test_parsed : IsParsedTest document (test_of_parts parts shares)
+    test_parsed = record {
+      start = parsed.asked.start;
+      workload = parsed.asked.workload;
+      generator = parsed.asked.generator;
+      clients = parsed.pace.by_clients;
+      ops = parsed.pace.so_many;
+      time_limit = parsed.pace.until;
+      rate = parsed.pace.at_rate;
+      threads_per_key = parsed.pace.by_threads ∙ ap Some threads;
+      ops_per_key = parsed.pace.by_calls ∙ ap Some calls;
+      recovery = parsed.pace.recovers;
+      final = parsed.at_last;
+      keys = parsed.details.shape.over_keys;
+      max_txn = parsed.details.shape.at_most;
+      appends_per_key = parsed.details.shape.of_appends;
+      seed = parsed.details.from_seed;
+      schedule = parsed.entries;
+    }
+
+    has_schedule : HasSchedule (test_of_parts parts shares)
+    has_schedule = (few_entries (IsParsedTestEntry parts.asked.environment.names) (data_under Key.Schedule document) parts.schedule.items parsed.entries, parsed.steps)
+
+    -- a test of good parts is refused for its keys, its generator and its final calls alone
+    refused : (error : TestError) → RefusesTest (test_of_parts parts shares) error → RefusesDriveValues document (test_refusal error)
+    refused TestError.BadClients h = absurd (h (has_clients document parts.pace.clients parsed.pace.by_clients))
+    refused TestError.BadOps h = absurd (h.1 (has_ops document parts.pace.ops parsed.pace.so_many))
+    refused TestError.BadKeys h = inr (test_of_parts parts shares, all_good document parts (option_map generator_of parts.last) parsed.at_last parsed, test_parsed, h.2)
+    refused TestError.BadGenerator h = inr (test_of_parts parts shares, all_good document parts (option_map generator_of parts.last) parsed.at_last parsed, test_parsed, (h.2, h.3))
+    refused TestError.BadFinal h = inr (test_of_parts parts shares, all_good document parts (option_map generator_of parts.last) parsed.at_last parsed, test_parsed, (h.2, h.3, λ k. h.4 k.0))
+    refused TestError.BadSchedule h = absurd (h.5 has_schedule)
+    refused TestError.OutOfMemory h = tt
+
+    -- so why it is refused is why the document is
+    pub test_refused : (e : SettingsError) → RefusesAllowed (test_of_parts parts shares) e → RefusesDriveValues document e
+    test_refused e (inl h) = subst (RefusesDriveValues document) (sym h.2) (refused h.0 h.1)
+    test_refused e (inr h) =
+        subst (RefusesDriveValues document) (sym h.0) (
+        inr (test_of_parts parts shares, all_good document parts (option_map generator_of parts.last) parsed.at_last parsed, test_parsed, (h.1.keys, h.1.generator, λ k. h.2 k.1))
+        )
+
+    -- and a test of these parts is what the document means
+    pub test_means : HasKnownKeys drive_keys document → (test : TestValue) → (test ≡ test_of_parts parts shares) × IsFitTest test × IsFinalAllowed test → AreDriveSettings document test parts.details.initial parts.details.model parts.details.budget
+    test_means known test h = record {
+      known = known;
+      parsed = subst (IsParsedTest document) (sym h.0) test_parsed;
+      initial = parsed.details.holds;
+      model = parsed.details.keeps;
+      budget = parsed.details.within;
+      fit = h.1;
+      allowed = h.2;
+    }

@@ -1,0 +1,4 @@
+pub mod Parsed
+pub mod Refusals
+pub mod Settings
+pub mod Inside

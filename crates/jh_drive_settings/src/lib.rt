@@ -1,0 +1,11 @@
+//! The settings of a test of a real database, in TOML: from bytes to a test that can be held, and how
+//! its history is judged.
+#![tactic(auto)]
+
+mod choices;
+mod numbers;
+mod parts;
+mod schedule;
+mod settings;
+
+pub use settings::{DriveSettings, drive_settings_of};

@@ -1,0 +1,47 @@
+//! What settings mean, some keys after others in their order. `specs/Inside.antt` says which keys.
+
+use jh_checkers::Checker;
+use jh_env::Env;
+use jh_gen::Gen;
+use jh_test_parts::{Entry, TransactionShape};
+use jh_txn::ConsistencyModel;
+
+/// What is asked of the database.
+#[derive(Drop)]
+pub(crate) struct Asked {
+    pub environment: Env,
+    pub checker: Checker,
+    pub generator: Gen,
+}
+
+/// How many calls are given, when, and of which keys.
+#[derive(Clone, Copy, Drop)]
+pub(crate) struct Pace {
+    pub clients: u32,
+    pub ops: u32,
+    pub time_limit: Option<u32>,
+    pub rate: Option<u32>,
+    pub threads: Option<u32>,
+    pub calls: Option<u32>,
+    pub recovery: u32,
+}
+
+/// What is said of registers or of transactions alone, and how all is chosen and judged.
+#[derive(Clone, Copy, Drop)]
+pub(crate) struct Details {
+    pub initial: Option<i64>,
+    pub transactions: TransactionShape,
+    pub model: ConsistencyModel,
+    pub seed: u64,
+    pub budget: u64,
+}
+
+/// All parts.
+#[derive(Drop)]
+pub(crate) struct Parts {
+    pub asked: Asked,
+    pub pace: Pace,
+    pub last: Option<Gen>,
+    pub details: Details,
+    pub schedule: Vec<Entry>,
+}
