@@ -16,7 +16,7 @@ ops = 2
 
 /// Whether one of the lines gives this key a value, or leaves it out, as `#key`.
 fn has_key(lines: &str, key: &str) -> bool {
-    for line in lines.lines() {
+    for line in lines.split(" ; ") {
         let (other, _) = line.split_once(" = ").unwrap_or((line, ""));
         if other == key || other.strip_prefix("#") == Some(key) {
             return true;
@@ -25,14 +25,18 @@ fn has_key(lines: &str, key: &str) -> bool {
     false
 }
 
-/// The document of lines, and of those good ones in whose place none of them stands.
+/// The document of lines, with ` ; ` between them, and of those good ones in whose place none of them stands.
 fn document_of(alloc: Global, lines: &str) -> Result<String, AllocError> {
-    let mut document = String::from_str(alloc, lines)?;
+    let mut document = String::new(alloc);
+    for line in lines.split(" ; ") {
+        document.push_str(line)?;
+        document.push_str("\n")?;
+    }
     for line in GOOD.lines() {
         let (key, _) = line.split_once(" = ").unwrap_or((line, ""));
         if !has_key(lines, key) {
-            document.push_str("\n")?;
             document.push_str(line)?;
+            document.push_str("\n")?;
         }
     }
     Ok(document)
@@ -40,52 +44,22 @@ fn document_of(alloc: Global, lines: &str) -> Result<String, AllocError> {
 
 /// Writes what a test is set to, beside its environment and its schedule.
 fn put_test(text: &mut Vec<u8>, test: &Test) -> Option<()> {
-    write!(
-        text,
-        "{:?} {} {} ",
-        test.checker(),
-        test.clients(),
-        test.ops()
-    )
-    .ok()?;
-    write!(
-        text,
-        "{:?} {:?} {:?} ",
-        test.time_limit(),
-        test.rate(),
-        test.keys()
-    )
-    .ok()?;
-    write!(
-        text,
-        "{} {:?} {}; ",
-        test.recovery(),
-        test.transactions(),
-        test.seed()
-    )
-    .ok()?;
-    write!(text, "{:?}; {:?}; ", test.generator(), test.last()).ok()
-}
-
-/// Writes the schedule of a test.
-fn put_schedule(text: &mut Vec<u8>, test: &Test) -> Option<()> {
-    for entry in test.schedule() {
-        write!(text, "{:?} {:?}, ", entry.at, entry.step).ok()?;
-    }
-    Some(())
+    let counts = (test.clients(), test.ops(), test.recovery(), test.seed());
+    let limits = (test.time_limit(), test.rate(), test.keys());
+    let calls = (test.checker(), test.generator(), test.last());
+    let shape = test.transactions();
+    write!(text, "{counts:?} {limits:?} {calls:?} {shape:?} ").ok()
 }
 
 /// What settings mean.
 fn settings_text(alloc: Global, settings: &DriveSettings) -> Option<Vec<u8>> {
     let mut text = Vec::new(alloc);
     put_test(&mut text, &settings.test)?;
-    put_schedule(&mut text, &settings.test)?;
-    write!(
-        &mut text,
-        "{:?} {:?} {}",
-        settings.initial, settings.model, settings.budget
-    )
-    .ok()?;
+    for entry in settings.test.schedule() {
+        write!(&mut text, "{entry:?} ").ok()?;
+    }
+    let judged = (settings.initial, settings.model, settings.budget);
+    write!(&mut text, "{judged:?}").ok()?;
     Some(text)
 }
 
