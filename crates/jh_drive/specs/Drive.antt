@@ -1,0 +1,122 @@
+-- What `jeprun drive` tells, hears and writes (this project's own): a test's conversation, all of it told
+-- in time, and behind its end the report, as `run` writes one.
+use Rattle.std.specs.Prelude.{◌≡◌, ◌≢◌, ◌⊎◌, ◌++◌, ℕ, ℤ, Bool, true, false, List, [], Option, Some}
+use Rattle.std.specs.Prelude.{None, if◌then◌else◌, is_some, Result, Ok, Err}
+use Rattle.std.specs.Io.KnownBytes.{Appends, Consumes}
+use Rattle.jh_check.specs.declared.error.CheckError.{CheckError}
+use Rattle.jh_check.specs.declared.error.CheckError.TheVariants as CheckErrors
+use Rattle.jh_checkers.specs.declared.finding.Judging.{Judging}
+use Rattle.jh_conversation.specs.Conversations.{ConversationValue, IsTestBegun, answer_to_line}
+use Rattle.jh_conversation.specs.Conversations.{conversation_after, has_no_more, opening_of}
+use Rattle.jh_conversation.specs.Text.{end_line, recorded_history}
+use Rattle.jh_independent.specs.Refusals.{RefusesKeys, keys_question}
+use Rattle.jh_independent.specs.declared.error.KeysError.{KeysError}
+use Rattle.jh_independent.specs.declared.error.KeysError.TheVariants as KeysErrors
+use Rattle.jh_lines.specs.Endings.{IsConversation}
+use Rattle.jh_lines.specs.Events.{TalkEvent, heard_in, told_in}
+use Rattle.jh_lines.specs.declared.ending.Ending.{Ending}
+use Rattle.jh_lines.specs.declared.ending.Ending.TheVariants as Endings
+use Rattle.jh_ops.specs.Operation.{Operation}
+use Rattle.jh_reports.specs.Judged.{IsTextBy, RefusesLine}
+use Rattle.jh_reports.specs.Reports.{IsTestReport}
+use Rattle.jh_test_parts.specs.Test.{TestValue}
+use Rattle.jh_test_parts.specs.declared.complaints.Complaint.{Complaint}
+use Rattle.jh_drive_settings.specs.Settings.{AreDriveSettingsOf, RefusesDriveSettings}
+use Rattle.jh_settings.specs.declared.error.SettingsError.{SettingsError}
+use Rattle.jh_drive.specs.DriveErrors.{drive_settings_error}
+use Rattle.jh_drive.specs.declared.error.DriveError.{DriveError}
+use Rattle.jh_drive.specs.declared.error.DriveError.TheVariants.{Reply, RepliesEnded, Read, TooLong}
+use Rattle.jh_drive.specs.declared.error.DriveError.TheVariants.{Mismatch, Write, OutOfMemory}
+use Rattle.jh_txn.specs.declared.model.ConsistencyModel.{ConsistencyModel}
+
+-- The test was conducted: these events are its conversation, from its first line on, and it ended so and
+-- left this conversation.
+pub record IsConducted (t : TestValue) (past : List TalkEvent) (last : ConversationValue)
+    (ending : Ending) : Type 0 where
+  pub first : ConversationValue
+  pub begun : IsTestBegun t first
+  pub talk : IsConversation opening_of conversation_after answer_to_line has_no_more first past last ending
+
+-- the line of the end, where the conversation did not come to it
+abbrev pub end_if_missing : ConversationValue → List ℕ
+end_if_missing c = if has_no_more c then [] else end_line
+
+-- What is written behind a conversation: its history, what is left of the faults, and what is found, as one
+-- or by keys, with the exit status of the verdict.
+pub record IsReportOf (judging : Judging) (c : ConversationValue) (status : ℕ) (report : List ℕ)
+    : Type 0 where
+  pub last_line : List ℕ
+  pub judged : IsTextBy (is_some c.test.keys) judging (recorded_history c.test c.machine) status last_line
+  pub text : List ℕ
+  pub is_report : IsTestReport c.machine.nemesis (recorded_history c.test c.machine) last_line text
+  pub written : report ≡ end_if_missing c ++ text
+
+-- why a history is not judged, as one or by keys
+abbrev pub IsNotJudged : Bool → Judging → List Operation → Type 0
+IsNotJudged false judging history =
+    (error : CheckError) × RefusesLine judging.checker history error
+    × (error ≢ CheckErrors.OutOfMemory)
+IsNotJudged true judging history =
+    (error : KeysError) × RefusesKeys (keys_question judging history) error
+    × (error ≢ KeysErrors.OutOfMemory)
+
+-- by what the history of a test is judged
+abbrev pub judging_of : TestValue → Option ℤ → ConsistencyModel → ℕ → Judging
+judging_of t initial model budget = record {
+  checker = t.checker;
+  initial = initial;
+  budget = budget;
+  explain = false;
+  model = Some model;
+}
+
+-- A conversation that did not come to its end.
+abbrev pub ended_early : Ending → DriveError
+ended_early (Endings.ReadFailed error) = Read
+ended_early Endings.TooLong = TooLong
+ended_early _ = RepliesEnded
+
+-- The answer of a test whose report is written: the first line that was no reply is told; else, if it came to
+-- its end, the exit status of its verdict.
+abbrev pub drive_answer : Option (ℕ × Complaint) → Bool → Ending → ℕ → Result ℕ DriveError
+drive_answer (Some bad) over ending status = Err (Reply bad.0 bad.1)
+drive_answer None true ending status = Ok status
+drive_answer None false ending status = Err (ended_early ending)
+
+module _ (t : TestValue) (judging : Judging) (input unread before after : Option (List ℕ)) where
+  -- The test was conducted over an input, of which this is left unread, and an output that had been this before
+  -- and is that after it; its report stands behind the conversation.
+  pub record IsReported (result : Result ℕ DriveError) : Type 0 where
+    pub past : List TalkEvent
+    pub ending : Ending
+    pub last : ConversationValue
+    pub conducted : IsConducted t past last ending
+    pub heard : Consumes input unread (heard_in past)
+    pub status : ℕ
+    pub report : List ℕ
+    pub is_report : IsReportOf judging last status report
+    pub told : Appends before after (told_in past ++ report)
+    pub answer : result ≡ drive_answer last.machine.bad (has_no_more last) ending status
+
+  -- Memory was refused, or the output could not be written, or the history can't be judged.
+  abbrev pub FailsBy : DriveError → Type 0
+  FailsBy Write = Unit {0}
+  FailsBy OutOfMemory = Unit {0}
+  FailsBy Mismatch =
+      (past : List TalkEvent) × (ending : Ending) × (last : ConversationValue)
+      × IsConducted t past last ending × Consumes input unread (heard_in past)
+      × IsNotJudged (is_some last.test.keys) judging (recorded_history last.test last.machine)
+  FailsBy _ = ⊥
+
+  -- how a test ends
+  abbrev pub IsAnswered : Result ℕ DriveError → Type 0
+  IsAnswered result = IsReported result ⊎ ((e : DriveError) × (result ≡ Err e) × FailsBy e)
+
+-- How the test that bytes set ends, or why these are refused.
+abbrev pub IsDriven : List ℕ → (input unread before after : Option (List ℕ)) → Result ℕ DriveError
+    → Type 0
+IsDriven bytes input unread before after result =
+    ((error : SettingsError) × RefusesDriveSettings bytes error × (result ≡ Err (drive_settings_error error)))
+    ⊎ ((t : TestValue) × (initial : Option ℤ) × (model : ConsistencyModel) × (budget : ℕ)
+    × AreDriveSettingsOf bytes t initial model budget
+    × IsAnswered t (judging_of t initial model budget) input unread before after result)

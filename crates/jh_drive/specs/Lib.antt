@@ -1,0 +1,3 @@
+pub mod DriveErrors
+pub mod Drive
+pub mod DriveInside

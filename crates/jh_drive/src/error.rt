@@ -1,0 +1,123 @@
+//! Why a test of a real database ended otherwise than with a verdict. `specs/DriveErrors.antt` has the
+//! exit status and the text of each.
+
+ghost use Rattle.std.specs.Prelude.{◌≡◌};
+ghost use Rattle.jh_drive.specs.DriveErrors.{drive_status, drive_text};
+ghost use Rattle.jh_drive.specs.declared.error.DriveError.TheVariants.{OutOfMemory};
+
+use jh_check::CheckError;
+use jh_independent::KeysError;
+use jh_settings::SettingsError;
+use jh_test_parts::Complaint;
+use std::alloc::AllocError;
+use std::error::Error;
+use std::fmt::{self, Display, Formatter};
+
+/// Why a test ended otherwise than with a verdict. Where its conversation was held to an end, the report
+/// is written before `Reply`, `RepliesEnded`, `Read` and `TooLong`.
+#[derive(Debug, Drop)]
+pub enum DriveError {
+    /// The settings are none of a test.
+    Settings(SettingsError),
+    /// The settings could not be read.
+    SettingsRead,
+    /// The first line that is no reply, by its number from 1.
+    Reply { number: u64, why: Complaint },
+    /// The input ended before the test did.
+    RepliesEnded,
+    /// The input could not be read on.
+    Read,
+    /// 2^64 - 1 times something was heard.
+    TooLong,
+    /// The history can't be judged.
+    Mismatch,
+    /// The output could not be written.
+    Write,
+    OutOfMemory,
+}
+
+impl DriveError {
+    /// The exit status: 3 where settings or a reply are refused, 4 where the replies ended or the machine
+    /// failed.
+    pub fn status(&self) -> u8
+        ensures { result ≡ drive_status self.now }
+    {
+        match self {
+            DriveError::Settings(_) | DriveError::Reply { .. } => 3,
+            DriveError::SettingsRead
+            | DriveError::RepliesEnded
+            | DriveError::Read
+            | DriveError::TooLong
+            | DriveError::Mismatch
+            | DriveError::Write
+            | DriveError::OutOfMemory => 4,
+        }
+    }
+}
+
+impl Display for DriveError {
+    ghost output = { drive_text };
+
+    fn fmt<W: fmt::Write>(&self, f: &mut Formatter<W>) -> fmt::Result {
+        match self {
+            DriveError::Settings(error) => write!(f, "settings: {error}"),
+            DriveError::SettingsRead => f.write_str("settings: read failed"),
+            DriveError::Reply { number, why } => write!(f, "reply {number}: {why}"),
+            DriveError::RepliesEnded => f.write_str("replies ended"),
+            DriveError::Read => f.write_str("read failed"),
+            DriveError::TooLong => f.write_str("input too long"),
+            DriveError::Mismatch => f.write_str("mismatch"),
+            DriveError::Write => f.write_str("write failed"),
+            DriveError::OutOfMemory => f.write_str("out of memory"),
+        }
+    }
+}
+
+impl Error for DriveError {}
+
+impl From<SettingsError> for DriveError {
+    ghost use Rattle.jh_drive.specs.DriveErrors.{drive_settings_error};
+
+    ghost from_gives = { λ error e. e ≡ drive_settings_error error };
+
+    fn from(error: SettingsError) -> DriveError {
+        match error {
+            SettingsError::OutOfMemory => DriveError::OutOfMemory,
+            _ => DriveError::Settings(error),
+        }
+    }
+}
+
+impl From<CheckError> for DriveError {
+    ghost use Rattle.jh_drive.specs.DriveErrors.{check_refusal};
+
+    ghost from_gives = { λ error e. e ≡ check_refusal error };
+
+    fn from(error: CheckError) -> DriveError {
+        match error {
+            CheckError::OutOfMemory => DriveError::OutOfMemory,
+            _ => DriveError::Mismatch,
+        }
+    }
+}
+
+impl From<KeysError> for DriveError {
+    ghost use Rattle.jh_drive.specs.DriveErrors.{keys_refusal};
+
+    ghost from_gives = { λ error e. e ≡ keys_refusal error };
+
+    fn from(error: KeysError) -> DriveError {
+        match error {
+            KeysError::OutOfMemory => DriveError::OutOfMemory,
+            _ => DriveError::Mismatch,
+        }
+    }
+}
+
+impl From<AllocError> for DriveError {
+    ghost from_gives = { λ _ e. e ≡ OutOfMemory };
+
+    fn from(_error: AllocError) -> DriveError {
+        DriveError::OutOfMemory
+    }
+}

@@ -1,0 +1,10 @@
+//! The command `drive`: a test of a real database, by lines on a reader and a writer, and its report.
+//! `specs/Drive.antt` says what is told and written, `specs/DriveErrors.antt` why it ends early.
+#![tactic(auto)]
+
+mod conducting;
+mod error;
+mod report;
+
+pub use conducting::drive;
+pub use error::DriveError;

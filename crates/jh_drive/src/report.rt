@@ -1,0 +1,116 @@
+//! The report of a test. `specs/Drive.antt` has the rule.
+//!
+//! What is known is written before the history is judged, so that it is there where judging fails.
+
+ghost use Rattle.std.specs.Prelude.{◌≡◌, ◌++◌, List, ℕ, IfErr, IfOk, MatchResult, OnOk, false, is_some, true};
+ghost use Rattle.std.specs.Io.KnownBytes.{Appends};
+ghost use Rattle.jh_conversation.specs.Text.{recorded_history};
+ghost use Rattle.jh_drive.specs.Drive.{IsReportOf, end_if_missing};
+ghost use Rattle.jh_drive.specs.DriveInside.{IsFirstPart, RefusesToJudge, RefusesReport};
+ghost use Rattle.jh_drive.specs.declared.error.DriveError.TheVariants as DriveErrors;
+ghost use Rattle.jh_ops.specs.Operation.{operations};
+ghost use Rattle.jh_reports.specs.Judged.{IsKeysText, IsTextBy, IsWholeText};
+
+use crate::error::DriveError;
+use jh_checkers::Judging;
+use jh_conversation::Conversation;
+use jh_independent::check_keys_serial;
+use jh_lines::Machine;
+use jh_ops::Op;
+use jh_reports::{Output, judge_whole, output_of_keys, write_active, write_environment};
+use std::alloc::{AllocError, Global};
+use std::io::Write;
+
+/// Writes these bytes.
+fn write<W: Write>(writer: &mut W, bytes: &[u8]) -> Result<(), DriveError>
+    ensures written { OnOk result
+        (Appends (W.contents writer.old) (W.contents writer.new) bytes.now) }
+    ensures failed { IfErr result (λ e. e ≡ DriveErrors.Write) }
+{
+    match writer.write_all(bytes) {
+        Ok(()) => Ok(()),
+        Err(_) => Err(DriveError::Write),
+    }
+}
+
+/// What is known of a test before it is judged: its history, the ids of the active faults, and the
+/// environment that they make.
+fn known_of(alloc: Global, conversation: &Conversation) -> Result<Vec<u8>, AllocError>
+    ensures { IfOk result (λ text. IsFirstPart conversation.now text.items) }
+{
+    let mut text = Vec::new(alloc);
+    if !conversation.is_over() {
+        text.extend_from_slice(b":end\n")?;
+    }
+    conversation.write_history(&mut text)?;
+    write_active(alloc, conversation.nemesis(), &mut text)?;
+    write_environment(alloc, conversation.nemesis().env(), &mut text)?;
+    Ok(text)
+}
+
+/// Judges a history of independent keys.
+fn judge_keys(alloc: Global, history: &[Op], judging: Judging) -> Result<Output, DriveError>
+    ensures { MatchResult result
+        (λ output. IsKeysText judging (operations history.now) output.status output.text.items)
+        (RefusesToJudge true judging (operations history.now)) }
+{
+    let found = match check_keys_serial(alloc, history, judging) {
+        Ok(found) => found,
+        Err(error) => return Err(DriveError::from(error)),
+    };
+    Ok(output_of_keys(alloc, &found)?)
+}
+
+/// Judges a history as one.
+fn judge_one(alloc: Global, history: &[Op], judging: Judging) -> Result<Output, DriveError>
+    ensures { MatchResult result
+        (λ output. IsWholeText judging (operations history.now) output.status output.text.items)
+        (RefusesToJudge false judging (operations history.now)) }
+{
+    match judge_whole(alloc, history, judging) {
+        Ok(output) => Ok(output),
+        Err(error) => Err(DriveError::from(error)),
+    }
+}
+
+/// Judges the history of a test.
+fn judge_history(
+    alloc: Global,
+    conversation: &Conversation,
+    judging: Judging,
+) -> Result<Output, DriveError>
+    ensures { MatchResult result
+        (λ output. IsTextBy (is_some conversation.now.test.keys) judging
+        (recorded_history conversation.now.test conversation.now.machine)
+        output.status output.text.items)
+        (RefusesToJudge (is_some conversation.now.test.keys) judging
+        (recorded_history conversation.now.test conversation.now.machine)) }
+{
+    let history = conversation.history()?;
+    match conversation.test().keys() {
+        Some(_) => judge_keys(alloc, &history, judging),
+        None => judge_one(alloc, &history, judging),
+    }
+}
+
+/// Writes the report of a test, and gives the exit status of its verdict.
+///
+/// Errors: `Write`; `Mismatch` where the history can't be judged; `OutOfMemory`. All but the last line
+/// may be written before any of them.
+pub(crate) fn report<W: Write>(
+    alloc: Global,
+    conversation: &Conversation,
+    judging: Judging,
+    writer: &mut W,
+) -> Result<u8, DriveError>
+    ensures { MatchResult result
+        (λ status. (report : List ℕ) × IsReportOf judging conversation.now status report
+        × Appends (W.contents writer.old) (W.contents writer.new) report)
+        (RefusesReport judging conversation.now) }
+{
+    let known = known_of(alloc, conversation)?;
+    write(writer, &known)?;
+    let output = judge_history(alloc, conversation, judging)?;
+    write(writer, &output.text)?;
+    Ok(output.status)
+}
