@@ -95,14 +95,21 @@ search =
     (number_rule (codes "faults") (Unsigned 0 256) (codes "8"))) palette)
     (number_rule (codes "from") (Unsigned 0 9223372036854775807) (codes "0"))) given_threads
 
+-- the file with the settings of a test, which is given by its place
+abbrev pub settings_file : Rule
+settings_file = needed_rule (record (new_rule (codes "settings")) { value_names = 1 })
+
+abbrev pub drive : App
+drive = with_rule (new_app (codes "drive")) settings_file
+
 abbrev pub jeprun : Bor (List (Bor Text)) → Bor (List (Bor Text)) → App
-jeprun names models = with_subcommand (with_subcommand
+jeprun names models = with_subcommand (with_subcommand (with_subcommand
     (with_subcommand (with_subcommand (with_subcommand (with_subcommand
     (on_top (λ s.
     record s { has_version = true; subcommand_required = true; arg_required_else_help = true })
     (new_app (codes "jeprun")))
     (new_app (codes "env")).top) (check names models).top) (new_app (codes "run")).top) shrink.top)
-    search.top) (timeline names models).top
+    search.top) (timeline names models).top) drive.top
 
 -- the command line, with the names of the workloads that there are checkers for, and those of the
 -- consistency models

@@ -3,7 +3,7 @@
 //! it refuses its input.
 
 ghost use Rattle.std.specs.Prelude.{◌≡◌, ◌≢◌, ◌↔◌, ◌≤◌, ℕ, Option, codes, IfOk, IfErr, IfSome};
-ghost use Rattle.std.specs.Prelude.{IsNone, IsErrOf, None, option_and_then};
+ghost use Rattle.std.specs.Prelude.{IsNone, IsErrOf, None, option_and_then, option_map};
 ghost use Rattle.clap.specs.Words.{first_of, found_of, one_of, rows_of, subcommand_rows_of};
 ghost use Rattle.jh_checkers.specs.declared.finding.Judging.{Judging};
 ghost use Rattle.jh_cli.specs.CheckText.{TakesInitial, TakesModel};
@@ -14,7 +14,7 @@ ghost use Rattle.jh_arguments.specs.Commands.{AreThreadsGiven, AsksCheck, AsksFo
 ghost use Rattle.jh_arguments.specs.Commands.{AsksTimeline, HasNumbersInRange, IsFlag, IsIndex};
 ghost use Rattle.jh_arguments.specs.Commands.{IsInitial, IsNumberWithin};
 ghost use Rattle.jh_arguments.specs.Commands.{IsJudging, IsJudgingBy, IsNumber};
-ghost use Rattle.jh_arguments.specs.Commands.{IsOutputOf, IsThreads, RefusesCommand};
+ghost use Rattle.jh_arguments.specs.Commands.{IsOutputOf, IsThreads, RefusesCommand, settings_path};
 ghost use Rattle.jh_arguments.specs.declared.commands.Command.{Command};
 ghost use Rattle.jh_arguments.specs.declared.commands.Command.TheVariants.{Check, Search, Timeline};
 ghost use Rattle.jh_arguments.specs.Models.{model_named as model_of_name};
@@ -77,6 +77,18 @@ pub fn command_of(matches: &ArgMatches<'_>) -> Option<Command>
         ("shrink", options) => Some(Command::Shrink(number_of(options, "budget")?)),
         ("search", options) => Some(Command::Search(search_question_of(options)?)),
         ("timeline", options) => Some(Command::Timeline(timeline_question_of(options)?)),
+        _ => None,
+    }
+}
+
+/// The file of settings of the test that `drive` is asked to conduct, where it is asked. No other
+/// command has one.
+pub fn settings_path_of<'a>(matches: &'a ArgMatches<'a>) -> Option<&'a str>
+    ensures { option_map (λ path. path.now) result
+        ≡ settings_path (subcommand_rows_of matches.now) }
+{
+    match matches.subcommand()? {
+        ("drive", options) => options.get_str("settings"),
         _ => None,
     }
 }

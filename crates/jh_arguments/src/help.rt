@@ -83,3 +83,16 @@ Exit status: 0 valid or not judged, 1 not valid, 2 unknown, 3 refused arguments 
 Examples:
   jeprun timeline --workload register < examples/check/register-stale.edn > stale.html
   jeprun run < examples/run/quorum-register.toml | jeprun timeline --workload register > run.html";
+
+pub(crate) const DRIVE: &str = "\
+It writes a line for each call that is to be made and for each step of the nemesis, with the
+links and nodes that it changes, and reads a line for each that was done; an adapter of yours
+stands between it and the database. Behind the last one it writes :end, and then what run writes:
+the history, the ids of the active faults, the environment, and the verdict. A test whose replies
+were kept is played again by giving them to it once more.
+
+Exit status: 0 valid, 1 not valid, 2 unknown, 3 refused arguments, settings or reply, 4 where
+the replies ended early, memory ran out, or a read or a write failed
+
+Examples:
+  jeprun drive examples/drive/register.toml < examples/drive/register.replies";

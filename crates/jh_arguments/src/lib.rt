@@ -13,7 +13,8 @@ mod palettes;
 mod program;
 
 pub use commands::{
-    Command, command_of, question_of, run, search_question_of, timeline_question_of,
+    Command, command_of, question_of, run, search_question_of, settings_path_of,
+    timeline_question_of,
 };
 pub use jh_cli::{Question, SearchQuestion, TimelineQuestion};
 pub use line::{REFUSED, parse, status_of_refusal};

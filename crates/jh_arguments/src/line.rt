@@ -73,7 +73,8 @@ fn command_line<'a>(alloc: Global) -> Result<Command<'a>, Error>
         .subcommand(run)?
         .subcommand(shrink_command(alloc)?)?
         .subcommand(search_command(alloc)?)?
-        .subcommand(timeline_command(alloc, names, models)?)?;
+        .subcommand(timeline_command(alloc, names, models)?)?
+        .subcommand(drive_command(alloc)?)?;
     Ok(jeprun)
 }
 
@@ -168,6 +169,31 @@ fn search_command<'a>(alloc: Global) -> Result<Command<'a>, Error>
         .arg(from_option(alloc))?
         .arg(given_threads_option(alloc))?;
     Ok(search)
+}
+
+/// The command `drive`, and the file of its settings.
+fn drive_command<'a>(alloc: Global) -> Result<Command<'a>, Error>
+    ensures drive { IfOk result (λ drive. app_of drive ≡ text.drive) }
+    ensures memory { IfErr result (λ e. kind_of e ≡ ErrorKind.OutOfMemory) }
+{
+    let drive = Command::new(alloc, "drive")
+        .about(
+            "Conducts a test of a real database, whose settings are read from a file as TOML, by lines",
+        )
+        .after_help(help::DRIVE)
+        .arg(settings_argument(alloc))?;
+    Ok(drive)
+}
+
+/// The file with the settings of a test.
+fn settings_argument<'a>(alloc: Global) -> Arg<'a>
+    ensures rule { rule_of result ≡ text.settings_file }
+    ensures local { result.global ≡ false }
+{
+    Arg::new(alloc, "settings")
+        .value_name("SETTINGS")
+        .help("The file with the settings of the test")
+        .required(true)
 }
 
 /// How many candidates are tried at most: one, or more.

@@ -4,19 +4,22 @@
 
 ghost use Rattle.std.specs.Prelude.{◌≢◌, IsNone};
 
-use crate::commands::{Command, command_of, run};
+use crate::commands::{Command, command_of, run, settings_path_of};
 use crate::line::{REFUSED, parse, status_of_refusal};
 use clap::ArgMatches;
 use jh_checkers::{Checker, Judging};
 use jh_cli::CliError;
+use jh_drive::{DriveError, drive};
+use jh_lines::Streams;
 use jh_search::SearchObserver;
 use jh_shrink::Observer;
 use std::alloc::Global;
 use std::env::Env;
+use std::fs::Files;
 use std::sync::Wait;
 use std::thread::Threads;
 use std::time::{Clock, Instant};
-use std::{env, io};
+use std::{env, fs, io};
 
 /// The status of what is not known, as `run` of `commands.rt` gives it.
 const UNKNOWN: u8 = 2;
@@ -148,11 +151,45 @@ fn refused(rt: &(impl Print + Eprint), refusal: &clap::Error) -> u8 {
     }
 }
 
+/// Says on standard error why a test ended otherwise than with a verdict, and gives its status.
+fn undriven(rt: &impl Eprint, error: DriveError) -> u8 {
+    let _ = eprintln!(rt; "jeprun: {error}");
+    error.status()
+}
+
+/// Conducts the test that a file sets, over the standard streams.
+fn driven<R>(rt: &R, path: &str, terminals: Terminals) -> u8
+where
+    R: Files + Input + Print + Eprint + Alloc<A = Global>,
+{
+    let settings = match fs::read(rt, path) {
+        Ok(settings) => settings,
+        Err(error) if error.kind() == io::ErrorKind::OutOfMemory => {
+            return undriven(rt, DriveError::OutOfMemory);
+        }
+        Err(_) => return undriven(rt, DriveError::SettingsRead),
+    };
+    if terminals.input && terminals.errors {
+        let _ = eprintln!(rt; "jeprun: reads replies from standard input");
+    }
+    let mut streams = Streams {
+        reader: rt.reader(),
+        writer: io::writer(rt),
+    };
+    match drive(rt.alloc(), &settings, &mut streams) {
+        Ok(status) => status,
+        Err(error) => undriven(rt, error),
+    }
+}
+
 /// Does what the arguments ask for, over the standard streams.
 fn done<R>(rt: &R, matches: &ArgMatches<'_>, terminals: Terminals) -> u8
 where
-    R: Input + Print + Eprint + Clock + Alloc<A = Global> + Threads + Wait + Sync,
+    R: Files + Input + Print + Eprint + Clock + Alloc<A = Global> + Threads + Wait + Sync,
 {
+    if let Some(path) = settings_path_of(matches) {
+        return driven(rt, path, terminals);
+    }
     let Some(command) = command_of(matches) else {
         return REFUSED;
     };
@@ -208,7 +245,7 @@ fn arguments_of(rt: &(impl Env + Alloc<A = Global>)) -> io::Result<Vec<String>> 
 /// A run on threads, a search and the judgement of keys may wait.
 pub fn status<R>(rt: &R, terminals: Terminals) -> u8
 where
-    R: Env + Input + Print + Eprint + Clock + Alloc<A = Global> + Threads + Wait + Sync,
+    R: Env + Files + Input + Print + Eprint + Clock + Alloc<A = Global> + Threads + Wait + Sync,
 {
     let arguments = match arguments_of(rt) {
         Ok(arguments) => arguments,

@@ -33,12 +33,15 @@ returns-clause-line c =
     ∙ (ap app_of_fields c.about-3.ensures ∙ c.new-3.ensures.app))) in
     let top : app_of c.arg_required_else_help.result ≡ helping (wants_one (versioned (new_app (codes "jeprun")))) = ap app_of_fields c.arg_required_else_help.ensures
     ∙ ap helping asked in
-    let whole : app_of c.in_ok-jeprun.jeprun ≡ jeprun names models = c.in_ok-jeprun.ensures.shape of_timeline.globals ∙ ap₂ with_subcommand
+    let drive = c.in_ok-drive_command.ensures.drive in
+    let of_drive = plain_fields c.in_ok-drive_command.field-0 (ap (λ (a : App). a.top.is_plain) drive) in
+    let whole : app_of c.in_ok-jeprun.jeprun ≡ jeprun names models = c.in_ok-jeprun.ensures.shape of_drive.globals ∙ ap₂ with_subcommand
+    (c.in_ok-subcommand-6.ensures.shape of_timeline.globals ∙ ap₂ with_subcommand
     (c.in_ok-subcommand-5.ensures.shape of_search.globals ∙ ap₂ with_subcommand
     (c.in_ok-subcommand-4.ensures.shape of_shrink.globals ∙ ap₂ with_subcommand
     (c.in_ok-subcommand-3.ensures.shape (rw (c.after_help-run.ensures, c.about-2.ensures) c.new-2.ensures.local) ∙ ap₂ with_subcommand
     (c.in_ok-subcommand-2.ensures.shape of_check.globals ∙ ap₂ with_subcommand
     (c.in_ok-subcommand.ensures.shape (rw (c.after_help-env.ensures, c.about.ensures) c.new.ensures.local) ∙ ap₂ with_subcommand top (ap (λ (a : App). a.top) env))
     (ap (λ (a : App). a.top) check)) (ap (λ (a : App). a.top) run)) (ap (λ (a : App). a.top) shrink))
-    (ap (λ (a : App). a.top) search)) (ap (λ (a : App). a.top) timeline) in
+    (ap (λ (a : App). a.top) search)) (ap (λ (a : App). a.top) timeline)) (ap (λ (a : App). a.top) drive) in
     (names, models, c.workloads-names.ensures, c.models-models.ensures, whole)
