@@ -7,8 +7,8 @@ use crate::runs::{may_lack_memory, plan_of};
 use jh_env::Node;
 use jh_nemesis::{Step, StepAnswer};
 use jh_ops::Request;
-use jh_simnode::{Event, Got, MAX_EVENTS, Reply, WorldError};
-use jh_workers::{Count, Port, RunError, run};
+use jh_simnode::{Event, Got, MAX_EVENTS, Plan, Reply, WorldError};
+use jh_workers::{Count, Outcome, Port, RunError, run};
 use std::alloc::{AllocError, Global};
 use std::sync::{Mutex, Wait};
 use std::thread;
@@ -180,7 +180,28 @@ impl Port for Gate {
 /// How many operations and events a run through the gate has, or its error.
 type Counts = Result<(usize, usize), RunError>;
 
-/// What a run through the gate comes to. None: memory was refused.
+/// How many operations and events an outcome has, or the error.
+fn counts_of(answer: Result<Outcome<Counted>, RunError>) -> Counts {
+    match answer {
+        Ok(outcome) => Ok((outcome.history.len(), outcome.journal.len())),
+        Err(error) => Err(error),
+    }
+}
+
+/// What a run of the plan through the gate comes to. None: memory was refused.
+fn counts_through<R: Threads + Wait + Sync>(
+    rt: &R,
+    alloc: Global,
+    plan: &Plan,
+    gate: &Gate,
+) -> Option<Counts> {
+    match counts_of(run(rt, alloc, plan, gate)) {
+        Err(error) if may_lack_memory(error) => None,
+        counts => Some(counts),
+    }
+}
+
+/// What a run of settings through the gate comes to. None: memory was refused.
 fn counts_once<R: Threads + Wait + Sync>(
     rt: &R,
     alloc: Global,
@@ -188,11 +209,9 @@ fn counts_once<R: Threads + Wait + Sync>(
     holds: u32,
     refused: Refused,
 ) -> Option<Counts> {
-    let plan = plan_of(alloc, settings)?;
-    match run(rt, alloc, &plan, &Gate::new(alloc, holds, refused)) {
-        Ok(outcome) => Some(Ok((outcome.history.len(), outcome.journal.len()))),
-        Err(error) if may_lack_memory(error) => None,
-        Err(error) => Some(Err(error)),
+    match plan_of(alloc, settings) {
+        Some(plan) => counts_through(rt, alloc, &plan, &Gate::new(alloc, holds, refused)),
+        None => None,
     }
 }
 

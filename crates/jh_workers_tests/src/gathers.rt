@@ -5,7 +5,7 @@
 ghost use Rattle.std.specs.Prelude.{◌≡◌, ◌≤◌, length, IfSome};
 
 use crate::texts::history_text;
-use jh_edn::read_all;
+use jh_edn::{Value, read_all};
 use jh_ops::{Op, Request, history_of, to_words};
 use jh_simnode::invocation;
 use jh_slots::{Seat, Slots};
@@ -20,8 +20,12 @@ const ROWS: u32 = 4;
 fn log_and_seats(alloc: Global) -> Option<(Slots, Seat, Seat)>
     ensures { IfSome result (λ all. (all.1.table ≡ all.0.table) × (all.2.table ≡ all.0.table)) }
 {
-    let (slots, seat) = Slots::new(alloc, ROWS).ok()?;
-    let (one, other) = slots.split(seat).ok()?;
+    let Ok((slots, seat)) = Slots::new(alloc, ROWS) else {
+        return None;
+    };
+    let Ok((one, other)) = slots.split(seat) else {
+        return None;
+    };
     Some((slots, one, other))
 }
 
@@ -77,25 +81,55 @@ fn gathered(alloc: Global, slots: &Slots, seat: &mut Seat, rows: usize) -> Optio
 
 const RECORDED: &str = "{:type :ok, :process 2, :f :cas, :value [0 -1], :event 7}";
 
-fn op_in(alloc: Global, text: &str) -> Option<Op> {
-    let values = read_all(alloc, &mut text.as_bytes(), 3).ok()?;
-    history_of(alloc, values).ok()?.pop()
+fn values_in(alloc: Global, text: &str) -> Option<Vec<Value>> {
+    match read_all(alloc, &mut text.as_bytes(), 3) {
+        Ok(found) => Some(found),
+        Err(_) => None,
+    }
 }
 
-/// What is gathered from a row that is void, one with the record, one that is claimed, and one that is free.
-fn one_record_once(alloc: Global) -> Option<String> {
-    let op = op_in(alloc, RECORDED)?;
-    let (slots, mut one, mut other) = log_and_seats(alloc)?;
-    void_row(&slots, &mut one);
-    if !publish_op(&slots, &mut one, &op) {
-        return None;
+fn operations_in(alloc: Global, text: &str) -> Option<Vec<Op>> {
+    match history_of(alloc, values_in(alloc, text)?) {
+        Ok(found) => Some(found),
+        Err(_) => None,
     }
-    let Ok(claim) = slots.claim(&mut one, 1) else {
+}
+
+fn op_in(alloc: Global, text: &str) -> Option<Op> {
+    operations_in(alloc, text)?.pop()
+}
+
+/// What the second seat gathers from all rows while the first has a claim.
+fn gathered_beside_a_claim(
+    alloc: Global,
+    slots: &Slots,
+    one: &mut Seat,
+    other: &mut Seat,
+) -> Option<String>
+    requires one { one.old.table ≡ slots.now.table }
+    requires other { other.old.table ≡ slots.now.table }
+{
+    let Ok(claim) = slots.claim(one, 1) else {
         return None;
     };
-    let text = gathered(alloc, &slots, &mut other, 4);
-    slots.void(&mut one, claim);
+    let text = gathered(alloc, slots, other, 4);
+    slots.void(one, claim);
     text
+}
+
+/// What is gathered from a row that is void, one with a record of the operation, one that is claimed, and one that is free.
+fn gathered_with(alloc: Global, op: &Op) -> Option<String> {
+    let (slots, mut one, mut other) = log_and_seats(alloc)?;
+    void_row(&slots, &mut one);
+    if publish_op(&slots, &mut one, op) {
+        gathered_beside_a_claim(alloc, &slots, &mut one, &mut other)
+    } else {
+        None
+    }
+}
+
+fn one_record_once(alloc: Global) -> Option<String> {
+    gathered_with(alloc, &op_in(alloc, RECORDED)?)
 }
 
 /// Whether this text was gathered.
@@ -194,18 +228,6 @@ fn publish_at_once<R: Threads>(
     Some(slots.join(one?, two?))
 }
 
-/// What a third seat gathers, twice, and the seat that all are joined to.
-fn three_once<R: Threads>(rt: &R, alloc: Global) -> Option<[String; 3]> {
-    let (slots, rest, mut third) = log_and_seats(alloc)?;
-    let (one, two) = slots.split(rest).ok()?;
-    let both = publish_at_once(rt, alloc, &slots, one, two)?;
-    let read = gathered(alloc, &slots, &mut third, 4)?;
-    let again = gathered(alloc, &slots, &mut third, 4)?;
-    let mut all = slots.join(both, third);
-    let joined = gathered(alloc, &slots, &mut all, 4)?;
-    Some([read, again, joined])
-}
-
 /// Whether a text has both parts, in this order.
 fn has_both(text: &str, one: &str, other: &str) -> bool {
     match text.split_once(one) {
@@ -229,22 +251,46 @@ fn has_all(text: &str) -> bool {
         )
 }
 
-/// Whether a seat gathered the history of the four writes, and once more the same, and so did the seat that all are joined
-/// to.
-fn are_alike(texts: &Option<[String; 3]>) -> bool {
-    match texts {
-        Some([read, again, joined]) => has_all(read)
-            && again.as_str() == read.as_str()
-            && joined.as_str() == read.as_str(),
-        None => false,
+/// Whether a seat gathers this.
+fn gathers(alloc: Global, slots: &Slots, seat: &mut Seat, wanted: &str) -> Option<bool>
+    requires { seat.old.table ≡ slots.now.table }
+    ensures { seat.new.table ≡ seat.old.table }
+{
+    let text = gathered(alloc, slots, seat, 4)?;
+    Some(text.as_str() == wanted)
+}
+
+/// Whether the third seat gathers the history of the four writes, and once more the same, and so does the seat that both are
+/// joined to.
+fn gather_alike(alloc: Global, slots: &Slots, both: Seat, third: Seat) -> Option<bool>
+    requires both { both.table ≡ slots.now.table }
+    requires third { third.table ≡ slots.now.table }
+{
+    let mut third = third;
+    let read = gathered(alloc, slots, &mut third, 4)?;
+    let is_same = gathers(alloc, slots, &mut third, &read)?;
+    let mut all = slots.join(both, third);
+    let is_joined = gathers(alloc, slots, &mut all, &read)?;
+    Some(has_all(&read) && is_same && is_joined)
+}
+
+/// Whether seats read alike what threads published.
+fn read_alike<R: Threads>(rt: &R, alloc: Global) -> Option<bool> {
+    let (slots, rest, third) = log_and_seats(alloc)?;
+    let Ok((one, two)) = slots.split(rest) else {
+        return None;
+    };
+    match publish_at_once(rt, alloc, &slots, one, two) {
+        Some(both) => gather_alike(alloc, &slots, both, third),
+        None => None,
     }
 }
 
 #[test]
 fn seats_read_alike_what_threads_published(rt: HostRuntime) {
-    let texts = match three_once(&rt, rt.alloc()) {
-        None => three_once(&rt, rt.alloc()),
-        texts => texts,
+    let are_alike = match read_alike(&rt, rt.alloc()) {
+        None => read_alike(&rt, rt.alloc()),
+        answer => answer,
     };
-    assert!(rt; are_alike(&texts));
+    assert!(rt; are_alike == Some(true));
 }

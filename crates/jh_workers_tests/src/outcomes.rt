@@ -43,10 +43,16 @@ fn ids(alloc: Global, nemesis: &Nemesis) -> Option<Vec<u32>> {
     Some(ids)
 }
 
+fn ids_after(alloc: Global, plan: &Plan, journal: &[Event]) -> Option<Vec<u32>> {
+    match nemesis_after(alloc, plan, journal) {
+        Ok(nemesis) => ids(alloc, &nemesis),
+        Err(_) => None,
+    }
+}
+
 /// The ids that are active after a journal.
 fn active(alloc: Global, plan: &Plan, journal: &[Event]) -> Option<String> {
-    let nemesis = nemesis_after(alloc, plan, journal).ok()?;
-    let ids = ids(alloc, &nemesis)?;
+    let ids = ids_after(alloc, plan, journal)?;
     format!(in alloc; "{ids:?}").ok()
 }
 
@@ -61,11 +67,19 @@ fn audited(plan: &Plan, journal: &[Event], history: &[Op]) -> &'static str {
     journals::wrong_with(plan, journal).unwrap_or("audited")
 }
 
+/// The text of the journal of a replay.
+fn replayed_text(alloc: Global, plan: &Plan, journal: &[Event]) -> Option<String> {
+    match replayed(alloc, plan, journal) {
+        Some(world) => journal_text(alloc, world.journal()),
+        None => None,
+    }
+}
+
 /// Whether a journal is that of a replay.
 fn compared(alloc: Global, plan: &Plan, journal: &[Event]) -> Option<&'static str> {
-    let world = replayed(alloc, plan, journal)?;
     let text = journal_text(alloc, journal)?;
-    if journal_text(alloc, world.journal())? == text {
+    let again = replayed_text(alloc, plan, journal)?;
+    if again.as_str() == text.as_str() {
         Some("replayed")
     } else {
         Some("not replayed")
@@ -99,8 +113,34 @@ fn both_text(alloc: Global, plan: &Plan, finished: &Finished, history: &[Op]) ->
 
 fn value_text(alloc: Global, history: &[Op]) -> Option<String> {
     let mut text = Vec::new(alloc);
-    write(&history.last()?.value, &mut text).ok()?;
+    let Ok(()) = write(&history.last()?.value, &mut text) else {
+        return None;
+    };
     String::from_utf8(text).ok()
+}
+
+/// What is told of what is left of a run.
+fn answer_of(alloc: Global, kind: Kind, plan: &Plan, finished: &Finished) -> Option<String> {
+    match &finished.history {
+        Err(error) => error_text(alloc, *error),
+        Ok(history) => match kind {
+            Kind::Outcome => both_text(alloc, plan, finished, history),
+            Kind::LastValue => value_text(alloc, history),
+        },
+    }
+}
+
+/// What the run of a plan comes to. None: memory was refused.
+fn answer_by<R: Threads + Wait + Sync>(
+    rt: &R,
+    alloc: Global,
+    kind: Kind,
+    plan: &Plan,
+) -> Option<String> {
+    match ran(rt, alloc, plan) {
+        Some(finished) => answer_of(alloc, kind, plan, &finished),
+        None => None,
+    }
 }
 
 /// What the run of settings comes to. None: memory was refused.
@@ -110,12 +150,9 @@ pub(crate) fn answer_once<R: Threads + Wait + Sync>(
     kind: Kind,
     settings: &str,
 ) -> Option<String> {
-    let plan = plan_of(alloc, settings)?;
-    let finished = ran(rt, alloc, &plan)?;
-    match (&finished.history, kind) {
-        (Err(error), _) => error_text(alloc, *error),
-        (Ok(history), Kind::Outcome) => both_text(alloc, &plan, &finished, history),
-        (Ok(history), Kind::LastValue) => value_text(alloc, history),
+    match plan_of(alloc, settings) {
+        Some(plan) => answer_by(rt, alloc, kind, &plan),
+        None => None,
     }
 }
 
@@ -256,13 +293,19 @@ const DRAWS: [u64; 3] = [
     16_364_278_647_694_089_004,
 ];
 
-/// Whether the calls of the one client have these draws.
-fn is_drawn_once<R: Threads + Wait + Sync>(rt: &R, alloc: Global) -> Option<bool> {
-    let plan = plan_of(alloc, ALONE)?;
-    let finished = ran(rt, alloc, &plan)?;
+/// Whether the calls of a run have these draws. None: it has no history, or no journal.
+fn has_draws_left(finished: &Finished) -> Option<bool> {
     match (&finished.history, &finished.journal) {
         (Ok(_), Some(journal)) => Some(journals::has_draws(journal, &DRAWS)),
         _ => None,
+    }
+}
+
+/// Whether the calls of the one client have these draws.
+fn is_drawn_once<R: Threads + Wait + Sync>(rt: &R, alloc: Global) -> Option<bool> {
+    match plan_of(alloc, ALONE) {
+        Some(plan) => has_draws_left(&ran(rt, alloc, &plan)?),
+        None => None,
     }
 }
 

@@ -43,6 +43,29 @@ where
     }
 }
 
+/// The error that came in place of an outcome.
+fn error_in<S>(outcome: Result<Outcome<S>, RunError>) -> Option<RunError>
+where
+    S: Drop,
+{
+    match outcome {
+        Ok(_) => None,
+        Err(error) => Some(error),
+    }
+}
+
+/// The journal of a world. None: memory was refused.
+fn journal_in<L: Ledger, R: Wait>(
+    rt: &R,
+    alloc: Global,
+    port: &LockedWorld<L>,
+) -> Option<Vec<Event>> {
+    match port.events(rt, alloc) {
+        Ok(events) => Some(events),
+        Err(_) => None,
+    }
+}
+
 /// A run of the plan over this world, and a second one.
 fn run_both<L: Ledger + Send + Sync, R: Threads + Wait + Sync>(
     rt: &R,
@@ -58,12 +81,15 @@ fn run_both<L: Ledger + Send + Sync, R: Threads + Wait + Sync>(
 {
     let port = LockedWorld::<L>::new(world, blank);
     let history = history_in(run(rt, alloc, plan, &port));
-    let again = history_in(run(rt, alloc, plan, &port)).err();
-    let journal = port.events(rt, alloc).or_else(|_| port.events(rt, alloc));
+    let again = error_in(run(rt, alloc, plan, &port));
+    let journal = match journal_in(rt, alloc, &port) {
+        None => journal_in(rt, alloc, &port),
+        journal => journal,
+    };
     Finished {
         history,
         again,
-        journal: journal.ok(),
+        journal,
     }
 }
 
@@ -73,13 +99,18 @@ pub(crate) fn ran<R: Threads + Wait + Sync>(
     alloc: Global,
     plan: &Plan,
 ) -> Option<Finished> {
-    let world = world_of(alloc, plan).ok()?;
+    let Ok(world) = world_of(alloc, plan) else {
+        return None;
+    };
     Some(run_both::<Brand, R>(rt, alloc, plan, world, Blank::new(32)))
 }
 
 /// The plan of settings.
 pub(crate) fn plan_of(alloc: Global, settings: &str) -> Option<Plan> {
-    Some(settings_of(alloc, settings.as_bytes()).ok()?.plan)
+    match settings_of(alloc, settings.as_bytes()) {
+        Ok(settings) => Some(settings.plan),
+        Err(_) => None,
+    }
 }
 
 /// Whether a run may end with this error where memory is refused.
@@ -90,8 +121,16 @@ pub(crate) fn may_lack_memory(error: RunError) -> bool {
     )
 }
 
-/// Does once more in a world what an event did. What comes of it stands in the world's journal.
-fn repeat(alloc: Global, world: &mut World, event: &Event) -> Option<()> {
+/// Takes a step once more. Whether that was possible.
+fn repeat_step(alloc: Global, world: &mut World, step: &Step) -> bool {
+    match step.copy(alloc) {
+        Ok(step) => world.step(step).is_ok(),
+        Err(_) => false,
+    }
+}
+
+/// Does once more in a world what an event did. Whether that was possible: what comes of it stands in the world's journal.
+fn repeat(alloc: Global, world: &mut World, event: &Event) -> bool {
     match event {
         Event::Call {
             process,
@@ -99,24 +138,30 @@ fn repeat(alloc: Global, world: &mut World, event: &Event) -> Option<()> {
             request,
             draw,
             reply: _,
-        } => {
-            world.call(*process, *node, *request, *draw).ok()?;
-        }
-        Event::Step { step, answer: _ } => {
-            world.step(step.copy(alloc).ok()?).ok()?;
-        }
-        Event::Tick => {
-            world.tick().ok()?;
+        } => world.call(*process, *node, *request, *draw).is_ok(),
+        Event::Step { step, answer: _ } => repeat_step(alloc, world, step),
+        Event::Tick => world.tick().is_ok(),
+    }
+}
+
+/// Does once more what all events did. Whether that was possible.
+fn repeat_all(alloc: Global, world: &mut World, journal: &[Event]) -> bool {
+    for event in journal {
+        if !repeat(alloc, world, event) {
+            return false;
         }
     }
-    Some(())
+    true
 }
 
 /// The world of a plan in which all was done again that a journal has.
 pub(crate) fn replayed(alloc: Global, plan: &Plan, journal: &[Event]) -> Option<World> {
-    let mut world = world_of(alloc, plan).ok()?;
-    for event in journal {
-        repeat(alloc, &mut world, event)?;
+    let Ok(mut world) = world_of(alloc, plan) else {
+        return None;
+    };
+    if repeat_all(alloc, &mut world, journal) {
+        Some(world)
+    } else {
+        None
     }
-    Some(world)
 }

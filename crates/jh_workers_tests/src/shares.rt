@@ -62,7 +62,9 @@ fn plan_with(alloc: Global, clients: u32) -> Option<Plan> {
 }
 
 fn settles_once<R: Wait>(rt: &R, alloc: Global, count: usize, kept: usize) -> Option<bool> {
-    let world = world_of(alloc, &plan_with(alloc, 1)?).ok()?;
+    let Ok(world) = world_of(alloc, &plan_with(alloc, 1)?) else {
+        return None;
+    };
     settles::<Brand, R>(rt, alloc, world, Blank::new(32), count, kept)
 }
 
@@ -82,6 +84,16 @@ fn a_world_has_32_shares(rt: HostRuntime) {
     }
 }
 
+/// Puts shares behind others. Whether memory sufficed.
+fn put_all<L: Ledger>(shares: &mut Vec<WorldShare<L>>, more: Vec<WorldShare<L>>) -> bool {
+    for share in more {
+        if shares.push(share).is_err() {
+            return false;
+        }
+    }
+    true
+}
+
 /// Whether a world is settled with these shares and those of an outcome, with as many events as the outcome has.
 fn is_settled<L: Ledger>(
     port: LockedWorld<L>,
@@ -96,11 +108,13 @@ fn is_settled<L: Ledger>(
         shares: own,
     } = outcome;
     let mut all = shares;
-    for share in own {
-        all.push(share).ok()?;
+    if !put_all(&mut all, own) {
+        return None;
     }
-    let world = port.settle(all)?;
-    Some(world.journal().len() == journal.len())
+    match port.settle(all) {
+        Some(world) => Some(world.journal().len() == journal.len()),
+        None => None,
+    }
 }
 
 /// What comes of a run where others have 16 of the shares.
@@ -134,7 +148,9 @@ fn given_once<R: Threads + Wait + Sync>(
     clients: u32,
 ) -> Option<&'static str> {
     let plan = plan_with(alloc, clients)?;
-    let world = world_of(alloc, &plan).ok()?;
+    let Ok(world) = world_of(alloc, &plan) else {
+        return None;
+    };
     run_beside::<Brand, R>(rt, alloc, &plan, world, Blank::new(32))
 }
 

@@ -2,17 +2,26 @@
 //!
 //! None is answered where memory was refused.
 
-use jh_edn::write;
+use jh_edn::{Value, write};
 use jh_ops::{Op, value_of};
 use jh_simnode::Event;
 use std::alloc::Global;
+
+fn put_value(text: &mut Vec<u8>, value: &Value) -> Option<()> {
+    match write(value, text) {
+        Ok(()) => text.push(b'\n').ok(),
+        Err(_) => None,
+    }
+}
 
 fn put_op(alloc: Global, text: &mut Vec<u8>, op: &Op) -> Option<()> {
     if !op.process.is_writable() {
         return None;
     }
-    write(&value_of(alloc, op).ok()?, text).ok()?;
-    text.push(b'\n').ok()
+    match value_of(alloc, op) {
+        Ok(value) => put_value(text, &value),
+        Err(_) => None,
+    }
 }
 
 /// A line of each operation.
