@@ -213,7 +213,10 @@ fn tells_the_first_line_that_is_no_reply(rt: HostRuntime) {
         let Ok(expected) = format!(in rt.alloc(); "jeprun: {message}\nstatus 3\n") else {
             return;
         };
-        assert!(rt; ends(rt.alloc(), SETTINGS, replies, expected.as_str()), "{row}");
+        assert!(rt;
+            ends(rt.alloc(), SETTINGS, replies, expected.as_str()),
+            "{row}"
+        );
     }
 }
 
