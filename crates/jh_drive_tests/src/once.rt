@@ -6,7 +6,11 @@ use std::alloc::Global;
 use std::io::{Read, Write};
 
 /// All that a test writes to these replies, and behind it the message and the status. None: memory was refused.
-pub(crate) fn driven_once<R: Read>(alloc: Global, settings: &str, replies: R) -> Option<Vec<u8>> {
+pub(crate) fn driven_once<R: Read + Drop>(
+    alloc: Global,
+    settings: &str,
+    replies: R,
+) -> Option<Vec<u8>> {
     let mut streams = Streams {
         reader: replies,
         writer: Vec::new(alloc),
