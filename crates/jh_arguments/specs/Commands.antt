@@ -3,8 +3,6 @@
 use Rattle.std.specs.Prelude.{◌≡◌, ◌<◌, ◌≤◌, ◌+◌, ◌^◌, ℕ, ℤ, Bool, true, false, List, Option, Some}
 use Rattle.std.specs.Prelude.{None, IfSome, codes, option_and_then, FitsSigned}
 use mir.Syntax.{w64}
-use Rattle.std.specs.Prelude.{if◌then◌else◌}
-use Rattle.std.specs.Str.{bytes_eq}
 use Rattle.std.specs.Str.Parse.{IsNumeral, digits_value, signed_digits_value, without_leading_plus}
 use Rattle.std.specs.Str.Parse.{without_leading_sign}
 use Rattle.clap.specs.Words.{Row, Text, first_of, one_of}
@@ -128,11 +126,11 @@ pub record AsksSearch (options : List Row) (question : SearchQuestion) : Type 0 
       ≡ option_and_then palette_named (first_of (codes "palette") options)
   pub threads : AreThreadsGiven (one_of (codes "threads") options) question.threads
 
--- the file of settings that `drive` is given
-abbrev pub settings_path : Option (Text × List Row) → Option Text
-settings_path None = None
-settings_path (Some found) =
-    if bytes_eq found.0 (codes "drive") then first_of (codes "settings") found.1 else None
+-- A subcommand with its options asks for the test that this file of settings sets.
+abbrev pub AsksDrive : Option (Text × List Row) → Text → Type 0
+AsksDrive None path = ⊥
+AsksDrive (Some found) path =
+    (found.0 ≡ codes "drive") × (first_of (codes "settings") found.1 ≡ Some path)
 
 -- A subcommand with its options asks for a command.
 abbrev pub AsksFor : Option (Text × List Row) → Command → Type 0

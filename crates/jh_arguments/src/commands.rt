@@ -3,18 +3,19 @@
 //! it refuses its input.
 
 ghost use Rattle.std.specs.Prelude.{◌≡◌, ◌≢◌, ◌↔◌, ◌≤◌, ℕ, Option, codes, IfOk, IfErr, IfSome};
-ghost use Rattle.std.specs.Prelude.{IsNone, IsErrOf, None, option_and_then, option_map};
-ghost use Rattle.clap.specs.Words.{first_of, found_of, one_of, rows_of, subcommand_rows_of};
+ghost use Rattle.std.specs.Prelude.{IsNone, IsErrOf, None, Some, option_and_then};
+ghost use Rattle.clap.specs.Words.{Text, first_of, found_of, one_of, rows_of, subcommand_rows_of};
 ghost use Rattle.jh_checkers.specs.declared.finding.Judging.{Judging};
 ghost use Rattle.jh_cli.specs.CheckText.{TakesInitial, TakesModel};
 ghost use Rattle.jh_cli.specs.Outputs.{OnInput, WritesOutput};
 ghost use Rattle.jh_cli.specs.TimelineText.{TakesInitialBy, TakesModelBy};
 ghost use Rattle.jh_cli.specs.declared.error.CliError.TheVariants as CliError;
-ghost use Rattle.jh_arguments.specs.Commands.{AreThreadsGiven, AsksCheck, AsksFor, AsksSearch};
+ghost use Rattle.jh_arguments.specs.Commands.{AreThreadsGiven, AsksCheck, AsksDrive, AsksFor};
+ghost use Rattle.jh_arguments.specs.Commands.{AsksSearch};
 ghost use Rattle.jh_arguments.specs.Commands.{AsksTimeline, HasNumbersInRange, IsFlag, IsIndex};
 ghost use Rattle.jh_arguments.specs.Commands.{IsInitial, IsNumberWithin};
 ghost use Rattle.jh_arguments.specs.Commands.{IsJudging, IsJudgingBy, IsNumber};
-ghost use Rattle.jh_arguments.specs.Commands.{IsOutputOf, IsThreads, RefusesCommand, settings_path};
+ghost use Rattle.jh_arguments.specs.Commands.{IsOutputOf, IsThreads, RefusesCommand};
 ghost use Rattle.jh_arguments.specs.declared.commands.Command.{Command};
 ghost use Rattle.jh_arguments.specs.declared.commands.Command.TheVariants.{Check, Search, Timeline};
 ghost use Rattle.jh_arguments.specs.Models.{model_named as model_of_name};
@@ -83,13 +84,28 @@ pub fn command_of(matches: &ArgMatches<'_>) -> Option<Command>
 
 /// The file of settings of the test that `drive` is asked to conduct, where it is asked. No other
 /// command has one.
-pub fn settings_path_of<'a>(matches: &'a ArgMatches<'a>) -> Option<&'a str>
-    ensures { option_map (λ path. path.now) result
-        ≡ settings_path (subcommand_rows_of matches.now) }
+pub fn settings_path_of<'a>(matches: &ArgMatches<'a>) -> Option<&'a str>
+    ensures parsed { IfSome result
+        (λ path. AsksDrive (subcommand_rows_of matches.now) path.now) }
+    ensures taken { IsNone result → (path : Text)
+        → AsksDrive (subcommand_rows_of matches.now) path → ⊥ }
 {
     match matches.subcommand()? {
-        ("drive", options) => options.get_str("settings"),
+        ("drive", options) => Some(path_of(options)?),
         _ => None,
+    }
+}
+
+/// The file of settings that options give, if they do.
+fn path_of<'a>(options: &ArgMatches<'a>) -> Option<&'a str>
+    ensures parsed { IfSome result
+        (λ path. first_of (codes "settings") (rows_of (found_of options.now)) ≡ Some path.now) }
+    ensures taken { IsNone result → (path : Text)
+        → first_of (codes "settings") (rows_of (found_of options.now)) ≡ Some path → ⊥ }
+{
+    match options.get_str("settings") {
+        Some(path) => Some(path),
+        None => None,
     }
 }
 
