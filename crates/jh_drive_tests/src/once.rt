@@ -19,7 +19,8 @@ pub(crate) fn driven_once<R: Read + Drop>(
     let mut text = streams.writer;
     match ended {
         Ok(status) => writeln!(text, "status {status}").ok()?,
-        Err(DriveError::OutOfMemory) => return None,
+        // What is written goes to memory too.
+        Err(DriveError::OutOfMemory | DriveError::Write) => return None,
         Err(error) => writeln!(text, "jeprun: {error}\nstatus {}", error.status()).ok()?,
     }
     Some(text)
