@@ -65,6 +65,7 @@ Commands:
   shrink    Makes the schedule of a failing run small, whose settings are read from standard input as TOML
   search    Tries random schedules for a run that fails, whose settings are read from standard input as TOML
   timeline  Writes a page that shows a history, which is read from standard input as EDN
+  drive     Conducts a test of a real database, whose settings are read from a file as TOML, by lines
   help      Print this message or the help of the given subcommand(s)
 
 Options:
@@ -188,6 +189,7 @@ Commands:
   shrink    Makes the schedule of a failing run small, whose settings are read from standard input as TOML
   search    Tries random schedules for a run that fails, whose settings are read from standard input as TOML
   timeline  Writes a page that shows a history, which is read from standard input as EDN
+  drive     Conducts a test of a real database, whose settings are read from a file as TOML, by lines
   help      Print this message or the help of the given subcommand(s)
 
 Options:
@@ -324,6 +326,7 @@ Commands:
   shrink    Makes the schedule of a failing run small, whose settings are read from standard input as TOML
   search    Tries random schedules for a run that fails, whose settings are read from standard input as TOML
   timeline  Writes a page that shows a history, which is read from standard input as EDN
+  drive     Conducts a test of a real database, whose settings are read from a file as TOML, by lines
   help      Print this message or the help of the given subcommand(s)
 
 Options:
