@@ -10,7 +10,7 @@ use Rattle.jh_edn.specs.Edn.{Edn, Items, nil, int, keyword, vector, no_items, it
 use Rattle.jh_ops.specs.Operation.{Operation}
 use Rattle.jh_ops.specs.Words.{content_value, pairs_of_event}
 use Rattle.jh_ops.specs.declared.call.Request.{Request}
-use Rattle.jh_ops.specs.declared.call.Request.TheVariants.{Read, Write, Cas, Add, Generate}
+use Rattle.jh_ops.specs.declared.call.Request.TheVariants.{Read, Write, Cas, Add, Generate, Txn}
 use Rattle.jh_ops.specs.declared.operation.Kind.{Kind}
 use Rattle.jh_ops.specs.declared.operation.Process.{Process}
 use Rattle.jh_nemesis.specs.declared.steps.StepAnswer.{StepAnswer}
@@ -18,7 +18,9 @@ use Rattle.jh_nemesis.specs.declared.steps.StepAnswer.TheVariants as answer
 use Rattle.jh_simnode.specs.declared.replicas.Got.{Got}
 use Rattle.jh_simnode.specs.declared.replicas.Reply.{Reply}
 use Rattle.jh_simnode.specs.declared.replicas.Reply.TheVariants as reply
-use Rattle.jh_simnode.specs.Histories.{request_name, asked_content, got_content, replied_content, completion_kind, code_of}
+use Rattle.jh_simnode.specs.Histories.{got_content, replied_content, completion_kind}
+use Rattle.jh_ops.specs.Requests.{request_name, asked_content}
+use Rattle.jh_nemesis.specs.Steps.{code_of}
 use Rattle.jh_audit.specs.declared.forms.Form.{Form}
 use Rattle.jh_audit.specs.declared.forms.Form.TheVariants.{Asks, Completes, Begins, Ends}
 use Rattle.jh_audit.specs.Forms.{MayGet, MayReply, Says, SaysAt, named_event}
@@ -114,7 +116,10 @@ asked_is name value r e =
             | inl t ↦ asked_integer name (codes "add") value Add r (λ _. refl) (λ _. refl) t.0 t.1
             | inr t ↦ elim (chosen (bytes_eq name (codes "generate")) _ _ r t.1) [
               | inl t ↦ asked_nothing name (codes "generate") value Generate r refl refl t.0 t.1
-              | inr t ↦ absurd (let clash = t.1 in cc)
+              | inr t ↦ elim (chosen (bytes_eq name (codes "txn")) _ _ r t.1) [
+                | inl t ↦ asked_nothing name (codes "txn") value Txn r refl refl t.0 t.1
+                | inr t ↦ absurd (let clash = t.1 in cc)
+              ]
             ]
           ]
         ]
@@ -127,6 +132,7 @@ is_asked (Write v) = refl
 is_asked (Cas a b) = refl
 is_asked (Add v) = refl
 is_asked Generate = refl
+is_asked Txn = refl
 
 -- a request of this name was done, and its completion has this value
 abbrev pub IsDone : List ℕ → Edn → Request → Got → Type 0
@@ -154,6 +160,7 @@ done_else name value (Write v) no_read no_id asked = (Got.Nothing, (tt, asked.0,
 done_else name value (Cas a b) no_read no_id asked = (Got.Nothing, (tt, asked.0, asked.1))
 done_else name value (Add v) no_read no_id asked = (Got.Nothing, (tt, asked.0, asked.1))
 done_else name value Generate no_read no_id asked = absurd (no_id asked.0)
+done_else name value Txn no_read no_id asked = (Got.Nothing, (tt, asked.0, asked.1))
 
 done_read : (name : List ℕ) (value : Edn) (r : Request) → bytes_eq name (codes "read") ≡ true → (if is_read_value value then Some Read else None) ≡ Some r
     → (got : Got) × IsDone name value r got
@@ -201,6 +208,9 @@ is_done Generate Got.Nothing may = absurd may
 is_done Generate (Got.One None) may = refl
 is_done Generate (Got.One (Some z)) may = refl
 is_done Generate (Got.Many xs) may = absurd may
+is_done Txn Got.Nothing may = refl
+is_done Txn (Got.One x) may = absurd may
+is_done Txn (Got.Many xs) may = absurd may
 
 -- a client's completion of this kind is of the request, with this reply
 abbrev pub IsTelling : Kind → List ℕ → Edn → Request → Reply → Type 0
@@ -233,6 +243,7 @@ request_keyword v (Write x) e = keyword_is v _ _ e
 request_keyword v (Cas a b) e = keyword_is v _ _ e
 request_keyword v (Add x) e = keyword_is v _ _ e
 request_keyword v Generate e = keyword_is v _ _ e
+request_keyword v Txn e = keyword_is v _ _ e
 
 named_is : (rest : List (Edn × Edn)) (e : ℕ) → named_event rest ≡ Some e → rest ≡ pairs_of_event (Some e)
 named_is ((keyword name, int (pos n)) ∷ []) e h =

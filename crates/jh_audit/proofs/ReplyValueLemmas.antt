@@ -10,14 +10,16 @@ use Rattle.jh_edn.specs.declared.value.Value.{Value}
 use Rattle.jh_ops.specs.Operation.{Operation}
 use Rattle.jh_ops.specs.Words.{content_value}
 use Rattle.jh_ops.specs.declared.call.Request.{Request}
-use Rattle.jh_ops.specs.declared.call.Request.TheVariants.{Read, Write, Cas, Add, Generate}
+use Rattle.jh_ops.specs.declared.call.Request.TheVariants.{Read, Write, Cas, Add, Generate, Txn}
 use Rattle.jh_ops.specs.declared.operation.Kind.{Kind}
 use Rattle.jh_ops.specs.declared.operation.Process.{Process}
 use Rattle.jh_nemesis.specs.declared.steps.StepAnswer.{StepAnswer}
 use Rattle.jh_simnode.specs.declared.replicas.Got.{Got}
 use Rattle.jh_simnode.specs.declared.replicas.Reply.{Reply}
 use Rattle.jh_simnode.specs.declared.replicas.Reply.TheVariants as reply
-use Rattle.jh_simnode.specs.Histories.{request_name, asked_content, got_content, replied_content, completion_kind, code_of, placed_completion, placed_entry_completion}
+use Rattle.jh_simnode.specs.Histories.{got_content, replied_content, completion_kind, placed_completion, placed_entry_completion}
+use Rattle.jh_ops.specs.Requests.{request_name, asked_content}
+use Rattle.jh_nemesis.specs.Steps.{code_of}
 use Rattle.jh_audit.specs.Forms.{Says}
 use Rattle.jh_audit.specs.declared.forms.Form.TheVariants.{Completes}
 use Rattle.jh_audit.specs.DecodeInside.{is_nil, pair_in}
@@ -67,6 +69,7 @@ asked_decides (Write x) v = number_decides x v
 asked_decides (Cas a b) v = vector_decides (a ∷ b ∷ []) v
 asked_decides (Add x) v = number_decides x v
 asked_decides Generate v = nil_decides v
+asked_decides Txn v = nil_decides v
 
 got_decides : (r : Request) (g : Got) (v : Edn) → Decides (is_got r g v) (v ≡ content_value (got_content r g))
 got_decides r Got.Nothing v = asked_decides r v

@@ -8,7 +8,7 @@ use Rattle.std.specs.Str.{bytes_eq}
 use Rattle.jh_edn.specs.Edn.{Edn, nil, int, keyword, vector, list_of, is_integer, integer_of}
 use Rattle.jh_ops.specs.Operation.{Operation}
 use Rattle.jh_ops.specs.declared.call.Request.{Request}
-use Rattle.jh_ops.specs.declared.call.Request.TheVariants.{Read, Write, Cas, Add, Generate}
+use Rattle.jh_ops.specs.declared.call.Request.TheVariants.{Read, Write, Cas, Add, Generate, Txn}
 use Rattle.jh_ops.specs.declared.operation.Kind.{Kind}
 use Rattle.jh_ops.specs.declared.operation.Process.{Process}
 use Rattle.jh_audit.specs.declared.forms.Form.{Form}
@@ -54,6 +54,7 @@ request_asked name value =
     else if bytes_eq name (codes "cas") then option_map (λ p. Cas p.0 p.1) (pair_in value)
     else if bytes_eq name (codes "add") then option_map Add (integer_of value)
     else if bytes_eq name (codes "generate") then (if is_nil value then Some Generate else None)
+    else if bytes_eq name (codes "txn") then (if is_nil value then Some Txn else None)
     else None
 
 -- the request of this name that was done, where its completion may have this value

@@ -7,7 +7,7 @@ use Rattle.std.specs.Str.{bytes_eq}
 use Rattle.jh_edn.specs.Edn.{Edn, keyword, int}
 use Rattle.jh_ops.specs.Operation.{Operation}
 use Rattle.jh_ops.specs.declared.call.Request.{Request}
-use Rattle.jh_ops.specs.declared.call.Request.TheVariants.{Read, Write, Cas, Add, Generate}
+use Rattle.jh_ops.specs.declared.call.Request.TheVariants.{Read, Write, Cas, Add, Generate, Txn}
 use Rattle.jh_nemesis.specs.declared.steps.StepAnswer.{StepAnswer}
 use Rattle.jh_simnode.specs.declared.replicas.Got.{Got}
 use Rattle.jh_simnode.specs.declared.replicas.Reply.{Reply}
@@ -34,6 +34,9 @@ MayGet (Add v) (Got.Many xs) = ⊥
 MayGet Generate Got.Nothing = ⊥
 MayGet Generate (Got.One x) = ⊤
 MayGet Generate (Got.Many xs) = ⊥
+MayGet Txn Got.Nothing = ⊤
+MayGet Txn (Got.One x) = ⊥
+MayGet Txn (Got.Many xs) = ⊥
 
 -- what may be replied to a request
 abbrev pub MayReply : Request → Reply → Type 0

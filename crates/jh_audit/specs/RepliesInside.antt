@@ -3,7 +3,7 @@ use Rattle.std.specs.Prelude.{◌&&◌, Bool, true, false, ℤ, List, [], ◌∷
 use Rattle.std.specs.Ordering.{int_eq}
 use Rattle.jh_edn.specs.Edn.{Edn, int, vector, list_of}
 use Rattle.jh_ops.specs.declared.call.Request.{Request}
-use Rattle.jh_ops.specs.declared.call.Request.TheVariants.{Read, Write, Cas, Add, Generate}
+use Rattle.jh_ops.specs.declared.call.Request.TheVariants.{Read, Write, Cas, Add, Generate, Txn}
 use Rattle.jh_simnode.specs.declared.replicas.Got.{Got}
 use Rattle.jh_simnode.specs.declared.replicas.Reply.{Reply}
 use Rattle.jh_simnode.specs.declared.replicas.Reply.TheVariants as reply
@@ -33,6 +33,7 @@ is_asked_value (Write v) value = is_number v value
 is_asked_value (Cas a b) value = is_numbers (a ∷ b ∷ []) value
 is_asked_value (Add v) value = is_number v value
 is_asked_value Generate value = is_nil value
+is_asked_value Txn value = is_nil value
 
 -- it is the value in the completion of a request that was done
 abbrev pub is_got : Request → Got → Edn → Bool

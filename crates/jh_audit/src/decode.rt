@@ -86,6 +86,7 @@ pub(crate) fn request_asked(name: &str, value: &Value) -> Option<Request>
         }
         "add" => Some(Request::Add(value.as_integer()?)),
         "generate" => is_nil(value).then_some(Request::Generate),
+        "txn" => is_nil(value).then_some(Request::Txn),
         _ => None,
     }
 }

@@ -5,7 +5,8 @@ ghost use Rattle.std.specs.Prelude.{◌≡◌, ◌↔◌, IsTrue};
 ghost use Rattle.jh_edn.specs.View.{view, views};
 ghost use Rattle.jh_ops.specs.Operation.{operation};
 ghost use Rattle.jh_ops.specs.Words.{content_value};
-ghost use Rattle.jh_simnode.specs.Histories.{placed_entry_completion, code_of, completion_kind};
+ghost use Rattle.jh_simnode.specs.Histories.{placed_entry_completion, completion_kind};
+ghost use Rattle.jh_nemesis.specs.Steps.{code_of};
 ghost use Rattle.jh_simnode.specs.Histories.{replied_content};
 ghost use Rattle.jh_audit.specs.Audit.{IsCompletionBy};
 ghost use Rattle.jh_audit.specs.Forms.{Says};
@@ -17,7 +18,7 @@ use crate::forms::Form;
 use jh_edn::Value;
 use jh_nemesis::StepAnswer;
 use jh_ops::{Op, Request};
-use jh_simnode::{Event, Got, Reply, code_of, completion_kind};
+use jh_simnode::{Event, Got, Reply, completion_kind};
 
 /// Whether the value is this integer.
 fn is_number(value: &Value, number: i64) -> bool
@@ -61,7 +62,7 @@ fn is_asked_value(value: &Value, request: Request) -> bool
     ensures { result ≡ rule.is_asked_value request (view value.now) }
 {
     match request {
-        Request::Read | Request::Generate => is_nil(value),
+        Request::Read | Request::Generate | Request::Txn => is_nil(value),
         Request::Write(number) => is_number(value, number),
         Request::Add(amount) => is_number(value, amount),
         Request::Cas(old, new) => is_numbers(value, &[old, new]),
@@ -105,7 +106,7 @@ pub(crate) fn has_answer(op: &Op, place: usize, entry: u64, number: u64, answer:
         ↔ (operation op.now ≡ placed_entry_completion place number entry answer) }
 {
     match pair_in(&op.value) {
-        Some((_, code)) => code == code_of(answer),
+        Some((_, code)) => code == answer.code(),
         None => false,
     }
 }

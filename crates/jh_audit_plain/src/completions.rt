@@ -14,6 +14,7 @@ fn asked(alloc: Global, request: Request) -> Option<(&'static str, String)> {
     match request {
         Request::Read => Some(("read", String::from_str(alloc, "nil").ok()?)),
         Request::Generate => Some(("generate", String::from_str(alloc, "nil").ok()?)),
+        Request::Txn => Some(("txn", String::from_str(alloc, "nil").ok()?)),
         Request::Write(value) => Some(("write", format!(in alloc; "{value}").ok()?)),
         Request::Add(value) => Some(("add", format!(in alloc; "{value}").ok()?)),
         Request::Cas(old, new) => Some(("cas", format!(in alloc; "[{old} {new}]").ok()?)),

@@ -121,7 +121,7 @@ mutual
   pub fits_more : (g : Generator) (n m : ℕ) → n ≤ m → fits n g ≡ true → fits m g ≡ true
   fits_more nothing n m le h = refl
   fits_more (once c) n m le h = refl
-  fits_more (rising z) n m le h = refl
+  fits_more (rising r z) n m le h = refl
   fits_more (forever c) n m le h = refl
   fits_more (seq gs) n m le h = all_more gs n m le h
   fits_more (limit k g) n m le h = fits_more g n m le h

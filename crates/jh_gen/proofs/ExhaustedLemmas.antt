@@ -35,7 +35,7 @@ mutual
   pub done_of : (g : Generator) (t : Tally) (S : Scope) → is_done (state_left g t S) ≡ is_exhausted g t S
   done_of nothing t S = refl
   done_of (once c) t S = done_unless (is_exhausted (once c) t S) (one c) refl
-  done_of (rising n) t S = done_unless (is_exhausted (rising n) t S) _ refl
+  done_of (rising r n) t S = done_unless (is_exhausted (rising r n) t S) _ refl
   done_of (forever c) t S = done_unless (is_exhausted (forever c) t S) (endless c) refl
   done_of (seq gs) t S = done_all gs 0 t S
   done_of (limit n g) t S = ap₂ (λ a b. a || b) (sub_zero n (length t)) (done_of g (tally_under 0 t) S)
@@ -72,7 +72,7 @@ mutual
   pub done_taken : (s : GeneratorState) (q : Question) → is_done s ≡ true → taking s q ≡ None
   done_taken gone q h = refl
   done_taken (one c) q h = absurd cc
-  done_taken (counting n) q h = absurd cc
+  done_taken (counting r n) q h = absurd cc
   done_taken (endless c) q h = absurd cc
   done_taken (in_turn awaited ss) q h = ap (λ os. taking_within (in_turn awaited) (head_of os)) (done_open awaited ss q h)
   done_taken (limited n s) q h =

@@ -8,8 +8,8 @@ use Rattle.std.proofs.lemmas.Bool.{cond-true, cond-false, and_parts, or_parts, o
 use Rattle.std.proofs.lemmas.Int.{ints}
 use Rattle.jh_gen.specs.Generator.{Generator, nothing, once, rising, forever, seq, limit, mix, phases, reserve, each_thread, clients, nemesis_only, Generators, no_generators, generator, ShareList, no_shares, share}
 use Rattle.jh_ops.specs.declared.call.Call.{Call}
-use Rattle.jh_ops.specs.declared.call.Call.TheVariants.{Client}
-use Rattle.jh_ops.specs.declared.call.Request.TheVariants.{Add}
+use Rattle.jh_gen.specs.Rises.{risen}
+use Rattle.jh_gen.specs.declared.rise.Rise.{Rise}
 use Rattle.jh_gen.specs.Tally.{Path, Tally, tally_under}
 use Rattle.jh_gen.specs.Scope.{Scope, is_client_thread, is_nemesis_thread, is_share_thread, is_beyond, is_in_scope, Question, has_busy_thread}
 use Rattle.jh_gen.specs.Offers.{max_number, shares_len, is_exhausted, Offer, member_offer, head_of, first_some, picked_value, offer_unless_exhausted, offer, open_offers, share_offer}
@@ -96,7 +96,7 @@ unless_outside b S q o out = cond-false (is_in_scope S q.asker) _ _ out
 pub outside : (g : Generator) (t : Tally) (S : Scope) (q : Question) → is_in_scope S q.asker ≡ false → offer g t S q ≡ None
 outside nothing t S q out = refl
 outside (once c) t S q out = unless_outside (is_exhausted (once c) t S) S q _ out
-outside (rising n) t S q out = unless_outside (is_exhausted (rising n) t S) S q _ out
+outside (rising r n) t S q out = unless_outside (is_exhausted (rising r n) t S) S q _ out
 outside (forever c) t S q out = unless_outside (is_exhausted (forever c) t S) S q _ out
 outside (seq gs) t S q out = unless_outside (is_exhausted (seq gs) t S) S q _ out
 outside (limit n g) t S q out = unless_outside (is_exhausted (limit n g) t S) S q _ out
@@ -200,17 +200,17 @@ swapped : (b : Bool) (x y : GeneratorState) → cond (not b) x y ≡ cond b y x
 swapped true x y = refl
 swapped false x y = refl
 
-counting_left : (n : ℤ) (t : Tally) (S : Scope) (q : Question) → is_in_scope S q.asker ≡ true → (is_exhausted (rising n) t S) ≡ false → taking (state_left (rising n) t S) q ≡ with_left (λ p. state_left (rising n) (p ∷ t) S) (Some ([], Client (Add (n +ℤ pos (length t)))))
-counting_left n t S q here unspent =
+counting_left : (r : Rise) (n : ℤ) (t : Tally) (S : Scope) (q : Question) → is_in_scope S q.asker ≡ true → (is_exhausted (rising r n) t S) ≡ false → taking (state_left (rising r n) t S) q ≡ with_left (λ p. state_left (rising r n) (p ∷ t) S) (Some ([], risen r (n +ℤ pos (length t))))
+counting_left r n t S q here unspent =
     let m : ℤ = n +ℤ pos (length t) in
-    let count : ℤ → GeneratorState = λ k. cond (int_lt max_number k) gone (counting k) in
-    let next : state_left (rising n) ([] ∷ t) S ≡ counting_after m =
-    ap (λ e. cond (e || int_lt max_number (n +ℤ pos (suc (length t)))) gone (counting (n +ℤ pos (suc (length t))))) (some_in S q.asker here)
+    let count : ℤ → GeneratorState = λ k. cond (int_lt max_number k) gone (counting r k) in
+    let next : state_left (rising r n) ([] ∷ t) S ≡ counting_after r m =
+    ap (λ e. cond (e || int_lt max_number (n +ℤ pos (suc (length t)))) gone (counting r (n +ℤ pos (suc (length t))))) (some_in S q.asker here)
     ∙ ap count (one_more n (length t))
-    ∙ ap (λ b. cond b gone (counting (m +ℤ pos 1))) (at_end m)
-    ∙ swapped (int_lt m max_number) gone (counting (m +ℤ pos 1)) in
-    ap (λ s. taking s q) (cond-false (is_exhausted (rising n) t S) gone (counting m) unspent)
-    ∙ ap (λ s. Some (Client (Add m), s)) (sym next)
+    ∙ ap (λ b. cond b gone (counting r (m +ℤ pos 1))) (at_end m)
+    ∙ swapped (int_lt m max_number) gone (counting r (m +ℤ pos 1)) in
+    ap (λ s. taking s q) (cond-false (is_exhausted (rising r n) t S) gone (counting r m) unspent)
+    ∙ ap (λ s. Some (risen r m, s)) (sym next)
 
 -- Members.
 
@@ -310,8 +310,8 @@ mutual
   taken_is nothing t S q d here = refl
   taken_is (once c) t S q d here =
       guarded (is_exhausted (once c) t S) S q _ _ _ here (λ b. done_taken (state_left (once c) t S) q (done_of (once c) t S ∙ b)) (one_left c t S q here)
-  taken_is (rising n) t S q d here =
-      guarded (is_exhausted (rising n) t S) S q _ _ _ here (λ b. done_taken (state_left (rising n) t S) q (done_of (rising n) t S ∙ b)) (counting_left n t S q here)
+  taken_is (rising r n) t S q d here =
+      guarded (is_exhausted (rising r n) t S) S q _ _ _ here (λ b. done_taken (state_left (rising r n) t S) q (done_of (rising r n) t S ∙ b)) (counting_left r n t S q here)
   taken_is (forever c) t S q d here =
       guarded (is_exhausted (forever c) t S) S q _ _ _ here (λ b. done_taken (state_left (forever c) t S) q (done_of (forever c) t S ∙ b)) (λ b. endless_left c t S q here)
   taken_is (seq gs) t S q d here =

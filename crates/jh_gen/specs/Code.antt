@@ -6,10 +6,12 @@ use Rattle.std.specs.Coded.{Coded, coded_ℕ, coded_ℤ}
 use Rattle.jh_gen.specs.Generator.{Generator, nothing, once, rising, forever, seq, limit, mix}
 use Rattle.jh_gen.specs.Generator.{phases, reserve, each_thread, clients, nemesis_only, Generators}
 use Rattle.jh_gen.specs.Generator.{no_generators, generator, ShareList, no_shares, share}
+use Rattle.jh_gen.specs.declared.rise.Rise.{Rise}
+use Rattle.jh_gen.specs.declared.rise.Rise.TheVariants.{Adds, Writes}
 use Rattle.jh_ops.specs.declared.call.Call.{Call}
 use Rattle.jh_ops.specs.declared.call.Call.TheVariants.{Client, Step}
 use Rattle.jh_ops.specs.declared.call.Request.{Request}
-use Rattle.jh_ops.specs.declared.call.Request.TheVariants.{Read, Write, Cas, Add, Generate}
+use Rattle.jh_ops.specs.declared.call.Request.TheVariants.{Read, Write, Cas, Add, Generate, Txn}
 use base.Stored.{Gv, gnil, gnum, gcons}
 
 abbrev pub code_request : Request → Gv
@@ -18,6 +20,7 @@ code_request (Write n) = gcons (gnum 1) (coded_ℤ.code n)
 code_request (Cas m n) = gcons (gnum 2) (gcons (coded_ℤ.code m) (coded_ℤ.code n))
 code_request (Add n) = gcons (gnum 3) (coded_ℤ.code n)
 code_request Generate = gnum 4
+code_request Txn = gnum 5
 
 pub inj_request : (x y : Request) → code_request x ≡ code_request y → x ≡ y
 inj_request Read Read p = refl
@@ -27,6 +30,7 @@ inj_request (Cas m n) (Cas k l) p =
     (coded_ℤ.inj n l (ap (λ g. tail (tail g)) p) i)
 inj_request (Add m) (Add n) p = ap Add (coded_ℤ.inj m n (ap tail p))
 inj_request Generate Generate p = refl
+inj_request Txn Txn p = refl
 inj_request _ _ p = absurd cc
 
 abbrev pub code_call : Call → Gv
@@ -38,11 +42,20 @@ inj_call (Client r) (Client s) p = ap Client (inj_request r s (ap tail p))
 inj_call (Step m) (Step n) p = ap Step (coded_ℕ.inj m n (ap tail p))
 inj_call _ _ p = absurd cc
 
+abbrev pub code_rise : Rise → Gv
+code_rise Adds = gnil
+code_rise Writes = gnum 1
+
+pub inj_rise : (x y : Rise) → code_rise x ≡ code_rise y → x ≡ y
+inj_rise Adds Adds p = refl
+inj_rise Writes Writes p = refl
+inj_rise _ _ p = absurd cc
+
 abbrev mutual
   pub code_generator : Generator → Gv
   code_generator nothing = gnil
   code_generator (once c) = gcons (gnum 1) (code_call c)
-  code_generator (rising n) = gcons (gnum 2) (coded_ℤ.code n)
+  code_generator (rising r n) = gcons (gnum 2) (gcons (code_rise r) (coded_ℤ.code n))
   code_generator (forever c) = gcons (gnum 3) (code_call c)
   code_generator (seq gs) = gcons (gnum 4) (code_generators gs)
   code_generator (limit n g) = gcons (gnum 5) (gcons (gnum n) (code_generator g))
@@ -65,7 +78,9 @@ mutual
   pub inj_generator : (x y : Generator) → code_generator x ≡ code_generator y → x ≡ y
   inj_generator nothing nothing p = refl
   inj_generator (once b) (once c) p = ap once (inj_call b c (ap tail p))
-  inj_generator (rising b) (rising c) p = ap rising (coded_ℤ.inj b c (ap tail p))
+  inj_generator (rising r b) (rising s c) p =
+      λ i. rising (inj_rise r s (ap (λ g. head (tail g)) p) i)
+      (coded_ℤ.inj b c (ap (λ g. tail (tail g)) p) i)
   inj_generator (forever b) (forever c) p = ap forever (inj_call b c (ap tail p))
   inj_generator (seq b) (seq c) p = ap seq (inj_generators b c (ap tail p))
   inj_generator (limit m b) (limit n c) p =

@@ -16,7 +16,7 @@ use Rattle.jh_gen.specs.declared.generator.Gen.TheVariants.{the_data}
 pub gen_falls : (g : Gen) → deep-Gen g ≤ generator_size (generator_of g)
 gen_falls Nil = omega arith
 gen_falls (Once c) = omega arith
-gen_falls (Rising c) = omega arith
+gen_falls (Rising r c) = omega arith
 gen_falls (Forever c) = omega arith
 gen_falls (Seq b) = omega arith
 gen_falls (Limit n b) = omega arith

@@ -15,7 +15,7 @@ abbrev mutual
   pub fits : ℕ → Generator → Bool
   fits n nothing = true
   fits n (once c) = true
-  fits n (rising z) = true
+  fits n (rising r z) = true
   fits n (forever c) = true
   fits n (seq gs) = all_fit n gs
   fits n (limit k g) = fits n g

@@ -1,12 +1,13 @@
 -- Generators as plain data (this project's own).
 use Rattle.std.specs.Prelude.{ℕ, suc, ◌+◌, ℤ, List, [], ◌∷◌}
+use Rattle.jh_gen.specs.declared.rise.Rise.{Rise}
 use Rattle.jh_ops.specs.declared.call.Call.{Call}
 
 mutual
   pub data Generator : Type 0 where
     nothing : Generator
     once : Call → Generator
-    rising : ℤ → Generator
+    rising : Rise → ℤ → Generator
     forever : Call → Generator
     seq : Generators → Generator
     limit : ℕ → Generator → Generator
@@ -37,7 +38,7 @@ abbrev mutual
   pub generator_size : Generator → ℕ
   generator_size nothing = 0
   generator_size (once c) = 0
-  generator_size (rising n) = 0
+  generator_size (rising r n) = 0
   generator_size (forever c) = 0
   generator_size (seq gs) = suc (size_generators gs)
   generator_size (limit n g) = suc (generator_size g)

@@ -9,11 +9,12 @@ use Rattle.jh_edn.specs.Edn.{integer_of}
 use Rattle.jh_gen.specs.Generator.{Generator, nothing, once, rising, forever, seq, limit, mix}
 use Rattle.jh_gen.specs.Generator.{phases, reserve, each_thread, clients, nemesis_only, Generators}
 use Rattle.jh_gen.specs.Generator.{no_generators, generator, ShareList, no_shares, share}
+use Rattle.jh_gen.specs.declared.rise.Rise.TheVariants.{Adds, Writes}
 use Rattle.jh_gen.specs.declared.text.GenTextError.{GenTextError}
 use Rattle.jh_gen.specs.declared.text.GenTextError.TheVariants.{BadGenerator, OutOfMemory}
 use Rattle.jh_ops.specs.declared.call.Call.{Call}
 use Rattle.jh_ops.specs.declared.call.Call.TheVariants.{Client, Step}
-use Rattle.jh_ops.specs.declared.call.Request.TheVariants.{Read, Write, Cas, Add, Generate}
+use Rattle.jh_ops.specs.declared.call.Request.TheVariants.{Read, Write, Cas, Add, Generate, Txn}
 
 infixl 10 ◌>>=◌
 -- what follows from something, if there is something
@@ -28,11 +29,12 @@ small_number_of _ = None
 
 -- Calls.
 
--- `:read` and `:generate`
+-- `:read`, `:generate` and `:txn`
 abbrev pub call_named : List ℕ → Option Call
 call_named name =
     if bytes_eq name (codes "read") then Some (Client Read)
     else if bytes_eq name (codes "generate") then Some (Client Generate)
+    else if bytes_eq name (codes "txn") then Some (Client Txn)
     else None
 
 -- `[:write N]`, `[:add N]` and `[:step I]`
@@ -109,7 +111,9 @@ abbrev pub generator_named : List ℕ → List Operand → Option Generator
 generator_named name parts =
     if bytes_eq name (codes "nil") then generator_of_none parts
     else if bytes_eq name (codes "once") then option_map once (one_call parts)
-    else if bytes_eq name (codes "rising") then option_map rising (one_integer parts)
+    else if bytes_eq name (codes "rising") then option_map (rising Adds) (one_integer parts)
+    else if bytes_eq name (codes "rising-write")
+    then option_map (rising Writes) (one_integer parts)
     else if bytes_eq name (codes "forever") then option_map forever (one_call parts)
     else if bytes_eq name (codes "seq") then option_map seq (members parts)
     else if bytes_eq name (codes "limit") then limit_operands parts

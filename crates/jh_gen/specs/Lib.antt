@@ -1,3 +1,4 @@
+pub mod Rises
 pub mod Generator
 pub mod Code
 pub mod View
@@ -9,6 +10,7 @@ pub mod Scope
 pub mod Offers
 pub mod Fits
 pub mod Suits
+pub mod SuitsInside
 pub mod State
 pub mod StateCode
 pub mod NodeView

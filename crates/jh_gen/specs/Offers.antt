@@ -17,11 +17,10 @@ use Rattle.jh_gen.specs.Tally.{Path, Tally, tally_under}
 use Rattle.jh_gen.specs.Scope.{Scope, is_client_thread, is_nemesis_thread, is_share_thread}
 use Rattle.jh_gen.specs.Scope.{is_beyond, is_in_scope, Question, has_busy_thread}
 use Rattle.jh_gen.specs.Fits.{shares_sum}
+use Rattle.jh_gen.specs.Rises.{risen}
 use Rattle.jh_ops.specs.declared.call.Call.{Call}
-use Rattle.jh_ops.specs.declared.call.Call.TheVariants.{Client}
-use Rattle.jh_ops.specs.declared.call.Request.TheVariants.{Add}
 
--- the greatest number that is added
+-- the greatest number that is added or written
 abbrev pub max_number : ℤ
 max_number = pos 9223372036854775807
 
@@ -38,9 +37,9 @@ abbrev mutual
   is_exhausted nothing t scope = true
   -- an operation by itself, `once`: that operation and no more
   is_exhausted (once c) t scope = is_empty scope || not (is_empty t)
-  -- a sequence of adds, of n, n + 1 and so on, as for a set; that it ends at the greatest number is
-  -- our own
-  is_exhausted (rising n) t scope = is_empty scope || int_lt max_number (n +ℤ pos (length t))
+  -- a sequence of adds or of writes, of n, n + 1 and so on, as for a set; that it ends at the
+  -- greatest number is our own
+  is_exhausted (rising r n) t scope = is_empty scope || int_lt max_number (n +ℤ pos (length t))
   -- `repeat`: the same operation for ever
   is_exhausted (forever c) t scope = is_empty scope
   -- a sequence of generators: each in its turn, until all are spent
@@ -116,9 +115,9 @@ abbrev mutual
   offer (once c) t scope q =
       offer_unless_exhausted (is_exhausted (once c) t scope) scope q (Some ([], c))
   -- the next number
-  offer (rising n) t scope q =
-      offer_unless_exhausted (is_exhausted (rising n) t scope) scope q
-      (Some ([], Client (Add (n +ℤ pos (length t)))))
+  offer (rising r n) t scope q =
+      offer_unless_exhausted (is_exhausted (rising r n) t scope) scope q
+      (Some ([], risen r (n +ℤ pos (length t))))
   -- the call
   offer (forever c) t scope q =
       offer_unless_exhausted (is_exhausted (forever c) t scope) scope q (Some ([], c))

@@ -29,7 +29,7 @@ parsed_reserve xs = reserve_operands (operands_in xs)
 abbrev pub parsed_shape : Shape → Option Generator
 parsed_shape Shape.Nil = Some nothing
 parsed_shape (Shape.Once call) = Some (once call)
-parsed_shape (Shape.Rising first) = Some (rising first)
+parsed_shape (Shape.Rising r first) = Some (rising r first)
 parsed_shape (Shape.Forever call) = Some (forever call)
 parsed_shape (Shape.Seq parts) = option_map seq (parsed_members (views parts.now))
 parsed_shape (Shape.Limit number inner) =
@@ -50,7 +50,7 @@ generator_of_shape (Some shape) = parsed_shape shape
 abbrev pub shape_size : Shape → ℕ
 shape_size Shape.Nil = 0
 shape_size (Shape.Once call) = 0
-shape_size (Shape.Rising first) = 0
+shape_size (Shape.Rising r first) = 0
 shape_size (Shape.Forever call) = 0
 shape_size (Shape.Seq parts) = size_list (views parts.now)
 shape_size (Shape.Limit number inner) = size_of (view inner.now)

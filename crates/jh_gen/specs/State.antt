@@ -15,9 +15,9 @@ use Rattle.jh_gen.specs.Scope.{Scope, is_client_thread, is_nemesis_thread, is_sh
 use Rattle.jh_gen.specs.Scope.{is_beyond, is_in_scope, Question, has_busy_thread}
 use Rattle.jh_gen.specs.Offers.{max_number, shares_len, is_exhausted, head_of, picked_value}
 use Rattle.jh_gen.specs.Fits.{shares_sum}
+use Rattle.jh_gen.specs.Rises.{risen}
+use Rattle.jh_gen.specs.declared.rise.Rise.{Rise}
 use Rattle.jh_ops.specs.declared.call.Call.{Call}
-use Rattle.jh_ops.specs.declared.call.Call.TheVariants.{Client}
-use Rattle.jh_ops.specs.declared.call.Request.TheVariants.{Add}
 
 mutual
   pub data GeneratorState : Type 0 where
@@ -25,8 +25,8 @@ mutual
     gone : GeneratorState
     -- one call
     one : Call → GeneratorState
-    -- adds, the next one of this number
-    counting : ℤ → GeneratorState
+    -- adds or writes, the next one of this number
+    counting : Rise → ℤ → GeneratorState
     -- a call again and again
     endless : Call → GeneratorState
     -- members in their turn, which begin when none of these threads is busy
@@ -53,7 +53,7 @@ abbrev mutual
   pub is_done : GeneratorState → Bool
   is_done gone = true
   is_done (one c) = false
-  is_done (counting n) = false
+  is_done (counting r n) = false
   is_done (endless c) = false
   is_done (in_turn awaited ss) = are_all_done ss
   is_done (limited n s) = (n == 0) || is_done s
@@ -75,15 +75,15 @@ Taking X = Option (Call × X)
 abbrev pub taking_within : {X Y : Type 0} → (X → Y) → Taking X → Taking Y
 taking_within f o = option_map (λ r. (r.0, f r.1)) o
 
-abbrev pub counting_after : ℤ → GeneratorState
-counting_after n = if int_lt n max_number then counting (n +ℤ pos 1) else gone
+abbrev pub counting_after : Rise → ℤ → GeneratorState
+counting_after r n = if int_lt n max_number then counting r (n +ℤ pos 1) else gone
 
 -- the call that a thread gets now, if any
 abbrev mutual
   pub taking : GeneratorState → Question → Taking GeneratorState
   taking gone q = None
   taking (one c) q = Some (c, gone)
-  taking (counting n) q = Some (Client (Add n), counting_after n)
+  taking (counting r n) q = Some (risen r n, counting_after r n)
   taking (endless c) q = Some (c, endless c)
   taking (in_turn awaited ss) q =
       taking_within (in_turn awaited) (head_of (open_takings awaited ss q))
@@ -121,8 +121,8 @@ abbrev mutual
   pub state_left : Generator → Tally → Scope → GeneratorState
   state_left nothing t scope = gone
   state_left (once c) t scope = if is_exhausted (once c) t scope then gone else one c
-  state_left (rising n) t scope =
-      if is_exhausted (rising n) t scope then gone else counting (n +ℤ pos (length t))
+  state_left (rising r n) t scope =
+      if is_exhausted (rising r n) t scope then gone else counting r (n +ℤ pos (length t))
   state_left (forever c) t scope =
       if is_exhausted (forever c) t scope then gone else endless c
   state_left (seq gs) t scope = in_turn [] (states_left gs 0 t scope)
@@ -170,7 +170,7 @@ abbrev mutual
   pub state_size : GeneratorState → ℕ
   state_size gone = 0
   state_size (one c) = 0
-  state_size (counting n) = 0
+  state_size (counting r n) = 0
   state_size (endless c) = 0
   state_size (in_turn awaited ss) = suc (states_size ss)
   state_size (limited n s) = suc (state_size s)

@@ -1,11 +1,11 @@
--- Which generators suit a run of a workload with so many client threads, where a schedule and not
--- the generator begins and ends the faults (this project's own; the workloads are those of Jepsen's
--- pages on checkers).
+-- Which generators suit a run of a workload, or a test of transactions, with so many client threads,
+-- where a schedule and not the generator begins and ends the faults (this project's own; the
+-- workloads are those of Jepsen's pages on checkers).
 use Rattle.std.specs.Prelude.{ℕ, pos, int_lt, Bool, true, false, not, ◌&&◌}
 use Rattle.jh_ops.specs.declared.call.Call.{Call}
 use Rattle.jh_ops.specs.declared.call.Call.TheVariants.{Client, Step}
 use Rattle.jh_ops.specs.declared.call.Request.{Request}
-use Rattle.jh_ops.specs.declared.call.Request.TheVariants.{Add}
+use Rattle.jh_ops.specs.declared.call.Request.TheVariants.{Add, Txn}
 use Rattle.jh_ops.specs.declared.call.Workload.{Workload}
 use Rattle.jh_ops.specs.declared.call.Workload.TheVariants.{Counter}
 use Rattle.jh_ops.specs.Requests.{is_request_of}
@@ -13,14 +13,15 @@ use Rattle.jh_gen.specs.Generator.{Generator, nothing, once, rising, forever, se
 use Rattle.jh_gen.specs.Generator.{phases, reserve, each_thread, clients, nemesis_only, Generators}
 use Rattle.jh_gen.specs.Generator.{no_generators, generator, ShareList, no_shares, share}
 use Rattle.jh_gen.specs.Fits.{fits}
+use Rattle.jh_gen.specs.Rises.{risen}
 
 -- Each call of a generator passes a test, wherever the call stands, and no part is the nemesis's. A
--- rising is judged as the add of its first number, which is its least.
+-- rising is judged as the call of its first number, which is its least.
 abbrev mutual
   pub has_only : (Call → Bool) → Generator → Bool
   has_only passes nothing = true
   has_only passes (once c) = passes c
-  has_only passes (rising n) = passes (Client (Add n))
+  has_only passes (rising r n) = passes (risen r n)
   has_only passes (forever c) = passes c
   has_only passes (seq gs) = all_have_only passes gs
   has_only passes (limit n g) = has_only passes g
@@ -54,6 +55,15 @@ abbrev pub is_call_for : Workload → Call → Bool
 is_call_for w (Client r) = is_request_of r w && not (only_grows w && takes_away r)
 is_call_for w (Step i) = false
 
+-- a client's transaction
+abbrev pub is_transaction : Call → Bool
+is_transaction (Client Txn) = true
+is_transaction _ = false
+
 -- No reserve's numbers sum to more than the client threads, and all calls are of the workload.
 abbrev pub suits : Workload → ℕ → Generator → Bool
 suits w threads g = fits threads g && has_only (is_call_for w) g
+
+-- the same, and all calls are transactions
+abbrev pub suits_transactions : ℕ → Generator → Bool
+suits_transactions threads g = fits threads g && has_only is_transaction g

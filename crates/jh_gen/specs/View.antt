@@ -11,7 +11,7 @@ use Rattle.jh_gen.specs.declared.generator.Gen.TheVariants.{Clients, NemesisOnly
 abbrev pub generator_of : Gen → Generator
 generator_of Nil = nothing
 generator_of (Once c) = once c
-generator_of (Rising n) = rising n
+generator_of (Rising r n) = rising r n
 generator_of (Forever c) = forever c
 generator_of (Seq gs) = seq (row_of gs)
 generator_of (Limit n g) = limit n g

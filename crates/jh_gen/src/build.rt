@@ -13,7 +13,7 @@ ghost use Rattle.jh_gen.specs.State.{lots_from};
 ghost use Rattle.jh_gen.specs.NodeView.{node_state, lot_of, lots_view};
 
 use crate::generator::{Gen, Gens, Inner, Shares};
-use crate::node::{Lot, Lots, Member, Node, Row, Within};
+use crate::node::{Count, Lot, Lots, Member, Node, Row, Within};
 use std::alloc::{AllocError, Global};
 
 /// Whether each reserve's numbers sum to at most the number of client threads.
@@ -24,7 +24,7 @@ pub(crate) fn fits(source: &Gen, clients: u32) -> bool
     match source {
         Gen::Nil => true,
         Gen::Once(_) => true,
-        Gen::Rising(_) => true,
+        Gen::Rising(_, _) => true,
         Gen::Forever(_) => true,
         Gen::Seq(members) => members.all_fit(clients),
         Gen::Limit(_, inner) => fits(&inner.boxed, clients),
@@ -99,11 +99,14 @@ pub(crate) fn build(alloc: Global, source: &Gen, threads: &[usize]) -> Result<No
                 Ok(Node::One(*call))
             }
         }
-        Gen::Rising(first) => {
+        Gen::Rising(rise, first) => {
             if threads.is_empty() {
                 Ok(Node::Gone)
             } else {
-                Ok(Node::Counting(*first))
+                Ok(Node::Counting(Count {
+                    rise: *rise,
+                    next: *first,
+                }))
             }
         }
         Gen::Forever(call) => {

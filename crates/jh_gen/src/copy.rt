@@ -18,7 +18,7 @@ impl Gen {
         match self {
             Gen::Nil => Ok(Gen::Nil),
             Gen::Once(call) => Ok(Gen::Once(*call)),
-            Gen::Rising(first) => Ok(Gen::Rising(*first)),
+            Gen::Rising(rise, first) => Ok(Gen::Rising(*rise, *first)),
             Gen::Forever(call) => Ok(Gen::Forever(*call)),
             Gen::Seq(members) => Ok(Gen::Seq(copy_members(alloc, members)?)),
             Gen::Limit(count, inner) => Ok(Gen::Limit(*count, copy_inner(alloc, inner)?)),

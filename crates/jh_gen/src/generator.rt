@@ -3,6 +3,7 @@
 ghost use Rattle.std.specs.Prelude.{◌≡◌, IfOk};
 ghost use Rattle.jh_gen.specs.View.{generator_of, generators_of, shares_of};
 
+use crate::rise::Rise;
 use jh_ops::Call;
 use std::alloc::{AllocError, Global};
 use std::boxed::Box;
@@ -18,8 +19,8 @@ pub enum Gen {
     Nil,
     /// One call.
     Once(Call),
-    /// Adds of this number, the next one, and so on, up to the greatest that there is.
-    Rising(i64),
+    /// Adds or writes of this number, the next one, and so on, up to the greatest that there is.
+    Rising(Rise, i64),
     /// One call again and again.
     Forever(Call),
     /// Each generator in its turn, the next one when one is spent.

@@ -8,6 +8,7 @@ mod driver;
 mod generator;
 mod laws;
 mod node;
+mod rise;
 mod suits;
 mod text;
 
@@ -15,4 +16,5 @@ pub use answers::{DriverError, Ended, GenAnswer, GenError, Thread};
 pub use driver::{Driver, MAX_CALLS, MAX_CLIENTS};
 pub use generator::{Gen, Gens, Inner, Shares};
 pub use laws::{asked_answers, end_keeps_generator};
+pub use rise::Rise;
 pub use text::{GenTextError, gen_of_value};

@@ -11,7 +11,8 @@ ghost use Rattle.jh_gen.specs.Turns.{question, first_open_place, turn_at, first_
 ghost use Rattle.jh_gen.specs.Turns.{open_place};
 ghost use Rattle.jh_gen.specs.Turns.{turn_among, any_turn, lot_at, lot_turn};
 
-use jh_ops::{Call, Request};
+use crate::rise::Rise;
+use jh_ops::Call;
 use std::marker::Model;
 
 /// Who asks, with which random number, and which threads have an operation outstanding.
@@ -22,13 +23,20 @@ pub(crate) struct Asked<'a> {
     pub(crate) busy: &'a [bool],
 }
 
+/// Rising numbers: what is asked with each, and the next one.
+#[derive(Clone, Copy)]
+pub(crate) struct Count {
+    pub(crate) rise: Rise,
+    pub(crate) next: i64,
+}
+
 /// What is left of a generator.
 #[cycle(node)]
 #[derive(Drop)]
 pub(crate) enum Node {
     Gone,
     One(Call),
-    Counting(i64),
+    Counting(Count),
     Endless(Call),
     InTurn(Vec<usize>, Row),
     Limited(u32, Within),
@@ -213,14 +221,17 @@ impl Node {
                 *self = Node::Gone;
                 Some(call)
             }
-            Node::Counting(number) => {
-                let number = *number;
-                *self = if number < i64::MAX {
-                    Node::Counting(number + 1)
+            Node::Counting(count) => {
+                let Count { rise, next } = *count;
+                *self = if next < i64::MAX {
+                    Node::Counting(Count {
+                        rise,
+                        next: next + 1,
+                    })
                 } else {
                     Node::Gone
                 };
-                Some(Call::Client(Request::Add(number)))
+                Some(rise.call(next))
             }
             Node::Endless(call) => Some(*call),
             Node::InTurn(awaited, row) => row.take_first(awaited, asked),

@@ -3,11 +3,21 @@
 ghost use Rattle.std.specs.Prelude.{◌≡◌};
 ghost use Rattle.jh_gen.specs.Generator.{row_of, share_list};
 ghost use Rattle.jh_gen.specs.Suits as rule;
+ghost use Rattle.jh_gen.specs.SuitsInside.{is_call_wanted};
 ghost use Rattle.jh_gen.specs.View.{generator_of};
 
 use crate::build::fits;
 use crate::generator::{Gen, Gens, Shares};
 use jh_ops::{Call, Request, Workload};
+
+/// What the calls of a generator are to be.
+#[derive(Clone, Copy)]
+enum Wanted {
+    /// Requests of a workload.
+    Of(Workload),
+    /// Transactions.
+    Transactions,
+}
 
 /// Whether a call is a client's request of the workload, and of the counter no negative add.
 fn is_call_for(workload: Workload, call: Call) -> bool
@@ -20,49 +30,80 @@ fn is_call_for(workload: Workload, call: Call) -> bool
     }
 }
 
+/// Whether a call is a client's transaction.
+fn is_transaction(call: Call) -> bool
+    ensures { result ≡ rule.is_transaction call }
+{
+    match call {
+        Call::Client(Request::Txn) => true,
+        _ => false,
+    }
+}
+
+impl Wanted {
+    /// Whether a call is one of these.
+    fn has(self, call: Call) -> bool
+        ensures { result ≡ is_call_wanted self call }
+    {
+        match self {
+            Wanted::Of(workload) => is_call_for(workload, call),
+            Wanted::Transactions => is_transaction(call),
+        }
+    }
+}
+
 impl Gen {
     /// Whether the generator suits a run of a workload with so many client threads: it has no part
     /// of the nemesis and no call of a step, the numbers of each reserve sum to at most `clients`,
-    /// and each call is a request of the workload. A rising counts as adds. Of the counter, no add
-    /// is negative, and no rising begins below 0.
+    /// and each call is a request of the workload. Of the counter, no add is negative, and no rising
+    /// begins below 0.
     pub fn suits(&self, workload: Workload, clients: u32) -> bool
         ensures { result ≡ rule.suits workload clients (generator_of self.now) }
     {
-        fits(self, clients) && self.has_only(workload)
+        fits(self, clients) && self.has_only(Wanted::Of(workload))
     }
 
-    /// Whether each call of the generator is one for the workload, and no part is the nemesis's.
+    /// Whether the generator suits a test of transactions with so many client threads: it has no part
+    /// of the nemesis and no call of a step, the numbers of each reserve sum to at most `clients`,
+    /// and each call is `Txn`.
+    pub fn suits_transactions(&self, clients: u32) -> bool
+        ensures { result ≡ rule.suits_transactions clients (generator_of self.now) }
+    {
+        fits(self, clients) && self.has_only(Wanted::Transactions)
+    }
+
+    /// Whether each call of the generator is wanted, and no part is the nemesis's.
     #[cycle(only)]
-    fn has_only(&self, workload: Workload) -> bool
-        ensures { result ≡ rule.has_only (rule.is_call_for workload) (generator_of self.now) }
+    fn has_only(&self, wanted: Wanted) -> bool
+        ensures { result ≡ rule.has_only (is_call_wanted wanted) (generator_of self.now) }
     {
         match self {
             Gen::Nil => true,
-            Gen::Once(call) => is_call_for(workload, *call),
-            Gen::Rising(first) => is_call_for(workload, Call::Client(Request::Add(*first))),
-            Gen::Forever(call) => is_call_for(workload, *call),
-            Gen::Seq(members) => members.all_have_only(workload),
-            Gen::Limit(_, inner) => inner.boxed.has_only(workload),
-            Gen::Mix(members) => members.all_have_only(workload),
-            Gen::Phases(members) => members.all_have_only(workload),
+            Gen::Once(call) => wanted.has(*call),
+            Gen::Rising(rise, first) => wanted.has(rise.call(*first)),
+            Gen::Forever(call) => wanted.has(*call),
+            Gen::Seq(members) => members.all_have_only(wanted),
+            Gen::Limit(_, inner) => inner.boxed.has_only(wanted),
+            Gen::Mix(members) => members.all_have_only(wanted),
+            Gen::Phases(members) => members.all_have_only(wanted),
             Gen::Reserve(shares, inner) => {
-                shares.all_have_only(workload) && inner.boxed.has_only(workload)
+                shares.all_have_only(wanted) && inner.boxed.has_only(wanted)
             }
-            Gen::EachThread(inner) => inner.boxed.has_only(workload),
-            Gen::Clients(inner) => inner.boxed.has_only(workload),
+            Gen::EachThread(inner) => inner.boxed.has_only(wanted),
+            Gen::Clients(inner) => inner.boxed.has_only(wanted),
             Gen::NemesisOnly(_) => false,
         }
     }
 }
 
 impl Gens {
-    /// Whether each of the generators has only calls for the workload.
+    /// Whether each of the generators has only calls that are wanted.
     #[cycle(only)]
-    fn all_have_only(&self, workload: Workload) -> bool
-        ensures { result ≡ rule.all_have_only (rule.is_call_for workload) (row_of self.now) }
+    fn all_have_only(&self, wanted: Wanted) -> bool
+        ensures { result ≡ rule.all_have_only (is_call_wanted wanted) (row_of self.now) }
     {
         for member in &self.items {
-            if !member.has_only(workload) {
+            if !member.has_only(wanted) {
                 return false;
             }
         }
@@ -71,13 +112,13 @@ impl Gens {
 }
 
 impl Shares {
-    /// Whether the generator of each share has only calls for the workload.
+    /// Whether the generator of each share has only calls that are wanted.
     #[cycle(only)]
-    fn all_have_only(&self, workload: Workload) -> bool
-        ensures { result ≡ rule.shares_have_only (rule.is_call_for workload) (share_list self.now) }
+    fn all_have_only(&self, wanted: Wanted) -> bool
+        ensures { result ≡ rule.shares_have_only (is_call_wanted wanted) (share_list self.now) }
     {
         for (_, member) in &self.items {
-            if !member.has_only(workload) {
+            if !member.has_only(wanted) {
                 return false;
             }
         }

@@ -14,6 +14,7 @@ ghost use Rattle.jh_gen.specs.View.{generator_of};
 ghost use Rattle.jh_gen.specs.declared.text.GenTextError.TheVariants.{OutOfMemory};
 
 use crate::generator::{Gen, Gens, Inner, Shares};
+use crate::rise::Rise;
 use jh_edn::Value;
 use jh_ops::{Call, Request};
 use std::alloc::{AllocError, AllocFailed, Global};
@@ -49,7 +50,7 @@ impl<T: Drop> From<AllocFailed<T>> for GenTextError {
 pub(crate) enum Shape<'a> {
     Nil,
     Once(Call),
-    Rising(i64),
+    Rising(Rise, i64),
     Forever(Call),
     Seq(&'a [Value]),
     Limit(u32, &'a Value),
@@ -68,6 +69,7 @@ fn call_named(name: &str) -> Option<Call>
     match name {
         "read" => Some(Call::Client(Request::Read)),
         "generate" => Some(Call::Client(Request::Generate)),
+        "txn" => Some(Call::Client(Request::Txn)),
         _ => None,
     }
 }
@@ -187,7 +189,8 @@ fn shape_by<'a>(name: &str, parts: &'a [Value]) -> Option<Shape<'a>>
     match name {
         "nil" => shape_of_none(parts),
         "once" => Some(Shape::Once(one_call(parts)?)),
-        "rising" => Some(Shape::Rising(one_integer(parts)?)),
+        "rising" => Some(Shape::Rising(Rise::Adds, one_integer(parts)?)),
+        "rising-write" => Some(Shape::Rising(Rise::Writes, one_integer(parts)?)),
         "forever" => Some(Shape::Forever(one_call(parts)?)),
         "seq" => Some(Shape::Seq(parts)),
         "limit" => limited(parts),
@@ -242,7 +245,7 @@ fn is_generator(value: &Value) -> bool
     match shape {
         Shape::Nil => true,
         Shape::Once(_) => true,
-        Shape::Rising(_) => true,
+        Shape::Rising(_, _) => true,
         Shape::Forever(_) => true,
         Shape::Seq(parts) => are_generators(parts),
         Shape::Limit(_, inner) => is_generator(inner),
@@ -299,7 +302,7 @@ fn gen_in(alloc: Global, value: &Value) -> Result<Gen, GenTextError>
     match shape {
         Shape::Nil => Ok(Gen::Nil),
         Shape::Once(call) => Ok(Gen::Once(call)),
-        Shape::Rising(first) => Ok(Gen::Rising(first)),
+        Shape::Rising(rise, first) => Ok(Gen::Rising(rise, first)),
         Shape::Forever(call) => Ok(Gen::Forever(call)),
         Shape::Seq(parts) => Ok(Gen::Seq(members_in(alloc, parts)?)),
         Shape::Limit(most, inner) => Ok(Gen::Limit(most, inner_in(alloc, inner)?)),
@@ -360,11 +363,11 @@ fn reserve_in(alloc: Global, parts: &[Value]) -> Result<Gen, GenTextError>
 }
 
 /// The generator that a value means: a vector or a list of a name and what belongs to it, one of
-/// `[:nil]`, `[:once CALL]`, `[:rising N]`, `[:forever CALL]`, `[:seq G ..]`, `[:limit N G]`,
-/// `[:mix G ..]`, `[:phases G ..]`, `[:reserve N1 G1 .. D]`, `[:each-thread G]`, `[:clients G]` and
-/// `[:nemesis G]`. A call is `:read`, `[:write N]`, `[:cas OLD NEW]`, `[:add N]`, `:generate` or
-/// `[:step I]`. The numbers of a limit, a reserve and a step are from 0 to 4,294,967,295, the
-/// others any of 64 bits.
+/// `[:nil]`, `[:once CALL]`, `[:rising N]`, `[:rising-write N]`, `[:forever CALL]`, `[:seq G ..]`,
+/// `[:limit N G]`, `[:mix G ..]`, `[:phases G ..]`, `[:reserve N1 G1 .. D]`, `[:each-thread G]`,
+/// `[:clients G]` and `[:nemesis G]`. A call is `:read`, `[:write N]`, `[:cas OLD NEW]`, `[:add N]`,
+/// `:generate`, `:txn` or `[:step I]`. The numbers of a limit, a reserve and a step are from 0 to
+/// 4,294,967,295, the others any of 64 bits.
 ///
 /// Takes time linear in the value.
 ///

@@ -4,7 +4,7 @@
 //! `depth` is how many generators may still be inside one another; one that lies deeper is spent.
 
 use crate::parts::{Part, Question, Scope};
-use jh_gen::{Gen, Shares};
+use jh_gen::{Gen, Rise, Shares};
 use jh_ops::{Call, Request};
 
 /// Whether a generator is spent, as this part of the whole.
@@ -17,7 +17,7 @@ pub(crate) fn is_spent(source: &Gen, part: Part, depth: u32) -> bool {
     match source {
         Gen::Nil => true,
         Gen::Once(_) => part.scope.is_empty() || part.given() > 0,
-        Gen::Rising(first) => part.scope.is_empty() || part.next(*first).is_none(),
+        Gen::Rising(_, first) => part.scope.is_empty() || part.next(*first).is_none(),
         Gen::Forever(_) => part.scope.is_empty(),
         Gen::Seq(members) | Gen::Mix(members) | Gen::Phases(members) => {
             are_spent(members.as_slice(), part, below)
@@ -125,7 +125,12 @@ pub(crate) fn offer_of(source: &Gen, part: Part, question: Question, depth: u32)
     match source {
         Gen::Nil => None,
         Gen::Once(call) | Gen::Forever(call) => Some((part.path, *call)),
-        Gen::Rising(first) => { Some((part.path, Call::Client(Request::Add(part.next(*first)?)))) }
+        Gen::Rising(Rise::Adds, first) => {
+            Some((part.path, Call::Client(Request::Add(part.next(*first)?))))
+        }
+        Gen::Rising(Rise::Writes, first) => {
+            Some((part.path, Call::Client(Request::Write(part.next(*first)?))))
+        }
         Gen::Seq(members) => {
             first_offer(
                 members.as_slice(),

@@ -2,7 +2,7 @@
 
 ghost use Rattle.std.specs.Prelude.{◌<◌};
 
-use jh_gen::{Gen, Gens, Inner, Shares};
+use jh_gen::{Gen, Gens, Inner, Rise, Shares};
 use jh_ops::{Call, Request};
 use std::alloc::{AllocError, Global};
 
@@ -68,10 +68,11 @@ pub fn random_source(alloc: Global, random: &mut Random, depth: u32) -> Result<G
 
 /// A random generator with no other inside.
 fn random_leaf(random: &mut Random) -> Gen {
-    match random.below(6) {
+    match random.below(7) {
         0 => Gen::Nil,
-        1 => Gen::Rising(i64::MAX - 1),
-        2 => Gen::Forever(random_call(random)),
+        1 => Gen::Rising(Rise::Adds, i64::MAX - 1),
+        2 => Gen::Rising(Rise::Writes, i64::MAX - 1),
+        3 => Gen::Forever(random_call(random)),
         _ => Gen::Once(random_call(random)),
     }
 }

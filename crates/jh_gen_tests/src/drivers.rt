@@ -38,7 +38,12 @@ fn offers_by_kind(rt: HostRuntime) -> Result<(), Fail> {
         driver 2 [:rising 9223372036854775807] => Ok(())
         ask 0 client-0 => Ok(Call(Client(0), Client(Add(9223372036854775807))))
         end ok client-0 => Ok(())
-        ask 0 client-0 => Ok(Done)";
+        ask 0 client-0 => Ok(Done)
+        driver 2 [:rising-write -1] => Ok(())
+        ask 0 client-1 => Ok(Call(Client(1), Client(Write(-1))))
+        ask 0 client-0 => Ok(Call(Client(0), Client(Write(0))))
+        driver 1 [:once :txn] => Ok(())
+        ask 0 client-0 => Ok(Call(Client(0), Client(Txn)))";
     assert_eq!(rt; first_wrong(rt.alloc(), rows)?, None);
     Ok(())
 }

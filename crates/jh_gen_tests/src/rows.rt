@@ -4,7 +4,7 @@
 //!
 //!     read TEXT              the generator of a text
 //!     copy TEXT              a copy of the generator of a text
-//!     suits CLIENTS TEXT     whether it suits a register, a counter, a set, and ids
+//!     suits CLIENTS TEXT     whether it suits a register, a counter, a set, ids, and transactions
 //!     driver CLIENTS TEXT    a driver of it, which the next rows ask
 //!     ask WORD THREAD        what the driver answers to `client-0`, `client-1`, `client-2` or `nemesis`
 //!     end HOW THREAD         the thread's operation ends as `ok`, `fail` or `info`
@@ -65,6 +65,7 @@ fn suited(alloc: Global, text: &str) -> Result<String, Fail> {
         source.suits(Workload::Counter, clients),
         source.suits(Workload::Set, clients),
         source.suits(Workload::Ids, clients),
+        source.suits_transactions(clients),
     ];
     printed(alloc, &suited)
 }

@@ -10,9 +10,10 @@ use Rattle.jh_gen.specs.View.{generator_of, generators_of, shares_of}
 use Rattle.jh_gen.specs.GeneratorText.{parsed_call, parsed_generator, members, reserve_operands, operands_of, small_number_of}
 use Rattle.jh_gen.specs.declared.generator.Gen.{Gen}
 use Rattle.jh_gen_texts.specs.GeneratorWritten.{text_of_call, text_of_generator, texts_of_generators, texts_of_shares, IsWritableCall, IsWritableGenerator, AreWritable, AreWritableShares}
+use Rattle.jh_gen.specs.declared.rise.Rise.TheVariants.{Adds, Writes}
 use Rattle.jh_ops.specs.declared.call.Call.{Call}
 use Rattle.jh_ops.specs.declared.call.Call.TheVariants.{Client, Step}
-use Rattle.jh_ops.specs.declared.call.Request.TheVariants.{Read, Write, Cas, Add, Generate}
+use Rattle.jh_ops.specs.declared.call.Request.TheVariants.{Read, Write, Cas, Add, Generate, Txn}
 
 -- ---- read back
 
@@ -25,13 +26,15 @@ call_back (Client (Write z)) small = refl
 call_back (Client (Cas old new)) small = refl
 call_back (Client (Add z)) small = refl
 call_back (Client Generate) small = refl
+call_back (Client Txn) small = refl
 call_back (Step i) small = ap (option_map Step) (number_back i small)
 
 mutual
   pub generator_back : (g : Generator) → IsWritableGenerator g → parsed_generator (text_of_generator g) ≡ Some g
   generator_back nothing small = refl
   generator_back (once call) small = ap (option_map once) (call_back call small)
-  generator_back (rising z) small = refl
+  generator_back (rising Adds z) small = refl
+  generator_back (rising Writes z) small = refl
   generator_back (forever call) small = ap (option_map forever) (call_back call small)
   generator_back (seq gs) small = ap (option_map seq) (row_back gs small)
   generator_back (limit n g) small = rw (number_back n small.0, generator_back g small.1) refl

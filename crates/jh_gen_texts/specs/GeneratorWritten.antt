@@ -6,9 +6,11 @@ use Rattle.jh_edn.specs.Edn.{Edn, int, keyword, vector, items_of}
 use Rattle.jh_gen.specs.Generator.{Generator, nothing, once, rising, forever, seq, limit, mix}
 use Rattle.jh_gen.specs.Generator.{phases, reserve, each_thread, clients, nemesis_only, Generators}
 use Rattle.jh_gen.specs.Generator.{no_generators, generator, ShareList, no_shares, share}
+use Rattle.jh_gen.specs.declared.rise.Rise.{Rise}
+use Rattle.jh_gen.specs.declared.rise.Rise.TheVariants.{Adds, Writes}
 use Rattle.jh_ops.specs.declared.call.Call.{Call}
 use Rattle.jh_ops.specs.declared.call.Call.TheVariants.{Client, Step}
-use Rattle.jh_ops.specs.declared.call.Request.TheVariants.{Read, Write, Cas, Add, Generate}
+use Rattle.jh_ops.specs.declared.call.Request.TheVariants.{Read, Write, Cas, Add, Generate, Txn}
 
 -- a vector of a name and what belongs to it
 abbrev pub named : List ℕ → List Edn → Edn
@@ -21,14 +23,19 @@ text_of_call (Client (Write z)) = named (codes "write") (int z ∷ [])
 text_of_call (Client (Cas old new)) = named (codes "cas") (int old ∷ int new ∷ [])
 text_of_call (Client (Add z)) = named (codes "add") (int z ∷ [])
 text_of_call (Client Generate) = keyword (codes "generate")
+text_of_call (Client Txn) = keyword (codes "txn")
 text_of_call (Step i) = named (codes "step") (int (pos i) ∷ [])
+
+abbrev pub rising_name : Rise → List ℕ
+rising_name Adds = codes "rising"
+rising_name Writes = codes "rising-write"
 
 abbrev mutual
   -- the text of a generator
   pub text_of_generator : Generator → Edn
   text_of_generator nothing = named (codes "nil") []
   text_of_generator (once call) = named (codes "once") (text_of_call call ∷ [])
-  text_of_generator (rising z) = named (codes "rising") (int z ∷ [])
+  text_of_generator (rising r z) = named (rising_name r) (int z ∷ [])
   text_of_generator (forever call) = named (codes "forever") (text_of_call call ∷ [])
   text_of_generator (seq gs) = named (codes "seq") (texts_of_generators gs)
   text_of_generator (limit n g) = named (codes "limit") (int (pos n) ∷ text_of_generator g ∷ [])
@@ -60,7 +67,7 @@ abbrev mutual
   pub IsWritableGenerator : Generator → Type 0
   IsWritableGenerator nothing = Unit {0}
   IsWritableGenerator (once call) = IsWritableCall call
-  IsWritableGenerator (rising z) = Unit {0}
+  IsWritableGenerator (rising r z) = Unit {0}
   IsWritableGenerator (forever call) = IsWritableCall call
   IsWritableGenerator (seq gs) = AreWritable gs
   IsWritableGenerator (limit n g) = (n < 2 ^ 32) × IsWritableGenerator g

@@ -15,7 +15,7 @@ ghost use Rattle.jh_gen_texts.specs.GeneratorWritten.{text_of_generator, texts_o
 ghost use Rattle.jh_gen_texts.specs.GeneratorWritten.{texts_of_shares};
 
 use jh_edn::{Value, Values};
-use jh_gen::{Gen, Gens, Shares};
+use jh_gen::{Gen, Gens, Rise, Shares};
 use jh_ops::{Call, Request};
 use std::alloc::{AllocError, Global};
 
@@ -75,7 +75,18 @@ fn value_of_call(alloc: Global, call: Call) -> Result<Value, AllocError>
         }
         Call::Client(Request::Add(number)) => named(alloc, "add", Value::Int(number)),
         Call::Client(Request::Generate) => Value::keyword(alloc, "generate"),
+        Call::Client(Request::Txn) => Value::keyword(alloc, "txn"),
         Call::Step(place) => named(alloc, "step", small_number(place)),
+    }
+}
+
+/// The name of a generator of rising numbers.
+fn rising_name(rise: Rise) -> &'static str
+    ensures { result.now ≡ text.rising_name rise }
+{
+    match rise {
+        Rise::Adds => "rising",
+        Rise::Writes => "rising-write",
     }
 }
 
@@ -88,7 +99,7 @@ fn written(alloc: Global, source: &Gen) -> Result<Value, AllocError>
     match source {
         Gen::Nil => Ok(vector(name_alone(alloc, "nil")?)),
         Gen::Once(call) => named(alloc, "once", value_of_call(alloc, *call)?),
-        Gen::Rising(first) => named(alloc, "rising", Value::Int(*first)),
+        Gen::Rising(rise, first) => named(alloc, rising_name(*rise), Value::Int(*first)),
         Gen::Forever(call) => named(alloc, "forever", value_of_call(alloc, *call)?),
         Gen::Seq(members) => Ok(vector(row_values(alloc, "seq", members)?)),
         Gen::Limit(most, inner) => {
@@ -138,10 +149,10 @@ fn share_values(alloc: Global, name: &str, shares: &Shares) -> Result<Vec<Value>
 }
 
 /// The text of a generator, which `gen_of_value` of `jh_gen` reads back as this generator: one of
-/// `[:nil]`, `[:once CALL]`, `[:rising N]`, `[:forever CALL]`, `[:seq G ..]`, `[:limit N G]`,
-/// `[:mix G ..]`, `[:phases G ..]`, `[:reserve N1 G1 .. D]`, `[:each-thread G]`, `[:clients G]` and
-/// `[:nemesis G]`. A call is `:read`, `[:write N]`, `[:cas OLD NEW]`, `[:add N]`, `:generate` or
-/// `[:step I]`.
+/// `[:nil]`, `[:once CALL]`, `[:rising N]`, `[:rising-write N]`, `[:forever CALL]`, `[:seq G ..]`,
+/// `[:limit N G]`, `[:mix G ..]`, `[:phases G ..]`, `[:reserve N1 G1 .. D]`, `[:each-thread G]`,
+/// `[:clients G]` and `[:nemesis G]`. A call is `:read`, `[:write N]`, `[:cas OLD NEW]`, `[:add N]`,
+/// `:generate`, `:txn` or `[:step I]`.
 ///
 /// Takes time linear in the generator.
 ///

@@ -56,6 +56,17 @@ answer_of s WithdrawAll = withdraw_all_answer s
 answer_of s Undo = if is_empty s.past then NothingToUndo else Ok
 answer_of s Redo = if is_empty s.future then NothingToRedo else Ok
 
+-- the code by which a history records an answer
+abbrev pub code_of : StepAnswer → ℕ
+code_of Ok = 0
+code_of IdTaken = 1
+code_of TooManyActive = 2
+code_of TooManySteps = 3
+code_of NotActive = 4
+code_of NothingActive = 5
+code_of NothingToUndo = 6
+code_of NothingToRedo = 7
+
 -- the active faults but the one of this id
 abbrev pub active_without : Active → ℕ → Active
 active_without active id = filter (λ f. not (has_id id f)) active

@@ -1,7 +1,8 @@
 //! Steps and the answers to them. `specs/Steps.antt` says which answer a step has; a new kind of
 //! step begins there.
 
-ghost use Rattle.std.specs.Prelude.{◌≡◌, ◌↔◌, IfOk, IsTrue};
+ghost use Rattle.std.specs.Prelude.{◌≡◌, ◌↔◌, IfOk, IsTrue, pos};
+ghost use Rattle.jh_nemesis.specs.Steps.{code_of};
 
 use jh_env::Fault;
 use std::alloc::{AllocError, Global};
@@ -80,6 +81,24 @@ pub enum StepAnswer {
     NothingToUndo,
     /// No step was undone since the last begin or withdrawal.
     NothingToRedo,
+}
+
+impl StepAnswer {
+    /// The code by which a history records the answer, from 0 to 7.
+    pub fn code(self) -> i64
+        ensures { result ≡ pos (code_of self) }
+    {
+        match self {
+            StepAnswer::Ok => 0,
+            StepAnswer::IdTaken => 1,
+            StepAnswer::TooManyActive => 2,
+            StepAnswer::TooManySteps => 3,
+            StepAnswer::NotActive => 4,
+            StepAnswer::NothingActive => 5,
+            StepAnswer::NothingToUndo => 6,
+            StepAnswer::NothingToRedo => 7,
+        }
+    }
 }
 
 /// Why a fault is not begun.

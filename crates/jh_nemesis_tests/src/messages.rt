@@ -1,7 +1,9 @@
 //! The messages of errors of environments, the nemesis, and texts of steps.
 
 use jh_env::{FaultError, NodesError, StartError};
-use jh_nemesis::{BeginError, NothingToRedo, NothingToUndo, WithdrawAllError, WithdrawError};
+use jh_nemesis::{
+    BeginError, NothingToRedo, NothingToUndo, StepAnswer, WithdrawAllError, WithdrawError,
+};
 use jh_step_texts::StepTextError;
 use std::alloc::{AllocError, Global};
 use std::fmt::Display;
@@ -115,4 +117,22 @@ fn texts_have_messages(rt: HostRuntime) {
     ];
     let wanted = "bad step;bad id;unknown node;self link;bad amount;out of memory;";
     assert!(rt; are_messages(rt.alloc(), &errors, wanted));
+}
+
+/// The codes by which a history records answers, from 0 on.
+#[test]
+fn answers_have_codes(rt: HostRuntime) {
+    let answers = [
+        StepAnswer::Ok,
+        StepAnswer::IdTaken,
+        StepAnswer::TooManyActive,
+        StepAnswer::TooManySteps,
+        StepAnswer::NotActive,
+        StepAnswer::NothingActive,
+        StepAnswer::NothingToUndo,
+        StepAnswer::NothingToRedo,
+    ];
+    for (place, answer) in answers.iter().enumerate() {
+        assert_eq!(rt; answer.code(), place as i64);
+    }
 }

@@ -1,14 +1,16 @@
 -- The requests of each workload, those of the workloads that Jepsen's pages on checkers name, and
--- its name and its most calls (this project's own).
-use Rattle.std.specs.Prelude.{ℕ, Bool, true, false, List, codes, if◌then◌else◌, Option, Some, None}
+-- its name and its most calls; and how a request is recorded (jepsen.history). This project's own.
+use Rattle.std.specs.Prelude.{ℕ, Bool, true, false, List, [], ◌∷◌, codes, if◌then◌else◌}
+use Rattle.std.specs.Prelude.{Option, Some, None}
 use Rattle.std.specs.Str.{bytes_eq}
+use Rattle.jh_ops.specs.Words.{Content, Nothing, One, Several}
 use Rattle.jh_ops.specs.declared.call.Request.{Request}
-use Rattle.jh_ops.specs.declared.call.Request.TheVariants.{Read, Write, Cas, Add, Generate}
+use Rattle.jh_ops.specs.declared.call.Request.TheVariants.{Read, Write, Cas, Add, Generate, Txn}
 use Rattle.jh_ops.specs.declared.call.Workload.{Workload}
 use Rattle.jh_ops.specs.declared.call.Workload.TheVariants.{Register, Counter, Set, Ids}
 
 -- a register is read, written, and compared and set; counters and sets are added to and read; ids
--- are generated
+-- are generated; a transaction is a request of none of these
 abbrev pub is_request_of : Request → Workload → Bool
 is_request_of Read Register = true
 is_request_of Read Counter = true
@@ -30,6 +32,28 @@ is_request_of Generate Register = false
 is_request_of Generate Counter = false
 is_request_of Generate Set = false
 is_request_of Generate Ids = true
+is_request_of Txn Register = false
+is_request_of Txn Counter = false
+is_request_of Txn Set = false
+is_request_of Txn Ids = false
+
+-- the function of a request
+abbrev pub request_name : Request → List ℕ
+request_name Read = codes "read"
+request_name (Write v) = codes "write"
+request_name (Cas a b) = codes "cas"
+request_name (Add v) = codes "add"
+request_name Generate = codes "generate"
+request_name Txn = codes "txn"
+
+-- what a request asks with; the operations of a transaction are no part of the request
+abbrev pub asked_content : Request → Content
+asked_content Read = Nothing
+asked_content (Write v) = One v
+asked_content (Cas a b) = Several (a ∷ b ∷ [])
+asked_content (Add v) = One v
+asked_content Generate = Nothing
+asked_content Txn = Nothing
 
 -- the name by which a workload is chosen
 abbrev pub workload_name : Workload → List ℕ

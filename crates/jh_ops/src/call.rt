@@ -1,13 +1,18 @@
 //! What clients and the nemesis are asked to do. `specs/Requests.antt` says which workload has
-//! which requests.
+//! which requests, and how each is recorded.
 
-ghost use Rattle.std.specs.Prelude.{◌≡◌, IfSome, IsNone};
+ghost use Rattle.std.specs.Prelude.{◌≡◌, IfOk, IfSome, IsNone};
+ghost use Rattle.jh_edn.specs.View.{view};
 ghost use Rattle.jh_ops.specs.Requests as rule;
 ghost use Rattle.jh_ops.specs.Requests.{is_request_of, workload_name, workload_named};
+ghost use Rattle.jh_ops.specs.Words.{Several, content_value};
 ghost use Rattle.jh_ops.specs.declared.call.Workload.{Workload};
 
-/// What a client asks of the database: the functions `:read`, `:write`, `:cas`, `:add` and
-/// `:generate` of Jepsen's workloads, each with its argument.
+use jh_edn::{Value, Values};
+use std::alloc::{AllocError, Global};
+
+/// What a client asks of the database: the functions `:read`, `:write`, `:cas`, `:add`, `:generate`
+/// and `:txn` of Jepsen's workloads, each with its argument.
 #[derive(Clone, Copy, Debug, PartialEq, Eq)]
 pub enum Request {
     /// Read the register or the counter, or all elements of the set.
@@ -20,6 +25,8 @@ pub enum Request {
     Add(i64),
     /// Make an id that was never made before.
     Generate,
+    /// Run a transaction. Which one is told by the test that asks, and not here.
+    Txn,
 }
 
 /// One call that a generator gives to a thread.
@@ -88,4 +95,46 @@ impl Request {
             _ => false,
         }
     }
+
+    /// The name of its function, which is recorded under `:f`.
+    pub fn name(self) -> &'static str
+        ensures { result.now ≡ rule.request_name self }
+    {
+        match self {
+            Request::Read => "read",
+            Request::Write(_) => "write",
+            Request::Cas(_, _) => "cas",
+            Request::Add(_) => "add",
+            Request::Generate => "generate",
+            Request::Txn => "txn",
+        }
+    }
+
+    /// The value with which it asks: its number, the vector of its two numbers, or nil where it has
+    /// none.
+    ///
+    /// Error: memory was refused.
+    pub fn argument(self, alloc: Global) -> Result<Value, AllocError>
+        ensures { IfOk result (λ value. view value ≡ content_value (rule.asked_content self)) }
+    {
+        match self {
+            Request::Read | Request::Generate | Request::Txn => Ok(Value::Nil),
+            Request::Write(value) => Ok(Value::Int(value)),
+            Request::Cas(old, new) => vector_of(alloc, &[old, new]),
+            Request::Add(amount) => Ok(Value::Int(amount)),
+        }
+    }
+}
+
+/// The vector of these numbers.
+///
+/// Error: memory was refused.
+pub fn vector_of(alloc: Global, numbers: &[i64]) -> Result<Value, AllocError>
+    ensures { IfOk result (λ value. view value ≡ content_value (Several numbers.now)) }
+{
+    let mut values = Vec::new(alloc);
+    for number in numbers {
+        values.push(Value::Int(*number))?;
+    }
+    Ok(Value::Vector(Values::of(values)))
 }

@@ -13,7 +13,7 @@ mod pairs;
 mod record;
 mod words;
 
-pub use call::{Call, Request, Workload};
+pub use call::{Call, Request, Workload, vector_of};
 pub use history::{HistoryError, history_of};
 pub use op_printed::write_operation;
 pub use op_text::{OpError, op_of};

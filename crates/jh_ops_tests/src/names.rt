@@ -1,10 +1,13 @@
-//! What has a name: the messages of errors, and the requests of workloads.
+//! What has a name: the messages of errors, the requests of workloads, and each request.
 //!
 //! - `message operation ERROR`: the message of an error that refuses the operation at place 0.
 //! - `message pairs ERROR`, `message words ERROR`: the messages of no pairs, and of no words.
-//! - `requests WORKLOAD`: its requests among read, write, compare and set, add and generate, with a space behind each.
+//! - `requests WORKLOAD`: its requests among read, write, compare and set, add, generate and a transaction, with a space
+//!   behind each.
+//! - `request NAME`: the name under which it is recorded, and its argument.
 
 use crate::rows::ask_all;
+use jh_edn::write;
 use jh_ops::{HistoryError, OpError, PairError, Request, WordsError, Workload};
 use std::alloc::Global;
 use std::fmt::Display;
@@ -93,14 +96,15 @@ fn request(name: &str) -> Request {
         "write" => Request::Write(i64::MIN),
         "cas" => Request::Cas(0, -1),
         "add" => Request::Add(i64::MAX),
-        _ => Request::Generate,
+        "generate" => Request::Generate,
+        _ => Request::Txn,
     }
 }
 
 pub(crate) fn requests(alloc: Global, text: &str) -> Option<Vec<u8>> {
     let workload = workload(text)?;
     let mut names = String::new(alloc);
-    for name in "read write cas add generate".split(' ') {
+    for name in "read write cas add generate txn".split(' ') {
         if request(name).is_of(workload) {
             names.push_str(name).ok()?;
             names.push(' ').ok()?;
@@ -117,5 +121,29 @@ fn each_workload_has_its_requests(rt: HostRuntime) -> Result<(), Fail> {
         § requests counter → read add \
         § requests set → read add \
         § requests ids → generate ";
+    ask_all(rt.alloc(), rows)
+}
+
+/// The name of a request, and its argument.
+pub(crate) fn recorded(alloc: Global, name: &str) -> Option<Vec<u8>> {
+    let request = request(name);
+    let argument = request.argument(alloc).ok()?;
+    let mut text = Vec::new(alloc);
+    text.extend_from_slice(request.name().as_bytes()).ok()?;
+    text.push(b' ').ok()?;
+    write(&argument, &mut text).ok()?;
+    Some(text)
+}
+
+/// How each request is recorded.
+#[test]
+fn requests_have_names_and_arguments(rt: HostRuntime) -> Result<(), Fail> {
+    let rows = "\
+        request read → read nil\
+        § request write → write -9223372036854775808\
+        § request cas → cas [0 -1]\
+        § request add → add 9223372036854775807\
+        § request generate → generate nil\
+        § request txn → txn nil";
     ask_all(rt.alloc(), rows)
 }

@@ -26,6 +26,7 @@ fn answer(alloc: Global, name: &str, text: &str) -> Option<Vec<u8>> {
         "operation" => words::operation(alloc, text),
         "message" => names::message(alloc, text),
         "requests" => names::requests(alloc, text),
+        "request" => names::recorded(alloc, text),
         _ => None,
     }
 }

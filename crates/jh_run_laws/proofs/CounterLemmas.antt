@@ -4,7 +4,7 @@ use Rattle.std.specs.Prelude.{pos, negsuc, Some, None}
 use Rattle.std.specs.List.{Contains}
 use Rattle.jh_ops.specs.Operation.{Operation}
 use Rattle.jh_ops.specs.Pairing.{history_pairs}
-use Rattle.jh_ops.specs.declared.call.Request.TheVariants.{Read, Write, Cas, Add, Generate}
+use Rattle.jh_ops.specs.declared.call.Request.TheVariants.{Read, Write, Cas, Add, Generate, Txn}
 use Rattle.jh_ops.specs.declared.call.Workload.TheVariants.{Counter}
 use Rattle.jh_ops.specs.declared.pairs.Pair.{Pair}
 use Rattle.jh_check.specs.CounterResults.{call_error, errors_in, IsEarliest}
@@ -32,6 +32,7 @@ counted history place number process (Cas a b) reply here there suits fits = abs
 counted history place number process (Add (pos n)) reply here there suits fits = rw here refl
 counted history place number process (Add (negsuc n)) reply here there suits fits = absurd cc
 counted history place number process Generate reply here there suits fits = absurd cc
+counted history place number process Txn reply here there suits fits = absurd cc
 
 none_in : (history : List Operation) (pairs : List Pair) → Each (NoError history) pairs → errors_in history pairs ≡ []
 none_in history [] h = refl

@@ -4,11 +4,12 @@ use Rattle.jh_edn.specs.Edn.{is_empty}
 use Rattle.std.specs.Prelude.{if◌then◌else◌}
 use Rattle.std.specs.Option.{option_or}
 use Rattle.jh_ops.specs.declared.call.Call.{Call}
-use Rattle.jh_ops.specs.declared.call.Call.TheVariants.{Client}
-use Rattle.jh_ops.specs.declared.call.Request.TheVariants.{Add}
 use Rattle.jh_ops.specs.declared.call.Workload.{Workload}
 use Rattle.jh_ops.specs.declared.call.Workload.TheVariants.{Register, Counter, Set, Ids}
 use Rattle.jh_gen.specs.Generator.{Generator, nothing, once, rising, forever, seq, limit, mix, phases, reserve, each_thread, clients, nemesis_only, Generators, no_generators, generator, ShareList, no_shares, share}
+use Rattle.jh_gen.specs.Rises.{risen}
+use Rattle.jh_gen.specs.declared.rise.Rise.{Rise}
+use Rattle.jh_gen.specs.declared.rise.Rise.TheVariants.{Adds, Writes}
 use Rattle.jh_gen.specs.Fits.{shares_sum}
 use Rattle.jh_gen.specs.Tally.{Tally, tally_under}
 use Rattle.jh_gen.specs.Scope.{Scope, Question, is_client_thread, is_share_thread, is_beyond, is_in_scope, has_busy_thread}
@@ -20,7 +21,7 @@ both : (a b : Bool) → (a && b) ≡ true → (a ≡ true) × (b ≡ true)
 both true b h = (refl, h)
 both false b h = absurd cc
 
-module _ (passes : Call → Bool) (more : (n : ℤ) (k : ℕ) → passes (Client (Add n)) ≡ true → passes (Client (Add (n +ℤ pos k))) ≡ true) where
+module _ (passes : Call → Bool) (more : (r : Rise) (n : ℤ) (k : ℕ) → passes (risen r n) ≡ true → passes (risen r (n +ℤ pos k)) ≡ true) where
   -- each of these offers passes
   abbrev pub AllPass : List Offer → Type 0
   AllPass [] = Unit {0}
@@ -76,7 +77,7 @@ module _ (passes : Call → Bool) (more : (n : ℤ) (k : ℕ) → passes (Client
     pub offer_passes : (g : Generator) → has_only passes g ≡ true → (t : Tally) (scope : Scope) (q : Question) → Passes passes (offer g t scope q)
     offer_passes nothing h t scope q = tt
     offer_passes (once c) h t scope q = unless_passes _ scope q (Some ([], c)) h
-    offer_passes (rising n) h t scope q = unless_passes _ scope q (Some ([], Client (Add (n +ℤ pos (length t))))) (more n (length t) h)
+    offer_passes (rising r n) h t scope q = unless_passes _ scope q (Some ([], risen r (n +ℤ pos (length t)))) (more r n (length t) h)
     offer_passes (forever c) h t scope q = unless_passes _ scope q (Some ([], c)) h
     offer_passes (seq gs) h t scope q = unless_passes _ scope q _ (head_passes _ (open_pass [] gs h 0 t scope q))
     offer_passes (limit n g) h t scope q = unless_passes _ scope q _ (member_passes 0 _ (offer_passes g h (tally_under 0 t) scope q))
@@ -112,13 +113,17 @@ module _ (passes : Call → Bool) (more : (n : ℤ) (k : ℕ) → passes (Client
           | false ↦ rest
         ]
 
--- a greater number may be added where a number may
-suited_more : (w : Workload) (n : ℤ) (k : ℕ) → is_call_for w (Client (Add n)) ≡ true → is_call_for w (Client (Add (n +ℤ pos k))) ≡ true
-suited_more Register n k h = absurd cc
-suited_more Counter (pos m) k h = ap not (le-ltb (m + k) 0 (omega arith))
-suited_more Counter (negsuc m) k h = absurd cc
-suited_more Set n k h = refl
-suited_more Ids n k h = absurd cc
+-- a greater number may be added or written where a number may
+suited_more : (w : Workload) (r : Rise) (n : ℤ) (k : ℕ) → is_call_for w (risen r n) ≡ true → is_call_for w (risen r (n +ℤ pos k)) ≡ true
+suited_more Register Adds n k h = absurd cc
+suited_more Register Writes n k h = refl
+suited_more Counter Adds (pos m) k h = ap not (le-ltb (m + k) 0 (omega arith))
+suited_more Counter Adds (negsuc m) k h = absurd cc
+suited_more Counter Writes n k h = absurd cc
+suited_more Set Adds n k h = refl
+suited_more Set Writes n k h = absurd cc
+suited_more Ids Adds n k h = absurd cc
+suited_more Ids Writes n k h = absurd cc
 
 pub offers_suit : OffersSuit
 offers_suit w g h = offer_passes (is_call_for w) (suited_more w) g h

@@ -3,7 +3,7 @@ use Rattle.std.proofs.Common.{◌≡◌, ℕ, zero, suc, ◌<◌, List, [], ◌�
 use Rattle.std.specs.Prelude.{slice_index_or, Some, None}
 use Rattle.jh_ops.specs.Operation.{Operation}
 use Rattle.jh_ops.specs.Pairing.{history_pairs}
-use Rattle.jh_ops.specs.declared.call.Request.TheVariants.{Read, Write, Cas, Add, Generate}
+use Rattle.jh_ops.specs.declared.call.Request.TheVariants.{Read, Write, Cas, Add, Generate, Txn}
 use Rattle.jh_ops.specs.declared.call.Workload.TheVariants.{Register}
 use Rattle.jh_ops.specs.declared.pairs.Pair.{Pair}
 use Rattle.jh_linear.specs.Calls.{IsLeastBad, bad_place}
@@ -28,6 +28,7 @@ parsed history place number process (Write v) reply here there suits fits = rw h
 parsed history place number process (Cas a b) reply here there suits fits = rw here refl
 parsed history place number process (Add v) reply here there suits fits = absurd cc
 parsed history place number process Generate reply here there suits fits = absurd cc
+parsed history place number process Txn reply here there suits fits = absurd cc
 
 none_there : (history : List Operation) (pairs : List Pair) → Each (NotBad history) pairs → (k place : ℕ) → k < length (map (bad_place history) pairs)
     → slice_index_or (map (bad_place history) pairs) k (Some place) ≡ Some place → ⊥

@@ -5,7 +5,7 @@ use Rattle.std.specs.List.{enumerate_from}
 use Rattle.std.proofs.lemmas.Option.{same_Some}
 use Rattle.jh_ops.specs.Operation.{Operation, is_asked}
 use Rattle.jh_ops.specs.declared.call.Request.{Request}
-use Rattle.jh_ops.specs.declared.call.Request.TheVariants.{Read, Write, Cas, Add, Generate}
+use Rattle.jh_ops.specs.declared.call.Request.TheVariants.{Read, Write, Cas, Add, Generate, Txn}
 use Rattle.jh_ops.specs.declared.call.Workload.TheVariants.{Set}
 use Rattle.jh_ops.specs.declared.operation.Kind.{Kind}
 use Rattle.jh_check.specs.SetResults.{elements_shown, final_read}
@@ -39,6 +39,9 @@ completion_shows place number process (Add v) replied.Info fits asked none = abs
 completion_shows place number process Generate (replied.Ok got) fits asked none = absurd cc
 completion_shows place number process Generate replied.Fail fits asked none = absurd cc
 completion_shows place number process Generate replied.Info fits asked none = absurd cc
+completion_shows place number process Txn (replied.Ok got) fits asked none = absurd cc
+completion_shows place number process Txn replied.Fail fits asked none = absurd cc
+completion_shows place number process Txn replied.Info fits asked none = absurd cc
 
 parsed_shows : (place number entry : ℕ) (es : List Event) → RepliesFit Set es → Each Shows (operations_from place number entry es)
 parsed_shows place number entry [] h = tt

@@ -8,7 +8,7 @@ use Rattle.std.proofs.lemmas.List.{get_or-set_same, get_or-set_other, length-set
 use Rattle.std.proofs.lemmas.List.Elements.{All-head, All-tail}
 use Rattle.jh_env.specs.Cells.{Life, Running, Paused, Killed, NodeCell}
 use Rattle.jh_ops.specs.declared.call.Request.{Request}
-use Rattle.jh_ops.specs.declared.call.Request.TheVariants.{Read, Write, Cas, Add, Generate}
+use Rattle.jh_ops.specs.declared.call.Request.TheVariants.{Read, Write, Cas, Add, Generate, Txn}
 use Rattle.jh_ops.specs.declared.call.Workload.{Workload}
 use Rattle.jh_ops.specs.declared.call.Workload.TheVariants.{Register, Counter, Set, Ids}
 use Rattle.jh_ops.specs.Requests.{is_request_of}
@@ -83,6 +83,7 @@ effect_fits Counter Generate c r h = absurd cc
 effect_fits Set Generate c r h = absurd cc
 effect_fits Ids Generate (One x) r h = generate_fits x
 effect_fits Ids Generate (Many xs) r h = absurd h
+effect_fits w Txn c r h = tt
 
 -- ---- places
 
@@ -191,6 +192,7 @@ read_served w c all place (Write v) r n t = absurd cc
 read_served w c all place (Cas a b) r n t = absurd cc
 read_served w c all place (Add v) r n t = absurd cc
 read_served w c all place Generate r n t = absurd cc
+read_served w c all place Txn r n t = absurd cc
 
 some_of : (n m : ℕ) → nat_lt n (quorum m) ≡ false → 0 < n
 some_of n m e = let q = ltb-false n (quorum m) e in omega (arith, q)

@@ -7,9 +7,10 @@ use Rattle.jh_edn.specs.Printable.{IsPrintable}
 use Rattle.jh_edn.specs.Spelling.{depth_limit}
 use Rattle.jh_gen.specs.Generator.{Generator, nothing, once, rising, forever, seq, limit, mix, phases, reserve, each_thread, clients, nemesis_only, Generators, no_generators, generator, ShareList, no_shares, share}
 use Rattle.jh_gen_texts.specs.GeneratorWritten.{text_of_call, text_of_generator, texts_of_generators, texts_of_shares}
+use Rattle.jh_gen.specs.declared.rise.Rise.TheVariants.{Adds, Writes}
 use Rattle.jh_ops.specs.declared.call.Call.{Call}
 use Rattle.jh_ops.specs.declared.call.Call.TheVariants.{Client, Step}
-use Rattle.jh_ops.specs.declared.call.Request.TheVariants.{Read, Write, Cas, Add, Generate}
+use Rattle.jh_ops.specs.declared.call.Request.TheVariants.{Read, Write, Cas, Add, Generate, Txn}
 use Rattle.jh_settings_texts.proofs.AsciiLemmas.{HasAscii, HaveAscii, tested, printed_utf8}
 
 call_ascii : (call : Call) → HasAscii (text_of_call call)
@@ -18,13 +19,15 @@ call_ascii (Client (Write z)) = (tested (codes "write") refl, (tt, tt))
 call_ascii (Client (Cas old new)) = (tested (codes "cas") refl, (tt, (tt, tt)))
 call_ascii (Client (Add z)) = (tested (codes "add") refl, (tt, tt))
 call_ascii (Client Generate) = tested (codes "generate") refl
+call_ascii (Client Txn) = tested (codes "txn") refl
 call_ascii (Step i) = (tested (codes "step") refl, (tt, tt))
 
 mutual
   generator_ascii : (g : Generator) → HasAscii (text_of_generator g)
   generator_ascii nothing = (tested (codes "nil") refl, tt)
   generator_ascii (once call) = (tested (codes "once") refl, (call_ascii call, tt))
-  generator_ascii (rising z) = (tested (codes "rising") refl, (tt, tt))
+  generator_ascii (rising Adds z) = (tested (codes "rising") refl, (tt, tt))
+  generator_ascii (rising Writes z) = (tested (codes "rising-write") refl, (tt, tt))
   generator_ascii (forever call) = (tested (codes "forever") refl, (call_ascii call, tt))
   generator_ascii (seq gs) = (tested (codes "seq") refl, row_ascii gs)
   generator_ascii (limit n g) = (tested (codes "limit") refl, (tt, (generator_ascii g, tt)))

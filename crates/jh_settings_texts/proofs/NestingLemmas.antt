@@ -10,7 +10,9 @@ use Rattle.jh_edn.specs.Spelling.{is_name}
 use Rattle.jh_gen.specs.Generator.{Generator, nothing, once, rising, forever, seq, limit, mix, phases, reserve, each_thread, clients, nemesis_only, Generators, ShareList, no_shares, share, row_of, share_list}
 use Rattle.jh_gen.specs.View.{generator_of, generators_of, shares_of}
 use Rattle.jh_gen.specs.declared.generator.Gen.{Gen}
-use Rattle.jh_gen_texts.specs.GeneratorWritten.{named, text_of_call, text_of_generator, texts_of_generators, texts_of_shares}
+use Rattle.jh_gen.specs.declared.rise.Rise.{Rise}
+use Rattle.jh_gen.specs.declared.rise.Rise.TheVariants.{Adds, Writes}
+use Rattle.jh_gen_texts.specs.GeneratorWritten.{named, rising_name, text_of_call, text_of_generator, texts_of_generators, texts_of_shares}
 use Rattle.jh_ops.specs.declared.call.Call.{Call}
 
 -- ---- names
@@ -23,9 +25,10 @@ nil_is : is_name (codes "nil") ≡ true
 unfolding is_name is_first is_symbol is_digit
 nil_is = refl
 
-rising_is : is_name (codes "rising") ≡ true
+rising_is : (r : Rise) → is_name (rising_name r) ≡ true
 unfolding is_name is_first is_symbol is_digit
-rising_is = refl
+rising_is Adds = refl
+rising_is Writes = refl
 
 forever_is : is_name (codes "forever") ≡ true
 unfolding is_name is_first is_symbol is_digit
@@ -82,6 +85,10 @@ add_is = refl
 pub generate_is : is_name (codes "generate") ≡ true
 unfolding is_name is_first is_symbol is_digit
 generate_is = refl
+
+pub txn_is : is_name (codes "txn") ≡ true
+unfolding is_name is_first is_symbol is_digit
+txn_is = refl
 
 pub step_is : is_name (codes "step") ≡ true
 unfolding is_name is_first is_symbol is_digit
@@ -142,8 +149,8 @@ module _ (d : ℕ) (some : 0 < d) (answer : Bool) where
 pub nil_within : (d : ℕ) → 0 < d → (IsTrue true ↔ IsPrintable d (text_of_generator nothing))
 nil_within d some = (λ told. (some, (nil_is, tt)), λ printable. refl)
 
-pub rising_within : (d : ℕ) (z : ℤ) → 0 < d → FitsSigned w64 z → (IsTrue true ↔ IsPrintable d (text_of_generator (rising z)))
-rising_within d z some fits = (λ told. (some, (rising_is, (fits, tt))), λ printable. refl)
+pub rising_within : (d : ℕ) (r : Rise) (z : ℤ) → 0 < d → FitsSigned w64 z → (IsTrue true ↔ IsPrintable d (text_of_generator (rising r z)))
+rising_within d r z some fits = (λ told. (some, (rising_is r, (fits, tt))), λ printable. refl)
 
 -- ---- reserves
 

@@ -22,6 +22,7 @@ fn is_request_within(request: Request, depth: u32) -> bool
         Request::Cas(_old, _new) => depth > 0,
         Request::Add(_number) => depth > 0,
         Request::Generate => true,
+        Request::Txn => true,
     }
 }
 
@@ -48,7 +49,7 @@ pub(crate) fn is_within(source: &Gen, depth: u32) -> bool
     match source {
         Gen::Nil => true,
         Gen::Once(call) => is_call_within(*call, inside),
-        Gen::Rising(first) => {
+        Gen::Rising(_rise, first) => {
             let _first = *first;
             true
         }

@@ -4,7 +4,7 @@ use Rattle.std.specs.Prelude.{ℤ, pos, negsuc, ◌+ℤ◌, ◌^◌, Bool, List,
 use Rattle.std.specs.Prelude.{nat_lt, int_lt, if◌then◌else◌}
 use Rattle.std.specs.Ordering.{int_eq}
 use Rattle.jh_ops.specs.declared.call.Request.{Request}
-use Rattle.jh_ops.specs.declared.call.Request.TheVariants.{Read, Write, Cas, Add, Generate}
+use Rattle.jh_ops.specs.declared.call.Request.TheVariants.{Read, Write, Cas, Add, Generate, Txn}
 use Rattle.jh_simnode.specs.declared.replicas.Contents.{Contents}
 use Rattle.jh_simnode.specs.declared.replicas.Contents.TheVariants.{One, Many}
 use Rattle.jh_simnode.specs.declared.replicas.Got.{Got}
@@ -43,7 +43,7 @@ generate_change (Some x) =
     if is_small (x +ℤ pos 1)
     then Some (record { got = Got.One (Some x); after = One (Some (x +ℤ pos 1)) }) else None
 
--- what a request makes of contents, where it doesn't fail
+-- what a request makes of contents, where it doesn't fail; no store runs transactions
 abbrev pub effect : Request → Contents → Option Change
 effect Read c = Some (record { got = got_of c; after = c })
 effect (Write v) c = written_change (One (Some v))
@@ -53,3 +53,4 @@ effect (Add v) (One x) = add_change v x
 effect (Add v) (Many xs) = written_change (Many (numbers_with v xs))
 effect Generate (One x) = generate_change x
 effect Generate (Many xs) = None
+effect Txn c = None

@@ -4,34 +4,18 @@
 use Rattle.std.specs.Prelude.{ℕ, ◌+◌, ◌<◌, ◌^◌, pos, List, [], ◌∷◌, codes, Option, Some, None}
 use Rattle.std.specs.Prelude.{IfSome}
 use Rattle.jh_ops.specs.Operation.{Operation}
+use Rattle.jh_ops.specs.Requests.{request_name, asked_content}
 use Rattle.jh_edn.specs.Edn.{keyword}
 use Rattle.jh_ops.specs.Words.{Content, Nothing, One, Several, content_value, pairs_of_event}
 use Rattle.jh_ops.specs.declared.call.Request.{Request}
-use Rattle.jh_ops.specs.declared.call.Request.TheVariants.{Read, Write, Cas, Add, Generate}
 use Rattle.jh_ops.specs.declared.operation.Kind.{Kind}
 use Rattle.jh_ops.specs.declared.operation.Process.{Process}
+use Rattle.jh_nemesis.specs.Steps.{code_of}
 use Rattle.jh_nemesis.specs.declared.steps.StepAnswer.{StepAnswer}
-use Rattle.jh_nemesis.specs.declared.steps.StepAnswer.TheVariants as answer
 use Rattle.jh_simnode.specs.declared.replicas.Got.{Got}
 use Rattle.jh_simnode.specs.declared.replicas.Reply.{Reply}
 use Rattle.jh_simnode.specs.declared.replicas.Reply.TheVariants as reply
 use Rattle.jh_simnode.specs.declared.events.Event.{Event}
-
--- the function of a request
-abbrev pub request_name : Request → List ℕ
-request_name Read = codes "read"
-request_name (Write v) = codes "write"
-request_name (Cas a b) = codes "cas"
-request_name (Add v) = codes "add"
-request_name Generate = codes "generate"
-
--- what a request asks with
-abbrev pub asked_content : Request → Content
-asked_content Read = Nothing
-asked_content (Write v) = One v
-asked_content (Cas a b) = Several (a ∷ b ∷ [])
-asked_content (Add v) = One v
-asked_content Generate = Nothing
 
 -- what a request that was done got, where it got something, and else what it asked with
 abbrev pub got_content : Request → Got → Content
@@ -51,17 +35,6 @@ abbrev pub completion_kind : Reply → Kind
 completion_kind (reply.Ok got) = Kind.Ok
 completion_kind reply.Fail = Kind.Fail
 completion_kind reply.Info = Kind.Info
-
--- the code of an answer to a step
-abbrev pub code_of : StepAnswer → ℕ
-code_of answer.Ok = 0
-code_of answer.IdTaken = 1
-code_of answer.TooManyActive = 2
-code_of answer.TooManySteps = 3
-code_of answer.NotActive = 4
-code_of answer.NothingActive = 5
-code_of answer.NothingToUndo = 6
-code_of answer.NothingToRedo = 7
 
 -- an event's number that is an integer of a text
 abbrev pub HasSmallEvent : Option ℕ → Type 0

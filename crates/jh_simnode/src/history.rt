@@ -8,30 +8,18 @@ ghost use Rattle.jh_ops.specs.Operation.{operation, operations};
 ghost use Rattle.jh_ops.specs.Words.{Several, content_value, pairs_of_event};
 ghost use Rattle.jh_simnode.specs.Histories as rule;
 ghost use Rattle.jh_simnode.specs.Limits.{max_events};
-ghost use Rattle.jh_simnode.specs.Histories.{placed_entry_completion, asked_content};
+ghost use Rattle.jh_simnode.specs.Histories.{placed_entry_completion};
+ghost use Rattle.jh_ops.specs.Requests.{asked_content};
 ghost use Rattle.jh_simnode.specs.Histories.{placed_operation, placed_entry_invocation};
 ghost use Rattle.jh_simnode.specs.Histories.{placed_completion, placed_invocation, replied_content};
 ghost use Rattle.jh_simnode.specs.Histories.{got_content};
 
 use crate::events::Event;
 use crate::replicas::{Got, Reply};
-use jh_edn::{Pairs, Value, Values};
+use jh_edn::{Pairs, Value};
 use jh_nemesis::StepAnswer;
-use jh_ops::{Kind, Op, Process, Request};
+use jh_ops::{Kind, Op, Process, Request, vector_of};
 use std::alloc::{AllocError, Global};
-
-/// The name by which a request is recorded, under `:f`.
-fn request_name(request: Request) -> &'static str
-    ensures { result.now ≡ rule.request_name request }
-{
-    match request {
-        Request::Read => "read",
-        Request::Write(_) => "write",
-        Request::Cas(_, _) => "cas",
-        Request::Add(_) => "add",
-        Request::Generate => "generate",
-    }
-}
 
 /// How a completion with this reply is recorded.
 pub fn completion_kind(reply: &Reply) -> Kind
@@ -44,51 +32,12 @@ pub fn completion_kind(reply: &Reply) -> Kind
     }
 }
 
-/// The code by which an answer to a step is recorded, from 0 to 7.
-pub fn code_of(answer: StepAnswer) -> i64
-    ensures { result ≡ pos (rule.code_of answer) }
-{
-    match answer {
-        StepAnswer::Ok => 0,
-        StepAnswer::IdTaken => 1,
-        StepAnswer::TooManyActive => 2,
-        StepAnswer::TooManySteps => 3,
-        StepAnswer::NotActive => 4,
-        StepAnswer::NothingActive => 5,
-        StepAnswer::NothingToUndo => 6,
-        StepAnswer::NothingToRedo => 7,
-    }
-}
-
-/// The vector of these numbers.
-fn vector_of(alloc: Global, numbers: &[i64]) -> Result<Value, AllocError>
-    ensures { IfOk result (λ value. view value ≡ content_value (Several numbers.now)) }
-{
-    let mut values = Vec::new(alloc);
-    for number in numbers {
-        values.push(Value::Int(*number))?;
-    }
-    Ok(Value::Vector(Values::of(values)))
-}
-
-/// The value that a request asks with.
-fn value_asked(alloc: Global, request: Request) -> Result<Value, AllocError>
-    ensures { IfOk result (λ value. view value ≡ content_value (asked_content request)) }
-{
-    match request {
-        Request::Read | Request::Generate => Ok(Value::Nil),
-        Request::Write(value) => Ok(Value::Int(value)),
-        Request::Cas(old, new) => vector_of(alloc, &[old, new]),
-        Request::Add(amount) => Ok(Value::Int(amount)),
-    }
-}
-
 /// The value in the completion of a request that was done.
 fn value_got(alloc: Global, request: Request, got: &Got) -> Result<Value, AllocError>
     ensures { IfOk result (λ value. view value ≡ content_value (got_content request got.now)) }
 {
     match got {
-        Got::Nothing => value_asked(alloc, request),
+        Got::Nothing => request.argument(alloc),
         Got::One(None) => Ok(Value::Nil),
         Got::One(Some(value)) => Ok(Value::Int(*value)),
         Got::Many(numbers) => vector_of(alloc, numbers.as_slice()),
@@ -102,7 +51,7 @@ fn value_replied(alloc: Global, request: Request, reply: &Reply) -> Result<Value
 {
     match reply {
         Reply::Ok(got) => value_got(alloc, request, got),
-        Reply::Fail | Reply::Info => value_asked(alloc, request),
+        Reply::Fail | Reply::Info => request.argument(alloc),
     }
 }
 
@@ -125,8 +74,8 @@ pub fn invocation(alloc: Global, process: u64, request: Request) -> Result<Op, A
 {
     Ok(Op {
         kind: Kind::Invoke,
-        f: Value::keyword(alloc, request_name(request))?,
-        value: value_asked(alloc, request)?,
+        f: Value::keyword(alloc, request.name())?,
+        value: request.argument(alloc)?,
         process: Process::Client(process),
         time: None,
         index: None,
@@ -148,7 +97,7 @@ pub fn completion(
 {
     Ok(Op {
         kind: completion_kind(reply),
-        f: Value::keyword(alloc, request_name(request))?,
+        f: Value::keyword(alloc, request.name())?,
         value: value_replied(alloc, request, reply)?,
         process: Process::Client(process),
         time: None,
@@ -188,7 +137,7 @@ pub fn entry_completion(
     Ok(Op {
         kind: Kind::Info,
         f: Value::keyword(alloc, "step")?,
-        value: vector_of(alloc, &[entry as i64, code_of(answer)])?,
+        value: vector_of(alloc, &[entry as i64, answer.code()])?,
         process: Process::Nemesis,
         time: None,
         index: None,

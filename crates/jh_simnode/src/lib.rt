@@ -21,8 +21,7 @@ mod world;
 
 pub use events::{Event, MAX_EVENTS, WorldError};
 pub use history::{
-    code_of, completion, completion_kind, entry_completion, entry_invocation, invocation,
-    push_placed,
+    completion, completion_kind, entry_completion, entry_invocation, invocation, push_placed,
 };
 pub use laws::{limits, world_laws};
 pub use plan::{MAX_ROWS, Plan, PlanData, PlanError};

@@ -26,7 +26,7 @@ pub is_within-returns-in-Rising : goal.is_within-returns-in-Rising
 is_within-returns-in-Rising t c =
     let some : 0 < c.args.depth = search rules in
     let fits : FitsSigned w64 c.in-Rising.first = search rules in
-    rw (c.in-Rising.is) (rising_within c.args.depth c.in-Rising.first some fits)
+    rw (c.in-Rising.is) (rising_within c.args.depth c.in-Rising._rise c.in-Rising.first some fits)
 
 pub is_within-returns-in-Forever : goal.is_within-returns-in-Forever
 is_within-returns-in-Forever t c =

@@ -2,7 +2,7 @@ use Rattle.std.proofs.Common.{rules, [], ◌∷◌, refl, codes}
 use Rattle.std.specs.Prelude.{FitsSigned}
 use Rattle.std.specs.Int.{w64}
 use Rattle.jh_edn.specs.Edn.{int}
-use Rattle.jh_settings_texts.proofs.NestingLemmas.{read_is, write_is, cas_is, add_is, generate_is, vector_within}
+use Rattle.jh_settings_texts.proofs.NestingLemmas.{read_is, write_is, cas_is, add_is, generate_is, txn_is, vector_within}
 use Rattle.jh_settings_texts.proofs.depth.is_request_within.Goals as goal
 
 pub returns-in-Read : goal.returns-in-Read
@@ -26,3 +26,6 @@ returns-in-Add c =
 
 pub returns-in-Generate : goal.returns-in-Generate
 returns-in-Generate c = rw (c.in-Generate.is) (λ told. generate_is, λ printable. refl)
+
+pub returns-in-Txn : goal.returns-in-Txn
+returns-in-Txn c = rw (c.in-Txn.is) (λ told. txn_is, λ printable. refl)
