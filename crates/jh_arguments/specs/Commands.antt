@@ -25,7 +25,7 @@ use Rattle.jh_cli.specs.declared.timeline_command.TimelineQuestion.{TimelineQues
 use Rattle.jh_arguments.specs.declared.commands.Command.{Command}
 use Rattle.jh_arguments.specs.declared.commands.Command.TheVariants.{Env, Check, Run, Shrink}
 use Rattle.jh_arguments.specs.declared.commands.Command.TheVariants.{Search, Timeline}
-use Rattle.jh_arguments.specs.Models.{model_named}
+use Rattle.jh_checkers.specs.Models.{model_named}
 use Rattle.jh_arguments.specs.Palettes.{palette_named}
 use Rattle.jh_checkers.specs.Checkers.{checker_name}
 use Rattle.jh_checkers.specs.declared.finding.Judging.{Judging}

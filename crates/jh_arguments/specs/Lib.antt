@@ -1,4 +1,3 @@
-pub mod Models
 pub mod Palettes
 pub mod Line
 pub mod Commands

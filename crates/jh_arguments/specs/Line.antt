@@ -14,7 +14,7 @@ use Rattle.clap.specs.declared.error.Error.{Error}
 use Rattle.clap.specs.declared.error.ErrorKind.TheVariants.{OutOfMemory}
 use Rattle.clap.specs.declared.parser.matches.ArgMatches.{ArgMatches}
 use Rattle.jh_checkers.specs.Checkers.{checker_names}
-use Rattle.jh_arguments.specs.Models.{model_names}
+use Rattle.jh_checkers.specs.Models.{model_names}
 
 -- an option that takes one value
 abbrev pub option : Text → Rule

@@ -18,16 +18,15 @@ ghost use Rattle.jh_arguments.specs.Commands.{IsJudging, IsJudgingBy, IsNumber};
 ghost use Rattle.jh_arguments.specs.Commands.{IsOutputOf, IsThreads, RefusesCommand};
 ghost use Rattle.jh_arguments.specs.declared.commands.Command.{Command};
 ghost use Rattle.jh_arguments.specs.declared.commands.Command.TheVariants.{Check, Search, Timeline};
-ghost use Rattle.jh_arguments.specs.Models.{model_named as model_of_name};
+ghost use Rattle.jh_checkers.specs.Models.{model_named as model_of_name};
 ghost use Rattle.jh_arguments.specs.Palettes as rule;
 ghost use Rattle.jh_cli.specs.declared.check_command.Question.{Question};
 ghost use Rattle.jh_cli.specs.declared.search_command.SearchQuestion.{SearchQuestion};
 ghost use Rattle.jh_cli.specs.declared.timeline_command.TimelineQuestion.{TimelineQuestion};
 
-use crate::models::model_named;
 use crate::palettes::palette_named;
 use clap::ArgMatches;
-use jh_checkers::{Checker, Judging};
+use jh_checkers::{Checker, Judging, model_named};
 use jh_cli::{
     CliError, Question, SearchQuestion, TimelineQuestion, check_run, env_run, run_run, search_run,
     shrink_run_observed, timeline_run,

@@ -8,7 +8,6 @@
 mod commands;
 mod help;
 mod line;
-mod models;
 mod palettes;
 mod program;
 
@@ -18,6 +17,5 @@ pub use commands::{
 };
 pub use jh_cli::{Question, SearchQuestion, TimelineQuestion};
 pub use line::{REFUSED, parse, status_of_refusal};
-pub use models::model_named;
 pub use palettes::palette_named;
 pub use program::{Terminals, status};

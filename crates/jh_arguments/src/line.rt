@@ -8,7 +8,7 @@ ghost use Rattle.clap.specs.declared.error.ErrorKind.TheVariants as ErrorKind;
 ghost use Rattle.jh_cli.specs.declared.error.CliError.TheVariants as CliError;
 ghost use Rattle.jh_checkers.specs.Checkers.{checker_names};
 ghost use Rattle.jh_arguments.specs.Line as text;
-ghost use Rattle.jh_arguments.specs.Models.{model_names};
+ghost use Rattle.jh_checkers.specs.Models.{model_names};
 ghost use Rattle.jh_arguments.specs.Line.{AreMatches, IsCommandLine, IsRefused};
 
 use crate::help;
@@ -25,7 +25,7 @@ pub const REFUSED: u8 = 3;
 /// The names of the workloads, as `jh_checkers` has them.
 static WORKLOADS: [&str; 5] = ["register", "set", "counter", "unique-ids", "list-append"];
 
-/// The names of the consistency models, as `models.rt` has them.
+/// The names of the consistency models, as `jh_checkers` has them.
 static MODELS: [&str; 4] = [
     "strict-serializable",
     "serializable",

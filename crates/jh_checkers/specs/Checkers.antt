@@ -1,7 +1,8 @@
 -- The checkers (Jepsen's `linearizable` over a register, `set`, `counter` and `unique-ids` of
 -- jepsen.checker, and the checker of jepsen.tests.cycle.append), each with the name of the workload
 -- whose histories it judges.
-use Rattle.std.specs.Prelude.{ℕ, List, [], ◌∷◌, map, codes}
+use Rattle.std.specs.Prelude.{ℕ, List, [], ◌∷◌, map, codes, if◌then◌else◌, Option, Some, None}
+use Rattle.std.specs.Str.{bytes_eq}
 use Rattle.jh_ops.specs.declared.call.Workload.{Workload}
 use Rattle.jh_checkers.specs.declared.checker.Checker.{Checker}
 use Rattle.jh_checkers.specs.declared.checker.Checker.TheVariants.{Register, Set, Counter, Ids}
@@ -17,6 +18,16 @@ checker_name ListAppend = codes "list-append"
 -- the names of all, in the order of help
 abbrev pub checker_names : List (List ℕ)
 checker_names = map checker_name (Register ∷ Set ∷ Counter ∷ Ids ∷ ListAppend ∷ [])
+
+-- the checker of the workload of this name
+abbrev pub checker_named : List ℕ → Option Checker
+checker_named name =
+    if bytes_eq name (codes "register") then Some Register
+    else if bytes_eq name (codes "set") then Some Set
+    else if bytes_eq name (codes "counter") then Some Counter
+    else if bytes_eq name (codes "unique-ids") then Some Ids
+    else if bytes_eq name (codes "list-append") then Some ListAppend
+    else None
 
 -- the checker of a workload that simulated clusters run; none of them runs list-append
 abbrev pub checker_of : Workload → Checker

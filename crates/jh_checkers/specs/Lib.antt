@@ -1,4 +1,5 @@
 pub mod Checkers
+pub mod Models
 pub mod Findings
 pub mod Explanations
 pub mod Lines

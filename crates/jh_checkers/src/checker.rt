@@ -2,7 +2,7 @@
 //! table.
 
 ghost use Rattle.std.specs.Prelude.{◌≡◌, IfSome, IsNone};
-ghost use Rattle.jh_checkers.specs.Checkers.{checker_name, checker_of};
+ghost use Rattle.jh_checkers.specs.Checkers.{checker_name, checker_named, checker_of};
 
 use jh_ops::Workload;
 
@@ -19,6 +19,7 @@ pub enum Checker {
 impl Checker {
     /// The checker of the workload of this name, as `--workload` has it.
     pub fn named(name: &str) -> Option<Checker>
+        ensures checker { result ≡ checker_named name.now }
         ensures named { IfSome result (λ checker. name.now ≡ checker_name checker) }
         ensures unknown { IsNone result → (checker : Checker) → name.now ≡ checker_name checker
             → ⊥ }

@@ -10,6 +10,7 @@ mod explanation;
 mod finding;
 mod laws;
 mod lines;
+mod models;
 mod register;
 mod transactions;
 
@@ -18,3 +19,4 @@ pub use explanation::Explanation;
 pub use finding::{Finding, Judging, check_history};
 pub use laws::findings_agree;
 pub use lines::write_finding;
+pub use models::model_named;

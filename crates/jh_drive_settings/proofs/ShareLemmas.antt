@@ -1,14 +1,15 @@
 -- What stands under the keys that say how keys are shared.
-use Rattle.std.proofs.Common.{◌≡◌, ℕ, Bool, true, false, not, ◌||◌, Option, Some, None, refl, sym, ap, ◌∙◌}
+use Rattle.std.proofs.Common.{◌≡◌, ℕ, ◌≤◌, Bool, true, false, not, ◌||◌, Option, Some, None, refl, sym, ap, ◌∙◌}
 use Rattle.std.specs.Prelude.{if◌then◌else◌, option_map, option_and_then, is_some}
 use Rattle.std.specs.Option.{option_map_or}
 use Rattle.toml.specs.Data.{Data, Members}
 use Rattle.jh_settings.specs.declared.keys.Key.{Key}
 use Rattle.jh_settings.specs.Keys.{data_under, is_missing}
-use Rattle.jh_settings.specs.Kinds.{whole_number_in}
+use Rattle.jh_settings.specs.Kinds.{value_or_default, whole_number_in}
 use Rattle.jh_settings.proofs.ElementLemmas.{none_not}
+use Rattle.jh_settings.proofs.PlanLemmas.{default_is}
 use Rattle.jh_checkers.specs.declared.checker.Checker.{Checker}
-use Rattle.jh_drive_settings.specs.Parsed.{parsed_checker, where_checked, optional_number, parsed_share, are_transactions}
+use Rattle.jh_drive_settings.specs.Parsed.{parsed_checker, where_checked, optional_number, parsed_share, are_transactions, transaction_number}
 
 allowed_is : {A : Type 0} (b : Bool) (parsed : Option A) (x : A) → (if b then parsed else None) ≡ Some x → parsed ≡ Some x
 allowed_is true parsed x e = e
@@ -41,3 +42,10 @@ module _ (most : ℕ) (key : Key) (document : Members) (checker : Checker) (is :
 
   pub share_there : (n : ℕ) → parsed_share most key document ≡ Some (Some n) → is_missing document key ≡ false
   share_there n e = something_there 1 most (data_under key document) n (number_is (Some n) e)
+
+-- a number by which transactions are made is in its range
+pub number_between : (default most : ℕ) (key : Key) (document : Members) (checker : Checker) → parsed_checker document ≡ Some checker → (n : ℕ) → 1 ≤ default → default ≤ most → transaction_number default most key document ≡ Some n
+    → (1 ≤ n) × (n ≤ most)
+number_between default most key document checker is n low high e =
+    default_is 1 most default (data_under key document) n low high
+    (where_is are_transactions key document (value_or_default default (whole_number_in 1 most) key document) n checker is e)

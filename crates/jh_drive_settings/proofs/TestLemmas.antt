@@ -15,13 +15,13 @@ use Rattle.jh_test_parts.specs.declared.parts.Entry.{Entry}
 use Rattle.jh_test_parts.specs.declared.parts.KeyShares.{KeyShares}
 use Rattle.jh_checkers.specs.declared.checker.Checker.{Checker}
 use Rattle.jh_test_parts.specs.declared.test.TestError.{TestError}
-use Rattle.jh_test_parts.specs.Test.{TestValue, IsFitTest, RefusesTest, HasSchedule}
+use Rattle.jh_test_parts.specs.Test.{TestValue, IsFitTest, RefusesTest, HasSchedule, HasTransactions}
 use Rattle.jh_drive_settings.specs.declared.parts.Parts.{Parts}
 use Rattle.jh_drive_settings.specs.Inside.{AreParsedParts, RefusesShares, RefusesAllowed, RefusesDriveValues, lone_key, test_of_parts, test_refusal}
-use Rattle.jh_drive_settings.specs.Parsed.{IsParsedTestEntry, parsed_checker, parsed_test_ops, parsed_threads_per_key, parsed_ops_per_key}
+use Rattle.jh_drive_settings.specs.Parsed.{IsParsedTestEntry, parsed_checker, parsed_test_ops, parsed_threads_per_key, parsed_ops_per_key, transaction_number}
 use Rattle.jh_drive_settings.specs.Settings.{AreDriveSettings, IsFinalAllowed, IsLoneShare, IsParsedTest}
 use Rattle.jh_drive_settings.proofs.GoodLemmas.{all_good}
-use Rattle.jh_drive_settings.proofs.ShareLemmas.{share_missing, share_there}
+use Rattle.jh_drive_settings.proofs.ShareLemmas.{number_between, share_missing, share_there}
 
 lone_share : (document : Members) (checker : Checker) → parsed_checker document ≡ Some checker → (threads calls : Option ℕ) → parsed_threads_per_key document ≡ Some threads → parsed_ops_per_key document ≡ Some calls
     → (key : Key) → lone_key threads calls ≡ Some key → IsLoneShare document key
@@ -74,6 +74,23 @@ module _ (document : Members) (parts : Parts) (parsed : AreParsedParts document 
     has_schedule : HasSchedule (test_of_parts parts shares)
     has_schedule = (few_entries (IsParsedTestEntry parts.asked.environment.names) (data_under Key.Schedule document) parts.schedule.items parsed.entries, parsed.steps)
 
+    has_transactions : HasTransactions (test_of_parts parts shares)
+    has_transactions =
+        let shape = parts.details.transactions in
+        let between : (default most : ℕ) (key : Key) (n : ℕ) → 1 ≤ default → default ≤ most → transaction_number default most key document ≡ Some n → (1 ≤ n) × (n ≤ most) =
+        λ default most key n low high e. number_between default most key document parts.asked.checker parsed.asked.workload n low high e in
+        let keys = between 4 1000 Key.Keys shape.keys (omega arith) (omega arith) parsed.details.shape.over_keys in
+        let ops = between 4 100 Key.MaxTxn shape.most (omega arith) (omega arith) parsed.details.shape.at_most in
+        let appends = between 32 10000 Key.AppendsPerKey shape.appends (omega arith) (omega arith) parsed.details.shape.of_appends in
+        record {
+          some_keys = keys.0;
+          few_keys = keys.1;
+          some_ops = ops.0;
+          few_ops = ops.1;
+          some_appends = appends.0;
+          few_appends = appends.1;
+        }
+
     -- a test of good parts is refused for its keys, its generator and its final calls alone
     refused : (error : TestError) → RefusesTest (test_of_parts parts shares) error → RefusesDriveValues document (test_refusal error)
     refused TestError.BadClients h = absurd (h (has_clients document parts.pace.clients parsed.pace.by_clients))
@@ -82,6 +99,7 @@ module _ (document : Members) (parts : Parts) (parsed : AreParsedParts document 
     refused TestError.BadGenerator h = inr (test_of_parts parts shares, all_good document parts (option_map generator_of parts.last) parsed.at_last parsed, test_parsed, (h.2, h.3))
     refused TestError.BadFinal h = inr (test_of_parts parts shares, all_good document parts (option_map generator_of parts.last) parsed.at_last parsed, test_parsed, (h.2, h.3, λ k. h.4 k.0))
     refused TestError.BadSchedule h = absurd (h.5 has_schedule)
+    refused TestError.BadTransactions h = absurd (h.6 has_transactions)
     refused TestError.OutOfMemory h = tt
 
     -- so why it is refused is why the document is

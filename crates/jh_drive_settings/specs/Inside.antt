@@ -123,6 +123,7 @@ test_refusal TestError.BadKeys = BadValue Key.ThreadsPerKey
 test_refusal TestError.BadGenerator = BadValue Key.Generator
 test_refusal TestError.BadFinal = BadValue Key.Final
 test_refusal TestError.BadSchedule = BadValue Key.Schedule
+test_refusal TestError.BadTransactions = BadValue Key.Keys
 test_refusal TestError.OutOfMemory = OutOfMemory
 
 -- why a test is refused, as the settings say it

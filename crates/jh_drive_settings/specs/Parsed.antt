@@ -9,8 +9,8 @@ use Rattle.toml.specs.Data.{Data, Members}
 use Rattle.jh_edn.specs.Edn.{Edn, int, keyword, elements_of}
 use Rattle.jh_step_texts.specs.StepText.{parsed_step}
 use Rattle.jh_nemesis.specs.declared.steps.Step.{Step}
-use Rattle.jh_checkers.specs.Checkers.{checker_of}
-use Rattle.jh_ops.specs.Requests.{workload_named}
+use Rattle.jh_checkers.specs.Checkers.{checker_named}
+use Rattle.jh_checkers.specs.Models.{model_named}
 use Rattle.jh_gen.specs.Generator.{Generator}
 use Rattle.jh_txn.specs.declared.model.ConsistencyModel.{ConsistencyModel}
 use Rattle.jh_settings.specs.declared.keys.Key.{Key}
@@ -22,14 +22,7 @@ use Rattle.jh_test_parts.specs.declared.parts.Entry.{Entry}
 use Rattle.jh_checkers.specs.declared.checker.Checker.{Checker}
 use Rattle.jh_test_parts.specs.declared.parts.When.{When}
 
--- what is asked of the database, by the checker of its history: what is asked of a cluster in a run, or
--- transactions
-
-abbrev pub checker_named : List ℕ → Option Checker
-checker_named choice =
-    if bytes_eq choice (codes "list-append") then Some Checker.ListAppend
-    else option_map checker_of (workload_named choice)
-
+-- what is asked of the database, by the checker of its history
 abbrev pub parsed_checker : Members → Option Checker
 parsed_checker document = choice_under checker_named Key.Workload document
 
@@ -102,21 +95,10 @@ parsed_max_txn document = transaction_number 4 100 Key.MaxTxn document
 abbrev pub parsed_appends_per_key : Members → Option ℕ
 parsed_appends_per_key document = transaction_number 32 10000 Key.AppendsPerKey document
 
--- the consistency model of this name, as `--model` has it
-abbrev pub model_of_name : List ℕ → Option ConsistencyModel
-model_of_name choice =
-    if bytes_eq choice (codes "strict-serializable")
-    then Some ConsistencyModel.StrictSerializable
-    else if bytes_eq choice (codes "serializable") then Some ConsistencyModel.Serializable
-    else if bytes_eq choice (codes "strong-snapshot-isolation")
-    then Some ConsistencyModel.StrongSnapshotIsolation
-    else if bytes_eq choice (codes "snapshot-isolation")
-    then Some ConsistencyModel.SnapshotIsolation
-    else None
-
+-- the consistency model of a name, as `--model` has it, and the strict one where none is named
 abbrev pub model_or_strict : Members → Option ConsistencyModel
 model_or_strict document =
-    value_or_default ConsistencyModel.StrictSerializable (choice_in model_of_name) Key.Model document
+    value_or_default ConsistencyModel.StrictSerializable (choice_in model_named) Key.Model document
 
 abbrev pub parsed_model : Members → Option ConsistencyModel
 parsed_model document =

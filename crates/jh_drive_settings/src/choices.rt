@@ -12,28 +12,14 @@ ghost use Rattle.jh_drive_settings.specs.Parsed as rule;
 ghost use Rattle.jh_drive_settings.specs.Parsed.{IsParsedFinal, parsed_model, parsed_test_initial};
 ghost use Rattle.jh_drive_settings.specs.Parsed.{parsed_checker};
 
-use jh_checkers::Checker;
+use jh_checkers::{Checker, model_named};
 use jh_gen::Gen;
-use jh_ops::Workload;
 use jh_settings::{
     Key, SettingsError, generator_under, initial_under, is_missing, text_under, value_under,
 };
 use jh_txn::ConsistencyModel;
 use std::alloc::Global;
 use toml::Table;
-
-/// What this name asks of the database.
-fn checker_named(choice: &str) -> Option<Checker>
-    ensures { result ≡ rule.checker_named choice.now }
-{
-    if choice == "list-append" {
-        return Some(Checker::ListAppend);
-    }
-    match Workload::named(choice) {
-        Some(workload) => Some(Checker::of(workload)),
-        None => None,
-    }
-}
 
 /// What is asked of the database, under `workload`.
 pub(crate) fn checker_under(table: &Table) -> Result<Checker, SettingsError>
@@ -42,7 +28,7 @@ pub(crate) fn checker_under(table: &Table) -> Result<Checker, SettingsError>
     let Some(choice) = text_under(table, Key::Workload) else {
         return Err(SettingsError::BadValue(Key::Workload));
     };
-    match checker_named(choice) {
+    match Checker::named(choice) {
         Some(checker) => Ok(checker),
         None => Err(SettingsError::BadValue(Key::Workload)),
     }
@@ -98,19 +84,6 @@ pub(crate) fn test_initial_under(
     initial_under(table, is_register_checker(checker))
 }
 
-/// The consistency model of this name.
-fn model_of_name(choice: &str) -> Option<ConsistencyModel>
-    ensures { result ≡ rule.model_of_name choice.now }
-{
-    match choice {
-        "strict-serializable" => Some(ConsistencyModel::StrictSerializable),
-        "serializable" => Some(ConsistencyModel::Serializable),
-        "strong-snapshot-isolation" => Some(ConsistencyModel::StrongSnapshotIsolation),
-        "snapshot-isolation" => Some(ConsistencyModel::SnapshotIsolation),
-        _ => None,
-    }
-}
-
 /// The model that is named, and the strict one where nothing stands under `model`.
 fn model_or_strict(table: &Table) -> Result<ConsistencyModel, SettingsError>
     ensures { IsValueParsed result Key.Model (rule.model_or_strict (table_view table.now)) }
@@ -121,7 +94,7 @@ fn model_or_strict(table: &Table) -> Result<ConsistencyModel, SettingsError>
     let Some(choice) = value.as_str() else {
         return Err(SettingsError::BadValue(Key::Model));
     };
-    match model_of_name(choice) {
+    match model_named(choice) {
         Some(model) => Ok(model),
         None => Err(SettingsError::BadValue(Key::Model)),
     }

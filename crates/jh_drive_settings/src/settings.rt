@@ -202,6 +202,7 @@ fn test_error(error: TestError) -> SettingsError
         TestError::BadGenerator => SettingsError::BadValue(Key::Generator),
         TestError::BadFinal => SettingsError::BadValue(Key::Final),
         TestError::BadSchedule => SettingsError::BadValue(Key::Schedule),
+        TestError::BadTransactions => SettingsError::BadValue(Key::Keys),
         TestError::OutOfMemory => SettingsError::OutOfMemory,
     }
 }

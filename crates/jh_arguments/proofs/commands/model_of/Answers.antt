@@ -1,7 +1,7 @@
 use Rattle.std.proofs.Common.{rules, ap, codes, sym, ◌≡◌, ◌∙◌, Some, None}
 use Rattle.std.specs.Prelude.{option_and_then}
 use Rattle.clap.specs.Words.{found_of}
-use Rattle.jh_arguments.specs.Models.{model_named}
+use Rattle.jh_checkers.specs.Models.{model_named}
 use Rattle.jh_arguments.proofs.OptionLemmas.{text_given}
 use Rattle.jh_arguments.proofs.commands.model_of.Goals as goal
 

@@ -2,7 +2,7 @@
 //! here and there.
 
 ghost use Rattle.std.specs.Prelude.{◌≡◌};
-ghost use Rattle.jh_arguments.specs.Models as rule;
+ghost use Rattle.jh_checkers.specs.Models as rule;
 
 use jh_txn::ConsistencyModel;
 
