@@ -7,7 +7,7 @@ use Rattle.jh_lines.specs.Replies.{after_lines}
 use Rattle.jh_nemesis.specs.State.{first_state}
 use Rattle.jh_ops.specs.Operation.{Operation}
 use Rattle.jh_ops.specs.declared.operation.Process.{Process}
-use Rattle.jh_simnode.specs.Histories.{request_name}
+use Rattle.jh_ops.specs.Requests.{request_name}
 use Rattle.jh_conversation.specs.Laws.{Drivers, complaint_of, complaint_of_answer}
 use Rattle.jh_conversation.specs.Laws.{complaint_of_completion, complaint_of_end}
 use Rattle.jh_conversation.specs.Laws.{complaint_of_reply, first_bad, first_bad_or, run, start}

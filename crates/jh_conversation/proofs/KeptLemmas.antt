@@ -14,7 +14,7 @@ use Rattle.jh_ops.specs.declared.call.Call.TheVariants as call
 use Rattle.jh_ops.specs.declared.call.Request.{Request}
 use Rattle.jh_ops.specs.declared.operation.Process.{Process}
 use Rattle.jh_ops.specs.Pairing.{is_invoke}
-use Rattle.jh_simnode.specs.Histories.{request_name}
+use Rattle.jh_ops.specs.Requests.{request_name}
 use Rattle.jh_test_parts.specs.Said.{LineSaid, Nothing, Clock, Stop, Reply, Bad}
 use Rattle.jh_lines.specs.Replies.{after_lines}
 use Rattle.jh_nemesis.specs.State.{first_state}

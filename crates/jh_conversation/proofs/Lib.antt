@@ -12,3 +12,4 @@ pub mod SoundLemmas
 pub mod CodeLemmas
 pub mod LineLemmas
 pub mod TextLemmas
+pub mod OfferLemmas

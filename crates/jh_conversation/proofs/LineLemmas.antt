@@ -5,7 +5,7 @@ use Rattle.jh_edn.specs.Edn.{is_keyword}
 use Rattle.jh_ops.specs.Operation.{Operation}
 use Rattle.jh_ops.specs.Pairing.{is_invoke}
 use Rattle.jh_ops.specs.declared.call.Request.{Request}
-use Rattle.jh_simnode.specs.Histories.{request_name}
+use Rattle.jh_ops.specs.Requests.{request_name}
 use Rattle.jh_conversation.specs.Lines.{at_time, finish, refuse, take_completion, take_end}
 use Rattle.jh_test_parts.specs.Values.{fits_call}
 use Rattle.jh_test_parts.specs.Test.{thread_of_process}

@@ -22,7 +22,7 @@ use Rattle.jh_gen.specs.declared.answers.GenAnswer.{GenAnswer}
 use Rattle.jh_gen.specs.declared.answers.GenAnswer.TheVariants.{Call, Done, Pending}
 use Rattle.jh_gen.specs.declared.answers.Thread.TheVariants as thread
 use Rattle.jh_nemesis.specs.State.{Active, State, first_state, state_back_to, state_forth_to}
-use Rattle.jh_nemesis.specs.Steps.{FitsNodes, answer_of, is_ok, moved_state, state_after}
+use Rattle.jh_nemesis.specs.Steps.{FitsNodes, answer_of, code_of, is_ok, moved_state, state_after}
 use Rattle.jh_nemesis.specs.declared.steps.Step.{Step}
 use Rattle.jh_nemesis.specs.declared.steps.Step.TheVariants.{Begin, Withdraw, WithdrawAll, Undo}
 use Rattle.jh_nemesis.specs.declared.steps.Step.TheVariants.{Redo}
@@ -31,7 +31,6 @@ use Rattle.jh_nemesis.specs.declared.steps.StepAnswer.TheVariants as answer
 use Rattle.jh_ops.specs.declared.call.Call.TheVariants as call
 use Rattle.jh_ops.specs.declared.call.Request.{Request}
 use Rattle.jh_ops.specs.declared.operation.Kind.{Kind}
-use Rattle.jh_simnode.specs.Histories.{code_of}
 use Rattle.jh_conversation.specs.Laws.{Drivers, IsLastDriver}
 use Rattle.jh_conversation.specs.Lines.{at_first, ended_as, more_crashes}
 use Rattle.jh_conversation.specs.Machine.{Machine, are_free, caller_process, has_no_call}

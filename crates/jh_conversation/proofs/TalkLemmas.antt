@@ -10,7 +10,7 @@ use Rattle.jh_nemesis.specs.State.{faults_in, first_state}
 use Rattle.jh_nemesis.specs.Steps.{state_after}
 use Rattle.jh_ops.specs.Operation.{Operation}
 use Rattle.jh_ops.specs.declared.operation.Process.{Process}
-use Rattle.jh_simnode.specs.Histories.{request_name}
+use Rattle.jh_ops.specs.Requests.{request_name}
 use Rattle.jh_conversation.specs.Conversations.{ConversationIsRun, ConversationValue, conversation_after}
 use Rattle.jh_conversation.specs.Laws.{Drivers, answered_by, clock_at, ended_by, heard, heard_from}
 use Rattle.jh_conversation.specs.Laws.{run, start, talk, talk_at, talk_from}

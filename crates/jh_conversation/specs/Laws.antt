@@ -15,7 +15,7 @@ use Rattle.jh_ops.specs.declared.call.Request.{Request}
 use Rattle.jh_ops.specs.declared.operation.Kind.{Kind}
 use Rattle.jh_ops.specs.declared.operation.Process.{Process}
 use Rattle.jh_ops.specs.Pairing.{is_invoke}
-use Rattle.jh_simnode.specs.Histories.{request_name}
+use Rattle.jh_ops.specs.Requests.{request_name}
 use Rattle.jh_test_parts.specs.Said.{LineSaid, Reply, Bad}
 use Rattle.jh_conversation.specs.Lines.{answers_step, at_first, clock_after, is_test_over}
 use Rattle.jh_test_parts.specs.Said.{kept_pairs, line_said}

@@ -6,5 +6,6 @@ pub mod TurnInside
 pub mod Lines
 pub mod LinesInside
 pub mod Laws
+pub mod Offered
 pub mod Text
 pub mod Conversations

@@ -17,7 +17,7 @@ use Rattle.jh_ops.specs.Pairing.{is_info, is_invoke}
 use Rattle.jh_ops.specs.declared.call.Request.{Request}
 use Rattle.jh_ops.specs.declared.operation.Kind.{Kind}
 use Rattle.jh_ops.specs.declared.operation.Process.{Process}
-use Rattle.jh_simnode.specs.Histories.{request_name}
+use Rattle.jh_ops.specs.Requests.{request_name}
 use Rattle.jh_txn_histories.specs.Written.{is_equal}
 use Rattle.jh_conversation.specs.Machine.{Machine}
 use Rattle.jh_conversation.specs.Machine.{hear, new_callers, caller_process, caller_of}

@@ -14,17 +14,19 @@ use Rattle.jh_gen.specs.declared.answers.GenAnswer.{GenAnswer}
 use Rattle.jh_gen.specs.declared.answers.GenAnswer.TheVariants.{Call, Done, Pending}
 use Rattle.jh_gen.specs.declared.answers.Thread.TheVariants as thread
 use Rattle.jh_nemesis.specs.State.{faults_in}
-use Rattle.jh_nemesis.specs.Steps.{answer_of, state_after}
+use Rattle.jh_nemesis.specs.Steps.{answer_of, code_of, state_after}
 use Rattle.jh_nemesis.specs.declared.steps.Step.TheVariants.{WithdrawAll}
 use Rattle.jh_ops.specs.Words.{content_value}
 use Rattle.jh_ops.specs.declared.call.Call.TheVariants as call
 use Rattle.jh_ops.specs.declared.call.Request.{Request}
-use Rattle.jh_simnode.specs.Histories.{asked_content, code_of}
+use Rattle.jh_ops.specs.declared.call.Request.TheVariants.{Txn}
+use Rattle.jh_ops.specs.Requests.{asked_content}
 use Rattle.jh_conversation.specs.Machine.{Machine}
 use Rattle.jh_conversation.specs.Machine.{are_free, has_no_call, new_callers, caller_process, say}
 use Rattle.jh_conversation.specs.Machine.{caller_of}
 use Rattle.jh_test_parts.specs.Test.{TestValue, node_of_thread}
 use Rattle.jh_test_parts.specs.Told.{cells_told}
+use Rattle.jh_test_parts.specs.Transactions.{TransactionSource, next_transaction}
 use Rattle.jh_test_parts.specs.declared.calls.Asked.{Asked}
 use Rattle.jh_conversation.specs.declared.callers.OpenStep.{OpenStep}
 use Rattle.jh_conversation.specs.declared.turns.Due.{Due}
@@ -141,11 +143,21 @@ counts_after (Some shares) thread counts =
     let group = group_of shares thread in
     set counts group (slice_index_or counts group 0 + 1)
 
+-- what a request asks with: a transaction is the next one that the seed chooses
+abbrev pub value_asked : TransactionSource → Request → Edn
+value_asked source Txn = (next_transaction source).0
+value_asked source request = content_value (asked_content request)
+
+-- the transactions to come after a request
+abbrev pub source_after : TransactionSource → Request → TransactionSource
+source_after source Txn = (next_transaction source).1
+source_after source request = source
+
 -- the call that a thread makes for a request
 abbrev pub call_made : TestValue → Machine → ℕ → Request → Asked
 call_made t m thread request = record {
   request = request;
-  value = value_with_key t t.keys thread m.calls_by_group (content_value (asked_content request));
+  value = value_with_key t t.keys thread m.calls_by_group (value_asked m.transactions request);
 }
 
 abbrev pub invoke : TestValue → ℕ → Request → Machine → Machine
@@ -154,6 +166,7 @@ invoke t thread request m =
     say (Invoked m.clock (caller_process t m thread) (node_of_thread t thread) call)
     (record m {
       given = m.given + 1;
+      transactions = source_after m.transactions request;
       calls_by_group = counts_after t.keys thread m.calls_by_group;
       callers = set m.callers thread (record { crashes = (caller_of m thread).crashes; call = Some call });
     })

@@ -7,6 +7,9 @@ ghost use Rattle.jh_conversation.specs.Laws.{FirstBadIsTold, HistoryIsFormed, Hi
 ghost use Rattle.jh_conversation.specs.Laws.{KindsAreApart, RestIsQuiet, RestIsStart};
 ghost use Rattle.jh_conversation.specs.Laws.{StopEndsMainCalls, TimesAreInOrder, TurnSettles};
 ghost use Rattle.jh_conversation.specs.Laws.{TwoStopsEndCalls};
+ghost use Rattle.jh_conversation.specs.Offered.{CallsAreOffers, MainCallsAreOffers};
+
+use jh_gen::{asked_answers, end_keeps_generator};
 
 /// The history has the records that were said and those that were heard, in the order in which they were, each once, and
 /// nothing else. Its times never go back, and by themselves the records tell which were said and which were heard.
@@ -57,3 +60,13 @@ pub fn first_bad_is_told()
 pub fn conversation_is_run()
     ensures { ConversationIsRun }
 {}
+
+/// Each call is what the generator offers to its thread behind the calls before it: in *main* that of the test, limited to its
+/// calls and to clients, and in *final* the final one likewise.
+pub fn calls_are_offers()
+    ensures all { CallsAreOffers }
+    ensures main { MainCallsAreOffers }
+{
+    asked_answers();
+    end_keeps_generator();
+}

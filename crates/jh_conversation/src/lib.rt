@@ -13,7 +13,8 @@ mod turns;
 
 pub use conversation::Conversation;
 pub use laws::{
-    calls_are_bounded, cells_are_environment, conversation_is_run, first_bad_is_told,
-    history_is_the_conversation, history_is_well_formed, rest_is_start, turns_end,
+    calls_are_bounded, calls_are_offers, cells_are_environment, conversation_is_run,
+    first_bad_is_told, history_is_the_conversation, history_is_well_formed, rest_is_start,
+    turns_end,
 };
 pub use phase::Phase;

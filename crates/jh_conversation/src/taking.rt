@@ -15,9 +15,8 @@ use crate::phase::Phase;
 use jh_edn::Value;
 use jh_gen::{Ended, Thread};
 use jh_ops::{Kind, Op, Process, Request};
-use jh_test_parts::{
-    Complaint, Datum, Recorded, Said, Test, are_equal, fits_call, kept_pairs, line_said, name_of,
-};
+use jh_test_parts::{Complaint, Datum, Recorded, Said, Test, fits_call, kept_pairs, line_said};
+use jh_txn_histories::is_equal;
 use std::alloc::{AllocError, Global};
 
 /// The greatest time that a line can tell, in nanoseconds.
@@ -53,7 +52,7 @@ fn answers_step(alloc: Global, step: OpenStep, op: &Op) -> Result<bool, AllocErr
     if !op.kind.is(Kind::Info) || !op.f.is_keyword("step") {
         return Ok(false);
     }
-    are_equal(alloc, &Value::Int(step.entry as i64), &op.value)
+    is_equal(alloc, &Value::Int(step.entry as i64), &op.value)
 }
 
 impl Machine {
@@ -149,7 +148,7 @@ impl Machine {
         if self.process_of(test, thread) != process {
             return Ok(Err(Complaint::NoCallOpen));
         }
-        if op.kind.is(Kind::Invoke) || !op.f.is_keyword(name_of(call.request)) {
+        if op.kind.is(Kind::Invoke) || !op.f.is_keyword(call.request.name()) {
             return Ok(Err(Complaint::OtherCall));
         }
         if !fits_call(alloc, test, call, op.kind, &op.value)? {

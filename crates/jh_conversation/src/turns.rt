@@ -4,8 +4,7 @@ ghost use Rattle.std.specs.Prelude.{◌≡◌, ◌<◌, ◌≤◌, ◌^◌, leng
 ghost use Rattle.std.specs.Prelude.{slice_index_or};
 ghost use Rattle.jh_edn.specs.View.{view};
 ghost use Rattle.jh_nemesis.specs.State.{faults_in};
-ghost use Rattle.jh_nemesis.specs.Steps.{StepFits, answer_of, state_after};
-ghost use Rattle.jh_simnode.specs.Histories.{code_of};
+ghost use Rattle.jh_nemesis.specs.Steps.{StepFits, answer_of, code_of, state_after};
 ghost use Rattle.jh_test_parts.specs.Told as told;
 ghost use Rattle.jh_conversation.specs.Machine as machine;
 ghost use Rattle.jh_conversation.specs.Sound.{HasSmallCounts, IsSoundMachine};
@@ -19,10 +18,7 @@ use jh_edn::{Value, Values};
 use jh_gen::{Driver, GenAnswer, GenError, Thread};
 use jh_nemesis::{Nemesis, Step};
 use jh_ops::{Call, Request};
-use jh_simnode::code_of;
-use jh_test_parts::{
-    Asked, CellsTold, Datum, Entry, KeyShares, Recorded, Test, When, cells_told, value_asked,
-};
+use jh_test_parts::{Asked, CellsTold, Datum, Entry, KeyShares, Recorded, Test, When, cells_told};
 use rand_core::utils::NextWord;
 use std::alloc::{AllocError, Global};
 
@@ -85,7 +81,7 @@ fn take_step(
     let before = nemesis.env().copy(alloc)?;
     let answer = nemesis.apply(step)?;
     let cells = cells_told(alloc, &before, nemesis.env())?;
-    Ok((code_of(answer) as u64, cells))
+    Ok((answer.code() as u64, cells))
 }
 
 impl Machine {
@@ -231,19 +227,32 @@ impl Machine {
         u64::from(group) + u64::from(groups) * (self.number_in(group) / u64::from(shares.calls))
     }
 
-    /// The call that a thread makes for a request.
-    fn call_made(
+    /// The value with which a request asks. A transaction is the next one.
+    fn value_asked(&mut self, alloc: Global, request: Request) -> Result<Value, AllocError>
+        ensures value { IfOk result
+            (λ value. view value ≡ rule.value_asked self.old.transactions request) }
+        ensures machine { OnOk result (self.new ≡ inside.sourced request self.old) }
+    {
+        match request {
+            Request::Txn => self.transactions.next(alloc),
+            _ => request.argument(alloc),
+        }
+    }
+
+    /// The call that a thread makes for a request that asks with a value.
+    fn asked_with(
         &self,
         alloc: Global,
         test: &Test,
         thread: u32,
         request: Request,
+        value: Value,
     ) -> Result<Asked, AllocError>
         requires small { HasSmallCounts test.now self.now }
         requires within { thread < test.now.clients }
-        ensures { IfOk result (λ call. call ≡ rule.call_made test.now self.now thread request) }
+        ensures { IfOk result
+            (λ call. call ≡ inside.asked_with test.now self.now thread request (view value)) }
     {
-        let value = value_asked(alloc, request)?;
         let value = match test.keys() {
             None => value,
             Some(shares) => with_key(alloc, self.key_of(test, shares, thread), value)?,
@@ -279,7 +288,8 @@ impl Machine {
         requires within { thread < test.now.clients }
         ensures { OnOk result (self.new ≡ rule.invoke test.now thread request self.old) }
     {
-        let call = self.call_made(alloc, test, thread, request)?;
+        let value = self.value_asked(alloc, request)?;
+        let call = self.asked_with(alloc, test, thread, request, value)?;
         let kept = call.copy(alloc)?;
         let process = self.process_of(test, thread);
         let crashes = self.callers[thread as usize].crashes;

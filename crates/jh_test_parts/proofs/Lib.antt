@@ -1,3 +1,4 @@
 pub mod LineLemmas
 pub mod ToldLemmas
 pub mod ValueLemmas
+pub mod TransactionLemmas

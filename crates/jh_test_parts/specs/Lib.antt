@@ -7,3 +7,4 @@ pub mod Complaints
 pub mod Said
 pub mod Values
 pub mod Transactions
+pub mod SourceInside

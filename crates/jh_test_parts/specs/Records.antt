@@ -14,7 +14,7 @@ use Rattle.jh_ops.specs.declared.operation.Kind.{Kind}
 use Rattle.jh_ops.specs.declared.operation.Process.{Process}
 use Rattle.jh_step_texts.specs.FaultWritten.{name_text}
 use Rattle.jh_step_texts.specs.StepWritten.{text_of_step}
-use Rattle.jh_simnode.specs.Histories.{request_name}
+use Rattle.jh_ops.specs.Requests.{request_name}
 use Rattle.jh_test_parts.specs.Told.{CellsTold}
 use Rattle.jh_test_parts.specs.declared.records.LinkTold.{LinkTold}
 use Rattle.jh_test_parts.specs.declared.records.NodeTold.{NodeTold}

@@ -5,7 +5,7 @@ use Rattle.std.specs.Prelude.{length}
 use Rattle.std.specs.Prelude.{Option, None, Some, option_map}
 use Rattle.jh_env.specs.Overlay.{EnvValue}
 use Rattle.jh_gen.specs.Generator.{Generator}
-use Rattle.jh_gen.specs.Suits.{suits}
+use Rattle.jh_gen.specs.Suits.{suits, suits_transactions}
 use Rattle.jh_gen.specs.View.{generator_of}
 use Rattle.jh_nemesis.specs.Steps.{FitsNodes}
 use Rattle.jh_ops.specs.declared.call.Workload.TheVariants as workload
@@ -19,7 +19,8 @@ use Rattle.jh_test_parts.specs.declared.test.TestData.{TestData}
 use Rattle.jh_test_parts.specs.declared.test.TestError.{TestError}
 use Rattle.jh_test_parts.specs.declared.test.TestError.TheVariants.{BadClients, BadOps, BadKeys}
 use Rattle.jh_test_parts.specs.declared.test.TestError.TheVariants.{BadGenerator, BadFinal}
-use Rattle.jh_test_parts.specs.declared.test.TestError.TheVariants.{BadSchedule, OutOfMemory}
+use Rattle.jh_test_parts.specs.declared.test.TestError.TheVariants.{BadSchedule, BadTransactions}
+use Rattle.jh_test_parts.specs.declared.test.TestError.TheVariants.{OutOfMemory}
 
 pub record TestValue : Type 0 where
   -- the environment before the first fault
@@ -77,13 +78,13 @@ are_shares clients (Some shares) =
 abbrev pub HasKeys : TestValue → Type 0
 HasKeys t = are_shares t.clients t.keys ≡ true
 
--- the generator's calls are requests of what is checker; no request is a transaction yet
+-- the generator's calls are requests of what is tested
 abbrev pub suits_checker : Checker → ℕ → Generator → Bool
 suits_checker Register clients generator = suits workload.Register clients generator
 suits_checker Counter clients generator = suits workload.Counter clients generator
 suits_checker Set clients generator = suits workload.Set clients generator
 suits_checker Ids clients generator = suits workload.Ids clients generator
-suits_checker ListAppend clients generator = false
+suits_checker ListAppend clients generator = suits_transactions clients generator
 
 abbrev pub last_suits : Checker → ℕ → Option Generator → Bool
 last_suits checker clients None = true
@@ -100,6 +101,19 @@ abbrev pub HasSchedule : TestValue → Type 0
 HasSchedule t =
     (length t.schedule ≤ 1024) × All (λ entry. FitsNodes (length t.start.names) entry.step) t.schedule
 
+-- transactions are over 1 to 1,000 keys at a time, of 1 to 100 micro-operations at most, with 1 to
+-- 10,000 appends of a key
+pub record IsGoodShape (shape : TransactionShape) : Type 0 where
+  pub some_keys : 1 ≤ shape.keys
+  pub few_keys : shape.keys ≤ 1000
+  pub some_ops : 1 ≤ shape.most
+  pub few_ops : shape.most ≤ 100
+  pub some_appends : 1 ≤ shape.appends
+  pub few_appends : shape.appends ≤ 10000
+
+abbrev pub HasTransactions : TestValue → Type 0
+HasTransactions t = IsGoodShape t.transactions
+
 pub record IsFitTest (t : TestValue) : Type 0 where
   pub clients : HasTestClients t
   pub ops : HasTestOps t
@@ -107,6 +121,7 @@ pub record IsFitTest (t : TestValue) : Type 0 where
   pub generator : HasTestGenerator t
   pub final : HasFinal t
   pub schedule : HasSchedule t
+  pub transactions : HasTransactions t
 
 -- why a test is refused: each is looked at only where those before it are right
 abbrev pub RefusesTest : TestValue → TestError → Type 0
@@ -117,6 +132,9 @@ RefusesTest t BadGenerator = HasTestClients t × HasTestOps t × HasKeys t × (H
 RefusesTest t BadFinal = HasTestClients t × HasTestOps t × HasKeys t × HasTestGenerator t × (HasFinal t → ⊥)
 RefusesTest t BadSchedule =
     HasTestClients t × HasTestOps t × HasKeys t × HasTestGenerator t × HasFinal t × (HasSchedule t → ⊥)
+RefusesTest t BadTransactions =
+    HasTestClients t × HasTestOps t × HasKeys t × HasTestGenerator t × HasFinal t × HasSchedule t
+    × (HasTransactions t → ⊥)
 RefusesTest t OutOfMemory = IsFitTest t
 
 -- the thread of a process: a client that crashed goes on as a process of its thread (jepsen.generator)

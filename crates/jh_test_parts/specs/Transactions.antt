@@ -1,6 +1,6 @@
 -- The transactions of a test, one after another, as random numbers choose them. This project's own;
 -- their form is that of Jepsen's workload list-append (jepsen.tests.cycle.append).
-use Rattle.std.specs.Prelude.{ℕ, zero, suc, ◌+◌, ◌%◌, ◌==◌, pos, Bool, List, [], ◌∷◌, codes, set}
+use Rattle.std.specs.Prelude.{ℕ, zero, suc, ◌+◌, ◌%◌, ◌^◌, ◌==◌, pos, Bool, List, [], ◌∷◌, codes, set}
 use Rattle.std.specs.Prelude.{slice_index_or, if◌then◌else◌}
 use Rattle.rand_pcg.specs.Lcg.{Lcg, started, increment_of}
 use Rattle.rand_pcg.specs.Pcg.{pcg64, multiplier_128}
@@ -9,8 +9,10 @@ use Rattle.jh_edn.specs.Parts.{vector_of}
 use Rattle.jh_test_parts.specs.declared.parts.TransactionShape.{TransactionShape}
 use Rattle.jh_test_parts.specs.declared.transactions.Slot.{Slot}
 
--- where the transactions stand: the random numbers, the slots, and the next key that was never used
+-- where the transactions stand: how they are made, the random numbers, the slots, and the next key that
+-- was never used
 pub record TransactionSource : Type 0 where
+  pub shape : TransactionShape
   pub words : Lcg
   pub slots : List Slot
   pub next_key : ℕ
@@ -25,6 +27,7 @@ slots_from key (suc n) = (record { key = key; appends = 0 }) ∷ slots_from (key
 -- slot s has the key s at first; the random numbers are those of the seed's second stream
 abbrev pub first_source : TransactionShape → ℕ → TransactionSource
 first_source shape seed = record {
+  shape = shape;
   words = started 128 multiplier_128 seed (increment_of 128 1);
   slots = slots_from 0 shape.keys;
   next_key = shape.keys;
@@ -44,49 +47,52 @@ abbrev pub append_of : ℕ → ℕ → Edn
 append_of key element =
     vector_of (keyword (codes "append") ∷ int (pos key) ∷ int (pos element) ∷ [])
 
+-- whether a slot has all its appends with one more
+abbrev pub is_full_with_one : TransactionSource → Slot → Bool
+is_full_with_one source slot = slot.appends + 1 == source.shape.appends
+
 -- the slot after one more append: another key takes its place where this one has all its appends
-abbrev pub slot_after : TransactionShape → ℕ → Slot → Slot
-slot_after shape next_key slot =
-    if slot.appends + 1 == shape.appends then record { key = next_key; appends = 0 }
+abbrev pub slot_after : TransactionSource → Slot → Slot
+slot_after source slot =
+    if is_full_with_one source slot then record { key = source.next_key; appends = 0 }
     else record { key = slot.key; appends = slot.appends + 1 }
 
-abbrev pub key_after : TransactionShape → ℕ → Slot → ℕ
-key_after shape next_key slot =
-    if slot.appends + 1 == shape.appends then next_key + 1 else next_key
+-- the next key after it; keys are integers of a text, and no test comes to the end of them
+abbrev pub key_after : TransactionSource → Slot → ℕ
+key_after source slot =
+    if is_full_with_one source slot then (source.next_key + 1) % 2 ^ 63 else source.next_key
 
-abbrev pub source_after_append : TransactionShape → TransactionSource → ℕ → Slot → TransactionSource
-source_after_append shape source place slot = record source {
-  slots = set source.slots place (slot_after shape source.next_key slot);
-  next_key = key_after shape source.next_key slot;
+abbrev pub source_after_append : TransactionSource → ℕ → Slot → TransactionSource
+source_after_append source place slot = record source {
+  slots = set source.slots place (slot_after source slot);
+  next_key = key_after source slot;
 }
 
 -- a micro-operation on a slot: an append where the number that chose it is odd, else a read
-abbrev pub op_on_slot : TransactionShape → TransactionSource → Bool → ℕ → Slot
-    → Edn × TransactionSource
-op_on_slot shape source reads place slot =
+abbrev pub op_on_slot : TransactionSource → Bool → ℕ → Slot → Edn × TransactionSource
+op_on_slot source reads place slot =
     if reads then (read_written slot.key, source)
-    else (append_of slot.key (slot.appends + 1), source_after_append shape source place slot)
+    else (append_of slot.key (slot.appends + 1), source_after_append source place slot)
 
-abbrev pub op_on : TransactionShape → TransactionSource → Bool → ℕ → Edn × TransactionSource
-op_on shape source reads place =
-    op_on_slot shape source reads place (slice_index_or source.slots place no_slot)
+abbrev pub op_on : TransactionSource → Bool → ℕ → Edn × TransactionSource
+op_on source reads place = op_on_slot source reads place (slice_index_or source.slots place no_slot)
 
 -- the next micro-operation takes two numbers: what it does, and the slot
-abbrev pub next_op : TransactionShape → TransactionSource → Edn × TransactionSource
-next_op shape source =
+abbrev pub next_op : TransactionSource → Edn × TransactionSource
+next_op source =
     let chosen = after_word source in
-    op_on shape (after_word chosen) (word_of source % 2 == 0) (word_of chosen % shape.keys)
+    op_on (after_word chosen) (word_of source % 2 == 0) (word_of chosen % source.shape.keys)
 
 -- so many micro-operations
-abbrev pub next_ops : TransactionShape → ℕ → TransactionSource → List Edn × TransactionSource
-next_ops shape zero source = ([], source)
-next_ops shape (suc n) source =
-    let first = next_op shape source in
-    let more = next_ops shape n first.1 in
+abbrev pub next_ops : ℕ → TransactionSource → List Edn × TransactionSource
+next_ops zero source = ([], source)
+next_ops (suc n) source =
+    let first = next_op source in
+    let more = next_ops n first.1 in
     (first.0 ∷ more.0, more.1)
 
 -- the next transaction takes a number for its length, and then those of its micro-operations
-abbrev pub next_transaction : TransactionShape → TransactionSource → Edn × TransactionSource
-next_transaction shape source =
-    let ops = next_ops shape (1 + word_of source % shape.most) (after_word source) in
+abbrev pub next_transaction : TransactionSource → Edn × TransactionSource
+next_transaction source =
+    let ops = next_ops (1 + word_of source % source.shape.most) (after_word source) in
     (vector_of ops.0, ops.1)

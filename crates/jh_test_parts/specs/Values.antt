@@ -5,9 +5,9 @@ use Rattle.std.specs.Prelude.{[], ◌∷◌, Option, None, Some}
 use Rattle.std.specs.Prelude.{is_some}
 use Rattle.jh_edn.specs.Edn.{Edn, nil, elements_of, is_integer}
 use Rattle.jh_ops.specs.declared.call.Request.{Request}
-use Rattle.jh_ops.specs.declared.call.Request.TheVariants.{Read, Generate}
+use Rattle.jh_ops.specs.declared.call.Request.TheVariants.{Read, Generate, Txn}
 use Rattle.jh_ops.specs.declared.operation.Kind.{Kind}
-use Rattle.jh_txn_histories.specs.Written.{is_equal}
+use Rattle.jh_txn_histories.specs.Written.{is_answered, is_equal}
 use Rattle.jh_test_parts.specs.Test.{TestValue}
 use Rattle.jh_test_parts.specs.declared.calls.Asked.{Asked}
 use Rattle.jh_test_parts.specs.declared.parts.KeyShares.{KeyShares}
@@ -32,10 +32,12 @@ is_readable Set value = is_collection value
 is_readable Ids value = true
 is_readable ListAppend value = true
 
--- what a call that was done may be answered, but for its key
+-- what a call that was done may be answered, but for its key; a transaction does the same, with what
+-- its reads saw
 abbrev pub is_good_answer : Checker → Request → (asked answer : Edn) → Bool
 is_good_answer checker Read asked answer = is_readable checker answer
 is_good_answer checker Generate asked answer = true
+is_good_answer checker Txn asked answer = is_answered asked answer
 is_good_answer checker _ asked answer = is_equal asked answer
 
 abbrev pub answers_with_key : Checker → Request → List Edn → Option (List Edn) → Bool

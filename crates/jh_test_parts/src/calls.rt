@@ -2,13 +2,9 @@
 
 ghost use Rattle.std.specs.Prelude.{◌≡◌, IfOk};
 ghost use Rattle.jh_edn.specs.View.{view};
-ghost use Rattle.jh_ops.specs.Words.{content_value};
-ghost use Rattle.jh_simnode.specs.Histories as histories;
-ghost use Rattle.jh_simnode.specs.Histories.{asked_content};
 
 use jh_edn::Value;
-use jh_ops::{Op, Request};
-use jh_simnode::invocation;
+use jh_ops::Request;
 use std::alloc::{AllocError, Global};
 use std::marker::Model;
 
@@ -73,25 +69,4 @@ impl Asked {
             value: self.value.copy(alloc)?,
         })
     }
-}
-
-/// The name of a request's function.
-pub fn name_of(request: Request) -> &'static str
-    ensures { result.now ≡ histories.request_name request }
-{
-    match request {
-        Request::Read => "read",
-        Request::Write(_) => "write",
-        Request::Cas(_, _) => "cas",
-        Request::Add(_) => "add",
-        Request::Generate => "generate",
-    }
-}
-
-/// The value that a request asks with.
-pub fn value_asked(alloc: Global, request: Request) -> Result<Value, AllocError>
-    ensures { IfOk result (λ value. view value ≡ content_value (asked_content request)) }
-{
-    let Op { value, .. } = invocation(alloc, 0, request)?;
-    Ok(value)
 }

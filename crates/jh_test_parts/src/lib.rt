@@ -13,7 +13,7 @@ mod told;
 mod transactions;
 mod values;
 
-pub use calls::{Asked, Datum, name_of, value_asked};
+pub use calls::{Asked, Datum};
 pub use complaints::Complaint;
 pub use line::{Said, kept_pairs, line_said};
 pub use operations::{operation_of, operations_of};
@@ -22,4 +22,4 @@ pub use records::{CellsTold, LinkTold, NodeTold, Recorded};
 pub use test::{MAX_ENTRIES, Test, TestData, TestError};
 pub use told::cells_told;
 pub use transactions::{Slot, TransactionSource};
-pub use values::{are_equal, fits_call};
+pub use values::fits_call;

@@ -14,7 +14,6 @@ ghost use Rattle.jh_tables.specs.Standing.{IsLinkInRange};
 ghost use Rattle.jh_test_parts.specs.Records as rule;
 ghost use Rattle.jh_test_parts.specs.Records.{IsWritableRecord};
 
-use crate::calls::name_of;
 use crate::records::{CellsTold, LinkTold, NodeTold, Recorded};
 use jh_edn::{Pairs, Text, Value, Values};
 use jh_env::{Life, Link, Node, NodeCell, Nodes};
@@ -221,7 +220,7 @@ pub fn operation_of(
         Recorded::Invoked(time, process, node, call) => {
             let value = call.value.value().copy(alloc)?;
             let rest = node_pairs(alloc, nodes, *node)?;
-            let name = name_of(call.request);
+            let name = call.request.name();
             client_operation(
                 alloc,
                 (index, *time),
@@ -235,7 +234,7 @@ pub fn operation_of(
         Recorded::Ended(time, process, kind, request, value, rest) => {
             let value = value.value().copy(alloc)?;
             let rest = rest.copy(alloc)?;
-            let name = name_of(*request);
+            let name = request.name();
             client_operation(alloc, (index, *time), *kind, *process, name, value, rest)
         }
         Recorded::Begun(time, entry, step, cells) => {

@@ -7,7 +7,7 @@ ghost use Rattle.jh_env.specs.Overlay.{StandsFor};
 ghost use Rattle.jh_nemesis.specs.Steps.{FitsNodes};
 ghost use Rattle.jh_gen.specs.View.{generator_of};
 ghost use Rattle.jh_test_parts.specs.Test as rule;
-ghost use Rattle.jh_test_parts.specs.Test.{IsFitTest, RefusesTest};
+ghost use Rattle.jh_test_parts.specs.Test.{IsFitTest, IsGoodShape, RefusesTest};
 
 use crate::parts::{Entry, KeyShares, TransactionShape};
 use jh_checkers::Checker;
@@ -62,7 +62,7 @@ pub enum TestError {
     /// The threads of a key do not divide the clients, or a key has no calls.
     #[error("bad keys")]
     BadKeys,
-    /// The generator does not suit what is checker and the number of clients.
+    /// The generator does not suit what is tested and the number of clients.
     #[error("bad generator")]
     BadGenerator,
     /// The generator of the final calls does not.
@@ -71,6 +71,10 @@ pub enum TestError {
     /// There are more than 1,024 entries, or a fault names a node that is not in the environment.
     #[error("bad schedule")]
     BadSchedule,
+    /// Transactions are over no keys or more than 1,000, of no micro-operations or more than 100, or
+    /// with no appends of a key or more than 10,000.
+    #[error("bad transactions")]
+    BadTransactions,
     #[error("out of memory")]
     OutOfMemory,
 }
@@ -158,7 +162,7 @@ fn are_shares(clients: u32, keys: Option<KeyShares>) -> bool
     }
 }
 
-/// Whether the calls of a generator are requests of what is tested. No request is a transaction yet.
+/// Whether the calls of a generator are requests of what is tested.
 fn suits(checker: Checker, clients: u32, generator: &Gen) -> bool
     ensures { result ≡ rule.suits_checker checker clients (generator_of generator.now) }
 {
@@ -167,7 +171,7 @@ fn suits(checker: Checker, clients: u32, generator: &Gen) -> bool
         Checker::Counter => generator.suits(Workload::Counter, clients),
         Checker::Set => generator.suits(Workload::Set, clients),
         Checker::Ids => generator.suits(Workload::Ids, clients),
-        Checker::ListAppend => false,
+        Checker::ListAppend => generator.suits_transactions(clients),
     }
 }
 
@@ -179,6 +183,18 @@ fn last_suits(checker: Checker, clients: u32, last: &Option<Gen>) -> bool
         None => true,
         Some(generator) => suits(checker, clients, generator),
     }
+}
+
+/// Whether transactions can be made so.
+fn are_made_so(shape: TransactionShape) -> bool
+    ensures { IsTrue result ↔ IsGoodShape shape }
+{
+    1 <= shape.keys
+        && shape.keys <= 1_000
+        && 1 <= shape.most
+        && shape.most <= 100
+        && 1 <= shape.appends
+        && shape.appends <= 10_000
 }
 
 /// Refuses data of which no test is made.
@@ -204,6 +220,9 @@ fn judge(fields: &TestData) -> Result<(), TestError>
     if fields.schedule.len() > MAX_ENTRIES || !all_fit(&fields.schedule, &fields.environment) {
         return Err(TestError::BadSchedule);
     }
+    if !are_made_so(fields.transactions) {
+        return Err(TestError::BadTransactions);
+    }
     Ok(())
 }
 
@@ -212,9 +231,10 @@ impl Test {
     ///
     /// Errors, in this order: `BadClients` where there are not 1 to 16; `BadOps` where there are not
     /// 1 to 1,000,000; `BadKeys` where the threads of a key do not divide the clients, or a key has no
-    /// calls; `BadGenerator`, then `BadFinal`, where a generator does not suit what is checker and the
+    /// calls; `BadGenerator`, then `BadFinal`, where a generator does not suit what is tested and the
     /// number of clients (`Gen::suits`); `BadSchedule` where there are more than 1,024 entries, or a
-    /// fault names a node that is not in the environment; `OutOfMemory`.
+    /// fault names a node that is not in the environment; `BadTransactions` where a number of
+    /// `transactions` is out of its range; `OutOfMemory`.
     pub fn new(alloc: Global, fields: TestData) -> Result<Test, TestError>
         requires { StandsFor fields.environment [] }
         ensures { MatchResult result
@@ -336,7 +356,8 @@ impl Test {
 
     /// How transactions are made.
     pub fn transactions(&self) -> TransactionShape
-        ensures { result ≡ self.now.transactions }
+        ensures transactions { result ≡ self.now.transactions }
+        ensures good { IsGoodShape result }
     {
         self.transactions
     }

@@ -2,7 +2,6 @@
 
 ghost use Rattle.std.specs.Prelude.{◌≡◌, IfOk, option_map};
 ghost use Rattle.jh_edn.specs.View.{view, views};
-ghost use Rattle.jh_txn_histories.specs.Written.{is_equal};
 ghost use Rattle.jh_test_parts.specs.Values as rule;
 
 use crate::calls::Asked;
@@ -10,15 +9,8 @@ use crate::test::Test;
 use jh_checkers::Checker;
 use jh_edn::Value;
 use jh_ops::{Kind, Request};
+use jh_txn_histories::{is_answered, is_equal};
 use std::alloc::{AllocError, Global};
-use std::cmp::Ordering;
-
-/// Whether two values are equal, as EDN says.
-pub fn are_equal(alloc: Global, one: &Value, other: &Value) -> Result<bool, AllocError>
-    ensures { IfOk result (λ yes. yes ≡ is_equal (view one.now) (view other.now)) }
-{
-    Ok(one.normal(alloc)?.compare(&other.normal(alloc)?) == Ordering::Equal)
-}
 
 /// Whether a value is nil.
 fn is_nil(value: &Value) -> bool
@@ -68,9 +60,8 @@ fn is_good_answer(
     match request {
         Request::Read => Ok(is_readable(checker, answer)),
         Request::Generate => Ok(true),
-        Request::Write(_) | Request::Cas(_, _) | Request::Add(_) => {
-            are_equal(alloc, asked, answer)
-        }
+        Request::Txn => is_answered(alloc, asked, answer),
+        Request::Write(_) | Request::Cas(_, _) | Request::Add(_) => is_equal(alloc, asked, answer),
     }
 }
 
@@ -89,7 +80,7 @@ fn answers_with_key(
         return Ok(false);
     }
     Ok(
-        are_equal(alloc, &asked[0], &answer[0])?
+        is_equal(alloc, &asked[0], &answer[0])?
             && is_good_answer(alloc, checker, request, &asked[1], &answer[1])?,
     )
 }
@@ -127,6 +118,6 @@ pub fn fits_call(
 {
     match kind {
         Kind::Ok => is_good_value(alloc, test, call, value),
-        Kind::Invoke | Kind::Fail | Kind::Info => are_equal(alloc, call.value.value(), value),
+        Kind::Invoke | Kind::Fail | Kind::Info => is_equal(alloc, call.value.value(), value),
     }
 }

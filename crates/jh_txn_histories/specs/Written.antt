@@ -70,6 +70,10 @@ are_answers _ _ = false
 abbrev pub answers : List Written → Edn → Bool
 answers asked value = option_map_or (are_answers asked) (micro_ops_of Answered value) false
 
+-- A value spells what was asked, and another one is the value of a completion that answers it.
+abbrev pub is_answered : Edn → Edn → Bool
+is_answered asked value = option_map_or (λ ops. answers ops value) (micro_ops_of Asked asked) false
+
 -- the appends among micro-operations, each a key with an element
 abbrev pub appends_of : List Written → List (Edn × Edn)
 appends_of [] = []

@@ -95,7 +95,9 @@ pub(crate) fn micro_ops_of(
 }
 
 /// Whether two values are equal, as EDN says.
-fn is_equal(alloc: Global, one: &Value, other: &Value) -> Result<bool, AllocError>
+///
+/// Error: memory was refused.
+pub fn is_equal(alloc: Global, one: &Value, other: &Value) -> Result<bool, AllocError>
     ensures { IfOk result (λ yes. yes ≡ rule.is_equal (view one.now) (view other.now)) }
 {
     Ok(one.normal(alloc)?.compare(&other.normal(alloc)?) == Ordering::Equal)
@@ -146,6 +148,21 @@ pub(crate) fn answers(alloc: Global, asked: &[WrittenOp], value: &Value) -> Resu
 {
     match micro_ops_of(alloc, Stage::Answered, value)? {
         Some(ops) => are_answers(alloc, asked, &ops),
+        None => Ok(false),
+    }
+}
+
+/// Whether a value spells micro-operations as they are asked for, and another one what answers them:
+/// the same ones, but for what reads saw.
+///
+/// Takes time linear in both values.
+///
+/// Error: memory was refused.
+pub fn is_answered(alloc: Global, asked: &Value, answer: &Value) -> Result<bool, AllocError>
+    ensures { IfOk result (λ yes. yes ≡ rule.is_answered (view asked.now) (view answer.now)) }
+{
+    match micro_ops_of(alloc, Stage::Asked, asked)? {
+        Some(ops) => answers(alloc, &ops, answer),
         None => Ok(false),
     }
 }
