@@ -162,6 +162,15 @@ All 2 records.
 All 0 records.
 <pre>:active []</pre>
 § - - - -
+{:index 0, :time 0, :type :invoke, :process 0, :f :read, :value nil}
+:end
+{:index 0, :time 0, :type :invoke, :process 0, :f :read, :value nil}
+{:index 1, :time 1, :type :ok, :process 0, :f :read, :value nil}
+:active []
+→ 0
+All 2 records.
+<pre>:active []</pre>
+§ - - - -
 {:type :info, :process :nemesis, :f :note, :value "
 :active"}
 → 0

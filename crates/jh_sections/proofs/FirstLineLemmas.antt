@@ -48,12 +48,12 @@ means_none text (History (Op place why)) once other refused = λ history parsed.
 -- ---- the first line
 
 -- the first behind a line feed, where none begins at the first place
-pub behind_feed : (text : List ℕ) (before end : ℕ) → LacksTextAt (codes ":active") text 0 → ((at : ℕ) → at < before → LacksTextAt (codes "\n:active") text at) → HasTextAt (codes "\n:active") text before end
-    → IsFirstLine text (before + 1)
-behind_feed text before end start other found =
+pub behind_feed : (begin text : List ℕ) (before end : ℕ) → LacksTextAt begin text 0 → ((at : ℕ) → at < before → LacksTextAt (10 ∷ begin) text at) → HasTextAt (10 ∷ begin) text before end
+    → IsFirstLine begin text (before + 1)
+behind_feed begin text before end start other found =
     let next : suc before ≡ before + 1 = sym (add-one before) in
-    subst (IsFirstLine text) next (record { here = (drop end text, found.split); first = lower })
+    subst (IsFirstLine begin text) next (record { here = (drop end text, found.split); first = lower })
   where
-    lower : (place : ℕ) → place < suc before → HasLineAt text place → ⊥
+    lower : (place : ℕ) → place < suc before → HasLineAt begin text place → ⊥
     lower zero below (behind, is) = start behind is
     lower (suc place) below (behind, is) = other place (omega arith) behind is

@@ -1,6 +1,8 @@
 -- Which part of a text is a history: all of it, or what stands before the lines that a run prints
--- behind its history (this project's own). Of those the first begins with `:active`.
-use Rattle.std.specs.Prelude.{◌≡◌, ℕ, zero, suc, ◌<◌, List, [], ◌++◌, codes, take, drop, ◌⊎◌}
+-- behind its history, of which the first begins with `:active`; of a test of a real database without
+-- the lines up to `:end`, which are those of the conversation (this project's own).
+use Rattle.std.specs.Prelude.{◌≡◌, ℕ, zero, suc, ◌+◌, ◌<◌, List, [], ◌∷◌, ◌++◌, length, codes, take}
+use Rattle.std.specs.Prelude.{drop, ◌⊎◌}
 use Rattle.jh_edn.specs.Refused.{IsReaderError}
 use Rattle.jh_edn.specs.declared.error.EdnError.TheVariants.{Utf8}
 use Rattle.jh_histories.specs.Histories.{IsHistoryOf, RefusesHistoryOf}
@@ -13,32 +15,48 @@ use Rattle.jh_ops.specs.declared.history.HistoryError.TheVariants.{OutOfMemory}
 abbrev pub HasAt : List ℕ → List ℕ → ℕ → Type 0
 HasAt bytes text at = (behind : List ℕ) × (drop at text ≡ bytes ++ behind)
 
--- A line that begins with `:active` begins at a place: at the text's first, or behind a line feed.
-abbrev pub HasLineAt : List ℕ → ℕ → Type 0
-HasLineAt text zero = HasAt (codes ":active") text 0
-HasLineAt text (suc before) = HasAt (codes "\n:active") text before
+-- what the first line behind a history begins with
+abbrev pub active : List ℕ
+active = codes ":active"
+
+-- the line behind a conversation
+abbrev pub conversation_end : List ℕ
+conversation_end = codes ":end\n"
+
+-- A line that begins so begins at a place: at the text's first, or behind a line feed.
+abbrev pub HasLineAt : (begin text : List ℕ) → ℕ → Type 0
+HasLineAt begin text zero = HasAt begin text 0
+HasLineAt begin text (suc before) = HasAt (10 ∷ begin) text before
 
 -- the first such line
-pub record IsFirstLine (text : List ℕ) (at : ℕ) : Type 0 where
-  pub here : HasLineAt text at
-  pub first : (lower : ℕ) → lower < at → HasLineAt text lower → ⊥
+pub record IsFirstLine (begin text : List ℕ) (at : ℕ) : Type 0 where
+  pub here : HasLineAt begin text at
+  pub first : (lower : ℕ) → lower < at → HasLineAt begin text lower → ⊥
 
 -- There is no such line.
-abbrev pub HasNoLine : List ℕ → Type 0
-HasNoLine text = (at : ℕ) → HasLineAt text at → ⊥
+abbrev pub HasNoLine : (begin text : List ℕ) → Type 0
+HasNoLine begin text = (at : ℕ) → HasLineAt begin text at → ⊥
+
+-- What stands behind the first line `:end`, and all of the text where it has none.
+abbrev pub IsBehindEnd : (text rest : List ℕ) → Type 0
+IsBehindEnd text rest =
+    (HasNoLine conversation_end text × (rest ≡ text))
+    ⊎ ((at : ℕ) × IsFirstLine conversation_end text at × (rest ≡ drop (at + length conversation_end) text))
 
 -- The text as a whole is no history.
 abbrev pub IsNoHistory : List ℕ → Type 0
 IsNoHistory text = (history : List Operation) → IsHistoryOf text history → ⊥
 
--- A text that as a whole is no history has one before the first such line. That line and what is
--- behind it stand below.
+-- A text that as a whole is no history has one before the first line that begins with `:active`. That
+-- line and what is behind it stand below.
 pub record HasHistoryBefore (text : List ℕ) (history : List Operation)
     (below : List ℕ) : Type 0 where
   pub none : IsNoHistory text
   pub at : ℕ
-  pub line : IsFirstLine text at
-  pub parsed : IsHistoryOf (take at text) history
+  pub line : IsFirstLine active text at
+  pub before : List ℕ
+  pub behind : IsBehindEnd (take at text) before
+  pub parsed : IsHistoryOf before history
   pub rest : below ≡ drop at text
 
 -- The text is a history as a whole, with nothing below, or in two parts.
@@ -54,16 +72,18 @@ IsOfBytes (Text error) = IsReaderError error
 IsOfBytes (History OutOfMemory) = Unit {0}
 IsOfBytes (History error) = ⊥
 
--- What stands before the first such line is refused.
+-- What stands before that line is refused.
 pub record RefusesBefore (text : List ℕ) (error : ReadHistoryError) : Type 0 where
   pub none : IsNoHistory text
   pub at : ℕ
-  pub line : IsFirstLine text at
-  pub refused : RefusesHistoryOf (take at text) error
+  pub line : IsFirstLine active text at
+  pub before : List ℕ
+  pub behind : IsBehindEnd (take at text) before
+  pub refused : RefusesHistoryOf before error
 
 -- Why a text has no history: its bytes; or why it is none as a whole, where it has no such line; or
 -- why what stands before that line is none.
 abbrev pub RefusesHistoryAndRest : List ℕ → ReadHistoryError → Type 0
 RefusesHistoryAndRest text error =
     (IsOfBytes error × RefusesHistoryOf text error)
-    ⊎ ((HasNoLine text × RefusesHistoryOf text error) ⊎ RefusesBefore text error)
+    ⊎ ((HasNoLine active text × RefusesHistoryOf text error) ⊎ RefusesBefore text error)

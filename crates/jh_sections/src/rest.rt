@@ -6,7 +6,7 @@ ghost use Rattle.jh_histories.specs.Histories.{RefusesHistoryOf};
 ghost use Rattle.jh_ops.specs.Operation.{operations};
 ghost use Rattle.jh_ops.specs.OperationWritten.{IsWritable};
 ghost use Rattle.jh_sections.specs.HistoryAndRest.{AreHistoryAndRest, HasNoLine, IsFirstLine};
-ghost use Rattle.jh_sections.specs.HistoryAndRest.{IsOfBytes};
+ghost use Rattle.jh_sections.specs.HistoryAndRest.{active, IsBehindEnd, IsOfBytes};
 ghost use Rattle.jh_sections.specs.HistoryAndRest.{RefusesHistoryAndRest, IsNoHistory};
 
 use jh_edn::{EdnError, read_bytes, spelled_once};
@@ -25,7 +25,7 @@ pub struct HistoryAndRest {
 
 /// Where the first line begins that begins with `:active`.
 fn first_line(text: &str) -> Option<usize>
-    ensures place { MatchOption result (HasNoLine text.now) (IsFirstLine text.now) }
+    ensures place { MatchOption result (HasNoLine active text.now) (IsFirstLine active text.now) }
     ensures boundary { IfSome result (IsCharBoundary text.now) }
 {
     if text.starts_with(":active") {
@@ -34,6 +34,19 @@ fn first_line(text: &str) -> Option<usize>
     match text.find("\n:active") {
         Some(before) => Some(before + 1),
         None => None,
+    }
+}
+
+/// What stands behind the first line `:end`, and all of the text where it has none.
+fn behind_end(text: &str) -> &str
+    ensures { IsBehindEnd text.now result.now }
+{
+    if text.starts_with(":end\n") {
+        return &text[5..];
+    }
+    match text.find("\n:end\n") {
+        Some(before) => &text[before + 6..],
+        None => text,
     }
 }
 
@@ -66,20 +79,21 @@ fn history_before(
     let Some(end) = first_line(text) else {
         return Err(whole);
     };
-    let history = history_in(alloc, &text[..end])?;
+    let history = history_in(alloc, behind_end(&text[..end]))?;
     let below = Vec::from_slice(alloc, &text.as_bytes()[end..])?;
     Ok(HistoryAndRest { history, below })
 }
 
 /// The history that a text means, and what is below it. Where the whole text is a history, nothing
 /// is. Else, if there is a line that begins with `:active`, as the first of those that `jeprun run`
-/// prints behind its history, that line and all behind it is below, and what stands before the
-/// first such line is the history.
+/// and `jeprun drive` print behind a history, that line and all behind it is below, and what stands
+/// before the first such line is the history: of that, what stands behind the first line `:end`, where
+/// there is one, for `drive` prints the conversation before it.
 ///
-/// Errors: those of `history_in` for the whole text, where memory runs out or there is no such
-/// line; else those for what stands before it.
+/// Errors: those of `history_in` for the whole text, where memory runs out or there is no line
+/// `:active`; else those for the part that is the history.
 ///
-/// Reads the text at most twice, looks for that line once, and copies what is below.
+/// Reads the text at most twice, looks for each of these lines once, and copies what is below.
 pub fn history_and_rest(alloc: Global, text: &str) -> Result<HistoryAndRest, ReadHistoryError>
     ensures parsed { IfOk result (λ parts.
         AreHistoryAndRest text.now (operations parts.history.items) parts.below.items) }
