@@ -21,11 +21,12 @@ final = '[:once [:add 1]]' → final: bad value
 threads_per_key = 2 ; ops_per_key = 1 ; final = '[:once :read]' → final: bad value
 workload = "set" ; initial = 0 → initial: bad value
 workload = "list-append" ; threads_per_key = 1 ; ops_per_key = 1 → threads_per_key: bad value
+workload = "list-append" ; generator = '[:forever :txn]' ; final = '[:once :txn]' ; keys = 1000 ; max_txn = 100 ; appends_per_key = 10000 ; model = "snapshot-isolation" → (4, 2, 0, 0) (None, None, None) (ListAppend, Forever(Client(Txn)), Some(Once(Client(Txn)))) TransactionShape { keys: 1000, most: 100, appends: 10000 } (None, SnapshotIsolation, 100000)
 workload = "list-append" ; keys = 1001 → keys: bad value
 workload = "list-append" ; max_txn = 101 → max_txn: bad value
 workload = "list-append" ; appends_per_key = 10001 → appends_per_key: bad value
 workload = "list-append" ; model = "serial" → model: bad value
-workload = "list-append" ; keys = 1000 ; max_txn = 100 ; appends_per_key = 10000 ; model = "snapshot-isolation" → generator: bad value
+workload = "list-append" → generator: bad value
 schedule = ['[1000001 [:undo]]'] → schedule: bad value
 schedule = ['[[:ms 86400001] [:undo]]'] → schedule: bad value
 schedule = ['[[:ms -1] [:undo]]'] → schedule: bad value

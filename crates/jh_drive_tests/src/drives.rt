@@ -184,7 +184,34 @@ fn gives_calls_in_time(rt: HostRuntime) {
         :active []\n\
         {:nodes [\"a\"], :cut [], :slow [], :loss [], :down [], :clock []}\n\
         {:valid? false, :attempted 2, :acknowledged 2, :duplicated [[\"x\" 2]]}\n\
-        status 1\n";
+        status 1\n\
+        \x1estart = '{:nodes [\"a\"]}'\n\
+        workload = \"list-append\"\n\
+        generator = '[:forever :txn]'\n\
+        clients = 1\n\
+        ops = 3\n\
+        keys = 1\n\
+        max_txn = 2\n\
+        appends_per_key = 2\n\
+        seed = 5\n\
+        \x1f\
+        {:type :ok, :process 0, :f :txn, :value ((:append 0 1) [:r 0 (1)])}\n\
+        {:type :ok, :process 0, :f :txn, :value [[:append 0 2] [:append 1 1]]}\n\
+        {:type :info, :process 0, :f :txn, :value [[:append 1 2]]}\x1f\
+        {:index 0, :time 0, :type :invoke, :process 0, :f :txn, :value [[:append 0 1] [:r 0 nil]], :node \"a\"}\n\
+        {:index 2, :time 0, :type :invoke, :process 0, :f :txn, :value [[:append 0 2] [:append 1 1]], :node \"a\"}\n\
+        {:index 4, :time 0, :type :invoke, :process 0, :f :txn, :value [[:append 1 2]], :node \"a\"}\n\
+        :end\n\
+        {:index 0, :time 0, :type :invoke, :process 0, :f :txn, :value [[:append 0 1] [:r 0 nil]], :node \"a\"}\n\
+        {:index 1, :time 0, :type :ok, :process 0, :f :txn, :value ((:append 0 1) [:r 0 (1)])}\n\
+        {:index 2, :time 0, :type :invoke, :process 0, :f :txn, :value [[:append 0 2] [:append 1 1]], :node \"a\"}\n\
+        {:index 3, :time 0, :type :ok, :process 0, :f :txn, :value [[:append 0 2] [:append 1 1]]}\n\
+        {:index 4, :time 0, :type :invoke, :process 0, :f :txn, :value [[:append 1 2]], :node \"a\"}\n\
+        {:index 5, :time 0, :type :info, :process 0, :f :txn, :value [[:append 1 2]]}\n\
+        :active []\n\
+        {:nodes [\"a\"], :cut [], :slow [], :loss [], :down [], :clock []}\n\
+        {:valid? true, :order [0 1]}\n\
+        status 0\n";
     for row in rows.split('\x1e') {
         let (settings, rest) = row.split_once('\x1f').unwrap_or(("", ""));
         let (replies, expected) = rest.split_once('\x1f').unwrap_or(("", ""));
