@@ -95,4 +95,5 @@ Exit status: 0 valid, 1 not valid, 2 unknown, 3 refused arguments, settings or r
 the replies ended early, memory ran out, or a read or a write failed
 
 Examples:
-  jeprun drive examples/drive/register.toml < examples/drive/register.replies";
+  jeprun drive examples/drive/register.toml < examples/drive/register.edn
+  jeprun drive examples/drive/set.toml < examples/drive/set.edn";

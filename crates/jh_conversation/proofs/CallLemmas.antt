@@ -104,7 +104,7 @@ main_by_line t n = record {
   stops = λ m h. (more_stops 1 m (stops_by m.phase) (omega arith) h.0, h.1);
   refuses = λ m why h. (more_stops 1 m 2 (omega arith) h.0, h.1);
   answers = λ m w op e h. h;
-  finishes = λ m thread c op e no h. h;
+  finishes = λ m thread c op e no fits h. h;
 }
 
 given_in_turn : (t : TestValue) (n : ℕ) → IsKeptInTurn t (HasGiven n)
@@ -129,7 +129,7 @@ given_by_line t n = record {
   stops = λ m h. (more_stops 2 m (stops_by m.phase) (omega arith) h.0, h.1);
   refuses = λ m why h. (more_stops 2 m 2 (omega arith) h.0, h.1);
   answers = λ m w op e h. h;
-  finishes = λ m thread c op e no h. h;
+  finishes = λ m thread c op e no fits h. h;
 }
 
 -- a line gives no call by itself
@@ -140,7 +140,7 @@ same_calls t n = record {
   stops = λ m h. h;
   refuses = λ m why h. h;
   answers = λ m w op e h. h;
-  finishes = λ m thread c op e no h. h;
+  finishes = λ m thread c op e no fits h. h;
 }
 
 pub after_both : (t : TestValue) (m : Machine) (lines more : List (List ℕ)) → after_lines (reply t) m (lines ++ more) ≡ after_lines (reply t) (after_lines (reply t) m lines) more
@@ -238,7 +238,7 @@ timely_by_line t = record {
   stops = λ m h. h;
   refuses = λ m why h. h;
   answers = λ m w op e h. h;
-  finishes = λ m thread c op e no h. h;
+  finishes = λ m thread c op e no fits h. h;
 }
 
 pub calls_timely : (t : TestValue) (d : Drivers t) (lines : List (List ℕ)) → IsBeforeFinal (run t d lines).phase → AreTimely t (run t d lines).history

@@ -297,7 +297,7 @@ node_by_line t start a n = record {
   stops = λ m h. h;
   refuses = λ m why h. h;
   answers = λ m w op e h. h;
-  finishes = λ m thread c op e no h. h;
+  finishes = λ m thread c op e no fits h. h;
 }
 
 link_in_turn : (t : TestValue) (start : Table) (a b : ℕ) (l : Link) → link_at start a b ≡ Some l → IsKeptInTurn t (LinkAddsUp start a b l)
@@ -324,7 +324,7 @@ link_by_line t start a b l = record {
   stops = λ m h. h;
   refuses = λ m why h. h;
   answers = λ m w op e h. h;
-  finishes = λ m thread c op e no h. h;
+  finishes = λ m thread c op e no fits h. h;
 }
 
 -- no fault makes anything of a cell

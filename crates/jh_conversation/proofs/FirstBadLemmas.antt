@@ -65,7 +65,7 @@ told_by_line t told = record {
   stops = λ m h. h;
   refuses = λ m why h. ap (λ b. first b (m.read, why)) h;
   answers = λ m w op e h. h;
-  finishes = λ m thread c op e no h. h;
+  finishes = λ m thread c op e no fits h. h;
 }
 
 -- what is told of a line with this complaint

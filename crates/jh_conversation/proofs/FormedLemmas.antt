@@ -10,7 +10,8 @@ use Rattle.std.proofs.lemmas.List.{length-replicate}
 use Rattle.std.proofs.Math.Nat.{mul-le-mul_left, mul-suc}
 use Rattle.jh_nemesis.specs.State.{first_state}
 use Rattle.jh_ops.specs.declared.operation.Kind.{Kind}
-use Rattle.jh_conversation.specs.Laws.{Drivers, IsFormed, Status, after_end, run, status}
+use Rattle.jh_edn.specs.Edn.{Edn}
+use Rattle.jh_conversation.specs.Laws.{Drivers, IsEndOfOpen, IsFormed, Status, after_end, run, status}
 use Rattle.jh_conversation.specs.Laws.Status.{Idle, Busy}
 use Rattle.jh_conversation.specs.Lines.{at_first, more_crashes}
 use Rattle.jh_test_parts.specs.Said.{kept_pairs}
@@ -34,7 +35,7 @@ caller callers thread = get_or callers thread no_caller
 -- what the process of a caller does
 abbrev shown : Option Asked → Status
 shown None = Idle
-shown (Some call) = Busy call.request
+shown (Some call) = Busy call
 
 -- the number of a process tells its thread, and how often that began anew
 lower : (n t u a b : ℕ) → t < n → u < n → a < b → t + n * a ≡ u + n * b → ⊥
@@ -60,12 +61,12 @@ same_thread n t u a b ht hu e =
     let j : n * a ≡ n * b = ap (λ l. n * l) k in
     omega arith
 
-pub record AreCallers (n : ℕ) (callers : List Caller) (crashed : ℕ) (history : List Recorded) : Type 0 where
+pub record AreCallers (s : TestValue) (n : ℕ) (callers : List Caller) (crashed : ℕ) (history : List Recorded) : Type 0 where
   pub wide : length callers ≡ n
   pub low : (t : ℕ) → t < n → (caller callers t).crashes ≤ crashed
   pub stands : (t : ℕ) → t < n → status (t + n * (caller callers t).crashes) history ≡ shown (caller callers t).call
   pub later : (t life : ℕ) → t < n → (caller callers t).crashes < life → status (t + n * life) history ≡ Idle
-  pub formed : IsFormed history
+  pub formed : IsFormed s history
 
 other : (q p : ℕ) (st x : Status) → q ≢ p → (if q == p then st else x) ≡ x
 other q p st x ne = ap (λ b. (if b then st else x)) (ne_eqb q p ne)
@@ -78,11 +79,11 @@ abbrev IsNews : ℕ → Status → List Recorded → List Recorded → Type 0
 IsNews q st past next = (p : ℕ) → status p next ≡ (if q == p then st else status p past)
 
 -- a thread's caller changes with a record of its process
-callers_next : (n : ℕ) (callers : List Caller) (crashed most : ℕ) (past next : List Recorded) (t : ℕ) (w : Caller) (st : Status) → AreCallers n callers crashed past → t < n
-    → IsNews (t + n * (caller callers t).crashes) st past next → IsFormed next
+callers_next : (s : TestValue) (n : ℕ) (callers : List Caller) (crashed most : ℕ) (past next : List Recorded) (t : ℕ) (w : Caller) (st : Status) → AreCallers s n callers crashed past → t < n
+    → IsNews (t + n * (caller callers t).crashes) st past next → IsFormed s next
     → (caller callers t).crashes ≤ w.crashes → crashed ≤ most → w.crashes ≤ most → ((caller callers t).crashes ≡ w.crashes → st ≡ shown w.call) → ((caller callers t).crashes < w.crashes → shown w.call ≡ Idle)
-    → AreCallers n (set callers t w) most next
-callers_next n callers crashed most past next t w st h within news formed up most_up top same anew = record {
+    → AreCallers s n (set callers t w) most next
+callers_next s n callers crashed most past next t w st h within news formed up most_up top same anew = record {
   wide = length-set callers t w ∙ h.wide;
   low = λ u hu. low_at u hu (cases_eq u t);
   stands = λ u hu. stands_at u hu (cases_eq u t);
@@ -147,8 +148,8 @@ pub new_at : (n life t : ℕ) → t < n → caller (new_callers n life) t ≡ re
 new_at n life t h = get_or-replicate n t _ no_caller h
 
 -- all begin anew, as processes that never were, or went on
-callers_anew : (n : ℕ) (callers : List Caller) (crashed : ℕ) (past : List Recorded) → AreCallers n callers crashed past → are_free callers ≡ true → AreCallers n (new_callers n crashed) crashed past
-callers_anew n callers crashed past h free = record {
+callers_anew : (s : TestValue) (n : ℕ) (callers : List Caller) (crashed : ℕ) (past : List Recorded) → AreCallers s n callers crashed past → are_free callers ≡ true → AreCallers s n (new_callers n crashed) crashed past
+callers_anew s n callers crashed past h free = record {
   wide = long_new n crashed;
   low = λ t ht. subst (λ (x : Caller). x.crashes ≤ crashed) (sym (new_at n crashed t ht)) (omega arith);
   stands = λ t ht. subst (λ (x : Caller). status (t + n * x.crashes) past ≡ shown x.call) (sym (new_at n crashed t ht)) (idle t ht (cases_lt _ _));
@@ -164,7 +165,7 @@ callers_anew n callers crashed past h free = record {
         ap (λ l. status (t + n * l) past) e ∙ h.stands t ht ∙ ap shown (free_at callers free t)
 
 abbrev pub Holds : TestValue → Machine → Type 0
-Holds s m = AreCallers s.clients m.callers m.crashed m.history × (IsBetween m.phase → are_free m.callers ≡ true)
+Holds s m = AreCallers s s.clients m.callers m.crashed m.history × (IsBetween m.phase → are_free m.callers ≡ true)
 
 pub none_between : (s : TestValue) (phase : Phase) (stops given now : ℕ) → may_call_in phase s stops given now ≡ true → IsBetween phase → ⊥
 none_between s Main stops given now may b = b
@@ -183,8 +184,8 @@ holds_in_turn s = record {
     spends = λ m h. h;
     invokes = λ m thread request within idle may h.
         let call = call_made s m thread request in (
-          callers_next s.clients m.callers m.crashed m.crashed m.history (Invoked m.clock (caller_process s m thread) (node_of_thread s thread) call ∷ m.history) thread
-              (record { crashes = (caller_of m thread).crashes; call = Some call }) (Busy call.request) h.0 within
+          callers_next s s.clients m.callers m.crashed m.crashed m.history (Invoked m.clock (caller_process s m thread) (node_of_thread s thread) call ∷ m.history) thread
+              (record { crashes = (caller_of m thread).crashes; call = Some call }) (Busy call) h.0 within
               (λ p. refl) (h.0.stands thread within ∙ ap shown idle, h.0.formed) (omega arith) (omega arith) (h.0.low thread within) (λ _. refl) (λ less. absurd (omega arith)),
           (λ b. absurd (none_between s m.phase m.stops m.given m.clock (and_parts _ _ may).1 b)),
         );
@@ -193,7 +194,7 @@ holds_in_turn s = record {
   heals = λ m is e h. (h.0, λ _. (and_parts _ _ e).0);
   rests = λ m is w q h. (h.0, λ _. h.1 (between _ _ is tt));
   ends_rest = λ m is h. (h.0, λ b. absurd b);
-  finals = λ m d is f h. (callers_anew s.clients m.callers m.crashed m.history h.0 (h.1 (between _ _ is tt)), λ b. absurd b);
+  finals = λ m d is f h. (callers_anew s s.clients m.callers m.crashed m.history h.0 (h.1 (between _ _ is tt)), λ b. absurd b);
   ends_final = λ m is e h. (h.0, λ b. absurd b);
 }
 
@@ -207,17 +208,20 @@ holds_by_line s = record {
   stops = λ m h. h;
   refuses = λ m why h. h;
   answers = λ m w op e h. (record { wide = h.0.wide; low = h.0.low; stands = h.0.stands; later = h.0.later; formed = h.0.formed }, h.1);
-  finishes = λ m thread call op is no h.
+  finishes = λ m thread call op is no fits h.
       let within : thread < s.clients = let k = in_callers m.callers thread call is in omega (arith, h.0.wide) in (
-        callers_next s.clients m.callers m.crashed (m.crashed + more_crashes op.kind) m.history
+        callers_next s s.clients m.callers m.crashed (m.crashed + more_crashes op.kind) m.history
             (Ended m.clock (caller_process s m thread) op.kind call.request op.value (kept_pairs op) ∷ m.history) thread
             (record { crashes = (caller_of m thread).crashes + more_crashes op.kind; call = None }) (after_end op.kind) h.0 within
-            (λ p. refl) (no, h.0.stands thread within ∙ ap shown is, h.0.formed) (omega arith) (omega arith) (let k = h.0.low thread within in omega arith)
+            (λ p. refl) (ends _ call op.kind op.value (h.0.stands thread within ∙ ap shown is) (no, refl, fits), h.0.formed) (omega arith) (omega arith) (let k = h.0.low thread within in omega arith)
             (ended op.kind (caller_of m thread).crashes) (λ _. refl),
         (λ b. absurd (none-some _ call (free_at m.callers (h.1 b) thread) is)),
       );
 }
   where
+    ends : (st : Status) (call : Asked) (kind : Kind) (value : Edn) → st ≡ Busy call → IsEndOfOpen s (Busy call) kind call.request value → IsEndOfOpen s st kind call.request value
+    ends st call kind value e h = subst (λ (x : Status). IsEndOfOpen s x kind call.request value) (sym e) h
+
     ended : (kind : Kind) (life : ℕ) → life ≡ life + more_crashes kind → after_end kind ≡ Idle
     ended Kind.Invoke life e = refl
     ended Kind.Ok life e = refl
@@ -236,5 +240,5 @@ holds_at_first s d = (
   λ b. absurd b,
 )
 
-pub all_formed : (s : TestValue) (d : Drivers s) (lines : List (List ℕ)) → IsFormed (run s d lines).history
+pub all_formed : (s : TestValue) (d : Drivers s) (lines : List (List ℕ)) → IsFormed s (run s d lines).history
 all_formed s d lines = (kept_run s d (Holds s) (holds_in_turn s) (holds_by_line s) lines (holds_at_first s d)).0.formed

@@ -2,7 +2,7 @@
 use Rattle.std.proofs.Common.{◌≡◌, ℕ, zero, suc, ◌+◌, ◌<◌, ◌≤◌, ◌==◌, Bool, true, false, ◌&&◌, ◌||◌}
 use Rattle.std.proofs.Common.{not, nat_le, List, [], ◌∷◌, refl, ◌∙◌, arith}
 use Rattle.std.specs.Prelude.{Option, None, Some, if◌then◌else◌}
-use Rattle.std.proofs.lemmas.Bool.{cond_both, and_parts, false≢true}
+use Rattle.std.proofs.lemmas.Bool.{cond_both, and_parts, false≢true, not-false}
 use Rattle.rand_pcg.specs.Lcg.{Lcg}
 use Rattle.rand_pcg.specs.Pcg.{pcg64}
 use Rattle.jh_edn.specs.Edn.{is_empty, is_keyword}
@@ -81,7 +81,7 @@ pub record IsKeptByLine (t : TestValue) (P : Machine → Type 0) : Type 0 where
   pub stops : (m : Machine) → P m → P (stop m)
   pub refuses : (m : Machine) (why : Complaint) → P m → P (refuse why m)
   pub answers : (m : Machine) (open_step : OpenStep) (op : Operation) → m.step ≡ Some open_step → P m → P (answer_step open_step op m)
-  pub finishes : (m : Machine) (thread : ℕ) (open_call : Asked) (op : Operation) → (caller_of m thread).call ≡ Some open_call → is_invoke op.kind ≡ false → P m → P (finish t thread open_call.request op m)
+  pub finishes : (m : Machine) (thread : ℕ) (open_call : Asked) (op : Operation) → (caller_of m thread).call ≡ Some open_call → is_invoke op.kind ≡ false → fits_call t open_call op.kind op.value ≡ true → P m → P (finish t thread open_call.request op m)
 
 -- P holds where there is a machine
 abbrev pub IfMoved : (Machine → Type 0) → Option Machine → Type 0
@@ -191,7 +191,7 @@ module _ (t : TestValue) (P : Machine → Type 0) (l : IsKeptByLine t P) where
       (λ _. l.refuses m _ h)
       (λ no. cond_both (not (fits_call t open_call op.kind op.value)) (refuse complaint.BadValue m) (finish t thread open_call.request op (at_time time m)) P
       (λ _. l.refuses m _ h)
-      (λ _. l.finishes (at_time time m) thread open_call op (same_call m time thread ∙ e) (or_parts_false _ _ no) (kept_time m time h)))
+      (λ fits. l.finishes (at_time time m) thread open_call op (same_call m time thread ∙ e) (or_parts_false _ _ no) (not-false _ fits) (kept_time m time h)))
 
   kept_completion : (m : Machine) (process : ℕ) (op : Operation) (time : Option ℕ) (c : Option Asked) → (caller_of m (thread_of_process t process)).call ≡ c → P m → P (take_completion t process op time m c)
   kept_completion m process op time None e h = l.refuses m _ h

@@ -28,7 +28,7 @@ use Rattle.jh_conversation.proofs.KeptLemmas.{IsKeptByLine, IsKeptInTurn, kept_r
 use Rattle.jh_test_parts.specs.Test.{TestValue}
 
 -- the thread of a process of its own
-thread_is : (n threads crashes : ℕ) → n < threads → (n + threads * crashes) % threads ≡ n
+pub thread_is : (n threads crashes : ℕ) → n < threads → (n + threads * crashes) % threads ≡ n
 thread_is n threads crashes within = add-mul-mod_self_left n threads crashes ∙ mod-eq_of_lt within
 
 no_final : (t : TestValue) (o : Option Generator) → AreFinalCalls t o []
@@ -217,7 +217,7 @@ module _ (asked_answers : AskedAnswers) (end_keeps : EndKeepsGenerator) (t : Tes
     stops = λ m h. h;
     refuses = λ m why h. h;
     answers = λ m w op e h. h;
-    finishes = λ m n c op e no h. (h.0, part_ended m.phase m.has_spent m.driver (thread.Client n) (ended_as op.kind) m.last (given_calls t m.history) h.1);
+    finishes = λ m n c op e no fits h. (h.0, part_ended m.phase m.has_spent m.driver (thread.Client n) (ended_as op.kind) m.last (given_calls t m.history) h.1);
   }
 
   offered : (d : Drivers t) (lines : List (List ℕ)) → Offered (run t d lines)

@@ -45,7 +45,7 @@ quiet_by_line t = record {
   stops = λ m h. h;
   refuses = λ m why h. h;
   answers = λ m w op e h. h;
-  finishes = λ m thread c op e no h. h;
+  finishes = λ m thread c op e no fits h. h;
 }
 
 pub rest_is_quiet : (t : TestValue) (d : Drivers t) (lines : List (List ℕ)) → IsPastHeal (run t d lines).phase → is_empty (run t d lines).nemesis.active ≡ true

@@ -449,7 +449,7 @@ sound_by_line t fit = record {
           records = ((h.7.time, small.0, small.1), h.7.records);
         },
       );
-  finishes = λ m n c op is no h.
+  finishes = λ m n c op is no fits h.
       let inside = in_callers m.callers n c is in
       let within : n < t.clients = let wide = h.0.wide in omega (arith, wide, inside) in
       let busy : is_idle m.callers n ≡ false = ap has_no_call is in

@@ -32,7 +32,7 @@ time_by_line t = record {
   stops = λ m h. h;
   refuses = λ m why h. h;
   answers = λ m w op e h. (h.0, (omega arith, h.1));
-  finishes = λ m thread c op e no h. (h.0, (omega arith, h.1));
+  finishes = λ m thread c op e no fits h. (h.0, (omega arith, h.1));
 }
 
 pub times_in_order : (t : TestValue) (d : Drivers t) (lines : List (List ℕ)) → AreTimesInOrder (run t d lines).clock (run t d lines).history

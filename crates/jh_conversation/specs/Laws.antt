@@ -3,7 +3,7 @@
 use Rattle.std.specs.Prelude.{◌≡◌, ℕ, suc, ◌+◌, ◌==◌, ◌<◌, ◌≤◌, Bool, true, false, not, ◌&&◌, ◌||◌}
 use Rattle.std.specs.Prelude.{◌*◌, ◌^◌, List, [], ◌∷◌, ◌++◌, Option, Some, None, if◌then◌else◌}
 use Rattle.std.specs.List.{AllByRecursion}
-use Rattle.jh_edn.specs.Edn.{is_empty, is_keyword}
+use Rattle.jh_edn.specs.Edn.{Edn, is_empty, is_keyword}
 use Rattle.jh_env.specs.Cells.{Link, NodeCell, link_at, node_at}
 use Rattle.jh_env.specs.Overlay.{link_over, node_over}
 use Rattle.jh_gen.specs.DriverState.{DriverState, IsDriverOf, IsFresh}
@@ -149,10 +149,10 @@ TimesAreInOrder =
 
 -- The history is well formed.
 
--- what a process does: nothing, a call with this request, or nothing any more
+-- what a process does: nothing, this call, or nothing any more
 pub data Status : Type 0 where
   Idle : Status
-  Busy : Request → Status
+  Busy : Asked → Status
   Gone : Status
 
 abbrev pub after_end : Kind → Status
@@ -163,21 +163,28 @@ after_end _ = Idle
 abbrev pub status : ℕ → List Recorded → Status
 status p [] = Idle
 status p (Invoked time process node call ∷ past) =
-    if process == p then Busy call.request else status p past
+    if process == p then Busy call else status p past
 status p (Ended time process kind request value rest ∷ past) =
     if process == p then after_end kind else status p past
 status p (_ ∷ past) = status p past
 
+-- the call that a process has open ends so: with its own request, and a value that it can have
+abbrev pub IsEndOfOpen : TestValue → Status → Kind → Request → Edn → Type 0
+IsEndOfOpen t (Busy call) kind request value =
+    (is_invoke kind ≡ false) × (request ≡ call.request) × (fits_call t call kind value ≡ true)
+IsEndOfOpen t _ kind request value = ⊥
+
 -- A process invokes only while it does nothing, and its call ends, once, only while it is open.
-abbrev pub IsFormed : List Recorded → Type 0
-IsFormed [] = Unit {0}
-IsFormed (Invoked time process node call ∷ past) = (status process past ≡ Idle) × IsFormed past
-IsFormed (Ended time process kind request value rest ∷ past) =
-    (is_invoke kind ≡ false) × (status process past ≡ Busy request) × IsFormed past
-IsFormed (_ ∷ past) = IsFormed past
+abbrev pub IsFormed : TestValue → List Recorded → Type 0
+IsFormed t [] = Unit {0}
+IsFormed t (Invoked time process node call ∷ past) = (status process past ≡ Idle) × IsFormed t past
+IsFormed t (Ended time process kind request value rest ∷ past) =
+    IsEndOfOpen t (status process past) kind request value × IsFormed t past
+IsFormed t (_ ∷ past) = IsFormed t past
 
 abbrev pub HistoryIsFormed : Type 0
-HistoryIsFormed = (t : TestValue) (d : Drivers t) (lines : List (List ℕ)) → IsFormed (run t d lines).history
+HistoryIsFormed =
+    (t : TestValue) (d : Drivers t) (lines : List (List ℕ)) → IsFormed t (run t d lines).history
 
 -- The cells that were told are the environment.
 

@@ -19,7 +19,8 @@ pub fn history_is_the_conversation()
     ensures kinds { KindsAreApart }
 {}
 
-/// No process has two calls open, none goes on after a crash, and each completion is of the call that its process has open.
+/// No process has two calls open, none goes on after a crash, and each completion is of the call that its process has open,
+/// with a value that this call can have.
 pub fn history_is_well_formed()
     ensures { HistoryIsFormed }
 {}

@@ -110,6 +110,8 @@ pub(crate) fn report<W: Write>(
 {
     let known = known_of(alloc, conversation)?;
     write(writer, &known)?;
+    // The text of a long history takes as much memory as judging it: it is given back first.
+    drop(known);
     let output = judge_history(alloc, conversation, judging)?;
     write(writer, &output.text)?;
     Ok(output.status)

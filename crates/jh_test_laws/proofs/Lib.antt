@@ -1,0 +1,15 @@
+pub mod AskedLemmas
+pub mod SuitLemmas
+pub mod TupleLemmas
+pub mod RecordLemmas
+pub mod FormLemmas
+pub mod PairLemmas
+pub mod ReadLemmas
+pub mod RegisterLemmas
+pub mod CounterLemmas
+pub mod SetLemmas
+pub mod SourceLemmas
+pub mod AppendLemmas
+pub mod TransactionLemmas
+pub mod KeyLemmas
+pub mod JudgedLemmas

@@ -1,0 +1,3 @@
+pub mod Asking
+pub mod HistoryInside
+pub mod TestHistory
