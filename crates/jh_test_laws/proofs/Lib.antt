@@ -1,4 +1,5 @@
 pub mod AskedLemmas
+pub mod HealLemmas
 pub mod SuitLemmas
 pub mod TupleLemmas
 pub mod RecordLemmas

@@ -1,3 +1,4 @@
 pub mod Asking
+pub mod Healing
 pub mod HistoryInside
 pub mod TestHistory

@@ -1,6 +1,7 @@
-//! What holds of the history of every test, whatever lines are read. `specs/Asking.antt` and `specs/TestHistory.antt` state it.
+//! What holds of the history of every test, whatever lines are read. `specs` states it.
 
 ghost use Rattle.jh_test_laws.specs.Asking.{CallsAsk};
+ghost use Rattle.jh_test_laws.specs.Healing.{HealsAreAccepted, HealsOnce};
 ghost use Rattle.jh_test_laws.specs.TestHistory.{HistoriesAreFormed, HistoriesAreJudged};
 ghost use Rattle.jh_test_laws.specs.TestHistory.{KeyHistoriesAreJudged};
 
@@ -10,6 +11,12 @@ use jh_conversation::{calls_are_offers, history_is_well_formed};
 /// transaction of the seed, and the key whose turn it is.
 pub fn calls_ask()
     ensures { CallsAsk }
+{}
+
+/// At most one step ends all faults for the test, and the nemesis accepts it.
+pub fn faults_end_once()
+    ensures once { HealsOnce }
+    ensures accepted { HealsAreAccepted }
 {}
 
 /// The history is well formed, as checkers ask it: each process does one operation at a time, and nothing after it crashed.

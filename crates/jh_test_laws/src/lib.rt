@@ -3,4 +3,7 @@
 
 mod laws;
 
-pub use laws::{calls_ask, histories_are_formed, histories_are_judged, key_histories_are_judged};
+pub use laws::{
+    calls_ask, faults_end_once, histories_are_formed, histories_are_judged,
+    key_histories_are_judged,
+};
