@@ -564,31 +564,42 @@ class Namespaces(Servers):
     def log(self, node: str) -> str:
         return str(self.folder.resolve() / f"{node}.log")
 
+    def check(self, settings: Settings) -> None:
+        self.take_lock()
+        try:
+            super().check(settings)
+        except Unsupported:
+            self.release_lock()
+            raise
+
     def setup(self) -> None:
-        if not self.take_lock():
-            raise Unsupported(f"another test has the network namespaces {self.tag}-* of this machine")
+        self.take_lock()
         super().setup()
 
     def teardown(self) -> None:
-        # Where another process has the lock, another test runs by now, and has removed what this one left.
-        if self.take_lock():
-            super().teardown()
-            assert self.lock
-            fcntl.flock(self.lock, fcntl.LOCK_UN)
-            self.lock.close()
-            self.lock = None
+        try:
+            self.take_lock()
+        except Unsupported:
+            return  # the other test has removed what this one left
+        super().teardown()
+        self.release_lock()
 
-    def take_lock(self) -> bool:
-        """Takes the lock of the tag, unless this process has it. Gives whether it has it now."""
+    def take_lock(self) -> None:
+        """Takes the lock of the tag, unless this test has it. The process that guards a test inherits it."""
         if self.lock is None:
             lock = open(f"/run/{self.tag}.lock", "w", encoding="utf-8")
             try:
                 fcntl.flock(lock, fcntl.LOCK_EX | fcntl.LOCK_NB)
-            except OSError:
+            except OSError as error:
                 lock.close()
-                return False
+                raise Unsupported(f"another test has the network namespaces {self.tag}-* of this machine") from error
             self.lock = lock
-        return True
+
+    def release_lock(self) -> None:
+        if self.lock:
+            fcntl.flock(self.lock, fcntl.LOCK_UN)
+            self.lock.close()
+            self.lock = None
 
     def build(self) -> None:
         addresses = run(["ip", "-o", "-4", "addr"])
