@@ -66,7 +66,7 @@ size_in f (g ∷ fs) (suc k, within, at) =
     omega (arith, rest, sum_by-cons (λ (f : ℕ × FaultValue). fault_size f.1) g fs)
 
 -- what passes is kept
-kept : {X : Type 0} (p : X → Bool) (x : X) (xs : List X) → Contains xs x → p x ≡ true → Contains (filter p xs) x
+pub kept : {X : Type 0} (p : X → Bool) (x : X) (xs : List X) → Contains xs x → p x ≡ true → Contains (filter p xs) x
 kept p x [] (k, within, at) pass = absurd (omega arith)
 kept p x (y ∷ ys) (zero, within, at) pass =
     let here : p y ≡ true = ap p at ∙ pass in
@@ -108,7 +108,7 @@ work_more records stamps i was now start h before here =
     rw (faults_more records stamps i h) (omega (arith, before, here, size_more (begun_fault (record_at records (get_or stamps i 0))) (faults_at records (take i stamps))))
 
 -- no fault of an id is left where they are taken out
-gone : (id : ℕ) (fs : Active) → is_active (active_without fs id) id ≡ false
+pub gone : (id : ℕ) (fs : Active) → is_active (active_without fs id) id ≡ false
 gone id [] = refl
 gone id (f ∷ fs) =
     elim (has_id id f) as (λ t. has_id id f ≡ t → is_active (if not t then f ∷ active_without fs id else active_without fs id) id ≡ false) [
@@ -131,7 +131,7 @@ module _ (nodes : ℕ) (records : List Record) (right : AreRight nodes records) 
 
   -- a begin
   module _ (id : ℕ) (fault : FaultValue) (at : record_at records n ≡ Begun id fault) where
-    begun_right : IsRight nodes records n (Begun id fault)
+    pub begun_right : IsRight nodes records n (Begun id fault)
     begun_right = subst (IsRight nodes records n) at (right n within)
 
     pub begun_fits : FitsCount nodes (fault_with_stamp records n).1
@@ -146,7 +146,7 @@ module _ (nodes : ℕ) (records : List Record) (right : AreRight nodes records) 
     pub begun_stamped : faults_with_stamps records (active_after records (n + 1)) ≡ faults_with_stamps records (active_after records n) ++ fault_with_stamp records n ∷ []
     begun_stamped = ap (faults_with_stamps records) begun_active ∙ map-append (fault_with_stamp records) (active_after records n) (n ∷ [])
 
-    begun_moment : moment records (n + 1) ≡ moment records n ++ (id, fault) ∷ []
+    pub begun_moment : moment records (n + 1) ≡ moment records n ++ (id, fault) ∷ []
     begun_moment =
         ap (faults_at records) begun_active
         ∙ map-append (λ k. begun_fault (record_at records k)) (active_after records n) (n ∷ [])
@@ -161,7 +161,7 @@ module _ (nodes : ℕ) (records : List Record) (right : AreRight nodes records) 
 
   -- a withdrawal
   module _ (stamp : ℕ) (at : record_at records n ≡ Withdrawn stamp) where
-    withdrawn_right : Contains (active_after records n) stamp
+    pub withdrawn_right : Contains (active_after records n) stamp
     withdrawn_right = subst (IsRight nodes records n) at (right n within)
 
     pub withdrawn_begin : (stamp < length records) × IsBegin (record_at records stamp)
@@ -209,6 +209,11 @@ module _ (nodes : ℕ) (records : List Record) (right : AreRight nodes records) 
           length-append split.before split.after,
         )
 
+    pub withdrawn_moment : moment records (n + 1) ≡ active_without (moment records n) (begun_fault (record_at records stamp)).0
+    withdrawn_moment =
+        ap (faults_at records) withdrawn_active
+        ∙ without_stamp records (active_after records n) (begun_fault (record_at records stamp)).0 stamp (apart_after nodes records right n (omega arith)) withdrawn_right refl
+
     pub withdrawn_size : fault_size (fault_with_stamp records stamp).1 ≤ size_between (moment records n) (moment records (n + 1))
     withdrawn_size =
         let f : ℕ × FaultValue = begun_fault (record_at records stamp) in
@@ -216,9 +221,7 @@ module _ (nodes : ℕ) (records : List Record) (right : AreRight nodes records) 
         ap (faults_at records) split.is ∙ map-append (λ k. begun_fault (record_at records k)) split.before (stamp ∷ split.after) in
         let there : Contains (moment records n) f =
         subst (λ fs. Contains fs f) (sym parts) (Contains-append_right (faults_at records split.before) (f ∷ faults_at records split.after) f (zero, omega arith, refl)) in
-        let left : moment records (n + 1) ≡ active_without (moment records n) f.0 =
-        ap (faults_at records) withdrawn_active ∙ without_stamp records (active_after records n) f.0 stamp (apart_after nodes records right n (omega arith)) withdrawn_right refl in
-        alone_before f (moment records n) (moment records (n + 1)) there (ap (λ fs. is_active fs f.0) left ∙ gone f.0 (moment records n))
+        alone_before f (moment records n) (moment records (n + 1)) there (ap (λ fs. is_active fs f.0) withdrawn_moment ∙ gone f.0 (moment records n))
 
   -- a withdrawal of all
   module _ (stamps : List ℕ) (is : stamps ≡ active_after records n) (none : active_after records (n + 1) ≡ []) where

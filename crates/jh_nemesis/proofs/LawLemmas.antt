@@ -24,10 +24,10 @@ use Rattle.jh_env.specs.Cells.{link_at, node_at}
 use Rattle.jh_env.specs.Overlay.{EnvValue, StandsFor, node_over, is_killed, is_paused}
 use Rattle.jh_nemesis.specs.declared.steps.Step.TheVariants.{Begin, Withdraw, WithdrawAll}
 
-same_link_cell : (c d : Bool) (m n s t : ℕ) → c ≡ d → m ≡ n → s ≡ t → (let l : Link = record { cut = c; delay = m; loss = s } in l) ≡ record { cut = d; delay = n; loss = t }
+pub same_link_cell : (c d : Bool) (m n s t : ℕ) → c ≡ d → m ≡ n → s ≡ t → (let l : Link = record { cut = c; delay = m; loss = s } in l) ≡ record { cut = d; delay = n; loss = t }
 same_link_cell c d m n s t p q r = rw (p, q, r) refl
 
-same_node_cell : (p q : Life) (c d : ℤ) → p ≡ q → c ≡ d → (let n : NodeCell = record { process = p; clock = c } in n) ≡ record { process = q; clock = d }
+pub same_node_cell : (p q : Life) (c d : ℤ) → p ≡ q → c ≡ d → (let n : NodeCell = record { process = p; clock = c } in n) ≡ record { process = q; clock = d }
 same_node_cell p q c d e f = rw (e, f) refl
 
 parts : (x y : Bool) → (x || y) ≡ false → (x ≡ false) × (y ≡ false)
@@ -42,7 +42,7 @@ without_none (f ∷ fs) id h =
     rw (p.0, without_none fs id p.1) refl
 
 -- the fault of the id is withdrawn
-without_middle : (before after : Active) (id : ℕ) (f : FaultValue) → is_active (before ++ after) id ≡ false → active_without (before ++ ((id, f) ∷ after)) id ≡ before ++ after
+pub without_middle : (before after : Active) (id : ℕ) (f : FaultValue) → is_active (before ++ after) id ≡ false → active_without (before ++ ((id, f) ∷ after)) id ≡ before ++ after
 without_middle [] after id f h = rw (eq-eqb id id refl) (without_none after id h)
 without_middle (b ∷ before) after id f h =
     let p = parts (has_id id b) (is_active (before ++ after) id) h in

@@ -4,4 +4,7 @@ pub mod EffectLemmas
 pub mod CursorLemmas
 pub mod LawLemmas
 pub mod StepLemmas
+pub mod CellLemmas
+pub mod MomentLemmas
 pub mod WorkLemmas
+pub mod ChangedLemmas

@@ -3,5 +3,6 @@ pub mod Steps
 pub mod Laws
 pub mod Work
 pub mod WorkLaws
+pub mod Changed
 pub mod RecordsInside
 pub mod NemesisInside

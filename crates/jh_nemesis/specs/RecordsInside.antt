@@ -27,6 +27,12 @@ stamps_before (Begun id fault) active = take (length active - 1) active
 stamps_before (Withdrawn stamp) active = insert active (position_or_len (nat_lt stamp) active) stamp
 stamps_before (WithdrawnAll stamps) active = stamps.items
 
+-- the stamps of the faults that the step at this index begins or ends
+abbrev pub stamps_changed : ℕ → Record → List ℕ
+stamps_changed index (Begun id fault) = index ∷ []
+stamps_changed index (Withdrawn stamp) = stamp ∷ []
+stamps_changed index (WithdrawnAll stamps) = stamps.items
+
 -- the active stamps after so many steps
 abbrev pub active_after : List Record → ℕ → List ℕ
 active_after records zero = []

@@ -3,19 +3,20 @@
 //! `specs/RecordsInside.antt` what the steps that are kept make active, and what holds between the
 //! fields.
 
-ghost use Rattle.std.specs.Prelude.{◌≡◌, ◌+◌, ◌≤◌, ◌<◌, ◌↔◌, [], true, false, length, nat_le};
+ghost use Rattle.std.specs.Prelude.{◌≡◌, ◌≢◌, ◌+◌, ◌≤◌, ◌<◌, ◌↔◌, [], true, false, length, map};
 ghost use Rattle.jh_edn.specs.Edn.{is_empty};
 ghost use Rattle.std.specs.Prelude.{option_map, slice_get, MatchResult, OnErr, OnOk, IfOk, IsOk};
-ghost use Rattle.std.specs.Prelude.{IsErr};
+ghost use Rattle.std.specs.Prelude.{IsErr, nat_le};
 ghost use Rattle.std.specs.List.{All};
 ghost use Rattle.jh_env.specs.Overlay.{StandsFor, work_of};
 ghost use Rattle.jh_env.specs.Faults.{FitsCount};
 ghost use Rattle.jh_nemesis.specs.State.{faults_in, first_state, state_back_to};
 ghost use Rattle.jh_nemesis.specs.State.{state_forth_to};
 ghost use Rattle.jh_nemesis.specs.Work.{size_between, size_of_step, size_of_steps};
+ghost use Rattle.jh_nemesis.specs.Changed.{changed_by, AgreeElsewhere};
 
 use crate::effects::{step_back, step_forth};
-use crate::records::{Record, Stamps, play, play_back, put_at, stamp_of};
+use crate::records::{Record, Stamps, changed_at, faults_of, play, play_back, put_at, stamp_of};
 use crate::steps::{
     BeginError, MAX_ACTIVE, MAX_STEPS, NothingToRedo, NothingToUndo, Step, StepAnswer, Stopped,
     WithdrawAllError, WithdrawError,
@@ -180,6 +181,19 @@ impl Nemesis {
         Ok(StepAnswer::Ok)
     }
 
+    /// The answer to a withdrawal, if there is memory.
+    fn check_withdraw(&self, id: u32) -> StepAnswer
+        ensures { result ≡ withdraw_answer self.now.state id }
+    {
+        if stamp_of(&self.records, &self.active, id).is_none() {
+            return StepAnswer::NotActive;
+        }
+        if self.is_full() {
+            return StepAnswer::TooManySteps;
+        }
+        StepAnswer::Ok
+    }
+
     /// The answer to a withdrawal of all faults, if there is memory.
     fn check_withdraw_all(&self) -> StepAnswer
         ensures { result ≡ withdraw_all_answer self.now.state }
@@ -225,6 +239,52 @@ impl Nemesis {
         ensures { result ≡ is_empty self.now.state.future }
     {
         self.cursor == self.records.len()
+    }
+
+    /// The answer to a step, if there is memory.
+    fn check(&self, step: &Step) -> StepAnswer
+        ensures { result ≡ answer_of self.now.state step.now }
+    {
+        match step {
+            Step::Begin(id, _) => self.check_begin(*id),
+            Step::Withdraw(id) => self.check_withdraw(*id),
+            Step::WithdrawAll => self.check_withdraw_all(),
+            Step::Undo if self.is_at_start() => StepAnswer::NothingToUndo,
+            Step::Redo if self.is_at_end() => StepAnswer::NothingToRedo,
+            _ => StepAnswer::Ok,
+        }
+    }
+
+    /// The faults that this step would begin or end: those that are active before it or after it
+    /// and not at both moments. A refused step has none. What none of them names stays as it is.
+    /// Takes time for these faults, and for the stamps of the active ones, at most 256.
+    ///
+    /// Error: memory was refused, which a step without such faults does not take.
+    pub fn changed_by<'a>(
+        &'a self,
+        alloc: Global,
+        step: &'a Step,
+    ) -> Result<Vec<&'a Fault>, AllocError>
+        ensures faults { IfOk result
+            (λ faults. map (λ f. f.now) faults.items ≡ changed_by self.now.state step.now) }
+        ensures elsewhere { AgreeElsewhere (changed_by self.now.state step.now)
+            (faults_in self.now.state.active)
+            (faults_in (state_after self.now.state step.now).active) }
+        ensures memory { OnErr result (changed_by self.now.state step.now ≢ []) }
+    {
+        if self.check(step) != StepAnswer::Ok {
+            return Ok(Vec::new(alloc));
+        }
+        match step {
+            Step::Begin(_, fault) => Ok(vec![in alloc; fault]?),
+            Step::Withdraw(id) => match stamp_of(&self.records, &self.active, *id) {
+                Some(stamp) => faults_of(alloc, &self.records, &[stamp]),
+                None => Ok(Vec::new(alloc)),
+            },
+            Step::WithdrawAll => faults_of(alloc, &self.records, &self.active),
+            Step::Undo => changed_at(alloc, &self.records, self.cursor - 1),
+            Step::Redo => changed_at(alloc, &self.records, self.cursor),
+        }
     }
 
     /// Goes back to the moment before the last step.

@@ -3,17 +3,19 @@
 //! makes of the active stamps.
 
 ghost use Rattle.std.specs.Prelude.{◌≡◌, ◌==◌, ◌≤◌, ◌<◌, ◌++◌, ◌∷◌, [], OnErr, OnOk, IfSome};
-ghost use Rattle.std.specs.Prelude.{filter, insert, is_some, length, nat_lt, not, take};
+ghost use Rattle.std.specs.Prelude.{◌≢◌, filter, insert, is_some, length, map, nat_lt, not, take};
+ghost use Rattle.std.specs.Prelude.{IfOk};
 ghost use Rattle.std.specs.List.{Contains, position_or_len};
 ghost use Rattle.jh_nemesis.specs.State as spec;
 ghost use Rattle.jh_nemesis.specs.RecordsInside.{faults_at, begun_fault, stamps_after};
 ghost use Rattle.jh_nemesis.specs.RecordsInside.{stamps_before, record_at, AreStamps, IsBegin};
+ghost use Rattle.jh_nemesis.specs.RecordsInside.{stamps_changed};
 ghost use Rattle.jh_nemesis.specs.Steps.{max_active};
 
 use crate::steps::MAX_ACTIVE;
 use arrayvec::ArrayVec;
 use jh_env::Fault;
-use std::alloc::AllocError;
+use std::alloc::{AllocError, Global};
 
 /// Stamps of active faults, ascending.
 pub type Stamps = ArrayVec<usize, MAX_ACTIVE>;
@@ -123,4 +125,48 @@ pub fn stamp_of(records: &[Record], stamps: &[usize], id: u32) -> Option<usize>
         }
     }
     None
+}
+
+/// The faults of these stamps.
+pub fn faults_of<'a>(
+    alloc: Global,
+    records: &'a [Record],
+    stamps: &[usize],
+) -> Result<Vec<&'a Fault>, AllocError>
+    requires { AreStamps records.now stamps.now }
+    ensures faults { IfOk result
+        (λ faults. map (λ f. f.now) faults.items
+        ≡ spec.faults_in (faults_at records.now stamps.now)) }
+    ensures memory { OnErr result (spec.faults_in (faults_at records.now stamps.now) ≢ []) }
+{
+    let mut faults = Vec::new(alloc);
+    for stamp in stamps {
+        if let Record::Begun(_, fault) = &records[*stamp] {
+            faults.push(fault)?;
+        }
+    }
+    Ok(faults)
+}
+
+/// The faults that the step at this index begins or ends.
+pub fn changed_at<'a>(
+    alloc: Global,
+    records: &'a [Record],
+    index: usize,
+) -> Result<Vec<&'a Fault>, AllocError>
+    requires known { index < length records.now }
+    requires begins { AreStamps records.now (stamps_changed index (record_at records.now index)) }
+    ensures faults { IfOk result
+        (λ faults. map (λ f. f.now) faults.items
+        ≡ spec.faults_in
+        (faults_at records.now (stamps_changed index (record_at records.now index)))) }
+    ensures memory { OnErr result
+        (spec.faults_in
+        (faults_at records.now (stamps_changed index (record_at records.now index))) ≢ []) }
+{
+    match &records[index] {
+        Record::Begun(_, _) => faults_of(alloc, records, &[index]),
+        Record::Withdrawn(stamp) => faults_of(alloc, records, &[*stamp]),
+        Record::WithdrawnAll(stamps) => faults_of(alloc, records, stamps),
+    }
 }
