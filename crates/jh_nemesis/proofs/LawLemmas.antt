@@ -8,7 +8,7 @@ use Rattle.std.proofs.lemmas.List.Elements.{filter-append}
 use Rattle.jh_env.specs.Faults.{FaultValue}
 use Rattle.jh_nemesis.specs.State.{State, Active, has_id, is_active, faults_in, next_state}
 use Rattle.jh_nemesis.specs.Steps.{answer_of, begin_answer, state_after, is_ok, moved_state, active_without}
-use Rattle.jh_nemesis.specs.Laws.{CutsOfOthersStay, CutsOfStartStay, WithdrawalLeavesOthers, WithdrawalEndsBegin, OthersAloneMake, WithdrawingAllLeavesStart, IsAtStart}
+use Rattle.jh_nemesis.specs.Laws.{CutsOfOthersStay, CutsOfStartStay, WithdrawalEndsBegin, WithdrawingAllLeavesStart, IsAtStart}
 use Rattle.std.proofs.lemmas.List.{append-nil}
 use Rattle.jh_nemesis.specs.declared.steps.StepAnswer.{StepAnswer}
 use Rattle.jh_nemesis.specs.declared.steps.StepAnswer.TheVariants.{IdTaken}
@@ -21,7 +21,7 @@ use Rattle.jh_env.specs.Cells.{Running, Paused, Killed}
 use Rattle.jh_env.specs.Cells.{Link}
 use Rattle.jh_env.specs.Cells.{NodeCell}
 use Rattle.jh_env.specs.Cells.{link_at, node_at}
-use Rattle.jh_env.specs.Overlay.{EnvValue, StandsFor, node_over, is_killed, is_paused}
+use Rattle.jh_env.specs.Overlay.{EnvValue, IsOverlay, StandsFor, cells_of, node_over, is_killed, is_paused}
 use Rattle.jh_nemesis.specs.declared.steps.Step.TheVariants.{Begin, Withdraw, WithdrawAll}
 
 pub same_link_cell : (c d : Bool) (m n s t : ℕ) → c ≡ d → m ≡ n → s ≡ t → (let l : Link = record { cut = c; delay = m; loss = s } in l) ≡ record { cut = d; delay = n; loss = t }
@@ -52,7 +52,10 @@ without_middle (b ∷ before) after id f h =
 pub accepted : (s : State) (step : Step) → is_ok (answer_of s step) ≡ true → (state_after s step).active ≡ (moved_state s step).active
 accepted s step ok = rw ok refl
 
-pub withdrawal_leaves : WithdrawalLeavesOthers
+-- no other fault has its id, so a withdrawal leaves the others
+pub withdrawal_leaves : (s : State) (before after : Active) (id : ℕ) (f : FaultValue) → s.active ≡ before ++ ((id, f) ∷ after)
+    → is_active (before ++ after) id ≡ false → is_ok (answer_of s (Withdraw id)) ≡ true
+    → (state_after s (Withdraw id)).active ≡ before ++ after
 withdrawal_leaves s before after id f now other ok = accepted s (Withdraw id) ok ∙ rw now (without_middle before after id f other)
 
 not_taken : (a : Bool) (x : StepAnswer) → is_ok (if a then IdTaken else x) ≡ true → a ≡ false
@@ -91,7 +94,10 @@ others_stay s before after id other f a b l now apart h =
 pub start_stays : CutsOfStartStay
 start_stays active a b l h = rw h refl
 
-pub others_make : OthersAloneMake
+-- the other faults alone make the environment
+pub others_make : (s : State) (before after : Active) (id : ℕ) (f : FaultValue) (env : EnvValue) → s.active ≡ before ++ ((id, f) ∷ after)
+    → is_active (before ++ after) id ≡ false → is_ok (answer_of s (Withdraw id)) ≡ true
+    → StandsFor env (faults_in (state_after s (Withdraw id)).active) → IsOverlay env.start (faults_in (before ++ after)) (cells_of env)
 others_make s before after id f env now other ok stands = rw (← withdrawal_leaves s before after id f now other ok) stands.cells
 
 link_as_started : (a b : ℕ) (o : Option Link) → option_map (link_over [] a b) o ≡ o

@@ -8,3 +8,4 @@ pub mod CellLemmas
 pub mod MomentLemmas
 pub mod WorkLemmas
 pub mod ChangedLemmas
+pub mod IdLemmas

@@ -22,10 +22,10 @@ all_pass p [] h = refl
 all_pass p (x ∷ xs) h = rw (All-head (λ x. p x ≡ true) x xs h, all_pass p xs (All-tail (λ x. p x ≡ true) x xs h)) refl
 
 module _ {X : Type 0} (R : X → X → Type 0) where
-  pairs_head : (x : X) (xs : List X) → AllPairs R (x ∷ xs) → All (R x) xs
+  pub pairs_head : (x : X) (xs : List X) → AllPairs R (x ∷ xs) → All (R x) xs
   pairs_head x xs h k d within = h 0 (suc k) d (omega arith) (omega arith)
 
-  pairs_tail : (x : X) (xs : List X) → AllPairs R (x ∷ xs) → AllPairs R xs
+  pub pairs_tail : (x : X) (xs : List X) → AllPairs R (x ∷ xs) → AllPairs R xs
   pairs_tail x xs h i j d less within = h (suc i) (suc j) d (omega arith) (omega arith)
 
   -- an element, with those before it and those after it

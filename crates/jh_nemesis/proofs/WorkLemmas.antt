@@ -1,12 +1,12 @@
 -- What each step may write is what its own faults take.
-use Rattle.std.proofs.Common.{◌≡◌, ℕ, false, [], ◌∷◌, ◌++◌, refl, ◌∙◌, arith, add_comm}
+use Rattle.std.proofs.Common.{◌≡◌, ℕ, true, false, [], ◌∷◌, ◌++◌, refl, ◌∙◌, arith, add_comm}
 use Rattle.std.proofs.lemmas.List.{append-nil}
 use Rattle.jh_env.specs.Faults.{FaultValue, fault_size}
-use Rattle.jh_nemesis.specs.State.{Active, is_active}
-use Rattle.jh_nemesis.specs.Steps.{state_after}
-use Rattle.jh_nemesis.specs.Work.{faults_only_in, size_between, size_of_all}
-use Rattle.jh_nemesis.specs.WorkLaws.{BeginWritesItsFault, RedoWritesItsUndo, RefusedWritesNothing, UndoWritesItsRedo, UndoWritesItsStep, WithdrawalWritesItsFault, WithdrawingAllWritesAll}
-use Rattle.jh_nemesis.specs.declared.steps.Step.TheVariants.{Begin, Redo, Undo, WithdrawAll}
+use Rattle.jh_nemesis.specs.State.{State, Active, is_active}
+use Rattle.jh_nemesis.specs.Steps.{answer_of, is_ok, state_after}
+use Rattle.jh_nemesis.specs.Work.{faults_only_in, size_between, size_of_all, size_of_step}
+use Rattle.jh_nemesis.specs.WorkLaws.{BeginWritesItsFault, RedoWritesItsUndo, RefusedWritesNothing, UndoWritesItsRedo, UndoWritesItsStep, WithdrawingAllWritesAll}
+use Rattle.jh_nemesis.specs.declared.steps.Step.TheVariants.{Begin, Redo, Undo, Withdraw, WithdrawAll}
 use Rattle.jh_nemesis.proofs.EffectLemmas.{all_alone}
 use Rattle.jh_nemesis.proofs.LawLemmas.{accepted, fresh, withdrawal_leaves}
 use Rattle.jh_nemesis.proofs.MomentLemmas.{active_there, none_alone, one_more}
@@ -35,7 +35,9 @@ begin_writes s id f ok =
     let last : size_between (s.active ++ one ∷ []) s.active ≡ fault_size f = rw (append-nil s.active) at size in
     rw (accepted s (Begin id f) ok) (turned s.active (s.active ++ one ∷ []) ∙ last)
 
-pub withdrawal_writes : WithdrawalWritesItsFault
+-- no other fault has its id
+pub withdrawal_writes : (s : State) (before after : Active) (id : ℕ) (f : FaultValue) → s.active ≡ before ++ ((id, f) ∷ after)
+    → is_active (before ++ after) id ≡ false → is_ok (answer_of s (Withdraw id)) ≡ true → size_of_step s (Withdraw id) ≡ fault_size f
 withdrawal_writes s before after id f now others ok =
     let size : size_between s.active (before ++ after) ≡ fault_size f = rw now (one_size before after id f others) in
     rw (withdrawal_leaves s before after id f now others ok) size

@@ -1,12 +1,13 @@
 -- What follows for steps (this project's own).
 use Rattle.std.specs.Prelude.{◌≡◌, ◌≢◌, ℕ, ◌≤◌, Bool, true, false, List, [], ◌∷◌, ◌++◌, length}
 use Rattle.std.specs.Prelude.{replicate}
+use Rattle.std.specs.List.{AllPairs}
 use Rattle.jh_env.specs.Cells.{Link}
 use Rattle.jh_env.specs.Cells.{link_at, node_at}
 use Rattle.jh_env.specs.Faults.{FaultValue}
 use Rattle.jh_env.specs.Overlay.{EnvValue, IsOverlay, StandsFor, cuts, cells_of, link_of, node_of}
 use Rattle.jh_env.specs.Overlay.{link_over}
-use Rattle.jh_nemesis.specs.State.{State, Active, first_state, faults_in, is_active}
+use Rattle.jh_nemesis.specs.State.{State, Active, first_state, faults_in}
 use Rattle.jh_nemesis.specs.Steps.{answer_of, state_after, state_after_all, is_ok}
 use Rattle.jh_nemesis.specs.declared.steps.Step.{Step}
 use Rattle.jh_nemesis.specs.declared.steps.Step.TheVariants.{Begin, Withdraw, WithdrawAll, Undo}
@@ -62,11 +63,20 @@ ChangeEndsFuture =
     (s : State) (step : Step) → is_change step ≡ true → is_ok (answer_of s step) ≡ true
     → (state_after s step).future ≡ []
 
+-- steps lead to the state from one in which nothing was begun
+abbrev pub StepsReach : State → Type 0
+StepsReach s =
+    (first : EnvValue) × (steps : List Step) × (s ≡ state_after_all (first_state first) steps)
+
+-- in each state that steps reach no two active faults have one id
+abbrev pub IdsAreOnce : Type 0
+IdsAreOnce = (s : State) → StepsReach s → AllPairs (λ f g. f.0 ≢ g.0) s.active
+
 -- a withdrawal leaves the other faults, in their order
 abbrev pub WithdrawalLeavesOthers : Type 0
 WithdrawalLeavesOthers =
     (s : State) (before after : Active) (id : ℕ) (f : FaultValue)
-    → s.active ≡ before ++ ((id, f) ∷ after) → is_active (before ++ after) id ≡ false
+    → StepsReach s → s.active ≡ before ++ ((id, f) ∷ after)
     → is_ok (answer_of s (Withdraw id)) ≡ true
     → (state_after s (Withdraw id)).active ≡ before ++ after
 
@@ -74,7 +84,7 @@ WithdrawalLeavesOthers =
 abbrev pub OthersAloneMake : Type 0
 OthersAloneMake =
     (s : State) (before after : Active) (id : ℕ) (f : FaultValue) (env : EnvValue)
-    → s.active ≡ before ++ ((id, f) ∷ after) → is_active (before ++ after) id ≡ false
+    → StepsReach s → s.active ≡ before ++ ((id, f) ∷ after)
     → is_ok (answer_of s (Withdraw id)) ≡ true
     → StandsFor env (faults_in (state_after s (Withdraw id)).active)
     → IsOverlay env.start (faults_in (before ++ after)) (cells_of env)

@@ -1,8 +1,8 @@
 -- What each step may write (this project's own): what its own faults take, whatever else is active.
 use Rattle.std.specs.Prelude.{◌≡◌, ℕ, true, false, ◌∷◌, ◌++◌}
 use Rattle.jh_env.specs.Faults.{FaultValue, fault_size}
-use Rattle.jh_nemesis.specs.Laws.{is_change}
-use Rattle.jh_nemesis.specs.State.{State, Active, is_active}
+use Rattle.jh_nemesis.specs.Laws.{StepsReach, is_change}
+use Rattle.jh_nemesis.specs.State.{State, Active}
 use Rattle.jh_nemesis.specs.Steps.{answer_of, is_ok, state_after}
 use Rattle.jh_nemesis.specs.Work.{size_of_all, size_of_step}
 use Rattle.jh_nemesis.specs.declared.steps.Step.{Step}
@@ -24,7 +24,7 @@ BeginWritesItsFault =
 abbrev pub WithdrawalWritesItsFault : Type 0
 WithdrawalWritesItsFault =
     (s : State) (before after : Active) (id : ℕ) (f : FaultValue)
-    → s.active ≡ before ++ ((id, f) ∷ after) → is_active (before ++ after) id ≡ false
+    → StepsReach s → s.active ≡ before ++ ((id, f) ∷ after)
     → is_ok (answer_of s (Withdraw id)) ≡ true → size_of_step s (Withdraw id) ≡ fault_size f
 
 -- a withdrawal of all writes what they take together

@@ -10,6 +10,7 @@ ghost use Rattle.jh_nemesis.specs.Laws.{
   UndoTakesRedoBack,
   RedosLeadBack,
   ChangeEndsFuture,
+  IdsAreOnce,
   WithdrawalLeavesOthers,
   OthersAloneMake,
   WithdrawingAllLeavesStart,
@@ -66,8 +67,13 @@ pub fn change_ends_future()
     ensures { ChangeEndsFuture }
 {}
 
-/// A withdrawal leaves the other faults, in their order, and the environment that these alone make
-/// of the start.
+/// Whatever the steps were, no two active faults have one id.
+pub fn ids_are_once()
+    ensures { IdsAreOnce }
+{}
+
+/// Whatever the steps were, a withdrawal leaves the other faults, in their order, and the
+/// environment that these alone make of the start.
 pub fn withdrawal_leaves_others()
     ensures faults { WithdrawalLeavesOthers }
     ensures environment { OthersAloneMake }

@@ -1,4 +1,5 @@
-use Rattle.jh_nemesis.proofs.WorkLemmas.{all_written, begin_writes, redo_writes, refused_writes, undo_writes, undo_writes_redo, withdrawal_writes}
+use Rattle.jh_nemesis.proofs.IdLemmas.{reached_writes}
+use Rattle.jh_nemesis.proofs.WorkLemmas.{all_written, begin_writes, redo_writes, refused_writes, undo_writes, undo_writes_redo}
 use Rattle.jh_nemesis.proofs.laws.steps_write_their_faults.Goals as goal
 
 pub returns-clause-refused : goal.returns-clause-refused
@@ -8,7 +9,7 @@ pub returns-clause-begin : goal.returns-clause-begin
 returns-clause-begin c = begin_writes
 
 pub returns-clause-withdraw : goal.returns-clause-withdraw
-returns-clause-withdraw c = withdrawal_writes
+returns-clause-withdraw c = reached_writes
 
 pub returns-clause-all : goal.returns-clause-all
 returns-clause-all c = all_written
