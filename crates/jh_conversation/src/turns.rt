@@ -18,7 +18,7 @@ use jh_edn::{Value, Values};
 use jh_gen::{Driver, GenAnswer, GenError, Thread};
 use jh_nemesis::{Nemesis, Step};
 use jh_ops::{Call, Request};
-use jh_test_parts::{Asked, CellsTold, Datum, Entry, KeyShares, Recorded, Test, When, cells_told};
+use jh_test_parts::{Asked, CellsTold, Datum, Entry, KeyShares, NamedCells, Recorded, Test, When};
 use rand_core::utils::NextWord;
 use std::alloc::{AllocError, Global};
 
@@ -78,9 +78,12 @@ fn take_step(
         (faults_in nemesis.old.state.active)
         (faults_in (state_after nemesis.old.state step).active)) }
 {
-    let before = nemesis.env().copy(alloc)?;
+    let named = {
+        let faults = nemesis.changed_by(alloc, &step)?;
+        NamedCells::of(alloc, nemesis.env(), &faults)?
+    };
     let answer = nemesis.apply(step)?;
-    let cells = cells_told(alloc, &before, nemesis.env())?;
+    let cells = named.told(alloc, nemesis.env())?;
     Ok((answer.code() as u64, cells))
 }
 

@@ -1,52 +1,56 @@
--- What the code tells of two environments is what the rule says.
-use Rattle.std.proofs.Common.{◌≡◌, ℕ, ◌+◌, ◌<◌, ◌≤◌, List, [], ◌∷◌, ◌++◌, length, get_or, take}
+-- What the code tells of the named cells is what the rule says of all.
+use Rattle.std.proofs.Common.{◌≡◌, ℕ, ◌+◌, ◌<◌, ◌≤◌, Bool, true, false, List, [], ◌∷◌, ◌++◌, length, get_or, take}
 use Rattle.std.proofs.Common.{refl, sym, ap, ap₂, ◌∙◌, arith, subst, All}
 use mathlib.Core.Logic.{◌⊎◌, inl, inr}
-use Rattle.std.specs.Prelude.{Option, None, Some, filter_map, option_and_then, option_map}
-use Rattle.std.specs.Prelude.{slice_get, IfSome}
-use Rattle.std.specs.List.{cons_option, flat_map}
+use Rattle.std.specs.Prelude.{◌==◌, ◌&&◌, Option, None, Some, filter_map, option_and_then, option_map}
+use Rattle.std.specs.Prelude.{slice_get, IfSome, if◌then◌else◌}
+use Rattle.std.specs.Bool.{beq}
+use Rattle.std.specs.List.{cons_option, flat_map, list_any, range_with_len}
+use Rattle.std.specs.Ordering.{int_eq}
+use Rattle.std.proofs.lemmas.Cmp.{int_eq_equiv, nat_eq_equiv}
 use Rattle.std.proofs.lemmas.Bool.{cases_lt}
-use Rattle.std.proofs.lemmas.List.{append_assoc, append-nil, take_more}
+use Rattle.std.proofs.lemmas.List.{append-nil, take_more}
 use Rattle.std.proofs.lemmas.List.Elements.{All-push, filter_map-append}
-use Rattle.std.proofs.lemmas.Grind.{flat_map-append}
 use Rattle.std.proofs.lemmas.Option.{slice_get-get_or, slice_get_past}
-use Rattle.jh_env.specs.Cells.{Link, NodeCell, link_at, node_at, running_node}
+use Rattle.jh_env.specs.Cells.{Life, Link, NodeCell, Running, Paused, Killed, link_at, node_at, running_node}
 use Rattle.jh_env.specs.Faults.{FaultValue}
-use Rattle.jh_env.specs.Names.{node_places}
-use Rattle.jh_env.specs.Overlay.{EnvValue, StandsFor, cells_of, link_over, node_over}
-use Rattle.jh_test_parts.specs.Told.{CellsTold, cells_told, places_of_nodes, told_if_other_link}
-use Rattle.jh_test_parts.specs.Told.{told_if_other_node, told_link, told_links, told_node}
+use Rattle.jh_env.specs.Overlay.{EnvValue, StandsFor, cells_of, link_of, link_over, node_of, node_over}
+use Rattle.jh_nemesis.specs.Changed.{AgreeElsewhere, fault_names_link, fault_names_node}
+use Rattle.jh_test_parts.specs.NamedCells.{NamedCellsValue, cells_named, link_named, all_links_named}
+use Rattle.jh_test_parts.specs.NamedCells.{node_named, all_nodes_named}
+use Rattle.jh_test_parts.specs.Told.{CellsTold, cells_told, are_same_links, are_same_nodes, is_same_life, places_of_nodes}
+use Rattle.jh_test_parts.specs.Told.{told_if_other_link, told_if_other_node, told_link, told_links, told_node}
 use Rattle.jh_test_parts.specs.Told.{told_nodes}
-use Rattle.jh_test_parts.specs.ToldInside.{link_told, links_told, node_told, nodes_told}
-use Rattle.jh_test_parts.specs.ToldInside.{places_named}
+use Rattle.jh_test_parts.specs.ToldInside.{link_told, node_told}
+use Rattle.jh_test_parts.specs.declared.records.LinkTold.{LinkTold}
+use Rattle.jh_test_parts.specs.declared.records.NodeTold.{NodeTold}
+use Rattle.jh_test_parts.proofs.PlaceLemmas.{filter_same, flat_same, found_flat}
 
--- one more element of a list that is gone through
-pub filter_more : {A : Type 0} (h : ℕ → Option A) (xs : List ℕ) (i : ℕ) (d : ℕ) → i < length xs → filter_map h (take i xs) ++ cons_option (h (get_or xs i d)) [] ≡ filter_map h (take (i + 1) xs)
-filter_more h xs i d less = sym (filter_map-append h (take i xs) (get_or xs i d ∷ [])) ∙ ap (filter_map h) (sym (take_more xs i d less))
+-- what the code tells of these cells
+abbrev pub told_among : EnvValue → NamedCellsValue → CellsTold
+told_among after cells =
+    record { links = filter_map (link_told after) cells.links; nodes = filter_map (node_told after) cells.nodes }
 
-pub flat_more : {A : Type 0} (h : ℕ → List A) (xs : List ℕ) (i : ℕ) (d : ℕ) → i < length xs → flat_map h (take i xs) ++ h (get_or xs i d) ≡ flat_map h (take (i + 1) xs)
-flat_more h xs i d less =
-    sym (ap (flat_map h) (take_more xs i d less) ∙ flat_map-append h (take i xs) (get_or xs i d ∷ []) ∙ ap (λ l. flat_map h (take i xs) ++ l) (append-nil (h (get_or xs i d))))
-
--- what is told of it, if anything, comes behind what was told
-pub told_more : {A : Type 0} (h : ℕ → Option A) (xs : List ℕ) (i x : ℕ) (front now next : List A) (o : Option A) → i < length xs → x ≡ get_or xs i x → o ≡ h x
-    → now ≡ front ++ filter_map h (take i xs) → next ≡ now ++ cons_option o [] → next ≡ front ++ filter_map h (take (i + 1) xs)
-told_more h xs i x front now next o less item is so_far added =
-    added ∙ ap₂ (λ l (p : Option _). l ++ cons_option p []) so_far (is ∙ ap h item)
-    ∙ append_assoc front (filter_map h (take i xs)) (cons_option (h (get_or xs i x)) [])
-    ∙ ap (λ l. front ++ l) (filter_more h xs i x less)
+-- what is found of one more element, if anything, comes behind what was found
+pub found_more : {K A : Type 0} (h : K → Option A) (ks : List K) (i : ℕ) (k : K) (now next : List A) (o : Option A) → i < length ks → k ≡ get_or ks i k → o ≡ h k
+    → now ≡ filter_map h (take i ks) → next ≡ now ++ cons_option o [] → next ≡ filter_map h (take (i + 1) ks)
+found_more {K} {A} h ks i k now next o less item is so_far added =
+    added ∙ ap₂ (λ l (p : Option A). l ++ cons_option p []) so_far (is ∙ ap h item)
+    ∙ sym (filter_map-append h (take i ks) (get_or ks i k ∷ [])) ∙ ap (filter_map h) (sym (take_more ks i k less))
 
 pub within_more : {A : Type 0} (P : A → Type 0) (now next : List A) (o : Option A) → All P now → IfSome o P → next ≡ now ++ cons_option o [] → All P next
 within_more P now next None all one added = subst (All P) (sym (added ∙ append-nil now)) all
 within_more P now next (Some x) all one added = subst (All P) (sym added) (All-push P now x all one)
 
-filter_same : {A : Type 0} (h g : ℕ → Option A) → ((x : ℕ) → h x ≡ g x) → (xs : List ℕ) → filter_map h xs ≡ filter_map g xs
-filter_same h g same [] = refl
-filter_same h g same (x ∷ xs) = ap₂ cons_option (same x) (filter_same h g same xs)
+-- what is found of what was found
 
-flat_same : {A : Type 0} (h g : ℕ → List A) → ((x : ℕ) → h x ≡ g x) → (xs : List ℕ) → flat_map h xs ≡ flat_map g xs
-flat_same h g same [] = refl
-flat_same h g same (x ∷ xs) = ap₂ (λ ys zs. ys ++ zs) (same x) (flat_same h g same xs)
+found_twice : {K X Y : Type 0} (h : K → Option X) (g : X → Option Y) (ks : List K) → filter_map g (filter_map h ks) ≡ filter_map (λ k. option_and_then g (h k)) ks
+found_twice h g [] = refl
+found_twice {K} {X} {Y} h g (k ∷ ks) = go (h k) ∙ ap (cons_option (option_and_then g (h k))) (found_twice h g ks)
+  where
+    go : (o : Option X) → filter_map g (cons_option o (filter_map h ks)) ≡ cons_option (option_and_then g o) (filter_map g (filter_map h ks))
+    go None = refl
+    go (Some x) = refl
 
 -- the cells have as many nodes as the start
 
@@ -66,39 +70,111 @@ as_many xs ys f d same = go (cases_lt (length xs) (length ys)) (cases_lt (length
         absurd (some-none (get_or xs (length ys) d) (sym (slice_get-get_or xs (length ys) d less) ∙ same (length ys) ∙ ap (option_map (f (length ys))) (slice_get_past ys (length ys) (omega arith))))
     go (inr le) (inr ge) = omega (arith, le, ge)
 
-module _ (before after : EnvValue) (earlier later : List FaultValue) (first : StandsFor before earlier) (second : StandsFor after later) (same : after.start ≡ before.start) where
-  link_is : (a b : ℕ) → link_told before after a b ≡ told_link before.start earlier later a b
-  link_is a b =
-      ap₂ (λ (was is : Option Link). option_and_then (λ w. option_and_then (λ i. told_if_other_link a b w i) is) was) (first.cells.links a b)
-      (second.cells.links a b ∙ ap (λ s. option_map (link_over later a b) (link_at s a b)) same)
-      ∙ go (link_at before.start a b)
+-- a cell is like itself, so nothing is told of it
+
+both_true : (a b : Bool) → a ≡ true → b ≡ true → (a && b) ≡ true
+both_true a b one other = ap₂ (λ v w. v && w) one other
+
+same_bool : (b : Bool) → beq b b ≡ true
+same_bool true = refl
+same_bool false = refl
+
+same_life : (l : Life) → is_same_life l l ≡ true
+same_life Running = refl
+same_life Paused = refl
+same_life Killed = refl
+
+same_link : (l : Link) → are_same_links l l ≡ true
+same_link l =
+    both_true (beq l.cut l.cut) (l.delay == l.delay && l.loss == l.loss) (same_bool l.cut)
+    (both_true (l.delay == l.delay) (l.loss == l.loss) (nat_eq_equiv.refl l.delay) (nat_eq_equiv.refl l.loss))
+
+same_node : (n : NodeCell) → are_same_nodes n n ≡ true
+same_node n = both_true (is_same_life n.process n.process) (int_eq n.clock n.clock) (same_life n.process) (int_eq_equiv.refl n.clock)
+
+link_untold : (a b : ℕ) (was is : Link) → was ≡ is → None ≡ told_if_other_link a b was is
+link_untold a b was is same =
+    let alike : are_same_links was is ≡ true = ap (λ l. are_same_links was l) (sym same) ∙ same_link was in
+    sym (ap (λ w. if w then None else Some (let t : LinkTold = record { source = a; destination = b; link = is } in t)) alike)
+
+node_untold : (a : ℕ) (was is : NodeCell) → was ≡ is → None ≡ told_if_other_node a was is
+node_untold a was is same =
+    let alike : are_same_nodes was is ≡ true = ap (λ n. are_same_nodes was n) (sym same) ∙ same_node was in
+    sym (ap (λ w. if w then None else Some (let t : NodeTold = record { node = a; cell = is } in t)) alike)
+
+module _ (before after : EnvValue) (named earlier later : List FaultValue) (first : StandsFor before earlier) (second : StandsFor after later)
+    (same : after.start ≡ before.start) (elsewhere : AgreeElsewhere named earlier later) where
+  link_is : (a b : ℕ) → option_and_then (link_told after) (link_named before named a b) ≡ told_link before.start earlier later a b
+  link_is a b = go (list_any (fault_names_link a b) named) refl
     where
-      go : (l : Option Link) → option_and_then (λ w. option_and_then (λ i. told_if_other_link a b w i) (option_map (link_over later a b) l)) (option_map (link_over earlier a b) l)
+      here : (was : Option Link) → option_and_then (link_told after) (option_map (λ k. (a, b, k)) was) ≡ option_and_then (λ w. option_and_then (told_if_other_link a b w) (link_of after a b)) was
+      here None = refl
+      here (Some l) = refl
+
+      there : (l : Option Link) → option_and_then (λ w. option_and_then (told_if_other_link a b w) (option_map (link_over later a b) l)) (option_map (link_over earlier a b) l)
           ≡ option_and_then (λ l. told_if_other_link a b (link_over earlier a b l) (link_over later a b l)) l
-      go None = refl
-      go (Some l) = refl
+      there None = refl
+      there (Some l) = refl
 
-  node_is : (a : ℕ) → node_told before after a ≡ told_node before.start earlier later a
-  node_is a =
-      ap₂ (λ (was is : Option NodeCell). option_and_then (λ w. option_and_then (λ i. told_if_other_node a w i) is) was) (first.cells.nodes a)
-      (second.cells.nodes a ∙ ap (λ s. option_map (node_over later a) (node_at s a)) same)
-      ∙ go (node_at before.start a)
+      apart : list_any (fault_names_link a b) named ≡ false → (l : Option Link) → None ≡ option_and_then (λ l. told_if_other_link a b (link_over earlier a b l) (link_over later a b l)) l
+      apart out None = refl
+      apart out (Some l) = link_untold a b (link_over earlier a b l) (link_over later a b l) (elsewhere.links a b l out)
+
+      go : (w : Bool) → list_any (fault_names_link a b) named ≡ w
+          → option_and_then (link_told after) (if w then option_map (λ k. (a, b, k)) (link_of before a b) else None) ≡ told_link before.start earlier later a b
+      go true is =
+          here (link_of before a b)
+          ∙ ap₂ (λ (was is : Option Link). option_and_then (λ w. option_and_then (told_if_other_link a b w) is) was) (first.cells.links a b)
+          (second.cells.links a b ∙ ap (λ s. option_map (link_over later a b) (link_at s a b)) same)
+          ∙ there (link_at before.start a b)
+      go false is = apart is (link_at before.start a b)
+
+  node_is : (a : ℕ) → option_and_then (node_told after) (node_named before named a) ≡ told_node before.start earlier later a
+  node_is a = go (list_any (fault_names_node a) named) refl
     where
-      go : (n : Option NodeCell) → option_and_then (λ w. option_and_then (λ i. told_if_other_node a w i) (option_map (node_over later a) n)) (option_map (node_over earlier a) n)
+      here : (was : Option NodeCell) → option_and_then (node_told after) (option_map (λ k. (a, k)) was) ≡ option_and_then (λ w. option_and_then (told_if_other_node a w) (node_of after a)) was
+      here None = refl
+      here (Some n) = refl
+
+      there : (n : Option NodeCell) → option_and_then (λ w. option_and_then (told_if_other_node a w) (option_map (node_over later a) n)) (option_map (node_over earlier a) n)
           ≡ option_and_then (λ n. told_if_other_node a (node_over earlier a n) (node_over later a n)) n
-      go None = refl
-      go (Some n) = refl
+      there None = refl
+      there (Some n) = refl
 
-  places_are : length (cells_of before).nodes ≡ length before.names → places_named before ≡ places_of_nodes before.start
-  places_are whole = ap node_places (sym whole ∙ as_many (cells_of before).nodes before.start.nodes (node_over earlier) running_node first.cells.nodes)
+      apart : list_any (fault_names_node a) named ≡ false → (n : Option NodeCell) → None ≡ option_and_then (λ n. told_if_other_node a (node_over earlier a n) (node_over later a n)) n
+      apart out None = refl
+      apart out (Some n) = node_untold a (node_over earlier a n) (node_over later a n) (elsewhere.nodes a n out)
 
-  pub cells_are : length (cells_of before).nodes ≡ length before.names → ◌≡◌ {A = CellsTold} (record { links = links_told before after; nodes = nodes_told before after }) (cells_told before.start earlier later)
-  cells_are whole =
-      let all = places_are whole in
-      let links : links_told before after ≡ told_links before.start earlier later =
-      ap (λ ps. flat_map (λ a. filter_map (link_told before after a) ps) ps) all
-      ∙ flat_same (λ a. filter_map (link_told before after a) (places_of_nodes before.start)) (λ a. filter_map (told_link before.start earlier later a) (places_of_nodes before.start))
-      (λ a. filter_same (link_told before after a) (told_link before.start earlier later a) (link_is a) (places_of_nodes before.start)) (places_of_nodes before.start) in
-      let nodes : nodes_told before after ≡ told_nodes before.start earlier later =
-      ap (filter_map (node_told before after)) all ∙ filter_same (node_told before after) (told_node before.start earlier later) node_is (places_of_nodes before.start) in
-      ap₂ (λ l n. let c : CellsTold = record { links = l; nodes = n } in c) links nodes
+      go : (w : Bool) → list_any (fault_names_node a) named ≡ w
+          → option_and_then (node_told after) (if w then option_map (λ k. (a, k)) (node_of before a) else None) ≡ told_node before.start earlier later a
+      go true is =
+          here (node_of before a)
+          ∙ ap₂ (λ (was is : Option NodeCell). option_and_then (λ w. option_and_then (told_if_other_node a w) is) was) (first.cells.nodes a)
+          (second.cells.nodes a ∙ ap (λ s. option_map (node_over later a) (node_at s a)) same)
+          ∙ there (node_at before.start a)
+      go false is = apart is (node_at before.start a)
+
+  places_are : places_of_nodes (cells_of before) ≡ places_of_nodes before.start
+  places_are = ap (range_with_len 0) (as_many (cells_of before).nodes before.start.nodes (node_over earlier) running_node first.cells.nodes)
+
+  row_is : (a : ℕ) (places : List ℕ) → filter_map (link_told after) (filter_map (link_named before named a) places) ≡ filter_map (told_link before.start earlier later a) places
+  row_is a places =
+      found_twice (link_named before named a) (link_told after) places
+      ∙ filter_same (λ b. option_and_then (link_told after) (link_named before named a b)) (told_link before.start earlier later a) (link_is a) places
+
+  links_are_told : filter_map (link_told after) (all_links_named before named) ≡ told_links before.start earlier later
+  links_are_told =
+      ap (λ places. filter_map (link_told after) (flat_map (λ a. filter_map (link_named before named a) places) places)) places_are
+      ∙ found_flat (λ a. filter_map (link_named before named a) (places_of_nodes before.start)) (link_told after) (places_of_nodes before.start)
+      ∙ flat_same (λ a. filter_map (link_told after) (filter_map (link_named before named a) (places_of_nodes before.start)))
+      (λ a. filter_map (told_link before.start earlier later a) (places_of_nodes before.start)) (λ a. row_is a (places_of_nodes before.start)) (places_of_nodes before.start)
+
+  nodes_are_told : filter_map (node_told after) (all_nodes_named before named) ≡ told_nodes before.start earlier later
+  nodes_are_told =
+      ap (λ places. filter_map (node_told after) (filter_map (node_named before named) places)) places_are
+      ∙ found_twice (node_named before named) (node_told after) (places_of_nodes before.start)
+      ∙ filter_same (λ a. option_and_then (node_told after) (node_named before named a)) (told_node before.start earlier later) node_is (places_of_nodes before.start)
+
+  pub cells_are_told : (cells : NamedCellsValue) → cells ≡ cells_named before named → told_among after cells ≡ cells_told before.start earlier later
+  cells_are_told cells is =
+      ap (told_among after) is ∙ ap₂ (λ l n. let c : CellsTold = record { links = l; nodes = n } in c) links_are_told nodes_are_told

@@ -1,6 +1,7 @@
 pub mod Test
 pub mod TestInside
 pub mod Told
+pub mod NamedCells
 pub mod ToldInside
 pub mod Records
 pub mod Complaints

@@ -1,13 +1,16 @@
 //! Which cells a step changed. `specs/Told.antt` has the rule.
 
-ghost use Rattle.std.specs.Prelude.{◌≡◌, ◌++◌, [], IfOk, IfSome, List, OnOk, filter_map};
-ghost use Rattle.std.specs.List.{All, cons_option};
+ghost use Rattle.std.specs.Prelude.{◌≡◌, IfOk, IfSome, List, filter_map};
+ghost use Rattle.std.specs.List.{All};
 ghost use Rattle.jh_tables.specs.Standing.{IsLinkInRange};
 ghost use Rattle.jh_env.specs.Faults.{FaultValue};
-ghost use Rattle.jh_env.specs.Overlay.{StandsFor};
+ghost use Rattle.jh_env.specs.Overlay.{EnvValue, StandsFor};
+ghost use Rattle.jh_nemesis.specs.Changed.{AgreeElsewhere};
+ghost use Rattle.jh_test_parts.specs.NamedCells.{cells_named};
 ghost use Rattle.jh_test_parts.specs.Told as rule;
 ghost use Rattle.jh_test_parts.specs.ToldInside as inside;
 
+use crate::named::{NamedCells, push_some};
 use crate::records::{CellsTold, LinkTold, NodeTold};
 use jh_env::{Env, Life, Link, Node, NodeCell};
 use std::alloc::{AllocError, Global};
@@ -38,12 +41,12 @@ fn are_same_nodes(one: NodeCell, other: NodeCell) -> bool
     is_same_life(one.process, other.process) && one.clock == other.clock
 }
 
-/// The link from one node to another, where it is another one in the second environment.
-fn link_told(before: &Env, after: &Env, source: Node, destination: Node) -> Option<LinkTold>
-    ensures told { result ≡ inside.link_told before.now after.now source destination }
+/// What is told of a link, where it is another one in this environment.
+fn link_told(after: &Env, link: (Node, Node, Link)) -> Option<LinkTold>
+    ensures told { result ≡ inside.link_told after.now link }
     ensures within { IfSome result (λ told. IsLinkInRange told.link) }
 {
-    let was = before.link(source, destination)?;
+    let (source, destination, was) = link;
     let link = after.link(source, destination)?;
     if are_same_links(was, link) {
         return None;
@@ -55,11 +58,11 @@ fn link_told(before: &Env, after: &Env, source: Node, destination: Node) -> Opti
     })
 }
 
-/// A node, where it is another one in the second environment.
-fn node_told(before: &Env, after: &Env, node: Node) -> Option<NodeTold>
-    ensures { result ≡ inside.node_told before.now after.now node }
+/// What is told of a node, where it is another one in this environment.
+fn node_told(after: &Env, node: (Node, NodeCell)) -> Option<NodeTold>
+    ensures { result ≡ inside.node_told after.now node }
 {
-    let was = before.node(node)?;
+    let (node, was) = node;
     let cell = after.node(node)?;
     if are_same_nodes(was, cell) {
         return None;
@@ -67,80 +70,53 @@ fn node_told(before: &Env, after: &Env, node: Node) -> Option<NodeTold>
     Some(NodeTold { node, cell })
 }
 
-/// Adds a link, if there is one.
-fn push_link(links: &mut Vec<LinkTold>, told: Option<LinkTold>) -> Result<(), AllocError>
-    ensures { OnOk result (links.new.items ≡ links.old.items ++ cons_option told []) }
-{
-    if let Some(told) = told {
-        links.push(told)?;
-    }
-    Ok(())
-}
-
-/// Adds a node, if there is one.
-fn push_node(nodes: &mut Vec<NodeTold>, told: Option<NodeTold>) -> Result<(), AllocError>
-    ensures { OnOk result (nodes.new.items ≡ nodes.old.items ++ cons_option told []) }
-{
-    if let Some(told) = told {
-        nodes.push(told)?;
-    }
-    Ok(())
-}
-
-/// Adds the links from a node that are others in the second environment.
-fn push_links(
-    links: &mut Vec<LinkTold>,
-    before: &Env,
+/// What is told of links.
+fn links_told(
+    alloc: Global,
+    links: &[(Node, Node, Link)],
     after: &Env,
-    source: Node,
-) -> Result<(), AllocError>
-    requires { All (λ told. IsLinkInRange told.link) links.old.items }
-    ensures told { OnOk result (links.new.items ≡ links.old.items
-        ++ filter_map (inside.link_told before.now after.now source) (inside.places_named before.now)) }
-    ensures within { OnOk result (All (λ told. IsLinkInRange told.link) links.new.items) }
+) -> Result<Vec<LinkTold>, AllocError>
+    ensures told { IfOk result
+        (λ told. told.items ≡ filter_map (inside.link_told after.now) links.now) }
+    ensures within { IfOk result (λ told. All (λ link. IsLinkInRange link.link) told.items) }
 {
-    for destination in before.nodes().all().as_slice() {
-        push_link(links, link_told(before, after, source, *destination))?;
+    let mut told = Vec::new(alloc);
+    for link in links {
+        push_some(&mut told, link_told(after, *link))?;
     }
-    Ok(())
+    Ok(told)
 }
 
-/// The links that are others in the second environment.
-fn links_told(alloc: Global, before: &Env, after: &Env) -> Result<Vec<LinkTold>, AllocError>
-    ensures told { IfOk result (λ links. links.items ≡ inside.links_told before.now after.now) }
-    ensures within { IfOk result (λ links. All (λ told. IsLinkInRange told.link) links.items) }
+/// What is told of nodes.
+fn nodes_told(
+    alloc: Global,
+    nodes: &[(Node, NodeCell)],
+    after: &Env,
+) -> Result<Vec<NodeTold>, AllocError>
+    ensures { IfOk result
+        (λ told. told.items ≡ filter_map (inside.node_told after.now) nodes.now) }
 {
-    let mut links = Vec::new(alloc);
-    for source in before.nodes().all().as_slice() {
-        push_links(&mut links, before, after, *source)?;
+    let mut told = Vec::new(alloc);
+    for node in nodes {
+        push_some(&mut told, node_told(after, *node))?;
     }
-    Ok(links)
+    Ok(told)
 }
 
-/// The nodes that are others in the second environment.
-fn nodes_told(alloc: Global, before: &Env, after: &Env) -> Result<Vec<NodeTold>, AllocError>
-    ensures { IfOk result (λ nodes. nodes.items ≡ inside.nodes_told before.now after.now) }
-{
-    let mut nodes = Vec::new(alloc);
-    for node in before.nodes().all().as_slice() {
-        push_node(&mut nodes, node_told(before, after, *node))?;
+impl NamedCells {
+    /// The links and nodes among these that are others in an environment, with what they are there.
+    /// So if these are what some faults named in an environment, and all else has stayed, it tells
+    /// all that has changed. Takes time for each of these links and nodes.
+    pub fn told(&self, alloc: Global, after: &Env) -> Result<CellsTold, AllocError>
+        ensures { (before : EnvValue) (named earlier later : List FaultValue)
+            → self.now ≡ cells_named before named
+            → StandsFor before earlier → StandsFor after.now later
+            → after.now.start ≡ before.start → AgreeElsewhere named earlier later
+            → IfOk result (λ cells. cells ≡ rule.cells_told before.start earlier later) }
+    {
+        Ok(CellsTold {
+            links: links_told(alloc, &self.links, after)?,
+            nodes: nodes_told(alloc, &self.nodes, after)?,
+        })
     }
-    Ok(nodes)
-}
-
-/// The cells that are others in the second environment, which has the start of the first.
-///
-/// Goes through all links, at most 4,032, and all nodes.
-pub fn cells_told(alloc: Global, before: &Env, after: &Env) -> Result<CellsTold, AllocError>
-    requires { after.now.start ≡ before.now.start }
-    ensures { (earlier later : List FaultValue) → StandsFor before.now earlier
-        → StandsFor after.now later
-        → IfOk result (λ cells. cells ≡ rule.cells_told before.now.start earlier later) }
-{
-    // That the cells have as many nodes as there are names.
-    let _nodes = before.nodes();
-    Ok(CellsTold {
-        links: links_told(alloc, before, after)?,
-        nodes: nodes_told(alloc, before, after)?,
-    })
 }

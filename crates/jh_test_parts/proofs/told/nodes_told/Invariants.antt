@@ -4,4 +4,4 @@ use Rattle.jh_test_parts.specs.ToldInside.{node_told}
 use Rattle.jh_test_parts.proofs.told.nodes_told.Given as goal
 
 abbrev pub invariant-loop-node : goal.invariant-loop-node
-invariant-loop-node l = l.nodes.items ≡ filter_map (node_told l.before l.after) (take l.node-index l.node-items)
+invariant-loop-node l = l.told.items ≡ filter_map (node_told l.after) (take l.node-index l.nodes)
