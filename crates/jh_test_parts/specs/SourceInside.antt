@@ -1,5 +1,5 @@
 -- What a contract sees of where transactions stand, and what holds of it. This project's own.
-use Rattle.std.specs.Prelude.{◌≡◌, ◌<◌, ◌^◌, ℕ, All, length}
+use Rattle.std.specs.Prelude.{◌≡◌, ◌<◌, ◌^◌, All, length}
 use Rattle.jh_test_parts.specs.Test.{IsGoodShape}
 use Rattle.jh_test_parts.specs.Transactions.{TransactionSource}
 use Rattle.jh_test_parts.specs.declared.parts.TransactionShape.{TransactionShape}

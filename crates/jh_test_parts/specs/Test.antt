@@ -1,6 +1,6 @@
 -- What a test of a real database is set to, beside how its history is judged. This project's own;
 -- generators, workloads and faults are those of a run.
-use Rattle.std.specs.Prelude.{◌≡◌, ℕ, ◌%◌, ◌==◌, ◌≤◌, Bool, true, false, ◌&&◌, not, All, List}
+use Rattle.std.specs.Prelude.{◌≡◌, ℕ, ◌%◌, ◌==◌, ◌≤◌, Bool, true, ◌&&◌, not, All, List}
 use Rattle.std.specs.Prelude.{length}
 use Rattle.std.specs.Prelude.{Option, None, Some, option_map}
 use Rattle.jh_env.specs.Overlay.{EnvValue}

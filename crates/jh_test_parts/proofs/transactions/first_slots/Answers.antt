@@ -1,4 +1,4 @@
-use Rattle.std.proofs.Common.{◌≡◌, ◌∙◌, ◌++◌, ◌∷◌, [], ap}
+use Rattle.std.proofs.Common.{◌∙◌, ◌++◌, ◌∷◌, [], ap}
 use Rattle.jh_test_parts.proofs.ValueLemmas.{slots_next}
 use Rattle.jh_test_parts.proofs.transactions.first_slots.Goals as goal
 
