@@ -50,24 +50,24 @@ text_refused text values at error utf8 begun why first =
     ]
 
 -- values were read, and all elements in them parsed
-pub history_read : (text : List ℕ) (values elements : List Edn) (at : ℕ) (parsing : Parsing) → elements_in values ≡ elements → Begins text values at → IsGap (drop at text) → parsing.refusal ≡ None → HasParsed parsing elements
+pub history_read : (text : List ℕ) (values elements : List Edn) (at : ℕ) (parsing : Parsing) → IsUtf8 text → elements_in values ≡ elements → Begins text values at → IsGap (drop at text) → parsing.refusal ≡ None → HasParsed parsing elements
     → IsHistoryOf text (operations parsing.ops.items)
-history_read text values elements at parsing are begun gap none parsed =
+history_read text values elements at parsing utf8 are begun gap none parsed =
     let ops = operations parsing.ops.items in
-    (values, before_all values text at begun.before gap, all_parsed values elements ops are (subst (Leave elements ops) none parsed.0))
+    (values, (utf8, before_all values text at begun.before gap), all_parsed values elements ops are (subst (Leave elements ops) none parsed.0))
 
 -- values were read, and an element in them was refused
-pub history_refused : (text : List ℕ) (values elements : List Edn) (at : ℕ) (parsing : Parsing) (refusal : HistoryError) → elements_in values ≡ elements → Begins text values at → IsGap (drop at text) → parsing.refusal ≡ Some refusal
+pub history_refused : (text : List ℕ) (values elements : List Edn) (at : ℕ) (parsing : Parsing) (refusal : HistoryError) → IsUtf8 text → elements_in values ≡ elements → Begins text values at → IsGap (drop at text) → parsing.refusal ≡ Some refusal
     → HasParsed parsing elements → RefusesHistoryOf text (History refusal)
-history_refused text values elements at parsing refusals.OutOfMemory are begun gap some parsed = tt
-history_refused text values elements at parsing (refusals.Op place refusal) are begun gap some parsed =
+history_refused text values elements at parsing refusals.OutOfMemory utf8 are begun gap some parsed = tt
+history_refused text values elements at parsing (refusals.Op place refusal) utf8 are begun gap some parsed =
     let ops = operations parsing.ops.items in
-    (values, before_all values text at begun.before gap, all_refused values elements ops (refusals.Op place refusal) are (subst (Leave elements ops) some parsed.0))
+    (values, (utf8, before_all values text at begun.before gap), all_refused values elements ops (refusals.Op place refusal) are (subst (Leave elements ops) some parsed.0))
 
 -- a single value was read, and it is refused
-pub one_read_refused : (text : List ℕ) (value : Edn) (at : ℕ) (refusal : HistoryError) → Begins text (value ∷ []) at → IsGap (drop at text) → RefusesOne value refusal → RefusesHistoryOf text (History refusal)
-one_read_refused text value at refusals.OutOfMemory begun gap refused = tt
-one_read_refused text value at (refusals.Op place why) begun gap refused = (value ∷ [], before_all (value ∷ []) text at begun.before gap, refused)
+pub one_read_refused : (text : List ℕ) (value : Edn) (at : ℕ) (refusal : HistoryError) → IsUtf8 text → Begins text (value ∷ []) at → IsGap (drop at text) → RefusesOne value refusal → RefusesHistoryOf text (History refusal)
+one_read_refused text value at refusals.OutOfMemory utf8 begun gap refused = tt
+one_read_refused text value at (refusals.Op place why) utf8 begun gap refused = (value ∷ [], (utf8, before_all (value ∷ []) text at begun.before gap), refused)
 
 -- with one more, they are still several
 pub still_several : (values : List Edn) (value : Edn) → AreSeveral values → AreSeveral (values ++ value ∷ [])

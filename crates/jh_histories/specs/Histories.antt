@@ -1,6 +1,7 @@
 -- The history that a text means (Jepsen writes one operation after another to `history.edn`; the
 -- errors and their order are this project's own).
 use Rattle.std.specs.Prelude.{ℕ, List}
+use Rattle.std.specs.Str.{IsUtf8}
 use Rattle.jh_edn.specs.Edn.{Edn}
 use Rattle.jh_edn.specs.Spelling.{SpellsAll}
 use Rattle.jh_edn.specs.Refused.{RefusesText, IsFirstError}
@@ -10,9 +11,14 @@ use Rattle.jh_ops.specs.HistoryText.{AreParsed, RefusesValues}
 use Rattle.jh_ops.specs.Operation.{Operation}
 use Rattle.jh_ops.specs.declared.history.HistoryError.TheVariants.{Op, OutOfMemory}
 
--- The values that the text spells mean these operations.
+-- The bytes are UTF-8, and these are the values that they spell.
+abbrev pub AreValuesOf : List Edn → List ℕ → Type 0
+AreValuesOf values text = IsUtf8 text × SpellsAll values text
+
+-- The values of the text mean these operations.
 abbrev pub IsHistoryOf : List ℕ → List Operation → Type 0
-IsHistoryOf text history = (values : List Edn) × SpellsAll values text × AreParsed values history
+IsHistoryOf text history =
+    (values : List Edn) × AreValuesOf values text × AreParsed values history
 
 -- Why a text means no history: its first error, wherever it stands; or else the first of its values
 -- that means no operation. Memory may run out in any text.
@@ -20,4 +26,4 @@ abbrev pub RefusesHistoryOf : List ℕ → ReadHistoryError → Type 0
 RefusesHistoryOf text (Text error) = RefusesText text error × IsFirstError text error
 RefusesHistoryOf text (History OutOfMemory) = Unit {0}
 RefusesHistoryOf text (History (Op place refusal)) =
-    (values : List Edn) × SpellsAll values text × RefusesValues values (Op place refusal)
+    (values : List Edn) × AreValuesOf values text × RefusesValues values (Op place refusal)

@@ -44,7 +44,7 @@ returns-in_err-history-clause-refused c =
     let gap = rw c.in_default.is at c.in_ok-value.ensures.none in
     let refusal = c.in_err-history.field-0.0 in
     let are = several_elements so_far.0 so_far.1 in
-    rw (p.1, p.2) (history_refused text so_far.0 so_far.0 c.values.at c.values.parsing refusal are so_far.2 gap c.in_err-history.ensures.parsed so_far.3)
+    rw (p.1, p.2) (history_refused text so_far.0 so_far.0 c.values.at c.values.parsing refusal c.utf8.text are so_far.2 gap c.in_err-history.ensures.parsed so_far.3)
 
 pub returns-clause-parsed : goal.returns-clause-parsed
 returns-clause-parsed c =
@@ -53,4 +53,4 @@ returns-clause-parsed c =
     let gap = rw c.in_default.is at c.in_ok-value.ensures.none in
     let parsed = c.in_ok-history.ensures.parsed in
     let are = several_elements so_far.0 so_far.1 in
-    rw parsed.1 (history_read text so_far.0 so_far.0 c.values.at c.values.parsing are so_far.2 gap parsed.0 so_far.3)
+    rw parsed.1 (history_read text so_far.0 so_far.0 c.values.at c.values.parsing c.utf8.text are so_far.2 gap parsed.0 so_far.3)

@@ -33,7 +33,7 @@ returns-in_err-history-clause-refused c =
     let parsed = q.4 [] c.new-parsing.ensures in
     let gap = rw c.in_default-2.is at c.in_ok-second.ensures.none in
     let are = (sequence_parsed q.0 q.1 q.3).0 in
-    rw (p.1, p.2) (history_refused text (q.0 ∷ []) q.1 c.in-Some.end c.read_sequence.new.sink c.in_err-history.field-0.0 are begun gap c.in_err-history.ensures.parsed parsed)
+    rw (p.1, p.2) (history_refused text (q.0 ∷ []) q.1 c.in-Some.end c.read_sequence.new.sink c.in_err-history.field-0.0 c.utf8.text are begun gap c.in_err-history.ensures.parsed parsed)
 
 pub returns-in_default-2-clause-parsed : goal.returns-in_default-2-clause-parsed
 returns-in_default-2-clause-parsed c =
@@ -44,7 +44,7 @@ returns-in_default-2-clause-parsed c =
     let gap = rw c.in_default-2.is at c.in_ok-second.ensures.none in
     let are = (sequence_parsed q.0 q.1 q.3).0 in
     let parsed = c.in_ok-history.ensures.parsed in
-    rw parsed.1 (history_read text (q.0 ∷ []) q.1 c.in-Some.end c.read_sequence.new.sink are begun gap parsed.0 so_far)
+    rw parsed.1 (history_read text (q.0 ∷ []) q.1 c.in-Some.end c.read_sequence.new.sink c.utf8.text are begun gap parsed.0 so_far)
 
 pub returns-in_default-2-clause-writable : goal.returns-in_default-2-clause-writable
 returns-in_default-2-clause-writable c =

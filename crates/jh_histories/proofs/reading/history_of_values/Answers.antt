@@ -30,7 +30,7 @@ returns-in_err-history_of_one-clause-refused c =
     let first = view c.in-Some.first in
     let begun = one_further text [] 0 first c.in-Some.end (at_start text 0 refl) (rw c.in-Some.is at c.in_ok-first.ensures.some) in
     let gap = rw c.in_default-2.is at c.in_ok-second.ensures.none in
-    rw (p.1, p.2) (one_read_refused text first c.in-Some.end c.in_err-history_of_one.field-0.0 begun gap c.in_err-history_of_one.ensures.parsed)
+    rw (p.1, p.2) (one_read_refused text first c.in-Some.end c.in_err-history_of_one.field-0.0 c.utf8.text begun gap c.in_err-history_of_one.ensures.parsed)
 
 pub returns-in_default-2-clause-parsed : goal.returns-in_default-2-clause-parsed
 returns-in_default-2-clause-parsed c =
@@ -38,7 +38,7 @@ returns-in_default-2-clause-parsed c =
     let first = view c.in-Some.first in
     let begun = one_further text [] 0 first c.in-Some.end (at_start text 0 refl) (rw c.in-Some.is at c.in_ok-first.ensures.some) in
     let gap = rw c.in_default-2.is at c.in_ok-second.ensures.none in
-    (first ∷ [], begun.before [] gap, c.in_ok-history_of_one.ensures.parsed)
+    (first ∷ [], (c.utf8.text, begun.before [] gap), c.in_ok-history_of_one.ensures.parsed)
 
 pub history_behind-requires-clause-begun : goal.history_behind-requires-clause-begun
 history_behind-requires-clause-begun c =
