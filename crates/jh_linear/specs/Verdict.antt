@@ -1,6 +1,6 @@
 -- What the judge's answers say, and why a given order is refused. All of it is this project's own;
 -- what an order is stands in Order.antt.
-use Rattle.std.specs.Prelude.{ℕ, ℤ, Option, List}
+use Rattle.std.specs.Prelude.{ℕ, ◌<◌, ℤ, Option, List}
 use Rattle.jh_linear.specs.declared.order_check.OrderFault.{OrderFault}
 use Rattle.jh_linear.specs.declared.order_check.OrderFault.TheVariants.{NoSuch, Repeat, Failed}
 use Rattle.jh_linear.specs.declared.order_check.OrderFault.TheVariants.{Missing, Precedence}
@@ -18,10 +18,11 @@ abbrev pub HaveNoOrder : List RegOp → Option ℤ → Type 0
 HaveNoOrder ops initial = (order : List ℕ) → IsOrder ops initial order → ⊥
 
 -- Valid: it carries an order. Invalid: there is none, and it says up to where there is one.
--- Unknown: it carries as much as the budget of what was reached.
+-- Unknown: it carries as much as the budget of what was reached. With no budget it is unknown.
 abbrev pub IsJudged : List RegOp → Option ℤ → ℕ → LinVerdict → Type 0
-IsJudged ops initial budget (Valid order) = IsOrder ops initial order
-IsJudged ops initial budget (Invalid stuck) = HaveNoOrder ops initial × IsStuck ops initial stuck
+IsJudged ops initial budget (Valid order) = (0 < budget) × IsOrder ops initial order
+IsJudged ops initial budget (Invalid stuck) =
+    (0 < budget) × HaveNoOrder ops initial × IsStuck ops initial stuck
 IsJudged ops initial budget (Unknown steps) = AreReached ops initial budget steps
 
 -- Why places are refused as an order: the first of its parts, in this order, that does not hold.
