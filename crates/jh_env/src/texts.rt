@@ -6,7 +6,7 @@
 
 ghost use Rattle.std.specs.Prelude.{◌≡◌, [], MatchResult, IfOk};
 ghost use Rattle.jh_edn.specs.View.{view};
-ghost use Rattle.jh_env.specs.Overlay.{StandsFor};
+ghost use Rattle.jh_env.specs.Overlay.{StandsFor, work_of};
 ghost use Rattle.jh_env.specs.TextCells.{IsTextOf};
 ghost use Rattle.jh_env.specs.TextErrors.{RefusesEnvText};
 ghost use Rattle.jh_env.specs.TextWritten.{text_of};
@@ -106,7 +106,7 @@ impl From<StartError> for EnvTextError {
     }
 }
 
-/// The environment that a value is the text of, at its start.
+/// The environment that a value is the text of, at its start: no cell of it has been written.
 ///
 /// Errors, in this order: `NotMap`; `UnknownKey` for a key that is none of the six; `MissingNodes`;
 /// `BadEntry` where a value under a key has not its shape; `NoNodes`, `TooManyNodes`, `BadName`,
@@ -119,7 +119,8 @@ impl From<StartError> for EnvTextError {
 /// nodes have at most 12,224.
 pub fn env_of_value(alloc: Global, value: &Value) -> Result<Env, EnvTextError>
     ensures { MatchResult result
-        (λ env. StandsFor env [] × IsTextOf (view value.now) env.names env.start)
+        (λ env. StandsFor env [] × IsTextOf (view value.now) env.names env.start
+        × (work_of env ≡ 0))
         (RefusesEnvText (view value.now)) }
 {
     let (nodes, pairs) = reading::keys_of(value)?;

@@ -53,4 +53,5 @@ returns c =
         subst (λ ns. AreSound ns shape.entries) (sym kept) sound,
         rw (kept, c.in_ok-start-2.ensures.start.1) parsed,
       ),
+      c.in_ok-start-2.ensures.work,
     )
