@@ -16,8 +16,11 @@ returns-then-is_empty c =
     let none : length c.in_ok-history.history.stages.items ≡ 0 = grind (arith, common_steps) in
     let some : 0 < c.args.budget = grind (arith, common_steps) in
     record {
-      judged = (some, subst (λ o. IsOrder c.args.ops.now c.args.initial o) (sym (c.of-then-is_empty.ensures ∙ c.new-then-is_empty.ensures.items))
-          (empty_order c.args.ops.now c.args.initial (λ p done. let r = c.in_ok-history.ensures.history.each_done p done in omega (arith, r.1, none))));
+      judged = (
+        some,
+        subst (λ o. IsOrder c.args.ops.now c.args.initial o) (sym (c.of-then-is_empty.ensures ∙ c.new-then-is_empty.ensures.items))
+            (empty_order c.args.ops.now c.args.initial (λ p done. let r = c.in_ok-history.ensures.history.each_done p done in omega (arith, r.1, none))),
+      );
     }
 
 pub start-requires-clause-problem : goal.start-requires-clause-problem
@@ -66,10 +69,13 @@ returns-in-Complete c =
     let e = rw c.in-Complete.is at c.in_ok-expand.ensures in
     let some : 0 < c.args.budget = grind (arith, common_steps) in
     record {
-      judged = (some, subst (λ o. IsOrder c.args.ops.now c.args.initial o)
-          (sym (c.of-in-Complete.ensures ∙ c.in_ok-extend_from_slice-in-Complete.ensures.items ∙ ap (λ o. o ++ c.as_slice-in-Complete.result.now) (c.in_ok-order-in-Complete.ensures ∙ ap (λ (ss : List Step). order_at ss c.in-Some.turn.at) c.as_slice.ensures.value)
-          ∙ ap (λ o. order_at c.expand.new.search.steps.items c.in-Some.turn.at ++ o) c.as_slice-in-Complete.ensures.value))
-          (is_order p stood (order_at c.expand.new.search.steps.items c.in-Some.turn.at ++ c.in-Complete.placed.items) e.0));
+      judged = (
+        some,
+        subst (λ o. IsOrder c.args.ops.now c.args.initial o)
+            (sym (c.of-in-Complete.ensures ∙ c.in_ok-extend_from_slice-in-Complete.ensures.items ∙ ap (λ o. o ++ c.as_slice-in-Complete.result.now) (c.in_ok-order-in-Complete.ensures ∙ ap (λ (ss : List Step). order_at ss c.in-Some.turn.at) c.as_slice.ensures.value)
+            ∙ ap (λ o. order_at c.expand.new.search.steps.items c.in-Some.turn.at ++ o) c.as_slice-in-Complete.ensures.value))
+            (is_order p stood (order_at c.expand.new.search.steps.items c.in-Some.turn.at ++ c.in-Complete.placed.items) e.0),
+      );
     }
 
 pub searching-preserved : goal.searching-preserved
