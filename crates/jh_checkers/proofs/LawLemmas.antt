@@ -68,7 +68,7 @@ operations_one history a b x y = somes_one a b (sym x.1 ∙ y.1)
 
 orders_agree : (calls : List RegOp) (initial : Option ℤ) (budget : ℕ) (a b : LinVerdict) → IsJudged calls initial budget a → IsJudged calls initial budget b
     → verdict_of_register a ≡ Verdict.True → verdict_of_register b ≡ Verdict.False → ⊥
-orders_agree calls initial budget (Valid order) (Invalid stuck) x y yes_a no_b = y.0 order x
+orders_agree calls initial budget (Valid order) (Invalid stuck) x y yes_a no_b = y.1 order x.1
 orders_agree calls initial budget (Valid order) (Valid other) x y yes_a no_b = absurd cc
 orders_agree calls initial budget (Valid order) (Unknown reached) x y yes_a no_b = absurd cc
 orders_agree calls initial budget (Invalid stuck) b x y yes_a no_b = absurd cc
@@ -127,7 +127,7 @@ same_stuck : (explain : Bool) (history : List Operation) (calls : List RegOp) (i
     → IsJudged calls initial budget a → IsJudged calls initial budget b → IsExplained explain history calls a d → IsExplained explain history calls b e
     → verdict_of_register a ≡ Verdict.False → verdict_of_register b ≡ Verdict.False → stuck_point d ≡ stuck_point e
 same_stuck true history calls initial budget (Invalid a) (Invalid b) d e x y m n no_a no_b =
-    same_explained history calls a.end b.end d e (same_end calls initial a b x.1 y.1) m n
+    same_explained history calls a.end b.end d e (same_end calls initial a b x.2 y.2) m n
 same_stuck false history calls initial budget (Invalid a) (Invalid b) d e x y m n no_a no_b = ap stuck_point (m ∙ sym n)
 same_stuck explain history calls initial budget (Invalid a) (Valid order) d e x y m n no_a no_b = absurd cc
 same_stuck explain history calls initial budget (Invalid a) (Unknown reached) d e x y m n no_a no_b = absurd cc

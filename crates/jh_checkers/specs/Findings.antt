@@ -1,9 +1,10 @@
 -- What a checker finds in a history, and why it judges none (Jepsen's checkers `set`, `counter`,
 -- `unique-ids` and `linearizable`, and that of jepsen.tests.cycle.append; what each finds stands in
 -- the definitions of its own crate).
-use Rattle.std.specs.Prelude.{◌≡◌, ℕ, List, Option, Some, None}
+use Rattle.std.specs.Prelude.{◌≡◌, ◌⊎◌, ℕ, List, Option, Some, None}
 use Rattle.jh_ops.specs.Operation.{Operation}
 use Rattle.jh_ops.specs.Pairing.{IsWellFormed, RefusesHistory as RefusesPairing, history_pairs}
+use Rattle.jh_ops.specs.declared.pairs.PairError.TheVariants as pair_errors
 use Rattle.jh_check.specs.CounterResults.{IsCountable, RefusesCounter, counter_result}
 use Rattle.jh_check.specs.CounterResults.{error_of_pairing}
 use Rattle.jh_check.specs.IdsResults.{ids_result}
@@ -99,8 +100,8 @@ stuck_point_of finding = None
 
 -- ---- refusals
 
--- A history of a register is refused for its pairs, then for the bad value at the least place. Out
--- of memory has a name of its own.
+-- A history of a register is refused for its pairs, then for the bad value at the least place. Memory
+-- is wanted for the pairs, or where neither is at error.
 abbrev pub RefusesRegister : List Operation → CheckError → Type 0
 RefusesRegister history (Pair error) =
     (error_of_pairing error ≡ Pair error) × RefusesPairing history error
@@ -108,7 +109,9 @@ RefusesRegister history (BadValue place) =
     IsWellFormed history × IsLeastBad history (history_pairs history) (Some place)
 RefusesRegister history (NegativeAdd place) = ⊥
 RefusesRegister history (RepeatedAppend place) = ⊥
-RefusesRegister history OutOfMemory = Unit {0}
+RefusesRegister history OutOfMemory =
+    RefusesPairing history pair_errors.OutOfMemory
+    ⊎ (IsWellFormed history × IsLeastBad history (history_pairs history) None)
 
 -- A history of transactions is refused for its pairs, then for a bad value or a repeated append, at
 -- the least place of all.

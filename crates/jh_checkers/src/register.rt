@@ -38,7 +38,8 @@ fn error_of(error: RegOpsError) -> CheckError
 
 /// What the judge of a register finds in its operations, and the explanation that is asked for.
 ///
-/// Errors: `Pair`, then `BadValue` at the least place of one; `OutOfMemory` may come before either.
+/// Errors: `Pair`, then `BadValue` at the least place of one; `OutOfMemory` for the pairs, or where no
+/// value is bad.
 pub(crate) fn check_register(
     alloc: Global,
     history: &[Op],
