@@ -15,7 +15,8 @@ use Rattle.jh_settings.specs.declared.choices.Mode.{Mode}
 use Rattle.jh_settings.specs.Keys.{HasKnownKeys, data_under, is_key_name, run_keys}
 use Rattle.jh_settings.specs.Kinds.{choice_in, needed_value, whole_number_in}
 use Rattle.jh_settings.specs.Parsed.{store_of, mode_of, is_register, initial_of, parsed_store, parsed_workload, parsed_clients, parsed_ops, parsed_mode, parsed_volatile, parsed_initial, parsed_tick_every, parsed_rows, parsed_seed, parsed_budget}
-use Rattle.jh_settings_texts.specs.DocumentWritten.{document_of, keyed_members, members_before_initial, initial_member, members_behind_initial, store_name, printed_text, whole_number, schedule_texts}
+use Rattle.jh_settings_texts.specs.DocumentWritten.{document_of, keyed_members, members_before_initial, initial_member, members_behind_initial, store_name, printed_text, whole_number, schedule_texts, spread_texts, schedule_document}
+use Rattle.jh_settings_texts.specs.declared.schedule.Spread.{Spread}
 
 -- the document, with this held at first
 abbrev pub document_with : PlanValue → ℕ → Option ℤ → Members
@@ -160,25 +161,33 @@ module _ (p : PlanValue) (budget : ℕ) where
 
 -- ---- what the printer and the reader of TOML ask
 
-texts_depth : (names : List (List ℕ)) (schedule : List Entry) → items_depth (schedule_texts names schedule) ≡ 0
-texts_depth names [] = refl
-texts_depth names (entry ∷ entries) = rw (texts_depth names entries) refl
+texts_depth : (names : List (List ℕ)) (spread : Option Spread) (schedule : List Entry) → items_depth (spread_texts names spread schedule) ≡ 0
+texts_depth names spread [] = refl
+texts_depth names spread (entry ∷ entries) = rw (texts_depth names spread entries) refl
 
-texts_dates : (names : List (List ℕ)) (schedule : List Entry) → items_have_valid_dates (schedule_texts names schedule) ≡ true
-texts_dates names [] = refl
-texts_dates names (entry ∷ entries) = texts_dates names entries
+texts_dates : (names : List (List ℕ)) (spread : Option Spread) (schedule : List Entry) → items_have_valid_dates (spread_texts names spread schedule) ≡ true
+texts_dates names spread [] = refl
+texts_dates names spread (entry ∷ entries) = texts_dates names spread entries
+
+pub shallow_schedule : (names : List (List ℕ)) (spread : Option Spread) (schedule : List Entry) → members_depth (schedule_document names spread schedule) ≤ 80
+shallow_schedule names spread schedule =
+    let one : members_depth (schedule_document names spread schedule) ≡ 1 = rw (texts_depth names spread schedule) refl in
+    subst (λ d. d ≤ 80) (sym one) (omega arith)
+
+pub schedule_dates : (names : List (List ℕ)) (spread : Option Spread) (schedule : List Entry) → members_have_valid_dates (schedule_document names spread schedule) ≡ true
+schedule_dates names spread schedule = rw (texts_dates names spread schedule) refl
 
 module _ (p : PlanValue) (budget : ℕ) where
   depth_with : (o : Option ℤ) → members_depth (document_with p budget o) ≡ 1
-  depth_with None = rw (texts_depth p.env.names p.schedule) refl
-  depth_with (Some z) = rw (texts_depth p.env.names p.schedule) refl
+  depth_with None = rw (texts_depth p.env.names None p.schedule) refl
+  depth_with (Some z) = rw (texts_depth p.env.names None p.schedule) refl
 
   pub shallow_document : members_depth (document_of p budget) ≤ 80
   shallow_document = subst (λ d. d ≤ 80) (sym (depth_with p.settings.initial)) (omega arith)
 
   dates_with : (o : Option ℤ) → members_have_valid_dates (document_with p budget o) ≡ true
-  dates_with None = rw (texts_dates p.env.names p.schedule) refl
-  dates_with (Some z) = rw (texts_dates p.env.names p.schedule) refl
+  dates_with None = rw (texts_dates p.env.names None p.schedule) refl
+  dates_with (Some z) = rw (texts_dates p.env.names None p.schedule) refl
 
   pub document_dates : members_have_valid_dates (document_of p budget) ≡ true
   document_dates = dates_with p.settings.initial

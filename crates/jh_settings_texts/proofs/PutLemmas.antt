@@ -4,7 +4,7 @@ use Rattle.std.specs.Prelude.{ℤ}
 use Rattle.std.specs.BTreeMap.{insert_entry}
 use Rattle.std.specs.Ordering.{match_ordering}
 use Rattle.std.specs.String.{string_cmp}
-use Rattle.toml.specs.Data.{Members, no_members, member, string, boolean, item, push_item}
+use Rattle.toml.specs.Data.{Members, no_members, member, array, string, boolean, item, push_item}
 use Rattle.toml.specs.View.{view, items_view, members_view}
 use Rattle.toml.proofs.Views.{items_view-push}
 use Rattle.std.proofs.lemmas.List.{take_more}
@@ -12,7 +12,8 @@ use Rattle.jh_simnode.specs.declared.schedule.Entry.{Entry}
 use Rattle.toml.specs.declared.value.Value.{Value}
 use Rattle.jh_simnode.specs.Plans.{PlanValue}
 use Rattle.jh_settings.specs.declared.keys.Key.{Key}
-use Rattle.jh_settings_texts.specs.DocumentWritten.{document_of, whole_number, printed_text, entry_value, schedule_texts}
+use Rattle.jh_settings_texts.specs.DocumentWritten.{document_of, whole_number, printed_text, spread_value, spread_texts, schedule_document}
+use Rattle.jh_settings_texts.specs.declared.schedule.Spread.{Spread}
 use Rattle.jh_settings_texts.specs.TableInside.{put_member, put_cluster, put_initial, put_load, put_limits, put_schedule, put_key}
 use Rattle.jh_settings_texts.proofs.MemberLemmas.{document_with}
 
@@ -48,13 +49,19 @@ put_all p budget = put_with p budget p.settings.initial
 
 -- ---- the schedule
 
-pub texts_push : (names : List (List ℕ)) (xs : List Entry) (x : Entry) → schedule_texts names (xs ++ x ∷ []) ≡ push_item (schedule_texts names xs) (printed_text (entry_value names x))
-texts_push names [] x = refl
-texts_push names (y ∷ ys) x = ap (item (printed_text (entry_value names y))) (texts_push names ys x)
+pub texts_push : (names : List (List ℕ)) (spread : Option Spread) (xs : List Entry) (x : Entry)
+    → spread_texts names spread (xs ++ x ∷ []) ≡ push_item (spread_texts names spread xs) (printed_text (spread_value names spread x))
+texts_push names spread [] x = refl
+texts_push names spread (y ∷ ys) x = ap (item (printed_text (spread_value names spread y))) (texts_push names spread ys x)
 
 -- one more text is put behind those of the entries before
-pub text_pushed : (names : List (List ℕ)) (xs : List Entry) (i : ℕ) (x : Entry) (values : List Value) (value : Value) → i < length xs → x ≡ get_or xs i x
-    → items_view values ≡ schedule_texts names (take i xs) → view value ≡ printed_text (entry_value names x) → items_view (values ++ value ∷ []) ≡ schedule_texts names (take (i + 1) xs)
-text_pushed names xs i x values value below is so_far here =
-    items_view-push values value ∙ ap₂ push_item so_far here ∙ sym (texts_push names (take i xs) x)
-    ∙ ap (λ y. schedule_texts names (take i xs ++ y ∷ [])) is ∙ ap (schedule_texts names) (sym (take_more xs i x below))
+pub text_pushed : (names : List (List ℕ)) (spread : Option Spread) (xs : List Entry) (i : ℕ) (x : Entry) (values : List Value) (value : Value) → i < length xs → x ≡ get_or xs i x
+    → items_view values ≡ spread_texts names spread (take i xs) → view value ≡ printed_text (spread_value names spread x)
+    → items_view (values ++ value ∷ []) ≡ spread_texts names spread (take (i + 1) xs)
+text_pushed names spread xs i x values value below is so_far here =
+    items_view-push values value ∙ ap₂ push_item so_far here ∙ sym (texts_push names spread (take i xs) x)
+    ∙ ap (λ y. spread_texts names spread (take i xs ++ y ∷ [])) is ∙ ap (spread_texts names spread) (sym (take_more xs i x below))
+
+-- a schedule alone
+pub put_alone : (names : List (List ℕ)) (spread : Option Spread) (schedule : List Entry) → put_key Key.Schedule (array (spread_texts names spread schedule)) no_members ≡ schedule_document names spread schedule
+put_alone names spread schedule = refl

@@ -1,15 +1,17 @@
 -- The document that is written of a plan means that plan, with the faults of its schedule in order.
-use Rattle.std.proofs.Common.{ℕ, ◌≤◌, List, [], ◌∷◌, map, length, refl, sym, subst, le-leb, arith}
-use Rattle.std.specs.Prelude.{pos, FitsSigned}
+use Rattle.std.proofs.Common.{◌≡◌, ℕ, true, ◌*◌, ◌/◌, ◌^◌, ◌≤◌, ◌<◌, List, [], ◌∷◌, map, length, codes, Option, Some, None, refl, sym, subst, le-leb, arith}
+use Rattle.std.specs.Prelude.{pos, FitsSigned, IfSome}
 use Rattle.std.specs.Int.{w64}
 use Rattle.std.specs.List.{AllByRecursion}
 use Rattle.std.specs.Str.{IsUtf8}
+use Rattle.std.proofs.Math.Nat.{div-le_self, mul-le-mul}
 use Rattle.std.proofs.lemmas.List.{length-map}
 use Rattle.std.proofs.lemmas.List.Elements.{All-map, All-weaker, recursion_from_All}
 use Rattle.jh_edn.specs.Edn.{Edn}
 use Rattle.jh_edn.specs.Print.{print}
 use Rattle.jh_edn.specs.Printable.{IsPrintable}
-use Rattle.jh_edn.specs.Spelling.{depth_limit}
+use Rattle.jh_edn.specs.Spelling.{depth_limit, is_name}
+use Rattle.jh_edn.specs.Bytes.{is_first, is_symbol, is_digit}
 use Rattle.jh_edn.proofs.PrintedBackLemmas.{printed_spells}
 use Rattle.jh_env.specs.Names.{AreNodeNames}
 use Rattle.jh_env.specs.Overlay.{EnvValue}
@@ -30,10 +32,11 @@ use Rattle.jh_settings.specs.Settings.{AreSettings}
 use Rattle.jh_laws.specs.StepLines.{IsStepOver, step_in_order}
 use Rattle.jh_laws.proofs.EnvironmentLemmas.{environment_printable}
 use Rattle.jh_laws.proofs.StepLemmas.{step_again, step_prints}
-use Rattle.jh_settings_texts.specs.DocumentWritten.{document_of, printed_text, entry_value, schedule_texts}
+use Rattle.jh_settings_texts.specs.DocumentWritten.{document_of, printed_text, entry_value, schedule_texts, spread_value}
+use Rattle.jh_settings_texts.specs.declared.schedule.Spread.{Spread}
 use Rattle.jh_settings_texts.specs.SettingsWritten.{CanBeWritten, entry_in_order, plan_in_order}
 use Rattle.jh_settings_texts.specs.TableInside.{IsWhollyKnown}
-use Rattle.jh_settings_texts.proofs.AsciiLemmas.{HasAscii, printed_utf8}
+use Rattle.jh_settings_texts.proofs.AsciiLemmas.{HasAscii, printed_utf8, tested}
 use Rattle.jh_settings_texts.proofs.NameAsciiLemmas.{names_ascii, step_ascii, environment_ascii}
 use Rattle.jh_settings_texts.proofs.ShallowLemmas.{step_within}
 use Rattle.jh_settings_texts.proofs.StartTextLemmas.{start_text}
@@ -48,17 +51,37 @@ printed_element x printable = (print x, refl, printed_spells x printable)
 few_fits : (n : ℕ) → n ≤ 10000 → FitsSigned w64 (pos n)
 few_fits n h = record { sfits = omega (arith, h) }
 
+ms_is : is_name (codes "ms") ≡ true
+unfolding is_name is_first is_symbol is_digit
+ms_is = refl
+
+-- times have 64 bits
+pub time_fits : (at calls ms : ℕ) → at ≤ 10000 → 0 < calls → ms < 2 ^ 32 → FitsSigned w64 (pos (at * ms / calls))
+time_fits at calls ms due some few =
+    let quotient : at * ms / calls ≤ at * ms = div-le_self (at * ms) calls in
+    let below : ms ≤ 2 ^ 32 = omega (arith, few) in
+    let product : at * ms ≤ 10000 * 2 ^ 32 = mul-le-mul due below in
+    record { sfits = omega (arith, quotient, product) }
+
+spread_printable : (names : List (List ℕ)) → AreNodeNames names → (spread : Option Spread) → IfSome spread (λ s. 0 < s.calls) → IfSome spread (λ s. s.milliseconds < 2 ^ 32)
+    → (entry : Entry) → entry.at ≤ 10000 → IsStepOver (length names) entry.step → IsPrintable depth_limit (spread_value names spread entry)
+spread_printable names named None some few entry due over =
+    (omega arith, (few_fits entry.at due, (step_within names entry.step (step_prints names named entry.step over), tt)))
+spread_printable names named (Some spread) some few entry due over =
+    (omega arith, ((omega arith, (ms_is, (time_fits entry.at spread.calls spread.milliseconds due some few, tt))), (step_within names entry.step (step_prints names named entry.step over), tt)))
+
+spread_ascii : (names : List (List ℕ)) → AreNodeNames names → (spread : Option Spread) (entry : Entry) → HasAscii (spread_value names spread entry)
+spread_ascii names named None entry = (tt, (step_ascii names (names_ascii names named) entry.step, tt))
+spread_ascii names named (Some spread) entry = ((tested (codes "ms") refl, (tt, tt)), (step_ascii names (names_ascii names named) entry.step, tt))
+
+pub spread_utf8 : (names : List (List ℕ)) → AreNodeNames names → (spread : Option Spread) → IfSome spread (λ s. 0 < s.calls) → IfSome spread (λ s. s.milliseconds < 2 ^ 32)
+    → (entry : Entry) → entry.at ≤ 10000 → IsStepOver (length names) entry.step → IsUtf8 (print (spread_value names spread entry))
+spread_utf8 names named spread some few entry due over = printed_utf8 (spread_value names spread entry) depth_limit (spread_printable names named spread some few entry due over) (spread_ascii names named spread entry)
+
 pub entry_printable : (names : List (List ℕ)) → AreNodeNames names → (entry : Entry) → entry.at ≤ 10000 → IsStepOver (length names) entry.step
     → IsPrintable depth_limit (entry_value names entry)
 entry_printable names named entry due over =
     (omega arith, (few_fits entry.at due, (step_within names entry.step (step_prints names named entry.step over), tt)))
-
-pub entry_ascii : (names : List (List ℕ)) → AreNodeNames names → (entry : Entry) → HasAscii (entry_value names entry)
-entry_ascii names named entry = (tt, (step_ascii names (names_ascii names named) entry.step, tt))
-
-pub entry_utf8 : (names : List (List ℕ)) → AreNodeNames names → (entry : Entry) → entry.at ≤ 10000 → IsStepOver (length names) entry.step
-    → IsUtf8 (print (entry_value names entry))
-entry_utf8 names named entry due over = printed_utf8 (entry_value names entry) depth_limit (entry_printable names named entry due over) (entry_ascii names named entry)
 
 entry_back : (names : List (List ℕ)) → AreNodeNames names → (entry : Entry) → entry.at ≤ 10000 → IsStepOver (length names) entry.step
     → IsParsedEntry names (printed_text (entry_value names entry)) (entry_in_order entry)

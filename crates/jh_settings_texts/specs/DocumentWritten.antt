@@ -1,10 +1,11 @@
--- The TOML document that is written of a plan (this project's own; the keys and the kinds of value
--- are those of the settings of a run).
-use Rattle.std.specs.Prelude.{ℕ, ℤ, pos, List, [], ◌∷◌, ◌++◌, map, codes, Option, Some, None}
+-- The TOML document that is written of a plan, and that of a schedule alone (this project's own; the keys and
+-- the kinds of value are those of the settings of a run, and for times those of the settings of a test).
+use Rattle.std.specs.Prelude.{ℕ, ◌*◌, ◌/◌, ℤ, pos, List, [], ◌∷◌, ◌++◌, map, codes, Option, Some}
+use Rattle.std.specs.Prelude.{None}
 use Rattle.toml.specs.Data.{Data, string, integer, boolean, array, Items, Members, no_members}
 use Rattle.toml.specs.Data.{member}
 use Rattle.toml.specs.View.{items_of as data_items}
-use Rattle.jh_edn.specs.Edn.{Edn, int, vector, items_of}
+use Rattle.jh_edn.specs.Edn.{Edn, int, keyword, vector, items_of}
 use Rattle.jh_edn.specs.Print.{print}
 use Rattle.jh_env.specs.TextWritten.{text_of}
 use Rattle.jh_step_texts.specs.StepWritten.{text_of_step}
@@ -15,6 +16,7 @@ use Rattle.jh_simnode.specs.declared.schedule.Entry.{Entry}
 use Rattle.jh_simnode.specs.Plans.{PlanValue}
 use Rattle.jh_settings.specs.declared.keys.Key.{Key}
 use Rattle.jh_settings.specs.Keys.{key_name}
+use Rattle.jh_settings_texts.specs.declared.schedule.Spread.{Spread}
 
 -- the name by which a store is chosen
 abbrev pub store_name : Store → List ℕ
@@ -30,15 +32,30 @@ printed_text x = string (print x)
 abbrev pub whole_number : ℕ → Data
 whole_number n = integer (pos n)
 
+-- AT: after so many answered calls; or at a time, in milliseconds, where so many calls are spread over
+-- so much time
+abbrev pub due_value : Option Spread → ℕ → Edn
+due_value None at = int (pos at)
+due_value (Some spread) at =
+    vector (items_of
+    (keyword (codes "ms") ∷ int (pos (at * spread.milliseconds / spread.calls)) ∷ []))
+
 -- the value of an entry: AT and STEP, over nodes of these names
+abbrev pub spread_value : List (List ℕ) → Option Spread → Entry → Edn
+spread_value names spread entry =
+    vector (items_of (due_value spread entry.at ∷ text_of_step names entry.step ∷ []))
+
+-- the same as settings of a run have it
 abbrev pub entry_value : List (List ℕ) → Entry → Edn
-entry_value names entry =
-    vector (items_of (int (pos entry.at) ∷ text_of_step names entry.step ∷ []))
+entry_value names entry = spread_value names None entry
 
 -- the text of each entry, in order
+abbrev pub spread_texts : List (List ℕ) → Option Spread → List Entry → Items
+spread_texts names spread schedule =
+    data_items (map (λ entry. printed_text (spread_value names spread entry)) schedule)
+
 abbrev pub schedule_texts : List (List ℕ) → List Entry → Items
-schedule_texts names schedule =
-    data_items (map (λ entry. printed_text (entry_value names entry)) schedule)
+schedule_texts names schedule = spread_texts names None schedule
 
 -- keys and what stands under them
 abbrev pub keyed_members : List (Key × Data) → Members
@@ -77,3 +94,8 @@ document_of p budget =
     keyed_members
     (members_before_initial p budget
     ++ (initial_member p.settings.initial ++ members_behind_initial p))
+
+-- the document of a schedule alone
+abbrev pub schedule_document : List (List ℕ) → Option Spread → List Entry → Members
+schedule_document names spread schedule =
+    keyed_members ((Key.Schedule, array (spread_texts names spread schedule)) ∷ [])

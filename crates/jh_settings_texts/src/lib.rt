@@ -5,6 +5,7 @@
 mod comments;
 mod depth;
 mod printing;
+mod schedule;
 mod settings;
 mod start;
 mod steps;
@@ -12,4 +13,5 @@ mod table;
 
 pub use comments::settings_behind;
 pub use printing::value_of_entry;
+pub use schedule::{Spread, schedule_to_text};
 pub use settings::{can_be_written, settings_to_text};

@@ -1,7 +1,7 @@
 //! What is printed of the start, of the generator and of the entries of a schedule, each a text
 //! that settings have.
 
-ghost use Rattle.std.specs.Prelude.{◌≡◌, ◌≤◌, Some, IfOk, length, string_bytes};
+ghost use Rattle.std.specs.Prelude.{◌≡◌, ◌≤◌, ◌<◌, Some, IfOk, IfSome, length, string_bytes};
 ghost use Rattle.std.specs.Str.{IsUtf8};
 ghost use Rattle.jh_edn.specs.Print.{print};
 ghost use Rattle.jh_edn.specs.Printable.{IsPrintable};
@@ -15,9 +15,10 @@ ghost use Rattle.jh_gen.specs.GeneratorText.{parsed_generator};
 ghost use Rattle.jh_gen.specs.View.{generator_of};
 ghost use Rattle.jh_gen_texts.specs.GeneratorWritten.{text_of_generator};
 ghost use Rattle.jh_laws.specs.StepLines.{IsStepOver};
-ghost use Rattle.jh_settings_texts.specs.DocumentWritten.{entry_value};
+ghost use Rattle.jh_settings_texts.specs.DocumentWritten.{entry_value, spread_value};
 ghost use Rattle.jh_settings_texts.specs.SettingsWritten.{LeadsToOthers};
 
+use crate::schedule::{Spread, due};
 use crate::steps::step_has_text;
 use jh_edn::{Value, Values, write};
 use jh_env::{Env, Nodes, value_of_env};
@@ -71,23 +72,43 @@ pub fn value_of_entry(alloc: Global, nodes: &Nodes, entry: &Entry) -> Result<Val
     requires { FitsNodes (length nodes.now) entry.now.step }
     ensures { IfOk result (λ value. view value ≡ entry_value nodes.now entry.now) }
 {
+    spread_entry(alloc, nodes, entry, None)
+}
+
+/// The value of an entry, where calls may be spread over time.
+fn spread_entry(
+    alloc: Global,
+    nodes: &Nodes,
+    entry: &Entry,
+    spread: Option<Spread>,
+) -> Result<Value, AllocError>
+    requires fits { FitsNodes (length nodes.now) entry.now.step }
+    requires some { IfSome spread (λ s. (0 < s.calls) × (entry.now.at ≤ 10000)) }
+    ensures { IfOk result (λ value. view value ≡ spread_value nodes.now spread entry.now) }
+{
     let mut parts = Vec::new(alloc);
-    parts.push(Value::Int(i64::from(entry.at)))?;
+    parts.push(due(alloc, entry.at, spread)?)?;
     parts.push(value_of_step(alloc, nodes, &entry.step)?)?;
     Ok(Value::Vector(Values::of(parts)))
 }
 
 /// What is printed of an entry over these nodes, whose step has a text over them.
-pub(crate) fn entry_text(alloc: Global, nodes: &Nodes, entry: &Entry) -> Result<String, AllocError>
+pub(crate) fn entry_text(
+    alloc: Global,
+    nodes: &Nodes,
+    entry: &Entry,
+    spread: Option<Spread>,
+) -> Result<String, AllocError>
     requires named { AreNodeNames nodes.now }
     requires fits { FitsNodes (length nodes.now) entry.now.step }
     requires due { entry.now.at ≤ 10000 }
     requires others { LeadsToOthers entry.now.step }
+    requires some { IfSome spread (λ s. 0 < s.calls) }
     ensures text { IfOk result
-        (λ text. string_bytes text ≡ print (entry_value nodes.now entry.now)) }
+        (λ text. string_bytes text ≡ print (spread_value nodes.now spread entry.now)) }
     ensures over { IfOk result (λ _. IsStepOver (length nodes.now) entry.now.step) }
 {
     step_has_text(nodes, &entry.step);
-    let value = value_of_entry(alloc, nodes, entry)?;
+    let value = spread_entry(alloc, nodes, entry, spread)?;
     printed(alloc, &value)
 }

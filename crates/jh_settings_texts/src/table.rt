@@ -1,6 +1,6 @@
 //! The table of the settings of a plan, group by group of keys.
 
-ghost use Rattle.std.specs.Prelude.{◌≡◌, ◌<◌, ◌≤◌, ◌^◌, pos, Some, All, IfOk, OnOk, length};
+ghost use Rattle.std.specs.Prelude.{◌≡◌, ◌<◌, ◌≤◌, ◌^◌, pos, Some, All, IfOk, IfSome, OnOk, length};
 ghost use Rattle.toml.specs.Data.{array, string};
 ghost use Rattle.toml.specs.View as toml;
 ghost use Rattle.toml.specs.View.{table_view};
@@ -15,13 +15,14 @@ ghost use Rattle.jh_gen_texts.specs.GeneratorWritten.{text_of_generator};
 ghost use Rattle.jh_simnode.specs.Plans.{IsKeptPlan};
 ghost use Rattle.jh_laws.specs.StepLines.{IsStepOver};
 ghost use Rattle.jh_settings_texts.specs.DocumentWritten as document;
-ghost use Rattle.jh_settings_texts.specs.DocumentWritten.{document_of, schedule_texts};
-ghost use Rattle.jh_settings_texts.specs.DocumentWritten.{whole_number};
+ghost use Rattle.jh_settings_texts.specs.DocumentWritten.{document_of, schedule_document};
+ghost use Rattle.jh_settings_texts.specs.DocumentWritten.{spread_texts, whole_number};
 ghost use Rattle.jh_settings_texts.specs.SettingsWritten.{CanBeWritten, LeadsToOthers};
 ghost use Rattle.jh_settings_texts.specs.TableInside as inside;
 ghost use Rattle.jh_settings_texts.specs.TableInside.{IsWhollyKnown, put_key};
 
 use crate::printing::{entry_text, generator_text, start_text};
+use crate::schedule::Spread;
 use jh_env::Nodes;
 use jh_ops::Workload;
 use jh_settings::Key;
@@ -137,20 +138,26 @@ fn put_limits(alloc: Global, table: &mut Table, plan: &Plan, budget: u64) -> Res
     put_number(alloc, table, Key::Budget, budget)
 }
 
-/// What is printed of each entry over these nodes.
-fn entry_texts(alloc: Global, nodes: &Nodes, entries: &[Entry]) -> Result<Vec<Value>, AllocError>
+/// What is printed of each entry over these nodes, where calls may be spread over time.
+fn entry_texts(
+    alloc: Global,
+    nodes: &Nodes,
+    entries: &[Entry],
+    spread: Option<Spread>,
+) -> Result<Vec<Value>, AllocError>
+    requires some { IfSome spread (λ s. 0 < s.calls) }
     requires named { AreNodeNames nodes.now }
     requires fit { All (λ entry. FitsNodes (length nodes.now) entry.step) entries.now }
     requires due { All (λ entry. entry.at ≤ 10000) entries.now }
     requires others { All (λ entry. LeadsToOthers entry.step) entries.now }
     ensures texts { IfOk result
-        (λ values. toml.items_view values.items ≡ schedule_texts nodes.now entries.now) }
+        (λ values. toml.items_view values.items ≡ spread_texts nodes.now spread entries.now) }
     ensures over { IfOk result
         (λ _. All (λ entry. IsStepOver (length nodes.now) entry.step) entries.now) }
 {
     let mut values = Vec::new(alloc);
     for entry in entries {
-        values.push(Value::from(entry_text(alloc, nodes, entry)?))?;
+        values.push(Value::from(entry_text(alloc, nodes, entry, spread)?))?;
     }
     Ok(values)
 }
@@ -171,8 +178,29 @@ fn put_schedule(
     ensures over { IfOk result
         (λ _. All (λ entry. IsStepOver (length plan.now.env.names) entry.step) plan.now.schedule) }
 {
-    let values = entry_texts(alloc, nodes, plan.schedule().entries())?;
+    let values = entry_texts(alloc, nodes, plan.schedule().entries(), None)?;
     put(alloc, table, Key::Schedule, Value::Array(values))
+}
+
+/// The table of a schedule alone.
+pub(crate) fn schedule_table(
+    alloc: Global,
+    nodes: &Nodes,
+    entries: &[Entry],
+    spread: Option<Spread>,
+) -> Result<Table, AllocError>
+    requires some { IfSome spread (λ s. 0 < s.calls) }
+    requires named { AreNodeNames nodes.now }
+    requires fit { All (λ entry. FitsNodes (length nodes.now) entry.step) entries.now }
+    requires due { All (λ entry. entry.at ≤ 10000) entries.now }
+    requires others { All (λ entry. LeadsToOthers entry.step) entries.now }
+    ensures { IfOk result
+        (λ table. table_view table ≡ schedule_document nodes.now spread entries.now) }
+{
+    let values = entry_texts(alloc, nodes, entries, spread)?;
+    let mut table = Table::new(alloc);
+    put(alloc, &mut table, Key::Schedule, Value::Array(values))?;
+    Ok(table)
 }
 
 /// The table of the settings of a plan that can be written, and of a budget.

@@ -17,6 +17,6 @@ loop-entry-preserved c =
     let here : P (get_or xs i x) = subst P c.entry-item.is c.in_ok-entry_text.ensures.over in
     let text = c.from.ensures ∙ ap string c.in_ok-entry_text.ensures.text in
     record {
-      texts = rw c.in_ok-push.ensures.items (text_pushed names xs i x c.loop-entry.values.items c.from.result c.loop-entry-test.true c.entry-item.is c.loop-entry.invariant.texts text);
+      texts = rw c.in_ok-push.ensures.items (text_pushed names c.args.spread xs i x c.loop-entry.values.items c.from.result c.loop-entry-test.true c.entry-item.is c.loop-entry.invariant.texts text);
       over = subst (All P) (sym (take_more xs i x c.loop-entry-test.true)) (All-push P (take i xs) (get_or xs i x) c.loop-entry.invariant.over here);
     }
