@@ -26,14 +26,14 @@ none_refused (op ∷ ops) (suc place) why is = none_refused ops place why is
 -- what the text holds is no history
 pub means_none : (text : List ℕ) (error : ReadHistoryError) → ((t : List ℕ) (xs ys : List Edn) → SpellsAll xs t → SpellsAll ys t → xs ≡ ys) → (IsOfBytes error → ⊥) → RefusesHistoryOf text error
     → IsNoHistory text
-means_none text (Text (UnexpectedEnd line)) once other refused = λ history parsed. refused.0.1 parsed.0 parsed.1
-means_none text (Text (BadToken line)) once other refused = λ history parsed. refused.0.1 parsed.0 parsed.1
-means_none text (Text (FloatUnsupported line)) once other refused = λ history parsed. refused.0.1 parsed.0 parsed.1
-means_none text (Text (IntegerRange line)) once other refused = λ history parsed. refused.0.1 parsed.0 parsed.1
-means_none text (Text (BadEscape line)) once other refused = λ history parsed. refused.0.1 parsed.0 parsed.1
-means_none text (Text (OddMap line)) once other refused = λ history parsed. refused.0.1 parsed.0 parsed.1
-means_none text (Text (DuplicateKey line)) once other refused = λ history parsed. refused.0.1 parsed.0 parsed.1
-means_none text (Text (TooDeep line)) once other refused = λ history parsed. refused.0.1 parsed.0 parsed.1
+means_none text (Text (UnexpectedEnd line)) once other refused = λ history parsed. refused.0.1 parsed.0 parsed.1.1
+means_none text (Text (BadToken line)) once other refused = λ history parsed. refused.0.1 parsed.0 parsed.1.1
+means_none text (Text (FloatUnsupported line)) once other refused = λ history parsed. refused.0.1 parsed.0 parsed.1.1
+means_none text (Text (IntegerRange line)) once other refused = λ history parsed. refused.0.1 parsed.0 parsed.1.1
+means_none text (Text (BadEscape line)) once other refused = λ history parsed. refused.0.1 parsed.0 parsed.1.1
+means_none text (Text (OddMap line)) once other refused = λ history parsed. refused.0.1 parsed.0 parsed.1.1
+means_none text (Text (DuplicateKey line)) once other refused = λ history parsed. refused.0.1 parsed.0 parsed.1.1
+means_none text (Text (TooDeep line)) once other refused = λ history parsed. refused.0.1 parsed.0 parsed.1.1
 means_none text (Text Utf8) once other refused = absurd (other tt)
 means_none text (Text TooLong) once other refused = absurd (other tt)
 means_none text (Text Read) once other refused = absurd (other tt)
@@ -41,7 +41,7 @@ means_none text (Text Write) once other refused = absurd refused.0
 means_none text (Text edn.OutOfMemory) once other refused = absurd (other tt)
 means_none text (History OutOfMemory) once other refused = absurd (other tt)
 means_none text (History (Op place why)) once other refused = λ history parsed.
-    let same : refused.0 ≡ parsed.0 = once text refused.0 parsed.0 refused.1 parsed.1 in
+    let same : refused.0 ≡ parsed.0 = once text refused.0 parsed.0 refused.1.1 parsed.1.1 in
     none_refused history place why
     (ap (λ rs. slice_get rs place) (sym parsed.2) ∙ ap (λ (vs : List Edn). slice_get (parsed_elements vs) place) (sym same) ∙ refused.2.0)
 
