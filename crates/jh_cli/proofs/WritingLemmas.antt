@@ -11,6 +11,11 @@ pub on_input : (fact result : List ℕ → Type 0) (known : Option (List ℕ)) �
 on_input fact result None follows given = tt
 on_input fact result (Some input) follows given = follows input given
 
+-- two facts on the input are one
+pub both_on_input : (one other : List ℕ → Type 0) (known : Option (List ℕ)) → IfSome known one → IfSome known other → IfSome known (λ input. one input × other input)
+both_on_input one other None first second = tt
+both_on_input one other (Some input) first second = (first, second)
+
 -- an output that goes with the input was written whole
 pub output_written : (IsText : List ℕ → ℕ → List ℕ → Type 0) (known before after : Option (List ℕ)) (result : Result ℕ CliError) (status : ℕ) (text : List ℕ)
     → IfSome known (λ input. IsText input status text) → IfOk result (λ s. s ≡ status) → OnOk result (Appends before after text)

@@ -2,8 +2,8 @@
 -- or a history that the checker cannot judge. Each is looked at only where all before it is right.
 use Rattle.std.specs.Prelude.{◌≡◌, ℕ, Bool, true, false, List}
 use Rattle.jh_edn.specs.Edn.{Edn}
-use Rattle.jh_edn.specs.Spelling.{SpellsAll}
 use Rattle.jh_edn.specs.Refused as edn
+use Rattle.jh_histories.specs.Histories.{AreValuesOf}
 use Rattle.jh_ops.specs.Operation.{Operation}
 use Rattle.jh_ops.specs.HistoryText as histories
 use Rattle.jh_check.specs.declared.error.CheckError.{CheckError}
@@ -65,4 +65,4 @@ RefusesCheck question input Write =
     (status : ℕ) × (output : List ℕ) × IsCheckTextOf question input status output
 RefusesCheck question input OutOfMemory = Unit {0}
 RefusesCheck question input e =
-    (values : List Edn) × SpellsAll values input × RefusesCheckValues question values e
+    (values : List Edn) × AreValuesOf values input × RefusesCheckValues question values e

@@ -3,7 +3,7 @@
 -- list-append, and jepsen.independent).
 use Rattle.std.specs.Prelude.{ℕ, ℤ, List, Option, Some, None}
 use Rattle.jh_edn.specs.Edn.{Edn}
-use Rattle.jh_edn.specs.Spelling.{SpellsAll}
+use Rattle.jh_histories.specs.Histories.{AreValuesOf}
 use Rattle.jh_ops.specs.Operation.{Operation}
 use Rattle.jh_ops.specs.HistoryText.{AreParsed}
 use Rattle.jh_checkers.specs.declared.checker.Checker.{Checker}
@@ -36,7 +36,7 @@ IsCheckText question values status output =
     (history : List Operation) × AreParsed values history
     × IsHistoryText question history status output
 
--- for an input: its values are those that it spells
+-- for an input, which is UTF-8: its values are those that it spells
 abbrev pub IsCheckTextOf : Question → List ℕ → ℕ → List ℕ → Type 0
 IsCheckTextOf question input status output =
-    (values : List Edn) × SpellsAll values input × IsCheckText question values status output
+    (values : List Edn) × AreValuesOf values input × IsCheckText question values status output

@@ -3,11 +3,11 @@
 -- before it is right.
 use Rattle.std.specs.Prelude.{◌≡◌, ℕ, ◌+◌, List, [], ◌∷◌, ◌++◌, length, map, Ok, Err}
 use Rattle.jh_edn.specs.Edn.{Edn}
-use Rattle.jh_edn.specs.Spelling.{SpellsAll}
 use Rattle.jh_edn.specs.Refused as edn
 use Rattle.jh_env.specs.Cells.{Table}
 use Rattle.jh_env.specs.TextCells.{IsTextOf}
 use Rattle.jh_env.specs.TextErrors as env
+use Rattle.jh_histories.specs.Histories.{AreValuesOf}
 use Rattle.jh_step_texts.specs.StepText.{parsed_step}
 use Rattle.jh_nemesis.specs.declared.steps.Step.{Step}
 use Rattle.jh_step_texts.specs.declared.steps.StepTextError.{StepTextError}
@@ -62,4 +62,4 @@ RefusesEnv input (Input error) =
 RefusesEnv input Read = Unit {0}
 RefusesEnv input Write = (status : ℕ) × (output : List ℕ) × IsEnvTextOf input status output
 RefusesEnv input OutOfMemory = Unit {0}
-RefusesEnv input e = (values : List Edn) × SpellsAll values input × RefusesEnvValues values e
+RefusesEnv input e = (values : List Edn) × AreValuesOf values input × RefusesEnvValues values e

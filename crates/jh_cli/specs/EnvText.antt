@@ -3,9 +3,9 @@
 use Rattle.std.specs.Prelude.{◌≡◌, ℕ, List, [], ◌∷◌, ◌++◌, map, codes, Ok}
 use Rattle.std.specs.List.{flat_map}
 use Rattle.jh_edn.specs.Edn.{Edn}
-use Rattle.jh_edn.specs.Spelling.{SpellsAll}
 use Rattle.jh_env.specs.Overlay.{EnvValue, StandsFor}
 use Rattle.jh_env.specs.TextCells.{IsTextOf}
+use Rattle.jh_histories.specs.Histories.{AreValuesOf}
 use Rattle.jh_nemesis.specs.State.{State, first_state}
 use Rattle.jh_nemesis.specs.Steps.{answers_of, state_after_all}
 use Rattle.jh_step_texts.specs.StepText.{parsed_step}
@@ -50,7 +50,7 @@ IsEnvText values output =
     (env : EnvValue) × (steps : List Step) × IsEnvWithSteps values env steps
     × IsReport (first_state env) steps output
 
--- what is written for an input, with the exit status: its values are those that it spells
+-- what is written for an input, which is UTF-8, with the exit status: its values are those that it spells
 abbrev pub IsEnvTextOf : List ℕ → ℕ → List ℕ → Type 0
 IsEnvTextOf input status output =
-    (values : List Edn) × SpellsAll values input × IsEnvText values output × (status ≡ 0)
+    (values : List Edn) × AreValuesOf values input × IsEnvText values output × (status ≡ 0)
