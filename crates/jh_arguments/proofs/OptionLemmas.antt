@@ -9,7 +9,7 @@ use Rattle.clap.specs.Words.{ReadsOne, Row, Text, first_of, first_value, one_of,
 use Rattle.clap.specs.declared.parser.matches.Found.{Found}
 use Rattle.jh_checkers.specs.declared.finding.Judging.{Judging}
 use Rattle.clap.proofs.WalkLemmas.{first_value-rows, one_text-rows}
-use Rattle.jh_arguments.specs.Commands.{IsFlag, IsIndex, IsInitial, IsJudging, IsJudgingBy, IsNumber, IsThreads, AreThreadsGiven}
+use Rattle.jh_arguments.specs.Commands.{IsFlag, IsIndex, IsInitial, IsJudging, IsJudgingBy, IsNumber, IsNumberWithin, IsGivenWithin}
 
 -- what `FromStr` says of `i64` and of `u64`
 abbrev SignedGives : Text → Result ℤ ParseIntError → Type 0
@@ -93,14 +93,9 @@ pub text_given : (f : Found) (id : Text) (r : Option (Bor Text)) (o : Option Tex
     → first_of id (rows_of f) ≡ o
 text_given f id r o given is = sym (first_value-rows f id) ∙ (sym given ∙ is)
 
--- how many threads are given, where that is read if it is there
-pub threads_given : (o : Option Text) (r : Option ℕ) → IfSome r (IsThreads o) → (IsNone r → (threads : ℕ) → IsThreads o threads → ⊥) → AreThreadsGiven o r
-threads_given None None parsed taken = refl
-threads_given None (Some threads) parsed taken = absurd parsed.0
-threads_given (Some text) None parsed taken = taken refl
-threads_given (Some text) (Some threads) parsed taken = parsed
-
--- and how many these are
-pub threads_few : (o : Option Text) (r : Option ℕ) → IfSome r (IsThreads o) → IfSome r (λ threads. (1 ≤ threads) × (threads ≤ 16))
-threads_few o None parsed = tt
-threads_few o (Some threads) parsed = (parsed.1, parsed.2)
+-- a number that is given, where it is read if it is there
+pub number_given : (least most : ℕ) (o : Option Text) (r : Option ℕ) → IfSome r (IsNumberWithin least most o) → (IsNone r → (number : ℕ) → IsNumberWithin least most o number → ⊥) → IsGivenWithin least most o r
+number_given least most None None parsed taken = refl
+number_given least most None (Some number) parsed taken = absurd parsed.0
+number_given least most (Some text) None parsed taken = taken refl
+number_given least most (Some text) (Some number) parsed taken = parsed

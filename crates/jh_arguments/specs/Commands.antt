@@ -21,6 +21,7 @@ use Rattle.jh_cli.specs.TimelineRefusals.{RefusesTimeline}
 use Rattle.jh_cli.specs.declared.error.CliError.{CliError}
 use Rattle.jh_cli.specs.declared.check_command.Question.{Question}
 use Rattle.jh_cli.specs.declared.search_command.SearchQuestion.{SearchQuestion}
+use Rattle.jh_cli.specs.declared.search_command.Show.{Show}
 use Rattle.jh_cli.specs.declared.timeline_command.TimelineQuestion.{TimelineQuestion}
 use Rattle.jh_arguments.specs.declared.commands.Command.{Command}
 use Rattle.jh_arguments.specs.declared.commands.Command.TheVariants.{Env, Check, Run, Shrink}
@@ -107,15 +108,28 @@ pub record AsksTimeline (options : List Row) (question : TimelineQuestion) : Typ
   pub from : IsIndex (one_of (codes "from") options) question.choice.from
   pub to : IsIndex (one_of (codes "to") options) question.choice.to
 
--- how many threads an option gives, if it is there
-abbrev pub AreThreadsGiven : Option Text → Option ℕ → Type 0
-AreThreadsGiven None threads = threads ≡ None
-AreThreadsGiven (Some text) (Some threads) = IsThreads (Some text) threads
-AreThreadsGiven (Some text) None = (threads : ℕ) → IsThreads (Some text) threads → ⊥
+-- the number from the least to the most that an option gives, if it is there
+abbrev pub IsGivenWithin : ℕ → ℕ → Option Text → Option ℕ → Type 0
+IsGivenWithin least most None number = number ≡ None
+IsGivenWithin least most (Some text) (Some number) =
+    IsNumberWithin least most (Some text) number
+IsGivenWithin least most (Some text) None =
+    (number : ℕ) → IsNumberWithin least most (Some text) number → ⊥
 
 -- a number of candidates, or the number of one
 abbrev pub max_candidates : ℕ
 max_candidates = 9223372036854775807
+
+-- the longest time over which calls are spread, in milliseconds: a day
+abbrev pub max_spread_ms : ℕ
+max_spread_ms = 86400000
+
+-- the candidate that is to be shown, if options name one; without one a time means nothing
+abbrev pub IsShow : List Row → Option Show → Type 0
+IsShow options None = IsGivenWithin 0 max_candidates (one_of (codes "show") options) None
+IsShow options (Some show) =
+    IsNumberWithin 0 max_candidates (one_of (codes "show") options) show.number
+    × IsGivenWithin 1 max_spread_ms (one_of (codes "ms") options) show.milliseconds
 
 -- the options of `search` ask this
 pub record AsksSearch (options : List Row) (question : SearchQuestion) : Type 0 where
@@ -124,7 +138,8 @@ pub record AsksSearch (options : List Row) (question : SearchQuestion) : Type 0 
   pub faults : IsNumberWithin 0 256 (one_of (codes "faults") options) question.faults
   pub palette : question.palette
       ≡ option_and_then palette_named (first_of (codes "palette") options)
-  pub threads : AreThreadsGiven (one_of (codes "threads") options) question.threads
+  pub threads : IsGivenWithin 1 16 (one_of (codes "threads") options) question.threads
+  pub show : IsShow options question.show
 
 -- A subcommand with its options asks for the test that this file of settings sets.
 abbrev pub AsksDrive : Option (Text × List Row) → Text → Type 0

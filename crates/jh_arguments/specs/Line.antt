@@ -83,17 +83,30 @@ abbrev pub palette : Rule
 palette =
     record (option (codes "palette")) { defaults = codes "cut,slow,loss,fix,pause,kill,bump" ∷ [] }
 
--- by how many threads, if that is given: from 1 to 16
+-- a number that a parser reads, if it is given
+abbrev pub given_rule : Text → ValueParser → Rule
+given_rule name parser = record (option name) { parser = Some parser }
+
+-- by how many threads, from 1 to 16
 abbrev pub given_threads : Rule
-given_threads = record (option (codes "threads")) { parser = Some (Unsigned 1 16) }
+given_threads = given_rule (codes "threads") (Unsigned 1 16)
+
+-- which candidate is shown
+abbrev pub show : Rule
+show = given_rule (codes "show") (Unsigned 0 9223372036854775807)
+
+-- over how many milliseconds its calls are spread, at most a day
+abbrev pub spread : Rule
+spread = given_rule (codes "ms") (Unsigned 1 86400000)
 
 abbrev pub search : App
 search =
-    with_rule (with_rule
+    with_rule (with_rule (with_rule (with_rule
     (with_rule (with_rule (with_rule (new_app (codes "search"))
     (number_rule (codes "runs") (Unsigned 1 9223372036854775807) (codes "10000")))
     (number_rule (codes "faults") (Unsigned 0 256) (codes "8"))) palette)
-    (number_rule (codes "from") (Unsigned 0 9223372036854775807) (codes "0"))) given_threads
+    (number_rule (codes "from") (Unsigned 0 9223372036854775807) (codes "0"))) given_threads)
+    show) spread
 
 -- the file with the settings of a test, which is given by its place
 abbrev pub settings_file : Rule

@@ -10,8 +10,8 @@ ghost use Rattle.jh_cli.specs.CheckText.{TakesInitial, TakesModel};
 ghost use Rattle.jh_cli.specs.Outputs.{OnInput, WritesOutput};
 ghost use Rattle.jh_cli.specs.TimelineText.{TakesInitialBy, TakesModelBy};
 ghost use Rattle.jh_cli.specs.declared.error.CliError.TheVariants as CliError;
-ghost use Rattle.jh_arguments.specs.Commands.{AreThreadsGiven, AsksCheck, AsksDrive, AsksFor};
-ghost use Rattle.jh_arguments.specs.Commands.{AsksSearch};
+ghost use Rattle.jh_arguments.specs.Commands.{AsksCheck, AsksDrive, AsksFor, IsGivenWithin};
+ghost use Rattle.jh_arguments.specs.Commands.{AsksSearch, IsShow};
 ghost use Rattle.jh_arguments.specs.Commands.{AsksTimeline, HasNumbersInRange, IsFlag, IsIndex};
 ghost use Rattle.jh_arguments.specs.Commands.{IsInitial, IsNumberWithin};
 ghost use Rattle.jh_arguments.specs.Commands.{IsJudging, IsJudgingBy, IsNumber};
@@ -28,8 +28,8 @@ use crate::palettes::palette_named;
 use clap::ArgMatches;
 use jh_checkers::{Checker, Judging, model_named};
 use jh_cli::{
-    CliError, Question, SearchQuestion, TimelineQuestion, check_run, env_run, run_run, search_run,
-    shrink_run_observed, timeline_run,
+    CliError, Question, SearchQuestion, Show, TimelineQuestion, check_run, env_run, run_run,
+    search_run, shrink_run_observed, timeline_run,
 };
 use jh_search::{Palette, SearchObserver};
 use jh_sections::Choice;
@@ -45,6 +45,9 @@ const MAX_CANDIDATES: u64 = i64::MAX as u64;
 
 /// The most random faults of a candidate.
 const MAX_FAULTS: u64 = 256;
+
+/// The longest time over which calls are spread: a day.
+const MAX_SPREAD_MS: u32 = 86_400_000;
 
 /// What the arguments ask for.
 #[derive(Clone, Copy, Debug, PartialEq, Eq)]
@@ -138,7 +141,8 @@ pub fn search_question_of(options: &ArgMatches<'_>) -> Option<SearchQuestion>
         runs: number_within(options, "runs", 1, MAX_CANDIDATES)?,
         faults: number_within(options, "faults", 0, MAX_FAULTS)? as u32,
         palette: palette_of(options),
-        threads: given_threads_of(options),
+        threads: given_within(options, "threads", 1, 16),
+        show: show_of(options),
     })
 }
 
@@ -256,13 +260,25 @@ fn threads_of(options: &ArgMatches<'_>) -> Option<u32>
     Some(threads as u32)
 }
 
-/// How many threads options give, if they do.
-fn given_threads_of(options: &ArgMatches<'_>) -> Option<u32>
-    ensures given { AreThreadsGiven (one_of (codes "threads") (rows_of (found_of options.now)))
+/// The number from the least to the most that an option gives, if it is there.
+fn given_within(options: &ArgMatches<'_>, name: &str, least: u32, most: u32) -> Option<u32>
+    ensures given { IsGivenWithin least most (one_of name.now (rows_of (found_of options.now)))
         result }
-    ensures few { IfSome result (λ threads. (1 ≤ threads) × (threads ≤ 16)) }
+    ensures within { IfSome result (λ number. (least ≤ number) × (number ≤ most)) }
 {
-    threads_of(options)
+    let number = number_within(options, name, u64::from(least), u64::from(most))?;
+    Some(number as u32)
+}
+
+/// The candidate that is to be shown, if options name one.
+fn show_of(options: &ArgMatches<'_>) -> Option<Show>
+    ensures { IsShow (rows_of (found_of options.now)) result }
+{
+    let number = number_within(options, "show", 0, MAX_CANDIDATES)?;
+    Some(Show {
+        number,
+        milliseconds: given_within(options, "ms", 1, MAX_SPREAD_MS),
+    })
 }
 
 /// The kinds of faults that options name, if they name kinds.

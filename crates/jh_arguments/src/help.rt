@@ -62,14 +62,16 @@ pub(crate) const SEARCH: &str = "\
 Each candidate is a run of the settings with another seed, and with random faults of KINDS
 among the entries of its schedule: cut, slow, loss, fix, pause, kill and bump. It writes the
 settings of the first that is not valid, which run and shrink read, or a comment that there is
-none. The answer does not depend on the number of threads.
+none. The answer does not depend on the number of threads. With --show it runs nothing, and
+writes the schedule of one candidate, which settings of run take, and with --ms those of drive.
 
 Exit status: 0 none found, 1 found, 2 none found and some unknown, 3 refused arguments or
 settings, 4 where memory ran out, a read or a write failed, or a thread could not be had
 
 Examples:
   jeprun search < examples/search/quorum-volatile.toml > found.toml
-  jeprun search --runs 200 --faults 12 --palette cut,kill < examples/search/quorum-volatile.toml";
+  jeprun search --runs 200 --faults 12 --palette cut,kill < examples/search/quorum-volatile.toml
+  jeprun search --show 7 --ms 60000 < examples/search/quorum-volatile.toml";
 
 pub(crate) const TIMELINE: &str = "\
 It writes an HTML page: each operation as a bar, each fault as a line, and with --workload what

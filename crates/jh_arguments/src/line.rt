@@ -167,7 +167,9 @@ fn search_command<'a>(alloc: Global) -> Result<Command<'a>, Error>
         .arg(faults_option(alloc))?
         .arg(palette_option(alloc))?
         .arg(from_option(alloc))?
-        .arg(given_threads_option(alloc))?;
+        .arg(given_threads_option(alloc))?
+        .arg(show_option(alloc))?
+        .arg(spread_option(alloc))?;
     Ok(search)
 }
 
@@ -261,13 +263,40 @@ fn given_threads_option<'a>(alloc: Global) -> Arg<'a>
     ensures rule { rule_of result ≡ text.given_threads }
     ensures local { result.global ≡ false }
 {
-    Arg::new(alloc, "threads")
-        .long("threads")
-        .value_name("N")
-        .help(
-            "How many threads try candidates; as many as there are processors where it is left out",
-        )
-        .value_parser(value_parser!(u64).range(1..=16))
+    given_option(
+        alloc,
+        "threads",
+        "How many threads try candidates; as many as there are processors where it is left out",
+        value_parser!(u64).range(1..=16),
+    )
+}
+
+/// The number of the candidate that is shown, if one is.
+fn show_option<'a>(alloc: Global) -> Arg<'a>
+    ensures rule { rule_of result ≡ text.show }
+    ensures local { result.global ≡ false }
+{
+    let parser = value_parser!(u64).range(0..=9_223_372_036_854_775_807);
+    given_option(
+        alloc,
+        "show",
+        "Writes the schedule of this candidate, and runs none",
+        parser,
+    )
+}
+
+/// The time over which the calls of a candidate that is shown are spread, if one is given.
+fn spread_option<'a>(alloc: Global) -> Arg<'a>
+    ensures rule { rule_of result ≡ text.spread }
+    ensures local { result.global ≡ false }
+{
+    let parser = value_parser!(u64).range(1..=86_400_000);
+    given_option(
+        alloc,
+        "ms",
+        "With --show: spreads the schedule over so many milliseconds, for drive",
+        parser,
+    )
 }
 
 /// What the database was to be: one of these names.
@@ -359,7 +388,24 @@ fn flag_option<'a>(alloc: Global, name: &'static str, help: &'static str) -> Arg
         .action(ArgAction::SetTrue)
 }
 
-/// An option that takes a number.
+/// An option that takes a number, which may be left out.
+fn given_option<'a>(
+    alloc: Global,
+    name: &'static str,
+    help: &'static str,
+    parser: ValueParser<'a>,
+) -> Arg<'a>
+    ensures rule { rule_of result ≡ text.given_rule name.now parser.entry }
+    ensures local { result.global ≡ false }
+{
+    Arg::new(alloc, name)
+        .long(name)
+        .value_name("N")
+        .help(help)
+        .value_parser(parser)
+}
+
+/// An option that takes a number, and this one where it is left out.
 fn number_option<'a>(
     alloc: Global,
     name: &'static str,
@@ -370,12 +416,7 @@ fn number_option<'a>(
     ensures rule { rule_of result ≡ text.number_rule name.now parser.entry default.now }
     ensures local { result.global ≡ false }
 {
-    Arg::new(alloc, name)
-        .long(name)
-        .value_name("N")
-        .help(help)
-        .value_parser(parser)
-        .default_value(default)
+    given_option(alloc, name, help, parser).default_value(default)
 }
 
 /// What `clap` finds in these arguments, of which the first is the program's name; or its refusal,

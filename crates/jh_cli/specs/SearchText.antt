@@ -1,8 +1,9 @@
 -- What `jeprun search` writes (this project's own): a comment with the number of the least
 -- candidate that fails, and the settings of that candidate behind it; or a comment that says that
 -- none of all fails. Comments are TOML's, so all that is written of a candidate is settings, and
--- `jeprun run` and `jeprun shrink` read it.
+-- `jeprun run` and `jeprun shrink` read it. Where one candidate is asked for, its schedule alone.
 use Rattle.std.specs.Prelude.{◌≡◌, ℕ, ◌==◌, List, ◌++◌, codes, if◌then◌else◌, Option, Some, None}
+use Rattle.std.specs.Prelude.{option_map}
 use Rattle.std.specs.Fmt.{decimal}
 use Rattle.jh_simnode.specs.Plans.{PlanValue}
 use Rattle.jh_search.specs.Candidates.{candidate_of}
@@ -10,10 +11,14 @@ use Rattle.jh_search.specs.Search.{IsSearched}
 use Rattle.jh_search.specs.declared.kinds.Palette.{Palette}
 use Rattle.jh_search.specs.declared.options.Options.{Options}
 use Rattle.jh_search.specs.declared.serial.Searched.{Searched}
+use Rattle.jh_settings.specs.Keys.{IsDocument}
 use Rattle.jh_settings.specs.Settings.{AreSettingsOf}
 use Rattle.jh_settings.specs.declared.choices.Mode.{Mode}
 use Rattle.jh_settings_texts.specs.Comments.{behind_comment}
+use Rattle.jh_settings_texts.specs.DocumentWritten.{schedule_document}
+use Rattle.jh_settings_texts.specs.declared.schedule.Spread.{Spread}
 use Rattle.jh_cli.specs.declared.search_command.SearchQuestion.{SearchQuestion}
+use Rattle.jh_cli.specs.declared.search_command.Show.{Show}
 
 -- what a search is asked, with these kinds of faults and a judge of this budget
 abbrev pub search_options : SearchQuestion → Palette → ℕ → Options
@@ -58,10 +63,28 @@ IsSearchedText p options status output =
     × IsFoundText p options searched.failing searched.unknown output
     × (status ≡ searched_status searched.failing searched.unknown)
 
+-- the calls of a plan, spread over the time that is asked for, where one is
+abbrev pub spread_asked : PlanValue → Option ℕ → Option Spread
+spread_asked p milliseconds =
+    option_map (λ time. record { calls = p.ops; milliseconds = time }) milliseconds
+
+-- what is shown of a candidate, which is not run: a document with its schedule
+abbrev pub IsShownText : PlanValue → Options → Show → List ℕ → Type 0
+IsShownText p options show output =
+    (let shown = candidate_of p options show.number in
+    IsDocument output
+    (schedule_document shown.env.names (spread_asked p show.milliseconds) shown.schedule))
+
+-- the one or the other
+abbrev pub IsAnswerText : Option Show → PlanValue → Options → ℕ → List ℕ → Type 0
+IsAnswerText None p options status output = IsSearchedText p options status output
+IsAnswerText (Some show) p options status output =
+    IsShownText p options show output × (status ≡ 0)
+
 -- For an input, with the exit status: the plan and the budget are those that it means, and its
 -- mode does not matter. The question names kinds of faults.
 abbrev pub IsSearchTextOf : SearchQuestion → List ℕ → ℕ → List ℕ → Type 0
 IsSearchTextOf question input status output =
     (palette : Palette) × (p : PlanValue) × (mode : Mode) × (budget : ℕ)
     × (question.palette ≡ Some palette) × AreSettingsOf input p mode budget
-    × IsSearchedText p (search_options question palette budget) status output
+    × IsAnswerText question.show p (search_options question palette budget) status output

@@ -16,7 +16,7 @@ ghost use Rattle.jh_cli.specs.Outputs.{OnInput, WritesOutput};
 ghost use Rattle.jh_cli.specs.Status.{step_error};
 
 use crate::error::CliError;
-use crate::output::{MAX_READS, finish};
+use crate::output::{DONE, MAX_READS, finish};
 use jh_edn::{Value, read_all};
 use jh_env::{Nodes, env_of_value};
 use jh_nemesis::{Nemesis, Step, StepAnswer};
@@ -24,9 +24,6 @@ use jh_reports::{Output, write_active, write_environment};
 use jh_step_texts::{StepTextError, step_of_value};
 use std::alloc::{AllocError, Global};
 use std::io::{Read, Write};
-
-/// Exit status of a command that did its work.
-const DONE: u8 = 0;
 
 /// The place of the first step among the elements of the input, which count from 1.
 const FIRST_STEP: u64 = 2;

@@ -17,6 +17,6 @@ pub use check_command::{Question, check_run};
 pub use env_command::env_run;
 pub use error::CliError;
 pub use run_command::run_run;
-pub use search_command::{SearchQuestion, search_run};
+pub use search_command::{SearchQuestion, Show, search_run};
 pub use shrink_command::{shrink_run, shrink_run_observed};
 pub use timeline_command::{TimelineQuestion, timeline_run};

@@ -9,6 +9,9 @@ use crate::error::CliError;
 use jh_reports::Output;
 use std::io::Write;
 
+/// Exit status of a command that did its work.
+pub(crate) const DONE: u8 = 0;
+
 /// The most reads that an input may take.
 pub(crate) const MAX_READS: u32 = 16_777_216;
 

@@ -1,5 +1,5 @@
 //! The command `search`: reads the settings of a run, tries random schedules of faults, and writes
-//! the settings of the first run that fails. What is written stands in `specs/SearchText.antt`, why
+//! the settings of the first run that fails; or the schedule of one candidate, without a run. What is written stands in `specs/SearchText.antt`, why
 //! an input is refused in `specs/SearchRefusals.antt`; what a candidate is stands in `jh_search`.
 
 ghost use Rattle.std.specs.Prelude.{◌≡◌, ◌≢◌, ◌↔◌, ◌≤◌, ◌<◌, ◌+◌, ◌^◌, IfOk, IfErr, IfSome};
@@ -9,23 +9,33 @@ ghost use Rattle.jh_settings_texts.specs.SettingsWritten.{CanBeWritten};
 ghost use Rattle.jh_cli.specs.Outputs.{OnInput, WritesOutput};
 ghost use Rattle.jh_cli.specs.SearchRefusals.{RefusesSearch, RefusesSearchBytes};
 ghost use Rattle.jh_cli.specs.SearchText as text;
-ghost use Rattle.jh_cli.specs.SearchText.{IsFoundText, IsSearchTextOf, IsSearchedText};
-ghost use Rattle.jh_cli.specs.SearchText.{candidate_comment, search_options};
+ghost use Rattle.jh_cli.specs.SearchText.{IsAnswerText, IsFoundText, IsSearchTextOf};
+ghost use Rattle.jh_cli.specs.SearchText.{IsSearchedText, IsShownText};
+ghost use Rattle.jh_cli.specs.SearchText.{candidate_comment, search_options, spread_asked};
 
 use crate::error::CliError;
-use crate::output::{MAX_READS, finish};
+use crate::output::{DONE, MAX_READS, finish};
 use jh_edn::read_bytes;
 use jh_reports::Output;
 use jh_search::{
     Options, Palette, SearchError, SearchObserver, Searched, candidate, search_observed,
 };
 use jh_settings::settings_of;
-use jh_settings_texts::{can_be_written, settings_behind};
+use jh_settings_texts::{Spread, can_be_written, schedule_to_text, settings_behind};
 use jh_simnode::Plan;
 use std::alloc::{AllocError, Global};
 use std::io::{Read, Write};
 use std::sync::Wait;
 use std::thread::{self, Threads};
+
+/// A candidate whose schedule is shown.
+#[derive(Clone, Copy, Debug, PartialEq, Eq)]
+pub struct Show {
+    /// Its number, below 2^63.
+    pub number: u64,
+    /// Over how many milliseconds its calls are spread; none: its entries are due by calls.
+    pub milliseconds: Option<u32>,
+}
 
 /// What `search` is asked.
 #[derive(Clone, Copy, Debug, PartialEq, Eq)]
@@ -41,6 +51,8 @@ pub struct SearchQuestion {
     /// On how many threads candidates are tried, from 1 to 16; none: on as many as there are
     /// processors. The answer is the same.
     pub threads: Option<u32>,
+    /// The candidate whose schedule is shown instead; none: candidates are tried.
+    pub show: Option<Show>,
 }
 
 /// Reads settings in TOML as `jh_settings::settings_of` does, and tries candidates of them, which
@@ -53,6 +65,10 @@ pub struct SearchQuestion {
 /// |---|---|---|
 /// | `# candidate NUMBER of RUNS: invalid`, and settings behind it | the least candidate that is not valid | 1 |
 /// | `# none of RUNS candidates is invalid, UNKNOWN unknown` | that none is known not to be valid | 0, or 2 where some are unknown |
+///
+/// Where the question names a candidate to show, nothing is run: `schedule = [..]` with the entries of that candidate is
+/// written, as `jh_settings_texts::schedule_to_text` writes it, and the status is 0. Settings of a test of a real database
+/// take it too, so random schedules serve it.
 ///
 /// The settings have all keys, `mode = "serial"`, the seed and the schedule of the candidate, so
 /// `run_run` and `shrink_run` read them, with the comment. The mode that was read means nothing. All
@@ -148,10 +164,65 @@ fn search_bytes<T: Threads + Wait + Sync, O: SearchObserver>(
     }
     let options = options_of(question, palette, settings.budget);
     let threads = threads_of(rt, question.threads);
-    match search_plan(rt, alloc, plan, &options, threads, observer) {
+    match search_or_show(rt, alloc, plan, &options, threads, question.show, observer) {
         Ok(output) => Ok(output),
         Err(error) => Err(CliError::from(error)),
     }
+}
+
+/// All that is written of the candidates of a plan, or of the one that is to be shown.
+fn search_or_show<T: Threads + Wait + Sync, O: SearchObserver>(
+    rt: &T,
+    alloc: Global,
+    plan: &Plan,
+    options: &Options,
+    threads: u32,
+    show: Option<Show>,
+    observer: &mut O,
+) -> Result<Output, SearchError>
+    requires writable { CanBeWritten plan.now }
+    requires budget { options.now.budget ≤ 10000000 }
+    requires few { options.now.from + options.now.runs < 2 ^ 64 }
+    requires threads { (1 ≤ threads) × (threads ≤ 16) }
+    ensures { IfOk result
+        (λ output. IsAnswerText show plan.now options.now output.status output.text.items) }
+{
+    match show {
+        None => search_plan(rt, alloc, plan, options, threads, observer),
+        Some(show) => Ok(Output {
+            status: DONE,
+            text: shown_text(alloc, plan, options, show)?,
+        }),
+    }
+}
+
+/// The calls of a plan, spread over the time that is asked for, where one is.
+fn spread_of(plan: &Plan, milliseconds: Option<u32>) -> Option<Spread>
+    ensures spread { result ≡ spread_asked plan.now milliseconds }
+    ensures some { IfSome result (λ s. 0 < s.calls) }
+{
+    let milliseconds = milliseconds?;
+    Some(Spread {
+        calls: plan.ops(),
+        milliseconds,
+    })
+}
+
+/// The schedule of a candidate, which is not run.
+fn shown_text(
+    alloc: Global,
+    plan: &Plan,
+    options: &Options,
+    show: Show,
+) -> Result<Vec<u8>, AllocError>
+    requires writable { CanBeWritten plan.now }
+    ensures { IfOk result (λ output. IsShownText plan.now options.now show output.items) }
+{
+    let shown = candidate(alloc, plan, options, show.number)?;
+    let nodes = shown.environment().nodes();
+    let spread = spread_of(plan, show.milliseconds);
+    let text = schedule_to_text(alloc, nodes, shown.schedule().entries(), spread)?;
+    Ok(text.into_bytes())
 }
 
 /// All that is written of the candidates of a plan.

@@ -34,9 +34,12 @@ fn asks_for_commands(rt: HostRuntime) {
 § jeprun check --workload set --budget 10000000 → Check(Question { judging: Judging { checker: Set, initial: None, budget: 10000000, explain: false, model: None }, independent: false, threads: 1 })
 § jeprun shrink → Shrink(10000)
 § jeprun shrink --budget 10000000 → Shrink(10000000)
-§ jeprun search → Search(SearchQuestion { from: 0, runs: 10000, faults: 8, palette: Some(Palette { cut: true, slow: true, loss: true, fix: true, pause: true, kill: true, bump: true }), threads: None })
-§ jeprun search --runs 5 --faults 256 --palette kill,cut --from 7 --threads 16 → Search(SearchQuestion { from: 7, runs: 5, faults: 256, palette: Some(Palette { cut: true, slow: false, loss: false, fix: false, pause: false, kill: true, bump: false }), threads: Some(16) })
-§ jeprun search --palette cut,,bump → Search(SearchQuestion { from: 0, runs: 10000, faults: 8, palette: None, threads: None })
+§ jeprun search → Search(SearchQuestion { from: 0, runs: 10000, faults: 8, palette: Some(Palette { cut: true, slow: true, loss: true, fix: true, pause: true, kill: true, bump: true }), threads: None, show: None })
+§ jeprun search --runs 5 --faults 256 --palette kill,cut --from 7 --threads 16 → Search(SearchQuestion { from: 7, runs: 5, faults: 256, palette: Some(Palette { cut: true, slow: false, loss: false, fix: false, pause: false, kill: true, bump: false }), threads: Some(16), show: None })
+§ jeprun search --show 9223372036854775807 --palette cut → Search(SearchQuestion { from: 0, runs: 10000, faults: 8, palette: Some(Palette { cut: true, slow: false, loss: false, fix: false, pause: false, kill: false, bump: false }), threads: None, show: Some(Show { number: 9223372036854775807, milliseconds: None }) })
+§ jeprun search --show 0 --palette kill --ms 86400000 → Search(SearchQuestion { from: 0, runs: 10000, faults: 8, palette: Some(Palette { cut: false, slow: false, loss: false, fix: false, pause: false, kill: true, bump: false }), threads: None, show: Some(Show { number: 0, milliseconds: Some(86400000) }) })
+§ jeprun search --ms 5 --palette x → Search(SearchQuestion { from: 0, runs: 10000, faults: 8, palette: None, threads: None, show: None })
+§ jeprun search --palette cut,,bump → Search(SearchQuestion { from: 0, runs: 10000, faults: 8, palette: None, threads: None, show: None })
 § jeprun timeline → Timeline(TimelineQuestion { judging: None, independent: false, choice: Choice { from: None, to: None } })
 § jeprun timeline --workload register --initial 0 --budget 5 --from 7 --to 18446744073709551615 → Timeline(TimelineQuestion { judging: Some(Judging { checker: Register, initial: Some(0), budget: 5, explain: true, model: None }), independent: false, choice: Choice { from: Some(7), to: Some(18446744073709551615) } })
 § jeprun timeline --workload set → Timeline(TimelineQuestion { judging: Some(Judging { checker: Set, initial: None, budget: 100000, explain: true, model: None }), independent: false, choice: Choice { from: None, to: None } })
@@ -145,6 +148,10 @@ error: invalid value '0' for '--runs <N>': 0 is not in 1..=9223372036854775807
 For more information, try '--help'.
 § jeprun search --faults 257 → 3
 error: invalid value '257' for '--faults <N>': 257 is not in 0..=256
+
+For more information, try '--help'.
+§ jeprun search --show 1 --ms 0 → 3
+error: invalid value '0' for '--ms <N>': 0 is not in 1..=86400000
 
 For more information, try '--help'.
 § jeprun bogus → 3
@@ -273,12 +280,15 @@ Options:
       --palette <KINDS>  Of which kinds the faults are, with commas between [default: cut,slow,loss,fix,pause,kill,bump]
       --from <N>         The number of the first candidate [default: 0]
       --threads <N>      How many threads try candidates; as many as there are processors where it is left out
+      --show <N>         Writes the schedule of this candidate, and runs none
+      --ms <N>           With --show: spreads the schedule over so many milliseconds, for drive
   -h, --help             Print help
 
 Each candidate is a run of the settings with another seed, and with random faults of KINDS
 among the entries of its schedule: cut, slow, loss, fix, pause, kill and bump. It writes the
 settings of the first that is not valid, which run and shrink read, or a comment that there is
-none. The answer does not depend on the number of threads.
+none. The answer does not depend on the number of threads. With --show it runs nothing, and
+writes the schedule of one candidate, which settings of run take, and with --ms those of drive.
 
 Exit status: 0 none found, 1 found, 2 none found and some unknown, 3 refused arguments or
 settings, 4 where memory ran out, a read or a write failed, or a thread could not be had
@@ -286,6 +296,7 @@ settings, 4 where memory ran out, a read or a write failed, or a thread could no
 Examples:
   jeprun search < examples/search/quorum-volatile.toml > found.toml
   jeprun search --runs 200 --faults 12 --palette cut,kill < examples/search/quorum-volatile.toml
+  jeprun search --show 7 --ms 60000 < examples/search/quorum-volatile.toml
 § jeprun check --help → 0
 Judges a history of operations, read from standard input as EDN
 

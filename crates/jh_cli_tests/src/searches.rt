@@ -109,6 +109,63 @@ generator = '[:once :read]'
 }
 
 #[test]
+fn one_is_shown(rt: HostRuntime) {
+    let rows = r#"# The first candidate of the settings above that fails.
+start = '{:nodes ["a" "b" "c"]}'
+store = "lww"
+workload = "register"
+generator = '[:mix [:forever :read] [:forever [:write 1]] [:forever [:write 2]]]'
+clients = 3
+ops = 12
+seed = 5
+schedule = ['[2 [:begin 7 [:kill ["a"]]]]', '[1 [:withdraw 7]]']
+→ 0
+schedule = [
+    '[2 [:begin 7 [:kill ["a"]]]]',
+    "[1 [:withdraw 7]]",
+    '[2 [:begin 11 [:cut [["c" "b"]]]]]',
+    '[6 [:begin 8 [:cut [["a" "b"] ["a" "c"] ["b" "a"] ["c" "a"]]]]]',
+    '[6 [:begin 9 [:slow 50 [["a" "c"] ["b" "c"] ["c" "a"] ["c" "b"]]]]]',
+    '[6 [:begin 10 [:fix 50 [["a" "b"] ["b" "a"] ["b" "c"] ["c" "b"]]]]]',
+    "[7 [:withdraw 9]]",
+    "[8 [:withdraw 8]]",
+    "[9 [:withdraw-all]]",
+    "[11 [:withdraw 11]]",
+]
+§ start = "a → 3 settings: not TOML
+"#;
+    let texts = Texts::Inputs("jeprun search --runs 40 --faults 4 --show 1");
+    assert_eq!(rt; first_wrong(&rt, rt.alloc(), texts, rows), None);
+}
+
+/// Six calls over a second: the second one ends after a third of it.
+#[test]
+fn one_is_shown_over_time(rt: HostRuntime) {
+    let rows = r#"start = '{:nodes ["n1"]}'
+store = "local"
+volatile = true
+workload = "set"
+clients = 1
+ops = 6
+generator = '[:seq [:limit 5 [:rising 0]] [:once :read]]'
+→ 0
+schedule = [
+    '[[:ms 166] [:begin 4 [:kill ["n1"]]]]',
+    '[[:ms 333] [:begin 3 [:bump {"n1" -100}]]]',
+    "[[:ms 333] [:withdraw 4]]",
+    '[[:ms 666] [:begin 1 [:bump {"n1" 100}]]]',
+    '[[:ms 666] [:begin 2 [:pause ["n1"]]]]',
+    "[[:ms 833] [:withdraw 1]]",
+    "[[:ms 833] [:withdraw 2]]",
+    "[[:ms 833] [:withdraw-all]]",
+    "[[:ms 1000] [:withdraw 3]]",
+]
+"#;
+    let texts = Texts::Inputs("jeprun search --faults 4 --show 7 --ms 1000");
+    assert_eq!(rt; first_wrong(&rt, rt.alloc(), texts, rows), None);
+}
+
+#[test]
 fn kinds_are_named(rt: HostRuntime) {
     let rows =
         "not read → 3 --palette: not kinds of cut, slow, loss, fix, pause, kill, bump, with commas between\n";
@@ -153,6 +210,7 @@ fn seen_once<T: Threads + Wait + Sync>(rt: &T, alloc: Global) -> Option<(u64, u6
         faults: 0,
         palette: Some(Palette::all()),
         threads: None,
+        show: None,
     };
     let mut output = Vec::new(alloc);
     let mut input = UNKNOWN.as_bytes();

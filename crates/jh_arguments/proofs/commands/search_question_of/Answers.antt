@@ -16,9 +16,10 @@ returns-clause-parsed c = record {
   runs = c.in_ok-number_within-2.ensures.parsed;
   faults = c.in_ok-number_within-3.ensures.parsed;
   palette = c.palette_of.ensures;
-  threads = c.given_threads_of.ensures.given;
+  threads = c.given_within.ensures.given;
+  show = c.show_of.ensures;
 }
 
 pub returns-clause-ranges : goal.returns-clause-ranges
 returns-clause-ranges c =
-    (omega (arith, c.in_ok-number_within.ensures.parsed.2, c.in_ok-number_within-2.ensures.parsed.2), c.given_threads_of.ensures.few)
+    (omega (arith, c.in_ok-number_within.ensures.parsed.2, c.in_ok-number_within-2.ensures.parsed.2), c.given_within.ensures.within)

@@ -1,12 +1,12 @@
 use Rattle.std.proofs.Common.{◌≤◌, subst, sym, rules}
 use Rattle.jh_search.specs.declared.options.Options.{Options}
 use Rattle.jh_cli.specs.SearchRefusals.{RefusesSearchBytes}
-use Rattle.jh_cli.specs.SearchText.{IsSearchedText}
+use Rattle.jh_cli.specs.SearchText.{IsAnswerText}
 use Rattle.jh_cli.proofs.SearchLemmas.{budget_few, search_refused}
 use Rattle.jh_cli.proofs.search_command.search_bytes.Goals as goal
 
-pub search_plan-requires-clause-budget : goal.search_plan-requires-clause-budget
-search_plan-requires-clause-budget g c κs within =
+pub search_or_show-requires-clause-budget : goal.search_or_show-requires-clause-budget
+search_or_show-requires-clause-budget g c κs within =
     let settings = c.in_ok-settings.settings in
     subst (λ (options : Options). options.budget ≤ 10000000) (sym c.options_of-options.ensures)
     (budget_few c.args.input.now settings.plan settings.mode settings.budget c.in_ok-settings.ensures)
@@ -21,7 +21,7 @@ returns-in-Ok g c =
       settings.budget,
       c.requires.palette,
       c.in_ok-settings.ensures,
-      subst (λ (options : Options). IsSearchedText settings.plan options output.status output.text.items) c.options_of-options.ensures c.in-Ok.ensures,
+      subst (λ (options : Options). IsAnswerText c.args.question.show settings.plan options output.status output.text.items) c.options_of-options.ensures c.in-Ok.ensures,
     )
 
 pub returns : goal.returns
