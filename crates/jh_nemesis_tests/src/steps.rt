@@ -5,6 +5,7 @@
 //! - `begin 1` begins a cut, `slow 1` a delay of 1 ms; `withdraw 1`, `withdraw-all`, `undo`, `redo` are the calls of those names; `apply-begin 1`, `apply-withdraw 1`
 //!   take such a step by `apply`, `few` takes three steps by `apply_all`. Answers `ok` or the message of the refusal.
 //! - `slows 257` begins delays with the ids below 257, `begins 256` cuts, `rounds 2048` begins and withdraws one so often.
+//! - `by-begin 1`, `by-withdraw 1`, `by-withdraw-all`, `by-undo`, `by-redo` give how many faults such a step would begin or end.
 //! - `active` gives the ids of the active faults, `link` whether the link is cut, `work` how often a cell was written.
 //!
 //! A call whose memory was refused is made again where the number of active faults stayed.
@@ -205,6 +206,25 @@ fn link(alloc: Global, env: &Env) -> Option<String> {
     text.to_string(alloc).ok()
 }
 
+/// The step of this name, of a cut or an id where it has one.
+fn named_step(alloc: Global, nodes: &Nodes, name: &str, id: u32) -> Option<Step> {
+    match name {
+        "by-begin" => Some(Step::Begin(id, cut(alloc, nodes)?)),
+        "by-withdraw" => Some(Step::Withdraw(id)),
+        "by-withdraw-all" => Some(Step::WithdrawAll),
+        "by-undo" => Some(Step::Undo),
+        "by-redo" => Some(Step::Redo),
+        _ => None,
+    }
+}
+
+/// How many faults a step would begin or end.
+fn changes(alloc: Global, nemesis: &Nemesis, name: &str, id: u32) -> Option<String> {
+    let step = named_step(alloc, nemesis.env().nodes(), name, id)?;
+    let faults = nemesis.changed_by(alloc, &step).ok()?;
+    format!(in alloc; "{}", faults.len()).ok()
+}
+
 /// What a call answers. None: memory was refused.
 fn act(alloc: Global, nemesis: &mut Nemesis, name: &str, number: u32) -> Option<String> {
     match name {
@@ -223,7 +243,7 @@ fn act(alloc: Global, nemesis: &mut Nemesis, name: &str, number: u32) -> Option<
         "active" => active(alloc, nemesis),
         "link" => link(alloc, nemesis.env()),
         "work" => format!(in alloc; "{}", nemesis.env().work()).ok(),
-        _ => None,
+        _ => changes(alloc, nemesis, name, number),
     }
 }
 
@@ -281,6 +301,9 @@ fn steps_are_answered(rt: HostRuntime) {
         begin 1; begin 2; withdraw 1; withdraw 2; work → ok; ok; ok; ok; 4; \n\
         begin 1; withdraw 1; undo; redo; work → ok; ok; ok; ok; 4; \n\
         slow 1; slow 2; withdraw 1; withdraw-all; undo; undo; redo; work → ok; ok; ok; ok; ok; ok; ok; 7; \n\
+        by-begin 1; begin 1; by-begin 1; by-undo; by-redo → 1; ok; 0; 1; 0; \n\
+        begin 1; slow 2; by-withdraw-all; withdraw-all; by-undo; undo; by-redo → ok; ok; 2; ok; 2; ok; 2; \n\
+        begin 1; slow 2; by-withdraw 2; by-withdraw 3; withdraw 1; by-undo → ok; ok; 1; 0; ok; 1; \n\
         begins 256; begin 256; undo; work → ok; too many active; ok; 257; \n\
         slows 257; undo; work → too many active; ok; 257; \n\
         rounds 2048; begin 1; withdraw 1 → ok; too many steps; not active; ";
