@@ -17,6 +17,8 @@ mod examples;
 #[cfg(test)]
 mod explained;
 #[cfg(test)]
+mod first;
+#[cfg(test)]
 mod histories;
 #[cfg(test)]
 mod hostile;

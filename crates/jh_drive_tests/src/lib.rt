@@ -1,13 +1,8 @@
-//! Tests of `jh_drive`, and through it of `jh_conversation` and `jh_test_parts`: what is written to which replies, byte for
-//! byte. What the clauses say is proved; a row shows that they were meant so, that a test comes to its end, and that
-//! memory suffices where there is some.
-//!
-//! What runs out of memory is made once more, so that the tests stand one refused allocation.
+//! Tests of `jh_drive`, with `jh_conversation` and `jh_test_parts` below it, in `drive`, and of `jh_drive_settings` in a module of
+//! that name.
 #![tactic(auto)]
 
 #[cfg(test)]
-mod drives;
+mod drive;
 #[cfg(test)]
-mod once;
-#[cfg(test)]
-mod streams;
+mod drive_settings;

@@ -1,19 +1,10 @@
-//! Tests of `jh_search` and `jh_tasks`, through their public calls alone: candidates worked out by another program, random ones beside the plain
-//! ones of `jh_search_plain`, searches, and tasks that threads share. What the clauses say is proved: a test is for values that come from outside, and shows
-//! that memory suffices where there is some.
-//!
-//! What runs out of memory is made once more, so that the tests stand one refused allocation.
+//! Tests of `jh_search` and `jh_tasks` in `search`, and of `jh_settings_texts`, with which what was found is written, in a module of that
+//! name. `plain_search` is a plain slow program of which nothing is claimed: `search` compares with it.
 #![tactic(auto)]
 
 #[cfg(test)]
-mod candidates;
+mod plain_search;
 #[cfg(test)]
-mod first;
+mod search;
 #[cfg(test)]
-mod fixtures;
-#[cfg(test)]
-mod order;
-#[cfg(test)]
-mod searches;
-#[cfg(test)]
-mod tasks;
+mod settings_texts;

@@ -7,6 +7,8 @@
 #![tactic(auto)]
 
 #[cfg(test)]
+mod first;
+#[cfg(test)]
 mod gate;
 #[cfg(test)]
 mod gathers;

@@ -1,5 +1,0 @@
-use Rattle.std.proofs.lemmas.Str.{IsCharBoundary-start}
-use Rattle.jh_callers_tests.proofs.values.normal_text.Goals as goal
-
-pub read_one-requires : goal.read_one-requires
-read_one-requires c = IsCharBoundary-start c.args.text.now c.utf8.text

@@ -1,4 +1,0 @@
-use Rattle.jh_check_plain.proofs.orders.+goes_on.Given as goal
-
-abbrev pub decreases-goes_on : goal.decreases-goes_on
-decreases-goes_on l = l.more

@@ -1,0 +1,2 @@
+mod StampLemmas
+mod FaultLemmas

@@ -1,0 +1,35 @@
+//! Numbers that look random, by a linear congruence: the same ones from the same seed.
+
+ghost use Rattle.std.specs.Prelude.{◌<◌};
+
+/// A row of numbers that looks random.
+#[derive(Clone, Copy)]
+pub(crate) struct Dice {
+    state: u64,
+}
+
+impl Dice {
+    /// The row that begins with a seed.
+    pub(crate) fn new(seed: u64) -> Dice {
+        Dice { state: seed }
+    }
+
+    /// A number below a bound.
+    pub(crate) fn below(&mut self, bound: u64) -> u64
+        requires { 0 < bound }
+        ensures { result < bound }
+    {
+        self.state = self
+            .state
+            .wrapping_mul(6_364_136_223_846_793_005)
+            .wrapping_add(1_442_695_040_888_963_407);
+        (self.state >> 33) % bound
+    }
+
+    /// One of these texts, which have a bar between two.
+    pub(crate) fn one_of(&mut self, texts: &'static str, bar: &'static str) -> &'static str {
+        let count = texts.split(bar).count() as u64;
+        let place = self.below(count.max(1)) as usize;
+        texts.split(bar).nth(place).unwrap_or("")
+    }
+}

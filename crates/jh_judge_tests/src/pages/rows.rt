@@ -1,0 +1,153 @@
+//! Rows of histories with the page of each.
+//!
+//! A row is the line on top, and what stands below all sections in further lines; for each section
+//! a line `#` with its heading, a line with the window's two indexes, and behind each `;` a mark: a
+//! bar and what is said of it, and its records; a line `=>`; and the page from its line on, without
+//! the legend. An empty line ends it. A table is one text, since the proof of an array takes a
+//! second for each row.
+
+ghost use Rattle.std.specs.Prelude.{All, IfOk};
+ghost use Rattle.jh_ops.specs.OperationWritten.{IsWritable};
+
+use crate::spelled::mark_of;
+use jh_edn::read_all;
+use jh_ops::{Op, history_of};
+use jh_pages::{PageError, Section, write_page};
+use jh_timeline::{Mark, Window, picture_in};
+use std::alloc::Global;
+use std::io::Write;
+use std::test::Fail;
+
+/// What a page begins with, up to the style sheet.
+const OPENING: &str =
+    "<!DOCTYPE html>\n<html xmlns=\"http://www.w3.org/1999/xhtml\" lang=\"en\">\n<head>\n\
+    <meta charset=\"utf-8\"/>\n<title>Timeline</title>\n<style>\n";
+
+/// What stands between the style sheet and the line on top.
+const BODY: &str = "</style>\n</head>\n<body>\n";
+
+/// What stands behind the line on top.
+const LEGEND: &str = "<p class=\"legend\"><span class=\"ok\">&#10003; ok</span> \
+    <span class=\"fail\">&#10007; fail</span> <span class=\"info\">? info</span> \
+    <span class=\"open\">&#8230; no completion</span> <span class=\"marked\">mark</span> \
+    <b>12</b> number in an order. Time goes down, and a line across is a fault. \
+    Point at a bar or a line to see its records.</p>\n";
+
+/// More bytes than any page here has.
+const ROOM: usize = 20_000;
+
+/// The marks of a section.
+fn marks_of(alloc: Global, text: &str) -> Result<Vec<Mark>, PageError> {
+    let mut marks = Vec::new(alloc);
+    for mark in text.split(';').skip(1) {
+        if let Some(mark) = mark_of(mark) {
+            marks.push(mark)?;
+        }
+    }
+    Ok(marks)
+}
+
+/// The window of a section.
+fn window_of(text: &str) -> Window {
+    let mut pieces = text.split(|c| c == ' ' || c == ';');
+    Window {
+        from: pieces
+            .next()
+            .and_then(|piece| piece.parse().ok())
+            .unwrap_or(0),
+        to: pieces
+            .next()
+            .and_then(|piece| piece.parse().ok())
+            .unwrap_or(0),
+    }
+}
+
+/// The history that records mean.
+fn history_in(alloc: Global, text: &str) -> Result<Vec<Op>, PageError>
+    ensures { IfOk result (λ ops. All (λ op. IsWritable op.process) ops.items) }
+{
+    let values = read_all(alloc, &mut text.as_bytes(), 1_000).map_err(|_| PageError::OutOfMemory)?;
+    history_of(alloc, values).map_err(|_| PageError::OutOfMemory)
+}
+
+/// The section that a text spells.
+fn section_of(alloc: Global, text: &str) -> Result<Section, PageError>
+    ensures { IfOk result (λ section. All (λ op. IsWritable op.process) section.history.items) }
+{
+    let mut lines = text.splitn(3, '\n');
+    let heading = lines.next().unwrap_or("").trim_start();
+    let asked = lines.next().unwrap_or("");
+    let history = history_in(alloc, lines.next().unwrap_or(""))?;
+    let window = window_of(asked);
+    Ok(Section {
+        heading: Vec::from_slice(alloc, heading.as_bytes())?,
+        window,
+        picture: picture_in(alloc, window, &history)?,
+        marks: marks_of(alloc, asked)?,
+        history,
+    })
+}
+
+/// The sections of a row.
+fn sections_of(alloc: Global, given: &str) -> Result<Vec<Section>, PageError>
+    ensures { IfOk result (λ sections. All (λ section. All (λ op. IsWritable op.process)
+        section.history.items) sections.items) }
+{
+    let mut sections = Vec::new(alloc);
+    for text in given.split("\n#").skip(1) {
+        sections.push(section_of(alloc, text)?)?;
+    }
+    Ok(sections)
+}
+
+/// Writes the page that a row asks for.
+pub(crate) fn write_asked<W: Write>(
+    alloc: Global,
+    given: &str,
+    writer: &mut W,
+) -> Result<(), PageError> {
+    let above = given.split("\n#").next().unwrap_or("");
+    let (line, below) = above.split_once('\n').unwrap_or((above, ""));
+    let sections = sections_of(alloc, given)?;
+    write_page(alloc, line.as_bytes(), &sections, below.as_bytes(), writer)
+}
+
+/// The page that a row asks for. It has room from the start, so no writer fails.
+fn page_of(alloc: Global, given: &str) -> Result<Vec<u8>, PageError> {
+    let mut page = Vec::with_capacity(alloc, ROOM)?;
+    write_asked(alloc, given, &mut page)?;
+    Ok(page)
+}
+
+/// The same, asked once more where memory was refused. None: it failed otherwise.
+pub(crate) fn asked(alloc: Global, given: &str) -> Option<Vec<u8>> {
+    match page_of(alloc, given) {
+        Err(PageError::OutOfMemory) => page_of(alloc, given).ok(),
+        page => page.ok(),
+    }
+}
+
+/// What a page has up to its body, if it has this body.
+fn head_of<'a>(page: &'a [u8], body: &str) -> Option<&'a str> {
+    let (line, rest) = body.split_once('\n')?;
+    let page = str::from_utf8(page).ok()?;
+    page.strip_suffix('\n')?
+        .strip_suffix(rest)?
+        .strip_suffix(LEGEND)?
+        .strip_suffix('\n')?
+        .strip_suffix(line)
+}
+
+/// Asks for the page of each row. One with another page is the failure.
+pub(crate) fn ask_all(alloc: Global, rows: &str) -> Result<(), Fail> {
+    for row in rows.split("\n\n") {
+        let (given, body) = row.split_once("\n=>\n").ok_or("no page")?;
+        let page = asked(alloc, given).ok_or("no answer")?;
+        let is_right = head_of(&page, body).is_some_and(|head| head.starts_with(OPENING)
+            && head.ends_with(BODY));
+        if !is_right {
+            return Err(Fail::new(given));
+        }
+    }
+    Ok(())
+}

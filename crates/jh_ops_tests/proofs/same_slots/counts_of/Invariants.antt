@@ -1,4 +1,0 @@
-use Rattle.jh_ops_tests.proofs.same_slots.counts_of.Given as goal
-
-abbrev pub ghosts-run : goal.ghosts-run
-ghosts-run a = record { table = a.slots.now.table }
