@@ -1,11 +1,12 @@
 -- When a journal and a history keep to the plan of their run (this project's own).
-use Rattle.std.specs.Prelude.{◌≡◌, ℕ, ◌<◌, ◌≤◌, List, Bool, true, false, length, take, Some}
-use Rattle.std.specs.Prelude.{slice_get, ◌&&◌, not}
-use Rattle.std.specs.List.{count_by}
+use Rattle.std.specs.Prelude.{◌≡◌, ℕ, ◌<◌, ◌≤◌, ◌/◌, ◌%◌, min, List, Bool, true, false, length, take}
+use Rattle.std.specs.Prelude.{slice_get, Some, ◌&&◌, not, ⊤}
+use Rattle.std.specs.List.{count_by, range_with_len, sum_by}
 use Rattle.jh_edn.specs.Edn.{Edn, vector}
 use Rattle.jh_ops.specs.Operation.{Operation, is_client}
 use Rattle.jh_nemesis.specs.declared.steps.StepAnswer.{StepAnswer}
 use Rattle.jh_ops.specs.Pairing.{is_invoke}
+use Rattle.jh_simnode.specs.Counts.{answered_count, applied_count, calls_by}
 use Rattle.jh_simnode.specs.declared.events.Event.{Event}
 use Rattle.jh_simnode.specs.declared.schedule.Entry.{Entry}
 use Rattle.jh_simnode.specs.Histories.{placed_entry_completion}
@@ -53,10 +54,52 @@ abbrev pub AreInTurn : List Entry → List Event → List Operation → ℕ → 
 AreInTurn schedule journal history count =
     (place : ℕ) → place < count → IsInTurn schedule journal history place
 
+-- An event keeps to its turn, where so many steps were taken and so many calls were answered before
+-- it, of all calls: a call is of the node at its thread's number, around, and the thread of a
+-- process is its number modulo the clients; a step is that of the next entry, and as many calls were
+-- answered as that waits for, or all.
+abbrev pub KeepsTurn : PlanValue → ℕ → ℕ → ℕ → Event → Type 0
+KeepsTurn plan steps calls all (Event.Call process node request draw reply) =
+    node ≡ process % plan.clients % length plan.env.names
+KeepsTurn plan steps calls all (Event.Step step answer) =
+    (due : Entry) × (slice_get plan.schedule steps ≡ Some due) × (step ≡ due.step)
+    × (min due.at all ≤ calls)
+KeepsTurn plan steps calls all Event.Tick = ⊤
+
+-- so does the event of this number in a journal
+abbrev pub IsTurnKept : PlanValue → List Event → ℕ → Type 0
+IsTurnKept plan journal number =
+    (event : Event) → slice_get journal number ≡ Some event
+    → KeepsTurn plan (applied_count (take number journal)) (answered_count (take number journal))
+    (answered_count journal) event
+
+-- so does each below a number
+abbrev pub AreTurnsKept : PlanValue → List Event → ℕ → Type 0
+AreTurnsKept plan journal count =
+    (number : ℕ) → number < count → IsTurnKept plan journal number
+
+-- a tick
+abbrev pub is_tick : Event → Bool
+is_tick (Event.Call process node request draw reply) = false
+is_tick (Event.Step step answer) = false
+is_tick Event.Tick = true
+
+-- how many ticks follow the calls of a thread: one follows every so many, and none where the plan
+-- says 0, since a number by 0 is 0
+abbrev pub ticks_of : PlanValue → List Event → ℕ → ℕ
+ticks_of plan journal thread = calls_by plan.clients thread journal / plan.tick_every
+
+-- and those of all threads together
+abbrev pub ticks_owed : PlanValue → List Event → ℕ
+ticks_owed plan journal = sum_by (ticks_of plan journal) (range_with_len 0 plan.clients)
+
 -- the nemesis's completions end all entries of the schedule in order, each by an event of its
--- step, and the clients made no more calls than the plan has
+-- step, and the clients made no more calls than the plan has; each event of the journal keeps to its
+-- turn, and it has as many ticks as follow its calls
 pub record FollowsPlan (plan : PlanValue) (journal : List Event)
     (history : List Operation) : Type 0 where
   pub in_turn : AreInTurn plan.schedule journal history (length history)
   pub all_ended : count_by is_answered_step history ≡ length plan.schedule
   pub few_calls : count_by is_answered_call history ≤ plan.ops
+  pub turns : AreTurnsKept plan journal (length journal)
+  pub ticks : count_by is_tick journal ≡ ticks_owed plan journal

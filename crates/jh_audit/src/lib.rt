@@ -10,6 +10,8 @@ mod forms;
 mod horizon;
 mod planned;
 mod replies;
+mod ticks;
+mod turns;
 
 pub use checks::{AuditFault, audit};
 pub use planned::follows_plan;

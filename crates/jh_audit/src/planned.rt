@@ -13,6 +13,8 @@ ghost use Rattle.jh_audit.specs.declared.forms.Form.TheVariants.{Ends};
 
 use crate::forms::{Form, form_at};
 use crate::replies::has_answer;
+use crate::ticks::has_its_ticks;
+use crate::turns::are_turns_kept;
 use jh_edn::Value;
 use jh_nemesis::Step;
 use jh_ops::{Kind, Op};
@@ -142,15 +144,23 @@ fn ended_in_turn(schedule: &[Entry], journal: &[Event], history: &[Op]) -> Optio
 
 /// Whether the history of a run keeps to its plan: the nemesis's completions end all entries of
 /// the schedule in order, each by an event of the journal that is of its step, and the clients
-/// completed no more calls than the plan has.
+/// completed no more calls than the plan has. And whether its journal does: each call is of the node
+/// of its thread, each step is that of the next entry, once so many calls were answered as it waits
+/// for, or all, and there are as many ticks as follow the calls of its threads.
 ///
-/// Takes no memory, and time linear in the history and in what the faults of the schedule name.
+/// Takes no memory, and time linear in the history, in the journal for each client, and in what the
+/// faults of the schedule name.
 pub fn follows_plan(plan: &Plan, journal: &[Event], history: &[Op]) -> bool
     ensures { IsTrue result ↔ FollowsPlan plan.now journal.now (operations history.now) }
 {
     let schedule = plan.schedule().entries();
     match ended_in_turn(schedule, journal, history) {
-        Some(ended) => { ended == schedule.len() && answered_calls(history) <= plan.ops() as usize }
+        Some(ended) => {
+            ended == schedule.len()
+                && answered_calls(history) <= plan.ops() as usize
+                && are_turns_kept(plan, journal)
+                && has_its_ticks(plan, journal)
+        }
         None => false,
     }
 }
