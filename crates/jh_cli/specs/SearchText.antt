@@ -16,6 +16,7 @@ use Rattle.jh_settings.specs.Settings.{AreSettingsOf}
 use Rattle.jh_settings.specs.declared.choices.Mode.{Mode}
 use Rattle.jh_settings_texts.specs.Comments.{behind_comment}
 use Rattle.jh_settings_texts.specs.DocumentWritten.{schedule_document}
+use Rattle.jh_settings_texts.specs.SettingsWritten.{CanBeWritten}
 use Rattle.jh_settings_texts.specs.declared.schedule.Spread.{Spread}
 use Rattle.jh_cli.specs.declared.search_command.SearchQuestion.{SearchQuestion}
 use Rattle.jh_cli.specs.declared.search_command.Show.{Show}
@@ -81,10 +82,10 @@ IsAnswerText None p options status output = IsSearchedText p options status outp
 IsAnswerText (Some show) p options status output =
     IsShownText p options show output × (status ≡ 0)
 
--- For an input, with the exit status: the plan and the budget are those that it means, and its
--- mode does not matter. The question names kinds of faults.
+-- For an input, with the exit status: the plan and the budget are those that it means, its mode does
+-- not matter, and settings can say the plan again. The question names kinds of faults.
 abbrev pub IsSearchTextOf : SearchQuestion → List ℕ → ℕ → List ℕ → Type 0
 IsSearchTextOf question input status output =
     (palette : Palette) × (p : PlanValue) × (mode : Mode) × (budget : ℕ)
-    × (question.palette ≡ Some palette) × AreSettingsOf input p mode budget
+    × (question.palette ≡ Some palette) × AreSettingsOf input p mode budget × CanBeWritten p
     × IsAnswerText question.show p (search_options question palette budget) status output

@@ -1,7 +1,7 @@
 //! A world behind a lock, whose journal is counted by the shares of those that call it.
 
 ghost use Rattle.std.specs.Prelude.{◌≡◌, ◌+◌, ◌<◌, [], length, sum_by, IfOk, IfSome, OnOk, OnErr};
-ghost use Rattle.std.specs.Prelude.{MatchResult, ⊤};
+ghost use Rattle.std.specs.Prelude.{◌≤◌, MatchResult, IsSome, ⊤};
 ghost use Rattle.jh_nemesis.specs.Steps.{FitsNodes};
 ghost use Rattle.jh_simnode.specs.Limits.{max_events};
 ghost use Rattle.jh_simnode.specs.Events.{AddsEvent, Refuses};
@@ -160,8 +160,11 @@ impl<L: Ledger> Counted<L> {
     /// The world, once all shares are back.
     fn settle(self, shares: Vec<WorldShare<L>>) -> Option<World>
         requires { L.parts ≡ 32 }
-        ensures { IfSome result
+        ensures counted { IfSome result
             (λ world. length world.journal ≡ sum_by (λ share. share.count) shares.items) }
+        ensures world { IfSome result (λ world. world ≡ self.world) }
+        ensures back { self.left + length shares.items ≡ 32 → IsSome result }
+        ensures whole { length shares.items ≡ 32 → IsSome result }
     {
         let Counted {
             world,
@@ -169,11 +172,12 @@ impl<L: Ledger> Counted<L> {
             rest,
             left,
         } = self;
-        if left.saturating_add(shares.len() as u64) != PARTS {
-            return None;
-        }
+        let back = left.saturating_add(shares.len() as u64);
         let mut book = book;
         let mut all = merged(rest, shares);
+        if back != PARTS {
+            return None;
+        }
         // Who has all parts of the ledger has its total.
         book.audit(&mut all);
         Some(world)
@@ -191,6 +195,7 @@ impl<L: Ledger> Counted<L> {
 /// All these shares in one.
 fn merged<L: Ledger>(rest: Share<L>, shares: Vec<WorldShare<L>>) -> Share<L>
     ensures parts { result.parts ≡ rest.parts + length shares.items }
+    ensures few { 0 < length shares.items → result.parts ≤ L.parts }
     ensures amount { result.amount ≡ rest.amount + sum_by (λ share. share.count) shares.items }
 {
     let mut all = rest;
@@ -240,11 +245,12 @@ impl<L: Ledger> LockedWorld<L> {
     }
 
     /// The world again, once all shares that were handed out are back: their counts sum to the
-    /// length of its journal. `None` where one is missing.
+    /// length of its journal. `None` where one is missing, so never where there are 32.
     pub fn settle(self, shares: Vec<WorldShare<L>>) -> Option<World>
         requires { L.parts ≡ 32 }
-        ensures { IfSome result
+        ensures counted { IfSome result
             (λ world. length world.journal ≡ sum_by ⟦<WorldShare<L> as Count>⟧.total shares.items) }
+        ensures whole { length shares.items ≡ 32 → IsSome result }
     {
         let LockedWorld { inside } = self;
         inside.into_inner().settle(shares)

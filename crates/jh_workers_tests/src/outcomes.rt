@@ -1,9 +1,9 @@
 //! What runs come to.
 //!
 //! The text of a row is settings. They come to the error of their run; or to the number of client completions and of the
-//! nemesis's operations in its history, the ids that are active after its journal, what the audit finds and what is wrong
-//! with the journal, whether the journal is that of a replay under the same settings, and the error of a second run. Or they
-//! come to the value of the last operation.
+//! nemesis's operations in its history, the ids that are active after its journal, what the audit finds, whether the
+//! journal is that of a replay under the same settings, and the error of a second run. Or they come to the value of the
+//! last operation.
 
 use crate::journals;
 use crate::rows::{Kind, ask_all};
@@ -56,15 +56,16 @@ fn active(alloc: Global, plan: &Plan, journal: &[Event]) -> Option<String> {
     format!(in alloc; "{ids:?}").ok()
 }
 
-/// What the audit finds, and what is wrong with the journal.
+/// What the audit finds.
 fn audited(plan: &Plan, journal: &[Event], history: &[Op]) -> &'static str {
     if audit(journal, history).is_err() {
         return "refused";
     }
-    if !follows_plan(plan, journal, history) {
-        return "not as planned";
+    if follows_plan(plan, journal, history) {
+        "audited"
+    } else {
+        "not as planned"
     }
-    journals::wrong_with(plan, journal).unwrap_or("audited")
 }
 
 /// The text of the journal of a replay.

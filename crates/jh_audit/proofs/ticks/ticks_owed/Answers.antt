@@ -1,4 +1,4 @@
-use Rattle.std.proofs.Common.{◌≡◌, ◌+◌, arith}
+use Rattle.std.proofs.Common.{arith}
 use Rattle.jh_audit.specs.Plans.{ticks_of}
 use Rattle.jh_audit.proofs.TurnLemmas.{sum_more}
 use Rattle.jh_audit.proofs.ticks.ticks_owed.Goals as goal

@@ -21,6 +21,7 @@ returns-in-Ok g c =
       settings.budget,
       c.requires.palette,
       c.in_ok-settings.ensures,
+      c.can_be_written.ensures.0 (search rules),
       subst (λ (options : Options). IsAnswerText c.args.question.show settings.plan options output.status output.text.items) c.options_of-options.ensures c.in-Ok.ensures,
     )
 
