@@ -44,20 +44,24 @@ fn is_right(alloc: Global, plan: &Plan, row: &str) -> Option<bool> {
     Some(text.as_slice() == wanted.as_bytes())
 }
 
-/// How many of these rows are right, each tried once more where memory was refused. None: it was refused to the plan.
-fn right_rows(alloc: Global, settings: &str, rows: &str) -> Option<usize> {
-    let plan = plan_of(alloc, settings)?;
+/// How many of these rows are right, each tried once more where memory was refused.
+fn right_rows_of(alloc: Global, plan: &Plan, rows: &str) -> usize {
     let mut right = 0;
     for row in rows.trim().lines() {
-        let is_one = match is_right(alloc, &plan, row) {
-            None => is_right(alloc, &plan, row),
+        let is_one = match is_right(alloc, plan, row) {
+            None => is_right(alloc, plan, row),
             answer => answer,
         };
         if is_one == Some(true) {
             right = usize::saturating_add(right, 1);
         }
     }
-    Some(right)
+    right
+}
+
+/// How many are right of the plan of settings. None: memory was refused to that.
+fn right_rows(alloc: Global, settings: &str, rows: &str) -> Option<usize> {
+    Some(right_rows_of(alloc, &plan_of(alloc, settings)?, rows))
 }
 
 /// The same, tried once more where memory was refused.
@@ -97,8 +101,15 @@ fn is_plain(alloc: Global, plan: &Plan, options: &Options, number: u64) -> Optio
 
 /// The same of a candidate and of a candidate of that one, which is a plan whose seed and schedule are random.
 fn are_plain(alloc: Global, plan: &Plan, options: &Options, number: u64) -> Option<bool> {
-    let random = candidate(alloc, plan, options, number).ok()?;
-    Some(is_plain(alloc, plan, options, number)? && is_plain(alloc, &random, options, number)?)
+    if !is_plain(alloc, plan, options, number)? {
+        return Some(false);
+    }
+    is_plain(
+        alloc,
+        &candidate(alloc, plan, options, number).ok()?,
+        options,
+        number,
+    )
 }
 
 /// The first of so many candidates that differs from the plain one, or whose own candidate does. Up to eight faults of a
@@ -133,34 +144,58 @@ fn candidates_are_the_plain_ones(rt: HostRuntime) {
     assert_eq!(rt; first_other_of(rt.alloc(), ONE, 500), Some(None));
 }
 
-/// The plan with so many entries, all due at once.
-fn crowded(alloc: Global, settings: &str, count: usize) -> Option<Plan> {
-    let plan = plan_of(alloc, settings)?;
+/// So many entries, all due at once.
+fn crowd_of(alloc: Global, count: usize) -> Option<Schedule> {
     let mut entries = Vec::new(alloc);
     for _ in 0..count {
         let step = Step::Undo;
         entries.push(Entry { at: 3, step }).ok()?;
     }
-    plan.with_schedule(alloc, Schedule::of(entries).ok()?).ok()
+    Schedule::of(entries).ok()
 }
 
-/// How many entries a candidate of a plan with so many has, and whether they are the plain ones.
-fn crowd(alloc: Global, count: usize) -> Option<(usize, bool)> {
-    let plan = crowded(alloc, THREE, count)?;
+/// The plan with that schedule.
+fn crowded(alloc: Global, plan: &Plan, count: usize) -> Option<Plan> {
+    plan.with_schedule(alloc, crowd_of(alloc, count)?).ok()
+}
+
+/// How many entries a candidate has.
+fn entries_of(alloc: Global, plan: &Plan, options: &Options) -> Option<usize> {
+    Some(
+        candidate(alloc, plan, options, 1)
+            .ok()?
+            .schedule()
+            .entries()
+            .len(),
+    )
+}
+
+/// How many entries a candidate of a plan has, and whether they are the plain ones.
+fn crowd_in(alloc: Global, plan: &Plan) -> Option<(usize, bool)> {
     let options = options_of(9, 0, 0);
-    let made = candidate(alloc, &plan, &options, 1).ok()?;
-    let is_plain = is_plain(alloc, &plan, &options, 1)?;
-    Some((made.schedule().entries().len(), is_plain))
+    Some((
+        entries_of(alloc, plan, &options)?,
+        is_plain(alloc, plan, &options, 1)?,
+    ))
+}
+
+/// The same of a plan that is given so many entries.
+fn crowd_by(alloc: Global, plan: &Plan, count: usize) -> Option<(usize, bool)> {
+    crowd_in(alloc, &crowded(alloc, plan, count)?)
+}
+
+fn crowd(alloc: Global, count: usize) -> Option<(usize, bool)> {
+    crowd_by(alloc, &plan_of(alloc, THREE)?, count)
 }
 
 /// What a schedule has no room for is left out.
 #[test]
 fn a_full_schedule_takes_no_more(rt: HostRuntime) {
     for (count, all) in [(1_024, 1_024), (1_021, 1_024), (1_000, 1_017)] {
-        let crowd_of = match crowd(rt.alloc(), count) {
+        let found = match crowd(rt.alloc(), count) {
             None => crowd(rt.alloc(), count),
             answer => answer,
         };
-        assert_eq!(rt; crowd_of, Some((all, true)));
+        assert_eq!(rt; found, Some((all, true)));
     }
 }

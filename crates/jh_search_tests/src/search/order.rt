@@ -39,14 +39,25 @@ fn turned_in(alloc: Global, plan: &Plan, number: u64) -> Option<u32> {
     )
 }
 
-/// How many steps of the plan of settings are not, and how many of so many candidates.
-fn turned_of(alloc: Global, settings: &str, count: u64) -> Option<(u32, u32)> {
-    let plan = plan_of(alloc, settings)?;
+/// How many steps of so many candidates are not.
+fn turned_among(alloc: Global, plan: &Plan, count: u64) -> Option<u32> {
     let mut turned = 0u32;
     for number in 0..count {
-        turned = turned.saturating_add(turned_in(alloc, &plan, number)?);
+        turned = turned.saturating_add(turned_in(alloc, plan, number)?);
     }
-    Some((turned_steps(alloc, &plan)?, turned))
+    Some(turned)
+}
+
+/// How many steps of a plan are not, and how many of so many candidates.
+fn turned_both(alloc: Global, plan: &Plan, count: u64) -> Option<(u32, u32)> {
+    Some((
+        turned_steps(alloc, plan)?,
+        turned_among(alloc, plan, count)?,
+    ))
+}
+
+fn turned_of(alloc: Global, settings: &str, count: u64) -> Option<(u32, u32)> {
+    turned_both(alloc, &plan_of(alloc, settings)?, count)
 }
 
 #[test]

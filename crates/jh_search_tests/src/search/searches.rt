@@ -1,8 +1,11 @@
 //! Searches of small plans. Which candidate is the first that fails, a slow program in another language works out from the
 //! definitions.
 
+ghost use Rattle.std.specs.Prelude.{◌≤◌, IfSome};
+
 use crate::search::fixtures::{QUORUM, THREE, options_of, plan_of};
-use jh_search::{Searched, search, search_serial};
+use jh_search::{Options, Searched, search, search_serial};
+use jh_simnode::Plan;
 use std::alloc::Global;
 use std::sync::Wait;
 use std::thread::Threads;
@@ -24,7 +27,36 @@ static OF_CLOCKS: [Case; 5] = [
 /// Of one whose store asks a majority.
 static OF_QUORUM: [Case; 1] = [(6, 0, 40, 100_000, None, 0)];
 
+/// What is asked in a case. None: more than is meant here.
+fn options_in(case: &Case) -> Option<Options>
+    ensures { IfSome result (λ options. (options.from ≤ 1000) × (options.runs ≤ 1000)) }
+{
+    let (faults, from, runs, budget, _, _) = *case;
+    if from > 1_000 || runs > 1_000 {
+        return None;
+    }
+    let mut options = options_of(faults, from, runs);
+    options.budget = budget;
+    Some(options)
+}
+
 /// What is found on so many threads, and where that is 0 by the serial call. None: memory was refused.
+fn found_in<R: Threads + Wait + Sync>(
+    rt: &R,
+    alloc: Global,
+    plan: &Plan,
+    options: &Options,
+    threads: u32,
+) -> Option<Searched>
+    requires { (options.now.from ≤ 1000) × (options.now.runs ≤ 1000) }
+{
+    match threads {
+        1..=16 => search(rt, alloc, plan, options, threads).ok(),
+        _ => search_serial(alloc, plan, options).ok(),
+    }
+}
+
+/// The same of the plan of settings.
 fn found<R: Threads + Wait + Sync>(
     rt: &R,
     alloc: Global,
@@ -32,17 +64,8 @@ fn found<R: Threads + Wait + Sync>(
     case: &Case,
     threads: u32,
 ) -> Option<Searched> {
-    let plan = plan_of(alloc, settings)?;
-    let (faults, from, runs, budget, _, _) = *case;
-    if from > 1_000 || runs > 1_000 {
-        return None;
-    }
-    let mut options = options_of(faults, from, runs);
-    options.budget = budget;
-    match threads {
-        1..=16 => search(rt, alloc, &plan, &options, threads).ok(),
-        _ => search_serial(alloc, &plan, &options).ok(),
-    }
+    let options = options_in(case)?;
+    found_in(rt, alloc, &plan_of(alloc, settings)?, &options, threads)
 }
 
 /// Whether each search finds what it should, tried once more where memory was refused.
