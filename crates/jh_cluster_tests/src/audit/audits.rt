@@ -1,7 +1,7 @@
 //! Histories that differ in one thing from that of a run.
 
 use crate::audit::rows::{Run, first_wrong, judged, run_of};
-use crate::first_runs::plan_of;
+use crate::first::plan_of;
 use jh_ops::Request;
 use jh_simnode::{Event, Got, Plan, Reply, node_of};
 use std::alloc::Global;

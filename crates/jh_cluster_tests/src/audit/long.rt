@@ -1,7 +1,7 @@
 //! A history as long as that of a run may be.
 
 use crate::audit::rows::{Run, judged};
-use crate::first_runs::plan_of;
+use crate::first::plan_of;
 use jh_ops::{Op, Request};
 use jh_simnode::{Event, Got, Reply, completion, invocation, node_of, push_placed};
 use std::alloc::Global;

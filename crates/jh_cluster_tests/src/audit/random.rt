@@ -4,7 +4,7 @@
 
 use crate::audit::rows::{Run, run_of};
 use crate::plain_audit::{Line, audited_slowly, change, lines_of, text_of};
-use crate::plain_nemesis::Random;
+use crate::random::Random;
 use jh_audit::audit;
 use jh_edn::{read_all, write};
 use jh_ops::{Op, history_of, value_of};

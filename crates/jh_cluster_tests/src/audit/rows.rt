@@ -3,7 +3,7 @@
 //! follows the plan. White space around both is no part of them.
 
 use crate::audit::histories::changed;
-use crate::first_runs::plan_of;
+use crate::first::plan_of;
 use jh_audit::{audit, follows_plan};
 use jh_ops::Op;
 use jh_simnode::{Event, Plan, run_serial};

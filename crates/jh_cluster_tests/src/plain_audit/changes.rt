@@ -2,7 +2,7 @@
 //! or says something else.
 
 use crate::plain_audit::lines::Line;
-use crate::plain_nemesis::Random;
+use crate::random::Random;
 
 static KINDS: [&str; 4] = ["invoke", "ok", "fail", "info"];
 

@@ -1,7 +1,7 @@
 //! Requests, faults and steps that look random.
 
-use crate::plain_nemesis::Random;
 use crate::plain_simnode::reach::node_at;
+use crate::random::Random;
 use jh_env::{Env, Fault, Node};
 use jh_nemesis::Step;
 use jh_ops::Request;

@@ -2,7 +2,7 @@
 //!
 //! None is answered where memory was refused.
 
-use crate::first_runs::entry;
+use crate::first::entry;
 use crate::shrink::entries::{dues, schedule};
 use jh_shrink::{EditError, Editor, InsertError, MAX_EDITS};
 use std::alloc::Global;

@@ -2,7 +2,7 @@
 //!
 //! None is answered where memory was refused.
 
-use crate::first_runs::entry;
+use crate::first::entry;
 use jh_simnode::{Entry, Schedule};
 use std::alloc::Global;
 

@@ -2,7 +2,7 @@
 //!
 //! None is answered where memory was refused.
 
-use crate::plain_nemesis::Random;
+use crate::random::Random;
 use crate::shrink::entries::{dues, schedule};
 use jh_shrink::{ShrinkError, Shrunk, shrink};
 use jh_simnode::{Entry, Schedule};

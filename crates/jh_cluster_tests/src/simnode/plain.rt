@@ -4,8 +4,8 @@
 ghost use Rattle.std.specs.Prelude.{[]};
 ghost use Rattle.jh_env.specs.Overlay.{StandsFor};
 
-use crate::plain_nemesis::Random;
 use crate::plain_simnode::{PlainCluster, node_at, random_place, random_request, random_step};
+use crate::random::Random;
 use crate::simnode::fixtures::{env_of, value};
 use jh_edn::Value;
 use jh_env::Env;

@@ -1,7 +1,7 @@
 use Rattle.std.proofs.Common.{◌≡◌, [], ◌∷◌, rules}
 use Rattle.jh_tables.specs.Faults.{is_same_node}
-use Rattle.jh_cluster_tests.proofs.FaultLemmas.{one_apart}
-use Rattle.jh_cluster_tests.proofs.first_faults.killed.Goals as goal
+use Rattle.jh_fault_tests.proofs.FaultLemmas.{one_apart}
+use Rattle.jh_fault_tests.proofs.first.killed.Goals as goal
 
 pub put-requires-clause-right : goal.put-requires-clause-right
 put-requires-clause-right c =

@@ -1,8 +1,8 @@
 -- The faults are put behind one another.
 use Rattle.std.proofs.Common.{ℕ, [], ◌∷◌, arith}
 use Rattle.jh_env.specs.Faults.{FaultValue}
-use Rattle.jh_cluster_tests.proofs.StampLemmas.{one, two}
-use Rattle.jh_cluster_tests.proofs.env.taking.put_both.Goals as goal
+use Rattle.jh_fault_tests.proofs.StampLemmas.{one, two}
+use Rattle.jh_fault_tests.proofs.env.taking.put_both.Goals as goal
 
 pub put-requires-2-clause-room : goal.put-requires-2-clause-room
 put-requires-2-clause-room c =

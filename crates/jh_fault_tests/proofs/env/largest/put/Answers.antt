@@ -1,8 +1,8 @@
 -- The fix is put where nothing stands.
 use Rattle.std.proofs.Common.{ℕ, []}
 use Rattle.jh_env.specs.Faults.{FaultValue}
-use Rattle.jh_cluster_tests.proofs.StampLemmas.{one}
-use Rattle.jh_cluster_tests.proofs.env.largest.put.Goals as goal
+use Rattle.jh_fault_tests.proofs.StampLemmas.{one}
+use Rattle.jh_fault_tests.proofs.env.largest.put.Goals as goal
 
 pub returns : goal.returns
 returns c =

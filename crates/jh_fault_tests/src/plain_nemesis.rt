@@ -1,5 +1,5 @@
 //! A plain slow nemesis, and starts, faults and steps that look random: `nemesis` compares
-//! that of `jh_nemesis` with it, and the other plain programs take their random numbers here.
+//! that of `jh_nemesis` with it.
 
 mod cells;
 mod draws;
