@@ -42,6 +42,39 @@ schedule = [
 ]
 "#;
 
+// The same, where the first entry waits for a call.
+const LATER: &str = r#"
+start = '{:nodes ["n1" "n2" "n3"]}'
+store = "quorum"
+workload = "register"
+clients = 1
+ops = 2
+generator = '[:forever :read]'
+schedule = [
+    '[1 [:begin 1 [:pause ["n3"]]]]',
+    '[1 [:begin 2 [:kill ["n1" "n2"]]]]',
+    '[1 [:withdraw 2]]',
+    '[1 [:withdraw 1]]',
+]
+"#;
+
+// The same, where a tick follows two calls.
+const TICKING: &str = r#"
+start = '{:nodes ["n1" "n2" "n3"]}'
+store = "quorum"
+workload = "register"
+clients = 1
+ops = 2
+tick_every = 2
+generator = '[:forever :read]'
+schedule = [
+    '[0 [:begin 1 [:pause ["n3"]]]]',
+    '[1 [:begin 2 [:kill ["n1" "n2"]]]]',
+    '[1 [:withdraw 2]]',
+    '[1 [:withdraw 1]]',
+]
+"#;
+
 const KILL_HISTORY: &str = r#"
 {:type :info, :process :nemesis, :f :step, :value 0}
 {:type :info, :process :nemesis, :f :step, :value [0 0], :event 0}
@@ -107,6 +140,8 @@ fn is_given(alloc: Global, settings: &str, wanted: &str) -> bool {
 fn a_run_follows_its_plan(rt: HostRuntime) {
     assert!(rt; is_given(rt.alloc(), KILL, "ok, as planned"));
     assert!(rt; is_given(rt.alloc(), LONGER, "ok, not as planned"));
+    assert!(rt; is_given(rt.alloc(), LATER, "ok, not as planned"));
+    assert!(rt; is_given(rt.alloc(), TICKING, "ok, not as planned"));
 }
 
 /// The first row of which something else is answered, for a history of the run of these settings.
@@ -186,7 +221,7 @@ fn call_of_0(plan: &Plan, request: Request, reply: Reply) -> Event {
     }
 }
 
-/// A write of process 0 whose answer was lost, and a read of the same process.
+/// A write of process 0 whose answer was lost, and a read of the same process. The ticks behind both are missing.
 fn unknown_write(alloc: Global) -> Option<Run> {
     let plan = plan_of(alloc, READS)?;
     let mut journal = Vec::new(alloc);
@@ -206,15 +241,15 @@ const UNKNOWN_HISTORY: &str = r#"
 "#;
 
 const UNKNOWN_ROWS: &str = r#"
-→ operation 2: unpaired, as planned
+→ operation 2: unpaired, not as planned
 § 1 {:type :ok, :process 0, :f :write, :value 5, :event 0}
-→ operation 1: wrong event, as planned
+→ operation 1: wrong event, not as planned
 § 2 {:type :invoke, :process 1, :f :read, :value nil}
 3 {:type :ok, :process 1, :f :read, :value 5, :event 1}
-→ operation 3: wrong event, as planned
+→ operation 3: wrong event, not as planned
 § 2
 3
-→ event 1: not named, as planned
+→ event 1: not named, not as planned
 "#;
 
 #[test]
