@@ -9,8 +9,8 @@ pub use Rattle.jh_edn.proofs.FingerprintLemmas.{same_fingerprint}
 -- a stable sort gives the list in order, also by a key
 pub use Rattle.jh_edn.proofs.SortLemmas.{sorted_is, map_in_order, in_order_ascends, in_order_is}
 pub use Rattle.jh_edn.proofs.NormalListLemmas.{held_below, sorted_items}
--- the items of a list are its values
-pub use Rattle.jh_edn.proofs.SequenceLemmas.{list_of-items_of}
+-- the items of a list are its values, and the members of a map its pairs
+pub use Rattle.jh_edn.proofs.SequenceLemmas.{list_of-items_of, pairs_in-members_of}
 -- a text that is written after another, and one more text behind joined ones
 pub use Rattle.jh_edn.proofs.PrintLemmas.{appends_then, joined_more}
 -- one text has one next value, or a gap, and what spells a value reads as it

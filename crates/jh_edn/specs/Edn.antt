@@ -102,6 +102,16 @@ pairs_in (member key value ms) = (key, value) ∷ pairs_in ms
 abbrev pub value_under : List ℕ → List (Edn × Edn) → Option Edn
 value_under name pairs = option_map (λ pair. pair.1) (find (λ pair. is_keyword name pair.0) pairs)
 
+-- the pairs of a value that is a map
+abbrev pub map_pairs : Edn → Option (List (Edn × Edn))
+map_pairs (mapping ms) = Some (pairs_in ms)
+map_pairs _ = None
+
+-- a value without the tags around it
+abbrev pub untagged_value : Edn → Edn
+untagged_value (tagged tag value) = untagged_value value
+untagged_value value = value
+
 -- nothing is in the list
 abbrev pub is_empty : {A : Type 0} → List A → Bool
 is_empty [] = true

@@ -3,7 +3,7 @@
 //! `specs/Edn.antt` says what a contract sees of a value and `specs/View.antt` how it sees it. A
 //! kind of element is added here, there and in `specs/Code.antt`.
 
-ghost use Rattle.std.specs.Prelude.{◌≡◌, ◌↔◌, [], length, IsTrue, IfOk, option_map};
+ghost use Rattle.std.specs.Prelude.{◌≡◌, ◌↔◌, [], length, IsTrue, IfErr, IfOk, None, Some, option_map};
 ghost use Rattle.jh_edn.specs.Edn as edn;
 ghost use Rattle.jh_edn.specs.Edn.{elements_of};
 ghost use Rattle.jh_edn.specs.View.{view, views, view_pairs};
@@ -16,7 +16,7 @@ use std::marker::Model;
 /// An EDN element: one of the kinds that EDN's format description lists under "Built-in elements",
 /// floating point numbers left out.
 #[cycle(value)]
-#[derive(Debug, Drop)]
+#[derive(Debug)]
 pub enum Value {
     Nil,
     Bool(bool),
@@ -35,6 +35,27 @@ pub enum Value {
     /// A set, its elements in the order in which they were written.
     Set(Values),
     Tagged(Tagged),
+}
+
+// Written out, it is one call wherever a value is dropped. A derived one is proved there, for each
+// kind of value.
+impl Drop for Value {
+    fn drop(self) {
+        match self {
+            Value::Nil
+            | Value::Bool(_)
+            | Value::Int(_)
+            | Value::Char(_)
+            | Value::Str(_)
+            | Value::Keyword(_)
+            | Value::Symbol(_)
+            | Value::List(_)
+            | Value::Vector(_)
+            | Value::Map(_)
+            | Value::Set(_)
+            | Value::Tagged(_) => (),
+        }
+    }
 }
 
 /// Values in order. A contract sees a list.
@@ -170,6 +191,57 @@ impl Value {
         match self {
             Value::List(items) => Some(items.as_slice()),
             Value::Vector(items) => Some(items.as_slice()),
+            _ => None,
+        }
+    }
+
+    /// The tagged element, where the value is one, and any other value as it is.
+    pub fn into_tagged(self) -> Result<Tagged, Value>
+        ensures tagged { IfOk result (λ t. view self ≡ edn.tagged t.0 t.1) }
+        ensures other { IfErr result
+            (λ value. (value ≡ self) × (edn.untagged_value (view self) ≡ view self)) }
+    {
+        match self {
+            Value::Tagged(tagged) => Ok(tagged),
+            other => Err(other),
+        }
+    }
+
+    /// The value without the tags around it.
+    pub fn untagged(self) -> Value
+        ensures { view result ≡ edn.untagged_value (view self) }
+    {
+        let mut value = self;
+        loop {
+            match value.into_tagged() {
+                Ok(tagged) => value = tagged.into_parts().1,
+                Err(other) => return other,
+            }
+        }
+    }
+
+    /// The elements of a sequence, a list or a vector, given back without memory, and any other
+    /// value as it is.
+    pub fn into_elements(self) -> Result<Vec<Value>, Value>
+        ensures elements { IfOk result
+            (λ items. elements_of (view self) ≡ Some (views items.items)) }
+        ensures other { IfErr result
+            (λ value. (elements_of (view self) ≡ None) × (value ≡ self)) }
+    {
+        match self {
+            Value::List(items) => Ok(items.into_vec()),
+            Value::Vector(items) => Ok(items.into_vec()),
+            other => Err(other),
+        }
+    }
+
+    /// The pairs of a map, where the value is one, given back without memory.
+    pub fn into_pairs(self) -> Option<Vec<(Value, Value)>>
+        ensures { option_map (λ pairs. view_pairs pairs.items) result
+            ≡ edn.map_pairs (view self) }
+    {
+        match self {
+            Value::Map(pairs) => Some(pairs.into_vec()),
             _ => None,
         }
     }

@@ -4,17 +4,13 @@ use Rattle.std.proofs.lemmas.List.{at_drop_more}
 use Rattle.std.proofs.lemmas.List.Folds.{list_all-map}
 use Rattle.std.specs.List.{list_all}
 use Rattle.jh_edn.specs.Edn.{Edn, mapping, members_of, is_keyword, value_under, pairs_in}
+use Rattle.jh_edn.proofs.CitedLemmas.{pairs_in-members_of}
 use Rattle.jh_edn.specs.View.{view, view_pair, view_pairs}
 use Rattle.jh_edn.specs.declared.value.Value.{Value}
 use Rattle.jh_env.specs.Text.{has_known_key, nodes_keyword, text_keys, Keys, each_of}
 use Rattle.jh_env.specs.TextInside.{list_with_front, RefusesShape}
 use Rattle.jh_env.specs.declared.texts.EnvTextError.TheVariants.{UnknownKey, MissingNodes, BadEntry, OutOfMemory}
 use Rattle.jh_env.specs.declared.texts.EnvTextError.{EnvTextError}
-
--- the pairs of a map are those that it was made of
-pub pairs_in-members_of : (ms : List (Edn × Edn)) → pairs_in (members_of ms) ≡ ms
-pairs_in-members_of [] = refl
-pairs_in-members_of (m ∷ ms) = ap (λ ns. m ∷ ns) (pairs_in-members_of ms)
 
 -- the value under a keyword is that of the first pair that a program finds
 pub value_under-found : (name : List ℕ) (pairs : List (Value × Value))

@@ -32,7 +32,6 @@ pub(crate) struct Count {
 
 /// What is left of a generator.
 #[cycle(node)]
-#[derive(Drop)]
 pub(crate) enum Node {
     Gone,
     One(Call),
@@ -42,6 +41,22 @@ pub(crate) enum Node {
     Limited(u32, Within),
     Mixed(Row),
     Split(Lots),
+}
+
+// Written out, as that of a generator.
+impl Drop for Node {
+    fn drop(self) {
+        match self {
+            Node::Gone
+            | Node::One(_)
+            | Node::Counting(_)
+            | Node::Endless(_)
+            | Node::InTurn(_, _)
+            | Node::Limited(_, _)
+            | Node::Mixed(_)
+            | Node::Split(_) => (),
+        }
+    }
 }
 
 /// A member, and whether it has given a call.

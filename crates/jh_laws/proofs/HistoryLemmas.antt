@@ -3,12 +3,12 @@ use Rattle.std.proofs.Common.{◌≡◌, ℕ, List, [], ◌∷◌, ◌++◌, map
 use Rattle.std.specs.Prelude.{ℤ, unwrap_or, Result}
 use Rattle.std.specs.List.{All, AllByRecursion}
 use Rattle.std.proofs.lemmas.List.Elements.{All-map, All-weaker, All-from_recursion, recursion_from_All}
-use Rattle.jh_edn.specs.Edn.{Edn, list, vector, Items, no_items, item, list_of, elements_of, keyword}
+use Rattle.jh_edn.specs.Edn.{Edn, list, vector, Items, no_items, item, list_of, elements_of, keyword, untagged_value}
 use Rattle.jh_edn.specs.Printable.{IsPrintable, ArePrintable}
 use Rattle.jh_edn.specs.Spelling.{depth_limit}
 use Rattle.jh_ops.specs.HistoryText.{elements_in, AreParsed}
 use Rattle.jh_ops.specs.Operation.{Operation}
-use Rattle.jh_ops.specs.OperationText.{untagged_value, parsed_op, kind_of_value, process_of}
+use Rattle.jh_ops.specs.OperationText.{parsed_op, kind_of_value, process_of}
 use Rattle.jh_ops.specs.OperationWritten.{value_written, kind_name, process_value, OperationsReadBack}
 use Rattle.jh_ops.specs.declared.op_text.OpError.{OpError}
 use Rattle.jh_ops.specs.declared.operation.Kind.{Kind}

@@ -5,12 +5,12 @@ use Rattle.std.specs.Int.{w64}
 use Rattle.std.specs.Str.{bytes_eq}
 use Rattle.std.proofs.lemmas.Bool.{and_parts, true≢false}
 use Rattle.std.proofs.lemmas.Slice.Eq.{bytes_eq-Decides}
-use Rattle.jh_edn.specs.Edn.{Edn, nil, boolean, int, char, str, keyword, symbol, list, vector, mapping, set, tagged, Members, no_members, member, members_of, is_keyword, is_integer, integer_of, pairs_in, value_under}
+use Rattle.jh_edn.specs.Edn.{Edn, nil, boolean, int, char, str, keyword, symbol, list, vector, mapping, set, tagged, Members, no_members, member, members_of, is_keyword, is_integer, integer_of, pairs_in, value_under, untagged_value, map_pairs}
 use Rattle.jh_edn.specs.Equality.{IsNew, keys_of, KeysDiffer}
 use Rattle.jh_edn.specs.Printable.{IsPrintable, ArePrintablePairs}
 use Rattle.jh_edn.specs.Spelling.{depth_limit}
 use Rattle.jh_ops.specs.Operation.{Operation}
-use Rattle.jh_ops.specs.OperationText.{untagged_value, map_pairs, is_integer_under, integer_under, is_other, process_of, result_of_needed, kind_in, f_in, process_in, ◌>>=◌, op_of_fields, op_of_pairs, parsed_op}
+use Rattle.jh_ops.specs.OperationText.{is_integer_under, integer_under, is_other, process_of, result_of_needed, kind_in, f_in, process_in, ◌>>=◌, op_of_fields, op_of_pairs, parsed_op}
 use Rattle.jh_ops.specs.OperationWritten.{IsWritable}
 use Rattle.jh_ops.specs.declared.op_text.OpError.{OpError}
 use Rattle.jh_ops.specs.declared.op_text.OpError.TheVariants.{NotMap, MissingF, MissingProcess, BadProcess}

@@ -3,12 +3,12 @@ use Rattle.std.proofs.Common.{◌≡◌, ℕ, zero, suc, ◌+◌, ◌<◌, List,
 use Rattle.std.specs.Prelude.{◌⊎◌, slice_get, unwrap_or, ok_or, Result, Ok, Err, IsOk}
 use Rattle.std.proofs.lemmas.Bool.{cases_eq}
 use Rattle.std.proofs.lemmas.List.{append_assoc, length-append, map-append, append-nil}
-use Rattle.jh_edn.specs.Edn.{Edn, list, vector, elements_of, list_of, items_of, value_under}
+use Rattle.jh_edn.specs.Edn.{Edn, list, vector, elements_of, list_of, items_of, value_under, untagged_value, map_pairs}
 use Rattle.jh_edn.specs.View.{view, views}
 use Rattle.jh_edn.specs.declared.value.Value.{Value}
 use Rattle.jh_ops.specs.HistoryText.{elements_in, parsed_elements, AreParsed, IsParsedAt, RefusesValues, history_error_at}
 use Rattle.jh_ops.specs.Operation.{Operation}
-use Rattle.jh_ops.specs.OperationText.{untagged_value, map_pairs, kind_of_value, process_of, result_of_needed, kind_in, f_in, process_in, ◌>>=◌, op_of_fields, op_of_pairs, parsed_op}
+use Rattle.jh_ops.specs.OperationText.{kind_of_value, process_of, result_of_needed, kind_in, f_in, process_in, ◌>>=◌, op_of_fields, op_of_pairs, parsed_op}
 use Rattle.jh_ops.specs.declared.history.HistoryError.TheVariants.{OutOfMemory}
 use Rattle.jh_ops.specs.declared.op_text.OpError.{OpError}
 use Rattle.jh_ops.specs.declared.op_text.OpError.TheVariants.{NotMap, MissingType, BadType, MissingF, MissingProcess, BadProcess}
@@ -130,10 +130,6 @@ refused_parsed values ops value rest OpError.MissingF parsed why = other_refused
 refused_parsed values ops value rest OpError.MissingProcess parsed why = other_refused values ops value rest OpError.MissingProcess parsed (λ same. cc) why
 refused_parsed values ops value rest OpError.BadProcess parsed why = other_refused values ops value rest OpError.BadProcess parsed (λ same. cc) why
 
-pub listed : (xs : List Edn) → list_of (items_of xs) ≡ xs
-listed [] = refl
-listed (x ∷ xs) = ap (λ ys. x ∷ ys) (listed xs)
-
 -- the one value, where there is one
 pub single : (values front : List Value) (value : Value) → values ≡ front ++ value ∷ [] → length values ≡ 1 → values ≡ value ∷ []
 single values [] value is one = is
@@ -142,10 +138,6 @@ single values (x ∷ xs) value is one =
     let more : length (xs ++ value ∷ []) ≡ length xs + 1 = length-append xs (value ∷ []) in
     absurd (omega (arith, long, more, one))
 
-pub elements_of_list : (values : List Value) (value : Value) (xs : List Edn) → values ≡ value ∷ [] → list (items_of xs) ≡ untagged_value (view value) → elements_in (views values) ≡ xs
-elements_of_list values value xs one is =
-    ap (λ vs. elements_in (views vs)) one ∙ ap (λ u. unwrap_or (elements_of u) (u ∷ [])) (sym is) ∙ listed xs
-
-pub elements_of_vector : (values : List Value) (value : Value) (xs : List Edn) → values ≡ value ∷ [] → vector (items_of xs) ≡ untagged_value (view value) → elements_in (views values) ≡ xs
-elements_of_vector values value xs one is =
-    ap (λ vs. elements_in (views vs)) one ∙ ap (λ u. unwrap_or (elements_of u) (u ∷ [])) (sym is) ∙ listed xs
+pub elements_of_sequence : (values : List Value) (value : Value) (xs : List Edn) → values ≡ value ∷ [] → elements_of (untagged_value (view value)) ≡ Some xs → elements_in (views values) ≡ xs
+elements_of_sequence values value xs one are =
+    ap (λ vs. elements_in (views vs)) one ∙ ap (λ found. unwrap_or found (untagged_value (view value) ∷ [])) are

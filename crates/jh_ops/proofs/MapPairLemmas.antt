@@ -9,32 +9,13 @@ use Rattle.std.proofs.lemmas.Slice.Eq.{bytes_eq-Decides}
 use Rattle.jh_edn.specs.Edn.{Edn, nil, boolean, int, char, str, keyword, symbol, list, vector, mapping, set, tagged, members_of, is_keyword, integer_of, pairs_in, value_under}
 use Rattle.jh_edn.specs.View.{view, view_pair, view_pairs}
 use Rattle.jh_edn.specs.declared.value.Value.{Value}
-use Rattle.jh_edn.specs.declared.value.Value.TheVariants.{Nil, Bool as Truth, Int, Char, Str, Keyword, Symbol, List as Listed, Vector, Map, Set, Tagged}
-use Rattle.jh_ops.specs.OperationText.{untagged_value, is_integer_under, integer_under, is_other, process_of, result_of_needed, kind_in, f_in, process_in, ◌>>=◌, op_of_fields, op_of_pairs}
+use Rattle.jh_edn.specs.declared.value.Value.TheVariants.{Nil}
+use Rattle.jh_ops.specs.OperationText.{is_integer_under, integer_under, is_other, process_of, result_of_needed, kind_in, f_in, process_in, ◌>>=◌, op_of_fields, op_of_pairs}
 use Rattle.jh_ops.specs.declared.op_text.OpError.{OpError}
 use Rattle.jh_ops.specs.declared.op_text.OpError.TheVariants.{MissingF, MissingProcess, BadProcess}
 use Rattle.jh_ops.specs.declared.operation.Kind.{Kind}
 use Rattle.jh_ops.specs.declared.operation.Process.{Process}
 use Rattle.jh_ops.specs.PartsInside.{pairs_without_first}
-
-pub pairs_in-members_of : (ms : List (Edn × Edn)) → pairs_in (members_of ms) ≡ ms
-pairs_in-members_of [] = refl
-pairs_in-members_of (m ∷ ms) = ap (λ ns. m ∷ ns) (pairs_in-members_of ms)
-
--- a value that is not tagged has no tags around it
-pub untagged_value-plain : (value : Value) → ((t : List ℕ × Edn) → value ≡ Tagged t → ⊥) → view value ≡ untagged_value (view value)
-untagged_value-plain Nil plain = refl
-untagged_value-plain (Truth b) plain = refl
-untagged_value-plain (Int z) plain = refl
-untagged_value-plain (Char x) plain = refl
-untagged_value-plain (Str text) plain = refl
-untagged_value-plain (Keyword text) plain = refl
-untagged_value-plain (Symbol text) plain = refl
-untagged_value-plain (Listed xs) plain = refl
-untagged_value-plain (Vector xs) plain = refl
-untagged_value-plain (Map ms) plain = refl
-untagged_value-plain (Set xs) plain = refl
-untagged_value-plain (Tagged t) plain = absurd (plain t refl)
 
 -- ---- what is found among the pairs that a program holds
 

@@ -2,15 +2,16 @@
 use Rattle.std.proofs.Common.{◌≡◌, ℕ, Bool, true, false, List, [], ◌∷◌, find, filter, Option, Some, None, refl, sym, ap, ◌∙◌, inl, inr, codes}
 use Rattle.std.specs.Prelude.{ℤ, not, cond, option_and_then, ok_or, Result, Ok, Err}
 use Rattle.std.proofs.lemmas.Bool.{cases_Bool, and_parts}
-use Rattle.jh_edn.specs.Edn.{Edn, keyword, is_keyword, is_integer, integer_of}
+use Rattle.jh_edn.specs.Edn.{Edn, keyword, is_keyword, is_integer, integer_of, untagged_value, map_pairs}
 use Rattle.jh_ops.specs.Operation.{Operation}
-use Rattle.jh_ops.specs.OperationText.{untagged_value, map_pairs, is_integer_under, integer_under, is_other, kind_of_value, process_of, result_of_needed, kind_in, f_in, process_in, ◌>>=◌, op_of_fields, op_of_pairs, parsed_op}
+use Rattle.jh_ops.specs.OperationText.{is_integer_under, integer_under, is_other, kind_of_value, process_of, result_of_needed, kind_in, f_in, process_in, ◌>>=◌, op_of_fields, op_of_pairs, parsed_op}
 use Rattle.jh_ops.specs.OperationWritten.{kind_name, process_value, pairs_written, value_written}
 use Rattle.jh_ops.specs.declared.op_text.OpError.{OpError}
 use Rattle.jh_ops.specs.declared.op_text.OpError.TheVariants.{NotMap, BadType, BadProcess}
 use Rattle.jh_ops.specs.declared.operation.Kind.{Kind}
 use Rattle.jh_ops.specs.declared.operation.Process.{Process}
-use Rattle.jh_ops.proofs.MapPairLemmas.{pairs_in-members_of, keyword_is, parsed-parts}
+use Rattle.jh_edn.proofs.CitedLemmas.{pairs_in-members_of}
+use Rattle.jh_ops.proofs.MapPairLemmas.{keyword_is, parsed-parts}
 
 -- ---- what is kept as it stands
 

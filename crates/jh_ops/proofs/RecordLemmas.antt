@@ -18,7 +18,7 @@ use Rattle.jh_ops.specs.Words.{Content, Nothing, One, Several, content_value, co
 use Rattle.jh_ops.specs.declared.record.Function.{Function}
 use Rattle.jh_ops.specs.declared.record.Shape.{Shape}
 use Rattle.jh_ops.proofs.MapPairLemmas.{keyword_is}
-use Rattle.jh_ops.proofs.HistoryLemmas.{listed}
+use Rattle.jh_edn.proofs.CitedLemmas.{list_of-items_of}
 
 -- ---- its function
 
@@ -111,17 +111,17 @@ then_some_is false = refl
 -- the shape of a vector of these values
 pub shape_of_vector : (values : List Value) (b : Bool) → list_all (λ v. is_integer (view v)) values ≡ b → shape_of_value (vector (items_of (views values))) ≡ cond b (Some Shape.Vector) None
 shape_of_vector values b all =
-    ap (λ xs. cond (list_all is_integer xs) (Some Shape.Vector) None) (listed (views values)) ∙ ap (λ t. cond t (Some Shape.Vector) None) (list_all-map is_integer view values ∙ all)
+    ap (λ xs. cond (list_all is_integer xs) (Some Shape.Vector) None) (list_of-items_of (views values)) ∙ ap (λ t. cond t (Some Shape.Vector) None) (list_all-map is_integer view values ∙ all)
 
 shape_again : (c : Content) → shape_of_value (content_value c) ≡ Some (shape_in c)
 shape_again Nothing = refl
 shape_again (One z) = refl
-shape_again (Several zs) = ap (λ xs. cond (list_all is_integer xs) (Some Shape.Vector) None) (listed (map int zs)) ∙ ap (λ b. cond b (Some Shape.Vector) None) (are_integers_again zs)
+shape_again (Several zs) = ap (λ xs. cond (list_all is_integer xs) (Some Shape.Vector) None) (list_of-items_of (map int zs)) ∙ ap (λ b. cond b (Some Shape.Vector) None) (are_integers_again zs)
 
 pub elements_are : (c : Content) → elements (content_value c) ≡ map int (integers c)
 elements_are Nothing = refl
 elements_are (One z) = refl
-elements_are (Several zs) = listed (map int zs)
+elements_are (Several zs) = list_of-items_of (map int zs)
 
 count_mapped : (zs : List ℤ) → length (map int zs) ≡ length zs
 count_mapped [] = refl

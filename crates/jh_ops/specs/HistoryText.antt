@@ -2,9 +2,9 @@
 -- single sequence may hold them is this project's own). Places count from 0.
 use Rattle.std.specs.Prelude.{◌≡◌, ℕ, ◌<◌, ◌≤◌, List, [], ◌∷◌, map, slice_get, Some, unwrap_or}
 use Rattle.std.specs.Prelude.{Result, Ok, Err}
-use Rattle.jh_edn.specs.Edn.{Edn, elements_of}
+use Rattle.jh_edn.specs.Edn.{Edn, elements_of, untagged_value}
 use Rattle.jh_ops.specs.Operation.{Operation}
-use Rattle.jh_ops.specs.OperationText.{untagged_value, parsed_op}
+use Rattle.jh_ops.specs.OperationText.{parsed_op}
 use Rattle.jh_ops.specs.declared.history.HistoryError.{HistoryError}
 use Rattle.jh_ops.specs.declared.history.HistoryError.TheVariants.{Op, OutOfMemory}
 use Rattle.jh_ops.specs.declared.op_text.OpError.{OpError}

@@ -5,8 +5,8 @@ use Rattle.std.specs.Prelude.{find, if◌then◌else◌, Option, Some, None, opt
 use Rattle.std.specs.Prelude.{unwrap_or, Result, Ok, Err, MatchResult, IsOk}
 use Rattle.std.specs.List.{list_any}
 use Rattle.std.specs.Str.{bytes_eq}
-use Rattle.jh_edn.specs.Edn.{Edn, nil, int, keyword, mapping, tagged, is_keyword, is_integer}
-use Rattle.jh_edn.specs.Edn.{integer_of, pairs_in, value_under}
+use Rattle.jh_edn.specs.Edn.{Edn, nil, int, keyword, is_keyword, is_integer, integer_of}
+use Rattle.jh_edn.specs.Edn.{map_pairs, untagged_value, value_under}
 use Rattle.jh_ops.specs.Operation.{Operation, operation}
 use Rattle.jh_ops.specs.declared.op_text.OpError.{OpError}
 use Rattle.jh_ops.specs.declared.op_text.OpError.TheVariants.{NotMap, MissingType, BadType}
@@ -15,16 +15,6 @@ use Rattle.jh_ops.specs.declared.op_text.OpError.TheVariants.{OutOfMemory}
 use Rattle.jh_ops.specs.declared.operation.Kind.{Kind}
 use Rattle.jh_ops.specs.declared.operation.Op.{Op}
 use Rattle.jh_ops.specs.declared.operation.Process.{Process}
-
--- a value without the tags around it
-abbrev pub untagged_value : Edn → Edn
-untagged_value (tagged tag value) = untagged_value value
-untagged_value value = value
-
--- the pairs of a value that is a map
-abbrev pub map_pairs : Edn → Option (List (Edn × Edn))
-map_pairs (mapping ms) = Some (pairs_in ms)
-map_pairs _ = None
 
 -- an integer under a keyword
 abbrev pub is_integer_under : List ℕ → Edn × Edn → Bool

@@ -7,7 +7,7 @@ ghost use Rattle.jh_ops.specs.HistoryText.{AreParsed, RefusesValues, history_err
 ghost use Rattle.jh_ops.specs.Operation.{operations};
 ghost use Rattle.jh_ops.specs.OperationWritten.{IsWritable};
 
-use crate::op_text::{OpError, op_of, untag};
+use crate::op_text::{OpError, op_of};
 use crate::operation::Op;
 use jh_edn::Value;
 use std::alloc::{AllocFailed, Global};
@@ -54,10 +54,9 @@ fn elements_in(values: Vec<Value>) -> Vec<Value>
     let Some(value) = values.pop() else {
         return values;
     };
-    match untag(value) {
-        Value::List(items) => items.into_vec(),
-        Value::Vector(items) => items.into_vec(),
-        single => {
+    match value.untagged().into_elements() {
+        Ok(items) => items,
+        Err(single) => {
             values.push_reserved(single);
             values
         }

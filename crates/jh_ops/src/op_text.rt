@@ -6,7 +6,6 @@ ghost use Rattle.jh_edn.specs.Edn.{int, is_keyword, value_under};
 ghost use Rattle.jh_edn.specs.View.{view, view_pair, view_pairs};
 ghost use Rattle.jh_ops.specs.OperationText as rule;
 ghost use Rattle.jh_ops.specs.OperationText.{IsOperationParsed, parsed_op, op_of_pairs};
-ghost use Rattle.jh_ops.specs.OperationText.{untagged_value};
 ghost use Rattle.jh_ops.specs.OperationWritten.{IsWritable};
 ghost use Rattle.jh_ops.specs.PartsInside.{pairs_without_first};
 
@@ -34,17 +33,6 @@ pub enum OpError {
     BadProcess,
     #[error("out of memory")]
     OutOfMemory,
-}
-
-/// A value without the tags around it.
-pub(crate) fn untag(value: Value) -> Value
-    ensures { view result ≡ untagged_value (view value) }
-{
-    let mut value = value;
-    while let Value::Tagged(tagged) = value {
-        value = tagged.into_parts().1;
-    }
-    value
 }
 
 /// The first pair with a keyword, if there is one.
@@ -239,8 +227,8 @@ pub fn op_of(alloc: Global, value: Value) -> Result<Op, OpError>
     ensures parsed { IsOperationParsed result (parsed_op (view value)) }
     ensures writable { IfOk result (λ op. IsWritable op.process) }
 {
-    match untag(value) {
-        Value::Map(pairs) => op_in(alloc, pairs.into_vec()),
-        _ => Err(OpError::NotMap),
+    match value.untagged().into_pairs() {
+        Some(pairs) => op_in(alloc, pairs),
+        None => Err(OpError::NotMap),
     }
 }

@@ -2,7 +2,6 @@
 use Rattle.std.proofs.Common.{◌≡◌, Bool, List, [], ◌∷◌, refl, ap}
 use Rattle.std.specs.Prelude.{◌||◌, Option, map}
 use Rattle.std.specs.List.{filter_map, list_any}
-use Rattle.jh_edn.specs.Edn.{Edn, members_of, pairs_in}
 
 -- what is kept of the images
 pub filter_map-map : {X Y Z : Type 0} (h : Y → Option Z) (f : X → Y) (xs : List X) → filter_map h (map f xs) ≡ filter_map (λ x. h (f x)) xs
@@ -13,8 +12,3 @@ filter_map-map h f (x ∷ xs) = rw (filter_map-map h f xs) refl
 pub list_any-map : {X Y : Type 0} (p : Y → Bool) (f : X → Y) (xs : List X) → list_any p (map f xs) ≡ list_any (λ x. p (f x)) xs
 list_any-map p f [] = refl
 list_any-map p f (x ∷ xs) = ap (λ b. p (f x) || b) (list_any-map p f xs)
-
--- the pairs of a map are those that it was made of
-pub pairs_in-members_of : (ms : List (Edn × Edn)) → pairs_in (members_of ms) ≡ ms
-pairs_in-members_of [] = refl
-pairs_in-members_of (m ∷ ms) = ap (λ ns. m ∷ ns) (pairs_in-members_of ms)

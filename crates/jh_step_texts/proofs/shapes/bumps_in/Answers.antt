@@ -1,4 +1,4 @@
-use Rattle.jh_step_texts.proofs.ListLemmas.{pairs_in-members_of}
+use Rattle.jh_edn.proofs.CitedLemmas.{pairs_in-members_of}
 use Rattle.jh_step_texts.proofs.shapes.bumps_in.Goals as goal
 
 pub returns-in-Map : goal.returns-in-Map
