@@ -45,6 +45,7 @@ pub(crate) enum Node {
 
 // Written out, as that of a generator.
 impl Drop for Node {
+    #[cycle(drop)]
     fn drop(self) {
         match self {
             Node::Gone
