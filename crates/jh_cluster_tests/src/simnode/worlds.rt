@@ -179,7 +179,7 @@ fn act(alloc: Global, world: &mut World, text: &mut Vec<u8>, act: &Value) -> Opt
     match act.elements() {
         None if keyword_name(act) == "replicas" => put_replicas(world, text),
         None => tick(world, text),
-        Some([Value::Int(_), ..]) => call(world, text, act.elements()?),
+        Some([first, ..]) if first.is_integer() => call(world, text, act.elements()?),
         Some(_) => step(alloc, world, text, act),
     }
 }
