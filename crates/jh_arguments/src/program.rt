@@ -16,6 +16,7 @@ use jh_shrink::Observer;
 use std::alloc::Global;
 use std::env::Env;
 use std::fs::Files;
+use std::io::Write;
 use std::sync::Wait;
 use std::thread::Threads;
 use std::time::{Clock, Instant};
@@ -89,6 +90,29 @@ impl<P: Eprint> Progress<'_, P> {
         if self.is_shown {
             let _ = eprint!(self.rt; "{EMPTY_LINE}");
         }
+    }
+}
+
+/// A writer before whose first byte what was told on the terminal is taken off.
+#[derive(Drop)]
+struct BehindProgress<'a, P, W> {
+    rt: &'a P,
+    writer: W,
+    /// Whether something was told that still stands there.
+    is_told: bool,
+}
+
+impl<P: Eprint, W: Write> Write for BehindProgress<'_, P, W> {
+    fn write(&mut self, buffer: &[u8]) -> io::Result<usize> {
+        if self.is_told {
+            self.is_told = false;
+            let _ = eprint!(self.rt; "{EMPTY_LINE}");
+        }
+        self.writer.write(buffer)
+    }
+
+    fn flush(&mut self) -> io::Result<()> {
+        self.writer.flush()
     }
 }
 
@@ -201,12 +225,17 @@ where
         is_shown: terminals.errors && matches!(command, Command::Shrink(_) | Command::Search(_)),
         start: Instant::now(rt).ok(),
     };
+    let mut writer = BehindProgress {
+        rt,
+        writer: io::writer(rt),
+        is_told: progress.is_shown,
+    };
     let answer = run(
         rt,
         rt.alloc(),
         command,
         &mut rt.reader(),
-        &mut io::writer(rt),
+        &mut writer,
         &mut progress,
     );
     progress.end();
