@@ -25,6 +25,8 @@ pub(crate) enum Ask {
     Fingerprints,
     IsNormal,
     Tagged,
+    Apart,
+    Untagged,
 }
 
 /// The error of a row that cannot be asked. It is no row's answer, as `holds` takes it for memory that was refused.
@@ -56,6 +58,8 @@ fn answer(alloc: Global, ask: &Ask, question: &str) -> Result<Vec<u8>, EdnError>
         Ask::Fingerprints => values::fingerprints(alloc, question),
         Ask::IsNormal => values::is_normal(alloc, question),
         Ask::Tagged => values::tagged(alloc, question),
+        Ask::Apart => values::apart(alloc, question),
+        Ask::Untagged => values::untagged(alloc, question),
     }
 }
 

@@ -1,6 +1,7 @@
-//! The order of values, their normal form, copies, fingerprints and tags: the texts of the format, and that the calls
-//! succeed.
+//! The order of values, their normal form, copies, fingerprints, tags and what they hold: the texts of the format, and
+//! that the calls succeed.
 
+use crate::edn::reading::print_all;
 use crate::edn::rows::{Ask, MALFORMED, ask_all};
 use jh_edn::{
     EdnError, Tagged, Text, Value, Values, normal_laws, print_laws, put, read_all, write,
@@ -183,6 +184,70 @@ fn tags_and_names(rt: HostRuntime) -> Result<(), Fail> {
         \x1eabcdefghijklmno\x1fthe tag is a name, the list empty\
         \x1eabcdefghijklmnop\x1fthe tag is a name, the list empty";
     ask_all(rt.alloc(), &Ask::Tagged, rows)
+}
+
+/// The one value of a text.
+fn only(alloc: Global, text: &str) -> Result<Value, EdnError> {
+    let mut values = read_all(alloc, &mut text.as_bytes(), 2)?;
+    values.pop().ok_or(MALFORMED)
+}
+
+/// The pairs, each printed as its key, an equals sign and its value, ended by a semicolon.
+fn print_pairs(alloc: Global, pairs: &[(Value, Value)]) -> Result<Vec<u8>, EdnError> {
+    let mut printed = Vec::new(alloc);
+    for (key, value) in pairs {
+        write(key, &mut printed)?;
+        put(b"=", &mut printed)?;
+        write(value, &mut printed)?;
+        put(b";", &mut printed)?;
+    }
+    Ok(printed)
+}
+
+/// What a value without a tag holds, taken out of it.
+fn contents(alloc: Global, value: Value) -> Result<Vec<u8>, EdnError> {
+    match value.into_elements() {
+        Ok(elements) => print_all(alloc, &elements),
+        Err(other) => match other.into_pairs() {
+            Some(pairs) => print_pairs(alloc, &pairs),
+            None => Ok(b"nothing".to_vec(alloc)?),
+        },
+    }
+}
+
+/// What the value of a text holds, taken out of it: the element of a tag, the elements of a sequence, the pairs of a map.
+pub(crate) fn apart(alloc: Global, text: &str) -> Result<Vec<u8>, EdnError> {
+    match only(alloc, text)?.into_tagged() {
+        Ok(tagged) => print_all(alloc, &[tagged.into_parts().1]),
+        Err(other) => contents(alloc, other),
+    }
+}
+
+#[test]
+fn takes_values_apart(rt: HostRuntime) -> Result<(), Fail> {
+    let rows = "\
+        #a #b [1]\x1f#b [1]\
+        \x1e(1 [2])\x1f1 [2]\
+        \x1e[3 :a]\x1f3 :a\
+        \x1e[]\x1f\
+        \x1e{:b [1], a {2 3}}\x1f:b=[1];a={2 3};\
+        \x1e#{1}\x1fnothing\
+        \x1e7\x1fnothing";
+    ask_all(rt.alloc(), &Ask::Apart, rows)
+}
+
+/// The value of a text without the tags around it, printed.
+pub(crate) fn untagged(alloc: Global, text: &str) -> Result<Vec<u8>, EdnError> {
+    print_all(alloc, &[only(alloc, text)?.untagged()])
+}
+
+#[test]
+fn takes_tags_off(rt: HostRuntime) -> Result<(), Fail> {
+    let rows = "\
+        #a #b [#c 1]\x1f[#c 1]\
+        \x1e#a 1\x1f1\
+        \x1e{:a #b 2}\x1f{:a #b 2}";
+    ask_all(rt.alloc(), &Ask::Untagged, rows)
 }
 
 #[test]
