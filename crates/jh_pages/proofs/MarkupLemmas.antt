@@ -1,5 +1,5 @@
 -- No byte of an escaped text is read as markup.
-use Rattle.std.proofs.Common.{◌≡◌, ℕ, ◌+◌, ◌/◌, ◌%◌, ◌<◌, ◌≤◌, Bool, true, false, not, ◌&&◌, ◌||◌, cond, eqb, ltb, List, [], ◌∷◌, ◌++◌, codes, refl, ap, ◌∙◌, append_assoc, arith}
+use Rattle.std.proofs.Common.{◌≡◌, ℕ, ◌+◌, ◌/◌, ◌%◌, ◌<◌, ◌≤◌, Bool, true, false, not, ◌&&◌, ◌||◌, cond, eqb, ltb, List, [], ◌∷◌, ◌++◌, codes, length, take, refl, ap, subst, ◌∙◌, append_assoc, append-nil, arith}
 use Rattle.std.proofs.lemmas.Bool.{ne_eqb}
 use Rattle.std.proofs.lemmas.Bool.Decides.{nat_tests}
 use Rattle.std.proofs.lemmas.Fmt.{digits_is_IsNumeral}
@@ -7,7 +7,8 @@ use Rattle.std.specs.Char.{digit_value}
 use Rattle.std.specs.Fmt.{digits}
 use Rattle.std.specs.List.{flat_map}
 use Rattle.std.specs.Str.Parse.{AllDigits}
-use Rattle.jh_pages.specs.Markup.{escaped_text, is_inert, is_markup, is_hidden, number_text, escaped_character}
+use Rattle.jh_pages.specs.Markup.{escaped_text, short_text, is_inert, is_markup, is_hidden, is_invisible, number_text, escaped_character}
+use Rattle.jh_pages.specs.declared.markup.TheConstants.{MAX_SHOWN}
 use lib.Utf8.{encode, next}
 
 -- none of the bytes could be markup
@@ -60,10 +61,10 @@ digits_plain : (ds : List ℕ) → AllDigits 16 ds → is_plain ds ≡ true
 digits_plain [] all = refl
 digits_plain (d ∷ ds) all = plain_more d ds (digit_plain d all.0) (digits_plain ds all.1)
 
-unshown_below : (c : ℕ) → is_hidden c ≡ true → c < 65536
+unshown_below : (c : ℕ) → is_hidden c || is_invisible c ≡ true → c < 65536
 unshown_below c h = grind (arith, nat_tests)
 
-number_inert : (c : ℕ) (s : List ℕ) → is_hidden c ≡ true → is_inert s ≡ true → is_inert (number_text c ++ s) ≡ true
+number_inert : (c : ℕ) (s : List ℕ) → is_hidden c || is_invisible c ≡ true → is_inert s ≡ true → is_inert (number_text c ++ s) ≡ true
 number_inert c s h e =
     let small : c < 65536 = unshown_below c h in
     let numeral = digits_is_IsNumeral 16 false (omega arith) (omega arith) c (omega (arith, small)) in
@@ -102,11 +103,22 @@ unfolding escaped_character
 shown_inert c s e =
     either (eqb c 60) _ _ s e (λ l. either (eqb c 62) _ _ s e (λ g. either (eqb c 38) _ _ s e (λ a.
     either (eqb c 34) _ _ s e (λ q. either (eqb c 39) _ _ s e (λ p.
-    either_way (is_hidden c) _ _ s (λ h. number_inert c s h e) (λ _. itself_inert c s (markup_false c l g a q p) e))))))
+    either_way (is_hidden c || is_invisible c) _ _ s (λ h. number_inert c s h e) (λ _. itself_inert c s (markup_false c l g a q p) e))))))
 
-all_inert : (cs : List ℕ) → is_inert (flat_map escaped_character cs) ≡ true
-all_inert [] = refl
-all_inert (c ∷ cs) = shown_inert c (flat_map escaped_character cs) (all_inert cs)
+all_inert : (cs s : List ℕ) → is_inert s ≡ true → is_inert (flat_map escaped_character cs ++ s) ≡ true
+all_inert [] s e = e
+all_inert (c ∷ cs) s e =
+    rw (append_assoc (escaped_character c) (flat_map escaped_character cs) s) (shown_inert c (flat_map escaped_character cs ++ s) (all_inert cs s e))
+
+whole_inert : (cs : List ℕ) → is_inert (flat_map escaped_character cs) ≡ true
+whole_inert cs = subst (λ text. is_inert text ≡ true) (append-nil (flat_map escaped_character cs)) (all_inert cs [] refl)
 
 pub escaped_inert : (text : List ℕ) → is_inert (escaped_text text) ≡ true
-escaped_inert text = all_inert _
+escaped_inert text = whole_inert _
+
+pub short_inert : (characters : List ℕ) → is_inert (short_text characters) ≡ true
+short_inert cs = choose (ltb MAX_SHOWN (length cs))
+  where
+    choose : (b : Bool) → is_inert (cond b (flat_map escaped_character (take MAX_SHOWN cs) ++ codes "&#8230;") (flat_map escaped_character cs)) ≡ true
+    choose true = all_inert (take MAX_SHOWN cs) (codes "&#8230;") refl
+    choose false = whole_inert cs

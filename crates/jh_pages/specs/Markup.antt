@@ -1,6 +1,7 @@
 -- A text as it stands in the page, where no character of it is read as markup (XML 1.0: section 2.2
 -- says which characters a document may have, 4.1 and 4.6 how an entity stands for one). A line feed
--- stays; another character that would not show stands as `\u{1f}` (this project's own).
+-- stays; another character that would not show, or that turns or hides the text around it, stands as
+-- `\u{1f}` (this project's own).
 use Rattle.std.specs.Prelude.{ℕ, length, take, Bool, true, false, not, ◌&&◌, ◌||◌, ◌==◌, nat_lt}
 use Rattle.jh_edn.specs.Bytes.{quote}
 use Rattle.std.specs.Prelude.{nat_eq, List, [], ◌∷◌, ◌++◌, if◌then◌else◌, codes, encode_utf8}
@@ -28,6 +29,14 @@ abbrev pub is_hidden : ℕ → Bool
 is_hidden c =
     (nat_lt c 32 && not (c == 10)) || (nat_lt 126 c && nat_lt c 160) || c == 65534 || c == 65535
 
+-- A character that turns the direction of the text around it (Unicode Standard Annex 9: U+200E,
+-- U+200F, U+202A to U+202E, U+2066 to U+2069), or that joins or parts what is around it and has no
+-- width (U+200B to U+200D, U+FEFF).
+abbrev pub is_invisible : ℕ → Bool
+is_invisible c =
+    (nat_lt 8202 c && nat_lt c 8208) || (nat_lt 8233 c && nat_lt c 8239)
+    || (nat_lt 8293 c && nat_lt c 8298) || c == 65279
+
 -- a character by its number, in hexadecimal digits
 abbrev pub number_text : ℕ → List ℕ
 number_text c = codes "\\u{" ++ (digits 16 false c ++ codes "}")
@@ -38,7 +47,7 @@ escaped_character c =
     if c == less_sign then codes "&lt;" else if c == greater_sign then codes "&gt;"
     else if c == ampersand then codes "&amp;"
     else if c == quote then codes "&quot;" else if c == apostrophe then codes "&#39;"
-    else if is_hidden c then number_text c else encode_utf8 c
+    else if is_hidden c || is_invisible c then number_text c else encode_utf8 c
 
 -- a text, as it stands between tags and in attributes
 abbrev pub escaped_text : List ℕ → List ℕ
@@ -65,8 +74,11 @@ short_bytes bytes = short_text (chars (utf8_lossy bytes))
 abbrev pub is_markup : ℕ → Bool
 is_markup b = b == less_sign || b == greater_sign || b == ampersand || b == quote || b == apostrophe
 
+-- what an ampersand begins: the five characters of markup, and dots
 abbrev pub entities : List (List ℕ)
-entities = codes "&lt;" ∷ codes "&gt;" ∷ codes "&amp;" ∷ codes "&quot;" ∷ codes "&#39;" ∷ []
+entities =
+    codes "&lt;" ∷ codes "&gt;" ∷ codes "&amp;" ∷ codes "&quot;" ∷ codes "&#39;"
+    ∷ codes "&#8230;" ∷ []
 
 -- an entity begins the text
 abbrev pub begins_entity : List ℕ → Bool

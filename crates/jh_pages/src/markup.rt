@@ -58,13 +58,15 @@ fn write_shown<W: Write>(c: char, writer: &mut W) -> Result<(), PageError>
         '\0'..='\t' | '\x0b'..='\x1f' | '\x7f'..='\u{9f}' | '\u{fffe}' | '\u{ffff}' => write_number(
             c, writer,
         ),
+        '\u{200b}'..='\u{200f}' | '\u{202a}'..='\u{202e}' | '\u{2066}'..='\u{2069}' | '\u{feff}' =>
+            write_number(c, writer),
         _ => write_itself(c, writer),
     }
 }
 
 /// Writes a text so that it can stand between tags and in attributes, and no character of it is
-/// read as markup: `<`, `>`, `&` and quotes as entities, and what would not show as `\u{..}`, but
-/// for line feeds, which stay.
+/// read as markup: `<`, `>`, `&` and quotes as entities; as `\u{..}` what would not show, but for
+/// line feeds, which stay, and what turns or hides the text around it.
 ///
 /// Takes no memory. The writer may have taken a part of the text where it failed.
 ///
@@ -123,7 +125,9 @@ pub(crate) fn write_escaped_bytes<W: Write>(
     write_escaped(text.as_str(), writer)
 }
 
-/// A law: no byte of an escaped text is read as markup, whatever the text is.
+/// A law: no byte of an escaped text is read as markup, whatever the text is, and none of one that is
+/// cut short, as labels are.
 pub fn escaped_text_is_inert()
-    ensures { (text : List ℕ) → IsTrue (is_inert (escaped_text text)) }
+    ensures whole { (text : List ℕ) → IsTrue (is_inert (escaped_text text)) }
+    ensures short { (characters : List ℕ) → IsTrue (is_inert (short_text characters)) }
 {}

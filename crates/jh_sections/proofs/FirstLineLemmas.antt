@@ -1,6 +1,6 @@
 -- A text that means no history as a whole, and the first line in it that begins with `:active`.
 use Rattle.std.proofs.Common.{◌≡◌, ◌∙◌, ℕ, zero, suc, ◌+◌, ◌<◌, List, [], ◌∷◌, drop, map, Some, sym, ap, subst, arith, add-one}
-use Rattle.std.specs.Prelude.{Result, Ok, Err, slice_get, codes}
+use Rattle.std.specs.Prelude.{Result, Ok, Err, slice_get}
 use Rattle.std.specs.Str.Pattern.{HasTextAt, LacksTextAt}
 use Rattle.jh_edn.specs.Edn.{Edn}
 use Rattle.jh_edn.specs.Spelling.{SpellsAll}

@@ -7,7 +7,7 @@ use Rattle.jh_ops.specs.Operation.{Operation, operations}
 use Rattle.jh_pages.specs.declared.section.Section.{Section}
 use Rattle.jh_sections.specs.Windows.{focus_of, is_open, window_of}
 use Rattle.jh_sections.specs.declared.window.Choice.{Choice}
-use Rattle.jh_timeline.specs.Lanes.{AreBarsOf, AreLanesOf, fault_indexes}
+use Rattle.jh_timeline.specs.Lanes.{AreBarsOf, AreKeptApart, AreLanesOf, fault_indexes}
 use Rattle.jh_timeline.specs.declared.marks.Mark.{Mark}
 use Rattle.jh_timeline.specs.declared.picture.Bar.{Bar}
 use Rattle.jh_timeline.specs.declared.picture.Window.{Window}
@@ -35,7 +35,7 @@ IsWindowOf choice history found window =
     × (window ≡ window_of choice (length history) focus)
 
 -- The section has this heading and this history, the window, what of the history is drawn in it,
--- and a mark for what was found.
+-- no two bars over each other, and a mark for what was found.
 pub record IsSectionOf (heading : List ℕ) (history : List Operation) (found : Option Finding)
     (choice : Choice) (section : Section)
     : Type 0 where
@@ -43,6 +43,7 @@ pub record IsSectionOf (heading : List ℕ) (history : List Operation) (found : 
   pub records : operations section.history.items ≡ history
   pub window : IsWindowOf choice history found section.window
   pub bars : AreBarsOf section.window history section.picture.bars.items
+  pub apart : AreKeptApart section.picture.bars.items
   pub faults : section.picture.faults.items ≡ fault_indexes section.window section.history.items
   pub lanes : AreLanesOf section.picture.bars.items section.picture.lanes.items
   pub marks : section.marks.items ≡ marks_in history found section.picture.bars.items

@@ -41,7 +41,7 @@ fn escaped(alloc: Global, text: &str) -> Option<Vec<u8>> {
 }
 
 /// Texts, each with what a page has in its place.
-const ESCAPED: [(&str, &str); 4] = [
+const ESCAPED: [(&str, &str); 5] = [
     ("", ""),
     (
         "<a href='b'>&amp;\"",
@@ -54,6 +54,10 @@ const ESCAPED: [(&str, &str); 4] = [
     (
         "\u{e9}\u{fffd}\u{fffe}\u{ffff}\u{1d11e}",
         "\u{e9}\u{fffd}\\u{fffe}\\u{ffff}\u{1d11e}",
+    ),
+    (
+        "\u{200a}\u{200b}\u{200f}\u{2010}\u{2029}\u{202a}\u{202e}\u{202f}\u{2065}\u{2066}\u{2069}\u{206a}\u{feff}",
+        "\u{200a}\\u{200b}\\u{200f}\u{2010}\u{2029}\\u{202a}\\u{202e}\u{202f}\u{2065}\\u{2066}\\u{2069}\u{206a}\\u{feff}",
     ),
 ];
 
