@@ -63,26 +63,26 @@ by_keys (KeysErrors.Key error) = by_checker error
 by_keys KeysErrors.Thread = tt
 by_keys KeysErrors.OutOfMemory = tt
 
-by_judging : (independent : Bool) (judging : Judging) (history : List Operation) (e : CliError) → RefusesBy independent judging history e → IsJudging e
-by_judging true judging history e refused = subst IsJudging (sym refused.2) (by_keys refused.0)
-by_judging false judging history e refused = subst IsJudging (sym refused.2) (by_checker refused.0)
+by_judging : (independent : Bool) (question : Question) (history : List Operation) (e : CliError) → RefusesBy independent question history e → IsJudging e
+by_judging true question history e refused = subst IsJudging (sym refused.3) (by_keys refused.0)
+by_judging false question history e refused = subst IsJudging (sym refused.2) (by_checker refused.0)
 
 pub judging_refused : (question : Question) (input : List ℕ) (history : List Operation) (e : CliError) → IsHistoryOf input history → RefusesJudging question history e → RefusesCheck question input e
-judging_refused question input history (Input error) parsed refused = absurd (by_judging question.independent question.judging history (Input error) refused)
-judging_refused question input history EnvironmentMissing parsed refused = absurd (by_judging question.independent question.judging history EnvironmentMissing refused)
-judging_refused question input history (Environment error) parsed refused = absurd (by_judging question.independent question.judging history (Environment error) refused)
-judging_refused question input history (Element place error) parsed refused = absurd (by_judging question.independent question.judging history (Element place error) refused)
-judging_refused question input history (History error) parsed refused = absurd (by_judging question.independent question.judging history (History error) refused)
+judging_refused question input history (Input error) parsed refused = absurd (by_judging question.independent question history (Input error) refused)
+judging_refused question input history EnvironmentMissing parsed refused = absurd (by_judging question.independent question history EnvironmentMissing refused)
+judging_refused question input history (Environment error) parsed refused = absurd (by_judging question.independent question history (Environment error) refused)
+judging_refused question input history (Element place error) parsed refused = absurd (by_judging question.independent question history (Element place error) refused)
+judging_refused question input history (History error) parsed refused = absurd (by_judging question.independent question history (History error) refused)
 judging_refused question input history (Check error) parsed refused = (parsed.0, parsed.1, (history, parsed.2, refused))
-judging_refused question input history (Settings error) parsed refused = absurd (by_judging question.independent question.judging history (Settings error) refused)
-judging_refused question input history (Run error) parsed refused = absurd (by_judging question.independent question.judging history (Run error) refused)
-judging_refused question input history HistoryFull parsed refused = absurd (by_judging question.independent question.judging history HistoryFull refused)
-judging_refused question input history Mismatch parsed refused = absurd (by_judging question.independent question.judging history Mismatch refused)
+judging_refused question input history (Settings error) parsed refused = absurd (by_judging question.independent question history (Settings error) refused)
+judging_refused question input history (Run error) parsed refused = absurd (by_judging question.independent question history (Run error) refused)
+judging_refused question input history HistoryFull parsed refused = absurd (by_judging question.independent question history HistoryFull refused)
+judging_refused question input history Mismatch parsed refused = absurd (by_judging question.independent question history Mismatch refused)
 judging_refused question input history Thread parsed refused = (parsed.0, parsed.1, (history, parsed.2, refused))
-judging_refused question input history OnlyForRegister parsed refused = absurd (by_judging question.independent question.judging history OnlyForRegister refused)
-judging_refused question input history OnlyForListAppend parsed refused = absurd (by_judging question.independent question.judging history OnlyForListAppend refused)
-judging_refused question input history BadPalette parsed refused = absurd (by_judging question.independent question.judging history BadPalette refused)
-judging_refused question input history Unwritable parsed refused = absurd (by_judging question.independent question.judging history Unwritable refused)
-judging_refused question input history Read parsed refused = absurd (by_judging question.independent question.judging history Read refused)
-judging_refused question input history Write parsed refused = absurd (by_judging question.independent question.judging history Write refused)
+judging_refused question input history OnlyForRegister parsed refused = absurd (by_judging question.independent question history OnlyForRegister refused)
+judging_refused question input history OnlyForListAppend parsed refused = absurd (by_judging question.independent question history OnlyForListAppend refused)
+judging_refused question input history BadPalette parsed refused = absurd (by_judging question.independent question history BadPalette refused)
+judging_refused question input history Unwritable parsed refused = absurd (by_judging question.independent question history Unwritable refused)
+judging_refused question input history Read parsed refused = absurd (by_judging question.independent question history Read refused)
+judging_refused question input history Write parsed refused = absurd (by_judging question.independent question history Write refused)
 judging_refused question input history OutOfMemory parsed refused = tt

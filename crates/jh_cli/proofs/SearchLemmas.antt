@@ -1,5 +1,6 @@
 -- What is written of a search, and why one is refused.
-use Rattle.std.proofs.Common.{◌≡◌, ℕ, ◌<◌, ◌≤◌, ◌^◌, List, ◌++◌, codes, Some, refl, subst, sym, ◌∙◌}
+use Rattle.std.proofs.Common.{◌≡◌, ℕ, ◌<◌, ◌≤◌, ◌^◌, List, ◌++◌, codes, Some, refl, ap, subst, sym, ◌∙◌}
+use Rattle.std.specs.Prelude.{IfSome, None, Option, unwrap_or}
 use Rattle.std.proofs.Common.{arith}
 use Rattle.std.specs.Fmt.{decimal}
 use Rattle.jh_simnode.specs.Plans.{PlanValue}
@@ -15,7 +16,7 @@ use Rattle.jh_settings.proofs.PlanLemmas.{default_is}
 use Rattle.jh_settings_texts.specs.Comments.{IsComment, behind_comment}
 use Rattle.jh_settings_texts.specs.SettingsWritten.{CanBeWritten, plan_in_order}
 use Rattle.jh_settings_texts.proofs.CommentedLemmas.{number_in_comment, both_in_comment}
-use Rattle.jh_cli.specs.SearchRefusals.{RefusesSearch, RefusesSearchBytes}
+use Rattle.jh_cli.specs.SearchRefusals.{RefusesSearch, RefusesSearchBytes, WantsThreads}
 use Rattle.jh_cli.specs.SearchText.{IsFoundText, candidate_comment}
 use Rattle.jh_cli.specs.Status.{search_error}
 use Rattle.jh_cli.specs.declared.error.CliError.{CliError}
@@ -51,12 +52,18 @@ pub budget_few : (input : List ℕ) (p : PlanValue) (mode : Mode) (budget : ℕ)
 budget_few input p mode budget are =
     (default_is 0 10000000 100000 (data_under Key.Budget are.0) budget (omega arith) (omega arith) are.2.budget).1
 
-pub search_refused : (input : List ℕ) (p : PlanValue) (mode : Mode) (budget : ℕ) (e : SearchError) → AreSettingsOf input p mode budget → CanBeWritten p → RefusesSearchBytes input (search_error e)
-search_refused input p mode budget search.Thread are can = (p, mode, budget, are, can)
-search_refused input p mode budget search.OutOfMemory are can = tt
+pub search_refused : (question : SearchQuestion) (input : List ℕ) (p : PlanValue) (mode : Mode) (budget : ℕ) (e : SearchError) → AreSettingsOf input p mode budget → CanBeWritten p
+    → (e ≡ search.Thread → WantsThreads question) → RefusesSearchBytes question input (search_error e)
+search_refused question input p mode budget search.Thread are can wants = (p, mode, budget, are, can, wants refl)
+search_refused question input p mode budget search.OutOfMemory are can wants = tt
+
+-- more than one thread is wanted, or none is told
+pub not_one : (given : Option ℕ) (threads : ℕ) → IfSome given (λ n. threads ≡ n) → (threads ≡ 1 → ⊥) → given ≡ Some 1 → ⊥
+not_one None threads told other one = cc
+not_one (Some n) threads told other one = other (told ∙ ap (λ o. unwrap_or o 1) one)
 
 -- why the plan that bytes mean is not searched is why the command refuses them
-pub refused_by_bytes : (question : SearchQuestion) (input : List ℕ) (e : CliError) → RefusesSearchBytes input e → RefusesSearch question input e
+pub refused_by_bytes : (question : SearchQuestion) (input : List ℕ) (e : CliError) → RefusesSearchBytes question input e → RefusesSearch question input e
 refused_by_bytes question input (Input error) h = absurd h
 refused_by_bytes question input EnvironmentMissing h = h
 refused_by_bytes question input (Environment error) h = h

@@ -1,6 +1,6 @@
 -- Why `jeprun check` refuses an input (this project's own): what is no text of values, no history,
 -- or a history that the checker cannot judge. Each is looked at only where all before it is right.
-use Rattle.std.specs.Prelude.{◌≡◌, ℕ, Bool, true, false, List}
+use Rattle.std.specs.Prelude.{◌≡◌, ◌≢◌, ℕ, Bool, true, false, List}
 use Rattle.jh_edn.specs.Edn.{Edn}
 use Rattle.jh_edn.specs.Refused as edn
 use Rattle.jh_histories.specs.Histories.{AreValuesOf}
@@ -9,6 +9,7 @@ use Rattle.jh_ops.specs.HistoryText as histories
 use Rattle.jh_check.specs.declared.error.CheckError.{CheckError}
 use Rattle.jh_independent.specs.Refusals.{RefusesKeys, keys_question}
 use Rattle.jh_independent.specs.declared.error.KeysError.{KeysError}
+use Rattle.jh_independent.specs.declared.error.KeysError.TheVariants as KeysErrors
 use Rattle.jh_checkers.specs.declared.checker.Checker.{Checker}
 use Rattle.jh_checkers.specs.declared.finding.Judging.{Judging}
 use Rattle.jh_reports.specs.Judged.{RefusesLine}
@@ -25,21 +26,22 @@ abbrev pub RefusesWhole : Checker → List Operation → CliError → Type 0
 RefusesWhole checker history e =
     (error : CheckError) × RefusesLine checker history error × (e ≡ check_error error)
 
--- Why a history is refused, judged by keys: which of several errors of threads and memory it is
--- depends on the threads.
-abbrev pub RefusesByKeys : Judging → List Operation → CliError → Type 0
-RefusesByKeys judging history e =
-    (error : KeysError) × RefusesKeys (keys_question judging history) error × (e ≡ keys_error error)
+-- Why a history is refused, judged by keys on so many threads: which of several errors of threads
+-- and memory it is depends on the threads. With one thread none is asked for.
+abbrev pub RefusesByKeys : Judging → ℕ → List Operation → CliError → Type 0
+RefusesByKeys judging threads history e =
+    (error : KeysError) × RefusesKeys (keys_question judging history) error
+    × (error ≡ KeysErrors.Thread → threads ≢ 1) × (e ≡ keys_error error)
 
-abbrev pub RefusesBy : Bool → Judging → List Operation → CliError → Type 0
-RefusesBy true judging history e = RefusesByKeys judging history e
-RefusesBy false judging history e = RefusesWhole judging.checker history e
+abbrev pub RefusesBy : Bool → Question → List Operation → CliError → Type 0
+RefusesBy true question history e = RefusesByKeys question.judging question.threads history e
+RefusesBy false question history e = RefusesWhole question.judging.checker history e
 
 -- why a history is not judged; memory may run out in any
 abbrev pub RefusesJudging : Question → List Operation → CliError → Type 0
 RefusesJudging question history OutOfMemory = Unit {0}
 RefusesJudging question history e =
-    RefusesBy question.independent question.judging history e
+    RefusesBy question.independent question history e
 
 -- why values are refused
 abbrev pub RefusesCheckValues : Question → List Edn → CliError → Type 0
@@ -48,7 +50,7 @@ RefusesCheckValues question values (History error) =
 RefusesCheckValues question values OutOfMemory = Unit {0}
 RefusesCheckValues question values e =
     (history : List Operation) × histories.AreParsed values history
-    × RefusesBy question.independent question.judging history e
+    × RefusesBy question.independent question history e
 
 -- Why an input is refused, where for its text then for its first error. A failed read and out of
 -- memory may come with any input; a failed write comes only where there is something to write.

@@ -1,5 +1,5 @@
 -- Why `jeprun search` refuses its arguments or an input (this project's own).
-use Rattle.std.specs.Prelude.{◌≡◌, ℕ, List, None, ⊤}
+use Rattle.std.specs.Prelude.{◌≡◌, ◌≢◌, ℕ, List, None, Some, ⊤}
 use Rattle.jh_edn.specs.Refused.{IsReaderError}
 use Rattle.jh_simnode.specs.Plans.{PlanValue}
 use Rattle.jh_settings.specs.Settings as settings
@@ -14,19 +14,24 @@ use Rattle.jh_cli.specs.declared.error.CliError.TheVariants.{Unwritable, Thread,
 use Rattle.jh_cli.specs.declared.error.CliError.TheVariants.{OutOfMemory}
 use Rattle.jh_cli.specs.declared.search_command.SearchQuestion.{SearchQuestion}
 
+-- candidates are tried, and not by one thread alone
+abbrev pub WantsThreads : SearchQuestion → Type 0
+WantsThreads question = (question.show ≡ None) × (question.threads ≢ Some 1)
+
 -- Why the candidates of the plan that bytes mean are not searched. One whose generator is nested as
 -- deep as a text may be, where it is written in another way, can't be written again; threads are asked
 -- for only where it can.
-abbrev pub RefusesSearchBytes : List ℕ → CliError → Type 0
-RefusesSearchBytes input (Settings error) =
+abbrev pub RefusesSearchBytes : SearchQuestion → List ℕ → CliError → Type 0
+RefusesSearchBytes question input (Settings error) =
     IsSettingsError error × settings.RefusesSettings input error
-RefusesSearchBytes input Unwritable =
+RefusesSearchBytes question input Unwritable =
     (p : PlanValue) × (mode : Mode) × (budget : ℕ) × AreSettingsOf input p mode budget
     × (CanBeWritten p → ⊥)
-RefusesSearchBytes input Thread =
-    (p : PlanValue) × (mode : Mode) × (budget : ℕ) × AreSettingsOf input p mode budget × CanBeWritten p
-RefusesSearchBytes input OutOfMemory = ⊤
-RefusesSearchBytes input e = ⊥
+RefusesSearchBytes question input Thread =
+    (p : PlanValue) × (mode : Mode) × (budget : ℕ) × AreSettingsOf input p mode budget
+    × CanBeWritten p × WantsThreads question
+RefusesSearchBytes question input OutOfMemory = ⊤
+RefusesSearchBytes question input e = ⊥
 
 -- No kinds of faults come before all else. A failed read, an input that does not end and out of
 -- memory may come with any input; a failed write comes only where there is something to write.
@@ -36,4 +41,4 @@ RefusesSearch question input (Input error) = IsInputError error × IsReaderError
 RefusesSearch question input Read = ⊤
 RefusesSearch question input Write =
     (status : ℕ) × (output : List ℕ) × IsSearchTextOf question input status output
-RefusesSearch question input e = RefusesSearchBytes input e
+RefusesSearch question input e = RefusesSearchBytes question input e

@@ -45,8 +45,8 @@ pub struct Question {
 ///
 /// Errors: `OnlyForRegister` where there is an initial value and no register, `OnlyForListAppend`
 /// where there is a consistency model and no transactions over lists, both before anything is read;
-/// an error of reading, then of the text (`Input`), `History`, `Check`; `Thread`; `OutOfMemory`;
-/// `Write`. Nothing is written before any of them but `Write`.
+/// an error of reading, then of the text (`Input`), `History`, `Check`; `Thread`, where more than one
+/// was wanted; `OutOfMemory`; `Write`. Nothing is written before any of them but `Write`.
 pub fn check_run<T: Threads + Wait + Sync, R: Read, W: Write>(
     rt: &T,
     alloc: Global,
@@ -133,7 +133,7 @@ fn judge_keys<T: Threads + Wait + Sync>(
     requires { (1 ≤ threads) × (threads ≤ 16) }
     ensures { MatchResult result
         (λ output. IsKeysText judging (operations history.now) output.status output.text.items)
-        (RefusesByKeys judging (operations history.now)) }
+        (RefusesByKeys judging threads (operations history.now)) }
 {
     let found = check_keys(rt, alloc, history, judging, threads)?;
     Ok(output_of_keys(alloc, &found)?)

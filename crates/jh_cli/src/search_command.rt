@@ -78,8 +78,8 @@ pub struct SearchQuestion {
 ///
 /// Errors: `BadPalette` where the question names no kinds, before anything is read; an error of
 /// reading (`Input`, `Read`); `Settings`; `Unwritable` where settings can't say the plan again (its
-/// generator would be nested deeper than a text may be); `Thread` where a thread could not be had;
-/// `OutOfMemory`; `Write`. Nothing is written before any of them but `Write`.
+/// generator would be nested deeper than a text may be); `Thread` where a thread could not be had, so
+/// never where one was wanted; `OutOfMemory`; `Write`. Nothing is written before any of them but `Write`.
 pub fn search_run<T: Threads + Wait + Sync, R: Read, W: Write, O: SearchObserver>(
     rt: &T,
     alloc: Global,
@@ -155,7 +155,7 @@ fn search_bytes<T: Threads + Wait + Sync, O: SearchObserver>(
     requires threads { IfSome question.threads (λ threads. (1 ≤ threads) × (threads ≤ 16)) }
     ensures { MatchResult result
         (λ output. IsSearchTextOf question input.now output.status output.text.items)
-        (RefusesSearchBytes input.now) }
+        (RefusesSearchBytes question input.now) }
 {
     let settings = settings_of(alloc, input)?;
     let plan = &settings.plan;
@@ -184,8 +184,9 @@ fn search_or_show<T: Threads + Wait + Sync, O: SearchObserver>(
     requires budget { options.now.budget ≤ 10000000 }
     requires few { options.now.from + options.now.runs < 2 ^ 64 }
     requires threads { (1 ≤ threads) × (threads ≤ 16) }
-    ensures { IfOk result
+    ensures written { IfOk result
         (λ output. IsAnswerText show plan.now options.now output.status output.text.items) }
+    ensures wanted { IsErrOf result SearchError.Thread → (show ≡ None) × (threads ≢ 1) }
 {
     match show {
         None => search_plan(rt, alloc, plan, options, threads, observer),
@@ -238,8 +239,9 @@ fn search_plan<T: Threads + Wait + Sync, O: SearchObserver>(
     requires budget { options.now.budget ≤ 10000000 }
     requires few { options.now.from + options.now.runs < 2 ^ 64 }
     requires threads { (1 ≤ threads) × (threads ≤ 16) }
-    ensures { IfOk result
+    ensures written { IfOk result
         (λ output. IsSearchedText plan.now options.now output.status output.text.items) }
+    ensures wanted { IsErrOf result SearchError.Thread → threads ≢ 1 }
 {
     let searched = search_observed(rt, alloc, plan, options, threads, observer)?;
     Ok(Output {

@@ -1,16 +1,17 @@
 -- One key judged after another.
 use Rattle.std.proofs.Common.{◌≡◌, ℕ, zero, suc, ◌+◌, ◌<◌, List, [], ◌∷◌, ◌++◌, length, map, refl, sym, ap, subst, ◌∙◌, append_assoc, append-nil, arith}
-use Rattle.std.specs.Prelude.{Option, Some, None, All, Result, MatchResult, Ok, Err, slice_get, option_map, unwrap_or}
+use Rattle.std.specs.Prelude.{Option, Some, None, All, Result, MatchResult, Ok, Err, is_err, slice_get, option_map, unwrap_or}
 use Rattle.std.proofs.lemmas.List.{map_push, length-append, length-map}
 use Rattle.std.proofs.lemmas.List.Elements.{All-nil, All-cons, All-get_or, All-head, All-tail, All-push}
 use Rattle.std.proofs.lemmas.Option.{get_or_from_slice_get, slice_get-map, slice_get_within}
+use Rattle.jh_tasks.proofs.DoneLemmas.{AreDoneInTurn}
 use Rattle.jh_edn.specs.Edn.{Edn}
 use Rattle.jh_edn.specs.View.{view}
 use Rattle.jh_ops.specs.Operation.{Operation}
-use Rattle.jh_independent.specs.AnswersInside.{AreAnswers, IsAnswer, IsAnswerAt}
+use Rattle.jh_independent.specs.AnswersInside.{AreAnswers, IsAnswer, IsAnswerAt, IsAnswerThrough, RefusesSome}
 use Rattle.jh_independent.specs.FoundInside.{AreCollected, IsFoundSoFar}
 use Rattle.jh_independent.specs.Keys.{AreTuples, history_keys, places_of}
-use Rattle.jh_independent.specs.Refusals.{KeysQuestion, AreFindings, IsFindingOf, RefusesKey, RefusesKeys}
+use Rattle.jh_independent.specs.Refusals.{KeysQuestion, AreFindings, AreFoundBefore, IsFindingOf, RefusesKey, RefusesKeys}
 use Rattle.jh_independent.specs.SplitInside.{groups_of, view_groups}
 use Rattle.jh_independent.specs.declared.error.KeysError.{KeysError}
 use Rattle.jh_independent.specs.declared.error.KeysError.TheVariants.{BadValue, Key, Thread, OutOfMemory}
@@ -96,22 +97,26 @@ before asked (one ∷ found) rest each zero key less at =
 before asked (one ∷ found) rest each (suc earlier) key less at =
     before asked found rest (All-tail (λ one. IsFindingOf asked (view one.key) one.finding) one found each) earlier key (omega arith) at
 
+-- the key in front of those that are left, and that all before it were judged
+front_found : (asked : KeysQuestion) (found : List KeyFinding) (group : KeyPlaces) (rest : List KeyPlaces) → IsFoundSoFar asked found (group ∷ rest)
+    → (slice_get (history_keys asked.history) (length (map (λ one. view one.key) found)) ≡ Some (view group.key))
+    × AreFoundBefore asked (length (map (λ one. view one.key) found))
+front_found asked found group rest h =
+    let keys : List Edn = map (λ one. view one.key) found in
+    let others : List Edn = map (λ group. view group.key) rest in (
+      subst (λ all. slice_get all (length keys) ≡ Some (view group.key)) h.keys (behind keys (view group.key) others),
+      subst (λ all. (earlier : ℕ) (key : Edn) → earlier < length keys → slice_get all earlier ≡ Some key → (found : Finding) × IsFindingOf asked key found) h.keys (before asked found (view group.key ∷ others) h.each),
+    )
+
 pub keys_refused : (asked : KeysQuestion) (found : List KeyFinding) (group : KeyPlaces) (rest : List KeyPlaces) (error : KeysError) → AreTuples asked.history
     → IsFoundSoFar asked found (group ∷ rest) → RefusesKey asked (view group.key) error → RefusesKeys asked error
 keys_refused asked found group rest (BadValue place) tuples h refused = absurd refused
 keys_refused asked found group rest (Key given) tuples h refused =
-    let keys : List Edn = map (λ one. view one.key) found in
-    let others : List Edn = map (λ group. view group.key) rest in (
-      tuples,
-      (
-        length keys,
-        view group.key,
-        subst (λ all. slice_get all (length keys) ≡ Some (view group.key)) h.keys (behind keys (view group.key) others),
-        subst (λ all. (earlier : ℕ) (key : Edn) → earlier < length keys → slice_get all earlier ≡ Some key → (found : Finding) × IsFindingOf asked key found) h.keys (before asked found (view group.key ∷ others) h.each),
-        refused,
-      ),
-    )
-keys_refused asked found group rest Thread tuples h refused = tuples
+    let front = front_found asked found group rest h in
+    (tuples, (length (map (λ one. view one.key) found), view group.key, front.0, front.1, refused))
+keys_refused asked found group rest Thread tuples h refused =
+    let front = front_found asked found group rest h in
+    (tuples, (length (map (λ one. view one.key) found), view group.key, front.0, front.1))
 keys_refused asked found group rest OutOfMemory tuples h refused = tuples
 
 -- the key in front of those that are left
@@ -124,28 +129,40 @@ front_key asked found group rest h =
     ∙ behind keys (view group.key) others
 
 -- what was answered of it, where that was answered
-pub front_answer : (asked : KeysQuestion) (found : List KeyFinding) (group : KeyPlaces) (rest : List KeyPlaces) (answer : Option (Result Finding KeysError)) (answers : List (Option (Result Finding KeysError)))
-    → AreCollected asked found (group ∷ rest) (answer ∷ answers) → IsAnswer asked (view group.key) (unwrap_or answer (Err Thread))
-front_answer asked found group rest None answers h = tt
-front_answer asked found group rest (Some answer) answers h =
+pub front_answer : (asked : KeysQuestion) (MayRefuse : ℕ → Type 0) (found : List KeyFinding) (group : KeyPlaces) (rest : List KeyPlaces) (answer : Option (Result Finding KeysError)) (answers : List (Option (Result Finding KeysError)))
+    → AreCollected asked MayRefuse found (group ∷ rest) (answer ∷ answers) → IsAnswer asked (view group.key) (unwrap_or answer (Err Thread))
+front_answer asked MayRefuse found group rest None answers h = tt
+front_answer asked MayRefuse found group rest (Some answer) answers h =
     let e : length found + 0 ≡ length found = omega arith in
-    h.answers 0 answer refl (view group.key) (ap (slice_get (history_keys asked.history)) e ∙ front_key asked found group rest h.keys)
+    (h.answers 0 answer refl).judged (view group.key) (ap (slice_get (history_keys asked.history)) e ∙ front_key asked found group rest h.keys)
 
-pub first_collected : (asked : KeysQuestion) (groups : List KeyPlaces) (answers : List (Option (Result Finding KeysError)))
-    → view_groups groups ≡ groups_of asked.history → AreAnswers asked answers → AreCollected asked [] groups answers
-first_collected asked groups answers h are = record {
+-- it has no thread only where it may be refused one, if all that are left are done
+pub front_let_in : (asked : KeysQuestion) (MayRefuse : ℕ → Type 0) (found : List KeyFinding) (rest : List KeyPlaces) (answer : Option (Result Finding KeysError)) (answers : List (Option (Result Finding KeysError)))
+    → AreCollected asked MayRefuse found rest (answer ∷ answers) → AreDoneInTurn is_err (answer ∷ answers) → unwrap_or answer (Err Thread) ≡ Err Thread → RefusesSome MayRefuse
+front_let_in asked MayRefuse found rest None answers h done is = absurd done
+front_let_in asked MayRefuse found rest (Some answer) answers h done is = (length found + 0, (h.answers 0 answer refl).let_in is)
+
+-- all behind one that was judged are done
+pub rest_done : (answer : Option (Result Finding KeysError)) (answers : List (Option (Result Finding KeysError))) (finding : Finding)
+    → AreDoneInTurn is_err (answer ∷ answers) → unwrap_or answer (Err Thread) ≡ Ok finding → AreDoneInTurn is_err answers
+rest_done None answers finding done is = absurd done
+rest_done (Some answer) answers finding done is = done (ap is_err is)
+
+pub first_collected : (asked : KeysQuestion) (MayRefuse : ℕ → Type 0) (groups : List KeyPlaces) (answers : List (Option (Result Finding KeysError)))
+    → view_groups groups ≡ groups_of asked.history → AreAnswers asked MayRefuse answers → AreCollected asked MayRefuse [] groups answers
+first_collected asked MayRefuse groups answers h are = record {
   keys = none_found asked groups h;
-  answers = λ place answer at. (let e : place ≡ 0 + place = omega arith in subst (λ p. IsAnswerAt asked p answer) e (are.each place answer at));
+  answers = λ place answer at. (let e : place ≡ 0 + place = omega arith in subst (λ p. IsAnswerThrough asked MayRefuse p answer) e (are.each place answer at));
   size = are.size ∙ ap length (sym (groups_keys asked.history groups h)) ∙ length-map groups (λ group. view group.key);
 }
 
-pub more_collected : (asked : KeysQuestion) (found : List KeyFinding) (group : KeyPlaces) (rest : List KeyPlaces) (answer : Option (Result Finding KeysError)) (answers : List (Option (Result Finding KeysError))) (one : KeyFinding)
-    → AreCollected asked found (group ∷ rest) (answer ∷ answers) → view one.key ≡ view group.key → IsFindingOf asked (view group.key) one.finding → AreCollected asked (found ++ one ∷ []) rest answers
-more_collected asked found group rest answer answers one h same judged = record {
+pub more_collected : (asked : KeysQuestion) (MayRefuse : ℕ → Type 0) (found : List KeyFinding) (group : KeyPlaces) (rest : List KeyPlaces) (answer : Option (Result Finding KeysError)) (answers : List (Option (Result Finding KeysError))) (one : KeyFinding)
+    → AreCollected asked MayRefuse found (group ∷ rest) (answer ∷ answers) → view one.key ≡ view group.key → IsFindingOf asked (view group.key) one.finding → AreCollected asked MayRefuse (found ++ one ∷ []) rest answers
+more_collected asked MayRefuse found group rest answer answers one h same judged = record {
   keys = one_more asked found group rest one h.keys same judged;
   answers = λ place given at.
       (let e : length found + suc place ≡ length (found ++ one ∷ []) + place = omega (arith, length-append found (one ∷ [])) in
-      subst (λ p. IsAnswerAt asked p given) e (h.answers (suc place) given at));
+      subst (λ p. IsAnswerThrough asked MayRefuse p given) e (h.answers (suc place) given at));
   size = (let e : length answers ≡ length rest = omega (arith, h.size) in e);
 }
 

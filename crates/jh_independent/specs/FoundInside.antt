@@ -3,7 +3,7 @@
 use Rattle.std.specs.Prelude.{◌≡◌, ℕ, ◌+◌, List, length, map, ◌++◌, All, slice_get, Option, Some}
 use Rattle.std.specs.Prelude.{Result}
 use Rattle.jh_edn.specs.View.{view}
-use Rattle.jh_independent.specs.AnswersInside.{IsAnswerAt}
+use Rattle.jh_independent.specs.AnswersInside.{IsAnswerThrough}
 use Rattle.jh_independent.specs.Keys.{history_keys, places_of}
 use Rattle.jh_independent.specs.Refusals.{KeysQuestion, IsFindingOf}
 use Rattle.jh_independent.specs.declared.error.KeysError.{KeysError}
@@ -20,14 +20,15 @@ pub record IsFoundSoFar (asked : KeysQuestion) (found : List KeyFinding)
   pub places : All (λ group. group.places.items ≡ places_of (view group.key) asked.history) rest
 
 -- the answers that are left, each at its place behind so many others
-abbrev pub AreAnswersFrom : KeysQuestion → ℕ → List (Option (Result Finding KeysError)) → Type 0
-AreAnswersFrom asked front answers =
+abbrev pub AreAnswersFrom : KeysQuestion → (ℕ → Type 0) → ℕ
+    → List (Option (Result Finding KeysError)) → Type 0
+AreAnswersFrom asked MayRefuse front answers =
     (place : ℕ) (answer : Result Finding KeysError) → slice_get answers place ≡ Some (Some answer)
-    → IsAnswerAt asked (front + place) answer
+    → IsAnswerThrough asked MayRefuse (front + place) answer
 
 -- one answer is left for each key that is left
-pub record AreCollected (asked : KeysQuestion) (found : List KeyFinding) (rest : List KeyPlaces)
-    (left : List (Option (Result Finding KeysError))) : Type 0 where
+pub record AreCollected (asked : KeysQuestion) (MayRefuse : ℕ → Type 0) (found : List KeyFinding)
+    (rest : List KeyPlaces) (left : List (Option (Result Finding KeysError))) : Type 0 where
   pub keys : IsFoundSoFar asked found rest
-  pub answers : AreAnswersFrom asked (length found) left
+  pub answers : AreAnswersFrom asked MayRefuse (length found) left
   pub size : length left ≡ length rest

@@ -76,12 +76,16 @@ AreFoundBefore asked place =
     → slice_get (history_keys asked.history) earlier ≡ Some key
     → (found : Finding) × IsFindingOf asked key found
 
--- Why nothing is found. A thread may fail, or memory run out, also before the first key is judged.
+-- Why nothing is found. A thread is missing only for a key, behind the findings of all before it;
+-- memory may run out also before the first key is judged.
 abbrev pub RefusesKeys : KeysQuestion → KeysError → Type 0
 RefusesKeys asked (BadValue place) = IsFirstBad asked.history place
 RefusesKeys asked (Key given) =
     AreTuples asked.history
     × ((place : ℕ) × (key : Edn) × (slice_get (history_keys asked.history) place ≡ Some key)
     × AreFoundBefore asked place × IsErrorOf asked key given)
-RefusesKeys asked Thread = AreTuples asked.history
+RefusesKeys asked Thread =
+    AreTuples asked.history
+    × ((place : ℕ) × (key : Edn) × (slice_get (history_keys asked.history) place ≡ Some key)
+    × AreFoundBefore asked place)
 RefusesKeys asked OutOfMemory = AreTuples asked.history

@@ -1,9 +1,11 @@
 //! The keys of a history judged on several threads. What is found is what `check_keys_serial` may
 //! find: `specs/Refusals.antt` has the rule of both.
 
-ghost use Rattle.std.specs.Prelude.{◌≡◌, ◌≤◌, IfOk, MatchResult};
+ghost use Rattle.std.specs.Prelude.{◌≡◌, ◌≤◌, ℕ, false, is_err, IfOk, IsErrOf, MatchResult};
 ghost use Rattle.jh_ops.specs.Operation.{operations};
-ghost use Rattle.jh_independent.specs.AnswersInside.{AreAnswers, AreKeysAsked, IsAnswerAt, keys_count};
+ghost use Rattle.jh_tasks.specs.Answers.{AreDone};
+ghost use Rattle.jh_independent.specs.AnswersInside.{AreAnswers, AreKeysAsked, IsAnswerThrough, keys_count};
+ghost use Rattle.jh_independent.specs.AnswersInside.{RefusesSome};
 ghost use Rattle.jh_independent.specs.Keys.{AreTuples};
 ghost use Rattle.jh_independent.specs.Refusals.{AreFindings, KeysQuestion, RefusesKeys, keys_question};
 ghost use Rattle.jh_independent.specs.SplitInside.{groups_of, view_groups};
@@ -15,7 +17,7 @@ use crate::sharing::{findings_can_be_sent, operations_can_be_shared, places_can_
 use crate::split::{KeyPlaces, split};
 use jh_checkers::{Finding, Judging};
 use jh_ops::Op;
-use jh_tasks::{Task, answer_tasks};
+use jh_tasks::{Task, TaskAnswers, answer_tasks};
 use std::alloc::{AllocError, Global};
 use std::marker::{Brand, Model, PhantomData};
 use std::sync::Wait;
@@ -23,15 +25,21 @@ use std::thread::Threads;
 
 /// Who lets threads in to keys.
 pub trait Gate {
+    /// The key of this place may be refused its thread.
+    ghost may_refuse: { ℕ → Type 0 };
+
     /// Whether the key of this place, in normal order from 0, is judged. Asked by the thread that
     /// is to judge it, before it does.
-    fn enter(&self, key: usize) -> bool;
+    fn enter(&self, key: usize) -> bool
+        ensures { result ≡ false → may_refuse key };
 }
 
 /// Lets all in.
 struct Open;
 
 impl Gate for Open {
+    ghost may_refuse = { λ _. ⊥ };
+
     fn enter(&self, _key: usize) -> bool {
         true
     }
@@ -75,7 +83,9 @@ impl<'a, Q: Asking, G> Model for Keys<'a, Q, G> {
 impl<'a, Q: Asking, G: Gate> Task<Answer> for Keys<'a, Q, G> {
     ghost count = { keys_count Q.asked };
 
-    ghost is_right = { IsAnswerAt Q.asked };
+    ghost is_right = { IsAnswerThrough Q.asked G.may_refuse };
+
+    ghost ends = { is_err };
 
     fn answer_at(&self, number: usize) -> Answer {
         if !self.gate.enter(number) {
@@ -97,9 +107,12 @@ fn answers_of<Q: Asking + Send + Sync, G: Gate + Sync, R: Threads + Wait + Sync>
     rt: &R,
     keys: &Keys<'_, Q, G>,
     threads: u32,
-) -> Result<Vec<Option<Answer>>, AllocError>
+) -> Result<TaskAnswers<Answer>, AllocError>
     requires { (1 ≤ threads) × (threads ≤ 16) }
-    ensures { IfOk result (λ answers. AreAnswers Q.asked answers.items) }
+    ensures right { IfOk result (λ answers. AreAnswers Q.asked G.may_refuse answers.of_each.items) }
+    ensures done { IfOk result
+        (λ answers. answers.lost_thread ≡ false → AreDone is_err answers.of_each.items) }
+    ensures alone { IfOk result (λ answers. threads ≡ 1 → answers.lost_thread ≡ false) }
 {
     findings_can_be_sent();
     operations_can_be_shared();
@@ -109,18 +122,22 @@ fn answers_of<Q: Asking + Send + Sync, G: Gate + Sync, R: Threads + Wait + Sync>
 
 /// The findings in the order of the keys, or what ended them: the first answer that is none, or a
 /// key that no thread judged.
-fn collected<Q: Asking>(
+fn collected<Q: Asking, G: Gate>(
     alloc: Global,
     groups: Vec<KeyPlaces>,
-    answers: Vec<Option<Answer>>,
+    answers: TaskAnswers<Answer>,
 ) -> Result<Vec<KeyFinding>, KeysError>
     requires tuples { AreTuples Q.asked.history }
     requires groups { view_groups groups.items ≡ groups_of Q.asked.history }
-    requires answers { AreAnswers Q.asked answers.items }
-    ensures { MatchResult result (λ found. AreFindings Q.asked found.items) (RefusesKeys Q.asked) }
+    requires right { AreAnswers Q.asked G.may_refuse answers.of_each.items }
+    requires done { answers.lost_thread ≡ false → AreDone is_err answers.of_each.items }
+    ensures found { MatchResult result (λ found. AreFindings Q.asked found.items)
+        (RefusesKeys Q.asked) }
+    ensures let_in { answers.lost_thread ≡ false → IsErrOf result KeysError.Thread
+        → RefusesSome G.may_refuse }
 {
     let mut found = Vec::with_capacity(alloc, groups.len())?;
-    for (group, answer) in groups.into_iter().zip(answers) {
+    for (group, answer) in groups.into_iter().zip(answers.of_each) {
         let finding = answer.unwrap_or(Err(KeysError::Thread))?;
         found.push(KeyFinding {
             key: group.key,
@@ -144,9 +161,10 @@ fn judged<Q: Asking + Send + Sync, G: Gate + Sync, R: Threads + Wait + Sync>(
     requires tuples { AreTuples (operations history.now) }
     requires groups { view_groups groups.items ≡ groups_of (operations history.now) }
     requires threads { (1 ≤ threads) × (threads ≤ 16) }
-    ensures { MatchResult result
+    ensures found { MatchResult result
         (λ found. AreFindings (keys_question judging (operations history.now)) found.items)
         (RefusesKeys (keys_question judging (operations history.now))) }
+    ensures alone { threads ≡ 1 → IsErrOf result KeysError.Thread → RefusesSome G.may_refuse }
 {
     let keys = Keys::<'_, Q, G> {
         alloc,
@@ -157,7 +175,7 @@ fn judged<Q: Asking + Send + Sync, G: Gate + Sync, R: Threads + Wait + Sync>(
         of: PhantomData,
     };
     let answers = answers_of::<Q, G, R>(rt, &keys, threads)?;
-    collected::<Q>(alloc, groups, answers)
+    collected::<Q, G>(alloc, groups, answers)
 }
 
 /// Judges a history of independent keys as `check_keys_serial` does, on so many threads, this one
@@ -172,7 +190,8 @@ fn judged<Q: Asking + Send + Sync, G: Gate + Sync, R: Threads + Wait + Sync>(
 /// threads are made.
 ///
 /// Errors: those of `check_keys_serial`, and at the first key that was not judged, `Thread`, where
-/// the gate did not let its thread in or a thread could not be had.
+/// the gate did not let its thread in or a thread could not be had. With one thread none is asked
+/// for, and `Thread` is the gate's alone.
 pub fn check_keys_at<G: Gate + Sync, R: Threads + Wait + Sync>(
     rt: &R,
     alloc: Global,
@@ -182,9 +201,11 @@ pub fn check_keys_at<G: Gate + Sync, R: Threads + Wait + Sync>(
     gate: &G,
 ) -> Result<Vec<KeyFinding>, KeysError>
     requires { (1 ≤ threads) × (threads ≤ 16) }
-    ensures { MatchResult result
+    ensures found { MatchResult result
         (λ found. AreFindings (keys_question judging (operations history.now)) found.items)
         (RefusesKeys (keys_question judging (operations history.now))) }
+    ensures alone { threads ≡ 1 → IsErrOf result KeysError.Thread
+        → (place : ℕ) × G.may_refuse place }
 {
     let groups = split(alloc, history)?;
     judged::<Brand, G, R>(rt, alloc, history, judging, groups, threads, gate)
@@ -193,7 +214,7 @@ pub fn check_keys_at<G: Gate + Sync, R: Threads + Wait + Sync>(
 /// Judges a history of independent keys on so many threads: `check_keys_at` with a gate that lets
 /// all in.
 ///
-/// Errors: those of `check_keys_at`.
+/// Errors: those of `check_keys_at`, and so with one thread never `Thread`.
 pub fn check_keys<R: Threads + Wait + Sync>(
     rt: &R,
     alloc: Global,
@@ -202,9 +223,10 @@ pub fn check_keys<R: Threads + Wait + Sync>(
     threads: u32,
 ) -> Result<Vec<KeyFinding>, KeysError>
     requires { (1 ≤ threads) × (threads ≤ 16) }
-    ensures { MatchResult result
+    ensures found { MatchResult result
         (λ found. AreFindings (keys_question judging (operations history.now)) found.items)
         (RefusesKeys (keys_question judging (operations history.now))) }
+    ensures alone { threads ≡ 1 → IsErrOf result KeysError.Thread → ⊥ }
 {
     check_keys_at(rt, alloc, history, judging, threads, &Open)
 }

@@ -1,8 +1,10 @@
 -- What is known while candidates are tried (this project's own).
-use Rattle.std.specs.Prelude.{◌≡◌, ℕ, ◌+◌, ◌^◌, ◌<◌, List, length}
+use Rattle.std.specs.Prelude.{◌≡◌, ℕ, ◌+◌, ◌^◌, ◌<◌, Bool, true, false, List, length}
+use Rattle.std.specs.Prelude.{Result, Ok, Err, Option, Some, slice_get}
 use Rattle.jh_simnode.specs.Plans.{PlanValue}
 use Rattle.jh_search.specs.declared.options.Options.{Options}
 use Rattle.jh_check.specs.declared.verdict.Verdict.{Verdict}
+use Rattle.jh_check.specs.declared.verdict.Verdict.TheVariants.{False}
 use Rattle.jh_search.specs.declared.threads.Next.{Next}
 use Rattle.jh_search.specs.declared.threads.Next.TheVariants.{Found, Goes}
 use Rattle.jh_search.specs.Search.{ComesOf, IsSearched, AreTriedSoFar}
@@ -19,6 +21,18 @@ pub record AreTries (p : PlanValue) (options : Options) (from count : ℕ)
   pub few : from + count < 2 ^ 64
   pub come : (index : ℕ) (verdict : Verdict) → ComesOf p options (from + index) verdict
       → Comes index verdict
+
+-- behind such an answer no candidate needs to be tried: it fails, or memory ran out
+abbrev pub ends_search : {E : Type 0} → Result Verdict E → Bool
+ends_search (Err e) = true
+ends_search (Ok False) = true
+ends_search (Ok _) = false
+
+-- none of the answers before this place is such a one
+abbrev pub GoesOn : {E : Type 0} → List (Option (Result Verdict E)) → ℕ → Type 0
+GoesOn {E} answers place =
+    (earlier : ℕ) (answer : Result Verdict E) → earlier < place
+    → slice_get answers earlier ≡ Some (Some answer) → ends_search answer ≡ false
 
 -- after so many candidates the search is over, or it goes on
 abbrev pub LeadsToNext : PlanValue → Options → ℕ → Next → Type 0

@@ -1,10 +1,10 @@
 //! Candidates tried on several threads, block by block. What is found is what `search_serial` may
 //! find.
 
-ghost use Rattle.std.specs.Prelude.{◌≡◌, ◌<◌, ◌≤◌, ◌+◌, ◌^◌, ℕ, IfOk, length};
-ghost use Rattle.jh_tasks.specs.Answers.{AreTaskAnswers};
+ghost use Rattle.std.specs.Prelude.{◌≡◌, ◌<◌, ◌≤◌, ◌+◌, ◌^◌, ℕ, false, IfOk, IsErrOf, length};
+ghost use Rattle.jh_tasks.specs.Answers.{AreDone, AreTaskAnswers};
 ghost use Rattle.jh_search.specs.Search.{ComesOf, IsSearched};
-ghost use Rattle.jh_search.specs.SearchInside.{AreTries, HasTried, LeadsToNext};
+ghost use Rattle.jh_search.specs.SearchInside.{AreTries, HasTried, LeadsToNext, ends_search};
 ghost use Rattle.jh_check.specs.declared.verdict.Verdict.{Verdict};
 ghost use Rattle.jh_search.specs.declared.threads.SearchError.TheVariants.{OutOfMemory};
 
@@ -14,7 +14,7 @@ use crate::verdicts::verdict_at;
 use jh_check::Verdict;
 use jh_shrink::Nobody;
 use jh_simnode::Plan;
-use jh_tasks::{Task, answer_tasks};
+use jh_tasks::{Task, TaskAnswers, answer_tasks};
 use std::alloc::{AllocError, Global};
 use std::marker::{Brand, Model, PhantomData};
 use std::sync::Wait;
@@ -97,6 +97,8 @@ impl<'a, Q: Tries> Task<Answer> for Candidates<'a, Q> {
 
     ghost is_right = { λ index answer. IfOk answer (Q.comes index) };
 
+    ghost ends = { ends_search };
+
     fn answer_at(&self, number: usize) -> Answer {
         verdict_at(
             self.alloc,
@@ -106,7 +108,9 @@ impl<'a, Q: Tries> Task<Answer> for Candidates<'a, Q> {
         )
     }
 
-    fn is_last(answer: &Answer) -> bool {
+    fn is_last(answer: &Answer) -> bool
+        ensures { result ≡ ends_search answer.now }
+    {
         matches!(answer, Err(_) | Ok(Verdict::False))
     }
 }
@@ -120,13 +124,16 @@ fn tried<Q: Tries + Send + Sync, R: Threads + Wait + Sync>(
     from: u64,
     count: usize,
     threads: u32,
-) -> Result<Vec<Option<Answer>>, AllocError>
+) -> Result<TaskAnswers<Answer>, AllocError>
     requires tries { AreTries plan.now options.now from Q.count Q.comes }
     requires count { count ≡ Q.count }
     requires threads { (1 ≤ threads) × (threads ≤ 16) }
-    ensures { IfOk result
+    ensures right { IfOk result
         (λ answers. AreTaskAnswers Q.count
-        (λ index answer. IfOk answer (Q.comes index)) answers.items) }
+        (λ index answer. IfOk answer (Q.comes index)) answers.of_each.items) }
+    ensures done { IfOk result
+        (λ answers. answers.lost_thread ≡ false → AreDone ends_search answers.of_each.items) }
+    ensures alone { IfOk result (λ answers. threads ≡ 1 → answers.lost_thread ≡ false) }
 {
     let candidates = Candidates::<'_, Q> {
         alloc,
@@ -147,11 +154,15 @@ fn block<R: Threads + Wait + Sync>(
     from: u64,
     count: usize,
     threads: u32,
-) -> Result<Vec<Option<Answer>>, AllocError>
+) -> Result<TaskAnswers<Answer>, AllocError>
     requires few { from + count < 2 ^ 64 }
     requires threads { (1 ≤ threads) × (threads ≤ 16) }
-    ensures { IfOk result (λ answers. AreTaskAnswers count
-        (λ index answer. IfOk answer (ComesOf plan.now options.now (from + index))) answers.items) }
+    ensures right { IfOk result (λ answers. AreTaskAnswers count
+        (λ index answer. IfOk answer (ComesOf plan.now options.now (from + index)))
+        answers.of_each.items) }
+    ensures done { IfOk result
+        (λ answers. answers.lost_thread ≡ false → AreDone ends_search answers.of_each.items) }
+    ensures alone { IfOk result (λ answers. threads ≡ 1 → answers.lost_thread ≡ false) }
 {
     tried::<Brand, R>(rt, alloc, plan, options, from, count, threads)
 }
@@ -177,15 +188,19 @@ fn after_block(
     options: &Options,
     progress: Progress,
     answers: &[Option<Answer>],
+    lost_thread: bool,
 ) -> Result<Next, SearchError>
     requires tried { HasTried plan.now options.now progress.tried progress.unknown }
     requires answers { AreTaskAnswers (length answers.now)
         (λ index answer.
         IfOk answer (ComesOf plan.now options.now (options.now.from + progress.tried + index)))
         answers.now }
+    requires done { lost_thread ≡ false → AreDone ends_search answers.now }
     requires few { progress.tried + length answers.now ≤ options.now.runs }
     requires range { options.now.from + options.now.runs < 2 ^ 64 }
-    ensures { IfOk result (LeadsToNext plan.now options.now (progress.tried + length answers.now)) }
+    ensures next { IfOk result
+        (LeadsToNext plan.now options.now (progress.tried + length answers.now)) }
+    ensures thread { lost_thread ≡ false → IsErrOf result SearchError.Thread → ⊥ }
 {
     let mut next = progress;
     for answer in answers {
@@ -217,8 +232,8 @@ fn after_block(
 /// May wait, and promises only if it returns. Takes the time of each run and of its judge, and
 /// memory for one at a time for each thread, and 2 bytes for each candidate of 1,024 at once.
 ///
-/// Errors: at the first candidate that was not tried, `Thread` where a thread could not be had;
-/// `OutOfMemory`.
+/// Errors: at the first candidate that was not tried, `Thread` where a thread could not be had, so
+/// never with one thread; `OutOfMemory`.
 pub fn search<R: Threads + Wait + Sync>(
     rt: &R,
     alloc: Global,
@@ -228,7 +243,8 @@ pub fn search<R: Threads + Wait + Sync>(
 ) -> Result<Searched, SearchError>
     requires range { options.now.from + options.now.runs < 2 ^ 64 }
     requires threads { (1 ≤ threads) × (threads ≤ 16) }
-    ensures { IfOk result (IsSearched plan.now options.now) }
+    ensures found { IfOk result (IsSearched plan.now options.now) }
+    ensures alone { threads ≡ 1 → IsErrOf result SearchError.Thread → ⊥ }
 {
     search_observed(rt, alloc, plan, options, threads, &mut Nobody)
 }
@@ -246,7 +262,8 @@ pub fn search_observed<R: Threads + Wait + Sync, O: SearchObserver>(
 ) -> Result<Searched, SearchError>
     requires range { options.now.from + options.now.runs < 2 ^ 64 }
     requires threads { (1 ≤ threads) × (threads ≤ 16) }
-    ensures { IfOk result (IsSearched plan.now options.now) }
+    ensures found { IfOk result (IsSearched plan.now options.now) }
+    ensures alone { threads ≡ 1 → IsErrOf result SearchError.Thread → ⊥ }
 {
     let mut progress = Progress {
         tried: 0,
@@ -256,7 +273,13 @@ pub fn search_observed<R: Threads + Wait + Sync, O: SearchObserver>(
         let count = (options.runs - progress.tried).min(MAX_BLOCK) as usize;
         let from = options.from + progress.tried;
         let answers = block(rt, alloc, plan, options, from, count, threads)?;
-        match after_block(plan, options, progress, &answers)? {
+        match after_block(
+            plan,
+            options,
+            progress,
+            &answers.of_each,
+            answers.lost_thread,
+        )? {
             Next::Found(found) => return Ok(found),
             Next::Goes(next) => progress = next,
         }

@@ -4,4 +4,4 @@
 mod board;
 mod tasks;
 
-pub use tasks::{Task, answer_tasks};
+pub use tasks::{Task, TaskAnswers, answer_tasks};

@@ -1,8 +1,9 @@
 //! Tasks on several threads.
 
-ghost use Rattle.std.specs.Prelude.{◌≡◌, ◌<◌, ◌≤◌, ℕ, IfOk};
+ghost use Rattle.std.specs.Prelude.{◌≡◌, ◌<◌, ◌≤◌, ℕ, Bool, false, IfOk};
+ghost use Rattle.std.specs.Option.{option_map_or};
 ghost use Rattle.std.specs.Thread.{IsSync};
-ghost use Rattle.jh_tasks.specs.Answers.{AreTaskAnswers};
+ghost use Rattle.jh_tasks.specs.Answers.{AreDone, AreTaskAnswers};
 
 use crate::board::Board;
 use std::alloc::{AllocError, Global};
@@ -18,13 +19,26 @@ pub trait Task<A> {
     /// This is a right answer to the task of a number.
     ghost is_right: { ℕ → A → Type 0 };
 
+    /// No task of a higher number matters after this answer.
+    ghost ends: { A → Bool };
+
     /// Does the task of this number.
     fn answer_at(&self, number: usize) -> A
         requires { number < count }
         ensures { is_right number result };
 
     /// Whether no task of a higher number matters after an answer.
-    fn is_last(answer: &A) -> bool;
+    fn is_last(answer: &A) -> bool
+        ensures { result ≡ ends answer.now };
+}
+
+/// What was answered to tasks.
+#[derive(Drop)]
+pub struct TaskAnswers<A> {
+    /// The answer to each task, at the place of its number.
+    pub of_each: Vec<Option<A>>,
+    /// A thread could not be had, and the tasks that were not begun by then are not done.
+    pub lost_thread: bool,
 }
 
 /// What each thread does: it takes the next task until none is left.
@@ -70,29 +84,59 @@ impl<'a, A: Drop, T: Task<A>> Work<Mutex<Board<A, T>>> for Tasks<'a, T> {
     }
 }
 
-/// The work of this thread and of so many others. All have ended when it returns. Where a thread
-/// can't be had, the tasks that were not taken by then are left undone.
+/// The work of this thread and of so many others. All have ended when it returns. Gives whether a
+/// thread could not be had: the tasks that were not taken by then are left undone.
 fn work_all<K: Work<B> + Sync, B: Sync, R: Threads + Wait + Sync>(
     rt: &R,
     work: &K,
     board: &B,
     others: usize,
-) {
+) -> bool {
     thread::scope(
         thread::scope_env(),
         rt,
         |scope|
             requires { IsSync R.row × (IsSync K.row × IsSync B.row) }
         {
+            let mut lost = false;
             for _ in 0..others {
                 if scope.spawn(move || work.work_at(rt, board)).is_err() {
                     work.close(rt, board);
+                    lost = true;
                     break;
                 }
             }
             work.work_at(rt, board);
+            lost
         },
-    );
+    )
+}
+
+/// Whether the answer is there, and is a last one.
+fn ends_all<A, T: Task<A>>(answer: &Option<A>) -> bool
+    ensures { result ≡ option_map_or T.ends answer.now false }
+{
+    match answer {
+        Some(answer) => T::is_last(answer),
+        None => false,
+    }
+}
+
+/// Does the tasks that nobody did, up to a last answer. Where other threads worked there are none,
+/// for none of them ends before; that this is so is then no matter of their order.
+fn do_rest<A: Drop, T: Task<A>>(task: &T, answers: &mut Vec<Option<A>>)
+    requires { AreTaskAnswers T.count T.is_right answers.old.items }
+    ensures right { AreTaskAnswers T.count T.is_right answers.new.items }
+    ensures done { AreDone T.ends answers.new.items }
+{
+    for number in 0..answers.len() {
+        if answers[number].is_none() {
+            answers[number] = Some(task.answer_at(number));
+        }
+        if ends_all::<A, T>(&answers[number]) {
+            return;
+        }
+    }
 }
 
 /// Does tasks on so many threads, this one among them, and gives what was answered to each, at the
@@ -100,7 +144,7 @@ fn work_all<K: Work<B> + Sync, B: Sync, R: Threads + Wait + Sync>(
 /// begun. All threads have ended when it returns.
 ///
 /// An answer is missing where the task was not begun: it is above one that is last, or a thread
-/// could not be had.
+/// could not be had. Where one thread is wanted, none is asked for.
 ///
 /// May wait, and promises only if it returns. Where there are fewer tasks than threads, fewer
 /// threads are made.
@@ -112,14 +156,26 @@ pub fn answer_tasks<A: Send + Drop, T: Task<A> + Send + Sync, R: Threads + Wait 
     task: &T,
     count: usize,
     threads: u32,
-) -> Result<Vec<Option<A>>, AllocError>
+) -> Result<TaskAnswers<A>, AllocError>
     requires count { count ≡ T.count }
     requires threads { (1 ≤ threads) × (threads ≤ 16) }
-    ensures { IfOk result (λ answers. AreTaskAnswers T.count T.is_right answers.items) }
+    ensures right { IfOk result
+        (λ answers. AreTaskAnswers T.count T.is_right answers.of_each.items) }
+    ensures done { IfOk result
+        (λ answers. answers.lost_thread ≡ false → AreDone T.ends answers.of_each.items) }
+    ensures alone { IfOk result (λ answers. threads ≡ 1 → answers.lost_thread ≡ false) }
 {
     let board = Mutex::new(Board::<A, T>::new(alloc, count)?);
     let others = count.min(threads as usize).saturating_sub(1);
     let tasks = Tasks { task, count };
-    work_all::<Tasks<'_, T>, Mutex<Board<A, T>>, R>(rt, &tasks, &board, others);
-    Ok(board.into_inner().into_answers())
+    let lost_thread = others > 0
+        && work_all::<Tasks<'_, T>, Mutex<Board<A, T>>, R>(rt, &tasks, &board, others);
+    let mut of_each = board.into_inner().into_answers();
+    if !lost_thread {
+        do_rest(task, &mut of_each);
+    }
+    Ok(TaskAnswers {
+        of_each,
+        lost_thread,
+    })
 }

@@ -30,6 +30,8 @@ impl Meeting {
 }
 
 impl Gate for Meeting {
+    ghost may_refuse = { λ _. Unit {0} };
+
     fn enter(&self, key: usize) -> bool {
         let [first, second] = &self.came;
         let (own, other) = if key == 0 {
@@ -55,6 +57,8 @@ struct AllBut {
 }
 
 impl Gate for AllBut {
+    ghost may_refuse = { λ _. Unit {0} };
+
     fn enter(&self, key: usize) -> bool {
         key != self.key
     }

@@ -1,6 +1,6 @@
 //! Tasks that threads share, and the first call that the README of `jh_tasks` shows.
 
-ghost use Rattle.std.specs.Prelude.{◌≡◌, ◌≤◌, ◌%◌, ◌==◌};
+ghost use Rattle.std.specs.Prelude.{◌≡◌, ◌≤◌, ◌%◌, ◌==◌, false};
 
 use jh_tasks::{Task, answer_tasks};
 use std::alloc::Global;
@@ -14,6 +14,8 @@ impl Task<bool> for Evens {
     ghost count = { 1000 };
 
     ghost is_right = { λ number answer. answer ≡ ((number % 2) == 0) };
+
+    ghost ends = { λ _. false };
 
     fn answer_at(&self, number: usize) -> bool {
         number % 2 == 0
@@ -30,7 +32,7 @@ fn count_evens<R: Threads + Wait + Sync>(rt: &R, alloc: Global, threads: u32) ->
 {
     let answers = answer_tasks(rt, alloc, &Evens, 1_000, threads).ok()?;
     let mut evens = 0usize;
-    for answer in &answers {
+    for answer in &answers.of_each {
         if (*answer)? {
             evens = evens.saturating_add(1);
         }

@@ -12,7 +12,7 @@ returns-in_err-output-clause-refused g c =
     let p = err_from_is_err_and c.from_residual-in_err-output.result c.from_residual-in_err-output.ensures.1 in
     let error = c.in_err-output.field-0.0 in
     rw (p.1, p.2) (on_input _ _ (g.R.Read.remaining c.args.reader.now) (λ input spelled.
-    refused_by_bytes c.args.question input error (subst (λ (bytes : List ℕ). RefusesSearchBytes bytes error) spelled (rw c.deref.ensures.value at c.in_err-output.ensures)))
+    refused_by_bytes c.args.question input error (subst (λ (bytes : List ℕ). RefusesSearchBytes c.args.question bytes error) spelled (rw c.deref.ensures.value at c.in_err-output.ensures)))
     c.in_ok-input.ensures.bytes)
 
 pub returns-clause-written : goal.returns-clause-written

@@ -23,5 +23,9 @@ returns g c =
     let groups = c.self.inside.groups.now in
     let at : slice_get groups c.args.number ≡ Some c.in-Some.group.now =
     slice_get_read groups _ c.args.number c.in-Some.group.now refl (ltb-true c.args.number (length groups) (sym c.in-Some.ensures.lookup.0)) c.in-Some.ensures.lookup.1 in
-    subst (λ question. IsAnswerAt question c.args.number c.check_key.result) c.self.invariant.question_is
-    (answer_at asked groups c.args.number c.in-Some.group.now c.check_key.result c.self.invariant.groups_are at (answered asked (view c.in-Some.group.now.key) c.check_key.result c.check_key.ensures.judged))
+    record {
+      judged =
+          subst (λ question. IsAnswerAt question c.args.number c.check_key.result) c.self.invariant.question_is
+          (answer_at asked groups c.args.number c.in-Some.group.now c.check_key.result c.self.invariant.groups_are at (answered asked (view c.in-Some.group.now.key) c.check_key.result c.check_key.ensures.judged));
+      let_in = λ is. absurd (c.check_key.ensures.alone is);
+    }
