@@ -69,6 +69,13 @@ IsFlag None given = given ≡ false
 IsFlag (Some text) given =
     (text ≡ codes "true" → given ≡ true) × (text ≡ codes "false" → given ≡ false)
 
+-- the index, or the least number, that an option gives, if it is there
+abbrev pub IsIndex : Option Text → Option ℕ → Type 0
+IsIndex None index = index ≡ None
+IsIndex (Some text) (Some number) =
+    WritesUnsigned text × (number ≡ digits_value 10 (without_leading_plus text))
+IsIndex (Some text) None = WritesUnsigned text → ⊥
+
 -- the options of `check` ask this
 pub record AsksCheck (options : List Row) (question : Question) : Type 0 where
   pub workload : first_of (codes "workload") options
@@ -79,13 +86,7 @@ pub record AsksCheck (options : List Row) (question : Question) : Type 0 where
   pub explain : IsFlag (one_of (codes "explain") options) question.judging.explain
   pub independent : IsFlag (one_of (codes "independent") options) question.independent
   pub threads : IsThreads (one_of (codes "threads") options) question.threads
-
--- the index that an option gives, if it is there
-abbrev pub IsIndex : Option Text → Option ℕ → Type 0
-IsIndex None index = index ≡ None
-IsIndex (Some text) (Some number) =
-    WritesUnsigned text × (number ≡ digits_value 10 (without_leading_plus text))
-IsIndex (Some text) None = WritesUnsigned text → ⊥
+  pub at_least : IsIndex (one_of (codes "at-least") options) question.at_least
 
 -- by the checker of the workload of this name a history is judged so
 pub record IsJudgingBy (options : List Row) (name : Text) (judging : Judging) : Type 0 where

@@ -60,11 +60,12 @@ threads = number_rule (codes "threads") (Unsigned 1 16) (codes "1")
 
 abbrev pub check : Bor (List (Bor Text)) → Bor (List (Bor Text)) → App
 check names models =
-    with_rule (with_rule
+    with_rule (with_rule (with_rule
     (with_rule (with_rule (with_rule
     (with_rule (with_rule (new_app (codes "check")) (needed_rule (workload names)))
     initial_rule) (model models))
-    (budget (codes "100000"))) (flag (codes "explain"))) (flag (codes "independent"))) threads
+    (budget (codes "100000"))) (flag (codes "explain"))) (flag (codes "independent"))) threads)
+    (index (codes "at-least"))
 
 abbrev pub timeline : Bor (List (Bor Text)) → Bor (List (Bor Text)) → App
 timeline names models =

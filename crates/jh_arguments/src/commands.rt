@@ -125,6 +125,7 @@ pub fn question_of(options: &ArgMatches<'_>) -> Option<Question>
         judging: judging_by(options, name, explain)?,
         independent: flag_of(options, "independent"),
         threads: threads_of(options)?,
+        at_least: index_of(options, "at-least"),
     })
 }
 

@@ -27,7 +27,8 @@ It writes the verdict, and what it stands on. Of a register that is not valid, -
 adds the completion at which it is stuck, an order of what is before that, the value that
 this order leads to, and the numbers of the operations that are pending there; of
 list-append, the transactions that the line names. Other workloads say themselves what is
-wrong.
+wrong. An empty history is valid: --at-least N answers that it is not known whether one is, where
+fewer than N calls of the workload's functions ended :ok.
 
 Exit status: 0 valid, 1 not valid, 2 unknown, 3 refused arguments or input, 4 where
 memory ran out, a read or a write failed, or a thread could not be had
@@ -35,7 +36,8 @@ memory ran out, a read or a write failed, or a thread could not be had
 Examples:
   jeprun check --workload register --explain < examples/check/register-stale.edn
   jeprun check --workload list-append --model serializable < examples/postgresql/repeatable-read.edn
-  jeprun check --workload register --independent < examples/check/register-keys.edn";
+  jeprun check --workload register --independent < examples/check/register-keys.edn
+  jeprun check --workload set --at-least 1000 < examples/check/set.edn";
 
 pub(crate) const RUN: &str = "\
 It writes the history, the ids of the faults that are active at the end, the environment,

@@ -106,7 +106,8 @@ fn check_command<'a>(
         .arg(judge_option(alloc))?
         .arg(explain)?
         .arg(independent)?
-        .arg(threads_option(alloc))?;
+        .arg(threads_option(alloc))?
+        .arg(at_least_option(alloc))?;
     Ok(check)
 }
 
@@ -319,7 +320,7 @@ fn initial_option<'a>(alloc: Global) -> Arg<'a>
     Arg::new(alloc, "initial")
         .long("initial")
         .value_name("N")
-        .help("The register's first value; nil where it is left out")
+        .help("The register's first value, as --initial=-5; nil where it is left out")
         .value_parser(value_parser!(i64))
 }
 
@@ -375,6 +376,18 @@ fn threads_option<'a>(alloc: Global) -> Arg<'a>
 {
     let parser = value_parser!(u64).range(1..=16);
     number_option(alloc, "threads", "How many threads judge keys", parser, "1")
+}
+
+/// Of how many calls a history may be called valid: a number of `u64`.
+fn at_least_option<'a>(alloc: Global) -> Arg<'a>
+    ensures rule { rule_of result ≡ text.index (codes "at-least") }
+    ensures local { result.global ≡ false }
+{
+    Arg::new(alloc, "at-least")
+        .long("at-least")
+        .value_name("N")
+        .help("Calls a history valid only where so many calls of the workload ended well")
+        .value_parser(value_parser!(u64))
 }
 
 /// An option that is there or not.

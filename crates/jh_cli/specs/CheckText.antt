@@ -1,7 +1,7 @@
 -- What `jeprun check` writes: one line with what a checker finds in a history, or in that of each of
 -- its keys (Jepsen's checkers `set`, `counter`, `unique-ids` and `linearizable`, its workload
 -- list-append, and jepsen.independent).
-use Rattle.std.specs.Prelude.{ℕ, ℤ, List, Option, Some, None}
+use Rattle.std.specs.Prelude.{◌≡◌, ℕ, ℤ, List, Option, Some, None}
 use Rattle.jh_edn.specs.Edn.{Edn}
 use Rattle.jh_histories.specs.Histories.{AreValuesOf}
 use Rattle.jh_ops.specs.Operation.{Operation}
@@ -9,6 +9,7 @@ use Rattle.jh_ops.specs.HistoryText.{AreParsed}
 use Rattle.jh_checkers.specs.declared.checker.Checker.{Checker}
 use Rattle.jh_txn.specs.declared.model.ConsistencyModel.{ConsistencyModel}
 use Rattle.jh_reports.specs.Judged.{IsTextBy}
+use Rattle.jh_cli.specs.Enough.{answer_of, count_done}
 use Rattle.jh_cli.specs.declared.check_command.Question.{Question}
 
 -- An initial value is for a register alone.
@@ -28,7 +29,10 @@ TakesModel checker (Some model) = ⊥
 -- for a history
 abbrev pub IsHistoryText : Question → List Operation → ℕ → List ℕ → Type 0
 IsHistoryText question history status output =
-    IsTextBy question.independent question.judging history status output
+    (verdict : ℕ) × (found : List ℕ)
+    × IsTextBy question.independent question.judging history verdict found
+    × ((status, output)
+    ≡ answer_of question.at_least (count_done question.judging.checker history) verdict found)
 
 -- for values that mean a history
 abbrev pub IsCheckText : Question → List Edn → ℕ → List ℕ → Type 0

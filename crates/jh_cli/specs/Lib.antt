@@ -2,6 +2,7 @@ pub mod Status
 pub mod Outputs
 pub mod EnvText
 pub mod EnvRefusals
+pub mod Enough
 pub mod CheckText
 pub mod CheckRefusals
 pub mod RunText

@@ -10,8 +10,9 @@ ghost use Rattle.jh_cli.specs.CheckRefusals.{RefusesWhole};
 ghost use Rattle.jh_cli.specs.CheckText.{IsCheckTextOf, IsHistoryText};
 ghost use Rattle.jh_cli.specs.CheckText.{TakesInitial, TakesModel};
 ghost use Rattle.jh_cli.specs.Outputs.{OnInput, WritesOutput};
-ghost use Rattle.jh_reports.specs.Judged.{IsKeysText, IsWholeText};
+ghost use Rattle.jh_reports.specs.Judged.{IsKeysText, IsTextBy, IsWholeText};
 
+use crate::enough::with_enough;
 use crate::error::CliError;
 use crate::output::{MAX_READS, finish};
 use jh_checkers::{Checker, Judging};
@@ -32,6 +33,9 @@ pub struct Question {
     pub independent: bool,
     /// By how many threads keys are judged, from 1 to 16.
     pub threads: u32,
+    /// Of how many calls a history may be called valid: client's calls of the functions that the
+    /// checker judges, in all keys, which ended well. None: of any number.
+    pub at_least: Option<usize>,
 }
 
 /// Reads a history as `jh_histories::read_history` does, one operation after another, judges it as
@@ -42,6 +46,9 @@ pub struct Question {
 /// Where its keys are independent, each is judged by itself with the whole budget, on so many
 /// threads, as `jh_independent::check_keys` does. Then the call may wait, and promises only if it
 /// returns. Otherwise the threads mean nothing.
+///
+/// A history with fewer calls than the question wants is not called valid: where it would be, the
+/// line is `{:valid? :unknown, :error "K of at least N operations"}`, and the status 2.
 ///
 /// Errors: `OnlyForRegister` where there is an initial value and no register, `OnlyForListAppend`
 /// where there is a consistency model and no transactions over lists, both before anything is read;
@@ -103,6 +110,23 @@ fn judge_history<T: Threads + Wait + Sync>(
     requires { (1 ≤ question.threads) × (question.threads ≤ 16) }
     ensures { MatchResult result
         (λ output. IsHistoryText question (operations history.now)
+        output.status output.text.items)
+        (RefusesJudging question (operations history.now)) }
+{
+    let output = judge_by(rt, alloc, history, question)?;
+    Ok(with_enough(alloc, history, question, output)?)
+}
+
+/// What is found in a history, by keys or as one.
+fn judge_by<T: Threads + Wait + Sync>(
+    rt: &T,
+    alloc: Global,
+    history: &[Op],
+    question: Question,
+) -> Result<Output, CliError>
+    requires { (1 ≤ question.threads) × (question.threads ≤ 16) }
+    ensures { MatchResult result
+        (λ output. IsTextBy question.independent question.judging (operations history.now)
         output.status output.text.items)
         (RefusesJudging question (operations history.now)) }
 {

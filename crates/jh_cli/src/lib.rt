@@ -5,6 +5,7 @@
 #![tactic(auto)]
 
 mod check_command;
+mod enough;
 mod env_command;
 mod error;
 mod output;

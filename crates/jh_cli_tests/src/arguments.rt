@@ -23,15 +23,16 @@ pub(crate) fn asked_once(alloc: Global, arguments: &str) -> Option<Vec<u8>> {
 fn asks_for_commands(rt: HostRuntime) {
     let rows = r#"jeprun env → Env
 § jeprun run → Run
-§ jeprun check --workload set → Check(Question { judging: Judging { checker: Set, initial: None, budget: 100000, explain: false, model: None }, independent: false, threads: 1 })
-§ jeprun check --workload=unique-ids --budget 0 → Check(Question { judging: Judging { checker: Ids, initial: None, budget: 0, explain: false, model: None }, independent: false, threads: 1 })
-§ jeprun check --workload register --initial=-5 → Check(Question { judging: Judging { checker: Register, initial: Some(-5), budget: 100000, explain: false, model: None }, independent: false, threads: 1 })
-§ jeprun check --workload set --independent → Check(Question { judging: Judging { checker: Set, initial: None, budget: 100000, explain: false, model: None }, independent: true, threads: 1 })
-§ jeprun check --independent --threads 16 --workload counter → Check(Question { judging: Judging { checker: Counter, initial: None, budget: 100000, explain: false, model: None }, independent: true, threads: 16 })
-§ jeprun check --explain --workload register → Check(Question { judging: Judging { checker: Register, initial: None, budget: 100000, explain: true, model: None }, independent: false, threads: 1 })
-§ jeprun check --workload list-append --model snapshot-isolation → Check(Question { judging: Judging { checker: ListAppend, initial: None, budget: 100000, explain: false, model: Some(SnapshotIsolation) }, independent: false, threads: 1 })
-§ jeprun check --workload list-append --model strict-serializable → Check(Question { judging: Judging { checker: ListAppend, initial: None, budget: 100000, explain: false, model: Some(StrictSerializable) }, independent: false, threads: 1 })
-§ jeprun check --workload set --budget 10000000 → Check(Question { judging: Judging { checker: Set, initial: None, budget: 10000000, explain: false, model: None }, independent: false, threads: 1 })
+§ jeprun check --workload set → Check(Question { judging: Judging { checker: Set, initial: None, budget: 100000, explain: false, model: None }, independent: false, threads: 1, at_least: None })
+§ jeprun check --workload=unique-ids --budget 0 → Check(Question { judging: Judging { checker: Ids, initial: None, budget: 0, explain: false, model: None }, independent: false, threads: 1, at_least: None })
+§ jeprun check --workload register --initial=-5 → Check(Question { judging: Judging { checker: Register, initial: Some(-5), budget: 100000, explain: false, model: None }, independent: false, threads: 1, at_least: None })
+§ jeprun check --workload set --independent → Check(Question { judging: Judging { checker: Set, initial: None, budget: 100000, explain: false, model: None }, independent: true, threads: 1, at_least: None })
+§ jeprun check --independent --threads 16 --workload counter → Check(Question { judging: Judging { checker: Counter, initial: None, budget: 100000, explain: false, model: None }, independent: true, threads: 16, at_least: None })
+§ jeprun check --explain --workload register → Check(Question { judging: Judging { checker: Register, initial: None, budget: 100000, explain: true, model: None }, independent: false, threads: 1, at_least: None })
+§ jeprun check --workload list-append --model snapshot-isolation → Check(Question { judging: Judging { checker: ListAppend, initial: None, budget: 100000, explain: false, model: Some(SnapshotIsolation) }, independent: false, threads: 1, at_least: None })
+§ jeprun check --workload list-append --model strict-serializable → Check(Question { judging: Judging { checker: ListAppend, initial: None, budget: 100000, explain: false, model: Some(StrictSerializable) }, independent: false, threads: 1, at_least: None })
+§ jeprun check --workload set --budget 10000000 → Check(Question { judging: Judging { checker: Set, initial: None, budget: 10000000, explain: false, model: None }, independent: false, threads: 1, at_least: None })
+§ jeprun check --workload set --at-least 18446744073709551615 → Check(Question { judging: Judging { checker: Set, initial: None, budget: 100000, explain: false, model: None }, independent: false, threads: 1, at_least: Some(18446744073709551615) })
 § jeprun shrink → Shrink(10000)
 § jeprun shrink --budget 10000000 → Shrink(10000000)
 § jeprun search → Search(SearchQuestion { from: 0, runs: 10000, faults: 8, palette: Some(Palette { cut: true, slow: true, loss: true, fix: true, pause: true, kill: true, bump: true }), threads: None, show: None })
@@ -50,6 +51,10 @@ fn asks_for_commands(rt: HostRuntime) {
 error: unexpected argument '-1' found
 
 Usage: jeprun timeline [OPTIONS]
+
+For more information, try '--help'.
+§ jeprun check --workload set --at-least 18446744073709551616 → 3
+error: invalid value '18446744073709551616' for '--at-least <N>': number too large to fit in target type
 
 For more information, try '--help'.
 § jeprun timeline --to 18446744073709551616 → 3
@@ -216,7 +221,7 @@ Usage: jeprun timeline [OPTIONS]
 
 Options:
       --workload <NAME>  What the database was to be [possible values: register, set, counter, unique-ids, list-append]
-      --initial <N>      The register's first value; nil where it is left out
+      --initial <N>      The register's first value, as --initial=-5; nil where it is left out
       --model <MODEL>    What transactions were to keep; strict-serializable where it is left out [possible values: strict-serializable, serializable, strong-snapshot-isolation, snapshot-isolation]
       --budget <N>       How many configurations the judge of a register may reach [default: 100000]
       --independent      Shows each key by itself; values are tuples of a key and a value
@@ -304,19 +309,21 @@ Usage: jeprun check [OPTIONS] --workload <NAME>
 
 Options:
       --workload <NAME>  What the database was to be [possible values: register, set, counter, unique-ids, list-append]
-      --initial <N>      The register's first value; nil where it is left out
+      --initial <N>      The register's first value, as --initial=-5; nil where it is left out
       --model <MODEL>    What transactions were to keep; strict-serializable where it is left out [possible values: strict-serializable, serializable, strong-snapshot-isolation, snapshot-isolation]
       --budget <N>       How many configurations the judge of a register may reach [default: 100000]
       --explain          Says more of a no of a register or of list-append
       --independent      Judges each key by itself; values are tuples of a key and a value
       --threads <N>      How many threads judge keys [default: 1]
+      --at-least <N>     Calls a history valid only where so many calls of the workload ended well
   -h, --help             Print help
 
 It writes the verdict, and what it stands on. Of a register that is not valid, --explain
 adds the completion at which it is stuck, an order of what is before that, the value that
 this order leads to, and the numbers of the operations that are pending there; of
 list-append, the transactions that the line names. Other workloads say themselves what is
-wrong.
+wrong. An empty history is valid: --at-least N answers that it is not known whether one is, where
+fewer than N calls of the workload's functions ended :ok.
 
 Exit status: 0 valid, 1 not valid, 2 unknown, 3 refused arguments or input, 4 where
 memory ran out, a read or a write failed, or a thread could not be had
@@ -325,6 +332,7 @@ Examples:
   jeprun check --workload register --explain < examples/check/register-stale.edn
   jeprun check --workload list-append --model serializable < examples/postgresql/repeatable-read.edn
   jeprun check --workload register --independent < examples/check/register-keys.edn
+  jeprun check --workload set --at-least 1000 < examples/check/set.edn
 § jeprun --help → 0
 A test harness for databases, over a simulated cluster under faults
 

@@ -124,6 +124,46 @@ fn judges_registers(rt: HostRuntime) {
     assert_eq!(rt; first_wrong(&rt, rt.alloc(), texts, rows), None);
 }
 
+/// Of how many calls a history may be called valid. What fails, what is not known and what other functions do is not
+/// counted; another verdict than a yes stays.
+#[test]
+fn wants_enough_calls(rt: HostRuntime) {
+    let rows = r#"→ 2
+{:valid? :unknown, :error "0 of at least 2 operations"}
+§ {:type :invoke, :f :write, :value 1, :process 0} {:type :ok, :f :write, :value 1, :process 0}
+{:type :invoke, :f :read, :process 0} {:type :fail, :f :read, :process 0}
+{:type :invoke, :f :write, :value 2, :process 1} {:type :info, :f :write, :value 2, :process 1}
+{:type :ok, :f :read, :process :nemesis}
+→ 2
+{:valid? :unknown, :error "1 of at least 2 operations"}
+§ {:type :invoke, :f :write, :value 1, :process 0} {:type :ok, :f :write, :value 1, :process 0}
+{:type :invoke, :f :read, :process 0} {:type :ok, :f :read, :value 1, :process 0}
+→ 0
+{:valid? true, :order [0 1]}
+§ {:type :invoke, :f :read, :process 0} {:type :ok, :f :read, :value 1, :process 0}
+→ 1
+{:valid? false}
+"#;
+    let texts = Texts::Inputs("jeprun check --workload register --at-least 2");
+    assert_eq!(rt; first_wrong(&rt, rt.alloc(), texts, rows), None);
+}
+
+/// Calls are counted over all keys, and the line is the same.
+#[test]
+fn wants_enough_calls_of_all_keys(rt: HostRuntime) {
+    let rows =
+        r#"{:type :invoke, :f :add, :value [1 5], :process 0} {:type :ok, :f :add, :value [1 5], :process 0}
+→ 2
+{:valid? :unknown, :error "1 of at least 2 operations"}
+§ {:type :invoke, :f :add, :value [1 5], :process 0} {:type :ok, :f :add, :value [1 5], :process 0}
+{:type :invoke, :f :read, :value [2 nil], :process 1} {:type :ok, :f :read, :value [2 0], :process 1}
+→ 0
+{:valid? true, :keys [[1 {:valid? true, :reads [], :errors []}] [2 {:valid? true, :reads [[0 0 0]], :errors []}]]}
+"#;
+    let texts = Texts::Inputs("jeprun check --workload counter --independent --at-least 2");
+    assert_eq!(rt; first_wrong(&rt, rt.alloc(), texts, rows), None);
+}
+
 #[test]
 fn a_register_starts_with_nil(rt: HostRuntime) {
     let rows =

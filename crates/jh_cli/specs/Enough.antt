@@ -1,0 +1,38 @@
+-- Whether a history has enough calls to be called valid (this project's own): one that is empty, or of
+-- another workload, breaks no rule, and says nothing of a database.
+use Rattle.std.specs.Prelude.{ℕ, ◌==◌, ◌&&◌, Bool, List, [], ◌∷◌, ◌++◌, codes, nat_lt, Option, Some}
+use Rattle.std.specs.Prelude.{None, if◌then◌else◌, count_by}
+use Rattle.std.specs.Fmt.{decimal}
+use Rattle.std.specs.List.{list_any}
+use Rattle.jh_checkers.specs.declared.checker.Checker.{Checker}
+use Rattle.jh_ops.specs.Operation.{Operation, is_asked}
+use Rattle.jh_ops.specs.declared.operation.Kind.{Kind}
+
+-- the functions whose calls a checker judges
+abbrev pub functions_of : Checker → List (List ℕ)
+functions_of Checker.Register = codes "read" ∷ codes "write" ∷ codes "cas" ∷ []
+functions_of Checker.Set = codes "add" ∷ codes "read" ∷ []
+functions_of Checker.Counter = codes "add" ∷ codes "read" ∷ []
+functions_of Checker.Ids = codes "generate" ∷ []
+functions_of Checker.ListAppend = codes "txn" ∷ []
+
+-- a client's call of one of these functions ended well
+abbrev pub is_done : Checker → Operation → Bool
+is_done checker op = list_any (λ name. is_asked Kind.Ok name op) (functions_of checker)
+
+-- how many such calls there are, in all keys
+abbrev pub count_done : Checker → List Operation → ℕ
+count_done checker history = count_by (is_done checker) history
+
+-- the line where fewer calls were done than are wanted
+abbrev pub few_line : ℕ → ℕ → List ℕ
+few_line done wanted =
+    codes "{:valid? :unknown, :error \"" ++ (decimal done
+    ++ (codes " of at least " ++ (decimal wanted ++ codes " operations\"}\n")))
+
+-- A history with too few calls is not valid for that: a verdict that is true of it is unknown. Any
+-- other verdict stays, with its line.
+abbrev pub answer_of : Option ℕ → (done status : ℕ) → List ℕ → ℕ × List ℕ
+answer_of None done status found = (status, found)
+answer_of (Some wanted) done status found =
+    if status == 0 && nat_lt done wanted then (2, few_line done wanted) else (status, found)

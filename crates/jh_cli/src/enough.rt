@@ -1,0 +1,84 @@
+//! Whether a history has enough calls to be called valid. `specs/Enough.antt` has the rule.
+
+ghost use Rattle.std.specs.Prelude.{◌≡◌, IfOk};
+ghost use Rattle.jh_ops.specs.Operation.{operation, operations};
+ghost use Rattle.jh_cli.specs.Enough as rule;
+ghost use Rattle.jh_cli.specs.Enough.{answer_of, few_line};
+
+use crate::check_command::Question;
+use jh_checkers::Checker;
+use jh_ops::{Kind, Op};
+use jh_reports::Output;
+use std::alloc::{AllocError, Global};
+
+/// The status of a history that is valid.
+const VALID: u8 = 0;
+
+/// The status where it is not known whether it is.
+const UNKNOWN: u8 = 2;
+
+/// Whether a client's call that the checker judges ended well.
+fn is_done(checker: Checker, op: &Op) -> bool
+    ensures { result ≡ rule.is_done checker (operation op.now) }
+{
+    match checker {
+        Checker::Register => {
+            op.is_asked(Kind::Ok, "read")
+                || op.is_asked(Kind::Ok, "write")
+                || op.is_asked(Kind::Ok, "cas")
+        }
+        Checker::Set | Checker::Counter => {
+            op.is_asked(Kind::Ok, "add") || op.is_asked(Kind::Ok, "read")
+        }
+        Checker::Ids => op.is_asked(Kind::Ok, "generate"),
+        Checker::ListAppend => op.is_asked(Kind::Ok, "txn"),
+    }
+}
+
+/// How many calls that the checker judges ended well.
+fn count_done(checker: Checker, history: &[Op]) -> usize
+    ensures { result ≡ rule.count_done checker (operations history.now) }
+{
+    let mut done = 0;
+    for op in history {
+        if is_done(checker, op) {
+            done += 1;
+        }
+    }
+    done
+}
+
+/// What is found, or that it stands on too few calls.
+pub(crate) fn with_enough(
+    alloc: Global,
+    history: &[Op],
+    question: Question,
+    found: Output,
+) -> Result<Output, AllocError>
+    ensures { IfOk result (λ output. (output.status, output.text.items)
+        ≡ answer_of question.at_least
+        (rule.count_done question.judging.checker (operations history.now))
+        found.status found.text.items) }
+{
+    let Some(wanted) = question.at_least else {
+        return Ok(found);
+    };
+    let done = count_done(question.judging.checker, history);
+    if found.status != VALID || done >= wanted {
+        return Ok(found);
+    }
+    Ok(Output {
+        status: UNKNOWN,
+        text: few_text(alloc, done, wanted)?,
+    })
+}
+
+/// The line where fewer calls were done than are wanted.
+fn few_text(alloc: Global, done: usize, wanted: usize) -> Result<Vec<u8>, AllocError>
+    ensures { IfOk result (λ line. line.items ≡ few_line done wanted) }
+{
+    let line = format!(in alloc;
+        "{{:valid? :unknown, :error \"{done} of at least {wanted} operations\"}}\n"
+    )?;
+    Ok(line.into_bytes())
+}
