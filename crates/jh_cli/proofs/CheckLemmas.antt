@@ -1,45 +1,50 @@
 -- Why `check` refuses an input, from why its history is not read or not judged.
-use Rattle.std.proofs.Common.{ℕ, Bool, true, false, List, refl, sym, subst}
+use Rattle.std.proofs.Common.{ℕ, Bool, true, false, List, inl, inr, refl, sym, subst}
 use Rattle.jh_check.specs.declared.error.CheckError.{CheckError}
 use Rattle.jh_check.specs.declared.error.CheckError.TheVariants as CheckErrors
-use Rattle.jh_edn.specs.declared.error.EdnError.{EdnError}
 use Rattle.jh_edn.specs.declared.error.EdnError.TheVariants as edn
-use Rattle.jh_edn.specs.Refused.{RefusesText, IsFirstError}
-use Rattle.jh_histories.specs.Histories.{IsHistoryOf, RefusesHistoryOf}
 use Rattle.jh_histories.specs.declared.error.ReadHistoryError.{ReadHistoryError}
 use Rattle.jh_histories.specs.declared.error.ReadHistoryError.TheVariants as reading
 use Rattle.jh_independent.specs.declared.error.KeysError.{KeysError}
 use Rattle.jh_independent.specs.declared.error.KeysError.TheVariants as KeysErrors
-use Rattle.jh_checkers.specs.declared.finding.Judging.{Judging}
 use Rattle.jh_ops.specs.Operation.{Operation}
 use Rattle.jh_ops.specs.declared.history.HistoryError.TheVariants as history_errors
+use Rattle.jh_sections.specs.HistoryAndRest.{AreHistoryAndRest, RefusesHistoryAndRest}
 use Rattle.jh_cli.specs.CheckRefusals.{RefusesBy, RefusesCheck, RefusesJudging}
-use Rattle.jh_cli.specs.Status.{check_error, edn_error, keys_error, reading_error}
+use Rattle.jh_cli.specs.Status.{check_error, keys_error, reading_error}
 use Rattle.jh_cli.specs.declared.check_command.Question.{Question}
 use Rattle.jh_cli.specs.declared.error.CliError.{CliError}
 use Rattle.jh_cli.specs.declared.error.CliError.TheVariants.{Input, EnvironmentMissing, Environment, Element, History, Check, Settings, Run, HistoryFull, Mismatch, Thread, OnlyForRegister, OnlyForListAppend, BadPalette, Unwritable, Read, Write, OutOfMemory}
 
 -- ---- no history is read
 
-text_refused : (question : Question) (input : List ℕ) (error : EdnError) → RefusesText input error → IsFirstError input error → RefusesCheck question input (edn_error error)
-text_refused question input (edn.UnexpectedEnd line) refused first = (refl, refused, first)
-text_refused question input (edn.BadToken line) refused first = (refl, refused, first)
-text_refused question input (edn.FloatUnsupported line) refused first = (refl, refused, first)
-text_refused question input (edn.IntegerRange line) refused first = (refl, refused, first)
-text_refused question input (edn.BadEscape line) refused first = (refl, refused, first)
-text_refused question input (edn.OddMap line) refused first = (refl, refused, first)
-text_refused question input (edn.DuplicateKey line) refused first = (refl, refused, first)
-text_refused question input (edn.TooDeep line) refused first = (refl, refused, first)
-text_refused question input edn.Utf8 refused first = (refl, refused, first)
-text_refused question input edn.TooLong refused first = (refl, refused, first)
-text_refused question input edn.Read refused first = tt
-text_refused question input edn.Write refused first = absurd refused
-text_refused question input edn.OutOfMemory refused first = tt
+-- reading writes nothing
+pub nothing_written : (input : List ℕ) → RefusesHistoryAndRest input (reading.Text edn.Write) → ⊥
+nothing_written input refused =
+    elim refused [
+      | inl bytes ↦ bytes.0
+      | inr parts ↦ elim parts [
+        | inl whole ↦ whole.1.0
+        | inr before ↦ before.refused.0
+      ]
+    ]
 
-pub reading_refused : (question : Question) (input : List ℕ) (error : ReadHistoryError) → RefusesHistoryOf input error → RefusesCheck question input (reading_error error)
-reading_refused question input (reading.Text error) refused = text_refused question input error refused.0 refused.1
+pub reading_refused : (question : Question) (input : List ℕ) (error : ReadHistoryError) → RefusesHistoryAndRest input error → RefusesCheck question input (reading_error error)
+reading_refused question input (reading.Text (edn.UnexpectedEnd line)) refused = (refl, refused)
+reading_refused question input (reading.Text (edn.BadToken line)) refused = (refl, refused)
+reading_refused question input (reading.Text (edn.FloatUnsupported line)) refused = (refl, refused)
+reading_refused question input (reading.Text (edn.IntegerRange line)) refused = (refl, refused)
+reading_refused question input (reading.Text (edn.BadEscape line)) refused = (refl, refused)
+reading_refused question input (reading.Text (edn.OddMap line)) refused = (refl, refused)
+reading_refused question input (reading.Text (edn.DuplicateKey line)) refused = (refl, refused)
+reading_refused question input (reading.Text (edn.TooDeep line)) refused = (refl, refused)
+reading_refused question input (reading.Text edn.Utf8) refused = (refl, refused)
+reading_refused question input (reading.Text edn.TooLong) refused = (refl, refused)
+reading_refused question input (reading.Text edn.Read) refused = tt
+reading_refused question input (reading.Text edn.Write) refused = absurd (nothing_written input refused)
+reading_refused question input (reading.Text edn.OutOfMemory) refused = tt
 reading_refused question input (reading.History history_errors.OutOfMemory) refused = tt
-reading_refused question input (reading.History (history_errors.Op place why)) refused = (refused.0, refused.1, (refl, refused.2))
+reading_refused question input (reading.History (history_errors.Op place why)) refused = (refl, refused)
 
 -- ---- a history is not judged
 
@@ -67,22 +72,22 @@ by_judging : (independent : Bool) (question : Question) (history : List Operatio
 by_judging true question history e refused = subst IsJudging (sym refused.3) (by_keys refused.0)
 by_judging false question history e refused = subst IsJudging (sym refused.2) (by_checker refused.0)
 
-pub judging_refused : (question : Question) (input : List ℕ) (history : List Operation) (e : CliError) → IsHistoryOf input history → RefusesJudging question history e → RefusesCheck question input e
-judging_refused question input history (Input error) parsed refused = absurd (by_judging question.independent question history (Input error) refused)
-judging_refused question input history EnvironmentMissing parsed refused = absurd (by_judging question.independent question history EnvironmentMissing refused)
-judging_refused question input history (Environment error) parsed refused = absurd (by_judging question.independent question history (Environment error) refused)
-judging_refused question input history (Element place error) parsed refused = absurd (by_judging question.independent question history (Element place error) refused)
-judging_refused question input history (History error) parsed refused = absurd (by_judging question.independent question history (History error) refused)
-judging_refused question input history (Check error) parsed refused = (parsed.0, parsed.1, (history, parsed.2, refused))
-judging_refused question input history (Settings error) parsed refused = absurd (by_judging question.independent question history (Settings error) refused)
-judging_refused question input history (Run error) parsed refused = absurd (by_judging question.independent question history (Run error) refused)
-judging_refused question input history HistoryFull parsed refused = absurd (by_judging question.independent question history HistoryFull refused)
-judging_refused question input history Mismatch parsed refused = absurd (by_judging question.independent question history Mismatch refused)
-judging_refused question input history Thread parsed refused = (parsed.0, parsed.1, (history, parsed.2, refused))
-judging_refused question input history OnlyForRegister parsed refused = absurd (by_judging question.independent question history OnlyForRegister refused)
-judging_refused question input history OnlyForListAppend parsed refused = absurd (by_judging question.independent question history OnlyForListAppend refused)
-judging_refused question input history BadPalette parsed refused = absurd (by_judging question.independent question history BadPalette refused)
-judging_refused question input history Unwritable parsed refused = absurd (by_judging question.independent question history Unwritable refused)
-judging_refused question input history Read parsed refused = absurd (by_judging question.independent question history Read refused)
-judging_refused question input history Write parsed refused = absurd (by_judging question.independent question history Write refused)
-judging_refused question input history OutOfMemory parsed refused = tt
+pub judging_refused : (question : Question) (input : List ℕ) (history : List Operation) (below : List ℕ) (e : CliError) → AreHistoryAndRest input history below → RefusesJudging question history e → RefusesCheck question input e
+judging_refused question input history below (Input error) parts refused = absurd (by_judging question.independent question history (Input error) refused)
+judging_refused question input history below EnvironmentMissing parts refused = absurd (by_judging question.independent question history EnvironmentMissing refused)
+judging_refused question input history below (Environment error) parts refused = absurd (by_judging question.independent question history (Environment error) refused)
+judging_refused question input history below (Element place error) parts refused = absurd (by_judging question.independent question history (Element place error) refused)
+judging_refused question input history below (History error) parts refused = absurd (by_judging question.independent question history (History error) refused)
+judging_refused question input history below (Check error) parts refused = (history, below, parts, refused)
+judging_refused question input history below (Settings error) parts refused = absurd (by_judging question.independent question history (Settings error) refused)
+judging_refused question input history below (Run error) parts refused = absurd (by_judging question.independent question history (Run error) refused)
+judging_refused question input history below HistoryFull parts refused = absurd (by_judging question.independent question history HistoryFull refused)
+judging_refused question input history below Mismatch parts refused = absurd (by_judging question.independent question history Mismatch refused)
+judging_refused question input history below Thread parts refused = (history, below, parts, refused)
+judging_refused question input history below OnlyForRegister parts refused = absurd (by_judging question.independent question history OnlyForRegister refused)
+judging_refused question input history below OnlyForListAppend parts refused = absurd (by_judging question.independent question history OnlyForListAppend refused)
+judging_refused question input history below BadPalette parts refused = absurd (by_judging question.independent question history BadPalette refused)
+judging_refused question input history below Unwritable parts refused = absurd (by_judging question.independent question history Unwritable refused)
+judging_refused question input history below Read parts refused = absurd (by_judging question.independent question history Read refused)
+judging_refused question input history below Write parts refused = absurd (by_judging question.independent question history Write refused)
+judging_refused question input history below OutOfMemory parts refused = tt

@@ -1,5 +1,5 @@
 -- Why a run is refused or not completed, from why a part of it is.
-use Rattle.std.proofs.Common.{ℕ, List, refl, sym, subst}
+use Rattle.std.proofs.Common.{ℕ, List, refl}
 use Rattle.jh_check.specs.declared.error.CheckError.{CheckError}
 use Rattle.jh_check.specs.declared.error.CheckError.TheVariants as CheckErrors
 use Rattle.jh_edn.specs.declared.error.EdnError.TheVariants as EdnError

@@ -1,5 +1,5 @@
 -- Why `timeline` refuses an input, from why its parts are not read or its history is not judged.
-use Rattle.std.proofs.Common.{◌≡◌, ℕ, Bool, true, false, List, Option, Some, None, inl, inr, refl, sym, subst}
+use Rattle.std.proofs.Common.{◌≡◌, ℕ, Bool, true, false, List, Option, Some, None, refl, sym, subst}
 use Rattle.jh_edn.specs.declared.error.EdnError.TheVariants as edn
 use Rattle.jh_histories.specs.declared.error.ReadHistoryError.{ReadHistoryError}
 use Rattle.jh_histories.specs.declared.error.ReadHistoryError.TheVariants as reading
@@ -12,7 +12,7 @@ use Rattle.jh_independent.specs.declared.error.KeysError.TheVariants as KeysErro
 use Rattle.jh_ops.specs.Operation.{Operation}
 use Rattle.jh_ops.specs.declared.history.HistoryError.TheVariants as history_errors
 use Rattle.jh_sections.specs.HistoryAndRest.{AreHistoryAndRest, RefusesHistoryAndRest}
-use Rattle.jh_cli.proofs.CheckLemmas.{IsJudging, by_checker, by_keys}
+use Rattle.jh_cli.proofs.CheckLemmas.{IsJudging, by_checker, by_keys, nothing_written}
 use Rattle.jh_cli.specs.Status.{keys_error, reading_error}
 use Rattle.jh_cli.specs.TimelineRefusals.{RefusesFinding, RefusesPage, RefusesShowing, RefusesTimeline}
 use Rattle.jh_cli.specs.declared.error.CliError.{CliError}
@@ -20,17 +20,6 @@ use Rattle.jh_cli.specs.declared.error.CliError.TheVariants.{Input, EnvironmentM
 use Rattle.jh_cli.specs.declared.timeline_command.TimelineQuestion.{TimelineQuestion}
 
 -- ---- no parts are read
-
--- reading writes nothing
-nothing_written : (input : List ℕ) → RefusesHistoryAndRest input (reading.Text edn.Write) → ⊥
-nothing_written input refused =
-    elim refused [
-      | inl bytes ↦ bytes.0
-      | inr parts ↦ elim parts [
-        | inl whole ↦ whole.1.0
-        | inr before ↦ before.refused.0
-      ]
-    ]
 
 pub parts_refused : (question : TimelineQuestion) (input : List ℕ) (error : ReadHistoryError) → RefusesHistoryAndRest input error → RefusesTimeline question input (reading_error error)
 parts_refused question input (reading.Text (edn.UnexpectedEnd line)) refused = (refl, refused)

@@ -1,11 +1,8 @@
 -- Why `jeprun check` refuses an input (this project's own): what is no text of values, no history,
 -- or a history that the checker cannot judge. Each is looked at only where all before it is right.
 use Rattle.std.specs.Prelude.{◌≡◌, ◌≢◌, ℕ, Bool, true, false, List}
-use Rattle.jh_edn.specs.Edn.{Edn}
-use Rattle.jh_edn.specs.Refused as edn
-use Rattle.jh_histories.specs.Histories.{AreValuesOf}
+use Rattle.jh_histories.specs.declared.error.ReadHistoryError.TheVariants as reading
 use Rattle.jh_ops.specs.Operation.{Operation}
-use Rattle.jh_ops.specs.HistoryText as histories
 use Rattle.jh_check.specs.declared.error.CheckError.{CheckError}
 use Rattle.jh_independent.specs.Refusals.{RefusesKeys, keys_question}
 use Rattle.jh_independent.specs.declared.error.KeysError.{KeysError}
@@ -13,6 +10,7 @@ use Rattle.jh_independent.specs.declared.error.KeysError.TheVariants as KeysErro
 use Rattle.jh_checkers.specs.declared.checker.Checker.{Checker}
 use Rattle.jh_checkers.specs.declared.finding.Judging.{Judging}
 use Rattle.jh_reports.specs.Judged.{RefusesLine}
+use Rattle.jh_sections.specs.HistoryAndRest.{AreHistoryAndRest, RefusesHistoryAndRest}
 use Rattle.jh_cli.specs.CheckText.{TakesInitial, TakesModel, IsCheckTextOf}
 use Rattle.jh_cli.specs.Status.{check_error, keys_error, IsInputError, IsHistoryError}
 use Rattle.jh_cli.specs.declared.check_command.Question.{Question}
@@ -43,15 +41,6 @@ RefusesJudging question history OutOfMemory = Unit {0}
 RefusesJudging question history e =
     RefusesBy question.independent question history e
 
--- why values are refused
-abbrev pub RefusesCheckValues : Question → List Edn → CliError → Type 0
-RefusesCheckValues question values (History error) =
-    IsHistoryError error × histories.RefusesValues values error
-RefusesCheckValues question values OutOfMemory = Unit {0}
-RefusesCheckValues question values e =
-    (history : List Operation) × histories.AreParsed values history
-    × RefusesBy question.independent question history e
-
 -- Why an input is refused, where for its text then for its first error. A failed read and out of
 -- memory may come with any input; a failed write comes only where there is something to write.
 abbrev pub RefusesCheck : Question → List ℕ → CliError → Type 0
@@ -61,10 +50,13 @@ RefusesCheck question input OnlyForListAppend =
     TakesInitial question.judging.checker question.judging.initial
     × (TakesModel question.judging.checker question.judging.model → ⊥)
 RefusesCheck question input (Input error) =
-    IsInputError error × edn.RefusesText input error × edn.IsFirstError input error
+    IsInputError error × RefusesHistoryAndRest input (reading.Text error)
+RefusesCheck question input (History error) =
+    IsHistoryError error × RefusesHistoryAndRest input (reading.History error)
 RefusesCheck question input Read = Unit {0}
 RefusesCheck question input Write =
     (status : ℕ) × (output : List ℕ) × IsCheckTextOf question input status output
 RefusesCheck question input OutOfMemory = Unit {0}
 RefusesCheck question input e =
-    (values : List Edn) × AreValuesOf values input × RefusesCheckValues question values e
+    (history : List Operation) × (below : List ℕ) × AreHistoryAndRest input history below
+    × RefusesBy question.independent question history e

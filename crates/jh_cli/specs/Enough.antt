@@ -17,12 +17,12 @@ functions_of Checker.Ids = codes "generate" ∷ []
 functions_of Checker.ListAppend = codes "txn" ∷ []
 
 -- a client's call of one of these functions ended well
-abbrev pub is_done : Checker → Operation → Bool
-is_done checker op = list_any (λ name. is_asked Kind.Ok name op) (functions_of checker)
+abbrev pub is_ok_call : Checker → Operation → Bool
+is_ok_call checker op = list_any (λ name. is_asked Kind.Ok name op) (functions_of checker)
 
 -- how many such calls there are, in all keys
-abbrev pub count_done : Checker → List Operation → ℕ
-count_done checker history = count_by (is_done checker) history
+abbrev pub count_ok_calls : Checker → List Operation → ℕ
+count_ok_calls checker history = count_by (is_ok_call checker) history
 
 -- the line where fewer calls were done than are wanted
 abbrev pub few_line : ℕ → ℕ → List ℕ
@@ -30,9 +30,9 @@ few_line done wanted =
     codes "{:valid? :unknown, :error \"" ++ (decimal done
     ++ (codes " of at least " ++ (decimal wanted ++ codes " operations\"}\n")))
 
--- A history with too few calls is not valid for that: a verdict that is true of it is unknown. Any
--- other verdict stays, with its line.
-abbrev pub answer_of : Option ℕ → (done status : ℕ) → List ℕ → ℕ × List ℕ
-answer_of None done status found = (status, found)
-answer_of (Some wanted) done status found =
+-- The answer: of a history with too few calls a verdict that is true is unknown. Any other verdict
+-- stays, with its line.
+abbrev pub answer_where_enough : Option ℕ → (done status : ℕ) → List ℕ → ℕ × List ℕ
+answer_where_enough None done status found = (status, found)
+answer_where_enough (Some wanted) done status found =
     if status == 0 && nat_lt done wanted then (2, few_line done wanted) else (status, found)

@@ -1,5 +1,5 @@
-//! The command `check`: reads a history, and writes the one line that a checker finds, in the history
-//! or in that of each of its keys. What is written stands in `specs/CheckText.antt`, why a history is
+//! The command `check`: reads a history, or all that `run` or `drive` printed, and writes the one line
+//! that a checker finds, in the history or in that of each of its keys. What is written stands in `specs/CheckText.antt`, why a history is
 //! refused in `specs/CheckRefusals.antt`; a new checker is a row of the table in `jh_checkers`.
 
 ghost use Rattle.std.specs.Prelude.{◌≡◌, ◌≢◌, ◌↔◌, ◌≤◌, IfOk, IfErr, IsErrOf, IsTrue};
@@ -16,10 +16,10 @@ use crate::enough::with_enough;
 use crate::error::CliError;
 use crate::output::{MAX_READS, finish};
 use jh_checkers::{Checker, Judging};
-use jh_histories::read_history;
 use jh_independent::check_keys;
 use jh_ops::Op;
 use jh_reports::{Output, output_of_keys};
+use jh_sections::read_history_and_rest;
 use std::alloc::Global;
 use std::io::{Read, Write};
 use std::sync::Wait;
@@ -38,9 +38,9 @@ pub struct Question {
     pub at_least: Option<usize>,
 }
 
-/// Reads a history as `jh_histories::read_history` does, one operation after another, judges it as
-/// `jh_checkers::check_history` does, and writes one line with what is found. The answer is the exit
-/// status: 0 where the history is valid, 1 where it is not, 2 where that is not known. All is read
+/// Reads a history as `jh_sections::read_history_and_rest` does, also out of what `run` or `drive`
+/// printed, judges it as `jh_checkers::check_history` does, and writes one line with what is found.
+/// The answer is the exit status: 0 where the history is valid, 1 where it is not, 2 where that is not known. All is read
 /// and judged before the first byte is written.
 ///
 /// Where its keys are independent, each is judged by itself with the whole budget, on so many
@@ -81,8 +81,8 @@ pub fn check_run<T: Threads + Wait + Sync, R: Read, W: Write>(
     if !takes_model(question.judging) {
         return Err(CliError::OnlyForListAppend);
     }
-    let history = read_history(alloc, reader, MAX_READS)?;
-    let output = judge_history(rt, alloc, &history, question)?;
+    let parts = read_history_and_rest(alloc, reader, MAX_READS)?;
+    let output = judge_history(rt, alloc, &parts.history, question)?;
     finish(output, writer)
 }
 

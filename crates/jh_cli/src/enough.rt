@@ -3,7 +3,7 @@
 ghost use Rattle.std.specs.Prelude.{◌≡◌, IfOk};
 ghost use Rattle.jh_ops.specs.Operation.{operation, operations};
 ghost use Rattle.jh_cli.specs.Enough as rule;
-ghost use Rattle.jh_cli.specs.Enough.{answer_of, few_line};
+ghost use Rattle.jh_cli.specs.Enough.{answer_where_enough, few_line};
 
 use crate::check_command::Question;
 use jh_checkers::Checker;
@@ -18,8 +18,8 @@ const VALID: u8 = 0;
 const UNKNOWN: u8 = 2;
 
 /// Whether a client's call that the checker judges ended well.
-fn is_done(checker: Checker, op: &Op) -> bool
-    ensures { result ≡ rule.is_done checker (operation op.now) }
+fn is_ok_call(checker: Checker, op: &Op) -> bool
+    ensures { result ≡ rule.is_ok_call checker (operation op.now) }
 {
     match checker {
         Checker::Register => {
@@ -36,12 +36,12 @@ fn is_done(checker: Checker, op: &Op) -> bool
 }
 
 /// How many calls that the checker judges ended well.
-fn count_done(checker: Checker, history: &[Op]) -> usize
-    ensures { result ≡ rule.count_done checker (operations history.now) }
+fn count_ok_calls(checker: Checker, history: &[Op]) -> usize
+    ensures { result ≡ rule.count_ok_calls checker (operations history.now) }
 {
     let mut done = 0;
     for op in history {
-        if is_done(checker, op) {
+        if is_ok_call(checker, op) {
             done += 1;
         }
     }
@@ -56,14 +56,14 @@ pub(crate) fn with_enough(
     found: Output,
 ) -> Result<Output, AllocError>
     ensures { IfOk result (λ output. (output.status, output.text.items)
-        ≡ answer_of question.at_least
-        (rule.count_done question.judging.checker (operations history.now))
+        ≡ answer_where_enough question.at_least
+        (rule.count_ok_calls question.judging.checker (operations history.now))
         found.status found.text.items) }
 {
     let Some(wanted) = question.at_least else {
         return Ok(found);
     };
-    let done = count_done(question.judging.checker, history);
+    let done = count_ok_calls(question.judging.checker, history);
     if found.status != VALID || done >= wanted {
         return Ok(found);
     }

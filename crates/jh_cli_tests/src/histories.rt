@@ -124,6 +124,39 @@ fn judges_registers(rt: HostRuntime) {
     assert_eq!(rt; first_wrong(&rt, rt.alloc(), texts, rows), None);
 }
 
+/// What `run` and `drive` print is judged as the history in it, whatever verdict stands below. A text without a line that
+/// begins with `:active` is refused as a whole.
+#[test]
+fn judges_what_is_printed(rt: HostRuntime) {
+    let rows = r#"{:index 0, :type :invoke, :process 0, :f :write, :value 1}
+{:index 1, :type :ok, :process 0, :f :write, :value 1}
+{:index 2, :type :invoke, :process 1, :f :read, :value nil}
+{:index 3, :type :ok, :process 1, :f :read, :value 2}
+:active []
+{:nodes ["n1"], :cut [], :slow [], :loss [], :down [], :clock []}
+{:valid? true, :order [0 1]}
+→ 1
+{:valid? false}
+§ {:index 0, :time 0, :type :invoke, :process 0, :f :write, :value 1, :node "n1"}
+:end
+{:index 0, :time 0, :type :invoke, :process 0, :f :write, :value 1, :node "n1"}
+{:index 1, :time 5, :type :ok, :process 0, :f :write, :value 1}
+:active []
+{:nodes ["n1"], :cut [], :slow [], :loss [], :down [], :clock []}
+{:valid? true, :order [0]}
+→ 0
+{:valid? true, :order [0]}
+§ {:index 0, :type :invoke, :process 0, :f :write, :value [1]}
+:active []
+→ 3 operation 0: bad value
+§ {:index 0, :type :invoke, :process 0, :f :write, :value 1}
+ :active []
+→ 3 operation 1: not a map
+"#;
+    let texts = Texts::Inputs("jeprun check --workload register");
+    assert_eq!(rt; first_wrong(&rt, rt.alloc(), texts, rows), None);
+}
+
 /// Of how many calls a history may be called valid. What fails, what is not known and what other functions do is not
 /// counted; another verdict than a yes stays.
 #[test]
