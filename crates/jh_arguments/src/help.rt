@@ -86,7 +86,7 @@ Exit status: 0 valid or not judged, 1 not valid, 2 unknown, 3 refused arguments 
 
 Examples:
   jeprun timeline --workload register < examples/check/register-stale.edn > stale.html
-  jeprun run < examples/run/quorum-register.toml | jeprun timeline --workload register > run.html";
+  jeprun run < examples/run/quorum-register.toml | jeprun timeline --workload register --initial 0 > run.html";
 
 pub(crate) const DRIVE: &str = "\
 It writes a line for each call that is to be made and for each step of the nemesis, with the

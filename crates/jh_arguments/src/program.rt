@@ -9,7 +9,7 @@ use crate::line::{REFUSED, parse, status_of_refusal};
 use clap::ArgMatches;
 use jh_checkers::{Checker, Judging};
 use jh_cli::CliError;
-use jh_drive::{DriveError, drive};
+use jh_drive::{CallCounts, CallObserver, DriveError, drive_observed};
 use jh_lines::Streams;
 use jh_search::SearchObserver;
 use jh_shrink::Observer;
@@ -181,6 +181,31 @@ fn undriven(rt: &impl Eprint, error: DriveError) -> u8 {
     error.status()
 }
 
+/// Tells on a terminal how the calls of a test ended: one that made none is valid too.
+#[derive(Drop)]
+struct Told<'a, P> {
+    rt: &'a P,
+    /// Whether anybody reads it.
+    is_shown: bool,
+}
+
+impl<P: Eprint> CallObserver for Told<'_, P> {
+    fn see_calls(&mut self, calls: CallCounts) {
+        if !self.is_shown {
+            return;
+        }
+        let CallCounts {
+            given,
+            ok,
+            failed,
+            unknown,
+        } = calls;
+        let _ = eprintln!(self.rt;
+            "jeprun: {given} calls: {ok} ok, {failed} failed, {unknown} of unknown outcome"
+        );
+    }
+}
+
 /// Conducts the test that a file sets, over the standard streams.
 fn driven<R>(rt: &R, path: &str, terminals: Terminals) -> u8
 where
@@ -200,7 +225,11 @@ where
         reader: rt.reader(),
         writer: io::writer(rt),
     };
-    match drive(rt.alloc(), &settings, &mut streams) {
+    let mut told = Told {
+        rt,
+        is_shown: terminals.errors,
+    };
+    match drive_observed(rt.alloc(), &settings, &mut streams, &mut told) {
         Ok(status) => status,
         Err(error) => undriven(rt, error),
     }
@@ -267,9 +296,9 @@ fn arguments_of(rt: &(impl Env + Alloc<A = Global>)) -> io::Result<Vec<String>> 
 /// answers, 0 where help or the version was asked for, 3 where the arguments or the input are
 /// refused, 4 where the machine failed or a run was not completed.
 ///
-/// Where standard error is a terminal, three things are told there, and nowhere else: what is read,
-/// where standard input is a terminal too; how far `shrink` or `search` is; and what to raise, where a
-/// register was left unknown.
+/// Where standard error is a terminal, four things are told there, and nowhere else: what is read,
+/// where standard input is a terminal too; how far `shrink` or `search` is; how the calls of a test
+/// ended, of `drive`; and what to raise, where a register was left unknown.
 ///
 /// A run on threads, a search and the judgement of keys may wait.
 pub fn status<R>(rt: &R, terminals: Terminals) -> u8

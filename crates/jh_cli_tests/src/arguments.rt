@@ -239,7 +239,7 @@ Exit status: 0 valid or not judged, 1 not valid, 2 unknown, 3 refused arguments 
 
 Examples:
   jeprun timeline --workload register < examples/check/register-stale.edn > stale.html
-  jeprun run < examples/run/quorum-register.toml | jeprun timeline --workload register > run.html
+  jeprun run < examples/run/quorum-register.toml | jeprun timeline --workload register --initial 0 > run.html
 § jeprun run --help → 0
 Runs a simulated cluster by settings, read from standard input as TOML, and judges its history
 

@@ -1,3 +1,4 @@
 pub mod DriveErrors
+pub mod Calls
 pub mod Drive
 pub mod DriveInside

@@ -8,6 +8,7 @@ ghost use Rattle.jh_test_parts.specs.Test.{TestValue};
 ghost use Rattle.jh_settings.specs.declared.error.SettingsError.{SettingsError};
 ghost use Rattle.jh_drive.specs.declared.error.DriveError.TheVariants as DriveErrors;
 
+use crate::calls::{CallObserver, Untold};
 use crate::error::DriveError;
 use crate::report::report;
 use jh_checkers::Judging;
@@ -65,11 +66,12 @@ fn drive_answer(
 }
 
 /// Holds a conversation that has begun, and writes its report.
-fn hold<R: Read, W: Write>(
+fn hold<R: Read, W: Write, O: CallObserver>(
     alloc: Global,
     conversation: &mut Conversation,
     judging: Judging,
     streams: &mut Streams<R, W>,
+    observer: &mut O,
 ) -> Result<u8, DriveError>
     ensures { (t : TestValue) → IsTestBegun t conversation.old → IsAnswered t judging
         (R.remaining streams.old.reader) (R.remaining streams.new.reader)
@@ -83,25 +85,26 @@ fn hold<R: Read, W: Write>(
     }
     let bad = conversation.bad();
     let is_over = conversation.is_over();
-    match report(alloc, conversation, judging, &mut streams.writer) {
+    match report(alloc, conversation, judging, &mut streams.writer, observer) {
         Ok(status) => drive_answer(bad, is_over, ending, status),
         Err(error) => Err(error),
     }
 }
 
 /// Conducts a test, and writes its report.
-fn conduct<R: Read, W: Write>(
+fn conduct<R: Read, W: Write, O: CallObserver>(
     alloc: Global,
     test: Test,
     judging: Judging,
     streams: &mut Streams<R, W>,
+    observer: &mut O,
 ) -> Result<u8, DriveError>
     ensures { IsAnswered test judging
         (R.remaining streams.old.reader) (R.remaining streams.new.reader)
         (W.contents streams.old.writer) (W.contents streams.new.writer) result }
 {
     let mut conversation = Conversation::begin(alloc, test)?;
-    hold(alloc, &mut conversation, judging, streams)
+    hold(alloc, &mut conversation, judging, streams, observer)
 }
 
 /// Conducts the test of a real database that settings in TOML set: tells the writer all that is due
@@ -127,6 +130,24 @@ pub fn drive<R: Read, W: Write>(
     ensures unread { (error : SettingsError) → IfErr result
         (λ e. e ≡ DriveErrors.Settings error → streams.new ≡ streams.old) }
 {
+    drive_observed(alloc, settings, streams, &mut Untold)
+}
+
+/// [`drive`], which tells an observer how the calls ended, once the conversation is over.
+///
+/// Errors: those of `drive`.
+pub fn drive_observed<R: Read, W: Write, O: CallObserver>(
+    alloc: Global,
+    settings: &[u8],
+    streams: &mut Streams<R, W>,
+    observer: &mut O,
+) -> Result<u8, DriveError>
+    ensures driven { IsDriven settings.now
+        (R.remaining streams.old.reader) (R.remaining streams.new.reader)
+        (W.contents streams.old.writer) (W.contents streams.new.writer) result }
+    ensures unread { (error : SettingsError) → IfErr result
+        (λ e. e ≡ DriveErrors.Settings error → streams.new ≡ streams.old) }
+{
     let settings = match drive_settings_of(alloc, settings) {
         Ok(settings) => settings,
         Err(error) => return Err(DriveError::from(error)),
@@ -138,5 +159,5 @@ pub fn drive<R: Read, W: Write>(
         budget,
     } = settings;
     let judging = judging_of(&test, initial, model, budget);
-    conduct(alloc, test, judging, streams)
+    conduct(alloc, test, judging, streams, observer)
 }

@@ -2,9 +2,11 @@
 //! `specs/Drive.antt` says what is told and written, `specs/DriveErrors.antt` why it ends early.
 #![tactic(auto)]
 
+mod calls;
 mod conducting;
 mod error;
 mod report;
 
-pub use conducting::drive;
+pub use calls::{CallCounts, CallObserver};
+pub use conducting::{drive, drive_observed};
 pub use error::DriveError;

@@ -11,6 +11,7 @@ ghost use Rattle.jh_drive.specs.declared.error.DriveError.TheVariants as DriveEr
 ghost use Rattle.jh_ops.specs.Operation.{operations};
 ghost use Rattle.jh_reports.specs.Judged.{IsKeysText, IsTextBy, IsWholeText};
 
+use crate::calls::{CallObserver, counts_of};
 use crate::error::DriveError;
 use jh_checkers::Judging;
 use jh_conversation::Conversation;
@@ -73,11 +74,12 @@ fn judge_one(alloc: Global, history: &[Op], judging: Judging) -> Result<Output, 
     }
 }
 
-/// Judges the history of a test.
-fn judge_history(
+/// Judges the history of a test, of which an observer is told first.
+fn judge_history<O: CallObserver>(
     alloc: Global,
     conversation: &Conversation,
     judging: Judging,
+    observer: &mut O,
 ) -> Result<Output, DriveError>
     ensures { MatchResult result
         (λ output. IsTextBy (is_some conversation.now.test.keys) judging
@@ -87,6 +89,7 @@ fn judge_history(
         (recorded_history conversation.now.test conversation.now.machine)) }
 {
     let history = conversation.history()?;
+    observer.see_calls(counts_of(&history));
     match conversation.test().keys() {
         Some(_) => judge_keys(alloc, &history, judging),
         None => judge_one(alloc, &history, judging),
@@ -97,11 +100,12 @@ fn judge_history(
 ///
 /// Errors: `Write`; `Mismatch` where the history can't be judged; `OutOfMemory`. All but the last line
 /// may be written before any of them.
-pub(crate) fn report<W: Write>(
+pub(crate) fn report<W: Write, O: CallObserver>(
     alloc: Global,
     conversation: &Conversation,
     judging: Judging,
     writer: &mut W,
+    observer: &mut O,
 ) -> Result<u8, DriveError>
     ensures { MatchResult result
         (λ status. (report : List ℕ) × IsReportOf judging conversation.now status report
@@ -112,7 +116,7 @@ pub(crate) fn report<W: Write>(
     write(writer, &known)?;
     // The text of a long history takes as much memory as judging it: it is given back first.
     drop(known);
-    let output = judge_history(alloc, conversation, judging)?;
+    let output = judge_history(alloc, conversation, judging, observer)?;
     write(writer, &output.text)?;
     Ok(output.status)
 }

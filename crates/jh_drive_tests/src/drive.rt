@@ -4,6 +4,7 @@
 //!
 //! What runs out of memory is made once more, so that the tests stand one refused allocation.
 
+mod calls;
 mod drives;
 mod once;
 mod streams;
