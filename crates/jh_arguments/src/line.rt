@@ -383,11 +383,12 @@ fn at_least_option<'a>(alloc: Global) -> Arg<'a>
     ensures rule { rule_of result ≡ text.index (codes "at-least") }
     ensures local { result.global ≡ false }
 {
-    Arg::new(alloc, "at-least")
-        .long("at-least")
-        .value_name("N")
-        .help("Calls a history valid only where so many calls of the workload ended well")
-        .value_parser(value_parser!(u64))
+    given_option(
+        alloc,
+        "at-least",
+        "Calls a history valid only where so many calls of the workload ended well",
+        value_parser!(u64),
+    )
 }
 
 /// An option that is there or not.
