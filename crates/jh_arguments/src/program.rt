@@ -201,7 +201,7 @@ impl<P: Eprint> CallObserver for Told<'_, P> {
             unknown,
         } = calls;
         let _ = eprintln!(self.rt;
-            "jeprun: {given} calls: {ok} ok, {failed} failed, {unknown} of unknown outcome"
+            "jeprun: calls: {given} made, {ok} ok, {failed} failed, {unknown} of unknown outcome"
         );
     }
 }
