@@ -3,6 +3,7 @@
 -- the lines up to `:end`, which are those of the conversation (this project's own).
 use Rattle.std.specs.Prelude.{◌≡◌, ℕ, zero, suc, ◌+◌, ◌<◌, List, [], ◌∷◌, ◌++◌, length, codes, take}
 use Rattle.std.specs.Prelude.{drop, ◌⊎◌}
+use Rattle.std.specs.Str.{IsUtf8}
 use Rattle.jh_edn.specs.Refused.{IsReaderError}
 use Rattle.jh_edn.specs.declared.error.EdnError.TheVariants.{Utf8}
 use Rattle.jh_histories.specs.Histories.{IsHistoryOf, RefusesHistoryOf}
@@ -47,10 +48,11 @@ IsBehindEnd text rest =
 abbrev pub IsNoHistory : List ℕ → Type 0
 IsNoHistory text = (history : List Operation) → IsHistoryOf text history → ⊥
 
--- A text that as a whole is no history has one before the first line that begins with `:active`. That
--- line and what is behind it stand below.
+-- A text, which is UTF-8 and as a whole no history, has one before the first line that begins with
+-- `:active`. That line and what is behind it stand below.
 pub record HasHistoryBefore (text : List ℕ) (history : List Operation)
     (below : List ℕ) : Type 0 where
+  pub utf8 : IsUtf8 text
   pub none : IsNoHistory text
   pub at : ℕ
   pub line : IsFirstLine active text at
@@ -72,8 +74,9 @@ IsOfBytes (Text error) = IsReaderError error
 IsOfBytes (History OutOfMemory) = Unit {0}
 IsOfBytes (History error) = ⊥
 
--- What stands before that line is refused.
+-- What stands before that line is refused; the text is UTF-8.
 pub record RefusesBefore (text : List ℕ) (error : ReadHistoryError) : Type 0 where
+  pub utf8 : IsUtf8 text
   pub none : IsNoHistory text
   pub at : ℕ
   pub line : IsFirstLine active text at
