@@ -1,2 +1,3 @@
 pub mod SubsequenceLemmas
+pub mod JudgeLemmas
 pub mod ChangeLemmas

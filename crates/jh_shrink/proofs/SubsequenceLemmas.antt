@@ -38,11 +38,11 @@ sub_cut (x ∷ xs) (suc i) (suc j) le = inl (refl, sub_cut xs i j (omega (arith,
 
 -- ---- what is known of a part is known of the whole
 
-pub halts_of : (A : List Entry → Option Bool → Type 0) (given part : List Entry) (halt : Halt) → IsSubsequence part given
-    → HaltsWork A part halt → HaltsWork A given halt
-halts_of A given part Halt.Judge sub h = (h.0, sub_trans h.0 part given h.1 sub, h.2)
-halts_of A given part Halt.Budget sub h = tt
-halts_of A given part Halt.OutOfMemory sub h = tt
+pub halts_of : (A : List Entry → Option Bool → Type 0) (given part : List Entry) (left : ℕ) (halt : Halt) → IsSubsequence part given
+    → HaltsWork A part left halt → HaltsWork A given left halt
+halts_of A given part left Halt.Judge sub h = (h.0, sub_trans h.0 part given h.1 sub, h.2)
+halts_of A given part left Halt.Budget sub h = h
+halts_of A given part left Halt.OutOfMemory sub h = tt
 
 pub failing_of : (A : List Entry → Option Bool → Type 0) (given part rest : List Entry) → IsSubsequence part given
     → IsFailing A part rest → IsFailing A given rest

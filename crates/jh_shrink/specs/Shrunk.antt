@@ -39,3 +39,9 @@ abbrev pub RefusesShrink : (List Entry → Option Bool → Type 0) → List Entr
 RefusesShrink Answers given Judge =
     (schedule : List Entry) × IsSubsequence schedule given × Answers schedule None
 RefusesShrink Answers given OutOfMemory = ⊤
+
+-- it was not seen to be minimal when the judge had been asked as often as it might
+abbrev pub IsBudget : Shrunk → Type 0
+IsBudget (Minimal schedule) = ⊥
+IsBudget (Budget schedule) = ⊤
+IsBudget (NotFailing schedule) = ⊥

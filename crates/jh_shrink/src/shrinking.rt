@@ -1,13 +1,14 @@
 //! Takes entries out of a schedule that fails, as long as it fails still. `specs/Shrunk.antt` says
 //! what is left.
 
-ghost use Rattle.std.specs.Prelude.{◌≡◌, ◌≤◌, ◌<◌, Some, false, true, length, IfErr, IfOk};
-ghost use Rattle.std.specs.Prelude.{MatchResult, OnOk, ◌+◌, ◌-◌};
+ghost use Rattle.std.specs.Prelude.{◌≡◌, ◌≤◌, ◌<◌, ◌+◌, ◌-◌, ◌^◌, ℕ, Bool, List, Option, Some, false};
+ghost use Rattle.std.specs.Prelude.{true, length, IfErr, IfOk, MatchResult, OnOk};
 ghost use Rattle.std.specs.List.{remove_range};
 ghost use Rattle.std.specs.Fn.{FnReturnsAt};
 ghost use Rattle.jh_simnode.specs.Limits.{max_entries};
-ghost use Rattle.jh_shrink.specs.Shrunk.{IsFailing, IsShrunk, NeedsEach, RefusesShrink};
-ghost use Rattle.jh_shrink.specs.ShrinkingInside.{HaltsWork};
+ghost use Rattle.jh_simnode.specs.declared.schedule.Entry.{Entry};
+ghost use Rattle.jh_shrink.specs.Shrunk.{IsBudget, IsFailing, IsShrunk, NeedsEach, RefusesShrink};
+ghost use Rattle.jh_shrink.specs.ShrinkingInside.{GoesOn, HaltsWork};
 
 use jh_simnode::Schedule;
 use std::alloc::{AllocError, Global};
@@ -35,6 +36,43 @@ pub enum ShrinkError {
     OutOfMemory,
 }
 
+/// Who says of a schedule whether it fails. What was answered once stays answered, so an answer may
+/// come from outside, as that of a system which runs.
+pub trait ScheduleJudge {
+    /// It can be asked.
+    ghost is_ready: { Self → Type 0 };
+
+    /// It has answered so of a schedule: that it fails, that it passes, or nothing.
+    ghost has_answered: { Self → List Entry → Option Bool → Type 0 };
+
+    /// How often it was asked.
+    ghost asked: { Self → ℕ };
+
+    /// The second is what the first becomes by being asked.
+    ghost becomes: { Self → Self → Type 0 };
+
+    /// Whether a schedule fails, or nothing where that can't be said.
+    fn judge(&mut self, schedule: &Schedule) -> Option<bool>
+        requires ready { is_ready self.old }
+        requires room { asked self.old + 1 < 2 ^ 64 }
+        ensures ready { is_ready self.new }
+        ensures answered { has_answered self.new schedule.now result }
+        ensures counted { asked self.new ≡ asked self.old + 1 }
+        ensures later { becomes self.old self.new };
+
+    /// One that is not asked stays what it is.
+    ghost stays: { (one : Self) → becomes one one };
+
+    /// One that is asked again goes on from where it was.
+    ghost goes_on: { (one next last : Self) → becomes one next → becomes next last
+        → becomes one last };
+
+    /// What was answered once stays answered.
+    ghost keeps: { (one next : Self) (schedule : List Entry) (answer : Option Bool)
+        → becomes one next → has_answered one schedule answer
+        → has_answered next schedule answer };
+}
+
 /// Who is told how far the work is.
 pub trait Observer {
     /// The judge is asked for this time, counted from 1, and so many entries are left of the
@@ -48,6 +86,36 @@ pub struct Nobody;
 
 impl Observer for Nobody {
     fn see(&mut self, _entries: usize, _calls: u64) {}
+}
+
+/// A judge that is a function, with how often it was asked.
+#[derive(Drop)]
+struct Counted<F> {
+    judge: F,
+    calls: u64,
+}
+
+impl<F: Fn(&Schedule) -> Option<bool>> ScheduleJudge for Counted<F> {
+    ghost use Rattle.std.proofs.Common.{refl, ◌∙◌};
+
+    ghost is_ready = { λ c. F.IsAlwaysCallable c.judge };
+
+    ghost has_answered = { λ c. FnReturnsAt F.Fn c.judge };
+
+    ghost asked = { λ c. c.calls };
+
+    ghost becomes = { λ one next. next.judge ≡ one.judge };
+
+    ghost stays = { λ one. refl };
+
+    ghost goes_on = { λ one next last first then. then ∙ first };
+
+    ghost keeps = { λ one next schedule answer later said. rw later said };
+
+    fn judge(&mut self, schedule: &Schedule) -> Option<bool> {
+        self.calls += 1;
+        (self.judge)(schedule)
+    }
 }
 
 /// Why the work ends.
@@ -71,32 +139,37 @@ impl From<AllocError> for Halt {
     }
 }
 
-/// How often the judge was asked and may be, and who is told.
+/// How often the judge may be asked, in all and from now on, and who is told.
 #[derive(Drop)]
 struct Meter<'a, O> {
-    calls: u64,
     budget: u64,
+    left: u64,
     observer: &'a mut O,
 }
 
 /// Whether a schedule fails, where so many entries are left of the smallest one that does.
-fn ask<F: Fn(&Schedule) -> Option<bool>, O: Observer>(
-    judge: &F,
+fn ask<J: ScheduleJudge, O: Observer>(
+    judge: &mut J,
     meter: &mut Meter<'_, O>,
     schedule: &Schedule,
-    left: usize,
+    entries: usize,
 ) -> Result<bool, Halt>
-    requires { F.IsAlwaysCallable judge.now }
-    ensures { MatchResult result
-        (λ fails. FnReturnsAt F.Fn judge.now schedule.now (Some fails))
-        (HaltsWork (FnReturnsAt F.Fn judge.now) schedule.now) }
+    requires ready { J.is_ready judge.old }
+    requires room { J.asked judge.old + meter.old.left < 2 ^ 64 }
+    ensures answer { MatchResult result
+        (λ fails. J.has_answered judge.new schedule.now (Some fails))
+        (HaltsWork (J.has_answered judge.new) schedule.now meter.new.left) }
+    ensures went_on { GoesOn J.is_ready J.becomes J.asked
+        judge.old meter.old.left judge.new meter.new.left }
 {
-    if meter.calls >= meter.budget {
+    if meter.left == 0 {
         return Err(Halt::Budget);
     }
-    meter.calls += 1;
-    meter.observer.see(left, meter.calls);
-    match judge(schedule) {
+    meter.left -= 1;
+    meter
+        .observer
+        .see(entries, meter.budget.saturating_sub(meter.left));
+    match judge.judge(schedule) {
         Some(fails) => Ok(fails),
         None => Err(Halt::Judge),
     }
@@ -104,23 +177,27 @@ fn ask<F: Fn(&Schedule) -> Option<bool>, O: Observer>(
 
 /// Takes out the entries from a place on and below another, if the schedule fails without them.
 /// Says whether it did.
-fn spare<F: Fn(&Schedule) -> Option<bool>, O: Observer>(
+fn spare<J: ScheduleJudge, O: Observer>(
     alloc: Global,
-    judge: &F,
+    judge: &mut J,
     meter: &mut Meter<'_, O>,
     schedule: &mut Schedule,
     from: usize,
     to: usize,
 ) -> Result<bool, Halt>
-    requires callable { F.IsAlwaysCallable judge.now }
+    requires ready { J.is_ready judge.old }
+    requires room { J.asked judge.old + meter.old.left < 2 ^ 64 }
     requires part { (from < to) × (to ≤ length schedule.old) }
-    requires failing { FnReturnsAt F.Fn judge.now schedule.old (Some true) }
-    ensures failing { IsFailing (FnReturnsAt F.Fn judge.now) schedule.old schedule.new }
+    requires failing { J.has_answered judge.old schedule.old (Some true) }
+    ensures failing { IsFailing (J.has_answered judge.new) schedule.old schedule.new }
     ensures spared { IfOk result
         (λ spared. spared ≡ true → length schedule.new + (to - from) ≡ length schedule.old) }
     ensures needed { IfOk result (λ spared. spared ≡ false → (schedule.new ≡ schedule.old)
-        × FnReturnsAt F.Fn judge.now (remove_range schedule.old from to) (Some false)) }
-    ensures halted { IfErr result (HaltsWork (FnReturnsAt F.Fn judge.now) schedule.old) }
+        × J.has_answered judge.new (remove_range schedule.old from to) (Some false)) }
+    ensures halted { IfErr result
+        (HaltsWork (J.has_answered judge.new) schedule.old meter.new.left) }
+    ensures went_on { GoesOn J.is_ready J.becomes J.asked
+        judge.old meter.old.left judge.new meter.new.left }
 {
     let rest = schedule.copy_without(alloc, from, to)?;
     if !ask(judge, meter, &rest, schedule.entries().len())? {
@@ -132,24 +209,28 @@ fn spare<F: Fn(&Schedule) -> Option<bool>, O: Observer>(
 
 /// Takes out each part of so many entries without which the schedule fails, from the first part on.
 /// Says whether it took one out.
-fn pass<F: Fn(&Schedule) -> Option<bool>, O: Observer>(
+fn pass<J: ScheduleJudge, O: Observer>(
     alloc: Global,
-    judge: &F,
+    judge: &mut J,
     meter: &mut Meter<'_, O>,
     schedule: &mut Schedule,
     size: usize,
 ) -> Result<bool, Halt>
-    requires callable { F.IsAlwaysCallable judge.now }
+    requires ready { J.is_ready judge.old }
+    requires room { J.asked judge.old + meter.old.left < 2 ^ 64 }
     requires size { (1 ≤ size) × (size ≤ max_entries) }
-    requires failing { FnReturnsAt F.Fn judge.now schedule.old (Some true) }
-    ensures failing { IsFailing (FnReturnsAt F.Fn judge.now) schedule.old schedule.new }
+    requires failing { J.has_answered judge.old schedule.old (Some true) }
+    ensures failing { IsFailing (J.has_answered judge.new) schedule.old schedule.new }
     ensures fewer { IfOk result
         (λ spared. spared ≡ true → length schedule.new < length schedule.old) }
     ensures same { IfOk result (λ spared. spared ≡ false → schedule.new ≡ schedule.old) }
     ensures needed { IfOk result
         (λ spared. spared ≡ false → size ≡ 1
-        → NeedsEach (FnReturnsAt F.Fn judge.now) schedule.new) }
-    ensures halted { IfErr result (HaltsWork (FnReturnsAt F.Fn judge.now) schedule.old) }
+        → NeedsEach (J.has_answered judge.new) schedule.new) }
+    ensures halted { IfErr result
+        (HaltsWork (J.has_answered judge.new) schedule.old meter.new.left) }
+    ensures went_on { GoesOn J.is_ready J.becomes J.asked
+        judge.old meter.old.left judge.new meter.new.left }
 {
     let mut place = 0;
     let mut spared = false;
@@ -165,17 +246,21 @@ fn pass<F: Fn(&Schedule) -> Option<bool>, O: Observer>(
 }
 
 /// Takes entries out, large parts first, until the schedule passes without any one of them.
-fn reduce<F: Fn(&Schedule) -> Option<bool>, O: Observer>(
+fn reduce<J: ScheduleJudge, O: Observer>(
     alloc: Global,
-    judge: &F,
+    judge: &mut J,
     meter: &mut Meter<'_, O>,
     schedule: &mut Schedule,
 ) -> Result<(), Halt>
-    requires callable { F.IsAlwaysCallable judge.now }
-    requires failing { FnReturnsAt F.Fn judge.now schedule.old (Some true) }
-    ensures failing { IsFailing (FnReturnsAt F.Fn judge.now) schedule.old schedule.new }
-    ensures minimal { OnOk result (NeedsEach (FnReturnsAt F.Fn judge.now) schedule.new) }
-    ensures halted { IfErr result (HaltsWork (FnReturnsAt F.Fn judge.now) schedule.old) }
+    requires ready { J.is_ready judge.old }
+    requires room { J.asked judge.old + meter.old.left < 2 ^ 64 }
+    requires failing { J.has_answered judge.old schedule.old (Some true) }
+    ensures failing { IsFailing (J.has_answered judge.new) schedule.old schedule.new }
+    ensures minimal { OnOk result (NeedsEach (J.has_answered judge.new) schedule.new) }
+    ensures halted { IfErr result
+        (HaltsWork (J.has_answered judge.new) schedule.old meter.new.left) }
+    ensures went_on { GoesOn J.is_ready J.becomes J.asked
+        judge.old meter.old.left judge.new meter.new.left }
 {
     let mut size = schedule.entries().len().div_ceil(2).max(1);
     while pass(alloc, judge, meter, schedule, size)? || size > 1 {
@@ -184,13 +269,57 @@ fn reduce<F: Fn(&Schedule) -> Option<bool>, O: Observer>(
     Ok(())
 }
 
-/// Makes a schedule that fails small, and tells an observer how far it is.
+/// Makes a schedule that fails small by any judge, and tells an observer how far it is.
 ///
 /// It takes out halves of the entries, then quarters, and so on to single entries, as long as what
 /// is left fails still, and ends once the judge said of each single entry that the schedule passes
 /// without it. So it asks about twice the number of entries that matter for each halving, and no
 /// more than the square of the number of entries. Fewer entries than those of `Minimal` may fail
 /// where several are taken out at once.
+///
+/// The judge is asked `budget` times at most, and `Budget` is answered only where it was asked so
+/// often.
+///
+/// Errors: `Judge` where the judge had no answer; `OutOfMemory`.
+pub fn shrink_by<J: ScheduleJudge, O: Observer>(
+    alloc: Global,
+    schedule: Schedule,
+    judge: &mut J,
+    budget: u64,
+    observer: &mut O,
+) -> Result<Shrunk, ShrinkError>
+    requires ready { J.is_ready judge.old }
+    requires room { J.asked judge.old + budget < 2 ^ 64 }
+    ensures shrunk { MatchResult result
+        (IsShrunk (J.has_answered judge.new) schedule)
+        (RefusesShrink (J.has_answered judge.new) schedule) }
+    ensures within { J.asked judge.new ≤ J.asked judge.old + budget }
+    ensures used_up { IfOk result (λ shrunk. IsBudget shrunk
+        → J.asked judge.new ≡ J.asked judge.old + budget) }
+    ensures later { J.becomes judge.old judge.new }
+{
+    let mut meter = Meter {
+        budget,
+        left: budget,
+        observer,
+    };
+    match ask(judge, &mut meter, &schedule, schedule.entries().len()) {
+        Ok(true) => {}
+        Ok(false) => return Ok(Shrunk::NotFailing(schedule)),
+        Err(Halt::Budget) => return Ok(Shrunk::Budget(schedule)),
+        Err(Halt::Judge) => return Err(ShrinkError::Judge),
+        Err(Halt::OutOfMemory) => return Err(ShrinkError::OutOfMemory),
+    }
+    let mut smallest = schedule;
+    match reduce(alloc, judge, &mut meter, &mut smallest) {
+        Ok(()) => Ok(Shrunk::Minimal(smallest)),
+        Err(Halt::Budget) => Ok(Shrunk::Budget(smallest)),
+        Err(Halt::Judge) => Err(ShrinkError::Judge),
+        Err(Halt::OutOfMemory) => Err(ShrinkError::OutOfMemory),
+    }
+}
+
+/// Makes a schedule that fails small: [`shrink_by`] with a judge that is a function.
 ///
 /// Errors: `Judge` where the judge had no answer; `OutOfMemory`.
 pub fn shrink_observed<F: Fn(&Schedule) -> Option<bool>, O: Observer>(
@@ -205,25 +334,8 @@ pub fn shrink_observed<F: Fn(&Schedule) -> Option<bool>, O: Observer>(
         (IsShrunk (FnReturnsAt F.Fn judge) schedule)
         (RefusesShrink (FnReturnsAt F.Fn judge) schedule) }
 {
-    let mut meter = Meter {
-        calls: 0,
-        budget,
-        observer,
-    };
-    match ask(&judge, &mut meter, &schedule, schedule.entries().len()) {
-        Ok(true) => {}
-        Ok(false) => return Ok(Shrunk::NotFailing(schedule)),
-        Err(Halt::Budget) => return Ok(Shrunk::Budget(schedule)),
-        Err(Halt::Judge) => return Err(ShrinkError::Judge),
-        Err(Halt::OutOfMemory) => return Err(ShrinkError::OutOfMemory),
-    }
-    let mut smallest = schedule;
-    match reduce(alloc, &judge, &mut meter, &mut smallest) {
-        Ok(()) => Ok(Shrunk::Minimal(smallest)),
-        Err(Halt::Budget) => Ok(Shrunk::Budget(smallest)),
-        Err(Halt::Judge) => Err(ShrinkError::Judge),
-        Err(Halt::OutOfMemory) => Err(ShrinkError::OutOfMemory),
-    }
+    let mut counted = Counted { judge, calls: 0 };
+    shrink_by(alloc, schedule, &mut counted, budget, observer)
 }
 
 /// Makes a schedule that fails small: [`shrink_observed`] with nobody to tell.

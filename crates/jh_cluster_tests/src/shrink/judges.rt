@@ -4,7 +4,7 @@
 
 use crate::random::Random;
 use crate::shrink::entries::{dues, schedule};
-use jh_shrink::{ShrinkError, Shrunk, shrink};
+use jh_shrink::{Nobody, ScheduleJudge, ShrinkError, Shrunk, shrink, shrink_by};
 use jh_simnode::{Entry, Schedule};
 use std::alloc::Global;
 
@@ -59,6 +59,77 @@ fn schedules_are_made_small(rt: HostRuntime) {
         };
         assert!(rt;
             given.is_some_and(|given| given.as_str() == *wanted),
+            "{wanted}"
+        );
+    }
+}
+
+/// A judge to whom those fail that have an entry, and that counts how often it is asked.
+#[derive(Drop)]
+struct Counting {
+    needed: u32,
+    times: u64,
+}
+
+impl ScheduleJudge for Counting {
+    ghost use Rattle.std.specs.Prelude.{◌≡◌};
+    ghost use Rattle.std.proofs.Common.{refl, ◌∙◌};
+
+    ghost is_ready = { λ _. Unit {0} };
+
+    ghost has_answered = { λ _ _ _. Unit {0} };
+
+    ghost asked = { λ c. c.times };
+
+    ghost becomes = { λ one next. next.needed ≡ one.needed };
+
+    ghost stays = { λ one. refl };
+
+    ghost goes_on = { λ one next last first then. then ∙ first };
+
+    ghost keeps = { λ one next schedule answer later said. tt };
+
+    fn judge(&mut self, schedule: &Schedule) -> Option<bool> {
+        self.times += 1;
+        Some(has(schedule.entries(), self.needed))
+    }
+}
+
+/// What becomes of four entries of which the second is needed, and how often the judge was asked.
+fn counted(alloc: Global, budget: u64) -> Option<(String, u64)> {
+    let mut judge = Counting {
+        needed: 1,
+        times: 0,
+    };
+    let shrunk = shrink_by(
+        alloc,
+        schedule(alloc, 4)?,
+        &mut judge,
+        budget,
+        &mut Nobody,
+    )
+    .ok()?;
+    Some((given(alloc, &shrunk)?, judge.times))
+}
+
+/// How often the judge may be asked, what becomes of the entries, and how often it was asked.
+static COUNTED: [(u64, &str, u64); 5] = [
+    (0, "budget [0, 1, 2, 3]", 0),
+    (1, "budget [0, 1, 2, 3]", 1),
+    (3, "budget [0, 1]", 3),
+    (5, "budget [1]", 5),
+    (99, "minimal [1]", 6),
+];
+
+#[test]
+fn a_budget_is_a_number_of_asks(rt: HostRuntime) {
+    for (budget, wanted, asked) in COUNTED.iter() {
+        let given = match counted(rt.alloc(), *budget) {
+            None => counted(rt.alloc(), *budget),
+            given => given,
+        };
+        assert!(rt;
+            given.is_some_and(|given| given.0.as_str() == *wanted && given.1 == *asked),
             "{wanted}"
         );
     }
