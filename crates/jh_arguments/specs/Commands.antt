@@ -176,7 +176,7 @@ abbrev pub IsOutputOf : Command → List ℕ → ℕ → List ℕ → Type 0
 IsOutputOf Env input status output = IsEnvTextOf input status output
 IsOutputOf (Check question) input status output = IsCheckTextOf question input status output
 IsOutputOf Run input status output = IsRunTextOf input status output
-IsOutputOf (Shrink budget) input status output = IsShrinkTextOf input status output
+IsOutputOf (Shrink runs) input status output = IsShrinkTextOf runs input status output
 IsOutputOf (Search question) input status output = IsSearchTextOf question input status output
 IsOutputOf (Timeline question) input status output = IsTimelineTextOf question input status output
 
@@ -185,6 +185,6 @@ abbrev pub RefusesCommand : Command → List ℕ → CliError → Type 0
 RefusesCommand Env input e = RefusesEnv input e
 RefusesCommand (Check question) input e = RefusesCheck question input e
 RefusesCommand Run input e = RefusesRun input e
-RefusesCommand (Shrink budget) input e = RefusesShrinking input e
+RefusesCommand (Shrink runs) input e = RefusesShrinking runs input e
 RefusesCommand (Search question) input e = RefusesSearch question input e
 RefusesCommand (Timeline question) input e = RefusesTimeline question input e

@@ -18,8 +18,8 @@ RefusesShrinkBytes input e = ⊥
 
 -- A failed read, an input that does not end and out of memory may come with any input; a failed
 -- write comes only where there is something to write.
-abbrev pub RefusesShrinking : List ℕ → CliError → Type 0
-RefusesShrinking input (Input error) = IsInputError error × IsReaderError error
-RefusesShrinking input Read = ⊤
-RefusesShrinking input Write = (status : ℕ) × (output : List ℕ) × IsShrinkTextOf input status output
-RefusesShrinking input e = RefusesShrinkBytes input e
+abbrev pub RefusesShrinking : ℕ → List ℕ → CliError → Type 0
+RefusesShrinking runs input (Input error) = IsInputError error × IsReaderError error
+RefusesShrinking runs input Read = ⊤
+RefusesShrinking runs input Write = (status : ℕ) × (output : List ℕ) × IsShrinkTextOf runs input status output
+RefusesShrinking runs input e = RefusesShrinkBytes input e

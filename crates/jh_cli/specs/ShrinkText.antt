@@ -59,15 +59,16 @@ entry_lines names schedule = flat_map (λ entry. line (print (entry_value names 
 abbrev pub shrunk_lines : List (List ℕ) → Shrunk → List ℕ
 shrunk_lines names shrunk = line (shrunk_name shrunk) ++ entry_lines names (schedule_of shrunk)
 
--- for settings
-abbrev pub IsShrinkText : PlanValue → ℕ → Shrunk → List ℕ → Type 0
-IsShrinkText p budget shrunk output =
-    IsShrunk (RunAnswers p budget) p.schedule shrunk × (output ≡ shrunk_lines p.env.names shrunk)
+-- for settings, by so many runs at most
+abbrev pub IsShrinkText : ℕ → PlanValue → ℕ → Shrunk → List ℕ → Type 0
+IsShrinkText runs p budget shrunk output =
+    IsShrunk (RunAnswers p budget) runs p.schedule shrunk
+    × (output ≡ shrunk_lines p.env.names shrunk)
 
--- for an input, with the exit status: the plan and the budget are those that it means, and its
--- mode does not matter
-abbrev pub IsShrinkTextOf : List ℕ → ℕ → List ℕ → Type 0
-IsShrinkTextOf input status output =
+-- for an input, with the exit status, by so many runs at most: the plan and the budget of the judge
+-- are those that it means, and its mode does not matter
+abbrev pub IsShrinkTextOf : ℕ → List ℕ → ℕ → List ℕ → Type 0
+IsShrinkTextOf runs input status output =
     (p : PlanValue) × (mode : Mode) × (budget : ℕ) × (shrunk : Shrunk)
     × AreSettingsOf input p mode budget
-    × IsShrinkText p budget shrunk output × (status ≡ shrunk_status shrunk)
+    × IsShrinkText runs p budget shrunk output × (status ≡ shrunk_status shrunk)

@@ -36,7 +36,7 @@ use std::io::{Read, Write};
 /// | line | what is left | status |
 /// |---|---|---|
 /// | `:minimal` | the run fails, and passes without any one of the entries | 1 |
-/// | `:budget` | the fewest with which it failed, when `budget` runs were made; or the given ones | 2 |
+/// | `:budget` | the fewest with which it failed, when `budget` runs were made; the given ones, where none may be made | 2 |
 /// | `:not-failing` | the given ones: the run does not fail, or that is not known | 0 |
 ///
 /// The mode of the settings means nothing. The same input gives the same runs each time
@@ -53,9 +53,9 @@ pub fn shrink_run<R: Read, W: Write>(
     budget: u64,
 ) -> Result<u8, CliError>
     ensures written { IfOk result (λ status. WritesOutput (R.remaining reader.old)
-        IsShrinkTextOf status (W.contents writer.old) (W.contents writer.new)) }
+        (IsShrinkTextOf budget) status (W.contents writer.old) (W.contents writer.new)) }
     ensures refused { IfErr result (λ e. OnInput (R.remaining reader.old)
-        (λ input. RefusesShrinking input e)) }
+        (λ input. RefusesShrinking budget input e)) }
     ensures unwritten { IfErr result (λ e. e ≢ CliError.Write → writer.new ≡ writer.old) }
 {
     shrink_run_observed(alloc, reader, writer, budget, &mut Nobody)
@@ -73,9 +73,9 @@ pub fn shrink_run_observed<R: Read, W: Write, O: Observer>(
     observer: &mut O,
 ) -> Result<u8, CliError>
     ensures written { IfOk result (λ status. WritesOutput (R.remaining reader.old)
-        IsShrinkTextOf status (W.contents writer.old) (W.contents writer.new)) }
+        (IsShrinkTextOf budget) status (W.contents writer.old) (W.contents writer.new)) }
     ensures refused { IfErr result (λ e. OnInput (R.remaining reader.old)
-        (λ input. RefusesShrinking input e)) }
+        (λ input. RefusesShrinking budget input e)) }
     ensures unwritten { IfErr result (λ e. e ≢ CliError.Write → writer.new ≡ writer.old) }
 {
     let input = read_bytes(alloc, reader, MAX_READS)?;
@@ -91,7 +91,7 @@ fn shrink_bytes<O: Observer>(
     observer: &mut O,
 ) -> Result<Output, CliError>
     ensures { MatchResult result
-        (λ output. IsShrinkTextOf input.now output.status output.text.items)
+        (λ output. IsShrinkTextOf budget input.now output.status output.text.items)
         (RefusesShrinkBytes input.now) }
 {
     let settings = settings_of(alloc, input)?;
@@ -114,7 +114,8 @@ fn shrink_plan<O: Observer>(
     budget: u64,
     observer: &mut O,
 ) -> Result<Shrunk, AllocError>
-    ensures shrunk { IfOk result (IsShrunk (RunAnswers plan.now judge_budget) plan.now.schedule) }
+    ensures shrunk { IfOk result
+        (IsShrunk (RunAnswers plan.now judge_budget) budget plan.now.schedule) }
     ensures fits { IfOk result (λ shrunk.
         All (λ entry. FitsNodes (length plan.now.env.names) entry.step) (text.schedule_of shrunk)) }
 {

@@ -1,5 +1,5 @@
 -- What is known while a schedule is made small (this project's own).
-use Rattle.std.specs.Prelude.{◌≡◌, ℕ, ◌+◌, ◌<◌, Bool, false, List, length, Option, Some, None, ⊤}
+use Rattle.std.specs.Prelude.{◌≡◌, ℕ, ◌+◌, ◌<◌, ◌≤◌, Bool, false, List, length, Option, Some, None, ⊤}
 use Rattle.std.specs.List.{remove}
 use Rattle.jh_simnode.specs.declared.schedule.Entry.{Entry}
 use Rattle.jh_shrink.specs.declared.shrinking.Halt.{Halt}
@@ -26,3 +26,4 @@ pub record GoesOn {J : Type 0} (is_ready : J → Type 0) (becomes : J → J → 
   pub ready : is_ready new
   pub later : becomes old new
   pub spent : asked new + left ≡ asked old + left_before
+  pub fewer : left ≤ left_before

@@ -26,12 +26,16 @@ abbrev pub NeedsEach : (List Entry → Option Bool → Type 0) → List Entry �
 NeedsEach Answers schedule =
     (place : ℕ) → place < length schedule → Answers (remove schedule place) (Some false)
 
--- the schedule is what it is called
-abbrev pub IsShrunk : (List Entry → Option Bool → Type 0) → List Entry → Shrunk → Type 0
-IsShrunk Answers given (Minimal schedule) =
-    IsFailing Answers given schedule × NeedsEach Answers schedule
-IsShrunk Answers given (Budget schedule) = (schedule ≡ given) ⊎ IsFailing Answers given schedule
-IsShrunk Answers given (NotFailing schedule) = (schedule ≡ given) × Answers schedule (Some false)
+-- The schedule is what it is called, by a judge that was asked so often at most. What is minimal was
+-- asked for once, and once without each of its entries. The given one is given out unasked only where
+-- nothing may be asked.
+abbrev pub IsShrunk : (List Entry → Option Bool → Type 0) → ℕ → List Entry → Shrunk → Type 0
+IsShrunk Answers budget given (Minimal schedule) =
+    IsFailing Answers given schedule × NeedsEach Answers schedule × (length schedule < budget)
+IsShrunk Answers budget given (Budget schedule) =
+    ((budget ≡ 0) × (schedule ≡ given)) ⊎ IsFailing Answers given schedule
+IsShrunk Answers budget given (NotFailing schedule) =
+    (schedule ≡ given) × Answers schedule (Some false) × (0 < budget)
 
 -- why a schedule is not made small: the judge had no answer to what was left of it, or memory was
 -- refused

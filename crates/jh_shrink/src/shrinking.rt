@@ -9,6 +9,7 @@ ghost use Rattle.jh_simnode.specs.Limits.{max_entries};
 ghost use Rattle.jh_simnode.specs.declared.schedule.Entry.{Entry};
 ghost use Rattle.jh_shrink.specs.Shrunk.{IsBudget, IsFailing, IsShrunk, NeedsEach, RefusesShrink};
 ghost use Rattle.jh_shrink.specs.ShrinkingInside.{GoesOn, HaltsWork};
+ghost use Rattle.jh_shrink.specs.declared.shrinking.Halt.TheVariants as Halt;
 
 use jh_simnode::Schedule;
 use std::alloc::{AllocError, Global};
@@ -159,6 +160,8 @@ fn ask<J: ScheduleJudge, O: Observer>(
     ensures answer { MatchResult result
         (λ fails. J.has_answered judge.new schedule.now (Some fails))
         (HaltsWork (J.has_answered judge.new) schedule.now meter.new.left) }
+    ensures asked { OnOk result (meter.new.left + 1 ≡ meter.old.left) }
+    ensures used_up { IfErr result (λ halt. halt ≡ Halt.Budget → meter.old.left ≡ 0) }
     ensures went_on { GoesOn J.is_ready J.becomes J.asked
         judge.old meter.old.left judge.new meter.new.left }
 {
@@ -194,6 +197,7 @@ fn spare<J: ScheduleJudge, O: Observer>(
         (λ spared. spared ≡ true → length schedule.new + (to - from) ≡ length schedule.old) }
     ensures needed { IfOk result (λ spared. spared ≡ false → (schedule.new ≡ schedule.old)
         × J.has_answered judge.new (remove_range schedule.old from to) (Some false)) }
+    ensures asked { OnOk result (meter.new.left + 1 ≡ meter.old.left) }
     ensures halted { IfErr result
         (HaltsWork (J.has_answered judge.new) schedule.old meter.new.left) }
     ensures went_on { GoesOn J.is_ready J.becomes J.asked
@@ -227,6 +231,8 @@ fn pass<J: ScheduleJudge, O: Observer>(
     ensures needed { IfOk result
         (λ spared. spared ≡ false → size ≡ 1
         → NeedsEach (J.has_answered judge.new) schedule.new) }
+    ensures asked { IfOk result (λ spared. spared ≡ false → size ≡ 1
+        → meter.new.left + length schedule.new ≤ meter.old.left) }
     ensures halted { IfErr result
         (HaltsWork (J.has_answered judge.new) schedule.old meter.new.left) }
     ensures went_on { GoesOn J.is_ready J.becomes J.asked
@@ -257,6 +263,7 @@ fn reduce<J: ScheduleJudge, O: Observer>(
     requires failing { J.has_answered judge.old schedule.old (Some true) }
     ensures failing { IsFailing (J.has_answered judge.new) schedule.old schedule.new }
     ensures minimal { OnOk result (NeedsEach (J.has_answered judge.new) schedule.new) }
+    ensures asked { OnOk result (meter.new.left + length schedule.new ≤ meter.old.left) }
     ensures halted { IfErr result
         (HaltsWork (J.has_answered judge.new) schedule.old meter.new.left) }
     ensures went_on { GoesOn J.is_ready J.becomes J.asked
@@ -291,7 +298,7 @@ pub fn shrink_by<J: ScheduleJudge, O: Observer>(
     requires ready { J.is_ready judge.old }
     requires room { J.asked judge.old + budget < 2 ^ 64 }
     ensures shrunk { MatchResult result
-        (IsShrunk (J.has_answered judge.new) schedule)
+        (IsShrunk (J.has_answered judge.new) budget schedule)
         (RefusesShrink (J.has_answered judge.new) schedule) }
     ensures within { J.asked judge.new ≤ J.asked judge.old + budget }
     ensures used_up { IfOk result (λ shrunk. IsBudget shrunk
@@ -331,7 +338,7 @@ pub fn shrink_observed<F: Fn(&Schedule) -> Option<bool>, O: Observer>(
 ) -> Result<Shrunk, ShrinkError>
     requires { F.IsAlwaysCallable judge }
     ensures { MatchResult result
-        (IsShrunk (FnReturnsAt F.Fn judge) schedule)
+        (IsShrunk (FnReturnsAt F.Fn judge) budget schedule)
         (RefusesShrink (FnReturnsAt F.Fn judge) schedule) }
 {
     let mut counted = Counted { judge, calls: 0 };
@@ -349,7 +356,7 @@ pub fn shrink<F: Fn(&Schedule) -> Option<bool>>(
 ) -> Result<Shrunk, ShrinkError>
     requires { F.IsAlwaysCallable judge }
     ensures { MatchResult result
-        (IsShrunk (FnReturnsAt F.Fn judge) schedule)
+        (IsShrunk (FnReturnsAt F.Fn judge) budget schedule)
         (RefusesShrink (FnReturnsAt F.Fn judge) schedule) }
 {
     shrink_observed(alloc, schedule, judge, budget, &mut Nobody)

@@ -13,6 +13,7 @@ loop-place-init g c =
       fewer = λ e. cc;
       same = λ e. refl;
       needed = λ e one place low within. absurd (omega (arith, low));
+      asked = λ e one. omega arith;
       went_on = goes_nowhere judge.is_ready judge.becomes judge.asked g.met.J.ScheduleJudge.stays c.args.judge.now c.args.meter.now.left
           c.requires.ready;
     }
@@ -45,6 +46,7 @@ loop-place-preserved-then-branch g c =
       fewer = search rules;
       same = λ e. cc;
       needed = λ e one. cc;
+      asked = λ e one. cc;
       went_on = goes_twice judge.is_ready judge.becomes judge.asked g.met.J.ScheduleJudge.goes_on c.args.judge.now c.loop-place.judge
           c.spare.new.judge c.args.meter.now.left c.loop-place.meter.left c.spare.new.meter.left c.loop-place.invariant.went_on
           c.spare.ensures.went_on;

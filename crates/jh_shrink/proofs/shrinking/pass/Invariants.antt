@@ -1,4 +1,4 @@
-use Rattle.std.proofs.Common.{◌≡◌, ◌≤◌, ◌<◌, ◌-◌, false, true, length}
+use Rattle.std.proofs.Common.{◌≡◌, ◌≤◌, ◌<◌, ◌+◌, ◌-◌, false, true, length}
 use Rattle.jh_shrink.specs.Shrunk.{IsFailing}
 use Rattle.jh_shrink.specs.ShrinkingInside.{GoesOn, NeedsThose}
 use Rattle.jh_shrink.proofs.shrinking.pass.Given as goal
@@ -11,6 +11,7 @@ invariant-loop-place g l = record {
   fewer : l.spared ≡ true → length l.schedule < length l.fn.schedule;
   same : l.spared ≡ false → l.schedule ≡ l.fn.schedule;
   needed : l.spared ≡ false → l.size ≡ 1 → NeedsThose (g.J.ScheduleJudge.has_answered l.judge) l.schedule l.place;
+  asked : l.spared ≡ false → l.size ≡ 1 → l.meter.left + l.place ≤ l.fn.meter.left;
   went_on : GoesOn g.J.ScheduleJudge.is_ready g.J.ScheduleJudge.becomes g.J.ScheduleJudge.asked l.fn.judge l.fn.meter.left l.judge l.meter.left;
 }
 

@@ -11,6 +11,7 @@ loop-size-init g c =
       failing = (sub_self c.args.schedule.now, c.requires.failing);
       some = search rules;
       few = search rules;
+      fewer = search rules;
       went_on = goes_nowhere judge.is_ready judge.becomes judge.asked g.met.J.ScheduleJudge.stays c.args.judge.now c.args.meter.now.left
           c.requires.ready;
     }
@@ -41,6 +42,7 @@ loop-size-preserved g c =
           c.loop-size.invariant.failing.0 c.pass.ensures.failing;
       some = search rules;
       few = search rules;
+      fewer = search rules;
       went_on = goes_twice judge.is_ready judge.becomes judge.asked g.met.J.ScheduleJudge.goes_on c.args.judge.now c.loop-size.judge
           c.pass.new.judge c.args.meter.now.left c.loop-size.meter.left c.pass.new.meter.left c.loop-size.invariant.went_on
           c.pass.ensures.went_on;

@@ -10,6 +10,7 @@ invariant-loop-size g l = record {
   failing : IsFailing (g.J.ScheduleJudge.has_answered l.judge) l.fn.schedule l.schedule;
   some : 1 ≤ l.size;
   few : l.size ≤ max_entries;
+  fewer : l.meter.left ≤ l.fn.meter.left;
   went_on : GoesOn g.J.ScheduleJudge.is_ready g.J.ScheduleJudge.becomes g.J.ScheduleJudge.asked l.fn.judge l.fn.meter.left l.judge l.meter.left;
 }
 
