@@ -9,7 +9,6 @@ use Rattle.std.specs.Fmt.{digits}
 use Rattle.std.specs.List.{flat_map, list_any, starts_with}
 use Rattle.std.specs.Str.{byte, chars}
 use Rattle.std.specs.Str.Lossy.{utf8_lossy}
-use Rattle.jh_pages.specs.declared.markup.TheConstants.{MAX_SHOWN}
 
 abbrev pub less_sign : ℕ
 less_sign = byte "<"
@@ -53,11 +52,15 @@ escaped_character c =
 abbrev pub escaped_text : List ℕ → List ℕ
 escaped_text text = flat_map escaped_character (chars text)
 
--- characters in so much room, with dots where there are more
+-- how many characters the label of a bar has room for
+abbrev pub max_shown : ℕ
+max_shown = 18
+
+-- characters in that room, with dots where there are more
 abbrev pub short_text : List ℕ → List ℕ
 short_text cs =
-    if nat_lt MAX_SHOWN (length cs)
-    then flat_map escaped_character (take MAX_SHOWN cs) ++ codes "&#8230;"
+    if nat_lt max_shown (length cs)
+    then flat_map escaped_character (take max_shown cs) ++ codes "&#8230;"
     else flat_map escaped_character cs
 
 -- The same of bytes that something else printed. Where they are no UTF-8, which no printed value

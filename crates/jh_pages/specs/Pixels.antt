@@ -1,17 +1,23 @@
 -- Where the picture of a history has what is drawn, in pixels (this project's own).
 use Rattle.std.specs.Prelude.{ℕ, ◌+◌, ◌-◌, ◌*◌, min}
 use Rattle.std.specs.Option.{option_map_or}
-use Rattle.jh_pages.specs.declared.pixels.TheConstants.{LANE_WIDTH, ROW_HEIGHT}
 use Rattle.jh_timeline.specs.declared.picture.Call.{Call}
 use Rattle.jh_timeline.specs.declared.picture.Window.{Window}
 
+-- how wide a lane is, and how high the row of a record
+abbrev pub lane_width : ℕ
+lane_width = 240
+
+abbrev pub row_height : ℕ
+row_height = 16
+
 -- how far to the right a lane begins: behind the one of the nemesis, which is the first
 abbrev pub left_of : ℕ → ℕ
-left_of lane = (lane + 1) * LANE_WIDTH
+left_of lane = (lane + 1) * lane_width
 
 -- how far down the row of an index begins
 abbrev pub top_of : Window → ℕ → ℕ
-top_of window index = (index - window.from) * ROW_HEIGHT
+top_of window index = (index - window.from) * row_height
 
 -- the index down to which a bar is drawn: that of its completion, but no further than the window;
 -- where there is none, that of its invocation
@@ -21,4 +27,4 @@ end_of window call =
 
 -- how high a bar is: a row for each index
 abbrev pub height_of : Window → Call → ℕ
-height_of window call = (end_of window call - call.invoke + 1) * ROW_HEIGHT
+height_of window call = (end_of window call - call.invoke + 1) * row_height

@@ -4,13 +4,24 @@ use Rattle.std.specs.Prelude.{ℕ, ◌+◌, ◌-◌, Bool, true, false, ◌&&◌
 use Rattle.std.specs.Prelude.{is_none, min, nat_lt, option_and_then, option_map, slice_get, Option}
 use Rattle.std.specs.Prelude.{unwrap_or}
 use Rattle.jh_sections.specs.declared.window.Choice.{Choice}
-use Rattle.jh_sections.specs.declared.window.TheConstants.{BEFORE, MAX_SHOWN, SHOWN_AROUND}
 use Rattle.jh_timeline.specs.Lanes.{call_end}
 use Rattle.jh_timeline.specs.declared.marks.Mark.{Mark}
 use Rattle.jh_timeline.specs.declared.marks.Note.{Note}
 use Rattle.jh_timeline.specs.declared.marks.Note.TheVariants.{Placed, Pending}
 use Rattle.jh_timeline.specs.declared.picture.Bar.{Bar}
 use Rattle.jh_timeline.specs.declared.picture.Window.{Window}
+
+-- of so many records all are shown where none are chosen
+abbrev pub max_shown : ℕ
+max_shown = 2000
+
+-- of more, so many are shown around what is pointed at
+abbrev pub shown_around : ℕ
+shown_around = 1000
+
+-- and so many of these stand before it
+abbrev pub shown_before : ℕ
+shown_before = 500
 
 -- A note that points at something: any but a place in an order, and that an operation is pending.
 abbrev pub is_pointer : Note → Bool
@@ -26,7 +37,7 @@ focus_of bars marks =
 
 -- no records are chosen, and there are too many to show all
 abbrev pub is_open : Choice → ℕ → Bool
-is_open choice total = is_none choice.from && is_none choice.to && nat_lt MAX_SHOWN total
+is_open choice total = is_none choice.from && is_none choice.to && nat_lt max_shown total
 
 -- the records that are chosen, or all
 abbrev pub chosen_window : Choice → ℕ → Window
@@ -41,7 +52,7 @@ chosen_window choice total =
 abbrev pub focus_window : Option ℕ → ℕ → Window
 focus_window focus total =
     let from = unwrap_or focus 0
-    - BEFORE in record { from = from; to = min (from + SHOWN_AROUND) total }
+    - shown_before in record { from = from; to = min (from + shown_around) total }
 
 -- the records that are shown of so many
 abbrev pub window_of : Choice → ℕ → Option ℕ → Window

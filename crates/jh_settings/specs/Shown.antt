@@ -3,7 +3,6 @@ use Rattle.std.specs.Prelude.{ℕ, false, List, ◌++◌, codes, if◌then◌els
 use Rattle.std.specs.Prelude.{flat_map, length, nat_lt}
 use Rattle.std.specs.Char.{is_control}
 use Rattle.std.specs.Fmt.{decimal, digits}
-use Rattle.jh_settings.specs.declared.error.TheConstants.{MAX_SHOWN}
 
 -- a control character by its number in hexadecimal digits, any other by itself
 abbrev pub shown_character : ℕ → List ℕ
@@ -14,8 +13,12 @@ shown_character c =
 abbrev pub one_line_text : List ℕ → List ℕ
 one_line_text text = flat_map shown_character (chars text)
 
--- a key of more bytes than that is shown by how many it has
+-- the bytes of a key that is shown, at most
+abbrev pub max_shown : ℕ
+max_shown = 200
+
+-- a key of more bytes is shown by how many it has
 abbrev pub shown_key : List ℕ → List ℕ
 shown_key text =
-    if nat_lt MAX_SHOWN (length text)
+    if nat_lt max_shown (length text)
     then codes "a key of " ++ (decimal (length text) ++ codes " bytes") else one_line_text text
