@@ -1,16 +1,16 @@
 //! Runs on threads: client threads and one thread of the schedule over one locked world, their
 //! records in one log, and an outcome that is given only where the audit accepts it.
 //!
-//! Nothing that changes is shared but the world under its lock, the log, and the desk under a
+//! Nothing that changes is shared but the world under its lock, the log, and the monitor under a
 //! second lock, which has the generator's driver. So all that an outcome promises is checked once
 //! the threads have ended, and rests on no schedule of theirs.
 //!
 //! Calls that take the runtime may wait, and promise only if they return.
 #![tactic(auto)]
 
-mod desk;
 mod locked;
-mod passes;
+mod log_seat;
+mod monitor;
 mod ports;
 mod records;
 mod runs;

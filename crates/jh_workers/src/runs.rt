@@ -9,12 +9,12 @@ ghost use Rattle.jh_audit.specs.Audit.{IsAudited};
 ghost use Rattle.jh_audit.specs.Plans.{FollowsPlan};
 ghost use Rattle.jh_workers.specs.Gather.{IsGathered};
 
-use crate::desk::Office;
-pub use crate::desk::RunError;
-use crate::passes::{OfLog, Pass};
+use crate::log_seat::{LogSeat, OfLog};
+use crate::monitor::Monitor;
+pub use crate::monitor::RunError;
 use crate::ports::{Count, Port};
 use crate::records::GatherError;
-use crate::workers::{Post, Site, work};
+use crate::workers::{Shared, Worker, work};
 use jh_audit::{audit, follows_plan};
 use jh_ops::Op;
 use jh_simnode::{Event, Plan, driver_of};
@@ -78,21 +78,21 @@ fn judged<S: Count + Drop>(
     })
 }
 
-/// A pass and a share for each client and for the schedule, and a pass for the run itself.
-fn make_posts<B: OfLog, P: Port, R: Wait>(
+/// A seat and a share for each client and for the schedule, and a seat for the run itself.
+fn make_workers<B: OfLog, P: Port, R: Wait>(
     rt: &R,
     alloc: Global,
     port: &P,
     slots: &Slots,
-    pass: Pass<B>,
+    log_seat: LogSeat<B>,
     count: u32,
-) -> Result<(Pass<B>, Vec<Post<B, P::Share>>), RunError>
+) -> Result<(LogSeat<B>, Vec<Worker<B, P::Share>>), RunError>
 where
     P::Share: Drop,
     requires { slots.now.table ≡ B.table }
 {
-    let mut own = pass;
-    let mut posts = Vec::new(alloc);
+    let mut own = log_seat;
+    let mut workers = Vec::new(alloc);
     for _ in 0..count {
         let Some((one, other)) = own.split(slots) else {
             return Err(RunError::Thread);
@@ -101,51 +101,54 @@ where
         let Some(share) = port.share(rt) else {
             return Err(RunError::Thread);
         };
-        let Ok(()) = posts.push(Post { pass: other, share }) else {
+        let Ok(()) = workers.push(Worker {
+            log_seat: other,
+            share,
+        }) else {
             return Err(RunError::OutOfMemory);
         };
     }
-    Ok((own, posts))
+    Ok((own, workers))
 }
 
-/// What several threads share, and what each does. The office is a type parameter beside the site,
+/// What several threads share, and what each does. The monitor is a type parameter beside the rest,
 /// so that each is shown by itself to be safe to share.
 trait Work<O, T> {
     /// What the thread of this number does, and what it gives back.
-    fn work_at<R: Wait>(&self, rt: &R, office: &O, thread: u32, post: T) -> T;
+    fn work_at<R: Wait>(&self, rt: &R, monitor: &O, thread: u32, worker: T) -> T;
 
     /// Lets the work begin, once all threads are there, or ends it with an error where one could
     /// not be had.
-    fn begin<R: Wait>(&self, rt: &R, office: &O, error: Option<RunError>);
+    fn begin<R: Wait>(&self, rt: &R, monitor: &O, error: Option<RunError>);
 }
 
-impl<B: OfLog, P: Port> Work<Office, Post<B, P::Share>> for Site<'_, B, P> {
+impl<B: OfLog, P: Port> Work<Monitor, Worker<B, P::Share>> for Shared<'_, B, P> {
     fn work_at<R: Wait>(
         &self,
         rt: &R,
-        office: &Office,
+        monitor: &Monitor,
         thread: u32,
-        post: Post<B, P::Share>,
-    ) -> Post<B, P::Share> {
-        work(rt, self, office, thread, post)
+        worker: Worker<B, P::Share>,
+    ) -> Worker<B, P::Share> {
+        work(rt, self, monitor, thread, worker)
     }
 
-    fn begin<R: Wait>(&self, rt: &R, office: &Office, error: Option<RunError>) {
+    fn begin<R: Wait>(&self, rt: &R, monitor: &Monitor, error: Option<RunError>) {
         if let Some(error) = error {
-            office.stop(rt, error);
+            monitor.stop(rt, error);
         }
-        office.open(rt);
+        monitor.open(rt);
     }
 }
 
-/// Each post on a thread of its own, until all have ended. The posts come back, or an error where
+/// Each worker on a thread of its own, until all have ended. The workers come back, or an error where
 /// one was lost.
 fn work_all<S: Work<O, T> + Sync, O: Sync, T: Send + Drop, R: Threads + Wait + Sync>(
     rt: &R,
     alloc: Global,
-    site: &S,
-    office: &O,
-    posts: Vec<T>,
+    shared: &S,
+    monitor: &O,
+    workers: Vec<T>,
 ) -> Result<Vec<T>, RunError> {
     let mut back = Vec::new(alloc);
     let mut lost = None;
@@ -157,9 +160,10 @@ fn work_all<S: Work<O, T> + Sync, O: Sync, T: Send + Drop, R: Threads + Wait + S
         {
             let mut handles = Vec::new(alloc);
             let mut error = None;
-            for (number, post) in posts.into_iter().enumerate() {
+            for (number, worker) in workers.into_iter().enumerate() {
                 let number = number.min(u32::MAX as usize) as u32;
-                let Ok(handle) = scope.spawn(move || site.work_at(rt, office, number, post)) else {
+                let Ok(handle) = scope.spawn(move || shared.work_at(rt, monitor, number, worker))
+                else {
                     error = Some(RunError::Thread);
                     break;
                 };
@@ -168,7 +172,7 @@ fn work_all<S: Work<O, T> + Sync, O: Sync, T: Send + Drop, R: Threads + Wait + S
                     break;
                 }
             }
-            site.begin(rt, office, error);
+            shared.begin(rt, monitor, error);
             for handle in handles {
                 if back.push(handle.join(rt)).is_err() {
                     lost = Some(RunError::OutOfMemory);
@@ -182,59 +186,62 @@ fn work_all<S: Work<O, T> + Sync, O: Sync, T: Send + Drop, R: Threads + Wait + S
     }
 }
 
-/// One pass that has seen what all had, and the shares.
-fn gather_posts<B: OfLog, S: Drop>(
+/// One seat that has seen what all had, and the shares.
+fn gather_workers<B: OfLog, S: Drop>(
     alloc: Global,
     slots: &Slots,
-    own: Pass<B>,
-    posts: Vec<Post<B, S>>,
-) -> Result<(Pass<B>, Vec<S>), RunError>
+    own: LogSeat<B>,
+    workers: Vec<Worker<B, S>>,
+) -> Result<(LogSeat<B>, Vec<S>), RunError>
     requires { slots.now.table ≡ B.table }
 {
-    let mut pass = own;
+    let mut log_seat = own;
     let mut shares = Vec::new(alloc);
-    for post in posts {
-        let Post { pass: other, share } = post;
-        pass = pass.join(slots, other);
+    for worker in workers {
+        let Worker {
+            log_seat: other,
+            share,
+        } = worker;
+        log_seat = log_seat.join(slots, other);
         let Ok(()) = shares.push(share) else {
             return Err(RunError::OutOfMemory);
         };
     }
-    Ok((pass, shares))
+    Ok((log_seat, shares))
 }
 
-/// The work of all threads on a log: the pass that has then seen it, and the shares.
+/// The work of all threads on a log: the seat that has then seen it, and the shares.
 fn worked<B: OfLog + Send + Sync, P: Port + Sync, R: Threads + Wait + Sync>(
     rt: &R,
     alloc: Global,
     plan: &Plan,
     port: &P,
     slots: &Slots,
-    pass: Pass<B>,
-) -> Result<(Pass<B>, Vec<P::Share>), RunError>
+    log_seat: LogSeat<B>,
+) -> Result<(LogSeat<B>, Vec<P::Share>), RunError>
 where
     P::Share: Send + Drop,
     requires { slots.now.table ≡ B.table }
 {
-    let (own, posts) = make_posts(rt, alloc, port, slots, pass, plan.clients() + 1)?;
+    let (own, workers) = make_workers(rt, alloc, port, slots, log_seat, plan.clients() + 1)?;
     let Ok(driver) = driver_of(alloc, plan) else {
         return Err(RunError::OutOfMemory);
     };
-    let office = Office::new(driver, plan.clients());
-    let site = Site::<'_, B, P> {
+    let monitor = Monitor::new(driver, plan.clients());
+    let shared = Shared::<'_, B, P> {
         port,
         slots,
         plan,
         alloc,
         of: PhantomData,
     };
-    let posts = work_all::<Site<'_, B, P>, Office, Post<B, P::Share>, R>(
-        rt, alloc, &site, &office, posts,
+    let workers = work_all::<Shared<'_, B, P>, Monitor, Worker<B, P::Share>, R>(
+        rt, alloc, &shared, &monitor, workers,
     );
-    if let Some(error) = office.into_error() {
+    if let Some(error) = monitor.into_error() {
         return Err(error);
     }
-    gather_posts(alloc, slots, own, posts?)
+    gather_workers(alloc, slots, own, workers?)
 }
 
 /// The run on its log.
@@ -261,9 +268,9 @@ where
     ensures writable { IfOk result
         (λ o. All (λ op. IsWritable op.process) (operations o.history.items)) }
 {
-    let own = Pass::<B>::new(seat);
-    let (mut pass, shares) = worked::<B, P, R>(rt, alloc, plan, port, slots, own)?;
-    let history = match pass.gather(alloc, slots, plan.rows() as usize) {
+    let own = LogSeat::<B>::new(seat);
+    let (mut log_seat, shares) = worked::<B, P, R>(rt, alloc, plan, port, slots, own)?;
+    let history = match log_seat.gather(alloc, slots, plan.rows() as usize) {
         Ok(history) => history,
         Err(GatherError::BadWords(_)) => return Err(RunError::Mismatch),
         Err(GatherError::OutOfMemory) => return Err(RunError::OutOfMemory),

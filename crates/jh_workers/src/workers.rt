@@ -13,8 +13,8 @@ ghost use Rattle.jh_workers.specs.RecordsInside as records;
 ghost use Rattle.jh_workers.specs.RecordsInside.{HoldsWords, Publishes, PublishesBoth};
 ghost use Rattle.jh_ops.specs.declared.operation.Op.{Op};
 
-use crate::desk::{Office, RunError, Turn};
-use crate::passes::{OfLog, Pass};
+use crate::log_seat::{LogSeat, OfLog};
+use crate::monitor::{Monitor, NextMove, RunError};
 use crate::ports::{Count, Port};
 use jh_env::Node;
 use jh_gen::Ended;
@@ -31,9 +31,9 @@ use std::alloc::{AllocError, Global};
 use std::marker::PhantomData;
 use std::sync::Wait;
 
-/// What all threads of a run share beside their office.
+/// What all threads of a run share beside their monitor.
 #[derive(Drop)]
-pub(crate) struct Site<'a, B: OfLog, P: Port> {
+pub(crate) struct Shared<'a, B: OfLog, P: Port> {
     pub(crate) port: &'a P,
     pub(crate) slots: &'a Slots,
     pub(crate) plan: &'a Plan,
@@ -44,8 +44,8 @@ pub(crate) struct Site<'a, B: OfLog, P: Port> {
 
 /// What one thread has, and gives back.
 #[derive(Drop)]
-pub(crate) struct Post<B: OfLog, S> {
-    pub(crate) pass: Pass<B>,
+pub(crate) struct Worker<B: OfLog, S> {
+    pub(crate) log_seat: LogSeat<B>,
     pub(crate) share: S,
 }
 
@@ -75,22 +75,22 @@ fn rows_written(request: Request, reply: &Reply) -> u32
 /// Publishes the operation that was made for claimed rows. Where memory did not suffice to make it,
 /// the rows are voided.
 fn publish<B: OfLog, P: Port>(
-    site: &Site<'_, B, P>,
-    pass: &mut Pass<B>,
+    shared: &Shared<'_, B, P>,
+    log_seat: &mut LogSeat<B>,
     claim: Claim,
     rows: u32,
     made: Result<Op, AllocError>,
 ) -> Result<(), RunError>
-    requires holds { HoldsWords pass.old.seat.knows claim.first claim.rows × (claim.rows ≡ rows) }
+    requires holds { HoldsWords log_seat.old.seat.knows claim.first claim.rows × (claim.rows ≡ rows) }
     requires rows { rows ≤ 255 }
     ensures { OnOk result ((op : Op) × (made ≡ Ok op)
-        × Publishes pass.old.seat.knows.seen (operation op) pass.new.seat.knows.seen) }
+        × Publishes log_seat.old.seat.knows.seen (operation op) log_seat.new.seat.knows.seen) }
 {
     let Ok(op) = made else {
-        pass.void(site.slots, claim);
+        log_seat.void(shared.slots, claim);
         return Err(RunError::OutOfMemory);
     };
-    let Ok(()) = pass.publish(site.slots, claim, rows, &op) else {
+    let Ok(()) = log_seat.publish(shared.slots, claim, rows, &op) else {
         return Err(RunError::Mismatch);
     };
     Ok(())
@@ -98,71 +98,71 @@ fn publish<B: OfLog, P: Port>(
 
 /// Records that a client's process asks.
 fn record_invocation<B: OfLog, P: Port>(
-    site: &Site<'_, B, P>,
-    pass: &mut Pass<B>,
+    shared: &Shared<'_, B, P>,
+    log_seat: &mut LogSeat<B>,
     process: u64,
     request: Request,
 ) -> Result<(), RunError>
     ensures { OnOk result
-        (Publishes pass.old.seat.knows.seen
-        (rule.invocation process request) pass.new.seat.knows.seen) }
+        (Publishes log_seat.old.seat.knows.seen
+        (rule.invocation process request) log_seat.new.seat.knows.seen) }
 {
-    let claim = pass.claim(site.slots, 1)?;
-    let made = invocation(site.alloc, process, request);
-    publish(site, pass, claim, 1, made)
+    let claim = log_seat.claim(shared.slots, 1)?;
+    let made = invocation(shared.alloc, process, request);
+    publish(shared, log_seat, claim, 1, made)
 }
 
 /// Records the completion of a call, in as many rows as it takes.
 fn record_completion<B: OfLog, P: Port>(
-    site: &Site<'_, B, P>,
-    pass: &mut Pass<B>,
+    shared: &Shared<'_, B, P>,
+    log_seat: &mut LogSeat<B>,
     number: u64,
     process: u64,
     request: Request,
     reply: &Reply,
 ) -> Result<(), RunError>
     requires { number < 2 ^ 63 }
-    ensures { OnOk result (Publishes pass.old.seat.knows.seen
-        (rule.completion number process request reply.now) pass.new.seat.knows.seen) }
+    ensures { OnOk result (Publishes log_seat.old.seat.knows.seen
+        (rule.completion number process request reply.now) log_seat.new.seat.knows.seen) }
 {
     let rows = rows_written(request, reply);
-    let claim = pass.claim(site.slots, rows)?;
-    let made = completion(site.alloc, number, process, request, reply);
-    publish(site, pass, claim, rows, made)
+    let claim = log_seat.claim(shared.slots, rows)?;
+    let made = completion(shared.alloc, number, process, request, reply);
+    publish(shared, log_seat, claim, rows, made)
 }
 
 /// Records that an entry of the schedule begins.
 fn record_begin<B: OfLog, P: Port>(
-    site: &Site<'_, B, P>,
-    pass: &mut Pass<B>,
+    shared: &Shared<'_, B, P>,
+    log_seat: &mut LogSeat<B>,
     entry: u64,
 ) -> Result<(), RunError>
     requires { entry < 2 ^ 63 }
     ensures { OnOk result
-        (Publishes pass.old.seat.knows.seen (rule.entry_invocation entry)
-        pass.new.seat.knows.seen) }
+        (Publishes log_seat.old.seat.knows.seen (rule.entry_invocation entry)
+        log_seat.new.seat.knows.seen) }
 {
-    let claim = pass.claim(site.slots, 1)?;
-    let made = entry_invocation(site.alloc, entry);
-    publish(site, pass, claim, 1, made)
+    let claim = log_seat.claim(shared.slots, 1)?;
+    let made = entry_invocation(shared.alloc, entry);
+    publish(shared, log_seat, claim, 1, made)
 }
 
 /// Records that an entry of the schedule has ended.
 fn record_end<B: OfLog, P: Port>(
-    site: &Site<'_, B, P>,
-    pass: &mut Pass<B>,
+    shared: &Shared<'_, B, P>,
+    log_seat: &mut LogSeat<B>,
     number: u64,
     entry: u64,
     answer: StepAnswer,
 ) -> Result<(), RunError>
     requires number { number < 2 ^ 63 }
     requires entry { entry < 2 ^ 63 }
-    ensures { OnOk result (Publishes pass.old.seat.knows.seen
-        (rule.entry_completion number entry answer) pass.new.seat.knows.seen) }
+    ensures { OnOk result (Publishes log_seat.old.seat.knows.seen
+        (rule.entry_completion number entry answer) log_seat.new.seat.knows.seen) }
 {
-    let claim = pass.claim(site.slots, 1)?;
-    let made = entry_completion(site.alloc, number, entry, answer);
-    publish(site, pass, claim, 1, made)
+    let claim = log_seat.claim(shared.slots, 1)?;
+    let made = entry_completion(shared.alloc, number, entry, answer);
+    publish(shared, log_seat, claim, 1, made)
 }
 
 /// A call that a client thread makes.
@@ -177,16 +177,16 @@ struct Asked {
 /// A client's call between its two records.
 fn serve<B: OfLog, P: Port, R: Wait>(
     rt: &R,
-    site: &Site<'_, B, P>,
-    office: &Office,
-    post: &mut Post<B, P::Share>,
+    shared: &Shared<'_, B, P>,
+    monitor: &Monitor,
+    worker: &mut Worker<B, P::Share>,
     asked: Asked,
 ) -> Result<Ended, RunError>
-    ensures called { OnOk result (P.Share.total post.new.share ≡ P.Share.total post.old.share + 1) }
+    ensures called { OnOk result (P.Share.total worker.new.share ≡ P.Share.total worker.old.share + 1) }
     ensures recorded { IfOk result
         (λ ended. (reply : Reply) × (number : ℕ) × (ended ≡ running.reply_ending reply)
-        × PublishesBoth post.old.pass.seat.knows.seen (rule.invocation asked.process asked.request)
-        (rule.completion number asked.process asked.request reply) post.new.pass.seat.knows.seen) }
+        × PublishesBoth worker.old.log_seat.seat.knows.seen (rule.invocation asked.process asked.request)
+        (rule.completion number asked.process asked.request reply) worker.new.log_seat.seat.knows.seen) }
 {
     let Asked {
         process,
@@ -194,48 +194,55 @@ fn serve<B: OfLog, P: Port, R: Wait>(
         request,
         draw,
     } = asked;
-    record_invocation(site, &mut post.pass, process, request)?;
-    let (number, reply) = site
+    record_invocation(shared, &mut worker.log_seat, process, request)?;
+    let (number, reply) = shared
         .port
-        .call(rt, &mut post.share, process, node, request, draw)?;
-    office.count_answer(rt);
-    record_completion(site, &mut post.pass, number, process, request, &reply)?;
+        .call(rt, &mut worker.share, process, node, request, draw)?;
+    monitor.count_answer(rt);
+    record_completion(
+        shared,
+        &mut worker.log_seat,
+        number,
+        process,
+        request,
+        &reply,
+    )?;
     Ok(reply_ending(&reply))
 }
 
 /// An entry of the schedule, its step between its two records.
 fn apply_entry<B: OfLog, P: Port, R: Wait>(
     rt: &R,
-    site: &Site<'_, B, P>,
-    post: &mut Post<B, P::Share>,
+    shared: &Shared<'_, B, P>,
+    worker: &mut Worker<B, P::Share>,
     number: u64,
     entry: &Entry,
 ) -> Result<(), RunError>
     requires { number < 2 ^ 63 }
-    ensures called { OnOk result (P.Share.total post.new.share ≡ P.Share.total post.old.share + 1) }
+    ensures called { OnOk result (P.Share.total worker.new.share ≡ P.Share.total worker.old.share + 1) }
     ensures recorded { OnOk result ((answer : StepAnswer) × (event : ℕ)
-        × PublishesBoth post.old.pass.seat.knows.seen (rule.entry_invocation number)
-        (rule.entry_completion event number answer) post.new.pass.seat.knows.seen) }
+        × PublishesBoth worker.old.log_seat.seat.knows.seen (rule.entry_invocation number)
+        (rule.entry_completion event number answer) worker.new.log_seat.seat.knows.seen) }
 {
-    let step = entry.step.copy(site.alloc)?;
-    record_begin(site, &mut post.pass, number)?;
-    let (event, answer) = site.port.step(rt, &mut post.share, step)?;
-    record_end(site, &mut post.pass, event, number, answer)?;
+    let step = entry.step.copy(shared.alloc)?;
+    record_begin(shared, &mut worker.log_seat, number)?;
+    let (event, answer) = shared.port.step(rt, &mut worker.share, step)?;
+    record_end(shared, &mut worker.log_seat, event, number, answer)?;
     Ok(())
 }
 
 /// A tick where one follows so many calls of a thread.
 fn tick_if_due<B: OfLog, P: Port, R: Wait>(
     rt: &R,
-    site: &Site<'_, B, P>,
-    post: &mut Post<B, P::Share>,
+    shared: &Shared<'_, B, P>,
+    worker: &mut Worker<B, P::Share>,
     calls: u32,
 ) -> Result<(), RunError>
-    ensures ticked { OnOk result (P.Share.total post.new.share
-        ≡ P.Share.total post.old.share + (if ticks_at site.now.plan.now calls then 1 else 0)) }
+    ensures ticked { OnOk result (P.Share.total worker.new.share
+        ≡ P.Share.total worker.old.share + (if ticks_at shared.now.plan.now calls then 1 else 0)) }
 {
-    if ticks_at(site.plan, calls) {
-        site.port.tick(rt, &mut post.share)?;
+    if ticks_at(shared.plan, calls) {
+        shared.port.tick(rt, &mut worker.share)?;
     }
     Ok(())
 }
@@ -243,29 +250,29 @@ fn tick_if_due<B: OfLog, P: Port, R: Wait>(
 /// A client thread, until there is nothing more for any thread or the run is stopped.
 fn work_as_client<B: OfLog, P: Port, R: Wait>(
     rt: &R,
-    site: &Site<'_, B, P>,
-    office: &Office,
+    shared: &Shared<'_, B, P>,
+    monitor: &Monitor,
     thread: u32,
-    post: &mut Post<B, P::Share>,
+    worker: &mut Worker<B, P::Share>,
 ) -> Result<(), RunError> {
     // Each thread has a stream of its own, and the serial run stream 0.
     let stream = u128::from(thread) + 1;
-    let mut numbers = Lcg128Xsl64::new(u128::from(site.plan.seed()), stream);
+    let mut numbers = Lcg128Xsl64::new(u128::from(shared.plan.seed()), stream);
     let mut calls: u32 = 0;
     for _ in rt.forever() {
-        match office.next_turn(rt, thread, &mut numbers) {
-            Turn::Stop | Turn::Wait => return Ok(()),
-            Turn::Call(process, request) => {
+        match monitor.next_move(rt, thread, &mut numbers) {
+            NextMove::Stop | NextMove::Wait => return Ok(()),
+            NextMove::Call(process, request) => {
                 let asked = Asked {
                     process,
-                    node: node_of(site.plan, thread),
+                    node: node_of(shared.plan, thread),
                     request,
                     draw: numbers.next_word(),
                 };
-                let ended = serve(rt, site, office, post, asked)?;
-                office.complete(rt, thread, ended);
+                let ended = serve(rt, shared, monitor, worker, asked)?;
+                monitor.complete(rt, thread, ended);
                 calls = calls.saturating_add(1);
-                tick_if_due(rt, site, post, calls)?;
+                tick_if_due(rt, shared, worker, calls)?;
             }
         }
     }
@@ -276,15 +283,15 @@ fn work_as_client<B: OfLog, P: Port, R: Wait>(
 /// stopped.
 fn work_on_schedule<B: OfLog, P: Port, R: Wait>(
     rt: &R,
-    site: &Site<'_, B, P>,
-    office: &Office,
-    post: &mut Post<B, P::Share>,
+    shared: &Shared<'_, B, P>,
+    monitor: &Monitor,
+    worker: &mut Worker<B, P::Share>,
 ) -> Result<(), RunError> {
-    for (place, entry) in site.plan.schedule().entries().iter().enumerate() {
-        if !office.wait_until_due(rt, entry.at) {
+    for (place, entry) in shared.plan.schedule().entries().iter().enumerate() {
+        if !monitor.wait_until_due(rt, entry.at) {
             break;
         }
-        apply_entry(rt, site, post, place as u64, entry)?;
+        apply_entry(rt, shared, worker, place as u64, entry)?;
     }
     Ok(())
 }
@@ -292,18 +299,18 @@ fn work_on_schedule<B: OfLog, P: Port, R: Wait>(
 /// The work of one thread. The one after the clients applies the schedule.
 pub(crate) fn work<B: OfLog, P: Port, R: Wait>(
     rt: &R,
-    site: &Site<'_, B, P>,
-    office: &Office,
+    shared: &Shared<'_, B, P>,
+    monitor: &Monitor,
     thread: u32,
-    mut post: Post<B, P::Share>,
-) -> Post<B, P::Share> {
-    let done = if thread < site.plan.clients() {
-        work_as_client(rt, site, office, thread, &mut post)
+    mut worker: Worker<B, P::Share>,
+) -> Worker<B, P::Share> {
+    let done = if thread < shared.plan.clients() {
+        work_as_client(rt, shared, monitor, thread, &mut worker)
     } else {
-        work_on_schedule(rt, site, office, &mut post)
+        work_on_schedule(rt, shared, monitor, &mut worker)
     };
     if let Err(error) = done {
-        office.stop(rt, error);
+        monitor.stop(rt, error);
     }
-    post
+    worker
 }

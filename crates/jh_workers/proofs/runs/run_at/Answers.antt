@@ -14,6 +14,6 @@ returns-clause-gathered g c =
     let gathered : IsGathered seen rows (operations history.items) =
     subst (λ n. IsGathered seen n (operations history.items)) c.rows.ensures.rows c.in-Ok.ensures.gathered in
     elim c.judged.result
-    as (λ r. IfOk r (λ o. (o.history ≡ history) × (o.journal ≡ c.in_ok-journal.journal) × (o.shares ≡ c.in_ok-pass.shares))
+    as (λ r. IfOk r (λ o. (o.history ≡ history) × (o.journal ≡ c.in_ok-journal.journal) × (o.shares ≡ c.in_ok-log_seat.shares))
     → IfOk r (λ o. (seen : Marks) × IsGathered seen rows (operations o.history.items)))
     [ Ok o ↦ λ same. (seen, subst (IsGathered seen rows) (ap (λ v. operations v.items) (sym same.0)) gathered) | Err e ↦ λ done. tt ] c.judged.ensures.same

@@ -1,7 +1,7 @@
 use Rattle.std.proofs.Common.{◌≡◌, ◌<◌, ◌∙◌, ap, length, arith}
 use Rattle.jh_slots.specs.Seats.{Knowledge, claim_at}
 use Rattle.jh_workers.proofs.WriteLemmas.{wrote_size, wrote_more}
-use Rattle.jh_workers.proofs.passes.Pass.publish_words.Goals as goal
+use Rattle.jh_workers.proofs.log_seat.LogSeat.publish_words.Goals as goal
 
 -- one word more was written
 pub loop-place-preserved : goal.loop-place-preserved

@@ -29,43 +29,43 @@ impl OfLog for Brand {
 
 /// A seat of the run's log.
 #[derive(Drop)]
-pub struct Pass<B: OfLog> {
+pub struct LogSeat<B: OfLog> {
     seat: Seat,
     of: PhantomData<B>,
     ghost own: { seat.table ≡ B.table },
 }
 
-impl<B: OfLog> Pass<B> {
-    /// A pass of this seat.
+impl<B: OfLog> LogSeat<B> {
+    /// This seat, as one of the run's log.
     pub fn new(seat: Seat) -> Self
         requires { seat.table ≡ B.table }
         ensures { result.seat ≡ seat }
     {
-        Pass {
+        LogSeat {
             seat,
             of: PhantomData,
         }
     }
 
-    /// Two passes of one, or `None` where the seat is not split.
-    pub fn split(self, slots: &Slots) -> Option<(Pass<B>, Pass<B>)>
+    /// Two seats of one, or `None` where the seat is not split.
+    pub fn split(self, slots: &Slots) -> Option<(LogSeat<B>, LogSeat<B>)>
         requires { slots.now.table ≡ B.table }
     {
-        let Pass { seat, of: _ } = self;
+        let LogSeat { seat, of: _ } = self;
         let (one, other) = slots.split(seat).ok()?;
-        Some((Pass::new(one), Pass::new(other)))
+        Some((LogSeat::new(one), LogSeat::new(other)))
     }
 
-    /// One pass that has seen what either had.
-    pub fn join(self, slots: &Slots, other: Pass<B>) -> Pass<B>
+    /// One seat that has seen what either had.
+    pub fn join(self, slots: &Slots, other: LogSeat<B>) -> LogSeat<B>
         requires { slots.now.table ≡ B.table }
     {
-        let Pass { seat, of: _ } = self;
-        let Pass {
+        let LogSeat { seat, of: _ } = self;
+        let LogSeat {
             seat: second,
             of: _,
         } = other;
-        Pass::new(slots.join(seat, second))
+        LogSeat::new(slots.join(seat, second))
     }
 
     /// Claims rows for a record that is made later.
@@ -136,7 +136,7 @@ impl<B: OfLog> Pass<B> {
         slots.void(&mut self.seat, claim);
     }
 
-    /// The history that the pass has then seen in the rows (`gather`).
+    /// The history that the seat has then seen in the rows (`gather`).
     pub fn gather(
         &mut self,
         alloc: Global,

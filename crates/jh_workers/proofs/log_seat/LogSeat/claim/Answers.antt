@@ -1,5 +1,5 @@
 use Rattle.jh_workers.proofs.WriteLemmas.{took_size}
-use Rattle.jh_workers.proofs.passes.Pass.claim.Goals as goal
+use Rattle.jh_workers.proofs.log_seat.LogSeat.claim.Goals as goal
 
 -- the claim of one row has as many words
 pub returns-clause-held : goal.returns-clause-held

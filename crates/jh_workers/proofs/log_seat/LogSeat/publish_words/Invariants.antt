@@ -1,6 +1,6 @@
 use Rattle.std.proofs.Common.{◌≡◌, ◌*◌, length, take}
 use Rattle.jh_slots.specs.Seats.{HoldsClaim, claim_at}
-use Rattle.jh_workers.proofs.passes.Pass.publish_words.Given as goal
+use Rattle.jh_workers.proofs.log_seat.LogSeat.publish_words.Given as goal
 
 abbrev pub invariant-loop-place : goal.invariant-loop-place
 invariant-loop-place g l = record {

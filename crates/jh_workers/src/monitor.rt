@@ -4,7 +4,7 @@
 
 ghost use Rattle.std.specs.Prelude.{◌≡◌, ◌↔◌, ◌+◌, ◌≤◌, min, IsTrue, IsSome, MatchOption, Some};
 ghost use Rattle.std.specs.Prelude.{None, false, true};
-ghost use Rattle.jh_workers.specs.declared.desk.Turn.TheVariants.{Stop};
+ghost use Rattle.jh_workers.specs.declared.monitor.NextMove.TheVariants.{Stop};
 
 use jh_gen::{Driver, Ended, GenAnswer, Thread};
 use jh_ops::{Call, Process, Request};
@@ -38,7 +38,7 @@ pub enum RunError {
 
 impl From<AllocError> for RunError {
     ghost use Rattle.std.specs.Prelude.{◌≡◌};
-    ghost use Rattle.jh_workers.specs.declared.desk.RunError.TheVariants.{OutOfMemory};
+    ghost use Rattle.jh_workers.specs.declared.monitor.RunError.TheVariants.{OutOfMemory};
 
     ghost from_gives = { λ _ e. e ≡ OutOfMemory };
 
@@ -49,7 +49,7 @@ impl From<AllocError> for RunError {
 
 impl From<WorldError> for RunError {
     ghost use Rattle.std.specs.Prelude.{◌≡◌};
-    ghost use Rattle.jh_workers.specs.declared.desk.RunError.TheVariants.{World};
+    ghost use Rattle.jh_workers.specs.declared.monitor.RunError.TheVariants.{World};
 
     ghost from_gives = { λ error e. e ≡ World error };
 
@@ -60,7 +60,7 @@ impl From<WorldError> for RunError {
 
 impl From<Full> for RunError {
     ghost use Rattle.std.specs.Prelude.{◌≡◌};
-    ghost use Rattle.jh_workers.specs.declared.desk.RunError.TheVariants.{HistoryFull};
+    ghost use Rattle.jh_workers.specs.declared.monitor.RunError.TheVariants.{HistoryFull};
 
     ghost from_gives = { λ _ e. e ≡ HistoryFull };
 
@@ -71,7 +71,7 @@ impl From<Full> for RunError {
 
 /// What a client thread does next.
 #[derive(Clone, Copy, Debug)]
-pub(crate) enum Turn {
+pub(crate) enum NextMove {
     /// It ends: there is nothing more for any thread, or the run is stopped.
     Stop,
     /// It asks again once something has changed.
@@ -80,10 +80,10 @@ pub(crate) enum Turn {
     Call(u64, Request),
 }
 
-/// The driver, how many client calls were answered, whether all threads are there, and the first
-/// error.
+/// Where a run stands: the driver, how many client calls were answered, whether all threads are
+/// there, and the first error.
 #[derive(Drop)]
-struct Desk {
+struct RunState {
     driver: Driver,
     clients: u32,
     answered: u32,
@@ -91,12 +91,12 @@ struct Desk {
     error: Option<RunError>,
 }
 
-impl Desk {
-    /// A desk that is not open yet.
+impl RunState {
+    /// Before the work begins.
     fn new(driver: Driver, clients: u32) -> Self
         ensures { (result.error ≡ None) × (result.is_open ≡ false) × (result.answered ≡ 0) }
     {
-        Desk {
+        RunState {
             driver,
             clients,
             answered: 0,
@@ -142,23 +142,23 @@ impl Desk {
     }
 
     /// What a client thread does next. Each ask of the driver takes a random number.
-    fn ask(&mut self, thread: u32, numbers: &mut Lcg128Xsl64) -> Turn
+    fn ask(&mut self, thread: u32, numbers: &mut Lcg128Xsl64) -> NextMove
         ensures stopped { IsSome self.old.error → result ≡ Stop }
         ensures error { self.new.error ≡ self.old.error }
         ensures answered { self.new.answered ≡ self.old.answered }
     {
         if self.is_stopped() {
-            return Turn::Stop;
+            return NextMove::Stop;
         }
         if !self.is_open {
-            return Turn::Wait;
+            return NextMove::Wait;
         }
         match self.driver.ask(Thread::Client(thread), numbers.next_word()) {
             Ok(GenAnswer::Call(Process::Client(process), Call::Client(request))) => {
-                Turn::Call(process, request)
+                NextMove::Call(process, request)
             }
-            Ok(GenAnswer::Pending) => Turn::Wait,
-            Ok(GenAnswer::Call(_, _)) | Ok(GenAnswer::Done) | Err(_) => Turn::Stop,
+            Ok(GenAnswer::Pending) => NextMove::Wait,
+            Ok(GenAnswer::Call(_, _)) | Ok(GenAnswer::Done) | Err(_) => NextMove::Stop,
         }
     }
 
@@ -213,82 +213,83 @@ impl Desk {
     }
 }
 
-/// The desk under its lock, and the sleep of those who wait for a change of it.
+/// A monitor (Hoare, "Monitors: An Operating System Structuring Concept", 1974): the state of a run
+/// under its lock, and the sleep of those who wait for a change of it.
 #[derive(Drop)]
-pub(crate) struct Office {
-    desk: Mutex<Desk>,
+pub(crate) struct Monitor {
+    state: Mutex<RunState>,
     changed: Condvar,
 }
 
-impl Office {
-    /// An office that is not open yet.
+impl Monitor {
+    /// Before the work begins.
     pub(crate) fn new(driver: Driver, clients: u32) -> Self {
-        Office {
-            desk: Mutex::new(Desk::new(driver, clients)),
+        Monitor {
+            state: Mutex::new(RunState::new(driver, clients)),
             changed: Condvar::new(),
         }
     }
 
     /// All threads are there, and the work begins.
     pub(crate) fn open(&self, rt: &impl Wait) {
-        self.desk.lock(rt).open();
+        self.state.lock(rt).open();
         self.changed.notify_all();
     }
 
     /// Ends the run with an error, unless another one came first.
     pub(crate) fn stop(&self, rt: &impl Wait, error: RunError) {
-        self.desk.lock(rt).stop(error);
+        self.state.lock(rt).stop(error);
         self.changed.notify_all();
     }
 
     /// The first error, once the threads have ended.
     pub(crate) fn into_error(self) -> Option<RunError> {
-        let Office { desk, changed: _ } = self;
-        desk.into_inner().into_error()
+        let Monitor { state, changed: _ } = self;
+        state.into_inner().into_error()
     }
 
     /// One more client call was answered.
     pub(crate) fn count_answer(&self, rt: &impl Wait) {
-        self.desk.lock(rt).count_answer();
+        self.state.lock(rt).count_answer();
         self.changed.notify_all();
     }
 
     /// The call of a client thread was recorded.
     pub(crate) fn complete(&self, rt: &impl Wait, thread: u32, ended: Ended) {
-        self.desk.lock(rt).complete(thread, ended);
+        self.state.lock(rt).complete(thread, ended);
         self.changed.notify_all();
     }
 
-    /// The next turn of a client thread. While there is nothing for it, it sleeps until the desk
-    /// has changed, and asks again with another random number.
-    pub(crate) fn next_turn<R: Wait>(
+    /// What a client thread does next. While there is nothing for it, it sleeps until the state has
+    /// changed, and asks again with another random number.
+    pub(crate) fn next_move<R: Wait>(
         &self,
         rt: &R,
         thread: u32,
         numbers: &mut Lcg128Xsl64,
-    ) -> Turn {
-        let mut desk = self.desk.lock(rt);
+    ) -> NextMove {
+        let mut state = self.state.lock(rt);
         for _ in rt.forever() {
-            let turn = desk.ask(thread, numbers);
-            if !matches!(turn, Turn::Wait) {
-                return turn;
+            let next = state.ask(thread, numbers);
+            if !matches!(next, NextMove::Wait) {
+                return next;
             }
-            desk = self.changed.wait(rt, desk);
+            state = self.changed.wait(rt, state);
         }
-        Turn::Stop
+        NextMove::Stop
     }
 
     /// Sleeps until an entry of the schedule is due, and says whether it is still wanted.
     pub(crate) fn wait_until_due<R: Wait>(&self, rt: &R, at: u32) -> bool {
-        let mut desk = self.desk.lock(rt);
+        let mut state = self.state.lock(rt);
         for _ in rt.forever() {
-            if desk.is_stopped() {
+            if state.is_stopped() {
                 return false;
             }
-            if desk.is_due(at) {
+            if state.is_due(at) {
                 return true;
             }
-            desk = self.changed.wait(rt, desk);
+            state = self.changed.wait(rt, state);
         }
         false
     }
