@@ -1,12 +1,14 @@
 -- The history of a run (jepsen.history: an operation is invoked, and completed as `:ok`,
 -- `:fail` or `:info`; the nemesis's operations are `:info` both times). Which value and which event
 -- a completion names are this project's own.
-use Rattle.std.specs.Prelude.{ℕ, ◌+◌, ◌<◌, ◌^◌, pos, List, [], ◌∷◌, codes, Option, Some, None}
-use Rattle.std.specs.Prelude.{IfSome}
+use Rattle.std.specs.Prelude.{ℕ, ◌+◌, ◌<◌, ◌≤◌, ◌^◌, pos, List, [], ◌∷◌, length, codes, Option, Some}
+use Rattle.std.specs.Prelude.{None, IfSome, All, FitsSigned}
+use Rattle.std.specs.Int.{w64}
 use Rattle.jh_ops.specs.Operation.{Operation}
 use Rattle.jh_ops.specs.Requests.{request_name, asked_content}
 use Rattle.jh_edn.specs.Edn.{keyword}
 use Rattle.jh_ops.specs.Words.{Content, Nothing, One, Several, content_value, pairs_of_event}
+use Rattle.jh_ops.specs.Words.{integers}
 use Rattle.jh_ops.specs.declared.call.Request.{Request}
 use Rattle.jh_ops.specs.declared.operation.Kind.{Kind}
 use Rattle.jh_ops.specs.declared.operation.Process.{Process}
@@ -16,6 +18,7 @@ use Rattle.jh_simnode.specs.declared.replicas.Got.{Got}
 use Rattle.jh_simnode.specs.declared.replicas.Reply.{Reply}
 use Rattle.jh_simnode.specs.declared.replicas.Reply.TheVariants as reply
 use Rattle.jh_simnode.specs.declared.events.Event.{Event}
+use Rattle.jh_simnode.specs.Limits.{max_events}
 
 -- what a request that was done got, where it got something, and else what it asked with
 abbrev pub got_content : Request → Got → Content
@@ -117,3 +120,21 @@ operations_from place number entry (Event.Tick ∷ es) = operations_from place (
 -- the history of a journal: two operations for each call and each step, and none for a tick
 abbrev pub journal_history : List Event → List Operation
 journal_history journal = operations_from 0 0 0 journal
+
+-- what an operation asks with, or is answered, is made of integers of a text
+abbrev pub AreIntegers : Content → Type 0
+AreIntegers content = All (FitsSigned w64) (integers content)
+
+-- the numbers that the operations of an event show are integers of a text: of a call its process,
+-- what it asked with and what it got (those of a step are small by themselves)
+abbrev pub HasIntegers : Event → Type 0
+HasIntegers (Event.Call process node request draw reply) =
+    (process < 2 ^ 63) × AreIntegers (asked_content request)
+    × AreIntegers (replied_content request reply)
+HasIntegers (Event.Step step answer) = Unit {0}
+HasIntegers Event.Tick = Unit {0}
+
+-- a journal whose history can be a text
+pub record CanBeText (journal : List Event) : Type 0 where
+  pub few : length journal ≤ max_events
+  pub integers : All HasIntegers journal

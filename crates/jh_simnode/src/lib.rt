@@ -6,6 +6,7 @@
 mod effects;
 mod events;
 mod history;
+mod integers;
 mod laws;
 mod plan;
 mod reach;

@@ -4,12 +4,14 @@
 ghost use Rattle.std.specs.Prelude.{◌≡◌, [], All, MatchResult, IfOk, IfErr, OnOk};
 ghost use Rattle.jh_ops.specs.Operation.{operations};
 ghost use Rattle.jh_ops.specs.OperationWritten.{IsWritable};
+ghost use Rattle.jh_simnode.specs.Histories.{CanBeText};
 ghost use Rattle.jh_simnode.specs.Plans.{IsFit, IsKeptPlan};
 ghost use Rattle.jh_simnode.specs.Running.{Halts, HasSmallProcess, IsOver};
 ghost use Rattle.jh_simnode.specs.Runs.{HasOneRun, IsSerialRun, Stops, setup_of};
 
 use crate::events::WorldError;
 use crate::history::journal_history;
+use crate::integers::events_have_integers;
 use crate::plan::Plan;
 use crate::turns::Run;
 use crate::world::World;
@@ -106,11 +108,14 @@ pub fn run_serial(alloc: Global, plan: &Plan) -> Result<(World, Vec<Op>), RunErr
         (Stops plan.now) }
     ensures writable { IfOk result
         (λ run. All (λ op. IsWritable op.process) (operations run.1.items)) }
+    ensures text { IfOk result (λ run. CanBeText run.0.journal) }
     ensures fit { IfOk result (λ _. IsFit plan.now) }
 {
     let mut world = world_of(alloc, plan)?;
     run_turns(alloc, plan, &mut world)?;
-    let history = journal_history(alloc, world.journal())?;
+    let journal = world.journal();
+    events_have_integers(journal);
+    let history = journal_history(alloc, journal)?;
     Ok((world, history))
 }
 
