@@ -10,3 +10,5 @@ pub mod OwnLemmas
 pub mod StartLemmas
 pub mod SettingsLemmas
 pub mod LineLemmas
+pub mod PrintLemmas
+pub mod RecordLemmas

@@ -11,6 +11,7 @@ use Rattle.jh_check.specs.declared.error.CheckError.TheVariants.{OutOfMemory}
 use Rattle.jh_checkers.specs.Checkers.{checker_of}
 use Rattle.jh_checkers.specs.Findings.{RefusesChecking}
 use Rattle.jh_laws.specs.HistoryLines.{CanPrint, IsTextOfHistory, history_lines}
+use Rattle.jh_simnode.specs.Histories.{CanBeText}
 use Rattle.jh_simnode.specs.Plans.{PlanValue, IsFit}
 use Rattle.jh_simnode.specs.Runs.{IsSerialRun}
 use Rattle.jh_gen.specs.Generator.{Generator}
@@ -101,9 +102,15 @@ OwnHistoryIsJudged =
     → IsSerialRun p journal history
     → (e : CheckError) → RefusesChecking (checker_of p.settings.workload) history e → e ≡ OutOfMemory
 
--- the lines that are printed of the history are a text of it, where its operations can be printed
+-- each operation of the history can be printed
+abbrev pub OwnHistoryIsPrintable : Type 0
+OwnHistoryIsPrintable =
+    (p : PlanValue) (journal : List Event) (history : List Operation)
+    → IsSerialRun p journal history → CanBeText journal → All CanPrint history
+
+-- the lines that are printed of the history are a text of it
 abbrev pub OwnLinesAreText : Type 0
 OwnLinesAreText =
     (p : PlanValue) (journal : List Event) (history : List Operation)
-    → IsSerialRun p journal history
-    → All CanPrint history → IsTextOfHistory (history_lines history) history
+    → IsSerialRun p journal history → CanBeText journal
+    → IsTextOfHistory (history_lines history) history

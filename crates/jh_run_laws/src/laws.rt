@@ -1,8 +1,10 @@
-//! Laws of runs. `specs/OwnHistory.antt` states those of histories, `specs/SameSettings.antt` that
-//! of settings.
+//! Laws of runs. `specs/OwnHistory.antt` states those of the histories of serial runs,
+//! `specs/RecordedHistory.antt` that of recorded ones, `specs/SameSettings.antt` that of settings.
 
 ghost use Rattle.jh_run_laws.specs.OwnHistory.{OffersSuit, OwnHistoryIsFormed, OwnHistoryIsJudged};
-ghost use Rattle.jh_run_laws.specs.OwnHistory.{OwnLinesAreText};
+ghost use Rattle.jh_run_laws.specs.OwnHistory.{OwnHistoryIsPrintable, OwnLinesAreText};
+ghost use Rattle.jh_run_laws.specs.RecordedHistory.{RecordedHistoryIsPrintable};
+ghost use Rattle.jh_run_laws.specs.RecordedHistory.{RecordedLinesAreText};
 ghost use Rattle.jh_run_laws.specs.SameSettings.{SameSettingsGiveSameRun};
 
 use jh_env::environments_read_back;
@@ -21,10 +23,20 @@ pub fn own_histories_are_judged()
     ensures judged { OwnHistoryIsJudged }
 {}
 
-/// The lines that are printed of the history of a serial run are a text of that history, and of no
-/// other (`histories_read_back`): so whoever judges these lines judges that history.
+/// Each operation of the history of a serial run can be printed, and the lines that are printed are
+/// a text of that history, and of no other (`histories_read_back`): so whoever judges these lines
+/// judges that history.
 pub fn own_lines_are_text()
-    ensures { OwnLinesAreText }
+    ensures printable { OwnHistoryIsPrintable }
+    ensures lines { OwnLinesAreText }
+{
+    operation_lines_read_back()
+}
+
+/// The same of a history whose operations were recorded as words, as a run on threads records them.
+pub fn recorded_lines_are_text()
+    ensures printable { RecordedHistoryIsPrintable }
+    ensures lines { RecordedLinesAreText }
 {
     operation_lines_read_back()
 }

@@ -6,5 +6,5 @@ mod laws;
 
 pub use laws::{
     calls_are_of_their_workload, own_histories_are_judged, own_lines_are_text,
-    same_settings_same_run,
+    recorded_lines_are_text, same_settings_same_run,
 };
