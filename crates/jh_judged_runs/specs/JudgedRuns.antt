@@ -7,6 +7,7 @@ use Rattle.jh_checkers.specs.Checkers.{checker_of}
 use Rattle.jh_checkers.specs.Findings.{IsFinding, finding_verdict}
 use Rattle.jh_checkers.specs.declared.finding.Finding.{Finding}
 use Rattle.jh_checkers.specs.declared.finding.Judging.{Judging}
+use Rattle.jh_laws.specs.HistoryLines.{IsTextOfHistory, history_lines}
 use Rattle.jh_simnode.specs.Plans.{PlanValue}
 use Rattle.jh_simnode.specs.Runs.{IsSerialRun}
 use Rattle.jh_simnode.specs.declared.events.Event.{Event}
@@ -23,11 +24,12 @@ run_judging p budget =
       model = None;
     }
 
--- The serial run of the plan has this journal and this history, in which, by a judge of this
--- budget, this is found.
+-- The serial run of the plan has this journal and this history, whose lines are a text of it, and in
+-- which, by a judge of this budget, this is found.
 pub record IsJudgedRun (p : PlanValue) (budget : ℕ) (journal : List Event)
     (history : List Operation) (finding : Finding) : Type 0 where
   pub run : IsSerialRun p journal history
+  pub text : IsTextOfHistory (history_lines history) history
   pub found : IsFinding (run_judging p budget) history finding
 
 -- this is the verdict on the serial run of the plan, by a judge of this budget

@@ -9,7 +9,7 @@ use crate::judging::run_judging;
 use jh_check::CheckError;
 use jh_checkers::{Finding, check_history};
 use jh_ops::Op;
-use jh_run_laws::own_histories_are_judged;
+use jh_run_laws::{own_histories_are_judged, own_lines_are_text};
 use jh_simnode::{Plan, RunError, World, run_serial};
 use std::alloc::Global;
 
@@ -38,6 +38,7 @@ pub fn judge_run(alloc: Global, plan: &Plan, budget: u64) -> Result<JudgedRun, R
     ensures setup { IfOk result (λ run. run.world.setup ≡ setup_of plan.now) }
 {
     own_histories_are_judged();
+    own_lines_are_text();
     let (world, history) = run_serial(alloc, plan)?;
     match check_history(alloc, &history, run_judging(plan, budget)) {
         Ok(finding) => Ok(JudgedRun {
