@@ -164,7 +164,7 @@ fn compare_shown(a: &ShownKey, b: &ShownKey) -> Ordering
     section_rank(a).cmp(&section_rank(b))
 }
 
-/// The shown as their sections stand.
+/// The shown keys, in the order of their sections.
 fn sorted(mut shown: Vec<ShownKey>) -> Result<Vec<ShownKey>, AllocError>
     ensures { IfOk result (λ sorted. sorted.items ≡ in_order is_shown_before shown.items) }
 {
