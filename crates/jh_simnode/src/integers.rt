@@ -1,6 +1,6 @@
-//! The numbers of events are integers of a text. In a definition a number has no bound; what is read
-//! of an `i64` has one. So these functions read each number and do nothing with it: what they are
-//! for is their contract.
+//! The numbers that a journal shows are integers of a text. In a definition a number has no bound;
+//! what is read of an `i64` has one. So these functions read each number and do nothing with it:
+//! what they are for is their contract.
 
 ghost use Rattle.std.specs.Prelude.{All, FitsSigned};
 ghost use Rattle.std.specs.Int.{w64};
@@ -13,7 +13,7 @@ use crate::events::Event;
 use crate::replicas::{Got, Reply};
 use jh_ops::Request;
 
-/// Of what is asked.
+/// What a request asks with is made of integers of a text.
 fn request_has_integers(request: Request)
     ensures { AreIntegers (asked_content request) }
 {
@@ -25,7 +25,7 @@ fn request_has_integers(request: Request)
     }
 }
 
-/// Of a list.
+/// The numbers of a list are integers of a text.
 fn numbers_are_integers(numbers: &[i64])
     ensures { All (FitsSigned w64) numbers.now }
 {
@@ -34,7 +34,7 @@ fn numbers_are_integers(numbers: &[i64])
     }
 }
 
-/// Of what was got.
+/// What a request is answered, where it was done, is made of integers of a text.
 fn got_has_integers(request: Request, got: &Got)
     ensures { AreIntegers (got_content request got.now) }
 {
@@ -48,7 +48,7 @@ fn got_has_integers(request: Request, got: &Got)
     }
 }
 
-/// Of a reply.
+/// What a request is answered by a reply is made of integers of a text.
 fn reply_has_integers(request: Request, reply: &Reply)
     ensures { AreIntegers (replied_content request reply.now) }
 {
@@ -58,7 +58,7 @@ fn reply_has_integers(request: Request, reply: &Reply)
     }
 }
 
-/// Of an event.
+/// The numbers that an event shows are integers of a text.
 fn event_has_integers(event: &Event)
     requires { HasSmallProcess event.now }
     ensures { HasIntegers event.now }
@@ -78,7 +78,7 @@ fn event_has_integers(event: &Event)
     }
 }
 
-/// Of each event of a journal.
+/// The numbers that the events of a journal show are integers of a text. Takes time linear in them.
 pub(crate) fn events_have_integers(journal: &[Event])
     requires { All HasSmallProcess journal.now }
     ensures { All HasIntegers journal.now }
