@@ -1,6 +1,6 @@
 -- What `jeprun timeline` writes: a page that shows a history, with what its checker finds in it
 -- (this project's own).
-use Rattle.std.specs.Prelude.{◌≡◌, ℕ, Bool, true, false, List, [], ◌∷◌, codes, IsSomeAnd, Option}
+use Rattle.std.specs.Prelude.{◌≡◌, ℕ, Bool, true, false, List, [], ◌∷◌, IsSomeAnd, Option}
 use Rattle.std.specs.Prelude.{Some, None}
 use Rattle.jh_checkers.specs.Findings.{IsFinding, finding_verdict}
 use Rattle.jh_checkers.specs.declared.finding.Finding.{Finding}
@@ -12,9 +12,11 @@ use Rattle.jh_independent.specs.declared.serial.KeyFinding.{KeyFinding}
 use Rattle.jh_ops.specs.Operation.{Operation}
 use Rattle.jh_pages.specs.Page.{page_text}
 use Rattle.jh_pages.specs.declared.section.Section.{Section}
+use Rattle.jh_pages.specs.declared.top.Top.{Top}
 use Rattle.jh_sections.specs.KeySections.{AreSectionsOf}
 use Rattle.jh_sections.specs.HistoryAndRest.{AreHistoryAndRest}
 use Rattle.jh_sections.specs.Sections.{IsSectionOf}
+use Rattle.jh_sections.specs.Titles.{history_title, keys_title}
 use Rattle.jh_sections.specs.declared.window.Choice.{Choice}
 use Rattle.jh_cli.specs.CheckText.{TakesInitial, TakesModel}
 use Rattle.jh_reports.specs.Reports.{verdict_status}
@@ -36,9 +38,9 @@ abbrev pub IsFoundBy : Option Judging → List Operation → Option Finding → 
 IsFoundBy None history found = found ≡ None
 IsFoundBy (Some judging) history found = IsSomeAnd found (IsFinding judging history)
 
--- the line on top: that of what is found, or that here is a history
+-- the line of the checker, and none where nothing was judged
 abbrev pub found_line : Option Finding → List ℕ
-found_line None = codes "A history"
+found_line None = []
 found_line (Some found) = finding_line found
 
 -- the exit status: that of the verdict, if there is one
@@ -46,16 +48,18 @@ abbrev pub found_status : Option Finding → ℕ
 found_status None = 0
 found_status (Some found) = verdict_status (finding_verdict found)
 
--- what a page shows of a history as one: a line on top, and one section, which has no heading
+-- what a page shows of a history as one: a title, the line of its checker, and one section, which
+-- has no heading
 pub record ShowsWhole
     (judging : Option Judging) (choice : Choice) (history : List Operation) (status : ℕ)
-    (line : List ℕ)
+    (title line : List ℕ)
     (sections : List Section) : Type 0 where
   pub found : Option Finding
   pub judged : IsFoundBy judging history found
   pub section : Section
   pub shown : IsSectionOf [] history found choice section
   pub alone : sections ≡ section ∷ []
+  pub titled : title ≡ history_title found
   pub top : line ≡ found_line found
   pub ended : status ≡ found_status found
 
@@ -67,9 +71,9 @@ AreFoundBy None history findings = findings ≡ None
 AreFoundBy (Some judging) history findings =
     IsSomeAnd findings (AreFindings (keys_question judging history))
 
--- the line on top: that of what is found of all keys, or that here is a history
+-- the line of the checker on all keys, and none where nothing was judged
 abbrev pub keys_line_of : Option (List KeyFinding) → List ℕ
-keys_line_of None = codes "A history"
+keys_line_of None = []
 keys_line_of (Some findings) = keys_line findings
 
 -- the exit status: that of the verdict on all keys, if there is one
@@ -77,35 +81,38 @@ abbrev pub keys_status_of : Option (List KeyFinding) → ℕ
 keys_status_of None = 0
 keys_status_of (Some findings) = verdict_status (verdict_of_all findings)
 
--- what a page shows of a history of independent keys: a line on top, and a section for each key
+-- what a page shows of a history of independent keys: a title, the line of the checker, and a
+-- section for each key
 pub record ShowsKeys
     (judging : Option Judging) (choice : Choice) (history : List Operation) (status : ℕ)
-    (line : List ℕ)
+    (title line : List ℕ)
     (sections : List Section) : Type 0 where
   pub findings : Option (List KeyFinding)
   pub judged : AreFoundBy judging history findings
   pub shown : AreSectionsOf history choice findings sections
+  pub titled : title ≡ keys_title findings
   pub top : line ≡ keys_line_of findings
   pub ended : status ≡ keys_status_of findings
 
 -- ---- the page
 
 -- by keys, if they are independent, or as one
-abbrev pub ShowsBy : Bool → TimelineQuestion → List Operation → ℕ → List ℕ → List Section → Type 0
-ShowsBy true question history status line sections =
-    ShowsKeys question.judging question.choice history status line sections
-ShowsBy false question history status line sections =
-    ShowsWhole question.judging question.choice history status line sections
+abbrev pub ShowsBy : Bool → TimelineQuestion → List Operation → ℕ → (title line : List ℕ) → List Section → Type 0
+ShowsBy true question history status title line sections =
+    ShowsKeys question.judging question.choice history status title line sections
+ShowsBy false question history status title line sections =
+    ShowsWhole question.judging question.choice history status title line sections
 
-abbrev pub Shows : TimelineQuestion → List Operation → ℕ → List ℕ → List Section → Type 0
-Shows question history status line sections =
-    ShowsBy question.independent question history status line sections
+abbrev pub Shows : TimelineQuestion → List Operation → ℕ → (title line : List ℕ) → List Section → Type 0
+Shows question history status title line sections =
+    ShowsBy question.independent question history status title line sections
 
 -- the page of a history, with a text below
 abbrev pub IsPage : TimelineQuestion → List Operation → List ℕ → ℕ → List ℕ → Type 0
 IsPage question history below status output =
-    (line : List ℕ) × (sections : List Section) × Shows question history status line sections
-    × (output ≡ page_text line sections below)
+    (top : Top) × (sections : List Section)
+    × Shows question history status top.title.items top.line.items sections
+    × (top.notice.items ≡ []) × (output ≡ page_text top sections below)
 
 -- for an input, with the exit status: the page of the history in it, with what else it has below
 abbrev pub IsTimelineTextOf : TimelineQuestion → List ℕ → ℕ → List ℕ → Type 0

@@ -22,9 +22,12 @@ use crate::output::{MAX_READS, finish};
 use jh_checkers::{Finding, Judging, check_history};
 use jh_independent::{check_keys_serial, verdict_of_all};
 use jh_ops::Op;
-use jh_pages::{Section, write_page};
+use jh_pages::{Section, Top, write_page};
 use jh_reports::{Output, finding_text, keys_text};
-use jh_sections::{Choice, HistoryAndRest, read_history_and_rest, section_of, sections_of_keys};
+use jh_sections::{
+    Choice, HistoryAndRest, read_history_and_rest, section_of, sections_of_keys, title_of,
+    title_of_keys,
+};
 use std::alloc::{AllocError, Global};
 use std::io::{Read, Write};
 
@@ -43,16 +46,18 @@ pub struct TimelineQuestion {
 #[derive(Drop)]
 struct Shown {
     status: u8,
-    /// The line on top, without a line feed.
+    title: Vec<u8>,
+    /// The line of the checker, without a line feed, and empty where nothing was judged.
     line: Vec<u8>,
     sections: Vec<Section>,
 }
 
 /// Reads a history as `jh_sections::read_history_and_rest` does, or all that `run` printed, judges
 /// it by the checker of the workload, if there is one, and writes a page in HTML that shows the
-/// history: the line of the checker on top, the history as `jh_sections::section_of` shows it, and
-/// below it what `run` printed behind the history. Where its keys are independent, each is judged
-/// by itself, one after another, the line is that on all keys, and each has the section that
+/// history: what was found in one sentence on top, as `jh_sections::title_of` says it, with the line
+/// of the checker folded below; the history as `jh_sections::section_of` shows it; and below it what
+/// `run` printed behind the history. Where its keys are independent, each is judged by itself, one
+/// after another, sentence and line are those on all keys, and each has the section that
 /// `jh_sections::sections_of_keys` makes. The answer is the exit status: 0 where the history is
 /// valid or not judged, 1 where it is not valid, 2 where that is not known. All is read and judged,
 /// and the page made, before the first byte is written.
@@ -129,13 +134,13 @@ fn found_in(
     }
 }
 
-/// The line on top.
+/// The line of the checker.
 fn line_of(alloc: Global, found: Option<&Finding>) -> Result<Vec<u8>, AllocError>
     ensures { IfOk result (λ line. line.items ≡ text.found_line (option_copied found.entry)) }
 {
     match found {
         Some(found) => finding_text(alloc, found),
-        None => Vec::from_slice(alloc, b"A history"),
+        None => Ok(Vec::new(alloc)),
     }
 }
 
@@ -154,7 +159,7 @@ fn shown_of(alloc: Global, history: Vec<Op>, question: TimelineQuestion) -> Resu
     requires { All (λ op. IsWritable op.process) history.items }
     ensures shows { MatchResult result
         (λ shown. Shows question (operations history.items)
-        shown.status shown.line.items shown.sections.items)
+        shown.status shown.title.items shown.line.items shown.sections.items)
         (RefusesPage question (operations history.items)) }
     ensures writable { IfOk result (λ shown.
         All (λ section. All (λ op. IsWritable op.process) section.history.items)
@@ -176,13 +181,14 @@ fn shown_whole(
     requires { All (λ op. IsWritable op.process) history.items }
     ensures shows { MatchResult result
         (λ shown. ShowsWhole question.judging question.choice (operations history.items)
-        shown.status shown.line.items shown.sections.items)
+        shown.status shown.title.items shown.line.items shown.sections.items)
         (RefusesShowing false question.judging (operations history.items)) }
     ensures writable { IfOk result (λ shown.
         All (λ section. All (λ op. IsWritable op.process) section.history.items)
         shown.sections.items) }
 {
     let found = found_in(alloc, &history, question.judging)?;
+    let title = title_of(alloc, found.as_ref())?;
     let line = line_of(alloc, found.as_ref())?;
     let status = status_of(found.as_ref());
     let section = section_of(
@@ -196,6 +202,7 @@ fn shown_whole(
     sections.push(section)?;
     Ok(Shown {
         status,
+        title,
         line,
         sections,
     })
@@ -210,7 +217,7 @@ fn shown_by_keys(
     requires { All (λ op. IsWritable op.process) history.now }
     ensures shows { MatchResult result
         (λ shown. ShowsKeys question.judging question.choice (operations history.now)
-        shown.status shown.line.items shown.sections.items)
+        shown.status shown.title.items shown.line.items shown.sections.items)
         (RefusesShowing true question.judging (operations history.now)) }
     ensures writable { IfOk result (λ shown.
         All (λ section. All (λ op. IsWritable op.process) section.history.items)
@@ -232,7 +239,7 @@ fn shown_judged(
     requires { All (λ op. IsWritable op.process) history.now }
     ensures shows { MatchResult result
         (λ shown. ShowsKeys (Some judging) choice (operations history.now)
-        shown.status shown.line.items shown.sections.items)
+        shown.status shown.title.items shown.line.items shown.sections.items)
         (RefusesShowing true (Some judging) (operations history.now)) }
     ensures writable { IfOk result (λ shown.
         All (λ section. All (λ op. IsWritable op.process) section.history.items)
@@ -240,10 +247,12 @@ fn shown_judged(
 {
     let findings = check_keys_serial(alloc, history, judging)?;
     let verdict = verdict_of_all(alloc, &findings)?;
+    let title = title_of_keys(alloc, verdict, &findings)?;
     let line = keys_text(alloc, verdict, &findings)?;
     let sections = sections_of_keys(alloc, history, Some(findings), choice)?;
     Ok(Shown {
         status: jh_reports::status_of(verdict),
+        title,
         line,
         sections,
     })
@@ -254,7 +263,7 @@ fn shown_unjudged(alloc: Global, history: &[Op], choice: Choice) -> Result<Shown
     requires { All (λ op. IsWritable op.process) history.now }
     ensures shows { MatchResult result
         (λ shown. ShowsKeys None choice (operations history.now)
-        shown.status shown.line.items shown.sections.items)
+        shown.status shown.title.items shown.line.items shown.sections.items)
         (RefusesShowing true None (operations history.now)) }
     ensures writable { IfOk result (λ shown.
         All (λ section. All (λ op. IsWritable op.process) section.history.items)
@@ -263,7 +272,8 @@ fn shown_unjudged(alloc: Global, history: &[Op], choice: Choice) -> Result<Shown
     let sections = sections_of_keys(alloc, history, None, choice)?;
     Ok(Shown {
         status: 0,
-        line: line_of(alloc, None)?,
+        title: title_of(alloc, None)?,
+        line: Vec::new(alloc),
         sections,
     })
 }
@@ -271,16 +281,16 @@ fn shown_unjudged(alloc: Global, history: &[Op], choice: Choice) -> Result<Shown
 /// The bytes of a page.
 fn page_text(
     alloc: Global,
-    line: &[u8],
+    top: &Top,
     sections: &[Section],
     below: &[u8],
 ) -> Result<Vec<u8>, AllocError>
     requires { All (λ section. All (λ op. IsWritable op.process) section.history.items)
         sections.now }
-    ensures { IfOk result (λ page. page.items ≡ pages.page_text line.now sections.now below.now) }
+    ensures { IfOk result (λ page. page.items ≡ pages.page_text top.now sections.now below.now) }
 {
     let mut page = Vec::new(alloc);
-    match write_page(alloc, line, sections, below, &mut page) {
+    match write_page(alloc, top, sections, below, &mut page) {
         Ok(()) => Ok(page),
         Err(_) => Err(AllocError),
     }
@@ -299,9 +309,19 @@ fn page_of(
         (RefusesPage question (operations parts.history.items)) }
 {
     let HistoryAndRest { history, below } = parts;
-    let shown = shown_of(alloc, history, question)?;
+    let Shown {
+        status,
+        title,
+        line,
+        sections,
+    } = shown_of(alloc, history, question)?;
+    let top = Top {
+        title,
+        notice: Vec::new(alloc),
+        line,
+    };
     Ok(Output {
-        status: shown.status,
-        text: page_text(alloc, &shown.line, &shown.sections, &below)?,
+        status,
+        text: page_text(alloc, &top, &sections, &below)?,
     })
 }

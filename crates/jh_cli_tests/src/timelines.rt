@@ -108,7 +108,8 @@ fn registers_are_shown_with_what_is_found(rt: HostRuntime) {
 {:index 0, :type :invoke, :process 0, :f :write, :value 1} {:index 1, :type :ok, :process 0, :f :write, :value 1}
 {:index 2, :type :invoke, :process 1, :f :read, :value nil} {:index 3, :type :ok, :process 1, :f :read, :value 1}
 → 0
-<h1>{:valid? true, :order [0 1]}</h1>
+<h1>Valid: 2 operations have an order</h1>
+<pre>{:valid? true, :order [0 1]}</pre>
 All 4 records.
 <li>process 0 1</li>
 <svg class="ok" x="240" y="0" width="232" height="32">
@@ -125,7 +126,8 @@ All 4 records.
 {:index 0, :type :invoke, :process 0, :f :write, :value 1} {:index 1, :type :ok, :process 0, :f :write, :value 1}
 {:index 2, :type :invoke, :process 1, :f :read, :value nil} {:index 3, :type :ok, :process 1, :f :read, :value 0}
 → 1
-<h1>{:valid? false, :stuck {:index 3, :type :ok, :process 1, :f :read, :value 0}, :order [0], :value 1, :pending [1]}</h1>
+<h1>Not valid: no order of all operations, stuck at index 3 (process 1: read 0)</h1>
+<pre>{:valid? false, :stuck {:index 3, :type :ok, :process 1, :f :read, :value 0}, :order [0], :value 1, :pending [1]}</pre>
 <g class="marks">
 <svg class="placed" x="240" y="0"
 <svg class="stuck" x="240" y="32" width="232" height="32">
@@ -134,7 +136,8 @@ All 4 records.
 § set - - -
 {:type :invoke, :process 0, :f :add, :value 1}
 → 2
-<h1>{:valid? :unknown, :error &quot;Set was never read&quot;}</h1>
+<h1>Unknown: the set was never read</h1>
+<pre>{:valid? :unknown, :error &quot;Set was never read&quot;}</pre>
 All 1 records.
 <svg class="open" x="240" y="0" width="232" height="16">
  add 1</text>
@@ -198,7 +201,8 @@ fn keys_have_sections_of_their_own(rt: HostRuntime) {
 {:type :invoke, :process 0, :f :read, :value [:a nil]} {:type :ok, :process 0, :f :read, :value [:a [1]]}
 {:type :invoke, :process 0, :f :read, :value [:c nil]} {:type :ok, :process 0, :f :read, :value [:c []]}
 → 1
-<h1>{:valid? false, :keys [[:a {:valid? true,
+<h1>Not valid: 1 of 3 keys</h1>
+<pre>{:valid? false, :keys [[:a {:valid? true,
 <li><a href="#part-0">Key :c: not valid</a></li>
 <li><a href="#part-1">Key :b: unknown</a></li>
 <li><a href="#part-2">Key :a: valid</a></li>
@@ -228,7 +232,8 @@ fn keys_have_sections_of_their_own(rt: HostRuntime) {
 § register - - - keys
 {:type :info, :process :nemesis, :f :note}
 → 0
-<h1>{:valid? true, :keys []}</h1>
+<h1>Valid: 0 keys</h1>
+<pre>{:valid? true, :keys []}</pre>
 !<svg
 "##;
     assert_eq!(rt; first_wrong(rt.alloc(), rows), None);

@@ -5,10 +5,32 @@ use Rattle.std.specs.Fmt.{decimal}
 use Rattle.std.specs.List.{enumerate_from, flat_map}
 use Rattle.jh_pages.specs.Drawings.{end_in, picture_text}
 use Rattle.jh_pages.specs.Markup.{escaped_bytes}
-use Rattle.jh_pages.specs.declared.page.TheConstants.{HEAD, LEGEND}
 use Rattle.jh_pages.specs.declared.section.Section.{Section}
+use Rattle.jh_pages.specs.declared.top.TheConstants.{HEAD, LEGEND}
+use Rattle.jh_pages.specs.declared.top.Top.{Top}
 use Rattle.jh_timeline.specs.declared.picture.Lane.{Lane}
 use Rattle.jh_timeline.specs.declared.picture.Window.{Window}
+
+-- ---- the top
+
+-- a sentence below the heading, if there is one
+abbrev pub notice_text : List ℕ → List ℕ
+notice_text notice =
+    if length notice == 0 then []
+    else codes "<p class=\"notice\">" ++ escaped_bytes notice ++ codes "</p>\n"
+
+-- the line of the checker, if there is one: folded, so that who wants it opens it
+abbrev pub folded_text : List ℕ → List ℕ
+folded_text line =
+    if length line == 0 then []
+    else codes "<details>\n<summary>The line of the checker</summary>\n<pre>" ++ escaped_bytes line
+    ++ codes "</pre>\n</details>\n"
+
+-- all that stands above the histories: the title as a heading, and below it the rest
+abbrev pub top_text : Top → List ℕ
+top_text top =
+    HEAD.now ++ escaped_bytes top.title.items ++ codes "</h1>\n" ++ notice_text top.notice.items
+    ++ folded_text top.line.items ++ LEGEND.now
 
 -- ---- sections
 
@@ -80,8 +102,8 @@ below_text below =
     if length below == 0 then [] else codes "<pre>" ++ escaped_bytes below ++ codes "</pre>\n"
 
 -- the whole page
-abbrev pub page_text : List ℕ → List Section → List ℕ → List ℕ
-page_text line sections below =
-    HEAD.now ++ escaped_bytes line ++ LEGEND.now ++ contents_text sections
+abbrev pub page_text : Top → List Section → List ℕ → List ℕ
+page_text top sections below =
+    top_text top ++ contents_text sections
     ++ flat_map (λ numbered. section_text numbered.0 numbered.1) (enumerate_from 0 sections)
     ++ below_text below ++ codes "</body>\n</html>\n"

@@ -10,7 +10,7 @@ ghost use Rattle.jh_pages.specs.Labels.{name_of, short_label_text};
 use crate::error::PageError;
 use crate::markup::{write_escaped_bytes, write_short_bytes};
 use jh_edn::{EdnError, Value, put, write};
-use std::alloc::Global;
+use std::alloc::{AllocError, Global};
 use std::io::Write;
 
 /// Writes the name of a function.
@@ -68,6 +68,18 @@ fn asked(alloc: Global, f: &Value, value: &Value) -> Result<Vec<u8>, EdnError>
     Ok(text)
 }
 
+/// A function with a value that it is asked with or answers, as labels have it: `read 3`.
+///
+/// Error: memory was refused.
+pub fn call_text(alloc: Global, f: &Value, value: &Value) -> Result<Vec<u8>, AllocError>
+    ensures { IfOk result (λ text. text.items ≡ asked_text (view f.now) (view value.now)) }
+{
+    match asked(alloc, f, value) {
+        Ok(text) => Ok(text),
+        Err(_) => Err(AllocError),
+    }
+}
+
 /// Writes the label of a line.
 pub(crate) fn write_label<W: Write>(
     alloc: Global,
@@ -78,7 +90,7 @@ pub(crate) fn write_label<W: Write>(
     ensures { OnOk result (Appends (W.contents writer.old) (W.contents writer.new)
         (label_text (view f.now) (view value.now))) }
 {
-    let text = asked(alloc, f, value).map_err(|_| PageError::OutOfMemory)?;
+    let text = call_text(alloc, f, value)?;
     write_escaped_bytes(alloc, text.as_slice(), writer)
 }
 
@@ -92,6 +104,6 @@ pub(crate) fn write_short_label<W: Write>(
     ensures { OnOk result (Appends (W.contents writer.old) (W.contents writer.new)
         (short_label_text (view f.now) (view value.now))) }
 {
-    let text = asked(alloc, f, value).map_err(|_| PageError::OutOfMemory)?;
+    let text = call_text(alloc, f, value)?;
     write_short_bytes(alloc, text.as_slice(), writer)
 }

@@ -11,9 +11,12 @@ mod page;
 mod pixels;
 mod record;
 mod section;
+mod top;
 
 pub use error::PageError;
+pub use label::call_text;
 pub use markup::{escaped_text_is_inert, write_escaped};
 pub use page::write_page;
 pub use pixels::{LANE_WIDTH, ROW_HEIGHT};
 pub use section::Section;
+pub use top::Top;

@@ -14,49 +14,10 @@ use crate::drawing::{end_in, write_picture};
 use crate::error::PageError;
 use crate::markup::{put, write_escaped_bytes};
 use crate::section::Section;
+use crate::top::{Top, write_top};
 use jh_timeline::{Lane, Window};
 use std::alloc::Global;
 use std::io::Write;
-
-/// The page up to the line on top. Its colours are for light and dark, and on paper a picture is as
-/// wide as the paper at most.
-const HEAD: &[u8] =
-    b"<!DOCTYPE html>\n<html xmlns=\"http://www.w3.org/1999/xhtml\" lang=\"en\">\n<head>\n\
-    <meta charset=\"utf-8\"/>\n<title>Timeline</title>\n<style>\n\
-    :root { color-scheme: light dark; --ink: #1a1a1a; --paper: #ffffff; --ok: #b7e1b0; \
-    --fail: #f2c6c6; --info: #fbe3a6; --open: #dddddd; --fault: #7a4fbf; --mark: #c00000 }\n\
-    @media (prefers-color-scheme: dark) { :root { --ink: #e6e6e6; --paper: #161616; \
-    --ok: #2f5d2a; --fail: #6b2b2b; --info: #6a5314; --open: #3a3a3a; \
-    --fault: #b497f0; --mark: #ff7070 } }\n\
-    body { margin: 1em; font: 12px sans-serif; color: var(--ink); background: var(--paper) }\n\
-    h1, h2, pre { font: 12px monospace; white-space: pre-wrap; overflow-wrap: anywhere }\n\
-    h1, h2 { font-weight: bold }\nh1 { font-size: 14px }\nh2 { margin-top: 2em }\n\
-    a { color: inherit }\nul, ol { padding-left: 2em }\n.picture { overflow-x: auto }\n\
-    svg text { font: 11px monospace; fill: var(--ink) }\n\
-    rect { stroke: var(--ink); fill: var(--open); fill-opacity: 0.85 }\n.ok rect { fill: var(--ok) }\n\
-    .fail rect { fill: var(--fail) }\n.info rect { fill: var(--info) }\n\
-    .info rect, .open rect { stroke-dasharray: 4 2 }\n\
-    .fault line { stroke: var(--fault); stroke-width: 2 }\n.fault text { fill: var(--fault) }\n\
-    .marks { pointer-events: none }\n\
-    .marks rect { fill: none; stroke: var(--mark); stroke-width: 4 }\n\
-    .marks text { fill: var(--mark); font-weight: bold; text-anchor: end }\n\
-    .marks .placed rect { stroke: none }\n.marks .placed text { fill: var(--ink) }\n\
-    .legend span { padding: 0 4px; border: 1px solid var(--ink); background: var(--open) }\n\
-    .legend .ok { background: var(--ok) }\n.legend .fail { background: var(--fail) }\n\
-    .legend .info { background: var(--info) }\n\
-    .legend .info, .legend .open { border-style: dashed }\n\
-    .legend .marked { border: 2px solid var(--mark); color: var(--mark); background: none }\n\
-    @media print { :root { --ink: #000000; --paper: #ffffff; --ok: #ffffff; --fail: #d8d8d8; \
-    --info: #ffffff; --open: #ffffff; --fault: #000000; --mark: #000000 }\n\
-    .picture { overflow: visible }\n.picture > svg { max-width: 100%; height: auto } }\n\
-    </style>\n</head>\n<body>\n<h1>";
-
-/// The end of the line on top, and what signs and colours mean.
-const LEGEND: &[u8] = b"</h1>\n<p class=\"legend\"><span class=\"ok\">&#10003; ok</span> \
-    <span class=\"fail\">&#10007; fail</span> <span class=\"info\">? info</span> \
-    <span class=\"open\">&#8230; no completion</span> <span class=\"marked\">mark</span> \
-    <b>12</b> number in an order. Time goes down, and a line across is a fault. \
-    Point at a bar or a line to see its records.</p>\n";
 
 /// Writes the end of a tag with the name of a section, or a link to it.
 fn write_name<W: Write>(tag: &str, number: usize, writer: &mut W) -> Result<(), PageError>
@@ -261,8 +222,8 @@ fn write_below<W: Write>(alloc: Global, below: &[u8], writer: &mut W) -> Result<
     put(b"</pre>\n", writer)
 }
 
-/// Writes a page: a line on top, a table of contents where there is more than one section, then
-/// each section with its picture, and a text below them all, if there is one.
+/// Writes a page: its top, a table of contents where there is more than one section, then each
+/// section with its picture, and a text below them all, if there is one.
 ///
 /// Processes can be written, which `Process::is_writable` tests. A bar or a fault whose index its
 /// history lacks is not drawn, nor is a mark whose bar its picture lacks. A bar has at most one
@@ -275,7 +236,7 @@ fn write_below<W: Write>(alloc: Global, below: &[u8], writer: &mut W) -> Result<
 /// - `OutOfMemory`.
 pub fn write_page<W: Write>(
     alloc: Global,
-    line: &[u8],
+    top: &Top,
     sections: &[Section],
     below: &[u8],
     writer: &mut W,
@@ -283,11 +244,9 @@ pub fn write_page<W: Write>(
     requires { All (λ section. All (λ op. IsWritable op.process) section.history.items)
         sections.now }
     ensures { OnOk result (Appends (W.contents writer.old) (W.contents writer.new)
-        (page_text line.now sections.now below.now)) }
+        (page_text top.now sections.now below.now)) }
 {
-    put(HEAD, writer)?;
-    write_escaped_bytes(alloc, line, writer)?;
-    put(LEGEND, writer)?;
+    write_top(alloc, top, writer)?;
     write_contents(alloc, sections, writer)?;
     write_sections(alloc, sections, writer)?;
     write_below(alloc, below, writer)?;

@@ -147,7 +147,7 @@ fn section_rank(one: &ShownKey) -> u8
 
 /// Where the section of a key with this verdict stands: first the not valid, then the unknown, last
 /// the valid.
-fn rank_of_verdict(verdict: Verdict) -> u8
+pub(crate) fn rank_of_verdict(verdict: Verdict) -> u8
     ensures { result ≡ rule.rank_of_verdict verdict }
 {
     match verdict {

@@ -1,13 +1,15 @@
-//! What a page of histories shows: which part of a text is a history, which of its records, and the
-//! sections that are made of it.
+//! What a page of histories shows: which part of a text is a history, which of its records, the
+//! sections that are made of it, and the title.
 #![tactic(auto)]
 
 mod key_sections;
 mod rest;
 mod section;
+mod title;
 mod window;
 
 pub use key_sections::sections_of_keys;
 pub use rest::{HistoryAndRest, history_and_rest, read_history_and_rest};
 pub use section::section_of;
+pub use title::{title_of, title_of_keys};
 pub use window::{BEFORE, Choice, MAX_SHOWN, SHOWN_AROUND};

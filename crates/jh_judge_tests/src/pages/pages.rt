@@ -12,6 +12,29 @@ fn draws_pages(rt: HostRuntime) -> Result<(), Fail> {
 </body>
 </html>
 
+Not valid: 1 < 2 | The input & this page differ | {:valid? false, :error "<>"}
+=>
+<h1>Not valid: 1 &lt; 2</h1>
+<p class="notice">The input &amp; this page differ</p>
+<details>
+<summary>The line of the checker</summary>
+<pre>{:valid? false, :error &quot;&lt;&gt;&quot;}</pre>
+</details>
+<legend>
+</body>
+</html>
+
+Unknown |  | {:valid? :unknown}
+=>
+<h1>Unknown</h1>
+<details>
+<summary>The line of the checker</summary>
+<pre>{:valid? :unknown}</pre>
+</details>
+<legend>
+</body>
+</html>
+
 {:valid? :unknown}
 what stands <below>,
 in two lines

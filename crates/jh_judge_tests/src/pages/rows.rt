@@ -1,9 +1,10 @@
 //! Rows of histories with the page of each.
 //!
-//! A row is the line on top, and what stands below all sections in further lines; for each section
-//! a line `#` with its heading, a line with the window's two indexes, and behind each `;` a mark: a
-//! bar and what is said of it, and its records; a line `=>`; and the page from its line on, without
-//! the legend. An empty line ends it. A table is one text, since the proof of an array takes a
+//! A row is the title, and behind each ` | ` the notice and the checker's line, where it has them, and
+//! what stands below all sections in further lines; for each section a line `#` with its heading, a
+//! line with the window's two indexes, and behind each `;` a mark: a bar and what is said of it, and
+//! its records; a line `=>`; and the page from its title on, without the legend, which stands behind
+//! the first line or where a line `<legend>` does. An empty line ends it. A table is one text, since the proof of an array takes a
 //! second for each row.
 
 ghost use Rattle.std.specs.Prelude.{All, IfOk};
@@ -12,7 +13,7 @@ ghost use Rattle.jh_ops.specs.OperationWritten.{IsWritable};
 use crate::spelled::mark_of;
 use jh_edn::read_all;
 use jh_ops::{Op, history_of};
-use jh_pages::{PageError, Section, write_page};
+use jh_pages::{PageError, Section, Top, write_page};
 use jh_timeline::{Mark, Window, picture_in};
 use std::alloc::Global;
 use std::io::Write;
@@ -23,10 +24,10 @@ const OPENING: &str =
     "<!DOCTYPE html>\n<html xmlns=\"http://www.w3.org/1999/xhtml\" lang=\"en\">\n<head>\n\
     <meta charset=\"utf-8\"/>\n<title>Timeline</title>\n<style>\n";
 
-/// What stands between the style sheet and the line on top.
+/// What stands between the style sheet and the title.
 const BODY: &str = "</style>\n</head>\n<body>\n";
 
-/// What stands behind the line on top.
+/// What stands behind the title and what belongs to it.
 const LEGEND: &str = "<p class=\"legend\"><span class=\"ok\">&#10003; ok</span> \
     <span class=\"fail\">&#10007; fail</span> <span class=\"info\">? info</span> \
     <span class=\"open\">&#8230; no completion</span> <span class=\"marked\">mark</span> \
@@ -100,6 +101,19 @@ fn sections_of(alloc: Global, given: &str) -> Result<Vec<Section>, PageError>
     Ok(sections)
 }
 
+/// The top that a text spells.
+fn top_of(alloc: Global, text: &str) -> Result<Top, PageError> {
+    let mut parts = text.splitn(3, " | ");
+    let title = parts.next().unwrap_or("");
+    let notice = parts.next().unwrap_or("");
+    let line = parts.next().unwrap_or("");
+    Ok(Top {
+        title: Vec::from_slice(alloc, title.as_bytes())?,
+        notice: Vec::from_slice(alloc, notice.as_bytes())?,
+        line: Vec::from_slice(alloc, line.as_bytes())?,
+    })
+}
+
 /// Writes the page that a row asks for.
 pub(crate) fn write_asked<W: Write>(
     alloc: Global,
@@ -108,8 +122,9 @@ pub(crate) fn write_asked<W: Write>(
 ) -> Result<(), PageError> {
     let above = given.split("\n#").next().unwrap_or("");
     let (line, below) = above.split_once('\n').unwrap_or((above, ""));
+    let top = top_of(alloc, line)?;
     let sections = sections_of(alloc, given)?;
-    write_page(alloc, line.as_bytes(), &sections, below.as_bytes(), writer)
+    write_page(alloc, &top, &sections, below.as_bytes(), writer)
 }
 
 /// The page that a row asks for. It has room from the start, so no writer fails.
@@ -127,9 +142,15 @@ pub(crate) fn asked(alloc: Global, given: &str) -> Option<Vec<u8>> {
     }
 }
 
+/// The two parts of a body between which the legend stands.
+fn around_legend(body: &str) -> Option<(&str, &str)> {
+    body.split_once("\n<legend>\n")
+        .or_else(|| body.split_once('\n'))
+}
+
 /// What a page has up to its body, if it has this body.
 fn head_of<'a>(page: &'a [u8], body: &str) -> Option<&'a str> {
-    let (line, rest) = body.split_once('\n')?;
+    let (line, rest) = around_legend(body)?;
     let page = str::from_utf8(page).ok()?;
     page.strip_suffix('\n')?
         .strip_suffix(rest)?

@@ -3,6 +3,7 @@ use Rattle.jh_checkers.specs.declared.finding.Finding.{Finding}
 use Rattle.jh_ops.specs.Operation.{operations}
 use Rattle.jh_pages.specs.declared.section.Section.{Section}
 use Rattle.jh_sections.specs.Sections.{IsSectionOf}
+use Rattle.jh_sections.specs.Titles.{history_title}
 use Rattle.jh_cli.specs.TimelineText as text
 use Rattle.jh_cli.specs.TimelineText.{IsFoundBy}
 use Rattle.jh_cli.proofs.timeline_command.shown_whole.Goals as goal
@@ -19,8 +20,9 @@ returns-clause-shows c =
       section = section;
       shown =
           subst (λ (heading : List ℕ). IsSectionOf heading history found choice section) c.new.ensures.items
-          (subst (λ (parsed : Option Finding). IsSectionOf c.new.result.items history parsed choice section) c.as_ref-3.ensures.value c.in_ok-section.ensures.section);
+          (subst (λ (parsed : Option Finding). IsSectionOf c.new.result.items history parsed choice section) c.as_ref-4.ensures.value c.in_ok-section.ensures.section);
       alone = c.in_ok-push.ensures.items ∙ ap (λ (sections : List Section). sections ++ section ∷ []) c.new-sections.ensures.items;
-      top = c.in_ok-line.ensures ∙ ap text.found_line c.as_ref.ensures.value;
-      ended = c.status_of-status.ensures ∙ ap text.found_status c.as_ref-2.ensures.value;
+      titled = c.in_ok-title.ensures ∙ ap history_title c.as_ref.ensures.value;
+      top = c.in_ok-line.ensures ∙ ap text.found_line c.as_ref-2.ensures.value;
+      ended = c.status_of-status.ensures ∙ ap text.found_status c.as_ref-3.ensures.value;
     }

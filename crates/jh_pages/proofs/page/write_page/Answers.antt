@@ -6,9 +6,7 @@ pub returns : goal.returns
 returns g c =
     let contents = g.W.Write.contents in
     let start = contents c.args.writer.now in
-    let one = appends_then start (contents c.put.new.writer) (contents c.write_escaped_bytes.new.writer) _ _ c.in_ok-put.ensures.bytes c.in_ok-write_escaped_bytes.ensures in
-    let two = appends_then start (contents c.write_escaped_bytes.new.writer) (contents c.put-2.new.writer) _ _ one c.in_ok-put-2.ensures.bytes in
-    let three = appends_then start (contents c.put-2.new.writer) (contents c.write_contents.new.writer) _ _ two c.in_ok-write_contents.ensures in
-    let four = appends_then start (contents c.write_contents.new.writer) (contents c.write_sections.new.writer) _ _ three c.in_ok-write_sections.ensures in
-    let five = appends_then start (contents c.write_sections.new.writer) (contents c.write_below.new.writer) _ _ four c.in_ok-write_below.ensures in
-    on_ok_weaker c.put-3.result (λ end. appends_then start (contents c.write_below.new.writer) (contents c.put-3.new.writer) _ _ five end) c.put-3.ensures.bytes
+    let one = appends_then start (contents c.write_top.new.writer) (contents c.write_contents.new.writer) _ _ c.in_ok-write_top.ensures c.in_ok-write_contents.ensures in
+    let two = appends_then start (contents c.write_contents.new.writer) (contents c.write_sections.new.writer) _ _ one c.in_ok-write_sections.ensures in
+    let three = appends_then start (contents c.write_sections.new.writer) (contents c.write_below.new.writer) _ _ two c.in_ok-write_below.ensures in
+    on_ok_weaker c.put.result (λ end. appends_then start (contents c.write_below.new.writer) (contents c.put.new.writer) _ _ three end) c.put.ensures.bytes
