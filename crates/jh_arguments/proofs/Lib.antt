@@ -1,3 +1,12 @@
 pub mod OptionLemmas
 pub mod LineLemmas
 pub mod ChainLemmas
+pub mod PassedRows
+pub mod PassedWalk
+pub mod PassedLevel
+pub mod PassedTexts
+pub mod PassedCommand
+pub mod OnceLemmas
+pub mod SameWalk
+pub mod AskedLemmas
+pub mod AnswerLemmas

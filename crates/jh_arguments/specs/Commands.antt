@@ -1,6 +1,6 @@
 -- Which arguments ask for which command, what it writes, and why its input is refused (this
 -- project's own).
-use Rattle.std.specs.Prelude.{◌≡◌, ◌<◌, ◌≤◌, ◌+◌, ◌^◌, ℕ, ℤ, Bool, true, false, List, Option, Some}
+use Rattle.std.specs.Prelude.{◌≡◌, ◌⊎◌, ◌<◌, ◌≤◌, ◌+◌, ◌^◌, ℕ, ℤ, Bool, true, false, List, Option, Some}
 use Rattle.std.specs.Prelude.{None, IfSome, codes, option_and_then, FitsSigned}
 use mir.Syntax.{w64}
 use Rattle.std.specs.Str.Parse.{IsNumeral, digits_value, signed_digits_value, without_leading_plus}
@@ -160,6 +160,11 @@ AsksFor (Some found) (Search question) =
     (found.0 ≡ codes "search") × AsksSearch found.1 question
 AsksFor (Some found) (Timeline question) =
     (found.0 ≡ codes "timeline") × AsksTimeline found.1 question
+
+-- A subcommand with its options asks for a command, or for a test.
+abbrev pub Asks : Option (Text × List Row) → Type 0
+Asks found =
+    ((command : Command) × AsksFor found command) ⊎ ((path : Text) × AsksDrive found path)
 
 -- ---- what a command does
 

@@ -1,3 +1,4 @@
 pub mod Palettes
 pub mod Line
 pub mod Commands
+pub mod Answers

@@ -2,11 +2,12 @@
 //! Its texts stand here and in `help` alone: help and complaints are shown by tests.
 
 ghost use Rattle.std.specs.Prelude.{◌≡◌, ◌≢◌, ◌↔◌, codes, false, IfOk, IfErr, IsErrOf, Ok, map};
-ghost use Rattle.clap.specs.Words.{app_of, kind_of, rule_of};
+ghost use Rattle.clap.specs.Words.{app_of, kind_of, rule_of, subcommand_rows_of};
 ghost use Rattle.clap.specs.declared.builder.value_parser.ValueParser.TheVariants.{Unsigned};
 ghost use Rattle.clap.specs.declared.error.ErrorKind.TheVariants as ErrorKind;
 ghost use Rattle.jh_cli.specs.declared.error.CliError.TheVariants as CliError;
 ghost use Rattle.jh_checkers.specs.Checkers.{checker_names};
+ghost use Rattle.jh_arguments.specs.Commands.{Asks};
 ghost use Rattle.jh_arguments.specs.Line as text;
 ghost use Rattle.jh_checkers.specs.Models.{model_names};
 ghost use Rattle.jh_arguments.specs.Line.{AreMatches, IsCommandLine, IsRefused};
@@ -433,10 +434,11 @@ fn number_option<'a>(
     given_option(alloc, name, help, parser).default_value(default)
 }
 
-/// What `clap` finds in these arguments, of which the first is the program's name; or its refusal,
-/// which is a request for help or for the version, a complaint, or out of memory.
+/// What `clap` finds in these arguments, of which the first is the program's name: they ask for a command, or
+/// for a test. Or its refusal, which is a request for help or for the version, a complaint, or out of memory.
 pub fn parse<'a, S: AsStr>(alloc: Global, arguments: &'a [S]) -> Result<ArgMatches<'a>, Error>
     ensures found { IfOk result (AreMatches (map S.text arguments.entry.now)) }
+    ensures asked { IfOk result (λ matches. Asks (subcommand_rows_of matches)) }
     ensures refused { IfErr result (IsRefused (map S.text arguments.entry.now)) }
 {
     command_line(alloc)?.try_get_matches_from(arguments)

@@ -4,35 +4,39 @@
 
 ghost use Rattle.std.specs.Prelude.{◌≢◌, IsNone};
 
-use crate::commands::{Command, command_of, run, settings_path_of};
-use crate::line::{REFUSED, parse, status_of_refusal};
-use clap::ArgMatches;
+use crate::answers::{CommandObserver, Refusal, answer};
+use crate::commands::Command;
+use crate::line::{REFUSED, status_of_refusal};
 use jh_checkers::{Checker, Judging};
 use jh_cli::CliError;
-use jh_drive::{CallCounts, CallObserver, DriveError, drive_observed};
-use jh_lines::Streams;
+use jh_drive::{CallCounts, CallObserver, DriveError};
 use jh_search::SearchObserver;
 use jh_shrink::Observer;
 use std::alloc::Global;
+use std::cell::Cell;
 use std::env::Env;
 use std::fs::Files;
 use std::io::Write;
 use std::sync::Wait;
 use std::thread::Threads;
 use std::time::{Clock, Instant};
-use std::{env, fs, io};
+use std::{env, io};
 
 /// The status of what is not known, as `run` of `commands.rt` gives it.
 const UNKNOWN: u8 = 2;
 
-/// Tells on standard error how far the work is, in one line that is written over and over.
+/// Tells on standard error, where that is a terminal, what is done: what is read, how far the work is, in one
+/// line that is written over and over, and how the calls of a test ended.
 #[derive(Drop)]
 struct Progress<'a, P> {
     rt: &'a P,
-    /// Whether anybody reads it.
-    is_shown: bool,
-    /// When the work began, where the clock was read.
+    terminals: Terminals,
+    /// The command that is run, once that is known.
+    command: Option<Command>,
+    /// When its work began, where the clock was read.
     start: Option<Instant>,
+    /// Whether a line stands there that is in the way of what is written.
+    is_in_the_way: &'a Cell<bool>,
 }
 
 /// Which of the standard streams lead to somebody, and not to a pipe or a file.
@@ -47,9 +51,22 @@ pub struct Terminals {
 /// Goes back to the start of the line, and empties it.
 const EMPTY_LINE: &str = "\r\x1b[K";
 
+impl<P: Eprint + Clock> CommandObserver for Progress<'_, P> {
+    fn see_command(&mut self, command: Command) {
+        self.tell_input(input_of(command));
+        self.command = Some(command);
+        self.start = Instant::now(self.rt).ok();
+        self.is_in_the_way.set(self.is_shown());
+    }
+
+    fn see_test(&mut self) {
+        self.tell_input("replies");
+    }
+}
+
 impl<P: Eprint> Observer for Progress<'_, P> {
     fn see(&mut self, entries: usize, calls: u64) {
-        if self.is_shown {
+        if self.is_shown() {
             let _ = eprint!(self.rt; "{EMPTY_LINE}run {calls}, {entries} entries left");
         }
     }
@@ -57,12 +74,29 @@ impl<P: Eprint> Observer for Progress<'_, P> {
 
 impl<P: Eprint + Clock> SearchObserver for Progress<'_, P> {
     fn see_tried(&mut self, tried: u64, unknown: u64) {
-        if self.is_shown {
+        if self.is_shown() {
             let rate = rate_of(tried, self.elapsed_millis());
             let _ = eprint!(self.rt;
                 "{EMPTY_LINE}{tried} candidates tried, {unknown} unknown, {rate} a second"
             );
         }
+    }
+}
+
+impl<P: Eprint> CallObserver for Progress<'_, P> {
+    fn see_calls(&mut self, calls: CallCounts) {
+        if !self.terminals.errors {
+            return;
+        }
+        let CallCounts {
+            given,
+            ok,
+            failed,
+            unknown,
+        } = calls;
+        let _ = eprintln!(self.rt;
+            "jeprun: calls: {given} made, {ok} ok, {failed} failed, {unknown} of unknown outcome"
+        );
     }
 }
 
@@ -84,11 +118,42 @@ fn rate_of(count: u64, millis: u64) -> u64 {
     count.saturating_mul(1_000) / millis.max(1)
 }
 
+impl<P> Progress<'_, P> {
+    /// Whether anybody is told how far the work is.
+    fn is_shown(&self) -> bool {
+        self.terminals.errors
+            && matches!(
+                self.command,
+                Some(Command::Shrink(_)) | Some(Command::Search(_))
+            )
+    }
+}
+
 impl<P: Eprint> Progress<'_, P> {
-    /// Takes what it told off the terminal.
-    fn end(self) {
-        if self.is_shown {
+    /// Says what is read, where that is typed.
+    fn tell_input(&self, input: &str) {
+        if self.terminals.input && self.terminals.errors {
+            let _ = eprintln!(self.rt; "jeprun: reads {input} from standard input");
+        }
+    }
+
+    /// Takes how far the work is off the terminal.
+    fn end(&self) {
+        if self.is_shown() {
             let _ = eprint!(self.rt; "{EMPTY_LINE}");
+        }
+    }
+
+    /// Says what may decide what a command left unknown.
+    fn advise(&self, status: u8) {
+        let Some(command) = self.command else {
+            return;
+        };
+        if !self.terminals.errors {
+            return;
+        }
+        if let Some(remedy) = remedy_of(command, status) {
+            let _ = eprintln!(self.rt; "jeprun: {remedy}");
         }
     }
 }
@@ -98,14 +163,14 @@ impl<P: Eprint> Progress<'_, P> {
 struct BehindProgress<'a, P, W> {
     rt: &'a P,
     writer: W,
-    /// Whether something was told that still stands there.
-    is_told: bool,
+    /// Whether such a line stands there.
+    is_in_the_way: &'a Cell<bool>,
 }
 
 impl<P: Eprint, W: Write> Write for BehindProgress<'_, P, W> {
     fn write(&mut self, buffer: &[u8]) -> io::Result<usize> {
-        if self.is_told {
-            self.is_told = false;
+        if self.is_in_the_way.get() {
+            self.is_in_the_way.set(false);
             let _ = eprint!(self.rt; "{EMPTY_LINE}");
         }
         self.writer.write(buffer)
@@ -181,109 +246,12 @@ fn undriven(rt: &impl Eprint, error: DriveError) -> u8 {
     error.status()
 }
 
-/// Tells on a terminal how the calls of a test ended: one that made none is valid too.
-#[derive(Drop)]
-struct Told<'a, P> {
-    rt: &'a P,
-    /// Whether anybody reads it.
-    is_shown: bool,
-}
-
-impl<P: Eprint> CallObserver for Told<'_, P> {
-    fn see_calls(&mut self, calls: CallCounts) {
-        if !self.is_shown {
-            return;
-        }
-        let CallCounts {
-            given,
-            ok,
-            failed,
-            unknown,
-        } = calls;
-        let _ = eprintln!(self.rt;
-            "jeprun: calls: {given} made, {ok} ok, {failed} failed, {unknown} of unknown outcome"
-        );
-    }
-}
-
-/// Conducts the test that a file sets, over the standard streams.
-fn driven<R>(rt: &R, path: &str, terminals: Terminals) -> u8
-where
-    R: Files + Input + Print + Eprint + Alloc<A = Global>,
-{
-    let settings = match fs::read(rt, path) {
-        Ok(settings) => settings,
-        Err(error) if error.kind() == io::ErrorKind::OutOfMemory => {
-            return undriven(rt, DriveError::OutOfMemory);
-        }
-        Err(_) => return undriven(rt, DriveError::SettingsRead),
-    };
-    if terminals.input && terminals.errors {
-        let _ = eprintln!(rt; "jeprun: reads replies from standard input");
-    }
-    let mut streams = Streams {
-        reader: rt.reader(),
-        writer: io::writer(rt),
-    };
-    let mut told = Told {
-        rt,
-        is_shown: terminals.errors,
-    };
-    match drive_observed(rt.alloc(), &settings, &mut streams, &mut told) {
-        Ok(status) => status,
-        Err(error) => undriven(rt, error),
-    }
-}
-
-/// Does what the arguments ask for, over the standard streams.
-fn done<R>(rt: &R, matches: &ArgMatches<'_>, terminals: Terminals) -> u8
-where
-    R: Files + Input + Print + Eprint + Clock + Alloc<A = Global> + Threads + Wait + Sync,
-{
-    if let Some(path) = settings_path_of(matches) {
-        return driven(rt, path, terminals);
-    }
-    let Some(command) = command_of(matches) else {
-        return REFUSED;
-    };
-    if terminals.input && terminals.errors {
-        let _ = eprintln!(rt; "jeprun: reads {} from standard input", input_of(command));
-    }
-    let mut progress = Progress {
-        rt,
-        is_shown: terminals.errors && matches!(command, Command::Shrink(_) | Command::Search(_)),
-        start: Instant::now(rt).ok(),
-    };
-    let mut writer = BehindProgress {
-        rt,
-        writer: io::writer(rt),
-        is_told: progress.is_shown,
-    };
-    let answer = run(
-        rt,
-        rt.alloc(),
-        command,
-        &mut rt.reader(),
-        &mut writer,
-        &mut progress,
-    );
-    progress.end();
-    match answer {
-        Ok(status) => {
-            advise(rt, command, status, terminals);
-            status
-        }
-        Err(error) => failed(rt, error),
-    }
-}
-
-/// Says on a terminal what may decide what a command left unknown.
-fn advise(rt: &impl Eprint, command: Command, status: u8, terminals: Terminals) {
-    if !terminals.errors {
-        return;
-    }
-    if let Some(remedy) = remedy_of(command, status) {
-        let _ = eprintln!(rt; "jeprun: {remedy}");
+/// Says why the program ends otherwise than with the status of what it was asked for, and gives its status.
+fn ended(rt: &(impl Print + Eprint), refusal: Refusal) -> u8 {
+    match refusal {
+        Refusal::Arguments(refusal) => refused(rt, &refusal),
+        Refusal::Command(error) => failed(rt, error),
+        Refusal::Test(error) => undriven(rt, error),
     }
 }
 
@@ -315,8 +283,32 @@ where
             return REFUSED;
         }
     };
-    match parse(rt.alloc(), arguments.as_slice()) {
-        Ok(matches) => done(rt, &matches, terminals),
-        Err(refusal) => refused(rt, &refusal),
+    let is_in_the_way = Cell::new(false);
+    let mut progress = Progress {
+        rt,
+        terminals,
+        command: None,
+        start: None,
+        is_in_the_way: &is_in_the_way,
+    };
+    let mut writer = BehindProgress {
+        rt,
+        writer: io::writer(rt),
+        is_in_the_way: &is_in_the_way,
+    };
+    let answer = answer(
+        rt,
+        arguments.as_slice(),
+        &mut rt.reader(),
+        &mut writer,
+        &mut progress,
+    );
+    progress.end();
+    match answer {
+        Ok(status) => {
+            progress.advise(status);
+            status
+        }
+        Err(refusal) => ended(rt, refusal),
     }
 }

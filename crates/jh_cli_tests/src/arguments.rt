@@ -1,9 +1,17 @@
 //! Arguments, and what they ask for: the command, or the status of their refusal with all that it says, in a line of its own.
 
 use crate::rows::{Texts, first_wrong};
-use jh_arguments::{command_of, parse, status_of_refusal};
+use jh_arguments::{
+    CallCounts, CallObserver, Command, CommandObserver, answer, command_of, parse,
+    status_of_refusal,
+};
+use jh_search::SearchObserver;
+use jh_shrink::Observer;
 use std::alloc::Global;
+use std::fs::Files;
 use std::io::Write;
+use std::sync::Wait;
+use std::thread::Threads;
 
 /// What these arguments ask for; `None` where memory was refused, and where no command is found in them.
 pub(crate) fn asked_once(alloc: Global, arguments: &str) -> Option<Vec<u8>> {
@@ -378,4 +386,63 @@ Examples:
 jeprun 0.1.0
 "#;
     assert_eq!(rt; first_wrong(&rt, rt.alloc(), Texts::Arguments, rows), None);
+}
+
+/// Who knows which command is run.
+#[derive(Drop)]
+struct Seen {
+    command: Option<Command>,
+}
+
+impl CommandObserver for Seen {
+    fn see_command(&mut self, command: Command) {
+        self.command = Some(command);
+    }
+
+    fn see_test(&mut self) {}
+}
+
+impl Observer for Seen {
+    fn see(&mut self, _entries: usize, _calls: u64) {}
+}
+
+impl SearchObserver for Seen {
+    fn see_tried(&mut self, _tried: u64, _unknown: u64) {}
+}
+
+impl CallObserver for Seen {
+    fn see_calls(&mut self, _calls: CallCounts) {}
+}
+
+/// The status of what the arguments ask for with this input, all that is written, and which command was run.
+fn answered_once<T>(
+    rt: &T,
+    arguments: &[&str],
+    input: &str,
+) -> Option<(u8, Vec<u8>, Option<Command>)>
+where
+    T: Files + Alloc<A = Global> + Threads + Wait + Sync,
+{
+    let mut output = Vec::new(rt.alloc());
+    let mut seen = Seen { command: None };
+    let status = answer(rt, arguments, &mut input.as_bytes(), &mut output, &mut seen).ok()?;
+    Some((status, output, seen.command))
+}
+
+#[test]
+fn answers_from_the_arguments_to_the_output(rt: HostRuntime) {
+    let arguments = ["jeprun", "env"];
+    let input = "{:nodes [\"n1\"]}";
+    let wanted =
+        b":active []\n{:nodes [\"n1\"], :cut [], :slow [], :loss [], :down [], :clock []}\n";
+    let answer = answered_once(&rt, arguments.as_slice(), input).or_else(|| answered_once(
+        &rt,
+        arguments.as_slice(),
+        input,
+    ));
+    assert!(rt;
+        answer.is_some_and(|(status, output, command)| {
+            status == 0 && output.as_slice() == wanted.as_slice() && command == Some(Command::Env)
+        })
+    );
 }

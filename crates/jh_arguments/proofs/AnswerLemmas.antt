@@ -1,0 +1,172 @@
+-- How the program ends, from what the command says that it runs.
+use Rattle.std.proofs.Common.{◌≡◌, ◌≢◌, ◌∙◌, ◌↔◌, ◌⊎◌, ap, refl, sym, List, ℕ, subst, inl, inr, Option, None}
+use Rattle.std.specs.Prelude.{Result, Ok, Err, IfOk, IfErr, IsErrAnd, IsErrOf}
+use Rattle.clap.specs.Words.{Text, subcommand_rows_of}
+use Rattle.clap.specs.declared.error.Error.{Error}
+use Rattle.clap.specs.declared.parser.matches.ArgMatches.{ArgMatches}
+use Rattle.jh_cli.specs.CheckText.{TakesInitial, TakesModel}
+use Rattle.jh_cli.specs.Outputs.{OnInput, WritesOutput}
+use Rattle.jh_cli.specs.TimelineText.{TakesInitialBy, TakesModelBy}
+use Rattle.jh_cli.specs.declared.error.CliError.{CliError}
+use Rattle.jh_cli.specs.declared.error.CliError.TheVariants.{OnlyForRegister, OnlyForListAppend, BadPalette, Write}
+use Rattle.jh_cli.specs.declared.check_command.Question.{Question}
+use Rattle.jh_cli.specs.declared.search_command.SearchQuestion.{SearchQuestion}
+use Rattle.jh_cli.specs.declared.timeline_command.TimelineQuestion.{TimelineQuestion}
+use Rattle.jh_drive.specs.Drive.{IsDriven}
+use Rattle.jh_drive.specs.declared.error.DriveError.{DriveError}
+use Rattle.jh_drive.specs.declared.error.DriveError.TheVariants.{Settings}
+use Rattle.jh_settings.specs.declared.error.SettingsError.{SettingsError}
+use Rattle.jh_arguments.specs.Answers.{AskFor, AskForTest, IsConductedTo, IsDone, IsFailed, IsFileUnread, IsOfOptions, IsUnfinished, RefusesOptions, of_command, of_test}
+use Rattle.jh_arguments.specs.Commands.{AsksDrive, AsksFor, IsOutputOf, RefusesCommand}
+use Rattle.jh_arguments.specs.Line.{AreMatches, IsRefused}
+use Rattle.jh_arguments.specs.declared.answers.Refusal.{Refusal}
+use Rattle.jh_arguments.specs.declared.answers.Refusal.TheVariants as Refusals
+use Rattle.jh_arguments.specs.declared.commands.Command.{Command}
+use Rattle.jh_arguments.specs.declared.commands.Command.TheVariants.{Check, Search, Timeline}
+
+pub asked_by : (arguments : List Text) (matches : ArgMatches) (command : Command) → AreMatches arguments matches → AsksFor (subcommand_rows_of matches) command → AskFor arguments command
+asked_by arguments matches command (app, line, fault, rows, found) asks = (app, line, fault, subst (λ o. AsksFor o command) found asks)
+
+pub asked_test_by : (arguments : List Text) (matches : ArgMatches) (path : Text) → AreMatches arguments matches → AsksDrive (subcommand_rows_of matches) path → AskForTest arguments path
+asked_test_by arguments matches path (app, line, fault, rows, found) asks = (app, line, fault, subst (λ o. AsksDrive o path) found asks)
+
+-- what `run` says of the options of a command
+pub record SaysOfOptions {R : Type 0} (command : Command) (r : Result ℕ CliError) (old new : R) : Type 0 where
+  pub asked : (question : Question) → command ≡ Check question → IsErrOf r OnlyForRegister ↔ (TakesInitial question.judging.checker question.judging.initial → ⊥)
+  pub unread : (question : Question) → command ≡ Check question → IsErrOf r OnlyForRegister → new ≡ old
+  pub asked_model : (question : Question) → command ≡ Check question
+      → IsErrOf r OnlyForListAppend
+      ↔ (TakesInitial question.judging.checker question.judging.initial × (TakesModel question.judging.checker question.judging.model → ⊥))
+  pub unread_model : (question : Question) → command ≡ Check question → IsErrOf r OnlyForListAppend → new ≡ old
+  pub timeline_asked : (question : TimelineQuestion) → command ≡ Timeline question → IsErrOf r OnlyForRegister ↔ (TakesInitialBy question.judging → ⊥)
+  pub timeline_unread : (question : TimelineQuestion) → command ≡ Timeline question → IsErrOf r OnlyForRegister → new ≡ old
+  pub timeline_model : (question : TimelineQuestion) → command ≡ Timeline question
+      → IsErrOf r OnlyForListAppend ↔ (TakesInitialBy question.judging × (TakesModelBy question.judging → ⊥))
+  pub timeline_unread_model : (question : TimelineQuestion) → command ≡ Timeline question → IsErrOf r OnlyForListAppend → new ≡ old
+  pub named : (question : SearchQuestion) → command ≡ Search question → IsErrOf r BadPalette ↔ (question.palette ≡ None)
+  pub unread_unnamed : (question : SearchQuestion) → command ≡ Search question → IsErrOf r BadPalette → new ≡ old
+
+-- options that are refused are refused so
+refused_so : {R : Type 0} (command : Command) (r : Result ℕ CliError) (old new : R) → SaysOfOptions command r old new → (refusal : CliError) → RefusesOptions command refusal → IsErrOf r refusal
+refused_so (Check question) r old new says OnlyForRegister refuses = (says.asked question refl).1 refuses
+refused_so (Check question) r old new says OnlyForListAppend refuses = (says.asked_model question refl).1 refuses
+refused_so (Timeline question) r old new says OnlyForRegister refuses = (says.timeline_asked question refl).1 refuses
+refused_so (Timeline question) r old new says OnlyForListAppend refuses = (says.timeline_model question refl).1 refuses
+refused_so (Search question) r old new says BadPalette refuses = (says.named question refl).1 refuses
+refused_so _ r old new says _ refuses = absurd refuses
+
+-- and one that is of the options comes of them, with nothing read
+of_options : {R : Type 0} (command : Command) (r : Result ℕ CliError) (old new : R) → SaysOfOptions command r old new → (e : CliError) → IsErrOf r e → IsOfOptions command e
+    → RefusesOptions command e × (new ≡ old)
+of_options (Check question) r old new says OnlyForRegister is of = ((says.asked question refl).0 is, says.unread question refl is)
+of_options (Check question) r old new says OnlyForListAppend is of = ((says.asked_model question refl).0 is, says.unread_model question refl is)
+of_options (Timeline question) r old new says OnlyForRegister is of = ((says.timeline_asked question refl).0 is, says.timeline_unread question refl is)
+of_options (Timeline question) r old new says OnlyForListAppend is of = ((says.timeline_model question refl).0 is, says.timeline_unread_model question refl is)
+of_options (Search question) r old new says BadPalette is of = ((says.named question refl).0 is, says.unread_unnamed question refl is)
+of_options _ r old new says _ is of = absurd of
+
+the_same : (e refusal : CliError) → ◌≡◌ {A = Result ℕ CliError} (Err e) (Err refusal) → e ≡ refusal
+the_same e refusal both = cc
+
+pub options_taken : {R : Type 0} (command : Command) (status : ℕ) (old new : R) → SaysOfOptions command (Ok status) old new → (refusal : CliError) → RefusesOptions command refusal → ⊥
+options_taken command status old new says refusal refuses =
+    let bad : Ok status ≡ Err refusal = refused_so command (Ok status) old new says refusal refuses in
+    cc
+
+pub ended_so : {R : Type 0} (arguments : List Text) (command : Command) (input : Option (List ℕ)) (old new : R) (e : CliError) → AskFor arguments command
+    → SaysOfOptions command (Err e) old new → OnInput input (λ bytes. RefusesCommand command bytes e) → IsFailed arguments input old new e
+ended_so arguments command input old new e asked says refused = record {
+  command = command;
+  asked = asked;
+  options = λ refusal refuses. the_same e refusal (refused_so command (Err e) old new says refusal refuses);
+  of_options = of_options command (Err e) old new says e refl;
+  refused = refused;
+}
+
+-- ---- all that is said of an end
+
+pub record Ends {R W : Type 0} (arguments : List Text) (input rest before after : Option (List ℕ)) (reader_old reader_new : R) (writer_old writer_new : W)
+    (r : Result ℕ Refusal) : Type 0 where
+  pub done : IfOk r (λ status. IsDone arguments input before after status ⊎ IsConductedTo arguments input rest before after status)
+  pub refused : (error : Error) → IsErrOf r (Refusals.Arguments error) → IsRefused arguments error
+  pub unread : (error : Error) → IsErrOf r (Refusals.Arguments error) → reader_new ≡ reader_old
+  pub unwritten : (error : Error) → IsErrOf r (Refusals.Arguments error) → writer_new ≡ writer_old
+  pub failed : (error : CliError) → IsErrOf r (Refusals.Command error) → IsFailed arguments input reader_old reader_new error
+  pub failed_unwritten : (error : CliError) → IsErrOf r (Refusals.Command error) → error ≢ Write → writer_new ≡ writer_old
+  pub unfinished : (error : DriveError) → IsErrOf r (Refusals.Test error)
+      → IsUnfinished arguments input rest before after reader_old reader_new writer_old writer_new error
+
+-- two ends differ, or are the same
+the_arguments : (x y : Error) → ◌≡◌ {A = Result ℕ Refusal} (Err (Refusals.Arguments x)) (Err (Refusals.Arguments y)) → x ≡ y
+the_arguments x y e = cc
+
+the_command : (x y : CliError) → ◌≡◌ {A = Result ℕ Refusal} (Err (Refusals.Command x)) (Err (Refusals.Command y)) → x ≡ y
+the_command x y e = cc
+
+the_test : (x y : DriveError) → ◌≡◌ {A = Result ℕ Refusal} (Err (Refusals.Test x)) (Err (Refusals.Test y)) → x ≡ y
+the_test x y e = cc
+
+module _ {R W : Type 0} (arguments : List Text) (input rest before after : Option (List ℕ)) (ro rn : R) (wo wn : W) where
+  pub refused_ends : (error : Error) → IsRefused arguments error → rn ≡ ro → wn ≡ wo → Ends arguments input rest before after ro rn wo wn (Err (Refusals.Arguments error))
+  refused_ends error refused unread unwritten = record {
+    done = tt;
+    refused = λ other is. subst (IsRefused arguments) (the_arguments error other is) refused;
+    unread = λ other is. unread;
+    unwritten = λ other is. unwritten;
+    failed = λ other is. absurd (let bad : Err (Refusals.Arguments error) ≡ Err (Refusals.Command other) = is in cc);
+    failed_unwritten = λ other is. absurd (let bad : Err (Refusals.Arguments error) ≡ Err (Refusals.Command other) = is in cc);
+    unfinished = λ other is. absurd (let bad : Err (Refusals.Arguments error) ≡ Err (Refusals.Test other) = is in cc);
+  }
+
+  -- what a command that is asked for comes to
+  pub command_ends : (command : Command) (r : Result ℕ CliError) → AskFor arguments command → SaysOfOptions command r ro rn
+      → IfOk r (λ status. WritesOutput input (IsOutputOf command) status before after)
+      → IfErr r (λ e. OnInput input (λ bytes. RefusesCommand command bytes e)) → IfErr r (λ e. e ≢ Write → wn ≡ wo)
+      → Ends arguments input rest before after ro rn wo wn (of_command r)
+  command_ends command (Ok status) asked says written refused unwritten = record {
+    done = inl (record { command = command; asked = asked; options = options_taken command status ro rn says; written = written });
+    refused = λ other is. absurd (let bad : Ok status ≡ Err (Refusals.Arguments other) = is in cc);
+    unread = λ other is. absurd (let bad : Ok status ≡ Err (Refusals.Arguments other) = is in cc);
+    unwritten = λ other is. absurd (let bad : Ok status ≡ Err (Refusals.Arguments other) = is in cc);
+    failed = λ other is. absurd (let bad : Ok status ≡ Err (Refusals.Command other) = is in cc);
+    failed_unwritten = λ other is. absurd (let bad : Ok status ≡ Err (Refusals.Command other) = is in cc);
+    unfinished = λ other is. absurd (let bad : Ok status ≡ Err (Refusals.Test other) = is in cc);
+  }
+  command_ends command (Err error) asked says written refused unwritten = record {
+    done = tt;
+    refused = λ other is. absurd (let bad : Err (Refusals.Command error) ≡ Err (Refusals.Arguments other) = is in cc);
+    unread = λ other is. absurd (let bad : Err (Refusals.Command error) ≡ Err (Refusals.Arguments other) = is in cc);
+    unwritten = λ other is. absurd (let bad : Err (Refusals.Command error) ≡ Err (Refusals.Arguments other) = is in cc);
+    failed = λ other is. subst (IsFailed arguments input ro rn) (the_command error other is) (ended_so arguments command input ro rn error asked says refused);
+    failed_unwritten = λ other is differs. unwritten (λ same. differs (sym (the_command error other is) ∙ same));
+    unfinished = λ other is. absurd (let bad : Err (Refusals.Command error) ≡ Err (Refusals.Test other) = is in cc);
+  }
+
+  -- what a test that is asked for comes to
+  pub test_ends : (path : Text) (r : Result ℕ DriveError) → AskForTest arguments path
+      → (IsErrAnd r IsFileUnread × (rn ≡ ro) × (wn ≡ wo)) ⊎ ((settings : List ℕ) × IsDriven settings input rest before after r)
+      → ((error : SettingsError) → IsErrOf r (Settings error) → (rn ≡ ro) × (wn ≡ wo))
+      → Ends arguments input rest before after ro rn wo wn (of_test r)
+  test_ends path (Ok status) asked ended unread = record {
+    done = inr (conducted ended);
+    refused = λ other is. absurd (let bad : Ok status ≡ Err (Refusals.Arguments other) = is in cc);
+    unread = λ other is. absurd (let bad : Ok status ≡ Err (Refusals.Arguments other) = is in cc);
+    unwritten = λ other is. absurd (let bad : Ok status ≡ Err (Refusals.Arguments other) = is in cc);
+    failed = λ other is. absurd (let bad : Ok status ≡ Err (Refusals.Command other) = is in cc);
+    failed_unwritten = λ other is. absurd (let bad : Ok status ≡ Err (Refusals.Command other) = is in cc);
+    unfinished = λ other is. absurd (let bad : Ok status ≡ Err (Refusals.Test other) = is in cc);
+  }
+    where
+      conducted : (⊥ × (rn ≡ ro) × (wn ≡ wo)) ⊎ ((settings : List ℕ) × IsDriven settings input rest before after (Ok status)) → IsConductedTo arguments input rest before after status
+      conducted (inl none) = absurd none.0
+      conducted (inr (settings, driven)) = record { path = path; asked = asked; settings = settings; driven = driven }
+  test_ends path (Err error) asked ended unread = record {
+    done = tt;
+    refused = λ other is. absurd (let bad : Err (Refusals.Test error) ≡ Err (Refusals.Arguments other) = is in cc);
+    unread = λ other is. absurd (let bad : Err (Refusals.Test error) ≡ Err (Refusals.Arguments other) = is in cc);
+    unwritten = λ other is. absurd (let bad : Err (Refusals.Test error) ≡ Err (Refusals.Arguments other) = is in cc);
+    failed = λ other is. absurd (let bad : Err (Refusals.Test error) ≡ Err (Refusals.Command other) = is in cc);
+    failed_unwritten = λ other is. absurd (let bad : Err (Refusals.Test error) ≡ Err (Refusals.Command other) = is in cc);
+    unfinished = λ other is. subst (IsUnfinished arguments input rest before after ro rn wo wn) (the_test error other is)
+        (record { path = path; asked = asked; why = ended; unread = λ settings is_so. unread settings (ap Err is_so) });
+  }

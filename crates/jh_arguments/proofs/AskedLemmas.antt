@@ -1,0 +1,389 @@
+-- Arguments that `clap` takes ask for a command, or for a test.
+use Rattle.std.proofs.Common.{◌≡◌, ◌∙◌, ◌<◌, ◌≤◌, ◌&&◌, ◌||◌, ◌⊎◌, inl, inr, ℕ, ℤ, Bool, cond, codes, true, false, not, refl, sym, ap, subst, arith, map, List, [], ◌∷◌, length, Option, Some, None, true≢false}
+use Rattle.std.specs.Prelude.{option_and_then, option_map, pos, negsuc}
+use Rattle.std.specs.Borrow.{Bor}
+use Rattle.std.specs.List.{list_any}
+use Rattle.std.specs.Str.{bytes_eq}
+use Rattle.std.specs.Str.Parse.{digits_value, signed_digits_value, without_leading_plus}
+use Rattle.std.proofs.lemmas.Slice.Eq.{bytes_eq-Decides}
+use Rattle.clap.specs.Facts.{unwrap_or_range}
+use Rattle.clap.specs.Faults.{level_fault}
+use Rattle.clap.specs.Kinds.{range_kinds}
+use Rattle.clap.specs.Values.{Accepts, is_request}
+use Rattle.clap.specs.Words.{App, new_app, Row, Rule, Shape, Text, fault_of, first_of, one_of, subcommand_of}
+use Rattle.clap.specs.Simple.{argument_words, built, built_leaf, help_shape, inherited, marked_built, with_leaf_noted}
+use Rattle.clap.specs.Walk.{action_of, arg_by_id, most_values, nothing_held, rows_after, values_or_missing}
+use Rattle.clap.specs.declared.builder.range.ValueRange.{ValueRange}
+use Rattle.clap.specs.declared.builder.value_parser.ValueParser.TheVariants as vp
+use Rattle.clap.proofs.WalkLemmas.{list_any-map}
+use Rattle.jh_arguments.proofs.PassedRows.{Each, IsOwn}
+use Rattle.jh_arguments.proofs.PassedLevel.{HoldsOf, level_holds}
+use Rattle.jh_arguments.proofs.PassedTexts.{HasNoText, HasText, needed_gives, option_gives, read_of}
+use Rattle.jh_arguments.proofs.PassedCommand.{EachShape, Leads, entered_leads}
+use Rattle.jh_arguments.specs.Answers.{AskFor, AskForTest}
+use Rattle.jh_arguments.proofs.OnceLemmas.{Once, asked_once, flag_once, named, no_drive}
+use Rattle.jh_arguments.proofs.SameWalk.{subcommand_same}
+use Rattle.jh_checkers.specs.Checkers.{checker_name, checker_names}
+use Rattle.jh_checkers.specs.Models.{model_named, model_names}
+use Rattle.jh_arguments.specs.Palettes.{palette_named}
+use Rattle.jh_arguments.specs.Line.{IsCommandLine, check, drive, jeprun, search, shrink, timeline}
+use Rattle.jh_arguments.specs.Commands.{Asks, AsksCheck, AsksDrive, AsksFor, AsksSearch, AsksTimeline, IsFlag, IsGivenWithin, IsIndex, IsInitial, IsJudging, IsJudgingBy, IsNumber, IsNumberWithin, IsShow, max_candidates, max_spread_ms}
+use Rattle.jh_checkers.specs.declared.checker.Checker.{Checker}
+use Rattle.jh_checkers.specs.declared.checker.Checker.TheVariants.{Register, Set, Counter, Ids, ListAppend}
+use Rattle.jh_checkers.specs.declared.finding.Judging.{Judging}
+use Rattle.jh_cli.specs.declared.check_command.Question.{Question}
+use Rattle.jh_cli.specs.declared.search_command.SearchQuestion.{SearchQuestion}
+use Rattle.jh_cli.specs.declared.search_command.Show.{Show}
+use Rattle.jh_cli.specs.declared.timeline_command.TimelineQuestion.{TimelineQuestion}
+use Rattle.jh_arguments.specs.declared.commands.Command.{Command}
+use Rattle.jh_arguments.specs.declared.commands.Command.TheVariants.{Env, Check, Run, Shrink, Search, Timeline}
+
+-- ---- rules
+
+one_valued : (c : List Rule) (a : Rule) → arg_by_id c a.id ≡ Some a → unwrap_or_range a.range ≡ record { start_inclusive = 1; end_inclusive = 1 } → IsOwn c a
+one_valued c a found range = record { found = found; valued = valued }
+  where
+    valued : (values : List Text) → is_request (action_of a) ≡ false → range_kinds (unwrap_or_range a.range).start_inclusive (most_values a) (length values) ≡ []
+        → 0 < length (values_or_missing a values)
+    valued [] it e = let bad = ap (λ (r : ValueRange). range_kinds r.start_inclusive r.end_inclusive 0) (sym range) ∙ e in cc
+    valued (v ∷ vs) it e = omega arith
+
+flag_valued : (c : List Rule) (a : Rule) → arg_by_id c a.id ≡ Some a → 0 < length a.missing → IsOwn c a
+flag_valued c a found lt = record { found = found; valued = valued }
+  where
+    valued : (values : List Text) → is_request (action_of a) ≡ false → range_kinds (unwrap_or_range a.range).start_inclusive (most_values a) (length values) ≡ []
+        → 0 < length (values_or_missing a values)
+    valued [] it e = lt
+    valued (v ∷ vs) it e = omega arith
+
+request : (c : List Rule) (a : Rule) → arg_by_id c a.id ≡ Some a → is_request (action_of a) ≡ true → IsOwn c a
+request c a found is = record { found = found; valued = λ values it e. absurd (true≢false (sym is ∙ it)) }
+
+-- ---- texts
+
+module _ (rows : List Row) (id : Text) where
+  number_in : (least most : ℕ) → HasText rows id false (vp.Unsigned least most) → (n : ℕ) × IsNumberWithin least most (one_of id rows) n
+  number_in least most t =
+      let n = digits_value 10 (without_leading_plus t.text) in
+      (n, subst (λ o. IsNumberWithin least most o n) (sym t.one) (((t.accepted.0, t.accepted.1), refl), t.accepted.2, t.accepted.3))
+
+  given_in : (least most : ℕ) → ((false ≡ false) × HasNoText rows id) ⊎ HasText rows id false (vp.Unsigned least most) → (n : Option ℕ) × IsGivenWithin least most (one_of id rows) n
+  given_in least most (inl none) = (None, subst (λ o. IsGivenWithin least most o None) (sym none.1.one) refl)
+  given_in least most (inr t) =
+      let n = digits_value 10 (without_leading_plus t.text) in
+      (Some n, subst (λ o. IsGivenWithin least most o (Some n)) (sym t.one) (((t.accepted.0, t.accepted.1), refl), t.accepted.2, t.accepted.3))
+
+  index_in : ((false ≡ false) × HasNoText rows id) ⊎ HasText rows id false (vp.Unsigned 0 18446744073709551615) → (n : Option ℕ) × IsIndex (one_of id rows) n
+  index_in (inl none) = (None, subst (λ o. IsIndex o None) (sym none.1.one) refl)
+  index_in (inr t) =
+      let n = digits_value 10 (without_leading_plus t.text) in
+      (Some n, subst (λ o. IsIndex o (Some n)) (sym t.one) ((t.accepted.0, t.accepted.1), refl))
+
+initial_in : (rows : List Row) → ((false ≡ false) × HasNoText rows (codes "initial")) ⊎ HasText rows (codes "initial") false (vp.Signed (negsuc 9223372036854775807) (pos 9223372036854775807))
+    → (v : Option ℤ) × IsInitial (one_of (codes "initial") rows) v
+initial_in rows (inl none) = (None, subst (λ o. IsInitial o None) (sym none.1.one) refl)
+initial_in rows (inr t) =
+    let v = signed_digits_value 10 t.text in
+    (Some v, subst (λ o. IsInitial o (Some v)) (sym t.one) ((t.accepted.0, t.accepted.1), refl))
+
+flag_in : (o : Option Text) → (b : Bool) × IsFlag o b
+flag_in None = (false, refl)
+flag_in (Some t) = (bytes_eq t (codes "true"), (λ e. (bytes_eq-Decides t (codes "true")).1 e, λ e. ap (λ x. bytes_eq x (codes "true")) e))
+
+any_checker : (t : Text) (cs : List Checker) → list_any (λ n. bytes_eq n t) (map checker_name cs) ≡ true → (c : Checker) × (checker_name c ≡ t)
+any_checker t [] e = absurd (true≢false (sym e))
+any_checker t (c ∷ cs) e = go (bytes_eq (checker_name c) t) refl (any_checker t cs) e
+  where
+    go : (b : Bool) → bytes_eq (checker_name c) t ≡ b → (list_any (λ n. bytes_eq n t) (map checker_name cs) ≡ true → (d : Checker) × (checker_name d ≡ t))
+        → (b || list_any (λ n. bytes_eq n t) (map checker_name cs)) ≡ true → (d : Checker) × (checker_name d ≡ t)
+    go true here next e = (c, (bytes_eq-Decides (checker_name c) t).0 here)
+    go false here next e = next e
+
+checker_in : (names : Bor (List (Bor Text))) → map (λ s. s.now) names.now ≡ checker_names → (rows : List Row) → HasText rows (codes "workload") false (vp.Names names)
+    → (c : Checker) × (first_of (codes "workload") rows ≡ Some (checker_name c))
+checker_in names all rows t =
+    let among : list_any (λ n. bytes_eq n t.text) checker_names ≡ true =
+    ap (list_any (λ n. bytes_eq n t.text)) (sym all) ∙ (sym (list_any-map (λ n. bytes_eq n t.text) (λ s. s.now) names.now) ∙ t.accepted) in
+    let found = any_checker t.text (Register ∷ Set ∷ Counter ∷ Ids ∷ ListAppend ∷ []) among in
+    (found.0, t.first ∙ ap Some (sym found.1))
+
+-- ---- each command
+
+module _ (names models : Bor (List (Bor Text))) (all : map (λ s. s.now) names.now ≡ checker_names) where
+  -- a subcommand, as it is built
+  abbrev leaf : App → Shape
+  leaf a = built_leaf (inherited (with_leaf_noted (marked_built (jeprun names models).top)) a.top)
+
+  env_asks : Leads Asks (leaf (new_app (codes "env")))
+  env_asks name rest named other fault = inl (Env, refl)
+
+  run_asks : Leads Asks (leaf (new_app (codes "run")))
+  run_asks name rest named other fault = inl (Run, refl)
+
+  help_asks : Leads Asks (built_leaf help_shape)
+  help_asks name rest named other fault =
+      let same : codes "help" ≡ name = (bytes_eq-Decides (codes "help") name).0 (or_false (bytes_eq (codes "help") name) named) in
+      absurd (true≢false (sym ((bytes_eq-Decides name (codes "help")).1 (sym same)) ∙ other))
+    where
+      or_false : (b : Bool) → (b || false) ≡ true → b ≡ true
+      or_false true e = refl
+      or_false false e = e
+
+  shrink_rules : Each (IsOwn (leaf shrink).rules) (leaf shrink).rules
+  shrink_rules = (one_valued _ _ refl refl, (request _ _ refl refl, tt))
+
+  shrink_asks : Leads Asks (leaf shrink)
+  shrink_asks name rest named other fault =
+      let holds = level_holds (leaf shrink) [] rest shrink_rules fault in
+      let rows = rows_after (leaf shrink).rules [] rest in
+      let budget = number_in rows (codes "budget") 0 10000000 (needed_gives _ rows holds (codes "budget") false (vp.Unsigned 0 10000000) refl) in
+      inl (Shrink budget.0, (refl, budget.1.0))
+
+  drive_rules : Each (IsOwn (leaf drive).rules) (leaf drive).rules
+  drive_rules = (one_valued _ _ refl refl, (request _ _ refl refl, tt))
+
+  drive_asks : Leads Asks (leaf drive)
+  drive_asks name rest named other fault =
+      let holds = level_holds (leaf drive) [] rest drive_rules fault in
+      let rows = rows_after (leaf drive).rules [] rest in
+      let path = needed_gives _ rows holds (codes "settings") false vp.String refl in
+      inr (path.text, (refl, path.first))
+
+  search_rules : Each (IsOwn (leaf search).rules) (leaf search).rules
+  search_rules = (
+    one_valued _ _ refl refl,
+    (
+      one_valued _ _ refl refl,
+      (
+        one_valued _ _ refl refl,
+        (
+          one_valued _ _ refl refl,
+          (one_valued _ _ refl refl, (one_valued _ _ refl refl, (one_valued _ _ refl refl, (request _ _ refl refl, tt)))),
+        ),
+      ),
+    ),
+  )
+
+  show_in : (rows : List Row) → HoldsOf (leaf search).rules rows → (show : Option Show) × IsShow rows show
+  show_in rows holds = go (given_in rows (codes "show") 0 max_candidates (option_gives _ rows holds (codes "show") false (vp.Unsigned 0 max_candidates) false refl))
+    where
+      go : (n : Option ℕ) × IsGivenWithin 0 max_candidates (one_of (codes "show") rows) n → (show : Option Show) × IsShow rows show
+      go (None, none) = (None, none)
+      go (Some n, some) =
+          let over = given_in rows (codes "ms") 1 max_spread_ms (option_gives _ rows holds (codes "ms") false (vp.Unsigned 1 max_spread_ms) false refl) in
+          (Some (record { number = n; milliseconds = over.0 }), (is_within (one_of (codes "show") rows) some, over.1))
+        where
+          is_within : (o : Option Text) → IsGivenWithin 0 max_candidates o (Some n) → IsNumberWithin 0 max_candidates o n
+          is_within None e = let bad : Some n ≡ None = e in cc
+          is_within (Some t) e = e
+
+  search_asks : Leads Asks (leaf search)
+  search_asks name rest named other fault =
+      let holds = level_holds (leaf search) [] rest search_rules fault in
+      let rows = rows_after (leaf search).rules [] rest in
+      let runs = number_in rows (codes "runs") 1 max_candidates (needed_gives _ rows holds (codes "runs") false (vp.Unsigned 1 max_candidates) refl) in
+      let faults = number_in rows (codes "faults") 0 256 (needed_gives _ rows holds (codes "faults") false (vp.Unsigned 0 256) refl) in
+      let from = number_in rows (codes "from") 0 max_candidates (needed_gives _ rows holds (codes "from") false (vp.Unsigned 0 max_candidates) refl) in
+      let threads = given_in rows (codes "threads") 1 16 (option_gives _ rows holds (codes "threads") false (vp.Unsigned 1 16) false refl) in
+      let show = show_in rows holds in
+      let asks : AsksSearch rows (record {
+        from = from.0;
+        runs = runs.0;
+        faults = faults.0;
+        palette = option_and_then palette_named (first_of (codes "palette") rows);
+        threads = threads.0;
+        show = show.0;
+      }) = record { from = from.1; runs = runs.1; faults = faults.1; palette = refl; threads = threads.1; show = show.1 } in
+      inl (Search _, (refl, asks))
+
+  -- by what a history is judged, of a checker that is named
+  judging_in : (c : List Rule) (rows : List Row) → HoldsOf c rows
+      → option_map read_of (arg_by_id c (codes "initial")) ≡ Some (false, vp.Signed (negsuc 9223372036854775807) (pos 9223372036854775807), false)
+      → option_map read_of (arg_by_id c (codes "budget")) ≡ Some (false, vp.Unsigned 0 10000000, true)
+      → (explain : Bool) (checker : Checker) → (judging : Judging) × IsJudgingBy rows (checker_name checker) judging × (judging.explain ≡ explain) × (judging.checker ≡ checker)
+  judging_in c rows holds initial budget explain checker =
+      let first = initial_in rows (option_gives c rows holds (codes "initial") false (vp.Signed (negsuc 9223372036854775807) (pos 9223372036854775807)) false initial) in
+      let most = number_in rows (codes "budget") 0 10000000 (needed_gives c rows holds (codes "budget") false (vp.Unsigned 0 10000000) budget) in (
+        record {
+          checker = checker;
+          initial = first.0;
+          budget = most.0;
+          explain = explain;
+          model = option_and_then model_named (first_of (codes "model") rows);
+        },
+        record { workload = refl; initial = first.1; model = refl; budget = most.1.0 },
+        refl,
+        refl,
+      )
+
+  check_rules : Each (IsOwn (leaf (check names models)).rules) (leaf (check names models)).rules
+  check_rules = (
+    one_valued _ _ refl refl,
+    (
+      one_valued _ _ refl refl,
+      (
+        one_valued _ _ refl refl,
+        (
+          one_valued _ _ refl refl,
+          (flag_valued _ _ refl (omega arith), (flag_valued _ _ refl (omega arith), (one_valued _ _ refl refl, (one_valued _ _ refl refl, (request _ _ refl refl, tt))))),
+        ),
+      ),
+    ),
+  )
+
+  check_asks : Leads Asks (leaf (check names models))
+  check_asks name rest named other fault =
+      let holds = level_holds (leaf (check names models)) [] rest check_rules fault in
+      let rows = rows_after (leaf (check names models)).rules [] rest in
+      let checker = checker_in names all rows (needed_gives _ rows holds (codes "workload") false (vp.Names names) refl) in
+      let explain = flag_in (one_of (codes "explain") rows) in
+      let independent = flag_in (one_of (codes "independent") rows) in
+      let threads = number_in rows (codes "threads") 1 16 (needed_gives _ rows holds (codes "threads") false (vp.Unsigned 1 16) refl) in
+      let least = index_in rows (codes "at-least") (option_gives _ rows holds (codes "at-least") false (vp.Unsigned 0 18446744073709551615) false refl) in
+      let by = judging_in _ rows holds refl refl explain.0 checker.0 in
+      let asks : AsksCheck rows (record { judging = by.0; independent = independent.0; threads = threads.0; at_least = least.0 }) = record {
+        workload = checker.1 ∙ ap (λ c. Some (checker_name c)) (sym by.3);
+        initial = by.1.initial;
+        model = by.1.model;
+        budget = by.1.budget;
+        explain = subst (IsFlag (one_of (codes "explain") rows)) (sym by.2) explain.1;
+        independent = independent.1;
+        threads = threads.1;
+        at_least = least.1;
+      } in
+      inl (Check _, (refl, asks))
+
+  timeline_rules : Each (IsOwn (leaf (timeline names models)).rules) (leaf (timeline names models)).rules
+  timeline_rules = (
+    one_valued _ _ refl refl,
+    (
+      one_valued _ _ refl refl,
+      (
+        one_valued _ _ refl refl,
+        (
+          one_valued _ _ refl refl,
+          (flag_valued _ _ refl (omega arith), (one_valued _ _ refl refl, (one_valued _ _ refl refl, (request _ _ refl refl, tt)))),
+        ),
+      ),
+    ),
+  )
+
+  -- by what the history of a page is judged, where it is
+  page_in : (rows : List Row) → HoldsOf (leaf (timeline names models)).rules rows → ((false ≡ false) × HasNoText rows (codes "workload")) ⊎ HasText rows (codes "workload") false (vp.Names names)
+      → (judging : Option Judging) × IsJudging rows judging
+  page_in rows holds (inl none) = (None, none.1.first)
+  page_in rows holds (inr t) =
+      let checker = checker_in names all rows t in
+      let by = judging_in _ rows holds refl refl true checker.0 in
+      (Some by.0, (checker_name checker.0, checker.1, by.1, by.2))
+
+  timeline_asks : Leads Asks (leaf (timeline names models))
+  timeline_asks name rest named other fault =
+      let holds = level_holds (leaf (timeline names models)) [] rest timeline_rules fault in
+      let rows = rows_after (leaf (timeline names models)).rules [] rest in
+      let judging = page_in rows holds (option_gives _ rows holds (codes "workload") false (vp.Names names) false refl) in
+      let independent = flag_in (one_of (codes "independent") rows) in
+      let from = index_in rows (codes "from") (option_gives _ rows holds (codes "from") false (vp.Unsigned 0 18446744073709551615) false refl) in
+      let to = index_in rows (codes "to") (option_gives _ rows holds (codes "to") false (vp.Unsigned 0 18446744073709551615) false refl) in
+      let asks : AsksTimeline rows (record { judging = judging.0; independent = independent.0; choice = record { from = from.0; to = to.0 } }) =
+      record { judging = judging.1; independent = independent.1; from = from.1; to = to.1 } in
+      inl (Timeline _, (refl, asks))
+
+  -- two subcommands have names that differ
+  other_name : (a b : Text) → bytes_eq a b ≡ false → a ≡ b → ⊥
+  other_name a b differ same = true≢false (sym ((bytes_eq-Decides a b).1 same) ∙ differ)
+
+  once_of : (a : App) → bytes_eq (leaf a).name (codes "check") ≡ false → bytes_eq (leaf a).name (codes "timeline") ≡ false → Leads Once (leaf a)
+  once_of a first second name rest named other fault =
+      asked_once ((leaf a).name, rows_after (leaf a).rules [] rest) (λ e. absurd (other_name _ _ first e)) (λ e. absurd (other_name _ _ second e))
+
+  check_once : Leads Once (leaf (check names models))
+  check_once name rest named other fault =
+      let holds = level_holds (leaf (check names models)) [] rest check_rules fault in
+      let rows = rows_after (leaf (check names models)).rules [] rest in
+      asked_once (codes "check", rows)
+      (λ e. (
+        flag_once rows (codes "explain") (option_gives _ rows holds (codes "explain") false vp.Bool true refl),
+        flag_once rows (codes "independent") (option_gives _ rows holds (codes "independent") false vp.Bool true refl),
+      ))
+      (λ e. absurd (other_name (codes "check") (codes "timeline") refl e))
+
+  timeline_once : Leads Once (leaf (timeline names models))
+  timeline_once name rest named other fault =
+      let holds = level_holds (leaf (timeline names models)) [] rest timeline_rules fault in
+      let rows = rows_after (leaf (timeline names models)).rules [] rest in
+      asked_once (codes "timeline", rows) (λ e. absurd (other_name (codes "timeline") (codes "check") refl e))
+      (λ e. flag_once rows (codes "independent") (option_gives _ rows holds (codes "independent") false vp.Bool true refl))
+
+  help_once : Leads Once (built_leaf help_shape)
+  help_once name rest named other fault =
+      asked_once (codes "help", rows_after (built_leaf help_shape).rules [] rest) (λ e. absurd (other_name (codes "help") (codes "check") refl e))
+      (λ e. absurd (other_name (codes "help") (codes "timeline") refl e))
+
+  line_asks : (words : List Text) → fault_of (jeprun names models) words ≡ [] → Asks (subcommand_of (jeprun names models) words)
+  line_asks words fault =
+      entered_leads Asks (built (jeprun names models)) (argument_words (jeprun names models) words)
+      (env_asks, (check_asks, (run_asks, (shrink_asks, (search_asks, (timeline_asks, (drive_asks, (help_asks, tt)))))))) refl refl fault
+
+  line_once : (words : List Text) → fault_of (jeprun names models) words ≡ [] → Once (subcommand_of (jeprun names models) words)
+  line_once words fault =
+      entered_leads Once (built (jeprun names models)) (argument_words (jeprun names models) words) (
+        once_of (new_app (codes "env")) refl refl,
+        (
+          check_once,
+          (
+            once_of (new_app (codes "run")) refl refl,
+            (
+              once_of shrink refl refl,
+              (once_of search refl refl, (timeline_once, (once_of drive refl refl, (help_once, tt)))),
+            ),
+          ),
+        ),
+      ) refl refl fault
+
+-- arguments of the command line that `clap` takes ask for a command, or for a test
+pub taken_asks : (app : App) → IsCommandLine app → (words : List Text) → fault_of app words ≡ [] → Asks (subcommand_of app words)
+taken_asks app line words fault = subst (λ a. Asks (subcommand_of a words)) (sym line.4)
+    (line_asks line.0 line.1 line.2 words (ap (λ a. fault_of a words) (sym line.4) ∙ fault))
+
+-- the command line reads alike, whichever texts its names are
+line_same : (app other : App) → IsCommandLine app → IsCommandLine other → (words : List Text) → subcommand_of app words ≡ subcommand_of other words
+line_same app other line also words =
+    ap (λ a. subcommand_of a words) line.4
+    ∙ (go line.0 line.1 also.0 also.1 ∙ ap (λ a. subcommand_of a words) (sym also.4))
+  where
+    go : (names models others more : Bor (List (Bor Text))) → subcommand_of (jeprun names models) words ≡ subcommand_of (jeprun others more) words
+    go names models others more =
+        sym (subcommand_same (built (jeprun names models)) (argument_words (jeprun names models) words))
+        ∙ subcommand_same (built (jeprun others more)) (argument_words (jeprun others more) words)
+
+test_alike : (found : Option (Text × List Row)) (p q : Text) → AsksDrive found p → AsksDrive found q → p ≡ q
+test_alike None p q a b = absurd a
+test_alike (Some found) p q a b = let both : Some p ≡ Some q = sym a.1 ∙ b.1 in cc
+
+command_no_test : (found : Option (Text × List Row)) (c : Command) (path : Text) → AsksFor found c → AsksDrive found path → ⊥
+command_no_test None c path a b = b
+command_no_test (Some found) c path a b = no_drive c (sym (named found c a) ∙ b.0)
+
+-- arguments that ask for two commands ask for one
+pub asked_alike : (arguments : List Text) (c d : Command) → AskFor arguments c → AskFor arguments d → c ≡ d
+asked_alike arguments c d (app, line, fault, asks) (other, also, beside, asks_too) =
+    let once : Once (subcommand_of app arguments) = subst (λ a. Once (subcommand_of a arguments)) (sym line.4)
+    (line_once line.0 line.1 line.2 arguments (ap (λ a. fault_of a arguments) (sym line.4) ∙ fault)) in
+    once c d asks (subst (λ found. AsksFor found d) (sym (line_same app other line also arguments)) asks_too)
+
+pub asked_test_alike : (arguments : List Text) (p q : Text) → AskForTest arguments p → AskForTest arguments q → p ≡ q
+asked_test_alike arguments p q (app, line, fault, asks) (other, also, beside, asks_too) =
+    test_alike (subcommand_of app arguments) p q asks (subst (λ found. AsksDrive found q) (sym (line_same app other line also arguments)) asks_too)
+
+pub asked_apart : (arguments : List Text) (c : Command) (path : Text) → AskFor arguments c → AskForTest arguments path → ⊥
+asked_apart arguments c path (app, line, fault, asks) (other, also, beside, asks_too) =
+    command_no_test (subcommand_of app arguments) c path asks (subst (λ found. AsksDrive found path) (sym (line_same app other line also arguments)) asks_too)
+
+-- arguments that `clap` takes ask for something
+pub asked_there : (app : App) (arguments : List Text) → IsCommandLine app → fault_of app arguments ≡ []
+    → ((command : Command) × AskFor arguments command) ⊎ ((path : Text) × AskForTest arguments path)
+asked_there app arguments line fault = elim (taken_asks app line arguments fault) [
+  | inl (command, asks) ↦ inl (command, (app, line, fault, asks))
+  | inr (path, asks) ↦ inr (path, (app, line, fault, asks))
+]

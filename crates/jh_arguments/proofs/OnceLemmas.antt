@@ -1,0 +1,201 @@
+-- Arguments that `clap` takes ask for one command at most.
+use Rattle.std.proofs.Common.{◌≡◌, ◌∙◌, ◌||◌, ◌+◌, ◌*◌, ◌⊎◌, inl, inr, ⊎_elim, ℕ, ℤ, Bool, cond, codes, true, false, refl, sym, ap, subst, arith, List, [], ◌∷◌, Option, Some, None, true≢false}
+use Rattle.std.specs.Prelude.{option_and_then, option_map}
+use Rattle.std.specs.Borrow.{Bor}
+use Rattle.std.specs.Str.{bytes_eq}
+use Rattle.std.proofs.lemmas.Slice.Eq.{bytes_eq-Decides}
+use Rattle.clap.specs.Words.{Row, Text, first_of, one_of}
+use Rattle.clap.specs.declared.builder.value_parser.ValueParser.TheVariants as vp
+use Rattle.jh_arguments.proofs.PassedTexts.{HasNoText, HasText}
+use Rattle.jh_arguments.proofs.OptionLemmas.{number_one}
+use Rattle.jh_checkers.specs.Checkers.{checker_name, checker_named}
+use Rattle.jh_checkers.specs.Models.{model_named}
+use Rattle.jh_arguments.specs.Commands.{AsksCheck, AsksFor, AsksSearch, AsksTimeline, IsFlag, IsGivenWithin, IsIndex, IsInitial, IsJudging, IsJudgingBy, IsNumber, IsNumberWithin, IsShow, max_candidates, max_spread_ms}
+use Rattle.jh_checkers.specs.declared.checker.Checker.{Checker}
+use Rattle.jh_checkers.specs.declared.checker.Checker.TheVariants.{Register, Set, Counter, Ids, ListAppend}
+use Rattle.jh_checkers.specs.declared.finding.Judging.{Judging}
+use Rattle.jh_cli.specs.declared.check_command.Question.{Question}
+use Rattle.jh_cli.specs.declared.search_command.SearchQuestion.{SearchQuestion}
+use Rattle.jh_cli.specs.declared.search_command.Show.{Show}
+use Rattle.jh_sections.specs.declared.window.Choice.{Choice}
+use Rattle.jh_cli.specs.declared.timeline_command.TimelineQuestion.{TimelineQuestion}
+use Rattle.jh_arguments.specs.declared.commands.Command.{Command}
+use Rattle.jh_arguments.specs.declared.commands.Command.TheVariants.{Env, Check, Run, Shrink, Search, Timeline}
+
+-- ---- one text means one value
+
+some_same : {X : Type 0} (a b : X) → Some a ≡ Some b → a ≡ b
+some_same a b e = let both : Some a ≡ Some b = e in cc
+
+checker_back : (c : Checker) → checker_named (checker_name c) ≡ Some c
+checker_back Register = refl
+checker_back Set = refl
+checker_back Counter = refl
+checker_back Ids = refl
+checker_back ListAppend = refl
+
+checker_once : (c d : Checker) → checker_name c ≡ checker_name d → c ≡ d
+checker_once c d e = some_same c d (sym (checker_back c) ∙ (ap checker_named e ∙ checker_back d))
+
+initial_once : (o : Option Text) (m n : Option ℤ) → IsInitial o m → IsInitial o n → m ≡ n
+initial_once None m n a b = a ∙ sym b
+initial_once (Some t) (Some m) (Some n) a b = ap Some (a.1 ∙ sym b.1)
+initial_once (Some t) (Some m) None a b = absurd (b a.0)
+initial_once (Some t) None (Some n) a b = absurd (a b.0)
+initial_once (Some t) None None a b = refl
+
+index_once : (o : Option Text) (m n : Option ℕ) → IsIndex o m → IsIndex o n → m ≡ n
+index_once None m n a b = a ∙ sym b
+index_once (Some t) (Some m) (Some n) a b = ap Some (a.1 ∙ sym b.1)
+index_once (Some t) (Some m) None a b = absurd (b a.0)
+index_once (Some t) None (Some n) a b = absurd (a b.0)
+index_once (Some t) None None a b = refl
+
+given_once : (least most : ℕ) (o : Option Text) (m n : Option ℕ) → IsGivenWithin least most o m → IsGivenWithin least most o n → m ≡ n
+given_once least most None m n a b = a ∙ sym b
+given_once least most (Some t) (Some m) (Some n) a b = ap Some (number_one (Some t) m n a.0 b.0)
+given_once least most (Some t) (Some m) None a b = absurd (b m a)
+given_once least most (Some t) None (Some n) a b = absurd (a n b)
+given_once least most (Some t) None None a b = refl
+
+show_once : (rows : List Row) (m n : Option Show) → IsShow rows m → IsShow rows n → m ≡ n
+show_once rows None None a b = refl
+show_once rows None (Some n) a b = absurd (unshown (one_of (codes "show") rows) n.number a b.0)
+  where
+    unshown : (o : Option Text) (k : ℕ) → IsGivenWithin 0 max_candidates o None → IsNumberWithin 0 max_candidates o k → ⊥
+    unshown None k a b = b.0
+    unshown (Some t) k a b = a k b
+show_once rows (Some m) None a b = absurd (unshown (one_of (codes "show") rows) m.number b a.0)
+  where
+    unshown : (o : Option Text) (k : ℕ) → IsGivenWithin 0 max_candidates o None → IsNumberWithin 0 max_candidates o k → ⊥
+    unshown None k a b = b.0
+    unshown (Some t) k a b = a k b
+show_once rows (Some m) (Some n) a b =
+    let number = number_one (one_of (codes "show") rows) m.number n.number a.0.0 b.0.0 in
+    let over = given_once 1 max_spread_ms (one_of (codes "ms") rows) m.milliseconds n.milliseconds a.1 b.1 in
+    λ i. Some (record { number = number i; milliseconds = over i })
+
+-- the flag is there or not, and not both
+abbrev pub FlagOnce : List Row → Text → Type 0
+FlagOnce rows id = (a b : Bool) → IsFlag (one_of id rows) a → IsFlag (one_of id rows) b → a ≡ b
+
+judging_once : (rows : List Row) (name : Text) (m n : Judging) → IsJudgingBy rows name m → IsJudgingBy rows name n → m.explain ≡ n.explain → m ≡ n
+judging_once rows name m n a b explain =
+    let checker = checker_once m.checker n.checker (sym a.workload ∙ b.workload) in
+    let initial = initial_once (one_of (codes "initial") rows) m.initial n.initial a.initial b.initial in
+    let budget = number_one (one_of (codes "budget") rows) m.budget n.budget a.budget b.budget in
+    let model = a.model ∙ sym b.model in
+    λ i. record { checker = checker i; initial = initial i; budget = budget i; explain = explain i; model = model i }
+
+check_once : (rows : List Row) → FlagOnce rows (codes "explain") → FlagOnce rows (codes "independent") → (m n : Question) → AsksCheck rows m → AsksCheck rows n → m ≡ n
+check_once rows explained split m n a b =
+    let checker = checker_once m.judging.checker n.judging.checker (some_same _ _ (sym a.workload ∙ b.workload)) in
+    let initial = initial_once (one_of (codes "initial") rows) m.judging.initial n.judging.initial a.initial b.initial in
+    let budget = number_one (one_of (codes "budget") rows) m.judging.budget n.judging.budget a.budget b.budget in
+    let model = a.model ∙ sym b.model in
+    let explain = explained m.judging.explain n.judging.explain a.explain b.explain in
+    let independent = split m.independent n.independent a.independent b.independent in
+    let threads = number_one (one_of (codes "threads") rows) m.threads n.threads a.threads.0 b.threads.0 in
+    let least = index_once (one_of (codes "at-least") rows) m.at_least n.at_least a.at_least b.at_least in
+    λ i. record {
+      judging = record { checker = checker i; initial = initial i; budget = budget i; explain = explain i; model = model i };
+      independent = independent i;
+      threads = threads i;
+      at_least = least i;
+    }
+
+search_once : (rows : List Row) (m n : SearchQuestion) → AsksSearch rows m → AsksSearch rows n → m ≡ n
+search_once rows m n a b =
+    let from = number_one (one_of (codes "from") rows) m.from n.from a.from.0 b.from.0 in
+    let runs = number_one (one_of (codes "runs") rows) m.runs n.runs a.runs.0 b.runs.0 in
+    let faults = number_one (one_of (codes "faults") rows) m.faults n.faults a.faults.0 b.faults.0 in
+    let palette = a.palette ∙ sym b.palette in
+    let threads = given_once 1 16 (one_of (codes "threads") rows) m.threads n.threads a.threads b.threads in
+    let show = show_once rows m.show n.show a.show b.show in
+    λ i. record { from = from i; runs = runs i; faults = faults i; palette = palette i; threads = threads i; show = show i }
+
+page_once : (rows : List Row) (m n : Option Judging) → IsJudging rows m → IsJudging rows n → m ≡ n
+page_once rows None None a b = refl
+page_once rows None (Some n) a b = let bad : Some b.0 ≡ None = sym b.1 ∙ a in cc
+page_once rows (Some m) None a b = let bad : Some a.0 ≡ None = sym a.1 ∙ b in cc
+page_once rows (Some m) (Some n) a b =
+    let name : a.0 ≡ b.0 = some_same a.0 b.0 (sym a.1 ∙ b.1) in
+    ap Some (judging_once rows b.0 m n (subst (λ t. IsJudgingBy rows t m) name a.2) b.2 (a.3 ∙ sym b.3))
+
+timeline_once : (rows : List Row) → FlagOnce rows (codes "independent") → (m n : TimelineQuestion) → AsksTimeline rows m → AsksTimeline rows n → m ≡ n
+timeline_once rows split m n a b =
+    let judging = page_once rows m.judging n.judging a.judging b.judging in
+    let independent = split m.independent n.independent a.independent b.independent in
+    let from = index_once (one_of (codes "from") rows) m.choice.from n.choice.from a.from b.from in
+    let to = index_once (one_of (codes "to") rows) m.choice.to n.choice.to a.to b.to in
+    λ i. record { judging = judging i; independent = independent i; choice = record { from = from i; to = to i } }
+
+-- ---- one subcommand with its options asks for one command
+
+abbrev pub command_name : Command → Text
+command_name Env = codes "env"
+command_name (Check question) = codes "check"
+command_name Run = codes "run"
+command_name (Shrink budget) = codes "shrink"
+command_name (Search question) = codes "search"
+command_name (Timeline question) = codes "timeline"
+
+-- a number for each name
+abbrev mark_of : Text → ℕ
+mark_of [] = 0
+mark_of (x ∷ xs) = x + 256 * mark_of xs
+
+pub named : (found : Text × List Row) (c : Command) → AsksFor (Some found) c → found.0 ≡ command_name c
+named found Env asks = asks
+named found (Check question) asks = asks.0
+named found Run asks = asks
+named found (Shrink budget) asks = asks.0
+named found (Search question) asks = asks.0
+named found (Timeline question) asks = asks.0
+
+-- none is called drive
+pub no_drive : (c : Command) → command_name c ≡ codes "drive" → ⊥
+no_drive c e = go c (ap mark_of e)
+  where
+    go : (c : Command) → mark_of (command_name c) ≡ mark_of (codes "drive") → ⊥
+    go Env e = omega (arith, e)
+    go (Check question) e = omega (arith, e)
+    go Run e = omega (arith, e)
+    go (Shrink budget) e = omega (arith, e)
+    go (Search question) e = omega (arith, e)
+    go (Timeline question) e = omega (arith, e)
+
+abbrev pub Once : Option (Text × List Row) → Type 0
+Once found = (c d : Command) → AsksFor found c → AsksFor found d → c ≡ d
+
+pub asked_once : (found : Text × List Row) → (found.0 ≡ codes "check" → FlagOnce found.1 (codes "explain") × FlagOnce found.1 (codes "independent"))
+    → (found.0 ≡ codes "timeline" → FlagOnce found.1 (codes "independent")) → Once (Some found)
+asked_once found flags flag c d asks also = go c d asks also (ap mark_of (sym (named found c asks) ∙ named found d also))
+  where
+    go : (c d : Command) → AsksFor (Some found) c → AsksFor (Some found) d → mark_of (command_name c) ≡ mark_of (command_name d) → c ≡ d
+    go Env Env a b e = refl
+    go Run Run a b e = refl
+    go (Shrink m) (Shrink n) a b e = ap Shrink (number_one (one_of (codes "budget") found.1) m n a.1 b.1)
+    go (Check m) (Check n) a b e = ap Check (check_once found.1 (flags a.0).0 (flags a.0).1 m n a.1 b.1)
+    go (Search m) (Search n) a b e = ap Search (search_once found.1 m n a.1 b.1)
+    go (Timeline m) (Timeline n) a b e = ap Timeline (timeline_once found.1 (flag a.0) m n a.1 b.1)
+    go _ _ a b e = absurd (omega (arith, e))
+
+-- ---- and so do arguments
+
+pub flag_once : (rows : List Row) (id : Text) → ((true ≡ false) × HasNoText rows id) ⊎ HasText rows id false vp.Bool → FlagOnce rows id
+flag_once rows id (inl none) a b x y = absurd (true≢false none.0)
+flag_once rows id (inr t) a b x y = go (one_of id rows) t.one x y
+  where
+    either : (p q : Bool) → (p || q) ≡ true → (p ≡ true) ⊎ (q ≡ true)
+    either true q e = inl refl
+    either false q e = inr e
+
+    go : (o : Option Text) → o ≡ Some t.text → IsFlag o a → IsFlag o b → a ≡ b
+    go None e x y = let bad : None ≡ Some t.text = e in cc
+    go (Some text) e x y =
+        let same : text ≡ t.text = some_same text t.text e in
+        elim (either (bytes_eq t.text (codes "true")) (bytes_eq t.text (codes "false")) t.accepted) [
+          | inl given ↦ (let is = same ∙ (bytes_eq-Decides t.text (codes "true")).0 given in x.0 is ∙ sym (y.0 is))
+          | inr left ↦ (let is = same ∙ (bytes_eq-Decides t.text (codes "false")).0 left in x.1 is ∙ sym (y.1 is))
+        ]

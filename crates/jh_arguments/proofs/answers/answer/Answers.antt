@@ -1,0 +1,117 @@
+use Rattle.std.proofs.Common.{refl, sym, subst, map, rules, inl, inr}
+use Rattle.std.specs.Prelude.{Err}
+use Rattle.jh_arguments.specs.declared.answers.Refusal.TheVariants as Refusals
+use Rattle.jh_arguments.proofs.AnswerLemmas.{Ends, asked_by, asked_test_by, command_ends, refused_ends, test_ends}
+use Rattle.jh_arguments.proofs.answers.answer.Given as given
+use Rattle.jh_arguments.proofs.answers.answer.Goals as goal
+
+-- the arguments are refused
+refused : (g : given.Over) (c : goal.In-Err g)
+    → Ends {R = g.row.R.Denot} {W = g.row.W.Denot} (map g.S.AsStr.text c.args.arguments.now) (g.R.Read.remaining c.args.reader.now) (g.R.Read.remaining c.args.reader.now)
+    (g.W.Write.contents c.args.writer.now) (g.W.Write.contents c.args.writer.now) c.args.reader.now c.args.reader.now c.args.writer.now c.args.writer.now
+    (Err (Refusals.Arguments c.in-Err.error))
+refused g c = refused_ends _ _ _ _ _ _ _ _ _ c.in-Err.error c.in-Err.ensures.refused refl refl
+
+pub returns-in-Err-clause-refused : goal.returns-in-Err-clause-refused
+returns-in-Err-clause-refused g c = (refused g c).refused
+
+pub returns-in-Err-clause-unread : goal.returns-in-Err-clause-unread
+returns-in-Err-clause-unread g c = (refused g c).unread
+
+pub returns-in-Err-clause-unwritten : goal.returns-in-Err-clause-unwritten
+returns-in-Err-clause-unwritten g c = (refused g c).unwritten
+
+pub returns-in-Err-clause-failed : goal.returns-in-Err-clause-failed
+returns-in-Err-clause-failed g c = (refused g c).failed
+
+pub returns-in-Err-clause-failed_unwritten : goal.returns-in-Err-clause-failed_unwritten
+returns-in-Err-clause-failed_unwritten g c = (refused g c).failed_unwritten
+
+pub returns-in-Err-clause-unfinished : goal.returns-in-Err-clause-unfinished
+returns-in-Err-clause-unfinished g c = (refused g c).unfinished
+
+-- a test is asked for
+tested : (g : given.Over) (c : goal.Joined-matches g)
+    → Ends {R = g.row.R.Denot} {W = g.row.W.Denot} (map g.S.AsStr.text c.args.arguments.now) (g.R.Read.remaining c.args.reader.now) (g.R.Read.remaining c.conduct_file.new.reader)
+    (g.W.Write.contents c.args.writer.now) (g.W.Write.contents c.conduct_file.new.writer) c.args.reader.now c.conduct_file.new.reader c.args.writer.now c.conduct_file.new.writer
+    c.of_test.result
+tested g c =
+    let asked = asked_test_by _ c.in-Ok.matches c.in-Some.path.now c.in-Ok.ensures.found c.in-Some.ensures.parsed in
+    let ends = test_ends _ (g.R.Read.remaining c.args.reader.now) (g.R.Read.remaining c.conduct_file.new.reader) (g.W.Write.contents c.args.writer.now) (g.W.Write.contents c.conduct_file.new.writer)
+    c.args.reader.now c.conduct_file.new.reader c.args.writer.now c.conduct_file.new.writer c.in-Some.path.now c.conduct_file.result asked c.conduct_file.ensures.ended c.conduct_file.ensures.unread in
+    subst (Ends (map g.S.AsStr.text c.args.arguments.now) (g.R.Read.remaining c.args.reader.now) (g.R.Read.remaining c.conduct_file.new.reader) (g.W.Write.contents c.args.writer.now)
+    (g.W.Write.contents c.conduct_file.new.writer) c.args.reader.now c.conduct_file.new.reader c.args.writer.now c.conduct_file.new.writer) (sym c.of_test.ensures) ends
+
+pub returns-in-Some-clause-done : goal.returns-in-Some-clause-done
+returns-in-Some-clause-done g c = (tested g c).done
+
+pub returns-in-Some-clause-refused : goal.returns-in-Some-clause-refused
+returns-in-Some-clause-refused g c = (tested g c).refused
+
+pub returns-in-Some-clause-unread : goal.returns-in-Some-clause-unread
+returns-in-Some-clause-unread g c = (tested g c).unread
+
+pub returns-in-Some-clause-unwritten : goal.returns-in-Some-clause-unwritten
+returns-in-Some-clause-unwritten g c = (tested g c).unwritten
+
+pub returns-in-Some-clause-failed : goal.returns-in-Some-clause-failed
+returns-in-Some-clause-failed g c = (tested g c).failed
+
+pub returns-in-Some-clause-failed_unwritten : goal.returns-in-Some-clause-failed_unwritten
+returns-in-Some-clause-failed_unwritten g c = (tested g c).failed_unwritten
+
+pub returns-in-Some-clause-unfinished : goal.returns-in-Some-clause-unfinished
+returns-in-Some-clause-unfinished g c = (tested g c).unfinished
+
+-- `clap` takes no arguments that ask for nothing
+pub unreachable-requires : goal.unreachable-requires
+unreachable-requires g c = elim c.in-Ok.ensures.asked [
+  | inl (command, asks) ↦ c.command_of.ensures.taken (search rules) command asks
+  | inr (path, asks) ↦ c.settings_path_of.ensures.taken (search rules) path asks
+]
+
+-- a command is asked for
+commanded : (g : given.Over) (c : goal.Joined-matches-2 g)
+    → Ends {R = g.row.R.Denot} {W = g.row.W.Denot} (map g.S.AsStr.text c.args.arguments.now) (g.R.Read.remaining c.args.reader.now) (g.R.Read.remaining c.run.new.reader)
+    (g.W.Write.contents c.args.writer.now) (g.W.Write.contents c.run.new.writer) c.args.reader.now c.run.new.reader c.args.writer.now c.run.new.writer
+    c.of_command.result
+commanded g c =
+    let says = c.run.ensures in
+    let asked = asked_by _ c.in-Ok.matches c.in-Some-command_of.command c.in-Ok.ensures.found c.in-Some-command_of.ensures.parsed in
+    let ends = command_ends _ (g.R.Read.remaining c.args.reader.now) (g.R.Read.remaining c.run.new.reader) (g.W.Write.contents c.args.writer.now) (g.W.Write.contents c.run.new.writer)
+    c.args.reader.now c.run.new.reader c.args.writer.now c.run.new.writer c.in-Some-command_of.command c.run.result asked
+    (record {
+      asked = says.asked;
+      unread = says.unread;
+      asked_model = says.asked_model;
+      unread_model = says.unread_model;
+      timeline_asked = says.timeline_asked;
+      timeline_unread = says.timeline_unread;
+      timeline_model = says.timeline_model;
+      timeline_unread_model = says.timeline_unread_model;
+      named = says.named;
+      unread_unnamed = says.unread_unnamed;
+    }) says.written says.refused says.unwritten in
+    subst (Ends (map g.S.AsStr.text c.args.arguments.now) (g.R.Read.remaining c.args.reader.now) (g.R.Read.remaining c.run.new.reader) (g.W.Write.contents c.args.writer.now)
+    (g.W.Write.contents c.run.new.writer) c.args.reader.now c.run.new.reader c.args.writer.now c.run.new.writer) (sym c.of_command.ensures) ends
+
+pub returns-clause-done : goal.returns-clause-done
+returns-clause-done g c = (commanded g c).done
+
+pub returns-clause-refused : goal.returns-clause-refused
+returns-clause-refused g c = (commanded g c).refused
+
+pub returns-clause-unread : goal.returns-clause-unread
+returns-clause-unread g c = (commanded g c).unread
+
+pub returns-clause-unwritten : goal.returns-clause-unwritten
+returns-clause-unwritten g c = (commanded g c).unwritten
+
+pub returns-clause-failed : goal.returns-clause-failed
+returns-clause-failed g c = (commanded g c).failed
+
+pub returns-clause-failed_unwritten : goal.returns-clause-failed_unwritten
+returns-clause-failed_unwritten g c = (commanded g c).failed_unwritten
+
+pub returns-clause-unfinished : goal.returns-clause-unfinished
+returns-clause-unfinished g c = (commanded g c).unfinished

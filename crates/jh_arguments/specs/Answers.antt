@@ -1,0 +1,115 @@
+-- What the program does for its arguments (this project's own): the command that they ask for, what is
+-- written, and why it may end otherwise.
+use Rattle.std.specs.Prelude.{◌≡◌, ◌⊎◌, ℕ, List, [], Option, None, Result, Ok, Err}
+use Rattle.clap.specs.Words.{App, Text, fault_of, subcommand_of}
+use Rattle.jh_cli.specs.CheckText.{TakesInitial, TakesModel}
+use Rattle.jh_cli.specs.Outputs.{OnInput, WritesOutput}
+use Rattle.jh_cli.specs.TimelineText.{TakesInitialBy, TakesModelBy}
+use Rattle.jh_cli.specs.declared.error.CliError.{CliError}
+use Rattle.jh_cli.specs.declared.error.CliError.TheVariants.{OnlyForRegister, OnlyForListAppend}
+use Rattle.jh_cli.specs.declared.error.CliError.TheVariants.{BadPalette}
+use Rattle.jh_drive.specs.Drive.{IsDriven}
+use Rattle.jh_drive.specs.declared.error.DriveError.{DriveError}
+use Rattle.jh_drive.specs.declared.error.DriveError.TheVariants.{SettingsRead, Settings, OutOfMemory}
+use Rattle.jh_settings.specs.declared.error.SettingsError.{SettingsError}
+use Rattle.jh_arguments.specs.Commands.{AsksDrive, AsksFor, IsOutputOf, RefusesCommand}
+use Rattle.jh_arguments.specs.Line.{IsCommandLine}
+use Rattle.jh_arguments.specs.declared.answers.Refusal.{Refusal}
+use Rattle.jh_arguments.specs.declared.answers.Refusal.TheVariants as Refusals
+use Rattle.jh_arguments.specs.declared.commands.Command.{Command}
+use Rattle.jh_arguments.specs.declared.commands.Command.TheVariants.{Check, Search, Timeline}
+
+-- ---- what arguments ask for
+
+-- `clap` takes the arguments, and they ask for this command.
+abbrev pub AskFor : List Text → Command → Type 0
+AskFor arguments command =
+    (app : App) × IsCommandLine app × (fault_of app arguments ≡ [])
+    × AsksFor (subcommand_of app arguments) command
+
+-- `clap` takes the arguments, and they ask for the test that this file of settings sets.
+abbrev pub AskForTest : List Text → Text → Type 0
+AskForTest arguments path =
+    (app : App) × IsCommandLine app × (fault_of app arguments ≡ [])
+    × AsksDrive (subcommand_of app arguments) path
+
+-- ---- what a command is refused for before it reads
+
+-- The command may end with this error for its options alone.
+abbrev pub IsOfOptions : Command → CliError → Type 0
+IsOfOptions (Check question) OnlyForRegister = Unit {0}
+IsOfOptions (Check question) OnlyForListAppend = Unit {0}
+IsOfOptions (Timeline question) OnlyForRegister = Unit {0}
+IsOfOptions (Timeline question) OnlyForListAppend = Unit {0}
+IsOfOptions (Search question) BadPalette = Unit {0}
+IsOfOptions command e = ⊥
+
+-- Its options do not go with one another, or name no kinds of faults, and this says so.
+abbrev pub RefusesOptions : Command → CliError → Type 0
+RefusesOptions (Check question) OnlyForRegister =
+    TakesInitial question.judging.checker question.judging.initial → ⊥
+RefusesOptions (Check question) OnlyForListAppend =
+    TakesInitial question.judging.checker question.judging.initial
+    × (TakesModel question.judging.checker question.judging.model → ⊥)
+RefusesOptions (Timeline question) OnlyForRegister = TakesInitialBy question.judging → ⊥
+RefusesOptions (Timeline question) OnlyForListAppend =
+    TakesInitialBy question.judging × (TakesModelBy question.judging → ⊥)
+RefusesOptions (Search question) BadPalette = question.palette ≡ None
+RefusesOptions command e = ⊥
+
+-- ---- how the program ends
+
+-- what a command answers, and what a test does
+abbrev pub of_command : Result ℕ CliError → Result ℕ Refusal
+of_command (Ok status) = Ok status
+of_command (Err error) = Err (Refusals.Command error)
+
+abbrev pub of_test : Result ℕ DriveError → Result ℕ Refusal
+of_test (Ok status) = Ok status
+of_test (Err error) = Err (Refusals.Test error)
+
+-- A command that the arguments ask for did its work: its options are not refused, and what was written
+-- with this exit status is its output.
+pub record IsDone (arguments : List Text) (input before after : Option (List ℕ)) (status : ℕ)
+    : Type 0 where
+  pub command : Command
+  pub asked : AskFor arguments command
+  pub options : (refusal : CliError) → RefusesOptions command refusal → ⊥
+  pub written : WritesOutput input (IsOutputOf command) status before after
+
+-- A command that the arguments ask for ended with this error: that of its options where these are
+-- refused, and then the reader is left as it was; else one for which it refuses the input.
+pub record IsFailed {R : Type 0} (arguments : List Text) (input : Option (List ℕ)) (old new : R)
+    (e : CliError) : Type 0 where
+  pub command : Command
+  pub asked : AskFor arguments command
+  pub options : (refusal : CliError) → RefusesOptions command refusal → e ≡ refusal
+  pub of_options : IsOfOptions command e → RefusesOptions command e × (new ≡ old)
+  pub refused : OnInput input (λ bytes. RefusesCommand command bytes e)
+
+-- The test was conducted that some settings set, of a file that the arguments name, and ended with this
+-- exit status. What a file holds no contract knows.
+pub record IsConductedTo (arguments : List Text) (input rest before after : Option (List ℕ))
+    (status : ℕ) : Type 0 where
+  pub path : Text
+  pub asked : AskForTest arguments path
+  pub settings : List ℕ
+  pub driven : IsDriven settings input rest before after (Ok status)
+
+-- the file of settings could not be read
+abbrev pub IsFileUnread : DriveError → Type 0
+IsFileUnread SettingsRead = Unit {0}
+IsFileUnread OutOfMemory = Unit {0}
+IsFileUnread e = ⊥
+
+-- The test of a file that the arguments name ended with this error: the file could not be read, and then
+-- reader and writer are left as they were; else what it held was conducted so.
+pub record IsUnfinished {R W : Type 0} (arguments : List Text)
+    (input rest before after : Option (List ℕ)) (reader_old reader_new : R) (writer_old writer_new : W)
+    (e : DriveError) : Type 0 where
+  pub path : Text
+  pub asked : AskForTest arguments path
+  pub why : (IsFileUnread e × (reader_new ≡ reader_old) × (writer_new ≡ writer_old))
+      ⊎ ((settings : List ℕ) × IsDriven settings input rest before after (Err e))
+  pub unread : (error : SettingsError) → e ≡ Settings error
+      → (reader_new ≡ reader_old) × (writer_new ≡ writer_old)

@@ -1,0 +1,161 @@
+//! From the arguments to what is written and the exit status, over any reader and any writer: one call.
+//! `specs/Answers.antt` has the rule.
+
+ghost use Rattle.std.specs.Prelude.{◌≡◌, ◌≢◌, ◌⊎◌, List, ℕ, IfOk, IsErrAnd, IsErrOf, map};
+ghost use Rattle.clap.specs.declared.error.Error.{Error};
+ghost use Rattle.jh_cli.specs.declared.error.CliError.{CliError as CliErrorData};
+ghost use Rattle.jh_cli.specs.declared.error.CliError.TheVariants as CliErrors;
+ghost use Rattle.jh_drive.specs.Drive.{IsDriven};
+ghost use Rattle.jh_drive.specs.declared.error.DriveError.{DriveError as DriveErrorData};
+ghost use Rattle.jh_drive.specs.declared.error.DriveError.TheVariants as DriveErrors;
+ghost use Rattle.jh_settings.specs.declared.error.SettingsError.{SettingsError};
+ghost use Rattle.jh_arguments.specs.Answers as rule;
+ghost use Rattle.jh_arguments.specs.Answers.{IsConductedTo, IsDone, IsFailed, IsFileUnread};
+ghost use Rattle.jh_arguments.specs.Answers.{IsUnfinished};
+ghost use Rattle.jh_arguments.specs.Line.{IsRefused};
+ghost use Rattle.jh_arguments.specs.declared.answers.Refusal.TheVariants as Refusals;
+
+use crate::commands::{Command, command_of, run, settings_path_of};
+use crate::line::parse;
+use jh_cli::CliError;
+use jh_drive::{CallObserver, DriveError, drive_observed};
+use jh_lines::Streams;
+use jh_search::SearchObserver;
+use jh_shrink::Observer;
+use std::alloc::Global;
+use std::convert::AsStr;
+use std::fs::{self, Files};
+use std::io::{self, Read, Write};
+use std::sync::Wait;
+use std::thread::Threads;
+
+/// Why the program ends otherwise than with the exit status of what it was asked for.
+#[derive(Debug, Drop)]
+pub enum Refusal {
+    /// The arguments ask for help or for the version, or are wrong.
+    Arguments(clap::Error),
+    /// The command refuses its options or its input, or did not do its work.
+    Command(CliError),
+    /// The test of a real database ended otherwise than with a verdict.
+    Test(DriveError),
+}
+
+/// Who is told what is done next.
+pub trait CommandObserver {
+    /// This command is run next.
+    fn see_command(&mut self, command: Command);
+
+    /// The settings of a test were read, and it is conducted next.
+    fn see_test(&mut self);
+}
+
+/// Conducts the test that a file of settings sets.
+///
+/// Errors: `OutOfMemory` and `SettingsRead`, before anything is told or read; else those of `drive`.
+fn conduct_file<T, R, W, O>(
+    rt: &T,
+    path: &str,
+    reader: &mut R,
+    writer: &mut W,
+    observer: &mut O,
+) -> Result<u8, DriveError>
+where
+    T: Files + Alloc<A = Global>,
+    R: Read,
+    W: Write,
+    O: CommandObserver + CallObserver,
+    ensures ended { (IsErrAnd result IsFileUnread × (reader.new ≡ reader.old) × (writer.new ≡ writer.old))
+        ⊎ ((settings : List ℕ) × IsDriven settings
+        (R.remaining reader.old) (R.remaining reader.new)
+        (W.contents writer.old) (W.contents writer.new) result) }
+    ensures unread { (error : SettingsError) → IsErrOf result (DriveErrors.Settings error)
+        → (reader.new ≡ reader.old) × (writer.new ≡ writer.old) }
+{
+    let settings = match fs::read(rt, path) {
+        Ok(settings) => settings,
+        Err(error) if error.kind() == io::ErrorKind::OutOfMemory => {
+            return Err(DriveError::OutOfMemory);
+        }
+        Err(_) => return Err(DriveError::SettingsRead),
+    };
+    observer.see_test();
+    let mut streams = Streams { reader, writer };
+    drive_observed(rt.alloc(), &settings, &mut streams, observer)
+}
+
+/// What a command answers.
+fn of_command(answer: Result<u8, CliError>) -> Result<u8, Refusal>
+    ensures { result ≡ rule.of_command answer }
+{
+    match answer {
+        Ok(status) => Ok(status),
+        Err(error) => Err(Refusal::Command(error)),
+    }
+}
+
+/// What a test answers.
+fn of_test(answer: Result<u8, DriveError>) -> Result<u8, Refusal>
+    ensures { result ≡ rule.of_test answer }
+{
+    match answer {
+        Ok(status) => Ok(status),
+        Err(error) => Err(Refusal::Test(error)),
+    }
+}
+
+/// Does what the arguments ask for, of which the first is the program's name: a command reads the reader
+/// and writes the writer; a test reads its settings from a file first. The answer is the exit status: that
+/// of `run`, or that of `drive`.
+///
+/// A run on threads, a search and the judgement of keys may wait, and of a test a reader that blocks.
+///
+/// Errors: `Arguments`, before anything is read or written; then, of a command, `Command` as `run` has it,
+/// and of a test `Test` as `drive` has it, or where its file could not be read.
+pub fn answer<T, S, R, W, O>(
+    rt: &T,
+    arguments: &[S],
+    reader: &mut R,
+    writer: &mut W,
+    observer: &mut O,
+) -> Result<u8, Refusal>
+where
+    T: Files + Alloc<A = Global> + Threads + Wait + Sync,
+    S: AsStr,
+    R: Read,
+    W: Write,
+    O: CommandObserver + Observer + SearchObserver + CallObserver,
+    ensures done { IfOk result (λ status. IsDone (map S.text arguments.now)
+        (R.remaining reader.old) (W.contents writer.old) (W.contents writer.new) status
+        ⊎ IsConductedTo (map S.text arguments.now)
+        (R.remaining reader.old) (R.remaining reader.new)
+        (W.contents writer.old) (W.contents writer.new) status) }
+    ensures refused { (error : Error) → IsErrOf result (Refusals.Arguments error)
+        → IsRefused (map S.text arguments.now) error }
+    ensures unread { (error : Error) → IsErrOf result (Refusals.Arguments error)
+        → reader.new ≡ reader.old }
+    ensures unwritten { (error : Error) → IsErrOf result (Refusals.Arguments error)
+        → writer.new ≡ writer.old }
+    ensures failed { (error : CliErrorData) → IsErrOf result (Refusals.Command error)
+        → IsFailed (map S.text arguments.now) (R.remaining reader.old) reader.old reader.new error }
+    ensures failed_unwritten { (error : CliErrorData) → IsErrOf result (Refusals.Command error)
+        → error ≢ CliErrors.Write → writer.new ≡ writer.old }
+    ensures unfinished { (error : DriveErrorData) → IsErrOf result (Refusals.Test error)
+        → IsUnfinished (map S.text arguments.now)
+        (R.remaining reader.old) (R.remaining reader.new)
+        (W.contents writer.old) (W.contents writer.new)
+        reader.old reader.new writer.old writer.new error }
+{
+    let matches = match parse(rt.alloc(), arguments) {
+        Ok(matches) => matches,
+        Err(error) => return Err(Refusal::Arguments(error)),
+    };
+    if let Some(path) = settings_path_of(&matches) {
+        return of_test(conduct_file(rt, path, reader, writer, observer));
+    }
+    // `clap` takes no arguments that ask for neither.
+    let Some(command) = command_of(&matches) else {
+        unreachable!()
+    };
+    observer.see_command(command);
+    of_command(run(rt, rt.alloc(), command, reader, writer, observer))
+}
