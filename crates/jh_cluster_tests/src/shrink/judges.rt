@@ -101,14 +101,7 @@ fn counted(alloc: Global, budget: u64) -> Option<(String, u64)> {
         needed: 1,
         times: 0,
     };
-    let shrunk = shrink_by(
-        alloc,
-        schedule(alloc, 4)?,
-        &mut judge,
-        budget,
-        &mut Nobody,
-    )
-    .ok()?;
+    let shrunk = shrink_by(alloc, schedule(alloc, 4)?, &mut judge, budget, &mut Nobody).ok()?;
     Some((given(alloc, &shrunk)?, judge.times))
 }
 

@@ -15,9 +15,10 @@ returns-in_err-rest-clause-went_on g c =
     goes_nowhere judge.is_ready judge.becomes judge.asked g.met.J.ScheduleJudge.stays c.args.judge.now c.args.meter.now.left c.requires.ready
 
 pub returns-in_err-ask-clause-failing : goal.returns-in_err-ask-clause-failing
-returns-in_err-ask-clause-failing g c =
-    (sub_self c.args.schedule.now,
-    g.met.J.ScheduleJudge.keeps c.args.judge.now c.ask.new.judge c.args.schedule.now (Some true) c.ask.ensures.went_on.later c.requires.failing)
+returns-in_err-ask-clause-failing g c = (
+  sub_self c.args.schedule.now,
+  g.met.J.ScheduleJudge.keeps c.args.judge.now c.ask.new.judge c.args.schedule.now (Some true) c.ask.ensures.went_on.later c.requires.failing,
+)
 
 -- the judge had no answer to what was left
 pub returns-in_err-ask-clause-halted : goal.returns-in_err-ask-clause-halted
@@ -30,9 +31,10 @@ returns-in_err-ask-clause-halted g c =
     c.in_err-ask.field-0.0 sub c.in_err-ask.ensures.answer)
 
 pub returns-then-not-branch-clause-failing : goal.returns-then-not-branch-clause-failing
-returns-then-not-branch-clause-failing g c =
-    (sub_self c.args.schedule.now,
-    g.met.J.ScheduleJudge.keeps c.args.judge.now c.ask.new.judge c.args.schedule.now (Some true) c.ask.ensures.went_on.later c.requires.failing)
+returns-then-not-branch-clause-failing g c = (
+  sub_self c.args.schedule.now,
+  g.met.J.ScheduleJudge.keeps c.args.judge.now c.ask.new.judge c.args.schedule.now (Some true) c.ask.ensures.went_on.later c.requires.failing,
+)
 
 -- what is left fails still
 pub returns-clause-failing : goal.returns-clause-failing
