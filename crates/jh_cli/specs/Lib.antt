@@ -12,5 +12,6 @@ pub mod ShrinkText
 pub mod ShrinkRefusals
 pub mod SearchText
 pub mod SearchRefusals
+pub mod Notices
 pub mod TimelineText
 pub mod TimelineRefusals

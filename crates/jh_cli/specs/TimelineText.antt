@@ -15,10 +15,12 @@ use Rattle.jh_pages.specs.declared.section.Section.{Section}
 use Rattle.jh_pages.specs.declared.top.Top.{Top}
 use Rattle.jh_sections.specs.KeySections.{AreSectionsOf}
 use Rattle.jh_sections.specs.HistoryAndRest.{AreHistoryAndRest}
+use Rattle.jh_sections.specs.SaidVerdicts.{said_verdict}
 use Rattle.jh_sections.specs.Sections.{IsSectionOf}
 use Rattle.jh_sections.specs.Titles.{history_title, keys_title}
 use Rattle.jh_sections.specs.declared.window.Choice.{Choice}
 use Rattle.jh_cli.specs.CheckText.{TakesInitial, TakesModel}
+use Rattle.jh_cli.specs.Notices.{notice_of}
 use Rattle.jh_reports.specs.Reports.{verdict_status}
 use Rattle.jh_cli.specs.declared.timeline_command.TimelineQuestion.{TimelineQuestion}
 
@@ -107,12 +109,13 @@ abbrev pub Shows : TimelineQuestion → List Operation → ℕ → (title line :
 Shows question history status title line sections =
     ShowsBy question.independent question history status title line sections
 
--- the page of a history, with a text below
+-- the page of a history, with a text below; and a notice where that text says another verdict
 abbrev pub IsPage : TimelineQuestion → List Operation → List ℕ → ℕ → List ℕ → Type 0
 IsPage question history below status output =
     (top : Top) × (sections : List Section)
     × Shows question history status top.title.items top.line.items sections
-    × (top.notice.items ≡ []) × (output ≡ page_text top sections below)
+    × (top.notice.items ≡ notice_of question.judging status (said_verdict below))
+    × (output ≡ page_text top sections below)
 
 -- for an input, with the exit status: the page of the history in it, with what else it has below
 abbrev pub IsTimelineTextOf : TimelineQuestion → List ℕ → ℕ → List ℕ → Type 0

@@ -8,6 +8,7 @@ mod check_command;
 mod enough;
 mod env_command;
 mod error;
+mod notice;
 mod output;
 mod run_command;
 mod search_command;

@@ -18,6 +18,7 @@ ghost use Rattle.jh_cli.specs.TimelineText.{TakesInitialBy, TakesModelBy};
 
 use crate::check_command::{takes_initial, takes_model};
 use crate::error::CliError;
+use crate::notice::notice_of;
 use crate::output::{MAX_READS, finish};
 use jh_checkers::{Finding, Judging, check_history};
 use jh_independent::{check_keys_serial, verdict_of_all};
@@ -25,8 +26,8 @@ use jh_ops::Op;
 use jh_pages::{Section, Top, write_page};
 use jh_reports::{Output, finding_text, keys_text};
 use jh_sections::{
-    Choice, HistoryAndRest, read_history_and_rest, section_of, sections_of_keys, title_of,
-    title_of_keys,
+    Choice, HistoryAndRest, read_history_and_rest, said_verdict, section_of, sections_of_keys,
+    title_of, title_of_keys,
 };
 use std::alloc::{AllocError, Global};
 use std::io::{Read, Write};
@@ -55,7 +56,7 @@ struct Shown {
 /// Reads a history as `jh_sections::read_history_and_rest` does, or all that `run` printed, judges
 /// it by the checker of the workload, if there is one, and writes a page in HTML that shows the
 /// history: what was found in one sentence on top, as `jh_sections::title_of` says it, with the line
-/// of the checker folded below; the history as `jh_sections::section_of` shows it; and below it what
+/// of the checker folded below, and a notice where the input says another verdict; the history as `jh_sections::section_of` shows it; and below it what
 /// `run` printed behind the history. Where its keys are independent, each is judged by itself, one
 /// after another, sentence and line are those on all keys, and each has the section that
 /// `jh_sections::sections_of_keys` makes. The answer is the exit status: 0 where the history is
@@ -315,9 +316,11 @@ fn page_of(
         line,
         sections,
     } = shown_of(alloc, history, question)?;
+    let said = said_verdict(&below);
+    let notice = notice_of(alloc, question.judging, status, said)?;
     let top = Top {
         title,
-        notice: Vec::new(alloc),
+        notice,
         line,
     };
     Ok(Output {

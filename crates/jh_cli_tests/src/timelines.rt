@@ -159,6 +159,35 @@ All 2 records.
 <pre>:active [0 3]
 {:nodes [&quot;n1&quot; &quot;n2&quot;]}
 {:valid? true, :order [0]}</pre>
+§ register - - -
+{:index 0, :time 0, :type :invoke, :process 0, :f :read, :value nil}
+{:index 1, :time 1, :type :ok, :process 0, :f :read, :value 0}
+:active []
+{:nodes ["n1" "n2"]}
+{:valid? false, :order [0]}
+{:valid? true, :order [0]}
+→ 1
+<h1>Not valid: no order of all operations, stuck at index 1 (process 0: read 0)</h1>
+<p class="notice">The input says {:valid? true}, and this page judged it otherwise: were --initial, --model and --workload those of the run?</p>
+<pre>{:valid? false, :stuck
+§ register 0 - -
+{:index 0, :time 0, :type :invoke, :process 0, :f :read, :value nil}
+{:index 1, :time 1, :type :ok, :process 0, :f :read, :value 0}
+:active []
+{:valid? :unknown, :error "none"}
+→ 0
+<h1>Valid: 1 operation has an order</h1>
+<p class="notice">The input says {:valid? :unknown}, and this page
+§ register 0 - -
+{:index 0, :time 0, :type :invoke, :process 0, :f :read, :value nil}
+{:index 1, :time 1, :type :ok, :process 0, :f :read, :value 0}
+:active []
+{:valid? false, :order [0]}
+{:valid? true, :order [0]}
+ {:valid? false}
+→ 0
+<h1>Valid: 1 operation has an order</h1>
+!class="notice"
 § - - - -
 :active []
 → 0

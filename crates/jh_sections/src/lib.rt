@@ -4,12 +4,14 @@
 
 mod key_sections;
 mod rest;
+mod said;
 mod section;
 mod title;
 mod window;
 
 pub use key_sections::sections_of_keys;
 pub use rest::{HistoryAndRest, history_and_rest, read_history_and_rest};
+pub use said::said_verdict;
 pub use section::section_of;
 pub use title::{title_of, title_of_keys};
 pub use window::{BEFORE, Choice, MAX_SHOWN, SHOWN_AROUND};
