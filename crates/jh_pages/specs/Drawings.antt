@@ -7,7 +7,7 @@ use Rattle.jh_edn.specs.Edn.{Edn}
 use Rattle.jh_ops.specs.Operation.{Operation, operations}
 use Rattle.jh_ops.specs.declared.operation.Kind.{Kind}
 use Rattle.jh_pages.specs.Labels.{label_text, record_text, short_label_text}
-use Rattle.jh_pages.specs.Marks.{class_of, note_text}
+use Rattle.jh_pages.specs.Marks.{class_of, meaning_text, note_text}
 use Rattle.jh_pages.specs.Pixels.{height_of, left_of, top_of}
 use Rattle.jh_pages.specs.declared.section.Section.{Section}
 use Rattle.jh_timeline.specs.declared.marks.Mark.{Mark}
@@ -107,12 +107,13 @@ drawn_fault section index = fault_text section.window index (section_record sect
 
 -- ---- marks
 
--- the text of a mark, at the right end of a bar, and nothing where there is no bar
+-- a mark, which says what it means, with its text at the right end of a bar; nothing where there is
+-- no bar
 abbrev pub mark_text : Window → Note → Option Bar → List ℕ
 mark_text window note None = []
 mark_text window note (Some bar) =
-    box_text (class_of note) window bar ++ codes "<text x=\"228\" y=\"12\">" ++ note_text note
-    ++ codes "</text></svg>\n"
+    box_text (class_of note) window bar ++ codes "<title>" ++ meaning_text note
+    ++ codes "</title><text x=\"228\" y=\"12\">" ++ note_text note ++ codes "</text></svg>\n"
 
 -- a mark at the bar that it names
 abbrev pub drawn_mark : Section → Mark → List ℕ

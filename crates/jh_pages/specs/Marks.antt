@@ -1,6 +1,6 @@
 -- What a mark says of an operation (what each says is the checkers'; how it is said is this
 -- project's own).
-use Rattle.std.specs.Prelude.{ℕ, List, ◌++◌, codes, Some}
+use Rattle.std.specs.Prelude.{ℕ, List, [], ◌++◌, codes, Some, None}
 use Rattle.std.specs.Fmt.{decimal, signed_decimal}
 use Rattle.jh_timeline.specs.declared.marks.Note.{Note}
 use Rattle.jh_timeline.specs.declared.marks.Note.TheVariants.{Placed, Stuck, Pending, Lost}
@@ -47,3 +47,27 @@ note_text (Outside lower upper) =
 note_text (Step place kind) = step_text place kind
 note_text BadRead = codes "bad read"
 note_text note = class_of note
+
+-- what a note means that has no number
+abbrev pub plain_meaning : Note → List ℕ
+plain_meaning Stuck = codes "stuck: no order has room for this operation"
+plain_meaning Lost = codes "lost: it was added, and the last read does not show it"
+plain_meaning Recovered = codes "recovered: the last read shows it, and it was not known to be added"
+plain_meaning Unexpected = codes "unexpected: this read shows what nobody tried to add"
+plain_meaning Repeated = codes "repeated: this id was given more than once"
+plain_meaning BadRead = codes "bad read: no order explains it"
+plain_meaning note = []
+
+-- what a note means, in words
+abbrev pub meaning_text : Note → List ℕ
+meaning_text (Placed number) =
+    codes "number " ++ (decimal number ++ codes " in the order that was found")
+meaning_text (Pending None) = codes "pending: it was not over where the history is stuck"
+meaning_text (Pending (Some number)) =
+    codes "pending: it was not over where the history is stuck; number " ++ (decimal number
+    ++ codes " in the order that was found")
+meaning_text (Outside lower upper) =
+    codes "outside its bounds: " ++ (signed_decimal lower ++ (codes " to " ++ signed_decimal upper))
+meaning_text (Step place kind) =
+    codes "transaction " ++ (decimal place ++ codes ", with its step to the next one of the cycle")
+meaning_text note = plain_meaning note

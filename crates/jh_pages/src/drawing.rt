@@ -17,7 +17,7 @@ ghost use Rattle.jh_pages.specs.Drawings.{view_text};
 
 use crate::error::PageError;
 use crate::label::{write_label, write_short_label};
-use crate::marks::{class_of, write_note};
+use crate::marks::{class_of, write_meaning, write_note};
 use crate::markup::put;
 use crate::pixels::{height_of, left_of, top_of};
 use crate::record::write_record;
@@ -269,7 +269,7 @@ fn draw_faults<W: Write>(alloc: Global, section: &Section, writer: &mut W) -> Re
     Ok(())
 }
 
-/// Writes a mark at a bar.
+/// Writes a mark at a bar, with what it means.
 fn write_mark<W: Write>(
     window: Window,
     note: Note,
@@ -281,7 +281,9 @@ fn write_mark<W: Write>(
         (mark_text window note (Some bar.now))) }
 {
     write_box(class_of(note), window, bar, writer)?;
-    put(b"<text x=\"228\" y=\"12\">", writer)?;
+    put(b"<title>", writer)?;
+    write_meaning(note, writer)?;
+    put(b"</title><text x=\"228\" y=\"12\">", writer)?;
     write_note(note, writer)?;
     put(b"</text></svg>\n", writer)
 }

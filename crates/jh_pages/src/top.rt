@@ -26,10 +26,11 @@ const HEAD: &[u8] =
     b"<!DOCTYPE html>\n<html xmlns=\"http://www.w3.org/1999/xhtml\" lang=\"en\">\n<head>\n\
     <meta charset=\"utf-8\"/>\n<title>Timeline</title>\n<style>\n\
     :root { color-scheme: light dark; --ink: #1a1a1a; --paper: #ffffff; --ok: #b7e1b0; \
-    --fail: #f2c6c6; --info: #fbe3a6; --open: #dddddd; --fault: #7a4fbf; --mark: #c00000 }\n\
+    --fail: #f2c6c6; --info: #fbe3a6; --open: #dddddd; --fault: #7a4fbf; --mark: #c00000; \
+    --pending: #a05a00; --placed: #1f4fa0 }\n\
     @media (prefers-color-scheme: dark) { :root { --ink: #e6e6e6; --paper: #161616; \
     --ok: #2f5d2a; --fail: #6b2b2b; --info: #6a5314; --open: #3a3a3a; \
-    --fault: #b497f0; --mark: #ff7070 } }\n\
+    --fault: #b497f0; --mark: #ff7070; --pending: #ffb454; --placed: #8ab4ff } }\n\
     body { margin: 1em; font: 12px sans-serif; color: var(--ink); background: var(--paper) }\n\
     h1 { font-size: 18px; overflow-wrap: anywhere }\n\
     h2, pre { font: 12px monospace; white-space: pre-wrap; overflow-wrap: anywhere }\n\
@@ -41,17 +42,21 @@ const HEAD: &[u8] =
     .fail rect { fill: var(--fail) }\n.info rect { fill: var(--info) }\n\
     .info rect, .open rect { stroke-dasharray: 4 2 }\n\
     .fault line { stroke: var(--fault); stroke-width: 2 }\n.fault text { fill: var(--fault) }\n\
-    .marks { pointer-events: none }\n\
-    .marks rect { fill: none; stroke: var(--mark); stroke-width: 4 }\n\
+    .marks rect { fill: none; stroke: var(--mark); stroke-width: 4; pointer-events: none }\n\
     .marks text { fill: var(--mark); font-weight: bold; text-anchor: end }\n\
-    .marks .placed rect { stroke: none }\n.marks .placed text { fill: var(--ink) }\n\
+    .marks .pending rect { stroke: var(--pending); stroke-dasharray: 8 4 }\n\
+    .marks .pending text { fill: var(--pending) }\n\
+    .marks .placed rect { stroke: none }\n.marks .placed text { fill: var(--placed) }\n\
     .legend span { padding: 0 4px; border: 1px solid var(--ink); background: var(--open) }\n\
     .legend .ok { background: var(--ok) }\n.legend .fail { background: var(--fail) }\n\
     .legend .info { background: var(--info) }\n\
     .legend .info, .legend .open { border-style: dashed }\n\
     .legend .marked { border: 2px solid var(--mark); color: var(--mark); background: none }\n\
+    .legend .waits { border: 2px dashed var(--pending); color: var(--pending); background: none }\n\
+    .legend b { color: var(--placed) }\n\
     @media print { :root { --ink: #000000; --paper: #ffffff; --ok: #ffffff; --fail: #d8d8d8; \
-    --info: #ffffff; --open: #ffffff; --fault: #000000; --mark: #000000 }\n\
+    --info: #ffffff; --open: #ffffff; --fault: #000000; --mark: #000000; \
+    --pending: #000000; --placed: #000000 }\n\
     .picture { overflow: visible }\n.picture > svg { max-width: 100%; height: auto } }\n\
     </style>\n</head>\n<body>\n<h1>";
 
@@ -59,8 +64,8 @@ const HEAD: &[u8] =
 const LEGEND: &[u8] = b"<p class=\"legend\"><span class=\"ok\">&#10003; ok</span> \
     <span class=\"fail\">&#10007; fail</span> <span class=\"info\">? info</span> \
     <span class=\"open\">&#8230; no completion</span> <span class=\"marked\">mark</span> \
-    <b>12</b> number in an order. Time goes down, and a line across is a fault. \
-    Point at a bar or a line to see its records.</p>\n";
+    <span class=\"waits\">pending</span> <b>12</b> number in an order. Time goes down, and a line \
+    across is a fault. Point at a bar or a line to see its records, at a mark to see what it means.</p>\n";
 
 /// Writes a sentence below the heading, if there is one.
 fn write_notice<W: Write>(alloc: Global, notice: &[u8], writer: &mut W) -> Result<(), PageError>

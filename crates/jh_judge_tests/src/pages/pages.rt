@@ -79,7 +79,7 @@ in two lines</pre>
 <svg class="ok" x="240" y="0" width="232" height="32"><rect width="100%" height="100%"/><title>{:type :invoke, :process 0, :f :write, :value 5}
 {:type :ok, :process 0, :f :write, :value 5}</title><text x="4" y="12">&#10003; write 5</text></svg>
 <g class="marks">
-<svg class="placed" x="240" y="0" width="232" height="32"><rect width="100%" height="100%"/><text x="228" y="12">0</text></svg>
+<svg class="placed" x="240" y="0" width="232" height="32"><rect width="100%" height="100%"/><title>number 0 in the order that was found</title><text x="228" y="12">0</text></svg>
 </g>
 </svg>
 </div>
@@ -127,7 +127,7 @@ in two lines</pre>
 <svg class="fail" x="240" y="0" width="232" height="32"><rect width="100%" height="100%"/><title>{:type :invoke, :process 1, :f :read, :value nil}
 {:type :fail, :process 1, :f :read, :value nil}</title><text x="4" y="12">&#10007; read</text></svg>
 <g class="marks">
-<svg class="stuck" x="240" y="0" width="232" height="32"><rect width="100%" height="100%"/><text x="228" y="12">stuck</text></svg>
+<svg class="stuck" x="240" y="0" width="232" height="32"><rect width="100%" height="100%"/><title>stuck: no order has room for this operation</title><text x="228" y="12">stuck</text></svg>
 </g>
 </svg>
 </div>
@@ -166,7 +166,7 @@ fn draws_operations(rt: HostRuntime) -> Result<(), Fail> {
 <svg class="ok" x="240" y="0" width="232" height="32"><rect width="100%" height="100%"/><title>{:type :invoke, :process 0, :f :write, :value 5}
 {:type :ok, :process 0, :f :write, :value 5}</title><text x="4" y="12">&#10003; write 5</text></svg>
 <g class="marks">
-<svg class="placed" x="240" y="0" width="232" height="32"><rect width="100%" height="100%"/><text x="228" y="12">0</text></svg>
+<svg class="placed" x="240" y="0" width="232" height="32"><rect width="100%" height="100%"/><title>number 0 in the order that was found</title><text x="228" y="12">0</text></svg>
 </g>
 </svg>
 </div>
@@ -372,8 +372,8 @@ fn cuts_at_a_window(rt: HostRuntime) -> Result<(), Fail> {
 {:type :ok, :process 4, :f :read, :value 3}</title><text x="4" y="12">&#10003; read 3</text></svg>
 <svg class="open" x="240" y="64" width="232" height="16"><rect width="100%" height="100%"/><title>{:type :invoke, :process 1, :f :add, :value 8}</title><text x="4" y="12">&#8230; add 8</text></svg>
 <g class="marks">
-<svg class="stuck" x="240" y="16" width="232" height="48"><rect width="100%" height="100%"/><text x="228" y="12">stuck</text></svg>
-<svg class="pending" x="240" y="64" width="232" height="16"><rect width="100%" height="100%"/><text x="228" y="12">pending</text></svg>
+<svg class="stuck" x="240" y="16" width="232" height="48"><rect width="100%" height="100%"/><title>stuck: no order has room for this operation</title><text x="228" y="12">stuck</text></svg>
+<svg class="pending" x="240" y="64" width="232" height="16"><rect width="100%" height="100%"/><title>pending: it was not over where the history is stuck</title><text x="228" y="12">pending</text></svg>
 </g>
 </svg>
 </div>
@@ -461,22 +461,22 @@ fn marks_bars(rt: HostRuntime) -> Result<(), Fail> {
 <svg class="ok" x="480" y="16" width="232" height="48"><rect width="100%" height="100%"/><title>{:type :invoke, :process 1, :f :read, :value nil}
 {:type :ok, :process 1, :f :read, :value 4}</title><text x="4" y="12">&#10003; read 4</text></svg>
 <g class="marks">
-<svg class="placed" x="240" y="0" width="232" height="48"><rect width="100%" height="100%"/><text x="228" y="12">12</text></svg>
-<svg class="stuck" x="480" y="16" width="232" height="48"><rect width="100%" height="100%"/><text x="228" y="12">stuck</text></svg>
-<svg class="pending" x="240" y="0" width="232" height="48"><rect width="100%" height="100%"/><text x="228" y="12">pending</text></svg>
-<svg class="lost" x="480" y="16" width="232" height="48"><rect width="100%" height="100%"/><text x="228" y="12">lost</text></svg>
-<svg class="recovered" x="240" y="0" width="232" height="48"><rect width="100%" height="100%"/><text x="228" y="12">recovered</text></svg>
-<svg class="unexpected" x="480" y="16" width="232" height="48"><rect width="100%" height="100%"/><text x="228" y="12">unexpected</text></svg>
-<svg class="repeated" x="240" y="0" width="232" height="48"><rect width="100%" height="100%"/><text x="228" y="12">repeated</text></svg>
-<svg class="outside" x="480" y="16" width="232" height="48"><rect width="100%" height="100%"/><text x="228" y="12">[-3 170141183460469231731687303715884105727]</text></svg>
-<svg class="pending" x="240" y="0" width="232" height="48"><rect width="100%" height="100%"/><text x="228" y="12">pending 0</text></svg>
-<svg class="pending" x="480" y="16" width="232" height="48"><rect width="100%" height="100%"/><text x="228" y="12">pending 18446744073709551615</text></svg>
-<svg class="step" x="240" y="0" width="232" height="48"><rect width="100%" height="100%"/><text x="228" y="12">3 :rw</text></svg>
-<svg class="step" x="480" y="16" width="232" height="48"><rect width="100%" height="100%"/><text x="228" y="12">0 :fcw</text></svg>
-<svg class="step" x="240" y="0" width="232" height="48"><rect width="100%" height="100%"/><text x="228" y="12">1 :wr</text></svg>
-<svg class="step" x="480" y="16" width="232" height="48"><rect width="100%" height="100%"/><text x="228" y="12">2 :ww</text></svg>
-<svg class="step" x="240" y="0" width="232" height="48"><rect width="100%" height="100%"/><text x="228" y="12">4 :rt</text></svg>
-<svg class="bad-read" x="480" y="16" width="232" height="48"><rect width="100%" height="100%"/><text x="228" y="12">bad read</text></svg>
+<svg class="placed" x="240" y="0" width="232" height="48"><rect width="100%" height="100%"/><title>number 12 in the order that was found</title><text x="228" y="12">12</text></svg>
+<svg class="stuck" x="480" y="16" width="232" height="48"><rect width="100%" height="100%"/><title>stuck: no order has room for this operation</title><text x="228" y="12">stuck</text></svg>
+<svg class="pending" x="240" y="0" width="232" height="48"><rect width="100%" height="100%"/><title>pending: it was not over where the history is stuck</title><text x="228" y="12">pending</text></svg>
+<svg class="lost" x="480" y="16" width="232" height="48"><rect width="100%" height="100%"/><title>lost: it was added, and the last read does not show it</title><text x="228" y="12">lost</text></svg>
+<svg class="recovered" x="240" y="0" width="232" height="48"><rect width="100%" height="100%"/><title>recovered: the last read shows it, and it was not known to be added</title><text x="228" y="12">recovered</text></svg>
+<svg class="unexpected" x="480" y="16" width="232" height="48"><rect width="100%" height="100%"/><title>unexpected: this read shows what nobody tried to add</title><text x="228" y="12">unexpected</text></svg>
+<svg class="repeated" x="240" y="0" width="232" height="48"><rect width="100%" height="100%"/><title>repeated: this id was given more than once</title><text x="228" y="12">repeated</text></svg>
+<svg class="outside" x="480" y="16" width="232" height="48"><rect width="100%" height="100%"/><title>outside its bounds: -3 to 170141183460469231731687303715884105727</title><text x="228" y="12">[-3 170141183460469231731687303715884105727]</text></svg>
+<svg class="pending" x="240" y="0" width="232" height="48"><rect width="100%" height="100%"/><title>pending: it was not over where the history is stuck; number 0 in the order that was found</title><text x="228" y="12">pending 0</text></svg>
+<svg class="pending" x="480" y="16" width="232" height="48"><rect width="100%" height="100%"/><title>pending: it was not over where the history is stuck; number 18446744073709551615 in the order that was found</title><text x="228" y="12">pending 18446744073709551615</text></svg>
+<svg class="step" x="240" y="0" width="232" height="48"><rect width="100%" height="100%"/><title>transaction 3, with its step to the next one of the cycle</title><text x="228" y="12">3 :rw</text></svg>
+<svg class="step" x="480" y="16" width="232" height="48"><rect width="100%" height="100%"/><title>transaction 0, with its step to the next one of the cycle</title><text x="228" y="12">0 :fcw</text></svg>
+<svg class="step" x="240" y="0" width="232" height="48"><rect width="100%" height="100%"/><title>transaction 1, with its step to the next one of the cycle</title><text x="228" y="12">1 :wr</text></svg>
+<svg class="step" x="480" y="16" width="232" height="48"><rect width="100%" height="100%"/><title>transaction 2, with its step to the next one of the cycle</title><text x="228" y="12">2 :ww</text></svg>
+<svg class="step" x="240" y="0" width="232" height="48"><rect width="100%" height="100%"/><title>transaction 4, with its step to the next one of the cycle</title><text x="228" y="12">4 :rt</text></svg>
+<svg class="bad-read" x="480" y="16" width="232" height="48"><rect width="100%" height="100%"/><title>bad read: no order explains it</title><text x="228" y="12">bad read</text></svg>
 </g>
 </svg>
 </div>
