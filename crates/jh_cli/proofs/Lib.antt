@@ -6,3 +6,4 @@ pub mod RunLemmas
 pub mod ShrinkLemmas
 pub mod TimelineLemmas
 pub mod SearchLemmas
+pub mod PlacedLemmas

@@ -8,6 +8,7 @@ ghost use Rattle.jh_ops.specs.Operation.{operations};
 ghost use Rattle.jh_checkers.specs.Checkers.{checker_of};
 ghost use Rattle.jh_checkers.specs.Findings.{IsFinding};
 ghost use Rattle.jh_judged_runs.specs.JudgedRuns.{run_judging};
+ghost use Rattle.jh_laws.specs.HistoryLines.{IsTextOfHistory, history_lines};
 ghost use Rattle.jh_cli.specs.Outputs.{OnInput, WritesOutput};
 ghost use Rattle.jh_cli.specs.RunInside.{own_error};
 ghost use Rattle.jh_cli.specs.RunRefusals.{RefusesRunBytes, RefusesOwn, RefusesRun, RefusesSerial};
@@ -24,6 +25,7 @@ use jh_judged_runs::{judge_run, run_judging};
 use jh_nemesis::Nemesis;
 use jh_ops::Op;
 use jh_reports::{Output, output_of_finding, write_report};
+use jh_run_laws::recorded_lines_are_text;
 use jh_settings::{Mode, RunSettings, settings_of};
 use jh_simnode::{Event, Plan, World, nemesis_after, world_of};
 use jh_workers::{LockedWorld, Outcome, RunError as ThreadsError, run};
@@ -147,6 +149,8 @@ fn run_threads<T: Threads + Wait + Sync>(
     plan: &Plan,
 ) -> Result<(Vec<Op>, Vec<Event>), ThreadsError>
     ensures outcome { IfOk result (λ run. IsOutcome plan.now run.1.items (operations run.0.items)) }
+    ensures text { IfOk result
+        (λ run. IsTextOfHistory (history_lines (operations run.0.items)) (operations run.0.items)) }
 {
     let Ok(world) = world_of(alloc, plan) else {
         return Err(ThreadsError::OutOfMemory);
@@ -167,7 +171,10 @@ fn run_over<L: Ledger + Send + Sync, T: Threads + Wait + Sync>(
     requires parts { blank.parts ≡ L.parts }
     requires number { blank.parts ≡ 32 }
     ensures outcome { IfOk result (λ run. IsOutcome plan.now run.1.items (operations run.0.items)) }
+    ensures text { IfOk result
+        (λ run. IsTextOfHistory (history_lines (operations run.0.items)) (operations run.0.items)) }
 {
+    recorded_lines_are_text();
     let port = LockedWorld::<L>::new(world, blank);
     match run(rt, alloc, plan, &port) {
         Ok(outcome) => {
@@ -212,6 +219,7 @@ fn output_of(
     history: &[Op],
     finding: &Finding,
 ) -> Result<Output, AllocError>
+    requires { IsTextOfHistory (history_lines (operations history.now)) (operations history.now) }
     ensures { IfOk result (λ output. IsRunOutput nemesis.now.state (operations history.now)
         finding.now output.status output.text.items) }
 {
