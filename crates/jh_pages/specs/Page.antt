@@ -75,9 +75,10 @@ lane_text lane = codes "<li>process" ++ flat_map client_text lane.clients.items 
 -- picture
 abbrev pub section_text : ℕ → Section → List ℕ
 section_text number section =
-    heading_text number section.heading.items
-    ++ window_text section.window (vec_len section.history) ++ codes "<ol>\n"
+    codes "<section>\n" ++ heading_text number section.heading.items
+    ++ window_text section.window (vec_len section.history) ++ codes "<ol class=\"lanes\">\n"
     ++ flat_map lane_text section.picture.lanes.items ++ codes "</ol>\n" ++ picture_text section
+    ++ codes "</section>\n"
 
 -- ---- the page
 

@@ -134,12 +134,14 @@ fn write_section<W: Write>(
         (Appends (W.contents writer.old) (W.contents writer.new)
         (section_text number section.now)) }
 {
+    put(b"<section>\n", writer)?;
     write_heading(alloc, number, section.heading.as_slice(), writer)?;
     write_window(section.window, section.history.len(), writer)?;
-    put(b"<ol>\n", writer)?;
+    put(b"<ol class=\"lanes\">\n", writer)?;
     write_lanes(section.picture.lanes.as_slice(), writer)?;
     put(b"</ol>\n", writer)?;
-    write_picture(alloc, section, writer)
+    write_picture(alloc, section, writer)?;
+    put(b"</section>\n", writer)
 }
 
 /// Writes all histories.

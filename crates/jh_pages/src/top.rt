@@ -37,6 +37,8 @@ const HEAD: &[u8] =
     h2 { margin-top: 2em; font-weight: bold }\n\
     .notice { color: var(--mark); font-weight: bold }\nsummary { cursor: pointer }\n\
     a { color: inherit }\nul, ol { padding-left: 2em }\n.picture { overflow-x: auto }\n\
+    .lanes { position: sticky; top: 0; display: flex; flex-wrap: wrap; gap: 0 3em; margin: 0; \
+    padding: 4px 2em; background: var(--paper); border-bottom: 1px solid var(--ink) }\n\
     svg text { font: 11px monospace; fill: var(--ink) }\n\
     rect { stroke: var(--ink); fill: var(--open); fill-opacity: 0.85 }\n.ok rect { fill: var(--ok) }\n\
     .fail rect { fill: var(--fail) }\n.info rect { fill: var(--info) }\n\
@@ -57,7 +59,7 @@ const HEAD: &[u8] =
     @media print { :root { --ink: #000000; --paper: #ffffff; --ok: #ffffff; --fail: #d8d8d8; \
     --info: #ffffff; --open: #ffffff; --fault: #000000; --mark: #000000; \
     --pending: #000000; --placed: #000000 }\n\
-    .picture { overflow: visible }\n.picture > svg { max-width: 100%; height: auto } }\n\
+    .lanes { position: static }\n.picture { overflow: visible }\n.picture > svg { max-width: 100%; height: auto } }\n\
     </style>\n</head>\n<body>\n<h1>";
 
 /// What signs and colours mean.

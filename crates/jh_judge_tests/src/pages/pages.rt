@@ -50,8 +50,9 @@ in two lines</pre>
 0 0
 =>
 <h1>{:valid? true}</h1>
+<section>
 <p id="part-0">All 0 records.</p>
-<ol>
+<ol class="lanes">
 </ol>
 <div class="picture">
 <svg xmlns="http://www.w3.org/2000/svg" width="240" height="0" viewBox="0 0 240 0">
@@ -59,6 +60,7 @@ in two lines</pre>
 </g>
 </svg>
 </div>
+</section>
 </body>
 </html>
 
@@ -69,9 +71,10 @@ in two lines</pre>
 {:type :ok, :process 0, :f :write, :value 5}
 =>
 <h1>{:valid? true}</h1>
+<section>
 <h2 id="part-0">a heading</h2>
 <p>All 2 records.</p>
-<ol>
+<ol class="lanes">
 <li>process 0</li>
 </ol>
 <div class="picture">
@@ -83,6 +86,7 @@ in two lines</pre>
 </g>
 </svg>
 </div>
+</section>
 </body>
 </html>
 
@@ -105,9 +109,10 @@ in two lines</pre>
 <li><a href="#part-1"></a></li>
 <li><a href="#part-2">:k3</a></li>
 </ul>
+<section>
 <h2 id="part-0">&quot;k1&quot; &lt;&amp;&gt;</h2>
 <p>All 2 records.</p>
-<ol>
+<ol class="lanes">
 <li>process 0</li>
 </ol>
 <div class="picture">
@@ -118,8 +123,10 @@ in two lines</pre>
 </g>
 </svg>
 </div>
+</section>
+<section>
 <p id="part-1">All 2 records.</p>
-<ol>
+<ol class="lanes">
 <li>process 1</li>
 </ol>
 <div class="picture">
@@ -131,9 +138,11 @@ in two lines</pre>
 </g>
 </svg>
 </div>
+</section>
+<section>
 <h2 id="part-2">:k3</h2>
 <p>All 0 records.</p>
-<ol>
+<ol class="lanes">
 </ol>
 <div class="picture">
 <svg xmlns="http://www.w3.org/2000/svg" width="240" height="0" viewBox="0 0 240 0">
@@ -141,6 +150,7 @@ in two lines</pre>
 </g>
 </svg>
 </div>
+</section>
 <pre>&quot;a&quot; &amp; &#39;b&#39;</pre>
 </body>
 </html>"##;
@@ -157,8 +167,9 @@ fn draws_operations(rt: HostRuntime) -> Result<(), Fail> {
 {:type :ok, :process 0, :f :write, :value 5}
 =>
 <h1>{:valid? true}</h1>
+<section>
 <p id="part-0">All 2 records.</p>
-<ol>
+<ol class="lanes">
 <li>process 0</li>
 </ol>
 <div class="picture">
@@ -170,6 +181,7 @@ fn draws_operations(rt: HostRuntime) -> Result<(), Fail> {
 </g>
 </svg>
 </div>
+</section>
 </body>
 </html>
 
@@ -182,8 +194,9 @@ fn draws_operations(rt: HostRuntime) -> Result<(), Fail> {
 {:type :info, :process 1, :f :write, :value 2}
 =>
 <h1>{:valid? false}</h1>
+<section>
 <p id="part-0">All 4 records.</p>
-<ol>
+<ol class="lanes">
 <li>process 0</li>
 <li>process 1</li>
 </ol>
@@ -197,6 +210,7 @@ fn draws_operations(rt: HostRuntime) -> Result<(), Fail> {
 </g>
 </svg>
 </div>
+</section>
 </body>
 </html>
 
@@ -211,8 +225,9 @@ fn draws_operations(rt: HostRuntime) -> Result<(), Fail> {
 {:type :info, :process 0, :f :add, :value "aaaaaaaaaaaa&b"}
 =>
 <h1>{:valid? true}</h1>
+<section>
 <p id="part-0">All 6 records.</p>
-<ol>
+<ol class="lanes">
 <li>process 0</li>
 </ol>
 <div class="picture">
@@ -227,6 +242,7 @@ fn draws_operations(rt: HostRuntime) -> Result<(), Fail> {
 </g>
 </svg>
 </div>
+</section>
 </body>
 </html>"##;
     ask_all(rt.alloc(), rows)
@@ -247,8 +263,9 @@ fn draws_lanes_and_faults(rt: HostRuntime) -> Result<(), Fail> {
 {:type :invoke, :process 1, :f :add, :value 8}
 =>
 <h1>{:valid? true}</h1>
+<section>
 <p id="part-0">All 7 records.</p>
-<ol>
+<ol class="lanes">
 <li>process 0 4</li>
 <li>process 1</li>
 </ol>
@@ -265,6 +282,7 @@ fn draws_lanes_and_faults(rt: HostRuntime) -> Result<(), Fail> {
 </g>
 </svg>
 </div>
+</section>
 </body>
 </html>
 
@@ -277,8 +295,9 @@ fn draws_lanes_and_faults(rt: HostRuntime) -> Result<(), Fail> {
 {:type :ok, :process 0, :f :write, :value 1}
 =>
 <h1>{:valid? true}</h1>
+<section>
 <p id="part-0">All 4 records.</p>
-<ol>
+<ol class="lanes">
 <li>process 0</li>
 </ol>
 <div class="picture">
@@ -291,6 +310,7 @@ fn draws_lanes_and_faults(rt: HostRuntime) -> Result<(), Fail> {
 </g>
 </svg>
 </div>
+</section>
 </body>
 </html>"##;
     ask_all(rt.alloc(), rows)
@@ -311,8 +331,9 @@ fn cuts_at_a_window(rt: HostRuntime) -> Result<(), Fail> {
 {:type :invoke, :process 1, :f :add, :value 8}
 =>
 <h1>{:valid? true}</h1>
+<section>
 <p id="part-0">Records 1 to 3 of 7; --from and --to choose others.</p>
-<ol>
+<ol class="lanes">
 <li>process 1</li>
 <li>process 4</li>
 </ol>
@@ -326,6 +347,7 @@ fn cuts_at_a_window(rt: HostRuntime) -> Result<(), Fail> {
 </g>
 </svg>
 </div>
+</section>
 </body>
 </html>
 
@@ -338,8 +360,9 @@ fn cuts_at_a_window(rt: HostRuntime) -> Result<(), Fail> {
 {:type :ok, :process 0, :f :write, :value 1}
 =>
 <h1>{:valid? true}</h1>
+<section>
 <p id="part-0">No record of 4; --from and --to choose others.</p>
-<ol>
+<ol class="lanes">
 </ol>
 <div class="picture">
 <svg xmlns="http://www.w3.org/2000/svg" width="240" height="0" viewBox="0 0 240 0">
@@ -347,6 +370,7 @@ fn cuts_at_a_window(rt: HostRuntime) -> Result<(), Fail> {
 </g>
 </svg>
 </div>
+</section>
 </body>
 </html>
 
@@ -362,8 +386,9 @@ fn cuts_at_a_window(rt: HostRuntime) -> Result<(), Fail> {
 {:type :invoke, :process 1, :f :add, :value 8}
 =>
 <h1>{:valid? true}</h1>
+<section>
 <p id="part-0">Records 2 to 6 of 7; --from and --to choose others.</p>
-<ol>
+<ol class="lanes">
 <li>process 4 1</li>
 </ol>
 <div class="picture">
@@ -377,6 +402,7 @@ fn cuts_at_a_window(rt: HostRuntime) -> Result<(), Fail> {
 </g>
 </svg>
 </div>
+</section>
 </body>
 </html>
 
@@ -400,8 +426,9 @@ fn cuts_at_a_window(rt: HostRuntime) -> Result<(), Fail> {
 <li><a href="#part-1">behind the end</a></li>
 <li><a href="#part-2">the last</a></li>
 </ul>
+<section>
 <p id="part-0">Records 0 to 0 of 2; --from and --to choose others.</p>
-<ol>
+<ol class="lanes">
 <li>process 0</li>
 </ol>
 <div class="picture">
@@ -412,9 +439,11 @@ fn cuts_at_a_window(rt: HostRuntime) -> Result<(), Fail> {
 </g>
 </svg>
 </div>
+</section>
+<section>
 <h2 id="part-1">behind the end</h2>
 <p>No record of 2; --from and --to choose others.</p>
-<ol>
+<ol class="lanes">
 </ol>
 <div class="picture">
 <svg xmlns="http://www.w3.org/2000/svg" width="240" height="0" viewBox="0 0 240 0">
@@ -422,9 +451,11 @@ fn cuts_at_a_window(rt: HostRuntime) -> Result<(), Fail> {
 </g>
 </svg>
 </div>
+</section>
+<section>
 <h2 id="part-2">the last</h2>
 <p>Records 1 to 1 of 2; --from and --to choose others.</p>
-<ol>
+<ol class="lanes">
 </ol>
 <div class="picture">
 <svg xmlns="http://www.w3.org/2000/svg" width="240" height="16" viewBox="0 0 240 16">
@@ -432,6 +463,7 @@ fn cuts_at_a_window(rt: HostRuntime) -> Result<(), Fail> {
 </g>
 </svg>
 </div>
+</section>
 </body>
 </html>"##;
     ask_all(rt.alloc(), rows)
@@ -449,8 +481,9 @@ fn marks_bars(rt: HostRuntime) -> Result<(), Fail> {
 {:type :ok, :process 1, :f :read, :value 4}
 =>
 <h1>{:valid? false}</h1>
+<section>
 <p id="part-0">All 4 records.</p>
-<ol>
+<ol class="lanes">
 <li>process 0</li>
 <li>process 1</li>
 </ol>
@@ -480,6 +513,7 @@ fn marks_bars(rt: HostRuntime) -> Result<(), Fail> {
 </g>
 </svg>
 </div>
+</section>
 </body>
 </html>"##;
     ask_all(rt.alloc(), rows)
@@ -504,9 +538,10 @@ fn escapes_what_histories_say(rt: HostRuntime) -> Result<(), Fail> {
 <li><a href=\"#part-0\">&quot;\\u{7}&lt;&amp;&gt;&#39;&quot;</a></li>
 <li><a href=\"#part-1\">&#39;</a></li>
 </ul>
+<section>
 <h2 id=\"part-0\">&quot;\\u{7}&lt;&amp;&gt;&#39;&quot;</h2>
 <p>All 3 records.</p>
-<ol>
+<ol class=\"lanes\">
 <li>process 0</li>
 </ol>
 <div class=\"picture\">
@@ -515,13 +550,15 @@ fn escapes_what_histories_say(rt: HostRuntime) -> Result<(), Fail> {
 <svg class=\"ok\" x=\"240\" y=\"0\" width=\"232\" height=\"48\"><rect width=\"100%\" height=\"100%\"/><title>{:type :invoke, :process 0, :f :write, :value &quot;&lt;a href=&#39;b&#39;&gt;&amp;amp;\\&quot;\\\\&quot;}
 {:type :ok, :process 0, :f :write, :value (&quot;]]&gt;&quot; :a&amp;b)}</title><text x=\"4\" y=\"12\">&#10003; write &quot;]]&gt;&quot; :a&amp;b</text></svg>
 <g class=\"marks\">
-<svg class=\"placed\" x=\"240\" y=\"0\" width=\"232\" height=\"48\"><rect width=\"100%\" height=\"100%\"/><text x=\"228\" y=\"12\">1</text></svg>
+<svg class=\"placed\" x=\"240\" y=\"0\" width=\"232\" height=\"48\"><rect width=\"100%\" height=\"100%\"/><title>number 1 in the order that was found</title><text x=\"228\" y=\"12\">1</text></svg>
 </g>
 </svg>
 </div>
+</section>
+<section>
 <h2 id=\"part-1\">&#39;</h2>
 <p>All 0 records.</p>
-<ol>
+<ol class=\"lanes\">
 </ol>
 <div class=\"picture\">
 <svg xmlns=\"http://www.w3.org/2000/svg\" width=\"240\" height=\"0\" viewBox=\"0 0 240 0\">
@@ -529,6 +566,7 @@ fn escapes_what_histories_say(rt: HostRuntime) -> Result<(), Fail> {
 </g>
 </svg>
 </div>
+</section>
 <pre>&quot;&lt;&amp;&gt;&#39;\u{a0}
 \\u{1}\\u{9}</pre>
 </body>
