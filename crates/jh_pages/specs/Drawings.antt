@@ -6,8 +6,9 @@ use Rattle.std.specs.List.{flat_map}
 use Rattle.jh_edn.specs.Edn.{Edn}
 use Rattle.jh_ops.specs.Operation.{Operation, operations}
 use Rattle.jh_ops.specs.declared.operation.Kind.{Kind}
-use Rattle.jh_pages.specs.Labels.{label_text, record_text, short_label_text}
+use Rattle.jh_pages.specs.Labels.{answered_text, asked_text, label_text, record_text}
 use Rattle.jh_pages.specs.Marks.{class_of, meaning_text, note_text}
+use Rattle.jh_pages.specs.Markup.{short_bytes}
 use Rattle.jh_pages.specs.Pixels.{height_of, left_of, top_of}
 use Rattle.jh_pages.specs.declared.section.Section.{Section}
 use Rattle.jh_timeline.specs.declared.marks.Mark.{Mark}
@@ -39,17 +40,17 @@ ending_sign (Some Kind.Fail) = codes "&#10007; "
 ending_sign (Some _) = codes "? "
 ending_sign None = codes "&#8230; "
 
--- of what an operation asked with and what it answered, the one that its label shows: where it
--- happened, what it answered
-abbrev pub shown_value : Kind → Edn → Edn → Edn
-shown_value Kind.Ok asked answered = answered
-shown_value _ asked answered = asked
+-- the label of an operation that ended so: where it happened its function with what it answered,
+-- else with what it asked
+abbrev pub ended_label : Kind → (f asked answered : Edn) → List ℕ
+ended_label Kind.Ok f asked answered = answered_text f answered
+ended_label _ f asked answered = asked_text f asked
 
--- what the label of an operation has behind its function
-abbrev pub label_value : Operation → Option Operation → Edn
-label_value invocation None = invocation.value
-label_value invocation (Some completion) =
-    shown_value completion.kind invocation.value completion.value
+-- the label of an operation
+abbrev pub bar_label : Operation → Option Operation → List ℕ
+bar_label invocation None = asked_text invocation.f invocation.value
+bar_label invocation (Some completion) =
+    ended_label completion.kind invocation.f invocation.value completion.value
 
 -- both records of an operation, one above the other
 abbrev pub records_text : Operation → Option Operation → List ℕ
@@ -78,7 +79,7 @@ bar_text window bar (Some invocation) completion =
     box_text (ending_class (ending_of completion)) window bar ++ codes "<title>"
     ++ records_text invocation completion
     ++ codes "</title><text x=\"4\" y=\"12\">" ++ ending_sign (ending_of completion)
-    ++ short_label_text invocation.f (label_value invocation completion) ++ codes "</text></svg>\n"
+    ++ short_bytes (bar_label invocation completion) ++ codes "</text></svg>\n"
 
 -- a bar, with the records that it has in the history
 abbrev pub drawn_bar : Section → Bar → List ℕ

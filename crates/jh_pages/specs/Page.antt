@@ -103,7 +103,7 @@ below_text below =
     if length below == 0 then [] else codes "<pre>" ++ escaped_bytes below ++ codes "</pre>\n"
 
 -- the whole page
-abbrev pub page_text : Top → List Section → List ℕ → List ℕ
+unfoldable pub page_text : Top → List Section → List ℕ → List ℕ
 page_text top sections below =
     top_text top ++ contents_text sections
     ++ flat_map (λ numbered. section_text numbered.0 numbered.1) (enumerate_from 0 sections)

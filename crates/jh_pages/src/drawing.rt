@@ -1,10 +1,9 @@
 //! The picture of a history. `specs/Drawings.antt` has the rule.
 
-ghost use Rattle.std.specs.Prelude.{◌≡◌, All, IfSome, OnOk, option_and_then, option_map};
+ghost use Rattle.std.specs.Prelude.{◌≡◌, All, IfOk, IfSome, OnOk, option_and_then, option_map};
 ghost use Rattle.std.specs.Io.KnownBytes.{Appends};
 ghost use Rattle.std.specs.List.{flat_map};
 ghost use Rattle.std.specs.Option.{ForSome};
-ghost use Rattle.jh_edn.specs.View.{view};
 ghost use Rattle.jh_ops.specs.Operation.{operation};
 ghost use Rattle.jh_ops.specs.OperationWritten.{IsWritable};
 ghost use Rattle.jh_pages.specs.Drawings as rule;
@@ -16,16 +15,15 @@ ghost use Rattle.jh_pages.specs.Drawings.{place_text, section_record, records_te
 ghost use Rattle.jh_pages.specs.Drawings.{view_text};
 
 use crate::error::PageError;
-use crate::label::{write_label, write_short_label};
+use crate::label::{asked_text, call_text, write_label};
 use crate::marks::{class_of, write_meaning, write_note};
-use crate::markup::put;
+use crate::markup::{put, write_short_bytes};
 use crate::pixels::{height_of, left_of, top_of};
 use crate::record::write_record;
 use crate::section::Section;
-use jh_edn::Value;
 use jh_ops::{Kind, Op};
 use jh_timeline::{Bar, Mark, Note, Window};
-use std::alloc::Global;
+use std::alloc::{AllocError, Global};
 use std::io::Write;
 
 /// How an operation ended, if it did.
@@ -62,17 +60,17 @@ fn ending_sign(ending: Option<Kind>) -> &'static str
     }
 }
 
-/// What the label of an operation has behind its function.
-fn answer_of<'a>(invocation: &'a Op, completion: Option<&'a Op>) -> &'a Value
-    ensures { view result.now ≡ rule.label_value (operation invocation.now)
-        (option_map (λ op. operation op.now) completion.entry) }
+/// The label of an operation.
+fn bar_label(alloc: Global, invocation: &Op, completion: Option<&Op>) -> Result<Vec<u8>, AllocError>
+    ensures { IfOk result (λ label. label.items ≡ rule.bar_label (operation invocation.now)
+        (option_map (λ op. operation op.now) completion.entry)) }
 {
     match completion {
         Some(op) => match op.kind {
-            Kind::Ok => &op.value,
-            _ => &invocation.value,
+            Kind::Ok => call_text(alloc, &invocation.f, &op.value),
+            _ => asked_text(alloc, &invocation.f, &invocation.value),
         },
-        None => &invocation.value,
+        None => asked_text(alloc, &invocation.f, &invocation.value),
     }
 }
 
@@ -156,12 +154,8 @@ fn write_bar<W: Write>(
     write_records(alloc, invocation, completion, writer)?;
     put(b"</title><text x=\"4\" y=\"12\">", writer)?;
     put(ending_sign(ending).as_bytes(), writer)?;
-    write_short_label(
-        alloc,
-        &invocation.f,
-        answer_of(invocation, completion),
-        writer,
-    )?;
+    let label = bar_label(alloc, invocation, completion)?;
+    write_short_bytes(alloc, &label, writer)?;
     put(b"</text></svg>\n", writer)
 }
 

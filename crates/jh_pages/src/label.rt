@@ -2,13 +2,12 @@
 
 ghost use Rattle.std.specs.Prelude.{◌≡◌, IfOk, OnOk};
 ghost use Rattle.std.specs.Io.KnownBytes.{Appends};
-ghost use Rattle.std.specs.List.{flat_map};
-ghost use Rattle.jh_edn.specs.View.{view, views};
-ghost use Rattle.jh_pages.specs.Labels.{asked_value_text, asked_values, asked_text, label_text};
-ghost use Rattle.jh_pages.specs.Labels.{name_of, short_label_text};
+ghost use Rattle.jh_edn.specs.View.{view};
+ghost use Rattle.jh_pages.specs.Labels as rule;
+ghost use Rattle.jh_pages.specs.Labels.{answered_text, label_text, name_of};
 
 use crate::error::PageError;
-use crate::markup::{write_escaped_bytes, write_short_bytes};
+use crate::markup::write_escaped_bytes;
 use jh_edn::{EdnError, Value, put, write};
 use std::alloc::{AllocError, Global};
 use std::io::Write;
@@ -24,58 +23,49 @@ fn write_name<W: Write>(f: &Value, writer: &mut W) -> Result<(), EdnError>
     }
 }
 
-/// Writes a value behind others.
-fn write_argument<W: Write>(value: &Value, writer: &mut W) -> Result<(), EdnError>
+/// Writes a function with what it answered.
+fn write_answered<W: Write>(f: &Value, value: &Value, writer: &mut W) -> Result<(), EdnError>
     ensures { OnOk result
         (Appends (W.contents writer.old) (W.contents writer.new)
-        (asked_value_text (view value.now))) }
+        (answered_text (view f.now) (view value.now))) }
 {
+    write_name(f, writer)?;
     put(b" ", writer)?;
     write(value, writer)
 }
 
-/// Writes values behind others.
-fn write_each<W: Write>(values: &[Value], writer: &mut W) -> Result<(), EdnError>
-    ensures { OnOk result (Appends (W.contents writer.old) (W.contents writer.new)
-        (flat_map asked_value_text (views values.now))) }
-{
-    for value in values {
-        write_argument(value, writer)?;
-    }
-    Ok(())
-}
-
-/// Writes what a function is asked with.
-fn write_arguments<W: Write>(value: &Value, writer: &mut W) -> Result<(), EdnError>
-    ensures { OnOk result (Appends (W.contents writer.old) (W.contents writer.new)
-        (flat_map asked_value_text (asked_values (view value.now)))) }
+/// Writes a function with what it is asked with.
+fn write_asked<W: Write>(f: &Value, value: &Value, writer: &mut W) -> Result<(), EdnError>
+    ensures { OnOk result
+        (Appends (W.contents writer.old) (W.contents writer.new)
+        (rule.asked_text (view f.now) (view value.now))) }
 {
     match value {
-        Value::Nil => Ok(()),
-        Value::List(values) => write_each(values.as_slice(), writer),
-        Value::Vector(values) => write_each(values.as_slice(), writer),
-        _ => write_argument(value, writer),
+        Value::Nil => write_name(f, writer),
+        _ => write_answered(f, value, writer),
     }
 }
 
 /// A function with what it is asked with, as it is printed.
-fn asked(alloc: Global, f: &Value, value: &Value) -> Result<Vec<u8>, EdnError>
-    ensures { IfOk result (λ text. text.items ≡ asked_text (view f.now) (view value.now)) }
+pub(crate) fn asked_text(alloc: Global, f: &Value, value: &Value) -> Result<Vec<u8>, AllocError>
+    ensures { IfOk result (λ text. text.items ≡ rule.asked_text (view f.now) (view value.now)) }
 {
     let mut text = Vec::new(alloc);
-    write_name(f, &mut text)?;
-    write_arguments(value, &mut text)?;
-    Ok(text)
+    match write_asked(f, value, &mut text) {
+        Ok(()) => Ok(text),
+        Err(_) => Err(AllocError),
+    }
 }
 
-/// A function with a value that it is asked with or answers, as labels have it: `read 3`.
+/// A function with a value that it answered, as labels have it: `read 3`, `read nil`.
 ///
 /// Error: memory was refused.
 pub fn call_text(alloc: Global, f: &Value, value: &Value) -> Result<Vec<u8>, AllocError>
-    ensures { IfOk result (λ text. text.items ≡ asked_text (view f.now) (view value.now)) }
+    ensures { IfOk result (λ text. text.items ≡ answered_text (view f.now) (view value.now)) }
 {
-    match asked(alloc, f, value) {
-        Ok(text) => Ok(text),
+    let mut text = Vec::new(alloc);
+    match write_answered(f, value, &mut text) {
+        Ok(()) => Ok(text),
         Err(_) => Err(AllocError),
     }
 }
@@ -90,20 +80,6 @@ pub(crate) fn write_label<W: Write>(
     ensures { OnOk result (Appends (W.contents writer.old) (W.contents writer.new)
         (label_text (view f.now) (view value.now))) }
 {
-    let text = call_text(alloc, f, value)?;
+    let text = asked_text(alloc, f, value)?;
     write_escaped_bytes(alloc, text.as_slice(), writer)
-}
-
-/// Writes the label of a bar.
-pub(crate) fn write_short_label<W: Write>(
-    alloc: Global,
-    f: &Value,
-    value: &Value,
-    writer: &mut W,
-) -> Result<(), PageError>
-    ensures { OnOk result (Appends (W.contents writer.old) (W.contents writer.new)
-        (short_label_text (view f.now) (view value.now))) }
-{
-    let text = call_text(alloc, f, value)?;
-    write_short_bytes(alloc, text.as_slice(), writer)
 }

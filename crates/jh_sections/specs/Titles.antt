@@ -16,7 +16,7 @@ use Rattle.jh_linear.specs.declared.verdict.LinVerdict.{LinVerdict}
 use Rattle.jh_linear.specs.declared.verdict.LinVerdict.TheVariants.{Valid, Invalid, Unknown}
 use Rattle.jh_ops.specs.Operation.{Operation, operation}
 use Rattle.jh_ops.specs.declared.operation.Process.{Process}
-use Rattle.jh_pages.specs.Labels.{asked_text}
+use Rattle.jh_pages.specs.Labels.{answered_text}
 use Rattle.jh_sections.specs.KeySections.{rank_of_verdict}
 use Rattle.jh_txn_findings.specs.declared.finding.TxnFinding.{TxnFinding}
 use Rattle.jh_txn_findings.specs.declared.finding.TxnFinding.TheVariants as txns
@@ -68,7 +68,7 @@ process_text Process.Nemesis = codes "the nemesis"
 abbrev pub stuck_text : ℕ → Operation → List ℕ
 stuck_text end completion =
     codes ", stuck at index " ++ (decimal end ++ (codes " (" ++ (process_text completion.process
-    ++ (codes ": " ++ (asked_text completion.f completion.value ++ codes ")")))))
+    ++ (codes ": " ++ (answered_text completion.f completion.value ++ codes ")")))))
 
 -- where it is stuck, if that was explained
 abbrev pub explained_text : ℕ → Option Explanation → List ℕ

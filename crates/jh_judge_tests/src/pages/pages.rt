@@ -157,10 +157,42 @@ in two lines</pre>
     ask_all(rt.alloc(), rows)
 }
 
-/// An operation that happened, and one that failed beside one of unknown outcome; labels of 18 characters and of more.
+/// An operation that happened, and one that failed beside one of unknown outcome; labels of 18 characters and of more; answers of nil and of nothing.
 #[test]
 fn draws_operations(rt: HostRuntime) -> Result<(), Fail> {
     let rows = r##"{:valid? true}
+#
+0 6
+{:type :invoke, :process 0, :f :read, :value nil}
+{:type :ok, :process 0, :f :read, :value nil}
+{:type :invoke, :process 0, :f :read, :value nil}
+{:type :ok, :process 0, :f :read, :value #{}}
+{:type :invoke, :process 0, :f :read, :value nil}
+{:type :ok, :process 0, :f :read, :value ()}
+=>
+<h1>{:valid? true}</h1>
+<section>
+<p id="part-0">All 6 records.</p>
+<ol class="lanes">
+<li>process 0</li>
+</ol>
+<div class="picture">
+<svg xmlns="http://www.w3.org/2000/svg" width="480" height="96" viewBox="0 0 480 96">
+<svg class="ok" x="240" y="0" width="232" height="32"><rect width="100%" height="100%"/><title>{:type :invoke, :process 0, :f :read, :value nil}
+{:type :ok, :process 0, :f :read, :value nil}</title><text x="4" y="12">&#10003; read nil</text></svg>
+<svg class="ok" x="240" y="32" width="232" height="32"><rect width="100%" height="100%"/><title>{:type :invoke, :process 0, :f :read, :value nil}
+{:type :ok, :process 0, :f :read, :value #{}}</title><text x="4" y="12">&#10003; read #{}</text></svg>
+<svg class="ok" x="240" y="64" width="232" height="32"><rect width="100%" height="100%"/><title>{:type :invoke, :process 0, :f :read, :value nil}
+{:type :ok, :process 0, :f :read, :value ()}</title><text x="4" y="12">&#10003; read ()</text></svg>
+<g class="marks">
+</g>
+</svg>
+</div>
+</section>
+</body>
+</html>
+
+{:valid? true}
 #
 0 2; 0 placed 0
 {:type :invoke, :process 0, :f :write, :value 5}
@@ -203,7 +235,7 @@ fn draws_operations(rt: HostRuntime) -> Result<(), Fail> {
 <div class="picture">
 <svg xmlns="http://www.w3.org/2000/svg" width="720" height="64" viewBox="0 0 720 64">
 <svg class="fail" x="240" y="0" width="232" height="48"><rect width="100%" height="100%"/><title>{:type :invoke, :process 0, :f :cas, :value [0 1]}
-{:type :fail, :process 0, :f :cas, :value [0 1]}</title><text x="4" y="12">&#10007; cas 0 1</text></svg>
+{:type :fail, :process 0, :f :cas, :value [0 1]}</title><text x="4" y="12">&#10007; cas [0 1]</text></svg>
 <svg class="info" x="480" y="16" width="232" height="48"><rect width="100%" height="100%"/><title>{:type :invoke, :process 1, :f :write, :value 2}
 {:type :info, :process 1, :f :write, :value 2}</title><text x="4" y="12">? write 2</text></svg>
 <g class="marks">
@@ -218,7 +250,7 @@ fn draws_operations(rt: HostRuntime) -> Result<(), Fail> {
 #
 0 6
 {:type :invoke, :process 0, :f :read, :value nil}
-{:type :ok, :process 0, :f :read, :value [0 1 2 3 4 5 7]}
+{:type :ok, :process 0, :f :read, :value [0 1 2 3 4 5]}
 {:type :invoke, :process 0, :f :read, :value nil}
 {:type :ok, :process 0, :f :read, :value [0 1 2 3 4 5 17]}
 {:type :invoke, :process 0, :f :add, :value "aaaaaaaaaaaa&b"}
@@ -233,9 +265,9 @@ fn draws_operations(rt: HostRuntime) -> Result<(), Fail> {
 <div class="picture">
 <svg xmlns="http://www.w3.org/2000/svg" width="480" height="96" viewBox="0 0 480 96">
 <svg class="ok" x="240" y="0" width="232" height="32"><rect width="100%" height="100%"/><title>{:type :invoke, :process 0, :f :read, :value nil}
-{:type :ok, :process 0, :f :read, :value [0 1 2 3 4 5 7]}</title><text x="4" y="12">&#10003; read 0 1 2 3 4 5 7</text></svg>
+{:type :ok, :process 0, :f :read, :value [0 1 2 3 4 5]}</title><text x="4" y="12">&#10003; read [0 1 2 3 4 5]</text></svg>
 <svg class="ok" x="240" y="32" width="232" height="32"><rect width="100%" height="100%"/><title>{:type :invoke, :process 0, :f :read, :value nil}
-{:type :ok, :process 0, :f :read, :value [0 1 2 3 4 5 17]}</title><text x="4" y="12">&#10003; read 0 1 2 3 4 5 1&#8230;</text></svg>
+{:type :ok, :process 0, :f :read, :value [0 1 2 3 4 5 17]}</title><text x="4" y="12">&#10003; read [0 1 2 3 4 5 &#8230;</text></svg>
 <svg class="info" x="240" y="64" width="232" height="32"><rect width="100%" height="100%"/><title>{:type :invoke, :process 0, :f :add, :value &quot;aaaaaaaaaaaa&amp;b&quot;}
 {:type :info, :process 0, :f :add, :value &quot;aaaaaaaaaaaa&amp;b&quot;}</title><text x="4" y="12">? add &quot;aaaaaaaaaaaa&amp;&#8230;</text></svg>
 <g class="marks">
@@ -302,7 +334,7 @@ fn draws_lanes_and_faults(rt: HostRuntime) -> Result<(), Fail> {
 </ol>
 <div class="picture">
 <svg xmlns="http://www.w3.org/2000/svg" width="480" height="64" viewBox="0 0 480 64">
-<svg class="fault" y="0" width="100%" height="16"><line x2="100%"/><title>{:type :info, :process :nemesis, :f :start, :value [&quot;n1&quot; &quot;n2&quot;]}</title><text x="4" y="12">start &quot;n1&quot; &quot;n2&quot;</text></svg>
+<svg class="fault" y="0" width="100%" height="16"><line x2="100%"/><title>{:type :info, :process :nemesis, :f :start, :value [&quot;n1&quot; &quot;n2&quot;]}</title><text x="4" y="12">start [&quot;n1&quot; &quot;n2&quot;]</text></svg>
 <svg class="fault" y="32" width="100%" height="16"><line x2="100%"/><title>{:type :info, :process :nemesis, :f :stop, :value nil}</title><text x="4" y="12">stop</text></svg>
 <svg class="ok" x="240" y="16" width="232" height="48"><rect width="100%" height="100%"/><title>{:type :invoke, :process 0, :f :write, :value 1}
 {:type :ok, :process 0, :f :write, :value 1}</title><text x="4" y="12">&#10003; write 1</text></svg>
@@ -548,7 +580,7 @@ fn escapes_what_histories_say(rt: HostRuntime) -> Result<(), Fail> {
 <svg xmlns=\"http://www.w3.org/2000/svg\" width=\"480\" height=\"48\" viewBox=\"0 0 480 48\">
 <svg class=\"fault\" y=\"16\" width=\"100%\" height=\"16\"><line x2=\"100%\"/><title>{:type :info, :process :nemesis, :f :&lt;&amp;&gt;, :value &quot;&lt;!-- \\u{1}\\u{1f}\\u{7f}\\u{80}\\u{9f}\u{a0}\\u{fffe}\\u{ffff}\u{10000}&quot;}</title><text x=\"4\" y=\"12\">&lt;&amp;&gt; &quot;&lt;!-- \\u{1}\\u{1f}\\u{7f}\\u{80}\\u{9f}\u{a0}\\u{fffe}\\u{ffff}\u{10000}&quot;</text></svg>
 <svg class=\"ok\" x=\"240\" y=\"0\" width=\"232\" height=\"48\"><rect width=\"100%\" height=\"100%\"/><title>{:type :invoke, :process 0, :f :write, :value &quot;&lt;a href=&#39;b&#39;&gt;&amp;amp;\\&quot;\\\\&quot;}
-{:type :ok, :process 0, :f :write, :value (&quot;]]&gt;&quot; :a&amp;b)}</title><text x=\"4\" y=\"12\">&#10003; write &quot;]]&gt;&quot; :a&amp;b</text></svg>
+{:type :ok, :process 0, :f :write, :value (&quot;]]&gt;&quot; :a&amp;b)}</title><text x=\"4\" y=\"12\">&#10003; write (&quot;]]&gt;&quot; :a&amp;b)</text></svg>
 <g class=\"marks\">
 <svg class=\"placed\" x=\"240\" y=\"0\" width=\"232\" height=\"48\"><rect width=\"100%\" height=\"100%\"/><title>number 1 in the order that was found</title><text x=\"228\" y=\"12\">1</text></svg>
 </g>

@@ -1,8 +1,10 @@
 use Rattle.std.proofs.lemmas.Result.{on_ok_weaker}
 use Rattle.jh_edn.proofs.CitedLemmas.{appends_then}
+use Rattle.jh_pages.specs.Page.{page_text}
 use Rattle.jh_pages.proofs.page.write_page.Goals as goal
 
 pub returns : goal.returns
+unfolding page_text
 returns g c =
     let contents = g.W.Write.contents in
     let start = contents c.args.writer.now in
