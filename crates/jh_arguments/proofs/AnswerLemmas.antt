@@ -16,7 +16,7 @@ use Rattle.jh_drive.specs.Drive.{IsDriven}
 use Rattle.jh_drive.specs.declared.error.DriveError.{DriveError}
 use Rattle.jh_drive.specs.declared.error.DriveError.TheVariants.{Settings}
 use Rattle.jh_settings.specs.declared.error.SettingsError.{SettingsError}
-use Rattle.jh_arguments.specs.Answers.{AskFor, AskForTest, IsConductedTo, IsDone, IsFailed, IsFileUnread, IsOfOptions, IsUnfinished, RefusesOptions, of_command, of_test}
+use Rattle.jh_arguments.specs.Answers.{AskFor, AskForTest, IsConductedTo, IsCommandDone, IsFailed, IsFileUnread, IsOfOptions, IsUnfinished, RefusesOptions, of_command, of_test}
 use Rattle.jh_arguments.specs.Commands.{AsksDrive, AsksFor, IsOutputOf, RefusesCommand}
 use Rattle.jh_arguments.specs.Line.{AreMatches, IsRefused}
 use Rattle.jh_arguments.specs.declared.answers.Refusal.{Refusal}
@@ -87,7 +87,7 @@ ended_so arguments command input old new e asked says refused = record {
 
 pub record Ends {R W : Type 0} (arguments : List Text) (input rest before after : Option (List ℕ)) (reader_old reader_new : R) (writer_old writer_new : W)
     (r : Result ℕ Refusal) : Type 0 where
-  pub done : IfOk r (λ status. IsDone arguments input before after status ⊎ IsConductedTo arguments input rest before after status)
+  pub done : IfOk r (λ status. IsCommandDone arguments input before after status ⊎ IsConductedTo arguments input rest before after status)
   pub refused : (error : Error) → IsErrOf r (Refusals.Arguments error) → IsRefused arguments error
   pub unread : (error : Error) → IsErrOf r (Refusals.Arguments error) → reader_new ≡ reader_old
   pub unwritten : (error : Error) → IsErrOf r (Refusals.Arguments error) → writer_new ≡ writer_old

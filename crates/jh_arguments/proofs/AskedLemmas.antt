@@ -1,5 +1,5 @@
 -- Arguments that `clap` takes ask for a command, or for a test.
-use Rattle.std.proofs.Common.{◌≡◌, ◌∙◌, ◌<◌, ◌≤◌, ◌&&◌, ◌||◌, ◌⊎◌, inl, inr, ℕ, ℤ, Bool, cond, codes, true, false, not, refl, sym, ap, subst, arith, map, List, [], ◌∷◌, length, Option, Some, None, true≢false}
+use Rattle.std.proofs.Common.{◌≡◌, ◌∙◌, ◌<◌, ◌||◌, ◌⊎◌, inl, inr, ℕ, ℤ, Bool, codes, true, false, refl, sym, ap, subst, arith, map, List, [], ◌∷◌, length, Option, Some, None, true≢false}
 use Rattle.std.specs.Prelude.{option_and_then, option_map, pos, negsuc}
 use Rattle.std.specs.Borrow.{Bor}
 use Rattle.std.specs.List.{list_any}
@@ -7,34 +7,30 @@ use Rattle.std.specs.Str.{bytes_eq}
 use Rattle.std.specs.Str.Parse.{digits_value, signed_digits_value, without_leading_plus}
 use Rattle.std.proofs.lemmas.Slice.Eq.{bytes_eq-Decides}
 use Rattle.clap.specs.Facts.{unwrap_or_range}
-use Rattle.clap.specs.Faults.{level_fault}
 use Rattle.clap.specs.Kinds.{range_kinds}
-use Rattle.clap.specs.Values.{Accepts, is_request}
+use Rattle.clap.specs.Values.{is_request}
 use Rattle.clap.specs.Words.{App, new_app, Row, Rule, Shape, Text, fault_of, first_of, one_of, subcommand_of}
 use Rattle.clap.specs.Simple.{argument_words, built, built_leaf, help_shape, inherited, marked_built, with_leaf_noted}
-use Rattle.clap.specs.Walk.{action_of, arg_by_id, most_values, nothing_held, rows_after, values_or_missing}
+use Rattle.clap.specs.Walk.{action_of, arg_by_id, most_values, rows_after, values_or_missing}
 use Rattle.clap.specs.declared.builder.range.ValueRange.{ValueRange}
 use Rattle.clap.specs.declared.builder.value_parser.ValueParser.TheVariants as vp
 use Rattle.clap.proofs.WalkLemmas.{list_any-map}
 use Rattle.jh_arguments.proofs.PassedRows.{Each, IsOwn}
 use Rattle.jh_arguments.proofs.PassedLevel.{HoldsOf, level_holds}
 use Rattle.jh_arguments.proofs.PassedTexts.{HasNoText, HasText, needed_gives, option_gives, read_of}
-use Rattle.jh_arguments.proofs.PassedCommand.{EachShape, Leads, entered_leads}
+use Rattle.jh_arguments.proofs.PassedCommand.{Leads, entered_leads}
 use Rattle.jh_arguments.specs.Answers.{AskFor, AskForTest}
 use Rattle.jh_arguments.proofs.OnceLemmas.{Once, asked_once, flag_once, named, no_drive}
 use Rattle.jh_arguments.proofs.SameWalk.{subcommand_same}
 use Rattle.jh_checkers.specs.Checkers.{checker_name, checker_names}
-use Rattle.jh_checkers.specs.Models.{model_named, model_names}
+use Rattle.jh_checkers.specs.Models.{model_named}
 use Rattle.jh_arguments.specs.Palettes.{palette_named}
 use Rattle.jh_arguments.specs.Line.{IsCommandLine, check, drive, jeprun, search, shrink, timeline}
-use Rattle.jh_arguments.specs.Commands.{Asks, AsksCheck, AsksDrive, AsksFor, AsksSearch, AsksTimeline, IsFlag, IsGivenWithin, IsIndex, IsInitial, IsJudging, IsJudgingBy, IsNumber, IsNumberWithin, IsShow, max_candidates, max_spread_ms}
+use Rattle.jh_arguments.specs.Commands.{AsksForAny, AsksCheck, AsksDrive, AsksFor, AsksSearch, AsksTimeline, IsFlag, IsGivenWithin, IsIndex, IsInitial, IsJudging, IsJudgingBy, IsNumberWithin, IsShow, max_candidates, max_spread_ms}
 use Rattle.jh_checkers.specs.declared.checker.Checker.{Checker}
 use Rattle.jh_checkers.specs.declared.checker.Checker.TheVariants.{Register, Set, Counter, Ids, ListAppend}
 use Rattle.jh_checkers.specs.declared.finding.Judging.{Judging}
-use Rattle.jh_cli.specs.declared.check_command.Question.{Question}
-use Rattle.jh_cli.specs.declared.search_command.SearchQuestion.{SearchQuestion}
 use Rattle.jh_cli.specs.declared.search_command.Show.{Show}
-use Rattle.jh_cli.specs.declared.timeline_command.TimelineQuestion.{TimelineQuestion}
 use Rattle.jh_arguments.specs.declared.commands.Command.{Command}
 use Rattle.jh_arguments.specs.declared.commands.Command.TheVariants.{Env, Check, Run, Shrink, Search, Timeline}
 
@@ -114,13 +110,13 @@ module _ (names models : Bor (List (Bor Text))) (all : map (λ s. s.now) names.n
   abbrev leaf : App → Shape
   leaf a = built_leaf (inherited (with_leaf_noted (marked_built (jeprun names models).top)) a.top)
 
-  env_asks : Leads Asks (leaf (new_app (codes "env")))
+  env_asks : Leads AsksForAny (leaf (new_app (codes "env")))
   env_asks name rest named other fault = inl (Env, refl)
 
-  run_asks : Leads Asks (leaf (new_app (codes "run")))
+  run_asks : Leads AsksForAny (leaf (new_app (codes "run")))
   run_asks name rest named other fault = inl (Run, refl)
 
-  help_asks : Leads Asks (built_leaf help_shape)
+  help_asks : Leads AsksForAny (built_leaf help_shape)
   help_asks name rest named other fault =
       let same : codes "help" ≡ name = (bytes_eq-Decides (codes "help") name).0 (or_false (bytes_eq (codes "help") name) named) in
       absurd (true≢false (sym ((bytes_eq-Decides name (codes "help")).1 (sym same)) ∙ other))
@@ -132,7 +128,7 @@ module _ (names models : Bor (List (Bor Text))) (all : map (λ s. s.now) names.n
   shrink_rules : Each (IsOwn (leaf shrink).rules) (leaf shrink).rules
   shrink_rules = (one_valued _ _ refl refl, (request _ _ refl refl, tt))
 
-  shrink_asks : Leads Asks (leaf shrink)
+  shrink_asks : Leads AsksForAny (leaf shrink)
   shrink_asks name rest named other fault =
       let holds = level_holds (leaf shrink) [] rest shrink_rules fault in
       let rows = rows_after (leaf shrink).rules [] rest in
@@ -142,7 +138,7 @@ module _ (names models : Bor (List (Bor Text))) (all : map (λ s. s.now) names.n
   drive_rules : Each (IsOwn (leaf drive).rules) (leaf drive).rules
   drive_rules = (one_valued _ _ refl refl, (request _ _ refl refl, tt))
 
-  drive_asks : Leads Asks (leaf drive)
+  drive_asks : Leads AsksForAny (leaf drive)
   drive_asks name rest named other fault =
       let holds = level_holds (leaf drive) [] rest drive_rules fault in
       let rows = rows_after (leaf drive).rules [] rest in
@@ -177,7 +173,7 @@ module _ (names models : Bor (List (Bor Text))) (all : map (λ s. s.now) names.n
           is_within None e = let bad : Some n ≡ None = e in cc
           is_within (Some t) e = e
 
-  search_asks : Leads Asks (leaf search)
+  search_asks : Leads AsksForAny (leaf search)
   search_asks name rest named other fault =
       let holds = level_holds (leaf search) [] rest search_rules fault in
       let rows = rows_after (leaf search).rules [] rest in
@@ -231,7 +227,7 @@ module _ (names models : Bor (List (Bor Text))) (all : map (λ s. s.now) names.n
     ),
   )
 
-  check_asks : Leads Asks (leaf (check names models))
+  check_asks : Leads AsksForAny (leaf (check names models))
   check_asks name rest named other fault =
       let holds = level_holds (leaf (check names models)) [] rest check_rules fault in
       let rows = rows_after (leaf (check names models)).rules [] rest in
@@ -277,7 +273,7 @@ module _ (names models : Bor (List (Bor Text))) (all : map (λ s. s.now) names.n
       let by = judging_in _ rows holds refl refl true checker.0 in
       (Some by.0, (checker_name checker.0, checker.1, by.1, by.2))
 
-  timeline_asks : Leads Asks (leaf (timeline names models))
+  timeline_asks : Leads AsksForAny (leaf (timeline names models))
   timeline_asks name rest named other fault =
       let holds = level_holds (leaf (timeline names models)) [] rest timeline_rules fault in
       let rows = rows_after (leaf (timeline names models)).rules [] rest in
@@ -320,9 +316,9 @@ module _ (names models : Bor (List (Bor Text))) (all : map (λ s. s.now) names.n
       asked_once (codes "help", rows_after (built_leaf help_shape).rules [] rest) (λ e. absurd (other_name (codes "help") (codes "check") refl e))
       (λ e. absurd (other_name (codes "help") (codes "timeline") refl e))
 
-  line_asks : (words : List Text) → fault_of (jeprun names models) words ≡ [] → Asks (subcommand_of (jeprun names models) words)
+  line_asks : (words : List Text) → fault_of (jeprun names models) words ≡ [] → AsksForAny (subcommand_of (jeprun names models) words)
   line_asks words fault =
-      entered_leads Asks (built (jeprun names models)) (argument_words (jeprun names models) words)
+      entered_leads AsksForAny (built (jeprun names models)) (argument_words (jeprun names models) words)
       (env_asks, (check_asks, (run_asks, (shrink_asks, (search_asks, (timeline_asks, (drive_asks, (help_asks, tt)))))))) refl refl fault
 
   line_once : (words : List Text) → fault_of (jeprun names models) words ≡ [] → Once (subcommand_of (jeprun names models) words)
@@ -342,8 +338,8 @@ module _ (names models : Bor (List (Bor Text))) (all : map (λ s. s.now) names.n
       ) refl refl fault
 
 -- arguments of the command line that `clap` takes ask for a command, or for a test
-pub taken_asks : (app : App) → IsCommandLine app → (words : List Text) → fault_of app words ≡ [] → Asks (subcommand_of app words)
-taken_asks app line words fault = subst (λ a. Asks (subcommand_of a words)) (sym line.4)
+pub taken_asks : (app : App) → IsCommandLine app → (words : List Text) → fault_of app words ≡ [] → AsksForAny (subcommand_of app words)
+taken_asks app line words fault = subst (λ a. AsksForAny (subcommand_of a words)) (sym line.4)
     (line_asks line.0 line.1 line.2 words (ap (λ a. fault_of a words) (sym line.4) ∙ fault))
 
 -- the command line reads alike, whichever texts its names are

@@ -1,15 +1,12 @@
 -- Arguments that `clap` takes ask for one command at most.
-use Rattle.std.proofs.Common.{◌≡◌, ◌∙◌, ◌||◌, ◌+◌, ◌*◌, ◌⊎◌, inl, inr, ⊎_elim, ℕ, ℤ, Bool, cond, codes, true, false, refl, sym, ap, subst, arith, List, [], ◌∷◌, Option, Some, None, true≢false}
-use Rattle.std.specs.Prelude.{option_and_then, option_map}
-use Rattle.std.specs.Borrow.{Bor}
+use Rattle.std.proofs.Common.{◌≡◌, ◌∙◌, ◌||◌, ◌+◌, ◌*◌, ◌⊎◌, inl, inr, ℕ, ℤ, Bool, codes, true, false, refl, sym, ap, subst, arith, List, [], ◌∷◌, Option, Some, None, true≢false}
 use Rattle.std.specs.Str.{bytes_eq}
 use Rattle.std.proofs.lemmas.Slice.Eq.{bytes_eq-Decides}
-use Rattle.clap.specs.Words.{Row, Text, first_of, one_of}
+use Rattle.clap.specs.Words.{Row, Text, one_of}
 use Rattle.clap.specs.declared.builder.value_parser.ValueParser.TheVariants as vp
 use Rattle.jh_arguments.proofs.PassedTexts.{HasNoText, HasText}
 use Rattle.jh_arguments.proofs.OptionLemmas.{number_one}
 use Rattle.jh_checkers.specs.Checkers.{checker_name, checker_named}
-use Rattle.jh_checkers.specs.Models.{model_named}
 use Rattle.jh_arguments.specs.Commands.{AsksCheck, AsksFor, AsksSearch, AsksTimeline, IsFlag, IsGivenWithin, IsIndex, IsInitial, IsJudging, IsJudgingBy, IsNumber, IsNumberWithin, IsShow, max_candidates, max_spread_ms}
 use Rattle.jh_checkers.specs.declared.checker.Checker.{Checker}
 use Rattle.jh_checkers.specs.declared.checker.Checker.TheVariants.{Register, Set, Counter, Ids, ListAppend}
@@ -17,7 +14,6 @@ use Rattle.jh_checkers.specs.declared.finding.Judging.{Judging}
 use Rattle.jh_cli.specs.declared.check_command.Question.{Question}
 use Rattle.jh_cli.specs.declared.search_command.SearchQuestion.{SearchQuestion}
 use Rattle.jh_cli.specs.declared.search_command.Show.{Show}
-use Rattle.jh_sections.specs.declared.window.Choice.{Choice}
 use Rattle.jh_cli.specs.declared.timeline_command.TimelineQuestion.{TimelineQuestion}
 use Rattle.jh_arguments.specs.declared.commands.Command.{Command}
 use Rattle.jh_arguments.specs.declared.commands.Command.TheVariants.{Env, Check, Run, Shrink, Search, Timeline}

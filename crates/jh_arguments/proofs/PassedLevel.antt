@@ -1,25 +1,20 @@
 -- A level of a parse that does not fail: its rows pass, and each argument that is required or has a default has one.
-use Rattle.std.proofs.Common.{◌≡◌, ◌∙◌, ◌<◌, ◌+◌, ◌&&◌, ◌||◌, ◌⊎◌, inl, inr, ℕ, zero, suc, Bool, cond, true, false, not, refl, sym, ap, subst, arith, List, [], ◌∷◌, ◌++◌, length, Option, Some, None, is_some, true≢false}
-use Rattle.std.specs.Prelude.{option_and_then, option_map, slice_get}
+use Rattle.std.proofs.Common.{◌≡◌, ◌∙◌, ◌&&◌, ◌||◌, Bool, cond, true, false, not, refl, sym, ap, List, [], ◌∷◌, ◌++◌, Some, true≢false}
 use Rattle.std.specs.List.{find, fold, list_any}
 use Rattle.std.specs.Str.{bytes_eq}
 use Rattle.std.specs.Option.{option_map_or}
 use Rattle.std.proofs.lemmas.Slice.Eq.{bytes_eq-Decides}
-use Rattle.clap.specs.Facts.{explicit_source, parser_of_value}
-use Rattle.clap.specs.Kinds.{Kinds, check_kinds, or_else, value_kinds}
-use Rattle.clap.specs.Faults.{check_fault, default_fault, defaults_fault, level_fault, settle_fault, values_fault, walk_fault}
+use Rattle.clap.specs.Facts.{explicit_source}
+use Rattle.clap.specs.Kinds.{check_kinds}
+use Rattle.clap.specs.Faults.{check_fault, default_fault, defaults_fault, level_fault, settle_fault, walk_fault}
 use Rattle.clap.specs.Simple.{Shape}
 use Rattle.clap.specs.Takes.{is_given}
-use Rattle.clap.specs.Values.{Accepts, read_as, reading_of, refused_kind}
-use Rattle.clap.specs.ValueTests.{accepts}
-use Rattle.clap.specs.Walk.{Names, Row, Rule, Text, arg_by_id, at_row, default_rows, finished, first_of, has_row, is_empty, more_values, nothing_held, one_of, reading_by, row_text, rows_after, settled, walk, walk_from, with_default, with_values}
+use Rattle.clap.specs.Walk.{Names, Row, Rule, Text, default_rows, finished, has_row, is_empty, more_values, nothing_held, reading_by, rows_after, settled, walk, walk_from, with_default, with_values}
 use Rattle.clap.specs.declared.builder.value_parser.Reading.{Reading}
-use Rattle.clap.specs.declared.builder.value_parser.ValueParser.{ValueParser}
 use Rattle.clap.specs.declared.error.kind.ErrorKind.TheVariants as kind
 use Rattle.clap.specs.declared.parser.matches.ValueSource.{ValueSource}
 use Rattle.clap.specs.declared.parser.matches.ValueSource.TheVariants.{DefaultValue}
-use Rattle.clap.proofs.ValueTestLemmas.{accepts-Accepts}
-use Rattle.jh_arguments.proofs.PassedRows.{Each, IsOwn, Pass, Passes, default_pass, found_has, none_of_both, settled_pass}
+use Rattle.jh_arguments.proofs.PassedRows.{Each, IsOwn, Pass, default_pass, none_of_both, settled_pass}
 use Rattle.jh_arguments.proofs.PassedWalk.{walk_pass}
 
 -- ---- rows that are there stay there

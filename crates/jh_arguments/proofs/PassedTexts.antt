@@ -1,19 +1,18 @@
 -- What the options of a level that does not fail give.
-use Rattle.std.proofs.Common.{◌≡◌, ◌∙◌, ◌<◌, ◌&&◌, ◌||◌, ◌⊎◌, inl, inr, ℕ, Bool, cond, true, false, not, refl, sym, ap, subst, arith, List, [], ◌∷◌, length, Option, Some, None, true≢false}
+use Rattle.std.proofs.Common.{◌≡◌, ◌∙◌, ◌<◌, ◌||◌, ◌⊎◌, inl, inr, Bool, cond, true, false, not, refl, sym, ap, subst, arith, List, [], ◌∷◌, length, Option, Some, None, true≢false}
 use Rattle.std.specs.Prelude.{option_and_then, option_map, slice_get}
-use Rattle.std.specs.List.{find, list_any}
+use Rattle.std.specs.List.{find}
 use Rattle.std.specs.Str.{bytes_eq}
 use Rattle.std.proofs.lemmas.Slice.Eq.{bytes_eq-Decides}
 use Rattle.clap.specs.Facts.{parser_of_value}
 use Rattle.clap.specs.Faults.{values_fault}
 use Rattle.clap.specs.Kinds.{value_kinds}
-use Rattle.clap.specs.Values.{Accepts, read_as, reading_of, refused_kind}
-use Rattle.clap.specs.ValueTests.{accepts}
+use Rattle.clap.specs.Values.{Accepts, read_as, reading_of}
 use Rattle.clap.specs.Walk.{Row, Rule, Text, arg_by_id, first_of, has_row, is_empty, one_of, row_text}
 use Rattle.clap.specs.declared.builder.value_parser.ValueParser.{ValueParser}
 use Rattle.clap.specs.declared.error.kind.ErrorKind.{ErrorKind}
 use Rattle.clap.proofs.ValueTestLemmas.{accepts-Accepts}
-use Rattle.jh_arguments.proofs.PassedRows.{Each, Pass, Passes, found_has, none_of_both}
+use Rattle.jh_arguments.proofs.PassedRows.{Pass, Passes, found_has, none_of_both}
 use Rattle.jh_arguments.proofs.PassedLevel.{HoldsOf}
 
 -- whether it always has a row

@@ -1,5 +1,5 @@
 -- A walk reads of an argument's parser only how its values are read: with other parsers that are read alike the rows are the same.
-use Rattle.std.proofs.Common.{◌≡◌, ◌∙◌, ◌&&◌, ◌||◌, ℕ, zero, suc, Bool, cond, true, false, not, refl, sym, ap, ap₂, List, [], ◌∷◌, map, length, drop, Option, Some, None}
+use Rattle.std.proofs.Common.{◌≡◌, ◌∙◌, ◌&&◌, ℕ, zero, suc, Bool, cond, true, false, refl, sym, ap, List, [], ◌∷◌, map, length, drop, Option, Some, None}
 use Rattle.std.specs.Prelude.{encode_utf8, option_map, slice_get, pos}
 use Rattle.std.specs.List.{find, fold}
 use Rattle.std.specs.Str.{bytes_eq, chars}

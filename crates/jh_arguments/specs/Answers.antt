@@ -70,7 +70,7 @@ of_test (Err error) = Err (Refusals.Test error)
 
 -- A command that the arguments ask for did its work: its options are not refused, and what was written
 -- with this exit status is its output.
-pub record IsDone (arguments : List Text) (input before after : Option (List ℕ)) (status : ℕ)
+pub record IsCommandDone (arguments : List Text) (input before after : Option (List ℕ)) (status : ℕ)
     : Type 0 where
   pub command : Command
   pub asked : AskFor arguments command

@@ -162,8 +162,8 @@ AsksFor (Some found) (Timeline question) =
     (found.0 ≡ codes "timeline") × AsksTimeline found.1 question
 
 -- A subcommand with its options asks for a command, or for a test.
-abbrev pub Asks : Option (Text × List Row) → Type 0
-Asks found =
+abbrev pub AsksForAny : Option (Text × List Row) → Type 0
+AsksForAny found =
     ((command : Command) × AsksFor found command) ⊎ ((path : Text) × AsksDrive found path)
 
 -- ---- what a command does

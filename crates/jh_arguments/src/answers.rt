@@ -10,7 +10,7 @@ ghost use Rattle.jh_drive.specs.declared.error.DriveError.{DriveError as DriveEr
 ghost use Rattle.jh_drive.specs.declared.error.DriveError.TheVariants as DriveErrors;
 ghost use Rattle.jh_settings.specs.declared.error.SettingsError.{SettingsError};
 ghost use Rattle.jh_arguments.specs.Answers as rule;
-ghost use Rattle.jh_arguments.specs.Answers.{IsConductedTo, IsDone, IsFailed, IsFileUnread};
+ghost use Rattle.jh_arguments.specs.Answers.{IsConductedTo, IsCommandDone, IsFailed, IsFileUnread};
 ghost use Rattle.jh_arguments.specs.Answers.{IsUnfinished};
 ghost use Rattle.jh_arguments.specs.Line.{IsRefused};
 ghost use Rattle.jh_arguments.specs.declared.answers.Refusal.TheVariants as Refusals;
@@ -124,7 +124,7 @@ where
     R: Read,
     W: Write,
     O: CommandObserver + Observer + SearchObserver + CallObserver,
-    ensures done { IfOk result (λ status. IsDone (map S.text arguments.now)
+    ensures done { IfOk result (λ status. IsCommandDone (map S.text arguments.now)
         (R.remaining reader.old) (W.contents writer.old) (W.contents writer.new) status
         ⊎ IsConductedTo (map S.text arguments.now)
         (R.remaining reader.old) (R.remaining reader.new)

@@ -7,7 +7,7 @@ ghost use Rattle.clap.specs.declared.builder.value_parser.ValueParser.TheVariant
 ghost use Rattle.clap.specs.declared.error.ErrorKind.TheVariants as ErrorKind;
 ghost use Rattle.jh_cli.specs.declared.error.CliError.TheVariants as CliError;
 ghost use Rattle.jh_checkers.specs.Checkers.{checker_names};
-ghost use Rattle.jh_arguments.specs.Commands.{Asks};
+ghost use Rattle.jh_arguments.specs.Commands.{AsksForAny};
 ghost use Rattle.jh_arguments.specs.Line as text;
 ghost use Rattle.jh_checkers.specs.Models.{model_names};
 ghost use Rattle.jh_arguments.specs.Line.{AreMatches, IsCommandLine, IsRefused};
@@ -438,7 +438,7 @@ fn number_option<'a>(
 /// for a test. Or its refusal, which is a request for help or for the version, a complaint, or out of memory.
 pub fn parse<'a, S: AsStr>(alloc: Global, arguments: &'a [S]) -> Result<ArgMatches<'a>, Error>
     ensures found { IfOk result (AreMatches (map S.text arguments.entry.now)) }
-    ensures asked { IfOk result (λ matches. Asks (subcommand_rows_of matches)) }
+    ensures asked { IfOk result (λ matches. AsksForAny (subcommand_rows_of matches)) }
     ensures refused { IfErr result (IsRefused (map S.text arguments.entry.now)) }
 {
     command_line(alloc)?.try_get_matches_from(arguments)
