@@ -7,7 +7,7 @@ use Rattle.clap.specs.declared.builder.value_parser.ValueParser.TheVariants as v
 use Rattle.jh_arguments.proofs.PassedTexts.{HasNoText, HasText}
 use Rattle.jh_arguments.proofs.OptionLemmas.{number_one}
 use Rattle.jh_checkers.specs.Checkers.{checker_name, checker_named}
-use Rattle.jh_arguments.specs.Commands.{AsksCheck, AsksFor, AsksSearch, AsksTimeline, IsFlag, IsGivenWithin, IsIndex, IsInitial, IsJudging, IsJudgingBy, IsNumber, IsNumberWithin, IsShow, max_candidates, max_spread_ms}
+use Rattle.jh_arguments.specs.Commands.{AsksCheck, AsksFor, AsksSearch, AsksTimeline, IsFlag, IsGivenWithin, IsIndex, IsInitial, IsJudging, IsJudgingBy, IsNumberWithin, IsShow, max_candidates, max_spread_ms}
 use Rattle.jh_checkers.specs.declared.checker.Checker.{Checker}
 use Rattle.jh_checkers.specs.declared.checker.Checker.TheVariants.{Register, Set, Counter, Ids, ListAppend}
 use Rattle.jh_checkers.specs.declared.finding.Judging.{Judging}
