@@ -14,6 +14,7 @@ mod monitor;
 mod ports;
 mod records;
 mod runs;
+mod turns;
 mod workers;
 
 pub use jh_audit::{AuditFault, audit, follows_plan};

@@ -2,10 +2,12 @@
 //! driver, the number of answered client calls, and what went wrong. A thread that has nothing to
 //! do sleeps until it has changed.
 
-ghost use Rattle.std.specs.Prelude.{◌≡◌, ◌↔◌, ◌+◌, ◌≤◌, min, IsTrue, IsSome, MatchOption, Some};
-ghost use Rattle.std.specs.Prelude.{None, false, true};
-ghost use Rattle.jh_workers.specs.declared.monitor.NextMove.TheVariants.{Stop};
+ghost use Rattle.std.specs.Prelude.{◌≡◌, ◌↔◌, ◌+◌, ◌<◌, ◌≤◌, ℕ, min, IsTrue, IsSome, IfSome};
+ghost use Rattle.std.specs.Prelude.{IsSomeAnd, MatchOption, Some, None, false, true};
+ghost use Rattle.jh_ops.specs.declared.call.Request.{Request};
+ghost use Rattle.jh_workers.specs.declared.monitor.NextMove.TheVariants as NextMoves;
 
+use crate::turns::Turns;
 use jh_gen::{Driver, Ended, GenAnswer, Thread};
 use jh_ops::{Call, Process, Request};
 use jh_simnode::WorldError;
@@ -80,26 +82,35 @@ pub(crate) enum NextMove {
     Call(u64, Request),
 }
 
-/// Where a run stands: the driver, how many client calls were answered, whether all threads are
-/// there, and the first error.
+/// Where a run stands.
 #[derive(Drop)]
 struct RunState {
     driver: Driver,
     clients: u32,
+    /// How many client calls were answered.
     answered: u32,
+    /// At how many answered calls the next entry of the schedule is due, while there is one.
+    due: Option<u32>,
+    /// Who of the client threads asks next.
+    turns: Turns,
+    /// Whether all threads are there.
     is_open: bool,
+    /// The first error.
     error: Option<RunError>,
 }
 
 impl RunState {
     /// Before the work begins.
-    fn new(driver: Driver, clients: u32) -> Self
-        ensures { (result.error ≡ None) × (result.is_open ≡ false) × (result.answered ≡ 0) }
+    fn new(driver: Driver, clients: u32, due: Option<u32>) -> Self
+        ensures begun { (result.error ≡ None) × (result.is_open ≡ false) × (result.answered ≡ 0) }
+        ensures due { result.due ≡ due }
     {
         RunState {
             driver,
             clients,
             answered: 0,
+            due,
+            turns: Turns::new(),
             is_open: false,
             error: None,
         }
@@ -141,16 +152,43 @@ impl RunState {
         self.error
     }
 
-    /// What a client thread does next. Each ask of the driver takes a random number.
+    /// The next entry of the schedule is due at so many answered calls, or there is none.
+    fn set_due(&mut self, due: Option<u32>)
+        ensures due { self.new.due ≡ due }
+        ensures error { self.new.error ≡ self.old.error }
+        ensures answered { self.new.answered ≡ self.old.answered }
+        ensures open { self.new.is_open ≡ self.old.is_open }
+    {
+        self.due = due;
+    }
+
+    /// Whether the next entry of the schedule is due, and was not taken yet.
+    fn has_due_entry(&self) -> bool
+        ensures { IsTrue result ↔ IsSomeAnd self.now.due (λ at. at ≤ self.now.answered) }
+    {
+        match self.due {
+            Some(at) => at <= self.answered,
+            None => false,
+        }
+    }
+
+    /// What a client thread does next. While an entry of the schedule is due it waits, so that the
+    /// entry is taken at its count but for calls that are under way; and so it does where it asked
+    /// last and others sleep, so that they ask first. Each ask of the driver takes a random number.
     fn ask(&mut self, thread: u32, numbers: &mut Lcg128Xsl64) -> NextMove
-        ensures stopped { IsSome self.old.error → result ≡ Stop }
+        ensures stopped { IsSome self.old.error → result ≡ NextMoves.Stop }
+        ensures in_time { (process : ℕ) (request : Request) → result ≡ NextMoves.Call process request
+            → IfSome self.old.due (λ at. self.old.answered < at) }
         ensures error { self.new.error ≡ self.old.error }
         ensures answered { self.new.answered ≡ self.old.answered }
     {
         if self.is_stopped() {
             return NextMove::Stop;
         }
-        if !self.is_open {
+        if !self.is_open || self.has_due_entry() {
+            return NextMove::Wait;
+        }
+        if self.turns.hold(thread) {
             return NextMove::Wait;
         }
         match self.driver.ask(Thread::Client(thread), numbers.next_word()) {
@@ -160,6 +198,28 @@ impl RunState {
             Ok(GenAnswer::Pending) => NextMove::Wait,
             Ok(GenAnswer::Call(_, _)) | Ok(GenAnswer::Done) | Err(_) => NextMove::Stop,
         }
+    }
+
+    /// Frees the thread that lets others ask first, once one has, and says whether there was one.
+    fn free_held(&mut self) -> bool
+        ensures error { self.new.error ≡ self.old.error }
+        ensures answered { self.new.answered ≡ self.old.answered }
+    {
+        self.turns.free_held()
+    }
+
+    /// A client thread goes to sleep.
+    fn begin_sleep(&mut self)
+        ensures error { self.new.error ≡ self.old.error }
+    {
+        self.turns.begin_sleep();
+    }
+
+    /// A client thread was woken.
+    fn end_sleep(&mut self)
+        ensures error { self.new.error ≡ self.old.error }
+    {
+        self.turns.end_sleep();
     }
 
     /// One more client call was answered.
@@ -223,9 +283,9 @@ pub(crate) struct Monitor {
 
 impl Monitor {
     /// Before the work begins.
-    pub(crate) fn new(driver: Driver, clients: u32) -> Self {
+    pub(crate) fn new(driver: Driver, clients: u32, due: Option<u32>) -> Self {
         Monitor {
-            state: Mutex::new(RunState::new(driver, clients)),
+            state: Mutex::new(RunState::new(driver, clients, due)),
             changed: Condvar::new(),
         }
     }
@@ -271,17 +331,30 @@ impl Monitor {
         let mut state = self.state.lock(rt);
         for _ in rt.forever() {
             let next = state.ask(thread, numbers);
+            if state.free_held() {
+                self.changed.notify_all();
+            }
             if !matches!(next, NextMove::Wait) {
                 return next;
             }
+            state.begin_sleep();
             state = self.changed.wait(rt, state);
+            state.end_sleep();
         }
         NextMove::Stop
     }
 
-    /// Sleeps until an entry of the schedule is due, and says whether it is still wanted.
+    /// All entries of the schedule were taken, so client threads wait for none.
+    pub(crate) fn end_schedule(&self, rt: &impl Wait) {
+        self.state.lock(rt).set_due(None);
+        self.changed.notify_all();
+    }
+
+    /// Sleeps until the next entry of the schedule is due, and says whether it is still wanted.
     pub(crate) fn wait_until_due<R: Wait>(&self, rt: &R, at: u32) -> bool {
         let mut state = self.state.lock(rt);
+        state.set_due(Some(at));
+        self.changed.notify_all();
         for _ in rt.forever() {
             if state.is_stopped() {
                 return false;

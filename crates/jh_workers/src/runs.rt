@@ -210,6 +210,14 @@ fn gather_workers<B: OfLog, S: Drop>(
     Ok((log_seat, shares))
 }
 
+/// At how many answered calls the first entry of the schedule is due, if there is one.
+fn first_due(plan: &Plan) -> Option<u32> {
+    match plan.schedule().entries().first() {
+        Some(entry) => Some(entry.at),
+        None => None,
+    }
+}
+
 /// The work of all threads on a log: the seat that has then seen it, and the shares.
 fn worked<B: OfLog + Send + Sync, P: Port + Sync, R: Threads + Wait + Sync>(
     rt: &R,
@@ -227,7 +235,7 @@ where
     let Ok(driver) = driver_of(alloc, plan) else {
         return Err(RunError::OutOfMemory);
     };
-    let monitor = Monitor::new(driver, plan.clients());
+    let monitor = Monitor::new(driver, plan.clients(), first_due(plan));
     let shared = Shared::<'_, B, P> {
         port,
         slots,

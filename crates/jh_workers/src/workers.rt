@@ -293,6 +293,7 @@ fn work_on_schedule<B: OfLog, P: Port, R: Wait>(
         }
         apply_entry(rt, shared, worker, place as u64, entry)?;
     }
+    monitor.end_schedule(rt);
     Ok(())
 }
 

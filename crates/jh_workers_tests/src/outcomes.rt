@@ -318,3 +318,66 @@ fn a_client_has_its_own_random_numbers(rt: HostRuntime) {
     };
     assert_eq!(rt; drawn, Some(true));
 }
+
+/// Settings of so many clients, whose entries are due at 0, 3, 3 and 30 answered calls of 30.
+static IN_TIME: [(usize, &str); 2] = [
+    (
+        1,
+        r#"
+start = '{:nodes ["n1" "n2" "n3"]}'
+store = "quorum"
+workload = "register"
+clients = 1
+ops = 30
+generator = '[:forever :read]'
+schedule = ['[0 [:begin 1 [:cut []]]]', '[3 [:withdraw 1]]', '[3 [:begin 2 [:cut []]]]', '[30 [:withdraw-all]]']
+"#,
+    ),
+    (
+        4,
+        r#"
+start = '{:nodes ["n1" "n2" "n3"]}'
+store = "quorum"
+workload = "register"
+clients = 4
+ops = 30
+generator = '[:forever :read]'
+schedule = ['[0 [:begin 1 [:cut []]]]', '[3 [:withdraw 1]]', '[3 [:begin 2 [:cut []]]]', '[30 [:withdraw-all]]']
+"#,
+    ),
+];
+
+/// At how many answered calls these entries are due.
+const DUES: [usize; 4] = [0, 3, 3, 30];
+
+/// Whether each step stands behind as many calls as its entry says, and those that the other clients had under way.
+fn is_in_time(counts: &[usize], clients: usize) -> bool {
+    counts.len() == DUES.len()
+        && counts.iter().zip(DUES.iter()).all(|(calls, due)| *due <= *calls
+            && *calls < due.saturating_add(clients))
+}
+
+/// Whether the entries of a run of these settings come in time. None: memory was refused.
+fn comes_in_time<R: Threads + Wait + Sync>(
+    rt: &R,
+    alloc: Global,
+    clients: usize,
+    settings: &str,
+) -> Option<bool> {
+    let plan = plan_of(alloc, settings)?;
+    let finished = ran(rt, alloc, &plan)?;
+    let journal = finished.journal?;
+    let counts = journals::calls_before_steps(alloc, &journal)?;
+    Some(is_in_time(&counts, clients))
+}
+
+#[test]
+fn entries_come_in_time(rt: HostRuntime) {
+    for (clients, settings) in IN_TIME.iter() {
+        let right = match comes_in_time(&rt, rt.alloc(), *clients, settings) {
+            None => comes_in_time(&rt, rt.alloc(), *clients, settings),
+            right => right,
+        };
+        assert_eq!(rt; right, Some(true));
+    }
+}
